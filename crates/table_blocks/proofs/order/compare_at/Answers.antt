@@ -1,0 +1,18 @@
+use Rattle.std.proofs.Common.{◌≡◌, ◌∙◌, sym, ap, Option, Some, None, unwrap_or, slice_get, slice_index_or, pos, List, ℕ, refl}
+use Rattle.std.proofs.lemmas.Option.{unwrap_or-slice_get}
+use Rattle.cqa_value.specs.declared.value.Value.{Value}
+use Rattle.cqa_value.specs.declared.value.Value.TheVariants.{Int}
+use Rattle.cqa_value.specs.Values.{value_cmp}
+use Rattle.table_blocks.proofs.order.compare_at.Goals as goal
+
+read : (row : List Value) (place : ℕ) (found : Option Value) → found ≡ slice_get row place → unwrap_or found (Int (pos 0)) ≡ slice_index_or row place (Int (pos 0))
+read row place found e = ap (λ o. unwrap_or o (Int (pos 0))) e ∙ unwrap_or-slice_get row place (Int (pos 0))
+
+pub returns-in-Some-None : goal.returns-in-Some-None
+returns-in-Some-None c = rw (← read c.args.a.now c.args.place _ c.in-Some-None.ensures, ← read c.args.b.now c.args.place _ c.in-Some-None.ensures') c.compare-in-Some-None.ensures
+
+pub returns-in-None-Some : goal.returns-in-None-Some
+returns-in-None-Some c = rw (← read c.args.a.now c.args.place _ c.in-None-Some.ensures, ← read c.args.b.now c.args.place _ c.in-None-Some.ensures') c.compare-in-None-Some.ensures
+
+pub returns-in-None-None : goal.returns-in-None-None
+returns-in-None-None c = rw (← read c.args.a.now c.args.place _ c.in-None-None.ensures, ← read c.args.b.now c.args.place _ c.in-None-None.ensures') refl

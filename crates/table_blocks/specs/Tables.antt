@@ -1,0 +1,107 @@
+-- How the tables of a database are found and changed.
+use Rattle.std.specs.Prelude.{◌≡◌, ◌⊎◌, ◌↔◌, ◌+◌, ◌==◌, ℕ, Bool, true, false, nat_le, ◌||◌, if◌then◌else◌, List, [], ◌∷◌, length, Contains, Option, Some, None, position, nat_eq, slice_index_or, slice_get, take, zero, suc, ◌≤◌, ◌≢◌}
+use Rattle.std.specs.List.{list_any, AllByRecursion}
+use Rattle.std.specs.declared.cmp.Ordering.{Ordering}
+use Rattle.std.specs.declared.cmp.Ordering.TheVariants.{Less}
+use Rattle.std.specs.List.Sorted.{IsStrictlySortedBy}
+use Rattle.std.specs.Cmp.Lexicographic.{pointwise}
+use Rattle.cqa_value.specs.declared.value.Kind.{Kind}
+use Rattle.cqa_value.specs.declared.value.Kind.TheVariants.{Int, Text}
+use Rattle.cqa_value.specs.declared.value.Value.{Value}
+use Rattle.cqa_value.specs.Values.{kind_of, row_eq}
+use Rattle.cqa_model.specs.declared.refusal.Refusal.{Refusal}
+use Rattle.cqa_model.specs.declared.refusal.Refusal.TheVariants.{WrongArity, TypeMismatch, Limit}
+use Rattle.cqa_model.specs.declared.refusal.Place.TheVariants.{Cell}
+use Rattle.cqa_model.specs.declared.refusal.LimitKind.TheVariants.{Rows}
+use Rattle.cqa_model.specs.Database.{Table, block_cmp, names_of, stored, keys_of, column_kinds, row_total, nothing}
+use Rattle.cqa_model.specs.Query.{OpHolds}
+use Rattle.table_blocks.specs.declared.test.ColumnTest.{ColumnTest}
+
+-- the place of the table with a name
+abbrev pub table_named : List Table → List ℕ → Option ℕ
+table_named db name = position (pointwise nat_eq name) (names_of db)
+
+-- the rows, the key and the columns' kinds of the table at a place
+abbrev pub rows_at : List Table → ℕ → List (List Value)
+rows_at db table = slice_index_or (stored db) table []
+
+abbrev pub key_at : List Table → ℕ → List ℕ
+key_at db table = slice_index_or (keys_of db) table []
+
+abbrev pub kinds_at : List Table → ℕ → List Kind
+kinds_at db table = slice_index_or (column_kinds db) table []
+
+-- the database with other rows in the table at a place
+abbrev pub with_rows : List Table → ℕ → List (List Value) → List Table
+with_rows [] at rows = []
+with_rows (table ∷ db) zero rows = record table { rows = rows } ∷ db
+with_rows (table ∷ db) (suc at) rows = table ∷ with_rows db at rows
+
+abbrev pub is_among : List (List Value) → List Value → Bool
+is_among rows row = list_any (row_eq row) rows
+
+-- how many of the given rows aren't stored, each counted once
+abbrev pub count_new : List (List Value) → List (List Value) → ℕ
+count_new stored [] = 0
+count_new stored (row ∷ rows) = (if is_among stored row || is_among rows row then 0 else 1) + count_new stored rows
+
+abbrev pub same_kind : Kind → Kind → Bool
+same_kind Int Int = true
+same_kind Int Text = false
+same_kind Text Int = false
+same_kind Text Text = true
+
+-- the first of two faults
+abbrev pub first_of : Option Refusal → Option Refusal → Option Refusal
+first_of (Some fault) later = Some fault
+first_of None later = later
+
+-- the first value, from a column on, that has another kind than its column
+abbrev pub kind_fault : ℕ → ℕ → List Kind → List Value → Option Refusal
+kind_fault row column [] values = None
+kind_fault row column (kind ∷ kinds) [] = None
+kind_fault row column (kind ∷ kinds) (value ∷ values) =
+    first_of (if same_kind (kind_of value) kind then None else Some (TypeMismatch (Cell row column))) (kind_fault row (column + 1) kinds values)
+
+-- what is wrong with the row of a number: how many values it has, or the kind of one
+abbrev pub row_fault : List Kind → ℕ → List Value → Option Refusal
+row_fault kinds number row = first_of (if length row == length kinds then None else Some (WrongArity number)) (kind_fault number 1 kinds row)
+
+-- the first fault of rows that are numbered from one on
+abbrev pub rows_fault : List Kind → ℕ → List (List Value) → Option Refusal
+rows_fault kinds number [] = None
+rows_fault kinds number (row ∷ rows) = first_of (row_fault kinds number row) (rows_fault kinds (number + 1) rows)
+
+-- the database would have more than 1,000,000 rows
+abbrev pub limit_fault : List Table → ℕ → List (List Value) → Option Refusal
+limit_fault db table rows = if nat_le (row_total db + count_new (rows_at db table) rows) 1_000_000 then None else Some (Limit Rows)
+
+-- the first check that fails where rows are put into a table
+abbrev pub insert_fault : List Table → ℕ → List (List Value) → Option Refusal
+insert_fault db table rows = first_of (rows_fault (kinds_at db table) 1 rows) (limit_fault db table rows)
+
+-- rows are put into a table: it has its old rows and the given ones, in block order, and so many of these are new
+pub record Inserts (old : List Table) (table : ℕ) (given : List (List Value)) (new : List Table) (count : ℕ) : Type 0 where
+  pub rows : List (List Value)
+  pub in_order : IsStrictlySortedBy (block_cmp (key_at old table)) rows
+  pub members : (row : List Value) → Contains rows row ↔ (Contains (rows_at old table) row ⊎ Contains given row)
+  pub changed : new ≡ with_rows old table rows
+  pub count_is : count ≡ count_new (rows_at old table) given
+
+-- all tests hold for a row
+abbrev pub TestsHold : List ColumnTest → List Value → Type 0
+TestsHold tests row = (test : ColumnTest) → Contains tests test → OpHolds test.op (slice_index_or row test.col nothing) test.value
+
+-- the rows for which all tests hold are taken from a table, so many of them
+pub record Deletes (old : List Table) (table : ℕ) (tests : List ColumnTest) (new : List Table) (count : ℕ) : Type 0 where
+  pub rows : List (List Value)
+  pub in_order : IsStrictlySortedBy (block_cmp (key_at old table)) rows
+  pub members : (row : List Value) → Contains rows row ↔ (Contains (rows_at old table) row × (TestsHold tests row → ⊥))
+  pub changed : new ≡ with_rows old table rows
+  pub count_is : count + length rows ≡ length (rows_at old table)
+
+-- where a row stands among sorted rows, or would stand: those before it are below it, and the one there isn't
+pub record IsPlace {A : Type 0} (cmp : A → A → Ordering) (rows : List A) (row : A) (at : ℕ) : Type 0 where
+  pub within : at ≤ length rows
+  pub below : AllByRecursion (λ other. cmp other row ≡ Less) (take at rows)
+  pub stops : (other : A) → slice_get rows at ≡ Some other → cmp other row ≢ Less

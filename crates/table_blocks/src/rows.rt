@@ -1,0 +1,122 @@
+ghost use Rattle.std.specs.Prelude.{◌≡◌, ◌≤◌, ◌<◌, ◌+◌, ◌-◌, ◌↔◌, ◌++◌, IsTrue, not, MatchOption, Some, slice_get, slice_index_or, [], List, ℕ, Contains, length, take, drop};
+ghost use Rattle.std.specs.List.Sorted.{IsStrictlySortedBy, IsPermutation};
+ghost use Rattle.std.specs.Ordering.{is_lt};
+ghost use Rattle.cqa_value.specs.declared.value.Value.{Value as Cell};
+ghost use Rattle.cqa_model.specs.Database.{block_cmp};
+ghost use Rattle.table_blocks.specs.Tables.{IsPlace, is_among};
+
+use crate::order::block_compare;
+use cqa_value::Row;
+use std::cmp::Ordering;
+
+/// Puts rows in block order, each once.
+pub fn sorted(mut rows: Vec<Row>, key: &[u32]) -> Vec<Row>
+    ensures ascending { IsStrictlySortedBy (block_cmp key.now) result.items }
+    ensures same { (row : List Cell) → Contains result.items row ↔ Contains rows.items row }
+{
+    rows.sort_unstable_by(|a, b| -> Ordering
+        ensures { result ≡ block_cmp key.entry.now a.now b.now }
+    { block_compare(key, a, b) });
+    rows.dedup();
+    rows
+}
+
+/// How many rows stand before a row's place.
+pub fn place_in(rows: &[Row], key: &[u32], row: &Row) -> usize
+    ensures within { result ≤ length rows.now }
+    ensures place { IsStrictlySortedBy (block_cmp key.now) rows.now → IsPlace (block_cmp key.now) rows.now row.now result }
+{
+    rows.partition_point(|other| -> bool
+        ensures { result ≡ is_lt (block_cmp key.entry.now other.now row.entry.now) }
+    { block_compare(key, other, row).is_lt() })
+}
+
+fn same_row(a: &Row, b: &Row) -> bool
+    ensures { IsTrue result ↔ (a.now ≡ b.now) }
+{
+    a == b
+}
+
+fn stands(rows: &[Row], at: usize, row: &Row) -> bool
+    ensures { IsTrue result ↔ (slice_get rows.now at ≡ Some row.now) }
+{
+    at < rows.len() && same_row(&rows[at], row)
+}
+
+/// The place of a row, if it is there.
+pub fn find_in(rows: &[Row], key: &[u32], row: &Row) -> Option<usize>
+    requires { IsStrictlySortedBy (block_cmp key.now) rows.now }
+    ensures { MatchOption result (Contains rows.now row.now → ⊥) (λ at. slice_get rows.now at ≡ Some row.now) }
+{
+    let at = place_in(rows, key, row);
+    if stands(rows, at, row) {
+        Some(at)
+    } else {
+        None
+    }
+}
+
+fn is_new(rows: &[Row], key: &[u32], row: &Row) -> bool
+    requires { IsStrictlySortedBy (block_cmp key.now) rows.now }
+    ensures { result ≡ not (is_among rows.now row.now) }
+{
+    match find_in(rows, key, row) {
+        Some(_) => false,
+        None => true,
+    }
+}
+
+/// Those of some rows that aren't stored.
+fn without(mut rows: Vec<Row>, stored: &[Row], key: &[u32]) -> Vec<Row>
+    requires stored { IsStrictlySortedBy (block_cmp key.now) stored.now }
+    requires given { IsStrictlySortedBy (block_cmp key.now) rows.items }
+    ensures ascending { IsStrictlySortedBy (block_cmp key.now) result.items }
+    ensures new { (row : List Cell) → Contains result.items row ↔ (Contains rows.items row × (Contains stored.now row → ⊥)) }
+{
+    rows.retain(|row| -> bool
+        requires { IsStrictlySortedBy (block_cmp key.now) stored.now }
+        ensures { result ≡ not (is_among stored.entry.now row.now) }
+    { is_new(stored, key, row) });
+    rows
+}
+
+/// Moves the last `count` rows of a range to its front.
+fn turn(rows: &mut [Row], from: usize, to: usize, count: usize)
+    requires order { from ≤ to }
+    requires within { to ≤ length rows.old }
+    requires enough { count ≤ to - from }
+    ensures same { IsPermutation rows.old rows.new }
+    ensures turned { (a b c d : List (List Cell)) → rows.old ≡ a ++ (b ++ (c ++ d)) → length a ≡ from → length c ≡ count → length a + length b + length c ≡ to → rows.new ≡ a ++ (c ++ (b ++ d)) }
+{
+    rows[from..to].rotate_right(count);
+}
+
+/// The place among the first `end` rows of the row at `given`.
+fn place_among(rows: &[Row], key: &[u32], end: usize, given: usize) -> usize
+    requires end { end ≤ length rows.now }
+    requires given { given < length rows.now }
+    ensures within { result ≤ end }
+    ensures place { IsStrictlySortedBy (block_cmp key.now) (take end rows.now) → IsPlace (block_cmp key.now) (take end rows.now) (slice_index_or rows.now given []) result }
+{
+    place_in(&rows[..end], key, &rows[given])
+}
+
+/// Merges sorted rows with those that stand behind them: from the greatest on, each of these goes to its place, together
+/// with those before it that are still to go.
+fn merge(rows: &mut [Row], key: &[u32], stored: usize)
+    requires within { stored ≤ length rows.old }
+    requires ascending { IsStrictlySortedBy (block_cmp key.now) (take stored rows.old) }
+    requires rising { IsStrictlySortedBy (block_cmp key.now) (drop stored rows.old) }
+    requires apart { (row : List Cell) → Contains (take stored rows.old) row → Contains (drop stored rows.old) row → ⊥ }
+    ensures ascending { IsStrictlySortedBy (block_cmp key.now) rows.new }
+    ensures same { IsPermutation rows.old rows.new }
+{
+    let mut end = stored;
+    let mut left = rows.len() - stored;
+    while left > 0 {
+        let place = place_among(rows, key, end, end + left - 1);
+        turn(rows, place, end + left, left);
+        end = place;
+        left -= 1;
+    }
+}

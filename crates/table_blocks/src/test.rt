@@ -1,0 +1,43 @@
+ghost use Rattle.std.specs.Prelude.{◌≡◌, ◌<◌, ◌↔◌, IsTrue, slice_index_or, length, All};
+ghost use Rattle.cqa_model.specs.Database.{nothing};
+ghost use Rattle.cqa_model.specs.Query.{OpHolds};
+ghost use Rattle.table_blocks.specs.Tables.{TestsHold};
+
+use cqa_model::Op;
+use cqa_value::{Row, Value, compare};
+use std::cmp::Ordering;
+
+/// A comparison of a table's column with a value.
+#[derive(Drop)]
+pub struct ColumnTest {
+    pub col: u32,
+    pub op: Op,
+    pub value: Value,
+}
+
+fn same_value(a: &Value, b: &Value) -> bool
+    ensures { IsTrue result ↔ (a.now ≡ b.now) }
+{
+    a == b
+}
+
+/// Whether two values stand in the relation of an operator.
+fn compares(op: Op, a: &Value, b: &Value) -> bool
+    ensures { IsTrue result ↔ OpHolds op a.now b.now }
+{
+    match op {
+        Op::Eq => same_value(a, b),
+        Op::Ne => !same_value(a, b),
+        Op::Lt => compare(a, b) == Ordering::Less,
+        Op::Le => compare(a, b) != Ordering::Greater,
+        Op::Gt => compare(a, b) == Ordering::Greater,
+        Op::Ge => compare(a, b) != Ordering::Less,
+    }
+}
+
+fn passes(row: &Row, test: &ColumnTest) -> bool
+    requires { test.now.col < length row.now }
+    ensures { IsTrue result ↔ OpHolds test.now.op (slice_index_or row.now test.now.col nothing) test.now.value }
+{
+    compares(test.op, row.get(test.col), &test.value)
+}
