@@ -1,0 +1,3 @@
+mod Integers
+mod Prefixes
+mod Written
