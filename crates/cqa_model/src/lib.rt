@@ -1,8 +1,10 @@
-//! Queries, schemas, and the definitions and laws of certain answers.
+//! Schemas, queries and refusals, with the definitions of certain answers under primary keys and their laws.
 #![tactic(auto)]
 
 mod query;
+mod refusal;
 mod schema;
 
-pub use query::{Atom, ColRef, Cond, Op, Query};
-pub use schema::Column;
+pub use query::{Atom, ColRef, Cond, Op, Plan, Query, RowId};
+pub use refusal::{LimitKind, Place, Refusal};
+pub use schema::{Column, Schema};

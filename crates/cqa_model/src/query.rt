@@ -1,15 +1,15 @@
-ghost use Rattle.cqa_model.specs.Shape.{IsQuery};
+ghost use Rattle.cqa_model.specs.Shape.{IsQuery, AreDistinct};
 
 use cqa_value::{Items, Value};
 
-/// A column of a query.
+/// A column of an atom: the atom's place in the query, and the column's place in its table.
 #[derive(Clone, Copy, Debug, PartialEq, Eq)]
 pub struct ColRef {
     pub atom: u32,
     pub col: u32,
 }
 
-/// An operator.
+/// How a value compares with a literal.
 #[derive(Clone, Copy, Debug, PartialEq, Eq)]
 pub enum Op {
     Eq,
@@ -20,14 +20,14 @@ pub enum Op {
     Ge,
 }
 
-/// A condition.
+/// A condition: two columns have one value, or a column's value compares with a literal.
 #[derive(Drop)]
 pub enum Cond {
     Join { left: ColRef, right: ColRef },
     Test { col: ColRef, op: Op, value: Value },
 }
 
-/// A table, its width, and its key.
+/// A table of a query: its place in the database, its number of columns, and the places of its key.
 #[derive(Drop)]
 pub struct Atom {
     pub table: u32,
@@ -35,11 +35,28 @@ pub struct Atom {
     pub key: Items<u32>,
 }
 
-/// A query.
+/// A select-project-join query without self-joins.
+///
+/// It has 1 to 12 atoms of different tables, each with 1 to 16 columns and a key of different columns, at most 192
+/// answer columns, and every column that it speaks of is there.
 #[derive(Drop)]
 pub struct Query {
     pub atoms: Items<Atom>,
     pub conds: Items<Cond>,
     pub answer: Items<ColRef>,
-    ghost kept: { IsQuery atoms conds answer },
+    pub ghost kept: { IsQuery atoms conds answer },
+}
+
+/// An order of a query's atoms, each named by its place in the query and at most once.
+#[derive(Drop)]
+pub struct Plan {
+    pub order: Items<u32>,
+    pub ghost apart: { AreDistinct order },
+}
+
+/// A stored row: its table's place in the database, and its own in the table's block order.
+#[derive(Clone, Copy, Debug, PartialEq, Eq)]
+pub struct RowId {
+    pub table: u32,
+    pub place: u32,
 }

@@ -1,8 +1,59 @@
-use cqa_value::{Kind, Name};
+ghost use Rattle.std.specs.Prelude.{◌≡◌, IfOk};
+ghost use Rattle.cqa_model.specs.Shape.{IsSchema};
+
+use cqa_value::{Items, Kind, Name, NoMemory};
+use std::alloc::Global;
 
 /// A column of a table.
 #[derive(Drop)]
 pub struct Column {
     pub name: Name,
     pub kind: Kind,
+}
+
+/// The shape of a table: its name, its columns, and the places of its key columns in the key's order.
+///
+/// It has 1 to 16 columns of different names, and its key is a list of one or more different columns.
+#[derive(Drop)]
+pub struct Schema {
+    pub name: Name,
+    pub columns: Items<Column>,
+    pub key: Items<u32>,
+    pub ghost kept: { IsSchema columns key },
+}
+
+impl Schema {
+    /// A schema that equals this one.
+    ///
+    /// # Errors
+    ///
+    /// `NoMemory` where memory is refused.
+    pub fn copy(&self, alloc: Global) -> Result<Schema, NoMemory>
+        ensures { IfOk result (λ schema. schema ≡ self.now) }
+    {
+        let name = self.name.copy(alloc)?;
+        let columns = copy_columns(alloc, self.columns.as_slice())?;
+        let key = copy_key(alloc, self.key.as_slice())?;
+        Ok(Schema { name, columns, key })
+    }
+}
+
+fn copy_columns(alloc: Global, columns: &[Column]) -> Result<Items<Column>, NoMemory>
+    ensures { IfOk result (λ copy. copy ≡ columns.now) }
+{
+    let mut copy = Vec::with_capacity(alloc, columns.len())?;
+    for column in columns {
+        let name = column.name.copy(alloc)?;
+        copy.push(Column {
+            name,
+            kind: column.kind,
+        })?;
+    }
+    Ok(Items::from_vec(copy))
+}
+
+fn copy_key(alloc: Global, key: &[u32]) -> Result<Items<u32>, NoMemory>
+    ensures { IfOk result (λ copy. copy ≡ key.now) }
+{
+    Ok(Items::from_vec(Vec::from_slice(alloc, key)?))
 }

@@ -1,0 +1,65 @@
+-- Tables and databases as plain lists of rows.
+use Rattle.std.specs.Prelude.{◌≡◌, ℕ, pos, ◌<◌, ◌≤◌, ◌+◌, List, [], ◌∷◌, length, map, Contains, slice_index_or}
+use Rattle.std.specs.List.Sorted.{IsStrictlySortedBy}
+use Rattle.std.specs.Ordering.{ordering_then}
+use Rattle.std.specs.declared.cmp.Ordering.{Ordering}
+use Rattle.cqa_value.specs.declared.value.Kind.{Kind}
+use Rattle.cqa_value.specs.declared.value.Value.{Value}
+use Rattle.cqa_value.specs.declared.value.Value.TheVariants.{Int}
+use Rattle.cqa_value.specs.Values.{kind_of, row_cmp}
+use Rattle.cqa_model.specs.declared.schema.Schema.{Schema}
+
+-- stands for the value of a column that is not there
+abbrev pub nothing : Value
+nothing = Int (pos 0)
+
+-- the values of a row in its key columns, in the key's order
+abbrev pub key_of : List ℕ → List Value → List Value
+key_of key row = map (λ p. slice_index_or row p nothing) key
+
+-- block order: by the key's values, and rows of one key by the whole row
+abbrev pub block_cmp : List ℕ → List Value → List Value → Ordering
+block_cmp key x y = ordering_then (row_cmp (key_of key x) (key_of key y)) (row_cmp x y)
+
+-- a schema and the rows that are stored
+pub record Table : Type 0 where
+  pub schema : Schema
+  pub rows : List (List Value)
+
+-- the kinds of a schema's columns
+abbrev pub kinds_of : Schema → List Kind
+kinds_of schema = map (λ column. column.kind) schema.columns
+
+-- one value for each column, of its kind
+abbrev pub IsRowOf : Schema → List Value → Type 0
+IsRowOf schema row = map kind_of row ≡ kinds_of schema
+
+-- different rows of the schema, in block order
+pub record IsTable (table : Table) : Type 0 where
+  pub in_order : IsStrictlySortedBy (block_cmp table.schema.key) table.rows
+  pub of_schema : (row : List Value) → Contains table.rows row → IsRowOf table.schema row
+
+abbrev pub names_of : List Table → List (List ℕ)
+names_of db = map (λ table. table.schema.name) db
+
+-- the number of rows in all tables
+abbrev pub row_total : List Table → ℕ
+row_total [] = 0
+row_total (table ∷ db) = length table.rows + row_total db
+
+-- at most 64 tables of different names, and at most 1,000,000 rows in all
+pub record IsDatabase (db : List Table) : Type 0 where
+  pub few_tables : length db ≤ 64
+  pub each : (table : Table) → Contains db table → IsTable table
+  pub names_differ : (i j : ℕ) → i < length db → j < length db → slice_index_or (names_of db) i [] ≡ slice_index_or (names_of db) j [] → i ≡ j
+  pub few_rows : row_total db ≤ 1_000_000
+
+-- the rows of each table, the key of each, and the kinds of the columns of each
+abbrev pub stored : List Table → List (List (List Value))
+stored db = map (λ table. table.rows) db
+
+abbrev pub keys_of : List Table → List (List ℕ)
+keys_of db = map (λ table. table.schema.key) db
+
+abbrev pub column_kinds : List Table → List (List Kind)
+column_kinds db = map (λ table. kinds_of table.schema) db
