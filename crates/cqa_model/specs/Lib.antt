@@ -1,5 +1,13 @@
 pub mod Shape
 pub mod Database
-pub mod Query
 pub mod Repairs
+pub mod Query
 pub mod Certain
+pub mod Variables
+pub mod Closures
+pub mod Graph
+pub mod Plan
+pub mod Partial
+pub mod Labels
+pub mod Formula
+pub mod Laws

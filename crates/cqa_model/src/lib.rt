@@ -1,6 +1,7 @@
 //! Schemas, queries and refusals, with the definitions of certain answers under primary keys and their laws.
 #![tactic(auto)]
 
+pub mod laws;
 mod query;
 mod refusal;
 mod schema;
