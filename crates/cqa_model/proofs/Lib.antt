@@ -3,6 +3,8 @@ pub mod Values
 pub mod Classic
 pub mod Repairs
 pub mod Views
+pub mod BlockOrder
+pub mod Places
 pub mod Fitting
 pub mod Agreement
 pub mod Exchange

@@ -1,16 +1,16 @@
 -- The laws of certain answers.
-use Rattle.std.specs.Prelude.{◌≡◌, ℕ, ◌↔◌, ◌⊎◌, List, [], ◌∷◌, length, map, Contains, Bool}
+use Rattle.std.specs.Prelude.{◌≡◌, ℕ, ◌↔◌, ◌⊎◌, List, length, Bool}
 use Rattle.cqa_value.specs.declared.value.Value.{Value}
-use Rattle.cqa_model.specs.declared.query.Cond.{Cond}
 use Rattle.cqa_model.specs.declared.query.Query.{Query}
 use Rattle.cqa_model.specs.Database.{Table, stored}
-use Rattle.cqa_model.specs.Repairs.{SharesKey, IsRepair}
-use Rattle.cqa_model.specs.Query.{atom_key, rows_of, value, CondHolds, IsWitness, FitsDatabase}
+use Rattle.cqa_model.specs.Repairs.{IsRepair}
+use Rattle.cqa_model.specs.Query.{atom_key, rows_of, IsWitness, FitsDatabase}
 use Rattle.cqa_model.specs.Certain.{IsCertain, IsPossible, IsCandidate}
 use Rattle.cqa_model.specs.Variables.{whole}
 use Rattle.cqa_model.specs.Graph.{HasCycle}
 use Rattle.cqa_model.specs.Plan.{HoldsOver, IsPlanOf}
 use Rattle.cqa_model.specs.Formula.{Satisfies}
+use Rattle.cqa_model.specs.OneTable.{FitsRow, SomeBlockFits}
 
 -- The plan of a query holds exactly where the row is certain (Koutris and Wijsen, ACM TODS 2017).
 abbrev pub RewritingIsExact : Type 0
@@ -40,16 +40,7 @@ FormulaIsExact =
     (db : List Table) (q : Query) (row : List Value) → FitsDatabase q db →
     IsCertain db q row ↔ ((a : ℕ → List Value → Bool) → Satisfies q (stored db) row a → ⊥)
 
--- a row of a query's one table meets all its conditions and gives the answer row
-pub record FitsRow (q : Query) (row x : List Value) : Type 0 where
-  pub holds : (k : Cond) → Contains q.conds k → CondHolds (x ∷ []) k
-  pub answers : map (value (x ∷ [])) q.answer ≡ row
-
--- some block has only rows that fit
-abbrev pub SomeBlockFits : List ℕ → List (List Value) → (List Value → Type 0) → Type 0
-SomeBlockFits key rows P = (x : List Value) × Contains rows x × ((y : List Value) → Contains rows y → SharesKey key x y → P y)
-
--- Over one table a row is certain exactly where some block has only rows that fit it.
+-- A row of a query of one atom is certain exactly where all rows of some block fit it.
 abbrev pub CertainOverOne : Type 0
 CertainOverOne =
     (db : List Table) (q : Query) (row : List Value) → FitsDatabase q db → length q.atoms ≡ 1 →

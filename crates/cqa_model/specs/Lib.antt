@@ -2,6 +2,8 @@ pub mod Shape
 pub mod Database
 pub mod Repairs
 pub mod Query
+pub mod Blocks
+pub mod OneTable
 pub mod Certain
 pub mod Variables
 pub mod Closures
