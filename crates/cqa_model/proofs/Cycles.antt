@@ -1,5 +1,6 @@
 -- A plan exists exactly where the attacks have no cycle.
 use Rattle.std.proofs.Common.{◌≡◌, ℕ, zero, suc, ◌<◌, ◌≤◌, ◌≢◌, ◌⊎◌, inl, inr, List, [], ◌∷◌, length, refl, sym, subst, arith, Contains}
+use Rattle.std.proofs.lemmas.List.Elements.{All-contains}
 use native.Mathlib.Decide.{ℕ_discrete}
 use Rattle.cqa_model.specs.declared.query.Query.{Query}
 use Rattle.cqa_model.specs.Query.{atom_at, atom_key}
@@ -150,7 +151,7 @@ below-all (suc n) F l = go (ℕ_discrete n F) (λ k. below-all n F k)
     go (no ne) next = mem-tail F n (below n) (next (omega arith))
 
 pub whole-narrow : (q : Query) → IsNarrow q (whole q)
-whole-narrow q K hK p m = (q.kept.each K hK).key_in_range p m
+whole-narrow q K hK p m = All-contains (λ p. p < (atom_at q K).width) (atom_key q K) p (q.kept.each K hK).key_in_range m
 
 pub plan_or_cycle : PlanOrCycle
 plan_or_cycle = record {

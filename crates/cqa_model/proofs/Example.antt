@@ -1,10 +1,10 @@
 -- The definitions are not empty: a query of one atom, with its plan.
-use Rattle.std.proofs.Common.{ℕ, zero, suc, ◌<◌, inl, inr, [], ◌∷◌, arith}
+use Rattle.std.proofs.Common.{ℕ, zero, suc, ◌<◌, [], ◌∷◌, slice_index_or, arith}
 use Rattle.cqa_model.specs.declared.query.Atom.{Atom}
 use Rattle.cqa_model.specs.declared.query.Query.{Query}
 use Rattle.cqa_model.specs.Shape.{nth_atom, IsAtom, IsQuery}
 use Rattle.cqa_model.specs.Plan.{IsPlanOf}
-use Rattle.cqa_model.proofs.Classic.{mem-cases, mem-nil}
+use Rattle.cqa_model.proofs.Classic.{mem-nil}
 
 abbrev one_atom : Atom
 one_atom = record { table = 0; width = 2; key = 0 ∷ [] }
@@ -19,11 +19,15 @@ one_kept = record {
   answer_in_range = λ c m. absurd (mem-nil c m);
 }
   where
+    place : (k d : ℕ) → k < 1 → slice_index_or (0 ∷ []) k d < 2
+    place zero d l = omega arith
+    place (suc k) d l = absurd (omega arith)
+
     atom : (F : ℕ) → F < 1 → IsAtom (nth_atom (one_atom ∷ []) F)
     atom zero l = record {
       width = (omega arith, omega arith);
       some_key = omega arith;
-      key_in_range = λ p m. elim (mem-cases p 0 [] m) [ inl e ↦ omega arith | inr n ↦ absurd (mem-nil p n) ];
+      key_in_range = place;
       key_apart = λ i j li lj e. omega arith;
     }
     atom (suc F) l = absurd (omega arith)

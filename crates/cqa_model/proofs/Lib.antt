@@ -5,6 +5,7 @@ pub mod Repairs
 pub mod Views
 pub mod BlockOrder
 pub mod Places
+pub mod Prefixes
 pub mod Fitting
 pub mod Agreement
 pub mod Exchange

@@ -13,3 +13,4 @@ pub mod Partial
 pub mod Labels
 pub mod Formula
 pub mod Laws
+pub mod Text

@@ -5,7 +5,9 @@ pub mod laws;
 mod query;
 mod refusal;
 mod schema;
+mod text;
 
 pub use query::{Atom, ColRef, Cond, Op, Plan, Query, RowId};
 pub use refusal::{LimitKind, Place, Refusal};
 pub use schema::{Column, Schema};
+pub use text::schema_text;
