@@ -1,10 +1,13 @@
 //! Schemas, queries and refusals, with the definitions of certain answers under primary keys and their laws.
 #![tactic(auto)]
 
+pub mod laws;
 mod query;
 mod refusal;
 mod schema;
+mod text;
 
 pub use query::{Atom, ColRef, Cond, Op, Plan, Query, RowId};
 pub use refusal::{LimitKind, Place, Refusal};
 pub use schema::{Column, Schema};
+pub use text::schema_text;

@@ -1,0 +1,162 @@
+-- A plan exists exactly where the attacks have no cycle.
+use Rattle.std.proofs.Common.{◌≡◌, ℕ, zero, suc, ◌<◌, ◌≤◌, ◌≢◌, ◌⊎◌, inl, inr, List, [], ◌∷◌, length, refl, sym, subst, arith, Contains}
+use Rattle.std.proofs.lemmas.List.Elements.{All-contains}
+use native.Mathlib.Decide.{ℕ_discrete}
+use Rattle.cqa_model.specs.declared.query.Query.{Query}
+use Rattle.cqa_model.specs.Query.{atom_at, atom_key}
+use Rattle.cqa_model.specs.Variables.{View, whole, after}
+use Rattle.cqa_model.specs.Graph.{Attacks, IsWalk, HasCycle}
+use Rattle.cqa_model.specs.Plan.{IsUnattacked, IsPlan}
+use Rattle.cqa_model.specs.Laws.{PlanOrCycle}
+use Rattle.cqa_model.proofs.Classic.{Classically, mem-head, mem-tail, mem-nil, mem-cases, mem-eq}
+use Rattle.cqa_model.proofs.Reification.{remove}
+use Rattle.cqa_model.proofs.Attacks.{IsClosed, after-closed, rest, kept}
+
+module _ (q : Query) (view : View) where
+  walk-start : (A : ℕ) (Hs : List ℕ) (B : ℕ) → IsWalk q view A Hs B → view.has A
+  walk-start A [] B w = w.0
+  walk-start A (H ∷ Hs) B w = w.0.0
+
+  walk-end : (A : ℕ) (Hs : List ℕ) (B : ℕ) → IsWalk q view A Hs B → (C : ℕ) × Attacks q view C B
+  walk-end A [] B w = (A, w)
+  walk-end A (H ∷ Hs) B w = walk-end H Hs B w.1
+
+  walk-append : (A : ℕ) (Hs : List ℕ) (B : ℕ) (Is : List ℕ) (C : ℕ) → IsWalk q view A Hs B → IsWalk q view B Is C → (Js : List ℕ) × IsWalk q view A Js C
+  walk-append A [] B Is C v w = (B ∷ Is, (v, w))
+  walk-append A (H ∷ Hs) B Is C v w = let r = walk-append H Hs B Is C v.1 w in (H ∷ r.0, (v.0, r.1))
+
+module _ (q : Query) where
+  cycle-before : (view : View) → IsClosed q view → (F : ℕ) (A : ℕ) (Hs : List ℕ) (B : ℕ) → IsWalk q (after q view F) A Hs B → IsWalk q view A Hs B
+  cycle-before view closed F A [] B w = rest q view closed F A B w
+  cycle-before view closed F A (H ∷ Hs) B w = (rest q view closed F A H w.0, cycle-before view closed F H Hs B w.1)
+
+  pub has_cycle-before : (view : View) → IsClosed q view → (F : ℕ) → HasCycle q (after q view F) → HasCycle q view
+  has_cycle-before view closed F (A, Hs, w) = (A, Hs, cycle-before view closed F A Hs A w)
+
+  abbrev pub IsNarrow : View → Type 0
+  IsNarrow view = (K : ℕ) → view.has K → (p : ℕ) → Contains (atom_key q K) p → p < (atom_at q K).width
+
+  walk-after : (view : View) → IsClosed q view → IsNarrow view → (F : ℕ) → view.has F → IsUnattacked q view F → (A : ℕ) → A ≢ F → (Hs : List ℕ) (B : ℕ) → IsWalk q view A Hs B → IsWalk q (after q view F) A Hs B
+  walk-after view closed narrow F hF free A ne [] B w = kept q view closed F narrow hF free A w.0 ne B (λ e. free A (subst (λ z. Attacks q view A z) e w)) w
+  walk-after view closed narrow F hF free A ne (H ∷ Hs) B w =
+      let ne_H : H ≢ F = λ e. free A (subst (λ z. Attacks q view A z) e w.0) in
+      (kept q view closed F narrow hF free A w.0.0 ne H ne_H w.0, walk-after view closed narrow F hF free H ne_H Hs B w.1)
+
+  -- a view with a plan has no cycle
+  pub planned : (plan : List ℕ) (view : View) → IsClosed q view → IsNarrow view → IsPlan q view plan → HasCycle q view → ⊥
+  planned [] view closed narrow none (A, Hs, w) = none A (walk-start q view A Hs A w)
+  planned (F ∷ plan) view closed narrow (hF, free, first, more) (A, Hs, w) =
+      planned plan (after q view F) (after-closed q view closed F) (λ K hK. narrow K hK.0) more
+      (A, Hs, walk-after view closed narrow F hF free A (λ e. let z = walk-end q view A Hs A w in free z.0 (subst (λ y. Attacks q view z.0 y) e z.1)) Hs A w)
+
+  -- where each atom that is left is attacked, the attackers come round
+  module _ (view : View) (attacker : (F : ℕ) → view.has F → (G : ℕ) × Attacks q view G F) where
+    -- from x one comes to each atom that is not in the list
+    abbrev IsSeen : List ℕ → ℕ → Type 0
+    IsSeen unseen x = (y : ℕ) → view.has y → Contains unseen y ⊎ ((x ≡ y) ⊎ ((Hs : List ℕ) × IsWalk q view x Hs y))
+
+    come_round_step : (unseen : List ℕ) (x : ℕ) → view.has x → IsSeen unseen x →
+        ((others : List ℕ) (G : ℕ) → length unseen ≡ suc (length others) → view.has G → IsSeen others G → HasCycle q view) → HasCycle q view
+    come_round_step unseen x hx seen next = go (attacker x hx)
+      where
+        go : (G : ℕ) × Attacks q view G x → HasCycle q view
+        go (G, a) = elim (seen G a.0) [
+          | inl m ↦ far (remove unseen G m)
+          | inr s ↦ elim s [
+            | inl e ↦ absurd (a.2 (sym e))
+            | inr w ↦ (G, x ∷ w.0, (a, w.1))
+          ]
+        ]
+          where
+            onwards : (y : ℕ) → (x ≡ y) ⊎ ((Hs : List ℕ) × IsWalk q view x Hs y) → (Hs : List ℕ) × IsWalk q view G Hs y
+            onwards y (inl e) = ([], subst (λ z. Attacks q view G z) e a)
+            onwards y (inr w) = (x ∷ w.0, (a, w.1))
+
+            far : (ys : List ℕ) × (length unseen ≡ suc (length ys)) × ((y : ℕ) → Contains unseen y → (G ≡ y) ⊎ Contains ys y) → HasCycle q view
+            far (ys, l, h) = next ys G l a.0 (λ y hy. elim (seen y hy) [
+              | inl m ↦ elim (h y m) [ inl e ↦ inr (inl e) | inr n ↦ inl n ]
+              | inr s ↦ inr (inr (onwards y s))
+            ])
+
+    come_round : (n : ℕ) (unseen : List ℕ) → length unseen ≤ n → (x : ℕ) → view.has x → IsSeen unseen x → HasCycle q view
+    come_round zero unseen le x hx seen = come_round_step unseen x hx seen (λ others G l hG s. absurd (omega arith))
+    come_round (suc n) unseen le x hx seen = come_round_step unseen x hx seen (λ others G l hG s. come_round n others (omega arith) G hG s)
+
+    -- where there is an atom, and each has an attacker, there is a cycle
+    pub stuck : (atoms : List ℕ) → ((F : ℕ) → view.has F → Contains atoms F) → (x : ℕ) → view.has x → HasCycle q view
+    stuck atoms all x hx = come_round (length atoms) atoms (omega arith) x hx (λ y hy. inl (all y hy))
+
+-- the least number with a property
+least : (P : ℕ → Type 0) (n m : ℕ) → m < n → P m → Classically ((k : ℕ) × P k × ((j : ℕ) → j < k → P j → ⊥))
+least P zero m l p k = absurd (omega arith)
+least P (suc n) m l p k = k (m, p, λ j lj pj. least P n j (omega arith) pj k)
+
+-- what holds of each element, cases being split, holds of all
+each : (P : ℕ → Type 0) (xs : List ℕ) → ((x : ℕ) → Contains xs x → Classically (P x)) → Classically ((x : ℕ) → Contains xs x → P x)
+each P [] h k = k (λ x m. absurd (mem-nil x m))
+each P (y ∷ ys) h k = h y (mem-head y ys) (λ p. each P ys (λ x m. h x (mem-tail x y ys m)) (λ ps.
+    k (λ x m. elim (mem-cases x y ys m) [ inl e ↦ subst P e p | inr n ↦ ps x n ])))
+
+-- a view without a cycle has a plan
+module _ (q : Query) where
+  unattacked : (atoms : List ℕ) (view : View) → ((F : ℕ) → view.has F → Contains atoms F) → (HasCycle q view → ⊥) → (x : ℕ) → view.has x →
+      Classically ((F : ℕ) × (view.has F × IsUnattacked q view F))
+  unattacked atoms view all acyclic x hx k =
+      each (λ F. view.has F → (G : ℕ) × Attacks q view G F) atoms
+      (λ F m c. c (λ hF. absurd (k (F, (hF, λ G a. c (λ h. (G, a)))))))
+      (λ attackers. acyclic (stuck q view (λ F hF. attackers F (all F hF) hF) atoms all x hx))
+
+  pub plannable : (n : ℕ) (atoms : List ℕ) → length atoms ≤ n → (view : View) → IsClosed q view → ((F : ℕ) → view.has F → Contains atoms F) →
+      (HasCycle q view → ⊥) → Classically ((plan : List ℕ) × IsPlan q view plan)
+  plannable zero atoms le view closed all acyclic k = k ([], λ F hF. none (all F hF))
+    where
+      none : {F : ℕ} → Contains atoms F → ⊥
+      none m = let l : m.0 < length atoms = m.1 in omega arith
+  plannable (suc n) atoms le view closed all acyclic k = k (
+    [],
+    λ x hx.
+        unattacked atoms view all acyclic x hx (λ f.
+        least (λ F. view.has F × IsUnattacked q view F) (suc f.0) f.0 (omega arith) f.1 (λ g.
+        let r = remove atoms g.0 (all g.0 g.1.0) in
+        let e : length atoms ≡ suc (length r.0) = r.1 in
+        plannable n r.0 (omega arith) (after q view g.0) (after-closed q view closed g.0)
+        (λ F hF. elim (r.2 F (all F hF.0)) [ inl f ↦ absurd (hF.1 (sym f)) | inr m ↦ m ])
+        (λ c. acyclic (has_cycle-before q view closed g.0 c))
+        (λ p. k (g.0 ∷ p.0, (g.1.0, g.1.1, (λ G hG lG uG. g.2 G lG (hG, uG)), p.1))))),
+  )
+
+  -- the plan is unique
+  pub one_plan : (view : View) (p o : List ℕ) → IsPlan q view p → IsPlan q view o → p ≡ o
+  one_plan view [] [] hp ho = refl
+  one_plan view [] (G ∷ o) hp ho = absurd (hp G ho.0)
+  one_plan view (F ∷ p) [] hp ho = absurd (ho F hp.0)
+  one_plan view (F ∷ p) (G ∷ o) hp ho = go (ℕ_discrete F G) (λ h. one_plan (after q view F) p o hp.3 h)
+    where
+      go : Dec (F ≡ G) → (IsPlan q (after q view F) o → p ≡ o) → F ∷ p ≡ G ∷ o
+      go (yes e) next = let es : p ≡ o = next (subst (λ z. IsPlan q (after q view z) o) (sym e) ho.3) in cc
+      go (no ne) next = absurd (grind (arith, hp.2 G ho.0, ho.2 F hp.0, hp.1, ho.1))
+
+-- the numbers below n
+pub below : ℕ → List ℕ
+below zero = []
+below (suc n) = n ∷ below n
+
+pub below-all : (n F : ℕ) → F < n → Contains (below n) F
+unfolding below
+below-all zero F l = absurd (omega arith)
+below-all (suc n) F l = go (ℕ_discrete n F) (λ k. below-all n F k)
+  where
+    go : Dec (n ≡ F) → (F < n → Contains (below n) F) → Contains (n ∷ below n) F
+    go (yes e) next = mem-eq n F (n ∷ below n) e (mem-head n (below n))
+    go (no ne) next = mem-tail F n (below n) (next (omega arith))
+
+pub whole-narrow : (q : Query) → IsNarrow q (whole q)
+whole-narrow q K hK p m = All-contains (λ p. p < (atom_at q K).width) (atom_key q K) p (q.kept.each K hK).key_in_range m
+
+pub plan_or_cycle : PlanOrCycle
+plan_or_cycle = record {
+  not_both = λ q plan h c. planned q plan (whole q) (λ u v l f. f) (whole-narrow q) h c;
+  not_neither = λ q no_plan acyclic. plannable q (length (below (length q.atoms))) (below (length q.atoms)) (omega arith) (whole q) (λ u v l f. f)
+      (λ F hF. below-all (length q.atoms) F hF) acyclic (λ p. no_plan p.0 p.1);
+  one = λ q plan other h o. one_plan q (whole q) plan other h o;
+}

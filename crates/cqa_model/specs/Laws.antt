@@ -1,0 +1,52 @@
+-- The laws of certain answers.
+use Rattle.std.specs.Prelude.{◌≡◌, ℕ, ◌↔◌, ◌⊎◌, List, length, Bool}
+use Rattle.cqa_value.specs.declared.value.Value.{Value}
+use Rattle.cqa_model.specs.declared.query.Query.{Query}
+use Rattle.cqa_model.specs.Database.{Table, stored}
+use Rattle.cqa_model.specs.Repairs.{IsRepair}
+use Rattle.cqa_model.specs.Query.{atom_key, rows_of, IsWitness, FitsDatabase}
+use Rattle.cqa_model.specs.Certain.{IsCertain, IsPossible, IsCandidate}
+use Rattle.cqa_model.specs.Variables.{whole}
+use Rattle.cqa_model.specs.Graph.{HasCycle}
+use Rattle.cqa_model.specs.Plan.{HoldsOver, IsPlanOf}
+use Rattle.cqa_model.specs.Formula.{Satisfies}
+use Rattle.cqa_model.specs.OneTable.{FitsRow, SomeBlockFits}
+
+-- The plan of a query holds exactly where the row is certain (Koutris and Wijsen, ACM TODS 2017).
+abbrev pub RewritingIsExact : Type 0
+RewritingIsExact =
+    (db : List Table) (q : Query) (row : List Value) (plan : List ℕ) →
+    FitsDatabase q db → length row ≡ length q.answer → IsPlanOf q plan → HoldsOver db q row plan ↔ IsCertain db q row
+
+-- A query has exactly one of a plan and a cycle of attacks, and at most one plan.
+pub record PlanOrCycle : Type 0 where
+  pub not_both : (q : Query) (plan : List ℕ) → IsPlanOf q plan → HasCycle q (whole q) → ⊥
+  pub not_neither : (q : Query) → ((plan : List ℕ) → IsPlanOf q plan → ⊥) → (HasCycle q (whole q) → ⊥) → ⊥
+  pub one : (q : Query) (plan other : List ℕ) → IsPlanOf q plan → IsPlanOf q other → plan ≡ other
+
+-- a repair holds no witness of a row
+abbrev pub IsRejected : List Table → Query → List Value → Type 0
+IsRejected db q row = (kept : List (List (List Value))) × IsRepair db kept × ((w : List (List Value)) → IsWitness q kept row w → ⊥)
+
+-- Each row of a query with a plan is certain, or some repair holds no witness of it.
+abbrev pub CertainOrRejected : Type 0
+CertainOrRejected =
+    (db : List Table) (q : Query) (row : List Value) (plan : List ℕ) →
+    FitsDatabase q db → length row ≡ length q.answer → IsPlanOf q plan → IsCertain db q row ⊎ IsRejected db q row
+
+-- A row is certain exactly where no assignment satisfies its formula (Dixit and Kolaitis, SAT 2019).
+abbrev pub FormulaIsExact : Type 0
+FormulaIsExact =
+    (db : List Table) (q : Query) (row : List Value) → FitsDatabase q db →
+    IsCertain db q row ↔ ((a : ℕ → List Value → Bool) → Satisfies q (stored db) row a → ⊥)
+
+-- A row of a query of one atom is certain exactly where all rows of some block fit it.
+abbrev pub CertainOverOne : Type 0
+CertainOverOne =
+    (db : List Table) (q : Query) (row : List Value) → FitsDatabase q db → length q.atoms ≡ 1 →
+    IsCertain db q row ↔ SomeBlockFits (atom_key q 0) (rows_of q (stored db) 0) (FitsRow q row)
+
+-- The possible rows are exactly the candidates, and every certain row is one.
+pub record PossibleIsCandidate : Type 0 where
+  pub possible : (db : List Table) (q : Query) (row : List Value) → FitsDatabase q db → IsPossible db q row ↔ IsCandidate db q row
+  pub certain : (db : List Table) (q : Query) (row : List Value) → FitsDatabase q db → IsCertain db q row → IsCandidate db q row
