@@ -1,9 +1,5 @@
 -- What the types of schemas, queries and plans keep.
-<<<<<<< HEAD
-use Rattle.std.specs.Prelude.{◌≡◌, ℕ, ◌<◌, ◌≤◌, List, [], ◌∷◌, length, Contains, slice_index_or}
-=======
 use Rattle.std.specs.Prelude.{◌≡◌, ℕ, ◌<◌, ◌≤◌, List, [], ◌∷◌, length, All, Contains, slice_index_or}
->>>>>>> 41ff84faddcf4572e304d9e1f21a9a07345d80e4
 use Rattle.cqa_value.specs.declared.value.Kind.TheVariants.{Int}
 use Rattle.cqa_model.specs.declared.schema.Column.{Column}
 use Rattle.cqa_model.specs.declared.query.Atom.{Atom}
@@ -24,11 +20,7 @@ pub record IsSchema (columns : List Column) (key : List ℕ) : Type 0 where
   pub size : (1 ≤ length columns) × (length columns ≤ 16)
   pub names_differ : (i j : ℕ) → i < length columns → j < length columns → (column_at columns i).name ≡ (column_at columns j).name → i ≡ j
   pub some_key : 1 ≤ length key
-<<<<<<< HEAD
-  pub key_in_range : (p : ℕ) → Contains key p → p < length columns
-=======
   pub key_in_range : All (λ p. p < length columns) key
->>>>>>> 41ff84faddcf4572e304d9e1f21a9a07345d80e4
   pub key_apart : AreDistinct key
 
 -- the atom at a place
@@ -48,11 +40,7 @@ columns_of (Test col op value) = col ∷ []
 pub record IsAtom (atom : Atom) : Type 0 where
   pub width : (1 ≤ atom.width) × (atom.width ≤ 16)
   pub some_key : 1 ≤ length atom.key
-<<<<<<< HEAD
-  pub key_in_range : (p : ℕ) → Contains atom.key p → p < atom.width
-=======
   pub key_in_range : All (λ p. p < atom.width) atom.key
->>>>>>> 41ff84faddcf4572e304d9e1f21a9a07345d80e4
   pub key_apart : AreDistinct atom.key
 
 -- 1 to 12 atoms of different tables, at most 192 answer columns, and every column in range

@@ -1,36 +1,24 @@
--- Block order is a total order whose ties are equal rows.
-use Rattle.std.proofs.Common.{◌≡◌, ℕ, Bool, true, false, List, [], ◌∷◌, refl, sym, ap, ◌∙◌}
-use Rattle.std.specs.Cmp.{IsTotalOrder}
+-- In block order only equal rows tie.
+use Rattle.std.proofs.Common.{◌≡◌, ℕ, Bool, true, List, refl, sym, ap, ◌∙◌}
 use Rattle.std.specs.Ordering.{ordering_then, is_eq, eq_by_cmp}
 use Rattle.std.specs.declared.cmp.Ordering.{Ordering}
 use Rattle.std.specs.declared.cmp.Ordering.TheVariants.{Less, Equal, Greater}
-use Rattle.std.proofs.lemmas.Cmp.{on_total, then_total}
 use Rattle.cqa_value.specs.declared.value.Value.{Value}
-use Rattle.cqa_value.specs.Values.{row_cmp, row_eq, row_total, row_ties, row_decides, row_equiv}
+use Rattle.cqa_value.specs.Values.{row_cmp, row_eq, row_ties, row_equiv}
 use Rattle.cqa_model.specs.Database.{key_of, block_cmp}
-
-pub block_total : (key : List ℕ) → IsTotalOrder (block_cmp key)
-block_total key = then_total (on_total (key_of key) row_total) row_total
-
--- rows that compare alike are one
-pub row_exact : (a b : List Value) → row_cmp a b ≡ Equal → a ≡ b
-row_exact a b e = (row_decides a b).0 (row_ties a b ∙ ap is_eq e)
+use Rattle.cqa_model.proofs.BlockOrder.{row_exact}
+pub use Rattle.cqa_model.proofs.BlockOrder.{block_total, block_exact}
 
 is_equal : (o : Ordering) → is_eq o ≡ true → o ≡ Equal
 is_equal Less e = (cc)
 is_equal Equal e = refl
 is_equal Greater e = (cc)
 
-pub row_alike : (a : List Value) → row_cmp a a ≡ Equal
+row_alike : (a : List Value) → row_cmp a a ≡ Equal
 row_alike a = is_equal (row_cmp a a) (sym (row_ties a a) ∙ row_equiv.refl a)
 
-then_equal : (o p : Ordering) → ordering_then o p ≡ Equal → p ≡ Equal
-then_equal Less p e = (cc)
-then_equal Equal p e = e
-then_equal Greater p e = (cc)
-
-pub block_exact : (key : List ℕ) (a b : List Value) → block_cmp key a b ≡ Equal → a ≡ b
-block_exact key a b e = row_exact a b (then_equal (row_cmp (key_of key a) (key_of key b)) (row_cmp a b) e)
+pub block_alike : (key : List ℕ) (a : List Value) → block_cmp key a a ≡ Equal
+block_alike key a = ap (λ o. ordering_then o (row_cmp a a)) (row_alike (key_of key a)) ∙ row_alike a
 
 -- where the second answers Equal only where the first does, it decides
 then_second : (o p : Ordering) → (p ≡ Equal → o ≡ Equal) → is_eq p ≡ is_eq (ordering_then o p)
@@ -53,6 +41,3 @@ block_ties key a b =
     row_ties a b
     ∙ then_second (row_cmp (key_of key a) (key_of key b)) (row_cmp a b)
     (λ e. ap (λ row. row_cmp (key_of key a) (key_of key row)) (sym (row_exact a b e)) ∙ row_alike (key_of key a))
-
-pub block_alike : (key : List ℕ) (a : List Value) → block_cmp key a a ≡ Equal
-block_alike key a = ap (λ o. ordering_then o (row_cmp a a)) (row_alike (key_of key a)) ∙ row_alike a

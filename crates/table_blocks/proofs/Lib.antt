@@ -4,3 +4,8 @@ pub mod Turning
 pub mod Membership
 pub mod Merging
 pub mod Counting
+pub mod Faults
+pub mod Changing
+pub mod Cells
+pub mod Naming
+pub mod Inserting

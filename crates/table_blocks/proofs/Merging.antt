@@ -9,7 +9,7 @@ use Rattle.std.specs.declared.cmp.Ordering.{Ordering}
 use Rattle.std.specs.declared.cmp.Ordering.TheVariants.{Less, Equal, Greater}
 use Rattle.std.proofs.lemmas.List.Elements.{Contains-append_cases, Contains-append_left, Contains-append_right, Contains-get_or, Contains-push}
 use Rattle.std.proofs.lemmas.List.{take-append-drop, get_or-take, length-take-le, get_or-drop, length-drop}
-use Rattle.std.proofs.Math.Seq.{take-append_seam}
+use Rattle.std.proofs.Math.Seq.{take-append_seam, drop-append_seam}
 use Rattle.std.proofs.lemmas.Option.{slice_get-get_or}
 use Rattle.table_blocks.specs.Tables.{IsPlace}
 use Rattle.table_blocks.proofs.Membership.{contains_head, contains_later, contains_cases, contains_none}
@@ -166,3 +166,9 @@ module _ {A : Type 0} (cmp : A → A → Ordering) (total : IsTotalOrder cmp) (e
         ]);
         apart = λ x h k. m.apart x (subst (λ l. Contains l x) whole (Contains-append_left a b x h)) (subst (λ l. Contains l x) (sym fresh_is) (Contains-append_left fs (y ∷ []) x k));
       }
+
+-- what stands apart in two lists does so in their joined list
+pub apart_in : {A : Type 0} (xs a b : List A) (n : ℕ) → xs ≡ a ++ b → n ≡ length a → ((x : A) → Contains a x → Contains b x → ⊥) → (x : A) → Contains (take n xs) x → Contains (drop n xs) x → ⊥
+apart_in xs a b n e l h x m k = h x
+    (subst (λ ys. Contains ys x) (ap (λ i. take i xs) l ∙ ap (take (length a)) e ∙ take-append_seam a b) m)
+    (subst (λ ys. Contains ys x) (ap (λ i. drop i xs) l ∙ ap (drop (length a)) e ∙ drop-append_seam a b) k)

@@ -9,6 +9,8 @@ use Rattle.cqa_value.specs.declared.value.Kind.{Kind}
 use Rattle.cqa_value.specs.declared.value.Kind.TheVariants.{Int, Text}
 use Rattle.cqa_value.specs.declared.value.Value.{Value}
 use Rattle.cqa_value.specs.Values.{kind_of, row_eq}
+use Rattle.cqa_value.specs.declared.memory.Fail.{Fail}
+use Rattle.cqa_value.specs.declared.memory.Fail.TheVariants.{NoMemory, Refused}
 use Rattle.cqa_model.specs.declared.refusal.Refusal.{Refusal}
 use Rattle.cqa_model.specs.declared.refusal.Refusal.TheVariants.{WrongArity, TypeMismatch, Limit}
 use Rattle.cqa_model.specs.declared.refusal.Place.TheVariants.{Cell}
@@ -56,12 +58,15 @@ abbrev pub first_of : Option Refusal → Option Refusal → Option Refusal
 first_of (Some fault) later = Some fault
 first_of None later = later
 
--- the first value, from a column on, that has another kind than its column
+-- the value of a row in a column has another kind than the column
+abbrev pub cell_fault : ℕ → ℕ → Kind → Value → Option Refusal
+cell_fault row column kind value = if same_kind (kind_of value) kind then None else Some (TypeMismatch (Cell row column))
+
+-- the first such fault from a column on
 abbrev pub kind_fault : ℕ → ℕ → List Kind → List Value → Option Refusal
 kind_fault row column [] values = None
 kind_fault row column (kind ∷ kinds) [] = None
-kind_fault row column (kind ∷ kinds) (value ∷ values) =
-    first_of (if same_kind (kind_of value) kind then None else Some (TypeMismatch (Cell row column))) (kind_fault row (column + 1) kinds values)
+kind_fault row column (kind ∷ kinds) (value ∷ values) = first_of (cell_fault row column kind value) (kind_fault row (column + 1) kinds values)
 
 -- what is wrong with the row of a number: how many values it has, or the kind of one
 abbrev pub row_fault : List Kind → ℕ → List Value → Option Refusal
@@ -80,23 +85,36 @@ limit_fault db table rows = if nat_le (row_total db + count_new (rows_at db tabl
 abbrev pub insert_fault : List Table → ℕ → List (List Value) → Option Refusal
 insert_fault db table rows = first_of (rows_fault (kinds_at db table) 1 rows) (limit_fault db table rows)
 
--- rows are put into a table: it has its old rows and the given ones, in block order, and so many of these are new
+-- the refusal is the fault; want of memory is free
+abbrev pub IsRefusedAs : Fail Refusal → Option Refusal → Type 0
+IsRefusedAs NoMemory fault = Unit {0}
+IsRefusedAs (Refused refusal) fault = fault ≡ Some refusal
+
+-- the stored rows and the given ones, in block order
+pub record IsJoined (key : List ℕ) (stored given rows : List (List Value)) : Type 0 where
+  pub in_order : IsStrictlySortedBy (block_cmp key) rows
+  pub members : (row : List Value) → Contains rows row ↔ (Contains stored row ⊎ Contains given row)
+
+-- rows are put into a table: it has its old rows and the given ones, and so many of these are new
 pub record Inserts (old : List Table) (table : ℕ) (given : List (List Value)) (new : List Table) (count : ℕ) : Type 0 where
   pub rows : List (List Value)
-  pub in_order : IsStrictlySortedBy (block_cmp (key_at old table)) rows
-  pub members : (row : List Value) → Contains rows row ↔ (Contains (rows_at old table) row ⊎ Contains given row)
+  pub joined : IsJoined (key_at old table) (rows_at old table) given rows
   pub changed : new ≡ with_rows old table rows
   pub count_is : count ≡ count_new (rows_at old table) given
 
 -- all tests hold for a row
 abbrev pub TestsHold : List ColumnTest → List Value → Type 0
-TestsHold tests row = (test : ColumnTest) → Contains tests test → OpHolds test.op (slice_index_or row test.col nothing) test.value
+TestsHold tests row = AllByRecursion (λ test. OpHolds test.op (slice_index_or row test.col nothing) test.value) tests
+
+-- the stored rows for which not all tests hold, in block order
+pub record IsSpared (key : List ℕ) (stored : List (List Value)) (tests : List ColumnTest) (rows : List (List Value)) : Type 0 where
+  pub in_order : IsStrictlySortedBy (block_cmp key) rows
+  pub members : (row : List Value) → Contains rows row ↔ (Contains stored row × (TestsHold tests row → ⊥))
 
 -- the rows for which all tests hold are taken from a table, so many of them
 pub record Deletes (old : List Table) (table : ℕ) (tests : List ColumnTest) (new : List Table) (count : ℕ) : Type 0 where
   pub rows : List (List Value)
-  pub in_order : IsStrictlySortedBy (block_cmp (key_at old table)) rows
-  pub members : (row : List Value) → Contains rows row ↔ (Contains (rows_at old table) row × (TestsHold tests row → ⊥))
+  pub spared : IsSpared (key_at old table) (rows_at old table) tests rows
   pub changed : new ≡ with_rows old table rows
   pub count_is : count + length rows ≡ length (rows_at old table)
 

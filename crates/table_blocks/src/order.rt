@@ -8,7 +8,7 @@ use cqa_value::{Row, Value, compare};
 use std::cmp::Ordering;
 
 /// The value of a row in a column, if the row is so wide.
-fn cell<'a>(row: &'a Row, place: u32) -> Option<&'a Value>
+pub fn cell<'a>(row: &'a Row, place: u32) -> Option<&'a Value>
     ensures { option_copied result ≡ slice_get row.now place }
 {
     if place < row.len() {

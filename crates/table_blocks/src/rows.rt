@@ -1,16 +1,17 @@
-ghost use Rattle.std.specs.Prelude.{◌≡◌, ◌≤◌, ◌<◌, ◌+◌, ◌-◌, ◌↔◌, ◌++◌, IsTrue, not, MatchOption, Some, slice_get, slice_index_or, [], List, ℕ, Contains, length, take, drop};
+ghost use Rattle.std.specs.Prelude.{◌≡◌, ◌≤◌, ◌<◌, ◌+◌, ◌-◌, ◌↔◌, ◌++◌, IsTrue, not, MatchOption, OnOk, OnErr, Some, slice_get, slice_index_or, [], List, ℕ, Contains, length, take, drop};
 ghost use Rattle.std.specs.List.Sorted.{IsStrictlySortedBy, IsPermutation};
 ghost use Rattle.std.specs.Ordering.{is_lt};
 ghost use Rattle.cqa_value.specs.declared.value.Value.{Value as Cell};
 ghost use Rattle.cqa_model.specs.Database.{block_cmp};
-ghost use Rattle.table_blocks.specs.Tables.{IsPlace, is_among};
+ghost use Rattle.table_blocks.specs.Tables.{IsPlace, is_among, count_new, TestsHold};
 
 use crate::order::block_compare;
-use cqa_value::Row;
+use crate::test::{ColumnTest, passes_all};
+use cqa_value::{NoMemory, Row};
 use std::cmp::Ordering;
 
 /// Puts rows in block order, each once.
-pub fn sorted(mut rows: Vec<Row>, key: &[u32]) -> Vec<Row>
+fn sorted(mut rows: Vec<Row>, key: &[u32]) -> Vec<Row>
     ensures ascending { IsStrictlySortedBy (block_cmp key.now) result.items }
     ensures same { (row : List Cell) → Contains result.items row ↔ Contains rows.items row }
 {
@@ -119,4 +120,41 @@ fn merge(rows: &mut [Row], key: &[u32], stored: usize)
         end = place;
         left -= 1;
     }
+}
+
+/// Puts sorted rows that aren't there yet among sorted rows.
+pub fn put(rows: &mut Vec<Row>, key: &[u32], mut fresh: Vec<Row>) -> Result<(), NoMemory>
+    requires ascending { IsStrictlySortedBy (block_cmp key.now) rows.old.items }
+    requires fresh { IsStrictlySortedBy (block_cmp key.now) fresh.items }
+    requires new { (row : List Cell) → Contains rows.old.items row → Contains fresh.items row → ⊥ }
+    ensures ascending { OnOk result (IsStrictlySortedBy (block_cmp key.now) rows.new.items) }
+    ensures same { OnOk result (IsPermutation (rows.old.items ++ fresh.items) rows.new.items) }
+    ensures err { OnErr result (rows.new.items ≡ rows.old.items) }
+{
+    let stored = rows.len();
+    rows.append(&mut fresh)?;
+    merge(rows.as_mut_slice(), key, stored);
+    Ok(())
+}
+
+/// Takes the rows away for which all tests hold.
+pub fn remove(rows: &mut Vec<Row>, key: &[u32], tests: &[ColumnTest])
+    requires { IsStrictlySortedBy (block_cmp key.now) rows.old.items }
+    ensures ascending { IsStrictlySortedBy (block_cmp key.now) rows.new.items }
+    ensures members { (row : List Cell) → Contains rows.new.items row ↔ (Contains rows.old.items row × (TestsHold tests.now row → ⊥)) }
+    ensures fewer { length rows.new.items ≤ length rows.old.items }
+{
+    rows.retain(|row| -> bool
+        ensures { IsTrue result ↔ (TestsHold tests.entry.now row.now → ⊥) }
+    { !passes_all(row, tests) });
+}
+
+/// Those of some rows that aren't stored, in block order and each once.
+pub fn fresh_rows(rows: Vec<Row>, stored: &[Row], key: &[u32]) -> Vec<Row>
+    requires { IsStrictlySortedBy (block_cmp key.now) stored.now }
+    ensures ascending { IsStrictlySortedBy (block_cmp key.now) result.items }
+    ensures new { (row : List Cell) → Contains result.items row ↔ (Contains rows.items row × (Contains stored.now row → ⊥)) }
+    ensures count { length result.items ≡ count_new stored.now rows.items }
+{
+    without(sorted(rows, key), stored, key)
 }

@@ -3,6 +3,7 @@ ghost use Rattle.cqa_model.specs.Database.{nothing};
 ghost use Rattle.cqa_model.specs.Query.{OpHolds};
 ghost use Rattle.table_blocks.specs.Tables.{TestsHold};
 
+use crate::order::cell;
 use cqa_model::Op;
 use cqa_value::{Row, Value, compare};
 use std::cmp::Ordering;
@@ -35,9 +36,24 @@ fn compares(op: Op, a: &Value, b: &Value) -> bool
     }
 }
 
+/// Whether a row passes a test; a row that is too narrow counts as 0 in the column.
 fn passes(row: &Row, test: &ColumnTest) -> bool
-    requires { test.now.col < length row.now }
     ensures { IsTrue result ↔ OpHolds test.now.op (slice_index_or row.now test.now.col nothing) test.now.value }
 {
-    compares(test.op, row.get(test.col), &test.value)
+    match cell(row, test.col) {
+        Some(found) => compares(test.op, found, &test.value),
+        None => compares(test.op, &Value::Int(0), &test.value),
+    }
+}
+
+/// Whether a row passes all tests.
+pub fn passes_all(row: &Row, tests: &[ColumnTest]) -> bool
+    ensures { IsTrue result ↔ TestsHold tests.now row.now }
+{
+    for test in tests {
+        if !passes(row, test) {
+            return false;
+        }
+    }
+    true
 }

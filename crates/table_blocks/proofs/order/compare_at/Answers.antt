@@ -1,12 +1,9 @@
 use Rattle.std.proofs.Common.{◌≡◌, ◌∙◌, sym, ap, Option, Some, None, unwrap_or, slice_get, slice_index_or, pos, List, ℕ, refl}
-use Rattle.std.proofs.lemmas.Option.{unwrap_or-slice_get}
 use Rattle.cqa_value.specs.declared.value.Value.{Value}
 use Rattle.cqa_value.specs.declared.value.Value.TheVariants.{Int}
 use Rattle.cqa_value.specs.Values.{value_cmp}
+use Rattle.table_blocks.proofs.Cells.{read}
 use Rattle.table_blocks.proofs.order.compare_at.Goals as goal
-
-read : (row : List Value) (place : ℕ) (found : Option Value) → found ≡ slice_get row place → unwrap_or found (Int (pos 0)) ≡ slice_index_or row place (Int (pos 0))
-read row place found e = ap (λ o. unwrap_or o (Int (pos 0))) e ∙ unwrap_or-slice_get row place (Int (pos 0))
 
 pub returns-in-Some-None : goal.returns-in-Some-None
 returns-in-Some-None c = rw (← read c.args.a.now c.args.place _ c.in-Some-None.ensures, ← read c.args.b.now c.args.place _ c.in-Some-None.ensures') c.compare-in-Some-None.ensures

@@ -1,0 +1,40 @@
+-- A cell that may not be there, and tests on it.
+use Rattle.std.proofs.Common.{◌≡◌, ℕ, Bool, true, false, not, List, [], ◌∷◌, Option, unwrap_or, slice_get, slice_index_or, pos, ap, ◌∙◌, refl, sym, true≢false}
+use Rattle.std.specs.Bool.{IsTrue}
+use Rattle.std.proofs.lemmas.Option.{unwrap_or-slice_get}
+use Rattle.cqa_value.specs.declared.value.Value.{Value}
+use Rattle.cqa_value.specs.declared.value.Value.TheVariants.{Int}
+use Rattle.cqa_model.specs.Query.{OpHolds}
+use Rattle.cqa_model.specs.Database.{nothing}
+use Rattle.cqa_model.proofs.Values.{dec_op}
+use Rattle.table_blocks.specs.declared.test.ColumnTest.{ColumnTest}
+use Rattle.table_blocks.specs.Tables.{TestsHold}
+
+pub read : (row : List Value) (place : ℕ) (found : Option Value) → found ≡ slice_get row place → unwrap_or found (Int (pos 0)) ≡ slice_index_or row place (Int (pos 0))
+read row place found e = ap (λ o. unwrap_or o (Int (pos 0))) e ∙ unwrap_or-slice_get row place (Int (pos 0))
+
+dec_both : {A B : Type 0} → Dec A → Dec B → Dec (A × B)
+dec_both (yes a) (yes b) = yes (a, b)
+dec_both (yes a) (no g) = no (λ h. g h.1)
+dec_both (no f) d = no (λ h. f h.0)
+
+-- whether all tests hold is decided
+pub dec_tests : (tests : List ColumnTest) (row : List Value) → Dec (TestsHold tests row)
+dec_tests [] row = yes tt
+dec_tests (test ∷ tests) row = dec_both (dec_op test.op (slice_index_or row test.col nothing) test.value) (dec_tests tests row)
+
+pub is_yes : {A : Type 0} → Dec A → Bool
+is_yes (yes a) = true
+is_yes (no h) = false
+
+pub is_no : {A : Type 0} (d : Dec A) → (not (is_yes d) ≡ true → A → ⊥) × ((A → ⊥) → not (is_yes d) ≡ true)
+unfolding is_yes
+is_no (yes a) = (λ e. absurd (true≢false (sym e)), λ h. absurd (h a))
+is_no (no h) = (λ e. h, λ g. refl)
+
+-- a test that answers yes just where something doesn't hold is the test that decides it, turned round
+pub turned_round : {A : Type 0} (d : Dec A) (b : Bool) → (IsTrue b → A → ⊥) → ((A → ⊥) → IsTrue b) → b ≡ not (is_yes d)
+unfolding is_yes
+turned_round (yes a) true f g = absurd (f refl a)
+turned_round (yes a) false f g = refl
+turned_round (no h) b f g = g h

@@ -1,0 +1,7 @@
+use Rattle.std.proofs.Common.{sym, subst}
+use Rattle.cqa_model.specs.Database.{IsTable}
+use Rattle.table_blocks.proofs.Changing.{without_rows}
+use Rattle.table_blocks.proofs.table.Table.new.Goals as goal
+
+pub invariant_of-result : goal.invariant_of-result
+invariant_of-result c = subst (λ rows. IsTable (record { schema = c.args.schema; rows = rows })) (sym c.new.ensures.items) (without_rows c.args.schema)

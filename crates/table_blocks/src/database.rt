@@ -1,0 +1,209 @@
+ghost use Rattle.std.specs.Prelude.{◌≡◌, ◌≤◌, ◌<◌, ◌^◌, ◌++◌, ◌∷◌, [], Some, None, Contains, OnOk, OnErr, IfOk, IfErr, IfSome, MatchOption, MatchResult, length, map, slice_get, List, ◌+◌};
+ghost use Rattle.cqa_model.specs.Database.{Table as StoredTable, IsDatabase, names_of, row_total, kinds_of, block_cmp};
+ghost use Rattle.std.specs.List.Sorted.{IsStrictlySortedBy};
+ghost use Rattle.cqa_value.specs.declared.value.Value.{Value};
+ghost use Rattle.cqa_value.specs.Values.{kind_of};
+ghost use Rattle.table_blocks.specs.Tables.{table_named, rows_at, key_at, kinds_at, with_rows, insert_fault, Inserts, Deletes, IsJoined, IsSpared, IsRefusedAs};
+
+use crate::check::rows_fault_of;
+use crate::rows::{find_in, fresh_rows};
+use crate::table::Table;
+use crate::test::ColumnTest;
+use cqa_model::{LimitKind, Refusal, Schema};
+use cqa_value::{Fail, Items, Name, NoMemory, Row};
+use indexmap::IndexMap;
+use std::alloc::Global;
+use std::marker::Model;
+
+/// The most rows that all tables may have together.
+const MOST_ROWS: usize = 1_000_000;
+
+/// Tables in the order of their creation, under different names.
+#[derive(Drop)]
+pub struct Database {
+    tables: IndexMap<Name, Table>,
+}
+
+impl Model for Database {
+    ghost use Rattle.std.specs.Prelude.{List, ◌≡◌};
+    ghost use Rattle.indexmap.specs.IndexMap.{keys, values};
+    ghost use Rattle.cqa_model.specs.Database.{Table as StoredTable, IsDatabase, names_of};
+
+    ghost Value = { List StoredTable };
+
+    ghost view = { λ d. values d.tables };
+
+    ghost invariant = { λ d. (keys d.tables ≡ names_of (values d.tables)) × IsDatabase (values d.tables) };
+}
+
+impl Database {
+    /// A database without tables.
+    pub fn new(alloc: Global) -> Database
+        ensures { result ≡ [] }
+    {
+        Database {
+            tables: IndexMap::new(alloc),
+        }
+    }
+
+    /// The number of tables.
+    pub fn count(&self) -> u32
+        ensures count { result ≡ length self.now }
+        ensures database { IsDatabase self.now }
+    {
+        self.tables.len() as u32
+    }
+
+    /// The place of the table with a name.
+    pub fn find(&self, name: &Name) -> Option<u32>
+        ensures { result ≡ table_named self.now name.now }
+    {
+        match self.tables.get_index_of(name) {
+            Some(at) => Some(at as u32),
+            None => None,
+        }
+    }
+
+    fn table(&self, table: u32) -> &Table
+        requires { table < length self.now }
+        ensures found { slice_get self.now table ≡ Some result.now }
+        ensures database { IsDatabase self.now }
+    {
+        match self.tables.get_index(table as usize) {
+            Some((_, found)) => found,
+            None => unreachable!(),
+        }
+    }
+
+    /// The schema of a table.
+    pub fn schema(&self, table: u32) -> &Schema
+        requires { table < length self.now }
+        ensures is { IfSome (slice_get self.now table) (λ t. result.now ≡ t.schema) }
+        ensures kinds { kinds_of result.now ≡ kinds_at self.now table }
+    {
+        self.table(table).schema()
+    }
+
+    /// The rows of a table, in block order.
+    pub fn rows(&self, table: u32) -> &[Row]
+        requires { table < length self.now }
+        ensures is { result.now ≡ rows_at self.now table }
+        ensures in_order { IsStrictlySortedBy (block_cmp (key_at self.now table)) result.now }
+        ensures few { length result.now ≤ 1_000_000 }
+    {
+        self.table(table).rows()
+    }
+
+    /// The places of a table's key columns.
+    fn key(&self, table: u32) -> &[u32]
+        requires { table < length self.now }
+        ensures { result.now ≡ key_at self.now table }
+    {
+        self.table(table).key()
+    }
+
+    /// The number of rows in all tables.
+    pub fn row_total(&self) -> u32
+        ensures total { result ≡ row_total self.now }
+        ensures few { result ≤ 1_000_000 }
+    {
+        let mut total = 0;
+        for table in 0..self.count() {
+            total += self.rows(table).len();
+        }
+        total as u32
+    }
+
+    /// The place of a row in a table, in block order.
+    pub fn place_of(&self, table: u32, row: &Row) -> Option<u32>
+        requires { table < length self.now }
+        ensures { MatchOption result (Contains (rows_at self.now table) row.now → ⊥) (λ at. slice_get (rows_at self.now table) at ≡ Some row.now) }
+    {
+        match find_in(self.rows(table), self.key(table), row) {
+            Some(at) => Some(at as u32),
+            None => None,
+        }
+    }
+
+    /// Puts a table without rows last.
+    ///
+    /// # Errors
+    ///
+    /// `NoMemory` where memory is refused; nothing has changed then.
+    pub fn create(&mut self, alloc: Global, schema: Schema) -> Result<(), NoMemory>
+        requires room { length self.old < 64 }
+        requires other { Contains (names_of self.old) schema.name → ⊥ }
+        ensures ok { OnOk result (self.new ≡ self.old ++ (record { schema = schema; rows = [] }) ∷ []) }
+        ensures err { OnErr result (self.new ≡ self.old) }
+    {
+        let name = schema.name.copy(alloc)?;
+        self.tables.insert(name, Table::new(alloc, schema))?;
+        Ok(())
+    }
+
+    /// Puts sorted rows that aren't there yet into a table.
+    fn add(&mut self, table: u32, fresh: Vec<Row>) -> Result<(), NoMemory>
+        requires there { table < length self.old }
+        requires ascending { IsStrictlySortedBy (block_cmp (key_at self.old table)) fresh.items }
+        requires fits { (row : List Value) → Contains fresh.items row → map kind_of row ≡ kinds_at self.old table }
+        requires new { (row : List Value) → Contains (rows_at self.old table) row → Contains fresh.items row → ⊥ }
+        requires room { row_total self.old + length fresh.items ≤ 1_000_000 }
+        ensures changed { OnOk result ((rows : List (List Value)) × IsJoined (key_at self.old table) (rows_at self.old table) fresh.items rows × (self.new ≡ with_rows self.old table rows)) }
+        ensures err { OnErr result (self.new ≡ self.old) }
+    {
+        match self.tables.get_index_mut(table as usize) {
+            Some(found) => {
+                found.add(fresh)?;
+                Ok(())
+            }
+            None => unreachable!(),
+        }
+    }
+
+    /// Puts the rows that aren't there yet into a table, and gives their number.
+    ///
+    /// # Errors
+    ///
+    /// The first fault of a row, or `Limit` where there would be too many rows; nothing has changed then.
+    pub fn insert(&mut self, table: u32, rows: Items<Row>) -> Result<u32, Fail<Refusal>>
+        requires there { table < length self.old }
+        requires few { length rows < 2 ^ 32 }
+        ensures inserted { IfOk result (λ count. Inserts self.old table rows self.new count) }
+        ensures valid { OnOk result (insert_fault self.old table rows ≡ None) }
+        ensures refused { IfErr result (λ e. IsRefusedAs e (insert_fault self.old table rows)) }
+        ensures err { OnErr result (self.new ≡ self.old) }
+    {
+        if let Some(fault) = rows_fault_of(self.schema(table), rows.as_slice()) {
+            return Err(Fail::Refused(fault));
+        }
+        let fresh = fresh_rows(rows.into_vec(), self.rows(table), self.key(table));
+        let count = fresh.len();
+        if count > MOST_ROWS - self.row_total() as usize {
+            let what = LimitKind::Rows;
+            return Err(Fail::Refused(Refusal::Limit { what }));
+        }
+        self.add(table, fresh)?;
+        Ok(count as u32)
+    }
+
+    /// Takes the rows away from a table for which all tests hold.
+    fn remove(&mut self, table: u32, tests: &[ColumnTest])
+        requires { table < length self.old }
+        ensures { (rows : List (List Value)) × IsSpared (key_at self.old table) (rows_at self.old table) tests.now rows × (self.new ≡ with_rows self.old table rows) × (length rows ≤ length (rows_at self.old table)) }
+    {
+        match self.tables.get_index_mut(table as usize) {
+            Some(found) => found.remove(tests),
+            None => unreachable!(),
+        }
+    }
+
+    /// Takes the rows away from a table for which all tests hold, and gives their number.
+    pub fn delete(&mut self, table: u32, tests: &[ColumnTest]) -> u32
+        requires { table < length self.old }
+        ensures { Deletes self.old table tests.now self.new result }
+    {
+        let stored = self.rows(table).len();
+        self.remove(table, tests);
+        (stored - self.rows(table).len()) as u32
+    }
+}

@@ -1,0 +1,91 @@
+ghost use Rattle.std.specs.Prelude.{◌≡◌, ◌↔◌, ◌⊎◌, ◌+◌, ◌≤◌, [], List, Contains, length, OnOk, OnErr};
+ghost use Rattle.std.specs.List.Sorted.{IsStrictlySortedBy};
+ghost use Rattle.cqa_value.specs.declared.value.Value.{Value};
+ghost use Rattle.cqa_model.specs.Database.{IsTable, IsRowOf, block_cmp};
+ghost use Rattle.table_blocks.specs.Tables.{TestsHold};
+
+use crate::rows::{put, remove};
+use crate::test::ColumnTest;
+use cqa_model::Schema;
+use cqa_value::{NoMemory, Row};
+use std::alloc::Global;
+use std::marker::Model;
+
+/// A table: its rows stand in block order.
+#[derive(Drop)]
+pub struct Table {
+    schema: Schema,
+    rows: Vec<Row>,
+}
+
+impl Model for Table {
+    ghost use Rattle.cqa_model.specs.Database.{Table as StoredTable, IsTable};
+
+    ghost Value = { StoredTable };
+
+    ghost view = { λ t. record { schema = t.schema; rows = t.rows.items } };
+
+    ghost invariant = { λ t. IsTable (record { schema = t.schema; rows = t.rows.items }) };
+}
+
+fn key_places(schema: &Schema) -> &[u32]
+    ensures { result.now ≡ schema.now.key }
+{
+    schema.key.as_slice()
+}
+
+impl Table {
+    /// A table without rows.
+    pub fn new(alloc: Global, schema: Schema) -> Table
+        ensures { result ≡ record { schema = schema; rows = [] } }
+    {
+        Table {
+            schema,
+            rows: Vec::new(alloc),
+        }
+    }
+
+    pub fn schema(&self) -> &Schema
+        ensures { result.now ≡ self.now.schema }
+    {
+        &self.schema
+    }
+
+    pub fn key(&self) -> &[u32]
+        ensures { result.now ≡ self.now.schema.key }
+    {
+        key_places(&self.schema)
+    }
+
+    pub fn rows(&self) -> &[Row]
+        ensures is { result.now ≡ self.now.rows }
+        ensures table { IsTable self.now }
+    {
+        self.rows.as_slice()
+    }
+
+    /// Puts in sorted rows that aren't there yet.
+    pub fn add(&mut self, fresh: Vec<Row>) -> Result<(), NoMemory>
+        requires ascending { IsStrictlySortedBy (block_cmp self.old.schema.key) fresh.items }
+        requires fits { (row : List Value) → Contains fresh.items row → IsRowOf self.old.schema row }
+        requires new { (row : List Value) → Contains self.old.rows row → Contains fresh.items row → ⊥ }
+        ensures table { IsTable self.new }
+        ensures schema { self.new.schema ≡ self.old.schema }
+        ensures members { OnOk result ((row : List Value) → Contains self.new.rows row ↔ (Contains self.old.rows row ⊎ Contains fresh.items row)) }
+        ensures count { OnOk result (length self.new.rows ≡ length self.old.rows + length fresh.items) }
+        ensures err { OnErr result (self.new ≡ self.old) }
+    {
+        put(&mut self.rows, key_places(&self.schema), fresh)?;
+        Ok(())
+    }
+
+    /// Takes the rows away for which all tests hold.
+    pub fn remove(&mut self, tests: &[ColumnTest])
+        ensures table { IsTable self.new }
+        ensures schema { self.new.schema ≡ self.old.schema }
+        ensures members { (row : List Value) → Contains self.new.rows row ↔ (Contains self.old.rows row × (TestsHold tests.now row → ⊥)) }
+        ensures fewer { length self.new.rows ≤ length self.old.rows }
+    {
+        remove(&mut self.rows, key_places(&self.schema), tests);
+    }
+}
