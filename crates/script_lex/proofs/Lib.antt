@@ -1,0 +1,5 @@
+pub mod Runs
+pub mod Leading
+pub mod BlockLines
+pub mod Statements
+pub mod FirstCuts
