@@ -1,0 +1,87 @@
+-- The grammar of statements.
+use Rattle.std.specs.Prelude.{codes}
+use Rattle.script_lex.specs.declared.kinds.Symbol.TheVariants.{Open, Close, Comma, Dot, Eq, Ne, Lt, Le, Gt, Ge}
+use Rattle.spj_syntax.specs.Shapes.{word, name, int, text, mark, Shape, one, ◌⨾◌, ◌∣◌, many, nothing}
+
+abbrev pub a_name : Shape
+a_name = one name
+
+-- at most once
+abbrev pub optional : Shape → Shape
+optional p = p ∣ nothing
+
+-- one or more, with commas between them
+abbrev pub listed : Shape → Shape
+listed p = p ⨾ many (one (mark Comma) ⨾ p)
+
+-- one or more, with "and" between them
+abbrev pub anded : Shape → Shape
+anded p = p ⨾ many (one (word (codes "and")) ⨾ p)
+
+-- nothing, or "where" and what is to hold
+abbrev pub filtered : Shape → Shape
+filtered p = optional (one (word (codes "where")) ⨾ anded p)
+
+abbrev pub literal : Shape
+literal = one int ∣ one text
+
+abbrev pub kind : Shape
+kind = one (word (codes "int")) ∣ one (word (codes "text"))
+
+abbrev pub column : Shape
+column = a_name ⨾ kind
+
+abbrev pub key : Shape
+key = one (word (codes "primary")) ⨾ one (word (codes "key")) ⨾ one (mark Open) ⨾ listed a_name ⨾ one (mark Close)
+
+abbrev pub create : Shape
+create = one (word (codes "create")) ⨾ one (word (codes "table")) ⨾ a_name ⨾ one (mark Open)
+    ⨾ column ⨾ many (one (mark Comma) ⨾ column) ⨾ one (mark Comma) ⨾ key ⨾ one (mark Close)
+
+abbrev pub row : Shape
+row = one (mark Open) ⨾ listed literal ⨾ one (mark Close)
+
+abbrev pub insert : Shape
+insert = one (word (codes "insert")) ⨾ one (word (codes "into")) ⨾ a_name ⨾ one (word (codes "values")) ⨾ listed row
+
+abbrev pub op_but_equal : Shape
+op_but_equal = one (mark Ne) ∣ one (mark Lt) ∣ one (mark Le) ∣ one (mark Gt) ∣ one (mark Ge)
+
+abbrev pub op : Shape
+op = one (mark Eq) ∣ op_but_equal
+
+abbrev pub test : Shape
+test = a_name ⨾ op ⨾ literal
+
+abbrev pub delete : Shape
+delete = one (word (codes "delete")) ⨾ one (word (codes "from")) ⨾ a_name ⨾ filtered test
+
+abbrev pub col : Shape
+col = a_name ⨾ optional (one (mark Dot) ⨾ a_name)
+
+abbrev pub cond : Shape
+cond = col ⨾ one (mark Eq) ⨾ col ∣ col ⨾ op ⨾ literal
+
+abbrev pub head : Shape
+head = one (word (codes "select")) ⨾ listed col ∣ one (word (codes "exists"))
+
+abbrev pub query : Shape
+query = head ⨾ one (word (codes "from")) ⨾ listed a_name ⨾ filtered cond
+
+abbrev pub asking : Shape
+asking = one (word (codes "ask")) ∣ one (word (codes "possible")) ∣ one (word (codes "classify")) ∣ one (word (codes "plan"))
+
+abbrev pub explain : Shape
+explain = one (word (codes "explain")) ⨾ one (word (codes "row")) ⨾ one (mark Open) ⨾ optional (listed literal) ⨾ one (mark Close) ⨾ one (word (codes "for")) ⨾ query
+
+abbrev pub copy : Shape
+copy = one (word (codes "copy")) ⨾ a_name
+
+abbrev pub set : Shape
+set = one (word (codes "set")) ⨾ one (word (codes "conflicts")) ⨾ one int
+
+abbrev pub show : Shape
+show = one (word (codes "show")) ⨾ one (word (codes "tables")) ∣ one (word (codes "show")) ⨾ one (word (codes "log"))
+
+abbrev pub statement : Shape
+statement = create ∣ insert ∣ delete ∣ explain ∣ copy ∣ set ∣ asking ⨾ query ∣ one (word (codes "dump")) ∣ show

@@ -1,0 +1,5 @@
+pub mod Lexemes
+pub mod Shapes
+pub mod Grammar
+pub mod Written
+pub mod Parsed

@@ -1,0 +1,73 @@
+-- When tokens are a statement, and what is wrong where they aren't.
+use Rattle.std.specs.Prelude.{◌≡◌, ◌≤◌, ◌≤ℤ◌, pos, ◌∷◌, ◌++◌, List, [], ℕ, ℤ, Bool, true, false, nat_eq, length, drop, map, IsTrue, codes}
+use Rattle.std.specs.List.{AllByRecursion}
+use Rattle.std.specs.Cmp.Lexicographic.{pointwise}
+use Rattle.cqa_value.specs.Literals.{is_in_range}
+use Rattle.script_lex.specs.declared.kinds.Token.{Token}
+
+use Rattle.spj_syntax.specs.declared.fault.SyntaxFault.{SyntaxFault}
+use Rattle.spj_syntax.specs.declared.fault.SyntaxFault.TheVariants.{At, OutOfRange, TextTooLong, LongName}
+use Rattle.spj_syntax.specs.Lexemes.{Lexeme, Word, Number, Quoted, Mark, lexeme}
+use Rattle.spj_syntax.specs.Shapes.{Generates, FirstFault}
+use Rattle.spj_syntax.specs.Grammar.{statement}
+
+-- what the tokens of a text stand for
+abbrev pub lexemes : List ℕ → List Token → List Lexeme
+lexemes text tokens = map (lexeme text) tokens
+
+-- The grammar allows the tokens.
+pub record IsStatement (ls : List Lexeme) : Type 0 where
+  pub generated : Generates statement ls
+
+-- where the first of these tokens stands, or the text's length
+abbrev pub place_of : List ℕ → List Token → ℕ
+place_of text [] = length text
+place_of text (token ∷ tokens) = token.span.from
+
+-- The first fault of syntax stands at an offset: the tokens before it begin a statement, and with the token there they begin none.
+pub record IsSyntaxFault (text : List ℕ) (tokens : List Token) (at : ℕ) : Type 0 where
+  pub count : ℕ
+  pub place : at ≡ place_of text (drop count tokens)
+  pub first : FirstFault statement (lexemes text tokens) (drop count (lexemes text tokens))
+
+-- whether the tokens begin with `set`
+abbrev pub is_set : List Lexeme → Bool
+is_set (Word w ∷ ls) = pointwise nat_eq (codes "set") w
+is_set _ = false
+
+-- The int of a `set` is 0 to 4294967295, any other is one of 64 bits.
+abbrev pub IsInRange : Bool → ℤ → Type 0
+IsInRange true z = (pos 0 ≤ℤ z) × (z ≤ℤ pos 4294967295)
+IsInRange false z = IsTrue (is_in_range z)
+
+-- A name has at most 64 bytes and a text at most 1,024.
+abbrev pub Fits : Bool → Lexeme → Type 0
+Fits set (Word w) = length w ≤ 64
+Fits set (Number z) = IsInRange set z
+Fits set (Quoted t) = length t ≤ 1024
+Fits set (Mark s) = Unit {0}
+
+abbrev pub AllFit : List Lexeme → Type 0
+AllFit ls = AllByRecursion (Fits (is_set ls)) ls
+
+-- what a token that doesn't fit is refused by
+abbrev pub fault_of : Lexeme → ℕ → SyntaxFault
+fault_of (Word w) at = LongName at
+fault_of (Number z) at = OutOfRange at
+fault_of (Quoted t) at = TextTooLong at
+fault_of (Mark s) at = At at
+
+-- the first token that doesn't fit
+pub record IsFirstUnfit (text : List ℕ) (tokens : List Token) (fault : SyntaxFault) : Type 0 where
+  pub front : List Token
+  pub token : Token
+  pub rest : List Token
+  pub split : tokens ≡ front ++ token ∷ rest
+  pub fit : AllByRecursion (Fits (is_set (lexemes text tokens))) (lexemes text front)
+  pub unfit : ¬ Fits (is_set (lexemes text tokens)) (lexeme text token)
+  pub fault_is : fault ≡ fault_of (lexeme text token) token.span.from
+
+-- why the tokens of a text are refused: the first fault of syntax, else the first token that doesn't fit
+abbrev pub Refuses : List ℕ → List Token → SyntaxFault → Type 0
+Refuses text tokens (At at) = IsSyntaxFault text tokens at
+Refuses text tokens fault = IsStatement (lexemes text tokens) × IsFirstUnfit text tokens fault

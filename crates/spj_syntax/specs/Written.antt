@@ -1,0 +1,128 @@
+-- How a statement is written as tokens.
+use Rattle.std.specs.Prelude.{◌≡◌, ◌<◌, length, List, [], ◌∷◌, ◌++◌, ℕ, Option, Some, None, codes, pos, All}
+use Rattle.script_lex.specs.declared.kinds.Symbol.{Symbol}
+use Rattle.script_lex.specs.declared.kinds.Symbol.TheVariants as s
+use Rattle.cqa_value.specs.declared.value.Kind.{Kind}
+use Rattle.cqa_value.specs.declared.value.Kind.TheVariants as kinds
+use Rattle.cqa_value.specs.declared.value.Value.{Value}
+use Rattle.cqa_value.specs.declared.value.Value.TheVariants.{Int, Text}
+use Rattle.cqa_model.specs.declared.schema.Column.{Column}
+use Rattle.cqa_model.specs.declared.query.Op.{Op}
+use Rattle.cqa_model.specs.declared.query.Op.TheVariants as ops
+use Rattle.spj_syntax.specs.declared.tree.RawSchema.{RawSchema}
+use Rattle.spj_syntax.specs.declared.tree.RawTest.{RawTest}
+use Rattle.spj_syntax.specs.declared.tree.RawCol.{RawCol}
+use Rattle.spj_syntax.specs.declared.tree.RawCond.{RawCond}
+use Rattle.spj_syntax.specs.declared.tree.RawCond.TheVariants.{Join, Test}
+use Rattle.spj_syntax.specs.declared.tree.Select.{Select}
+use Rattle.spj_syntax.specs.declared.tree.Statement.{Statement}
+use Rattle.spj_syntax.specs.declared.tree.Statement.TheVariants as statements
+use Rattle.spj_syntax.specs.Lexemes.{Lexeme, Word, Number, Quoted, Mark}
+
+abbrev pub name_tokens : List ℕ → List Lexeme
+name_tokens n = Word n ∷ []
+
+abbrev pub literal_tokens : Value → List Lexeme
+literal_tokens (Int z) = Number z ∷ []
+literal_tokens (Text t) = Quoted t ∷ []
+
+abbrev pub kind_word : Kind → List ℕ
+kind_word kinds.Int = codes "int"
+kind_word kinds.Text = codes "text"
+
+abbrev pub column_tokens : Column → List Lexeme
+column_tokens c = name_tokens c.name ++ Word (kind_word c.kind) ∷ []
+
+-- each with a token before it
+abbrev pub each_after : {A : Type 0} → Lexeme → (A → List Lexeme) → List A → List Lexeme
+each_after l f [] = []
+each_after l f (x ∷ xs) = l ∷ f x ++ each_after l f xs
+
+-- with a token between them
+abbrev pub between : {A : Type 0} → Lexeme → (A → List Lexeme) → List A → List Lexeme
+between l f [] = []
+between l f (x ∷ xs) = f x ++ each_after l f xs
+
+-- with commas between them
+abbrev pub listed_tokens : {A : Type 0} → (A → List Lexeme) → List A → List Lexeme
+listed_tokens f xs = between (Mark s.Comma) f xs
+
+-- with "and" between them
+abbrev pub anded_tokens : {A : Type 0} → (A → List Lexeme) → List A → List Lexeme
+anded_tokens f xs = between (Word (codes "and")) f xs
+
+-- nothing, or "where" and what is to hold
+abbrev pub filtered_tokens : {A : Type 0} → (A → List Lexeme) → List A → List Lexeme
+filtered_tokens f [] = []
+filtered_tokens f (x ∷ xs) = Word (codes "where") ∷ anded_tokens f (x ∷ xs)
+
+abbrev pub op_symbol : Op → Symbol
+op_symbol ops.Eq = s.Eq
+op_symbol ops.Ne = s.Ne
+op_symbol ops.Lt = s.Lt
+op_symbol ops.Le = s.Le
+op_symbol ops.Gt = s.Gt
+op_symbol ops.Ge = s.Ge
+
+abbrev pub test_tokens : RawTest → List Lexeme
+test_tokens t = name_tokens t.col ++ Mark (op_symbol t.op) ∷ literal_tokens t.value
+
+abbrev pub col_tokens_of : Option (List ℕ) → List ℕ → List Lexeme
+col_tokens_of None n = name_tokens n
+col_tokens_of (Some t) n = name_tokens t ++ Mark s.Dot ∷ name_tokens n
+
+abbrev pub col_tokens : RawCol → List Lexeme
+col_tokens c = col_tokens_of c.table c.name
+
+abbrev pub cond_tokens : RawCond → List Lexeme
+cond_tokens (Join left right) = col_tokens left ++ Mark s.Eq ∷ col_tokens right
+cond_tokens (Test col op value) = col_tokens col ++ Mark (op_symbol op) ∷ literal_tokens value
+
+abbrev pub row_tokens : List Value → List Lexeme
+row_tokens values = Mark s.Open ∷ (listed_tokens literal_tokens values ++ Mark s.Close ∷ [])
+
+-- "exists", or "select" and the columns
+abbrev pub head_tokens : List RawCol → List Lexeme
+head_tokens [] = Word (codes "exists") ∷ []
+head_tokens (c ∷ cs) = Word (codes "select") ∷ listed_tokens col_tokens (c ∷ cs)
+
+abbrev pub select_tokens : Select → List Lexeme
+select_tokens q = head_tokens q.columns ++ (Word (codes "from") ∷ (listed_tokens name_tokens q.tables ++ filtered_tokens cond_tokens q.conds))
+
+-- the columns, the key behind a comma
+abbrev pub schema_tokens : RawSchema → List Lexeme
+schema_tokens r = name_tokens r.name ++ (Mark s.Open ∷ (listed_tokens column_tokens r.columns ++ (Mark s.Comma ∷ Word (codes "primary") ∷ Word (codes "key") ∷ Mark s.Open ∷ (listed_tokens name_tokens r.key ++ (Mark s.Close ∷ Mark s.Close ∷ [])))))
+
+abbrev pub statement_tokens : Statement → List Lexeme
+statement_tokens (statements.Create r) = Word (codes "create") ∷ Word (codes "table") ∷ schema_tokens r
+statement_tokens (statements.Insert table rows) = Word (codes "insert") ∷ Word (codes "into") ∷ (name_tokens table ++ (Word (codes "values") ∷ listed_tokens row_tokens rows))
+statement_tokens (statements.Delete table tests) = Word (codes "delete") ∷ Word (codes "from") ∷ (name_tokens table ++ filtered_tokens test_tokens tests)
+statement_tokens (statements.Ask q) = Word (codes "ask") ∷ select_tokens q
+statement_tokens (statements.Possible q) = Word (codes "possible") ∷ select_tokens q
+statement_tokens (statements.Classify q) = Word (codes "classify") ∷ select_tokens q
+statement_tokens (statements.Plan q) = Word (codes "plan") ∷ select_tokens q
+statement_tokens (statements.Explain row q) = Word (codes "explain") ∷ Word (codes "row") ∷ (row_tokens row ++ (Word (codes "for") ∷ select_tokens q))
+statement_tokens (statements.SetConflicts n) = Word (codes "set") ∷ Word (codes "conflicts") ∷ Number (pos n) ∷ []
+statement_tokens (statements.Copy table) = Word (codes "copy") ∷ name_tokens table
+statement_tokens statements.Dump = Word (codes "dump") ∷ []
+statement_tokens statements.ShowTables = Word (codes "show") ∷ Word (codes "tables") ∷ []
+statement_tokens statements.ShowLog = Word (codes "show") ∷ Word (codes "log") ∷ []
+
+abbrev pub IsSome : {A : Type 0} → List A → Type 0
+IsSome xs = 0 < length xs
+
+-- The lists that the grammar wants non-empty are so.
+abbrev pub IsProper : Statement → Type 0
+IsProper (statements.Create r) = IsSome r.columns × IsSome r.key
+IsProper (statements.Insert table rows) = IsSome rows × All (λ row. IsSome row) rows
+IsProper (statements.Ask q) = IsSome q.tables
+IsProper (statements.Possible q) = IsSome q.tables
+IsProper (statements.Classify q) = IsSome q.tables
+IsProper (statements.Plan q) = IsSome q.tables
+IsProper (statements.Explain row q) = IsSome q.tables
+IsProper _ = Unit {0}
+
+-- A statement is written as tokens.
+pub record IsWrittenAs (statement : Statement) (ls : List Lexeme) : Type 0 where
+  pub proper : IsProper statement
+  pub tokens : ls ≡ statement_tokens statement

@@ -1,0 +1,58 @@
+use cqa_model::{Column, Op};
+use cqa_value::{Items, Name, Row, Value};
+
+/// A schema as it is written: its columns and the names of its key.
+#[derive(Drop)]
+pub struct RawSchema {
+    pub name: Name,
+    pub columns: Items<Column>,
+    pub key: Items<Name>,
+}
+
+/// A test of a `delete`.
+#[derive(Drop)]
+pub struct RawTest {
+    pub col: Name,
+    pub op: Op,
+    pub value: Value,
+}
+
+/// A column as it is written, with its table or without.
+#[derive(Drop)]
+pub struct RawCol {
+    pub table: Option<Name>,
+    pub name: Name,
+}
+
+/// A condition as it is written: two columns that are equal, or a comparison with a literal.
+#[derive(Drop)]
+pub enum RawCond {
+    Join { left: RawCol, right: RawCol },
+    Test { col: RawCol, op: Op, value: Value },
+}
+
+/// A query as it is written. An `exists` has no columns.
+#[derive(Drop)]
+pub struct Select {
+    pub columns: Items<RawCol>,
+    pub tables: Items<Name>,
+    pub conds: Items<RawCond>,
+}
+
+/// A statement of the script language.
+#[derive(Drop)]
+pub enum Statement {
+    Create { schema: RawSchema },
+    Insert { table: Name, rows: Items<Row> },
+    Delete { table: Name, tests: Items<RawTest> },
+    Ask(Select),
+    Possible(Select),
+    Classify(Select),
+    Plan(Select),
+    Explain { row: Row, select: Select },
+    SetConflicts(u32),
+    Copy { table: Name },
+    Dump,
+    ShowTables,
+    ShowLog,
+}
