@@ -71,7 +71,10 @@ fn names_have_at_most_1024_bytes_of_utf8(rt: HostRuntime) -> Result<(), TestFail
         }
     }
     let shown = format!(in alloc; "{}, {}", NameFault::NotUtf8(2), NameFault::TooLong)?;
-    assert_eq!(rt; shown.as_str(), "the text is not UTF-8 at byte 2, the text has more than 1024 bytes");
+    assert_eq!(rt;
+        shown.as_str(),
+        "the text is not UTF-8 at byte 2, the text has more than 1024 bytes"
+    );
     let name = Name::from_bytes(alloc, "Tromsø".as_bytes())?;
     assert_eq!(rt; name.as_str(), "Tromsø");
     assert_eq!(rt; name.copy(alloc)?.bytes(), b"Troms\xc3\xb8".as_slice());
@@ -84,7 +87,10 @@ fn literals_and_rows_are_written(rt: HostRuntime) -> Result<(), TestFail> {
     let mut out = Vec::from_slice(alloc, b"> ")?;
     literal_text(&Value::Int(i64::MIN), &mut out)?;
     literal_text(&text(alloc, b"it's ''")?, &mut out)?;
-    assert_eq!(rt; out.as_slice(), b"> -9223372036854775808'it''s '''''".as_slice());
+    assert_eq!(rt;
+        out.as_slice(),
+        b"> -9223372036854775808'it''s '''''".as_slice()
+    );
 
     let mut out = Vec::new(alloc);
     let mut row = pair(alloc, 1, b"Ann")?;
@@ -114,7 +120,10 @@ fn values_are_ordered_by_kind_and_then_by_number_or_bytes(rt: HostRuntime) -> Re
             assert_eq!(rt; *a == b.copy(alloc)?, i == j, "at {i} and {j}");
         }
     }
-    let kinds = (values.first().map(Value::kind), values.last().map(Value::kind));
+    let kinds = (
+        values.first().map(Value::kind),
+        values.last().map(Value::kind),
+    );
     assert_eq!(rt; kinds, (Some(Kind::Int), Some(Kind::Text)));
     Ok(())
 }
@@ -126,8 +135,14 @@ fn rows_are_ordered_by_their_first_difference(rt: HostRuntime) -> Result<(), Tes
     let mut longer = row.copy(alloc)?;
     longer.push(Value::Int(0))?;
     let greater = pair(alloc, 2, b"Aase")?;
-    assert_eq!(rt; (row.cmp(&longer), longer.cmp(&greater)), (Ordering::Less, Ordering::Less));
-    assert_eq!(rt; (row.len(), row.get(0).kind(), row.as_slice().len()), (2, Kind::Int, 2));
+    assert_eq!(rt;
+        (row.cmp(&longer), longer.cmp(&greater)),
+        (Ordering::Less, Ordering::Less)
+    );
+    assert_eq!(rt;
+        (row.len(), row.get(0).kind(), row.as_slice().len()),
+        (2, Kind::Int, 2)
+    );
 
     let mut seen = HashSet::new(alloc);
     assert!(rt; seen.insert(row.copy(alloc)?)?);
