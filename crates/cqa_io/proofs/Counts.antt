@@ -1,6 +1,6 @@
 -- The count of failed calls never falls.
-use Rattle.std.proofs.Common.{ℕ, suc, ◌+◌, ◌≤◌, Bool, true, false, cond, List, arith, add-one}
-use Rattle.cqa_io.specs.Memory.{Numbered, after_call, failures, faults_of, has_number, is_failing}
+use Rattle.std.proofs.Common.{ℕ, ◌+◌, ◌≤◌, Bool, true, false, cond, List, arith, add-one}
+use Rattle.cqa_io.specs.Memory.{Numbered, after_call, failures, faults_of, has_number}
 
 step : (failing : List ℕ) (number : ℕ) → failures failing number ≤ failures failing (number + 1)
 step failing number = rw add-one (omega arith)

@@ -40,6 +40,13 @@ impl MemSource {
             calls: Calls::new(failing),
         }
     }
+
+    /// The bytes left.
+    pub fn left(&self) -> &[u8]
+        ensures { result.now ≡ self.now.left }
+    {
+        &self.bytes[self.place..]
+    }
 }
 
 impl Source for MemSource {
@@ -66,7 +73,7 @@ impl Source for MemSource {
         if self.calls.count() {
             return Err(Failed);
         }
-        let left = &self.bytes[self.place..];
+        let left = self.left();
         let count = self.piece.min(into.len()).min(left.len());
         into[..count].copy_from_slice(&left[..count]);
         self.place += count;
@@ -119,14 +126,16 @@ impl MemSink {
 }
 
 impl Sink for MemSink {
-    ghost use Rattle.std.specs.Prelude.{◌≡◌, ◌<◌, ◌≤◌, ◌+◌, ◌-◌, ◌^◌, ◌==◌, ◌||◌, if◌then◌else◌, Some, IfOk, is_err, length, min};
+    ghost use Rattle.std.specs.Prelude.{◌<◌, ◌≤◌, Some, IfOk, length};
     ghost use Rattle.std.specs.Io.KnownBytes.{WriteAppends};
     ghost use Rattle.cqa_io.specs.Causes.{HasCause};
-    ghost use Rattle.cqa_io.specs.Memory.{after_call, next_fails};
+    ghost use Rattle.cqa_io.specs.Memory.{WritesToMemory};
 
     ghost held = { λ s. Some s.held };
 
     ghost faults = { λ s. s.faults };
+
+    ghost wrote = { WritesToMemory };
 
     fn write(&mut self, bytes: &[u8]) -> Result<usize, Failed>
         requires { 0 < length bytes.now }
@@ -134,11 +143,7 @@ impl Sink for MemSink {
         ensures bound { IfOk result (λ n. n ≤ length bytes.now) }
         ensures bytes { WriteAppends (Some self.old.held) (Some self.new.held) result bytes.now }
         ensures cause { HasCause self.old.faults self.new.faults result }
-        ensures fails { is_err result ≡ (next_fails self.old.calls || (length self.old.held == self.old.room)) }
-        ensures raised { self.new.faults ≡ (if is_err result then min (self.old.faults + 1) (2 ^ 64 - 1) else self.old.faults) }
-        ensures count { IfOk result (λ n. n ≡ min (length bytes.now) (self.old.room - length self.old.held)) }
-        ensures called { self.new.calls ≡ after_call self.old.calls }
-        ensures room { self.new.room ≡ self.old.room }
+        ensures call { WritesToMemory self.old bytes.now result self.new }
     {
         let fails = self.calls.count();
         if fails || self.bytes.len() == self.room {

@@ -1,3 +1,6 @@
+ghost use Rattle.std.specs.Prelude.{◌≡◌};
+ghost use Rattle.cqa_io.specs.Standard.{errors_read, errors_written};
+
 use crate::{Failed, Sink, Source};
 use std::io::{Read, Write};
 
@@ -9,7 +12,9 @@ pub struct StdSource<R: Read> {
 }
 
 impl<R: Read> StdSource<R> {
-    pub fn new(reader: R) -> StdSource<R> {
+    pub fn new(reader: R) -> StdSource<R>
+        ensures { errors_read result ≡ 0 }
+    {
         StdSource { reader, faults: 0 }
     }
 }
@@ -19,7 +24,7 @@ impl<R: Read> Source for StdSource<R> {
 
     ghost left = { λ _. None };
 
-    ghost faults = { λ s. s.faults };
+    ghost faults = { errors_read };
 
     fn read(&mut self, into: &mut [u8]) -> Result<usize, Failed> {
         match self.reader.read(into) {
@@ -41,7 +46,9 @@ pub struct StdSink<W: Write> {
 }
 
 impl<W: Write> StdSink<W> {
-    pub fn new(writer: W) -> StdSink<W> {
+    pub fn new(writer: W) -> StdSink<W>
+        ensures { errors_written result ≡ 0 }
+    {
         StdSink { writer, faults: 0 }
     }
 }
@@ -51,7 +58,7 @@ impl<W: Write> Sink for StdSink<W> {
 
     ghost held = { λ _. None };
 
-    ghost faults = { λ s. s.faults };
+    ghost faults = { errors_written };
 
     fn write(&mut self, bytes: &[u8]) -> Result<usize, Failed> {
         if let Ok(count) = self.writer.write(bytes)
