@@ -8,9 +8,6 @@ use Rattle.cqa_io.specs.Writes.{WritesRest, all, fault, more}
 pub record Continues {Sink : Type 0} (wrote : Sink → List ℕ → Result ℕ Failed → Sink → Type 0) (start : Sink) (bytes : List ℕ) (here : Sink) (rest : List ℕ) : Type 0 where
   pub on : (result : Result (Unit {0}) Failed) (new : Sink) → WritesRest wrote here rest result new → WritesRest wrote start bytes result new
 
-pub begins : {Sink : Type 0} (wrote : Sink → List ℕ → Result ℕ Failed → Sink → Type 0) (start : Sink) (bytes : List ℕ) → Continues wrote start bytes start bytes
-begins wrote start bytes = record { on = λ result new w. w }
-
 rest_is : (bytes : List ℕ) (done : ℕ) → take (length bytes - done) (drop done bytes) ≡ drop done bytes
 rest_is bytes done = take_all (length bytes - done) (drop done bytes) (omega (arith, length-drop done bytes))
 

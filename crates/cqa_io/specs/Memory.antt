@@ -37,7 +37,8 @@ next_fails calls = has_number calls && is_failing calls.failing (calls.done + 1)
 abbrev pub after_call : Numbered → Numbered
 after_call calls = record calls { done = if has_number calls then calls.done + 1 else calls.done }
 
--- A call of a sink fails by its number, or where the sink is full, and only then the count of faults rises. Else it takes the whole piece, or as much as there is room for.
+-- A call of a sink fails by its number, or where the sink is full, and only then the count of faults rises.
+-- Else it takes the whole piece, or as much as there is room for.
 pub record WritesToMemory (old : SinkView) (bytes : List ℕ) (result : Result ℕ Failed) (new : SinkView) : Type 0 where
   pub fails : is_err result ≡ (next_fails old.calls || (length old.held == old.room))
   pub raised : new.faults ≡ (if is_err result then min (old.faults + 1) (2 ^ 64 - 1) else old.faults)
