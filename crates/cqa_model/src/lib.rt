@@ -7,6 +7,9 @@ mod refusal;
 mod schema;
 mod text;
 
+#[cfg(test)]
+mod tests;
+
 pub use query::{Atom, ColRef, Cond, Op, Plan, Query, RowId};
 pub use refusal::{LimitKind, Place, Refusal};
 pub use schema::{Column, Schema};
