@@ -20,6 +20,7 @@ pub mod Preferring
 pub mod Witnesses
 pub mod Formula
 pub mod Example
+pub mod BrokenKey
 pub mod Mending
 pub mod Labels
 pub mod OverOne
