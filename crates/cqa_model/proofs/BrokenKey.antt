@@ -1,7 +1,7 @@
 -- A database of two tables, r (x int, y int, primary key (x)) and s (y int, z int, primary key (y)), where r breaks its key.
 -- Does some y of r stand in s? With (1, 1) and (1, 2) in r and (1, 5) in s it does in some repair and not in each; once
 -- (2, 7) is in s too, it does in each.
-use Rattle.std.proofs.Common.{◌≡◌, ℕ, zero, suc, pos, ◌<◌, ◌⊎◌, inl, inr, List, [], ◌∷◌, length, get_or, slice_index_or, refl, ap, sym, ◌∙◌, subst, arith, Contains}
+use Rattle.std.proofs.Common.{◌≡◌, ℕ, zero, suc, pos, ◌<◌, inl, inr, List, [], ◌∷◌, get_or, slice_index_or, refl, ap, sym, ◌∙◌, subst, arith, Contains}
 use Rattle.std.specs.List.Sorted.{IsStrictlySortedBy}
 use Rattle.std.specs.declared.cmp.Ordering.{Ordering}
 use Rattle.std.specs.declared.cmp.Ordering.TheVariants.{Less}
@@ -13,9 +13,8 @@ use Rattle.cqa_model.specs.declared.schema.Schema.{Schema}
 use Rattle.cqa_model.specs.declared.query.Atom.{Atom}
 use Rattle.cqa_model.specs.declared.query.Cond.{Cond}
 use Rattle.cqa_model.specs.declared.query.Cond.TheVariants.{Join}
-use Rattle.cqa_model.specs.declared.query.ColRef.{ColRef}
 use Rattle.cqa_model.specs.declared.query.Query.{Query}
-use Rattle.cqa_model.specs.Shape.{IsInRange, columns_of, nth_atom, IsAtom, IsQuery}
+use Rattle.cqa_model.specs.Shape.{nth_atom, IsAtom, IsQuery}
 use Rattle.cqa_model.specs.Database.{Table, nothing, stored, IsTable, IsDatabase}
 use Rattle.cqa_model.specs.Repairs.{SharesKey, HasOne, IsTableRepair, IsRepair}
 use Rattle.cqa_model.specs.Query.{IsWitness, FitsDatabase}

@@ -40,9 +40,27 @@ fn schema(
 fn writes_and_copies_schemas(rt: HostRuntime) {
     let alloc = rt.alloc();
     let cases: [(&[u8], &[u8], &[u8], bool, &str); 3] = [
-        (b"n", b"id", b"t", false, "n (id int, t text, primary key (id))"),
-        (b"edge", b"from_", b"to", true, "edge (from_ int, to text, primary key (to, from_))"),
-        (b"x", b"y", b"z", true, "x (y int, z text, primary key (z, y))"),
+        (
+            b"n",
+            b"id",
+            b"t",
+            false,
+            "n (id int, t text, primary key (id))",
+        ),
+        (
+            b"edge",
+            b"from_",
+            b"to",
+            true,
+            "edge (from_ int, to text, primary key (to, from_))",
+        ),
+        (
+            b"x",
+            b"y",
+            b"z",
+            true,
+            "x (y int, z text, primary key (z, y))",
+        ),
     ];
     for (name, first, second, both, want) in cases {
         assert!(rt; first != second);
