@@ -26,3 +26,4 @@ pub mod Labels
 pub mod OverOne
 pub mod Possible
 pub mod Databases
+pub mod InTable
