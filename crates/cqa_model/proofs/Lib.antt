@@ -5,7 +5,7 @@ pub mod Repairs
 pub mod Views
 pub mod BlockOrder
 pub mod Places
-pub mod Prefixes
+mod Prefixes
 pub mod Fitting
 pub mod Agreement
 pub mod Exchange
@@ -19,8 +19,8 @@ pub mod Interface
 pub mod Preferring
 pub mod Witnesses
 pub mod Formula
-pub mod Example
-pub mod BrokenKey
+mod Example
+mod BrokenKey
 pub mod Mending
 pub mod Labels
 pub mod OverOne
