@@ -5,7 +5,7 @@ pub mod Repairs
 pub mod Views
 pub mod BlockOrder
 pub mod Places
-pub mod Prefixes
+mod Prefixes
 pub mod Fitting
 pub mod Agreement
 pub mod Exchange
@@ -19,9 +19,11 @@ pub mod Interface
 pub mod Preferring
 pub mod Witnesses
 pub mod Formula
-pub mod Example
+mod Example
+mod BrokenKey
 pub mod Mending
 pub mod Labels
 pub mod OverOne
 pub mod Possible
 pub mod Databases
+pub mod InTable

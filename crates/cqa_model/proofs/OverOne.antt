@@ -26,7 +26,7 @@ dec_fits_row q answer x =
     dec_by (λ h. record { meets = h.0; gives = h.1 }) (λ h. (h.meets, h.gives))
     (dec_both (dec_each (RowMeets x) (dec_meets x) q.conds) (row_discrete (answer_of q x) answer))
 
-first_atom : (q : Query) → length q.atoms ≡ 1 → (c : ColRef) → IsInRange q.atoms c → c.atom ≡ 0
+pub first_atom : (q : Query) → length q.atoms ≡ 1 → (c : ColRef) → IsInRange q.atoms c → c.atom ≡ 0
 first_atom q one c (l, w) = omega arith
 
 -- a row alone is a witness where it fits

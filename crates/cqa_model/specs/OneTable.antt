@@ -1,10 +1,13 @@
 -- Queries of one atom, row by row.
 use Rattle.std.specs.Prelude.{◌≡◌, ℕ, List, map, Contains, slice_index_or}
 use Rattle.cqa_value.specs.declared.value.Value.{Value}
+use Rattle.cqa_value.specs.Values.{kind_of}
+use Rattle.cqa_model.specs.declared.schema.Schema.{Schema}
 use Rattle.cqa_model.specs.declared.query.Cond.{Cond}
 use Rattle.cqa_model.specs.declared.query.Cond.TheVariants.{Join, Test}
 use Rattle.cqa_model.specs.declared.query.ColRef.{ColRef}
 use Rattle.cqa_model.specs.declared.query.Query.{Query}
+use Rattle.cqa_model.specs.Shape.{column_at}
 use Rattle.cqa_model.specs.Database.{nothing}
 use Rattle.cqa_model.specs.Repairs.{SharesKey}
 use Rattle.cqa_model.specs.Query.{OpHolds}
@@ -17,6 +20,11 @@ value_in x c = slice_index_or x c.col nothing
 abbrev pub RowMeets : List Value → Cond → Type 0
 RowMeets x (Join c d) = value_in x c ≡ value_in x d
 RowMeets x (Test c op y) = OpHolds op (value_in x c) y
+
+-- both sides of a condition on columns of the one table have one kind
+abbrev pub RowKindsAgree : Schema → Cond → Type 0
+RowKindsAgree schema (Join c d) = (column_at schema.columns c.col).kind ≡ (column_at schema.columns d.col).kind
+RowKindsAgree schema (Test c op y) = (column_at schema.columns c.col).kind ≡ kind_of y
 
 -- the answer that a row gives
 abbrev pub answer_of : Query → List Value → List Value

@@ -11,3 +11,6 @@ pub use query::{Atom, ColRef, Cond, Op, Plan, Query, RowId};
 pub use refusal::{LimitKind, Place, Refusal};
 pub use schema::{Column, Schema};
 pub use text::schema_text;
+
+#[cfg(test)]
+mod tests;

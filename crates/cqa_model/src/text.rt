@@ -1,7 +1,8 @@
 ghost use Rattle.std.specs.Prelude.{◌≡◌, ◌<◌, ◌++◌, OnOk, OnErr, All, codes, length};
-ghost use Rattle.std.specs.List.{flat_map};
+ghost use Rattle.std.specs.Io.{StartsWith};
+ghost use Rattle.std.specs.List.{flat_map, join_by};
 ghost use Rattle.cqa_model.specs.Shape.{column_at};
-ghost use Rattle.cqa_model.specs.Text.{BeginsWith, column_text, key_text, kind_word, schema_bytes};
+ghost use Rattle.cqa_model.specs.Text.{column_text, columns_text, key_text, kind_word, schema_bytes};
 
 use crate::{Column, Schema};
 use cqa_value::{Kind, NoMemory};
@@ -17,52 +18,72 @@ pub fn schema_text(schema: &Schema, out: &mut Vec<u8>) -> Result<(), NoMemory>
     ensures err { OnErr result (out.new.items ≡ out.old.items) }
 {
     let start = out.len();
-    let result = append_schema(schema, out);
-    if result.is_err() {
+    let done = append_schema(schema, out);
+    if done.is_err() {
         out.truncate(start);
     }
-    result
+    done
 }
 
+#[tactic(auto, using(crate::proofs::Prefixes::starts_with_shorter))]
 fn append_schema(schema: &Schema, out: &mut Vec<u8>) -> Result<(), NoMemory>
     ensures ok { OnOk result (out.new.items ≡ out.old.items ++ schema_bytes schema.now) }
-    ensures err { OnErr result (BeginsWith out.old.items out.new.items) }
+    ensures err { OnErr result (StartsWith out.new.items out.old.items) }
 {
-    append(out, schema.name.bytes())?;
-    append(out, b" (")?;
-    append_columns(schema.columns.as_slice(), out)?;
-    append(out, b"primary key (")?;
+    append_named_columns(schema, out)?;
     append_key(schema, out)?;
-    append(out, b"))")
+    out.extend_from_slice(b")")?;
+    Ok(())
 }
 
-#[tactic(auto, using(crate::proofs::Prefixes::begins_with_shorter))]
+fn append_named_columns(schema: &Schema, out: &mut Vec<u8>) -> Result<(), NoMemory>
+    ensures ok { OnOk result (out.new.items ≡ out.old.items ++ columns_text schema.now) }
+    ensures err { OnErr result (StartsWith out.new.items out.old.items) }
+{
+    out.extend_from_slice(schema.name.bytes())?;
+    out.extend_from_slice(b" (")?;
+    append_columns(schema.columns.as_slice(), out)
+}
+
+#[tactic(auto, using(crate::proofs::Prefixes::starts_with_shorter))]
 fn append_columns(columns: &[Column], out: &mut Vec<u8>) -> Result<(), NoMemory>
     ensures ok { OnOk result (out.new.items ≡ out.old.items ++ flat_map (λ column. column_text column ++ codes ", ") columns.now) }
-    ensures err { OnErr result (BeginsWith out.old.items out.new.items) }
+    ensures err { OnErr result (StartsWith out.new.items out.old.items) }
 {
     for column in columns {
         append_column(column, out)?;
-        append(out, b", ")?;
+        out.extend_from_slice(b", ")?;
     }
     Ok(())
 }
 
 fn append_column(column: &Column, out: &mut Vec<u8>) -> Result<(), NoMemory>
     ensures ok { OnOk result (out.new.items ≡ out.old.items ++ column_text column.now) }
-    ensures err { OnErr result (BeginsWith out.old.items out.new.items) }
+    ensures err { OnErr result (StartsWith out.new.items out.old.items) }
 {
-    append(out, column.name.bytes())?;
-    append(out, b" ")?;
-    append(out, word_of(column.kind).as_bytes())
+    out.extend_from_slice(column.name.bytes())?;
+    out.extend_from_slice(b" ")?;
+    out.extend_from_slice(word_of(column.kind).as_bytes())?;
+    Ok(())
 }
 
-#[tactic(auto, using(crate::proofs::Prefixes::begins_with_shorter))]
 fn append_key(schema: &Schema, out: &mut Vec<u8>) -> Result<(), NoMemory>
-    ensures ok { OnOk result (out.new.items ≡ out.old.items ++ key_text schema.now schema.now.key) }
-    ensures err { OnErr result (BeginsWith out.old.items out.new.items) }
+    ensures ok { OnOk result (out.new.items ≡ out.old.items ++ key_text schema.now) }
+    ensures err { OnErr result (StartsWith out.new.items out.old.items) }
 {
-    if let [first, rest @ ..] = schema.key.as_slice() {
+    out.extend_from_slice(b"primary key (")?;
+    append_names(schema, schema.key.as_slice(), out)?;
+    out.extend_from_slice(b")")?;
+    Ok(())
+}
+
+#[tactic(auto, using(crate::proofs::Prefixes::starts_with_shorter))]
+fn append_names(schema: &Schema, places: &[u32], out: &mut Vec<u8>) -> Result<(), NoMemory>
+    requires { All (λ place. place < length schema.now.columns) places.now }
+    ensures ok { OnOk result (out.new.items ≡ out.old.items ++ join_by (λ place. (column_at schema.now.columns place).name) (codes ", ") places.now) }
+    ensures err { OnErr result (StartsWith out.new.items out.old.items) }
+{
+    if let [first, rest @ ..] = places {
         append_name(schema, *first, out)?;
         append_rest(schema, rest, out)?;
     }
@@ -71,11 +92,11 @@ fn append_key(schema: &Schema, out: &mut Vec<u8>) -> Result<(), NoMemory>
 
 fn append_rest(schema: &Schema, rest: &[u32], out: &mut Vec<u8>) -> Result<(), NoMemory>
     requires { All (λ place. place < length schema.now.columns) rest.now }
-    ensures ok { OnOk result (out.new.items ≡ out.old.items ++ flat_map (λ r. codes ", " ++ (column_at schema.now.columns r).name) rest.now) }
-    ensures err { OnErr result (BeginsWith out.old.items out.new.items) }
+    ensures ok { OnOk result (out.new.items ≡ out.old.items ++ flat_map (λ place. codes ", " ++ (column_at schema.now.columns place).name) rest.now) }
+    ensures err { OnErr result (StartsWith out.new.items out.old.items) }
 {
     for place in rest {
-        append(out, b", ")?;
+        out.extend_from_slice(b", ")?;
         append_name(schema, *place, out)?;
     }
     Ok(())
@@ -86,14 +107,7 @@ fn append_name(schema: &Schema, place: u32, out: &mut Vec<u8>) -> Result<(), NoM
     ensures ok { OnOk result (out.new.items ≡ out.old.items ++ (column_at schema.now.columns place).name) }
     ensures err { OnErr result (out.new.items ≡ out.old.items) }
 {
-    append(out, schema.columns.as_slice()[place as usize].name.bytes())
-}
-
-fn append(out: &mut Vec<u8>, bytes: &[u8]) -> Result<(), NoMemory>
-    ensures ok { OnOk result (out.new.items ≡ out.old.items ++ bytes.now) }
-    ensures err { OnErr result (out.new.items ≡ out.old.items) }
-{
-    out.extend_from_slice(bytes)?;
+    out.extend_from_slice(schema.columns.as_slice()[place as usize].name.bytes())?;
     Ok(())
 }
 
