@@ -7,7 +7,8 @@ use Rattle.script_lex.specs.declared.kinds.TokenKind.TheVariants.{Word, Int, Tex
 use Rattle.script_lex.specs.declared.pieces.PieceKind.{PieceKind}
 use Rattle.script_lex.specs.declared.pieces.PieceKind.TheVariants.{Blank, Comment, Token as OfToken}
 use Rattle.script_lex.specs.Bytes.{is_blank, is_letter, is_digit, is_word_byte, AllPass}
-use Rattle.script_lex.specs.Tokens.{symbol_bytes, IsPiece, is_single}
+use Rattle.script_lex.specs.TokenParts.{is_single}
+use Rattle.script_lex.specs.Tokens.{symbol_bytes, IsPiece}
 
 -- the byte with which each kind begins
 abbrev pub begins : PieceKind → ℕ → Bool

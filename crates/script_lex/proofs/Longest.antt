@@ -10,7 +10,8 @@ use Rattle.script_lex.specs.declared.kinds.TokenKind.TheVariants.{Word, Int, Tex
 use Rattle.script_lex.specs.declared.pieces.PieceKind.{PieceKind}
 use Rattle.script_lex.specs.declared.pieces.PieceKind.TheVariants.{Blank, Comment, Token as OfToken}
 use Rattle.script_lex.specs.Bytes.{is_blank, is_letter, is_digit, test_of, AllPass, Runs}
-use Rattle.script_lex.specs.Tokens.{symbol_bytes, IsQuoted, IsPiece, IsLongest, NoPiece, is_single, EndsQuoted}
+use Rattle.script_lex.specs.TokenParts.{is_single, EndsQuoted}
+use Rattle.script_lex.specs.Tokens.{symbol_bytes, IsQuoted, IsPiece, IsLongest, NoPiece}
 use Rattle.script_lex.proofs.Runs.{clash}
 use Rattle.script_lex.proofs.FirstBytes.{begins, first_of, none_empty, word_longer, digit_longer, blank_longer, single_longer}
 use Rattle.script_lex.proofs.Quotes.{no_quoted}

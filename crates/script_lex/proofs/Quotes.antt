@@ -3,7 +3,8 @@ use Rattle.std.proofs.Common.{◌≡◌, ◌⊎◌, inl, inr, ◌+◌, ◌<◌, 
 use Rattle.std.proofs.lemmas.Bool.Decides.{nat_tests}
 use Rattle.std.proofs.lemmas.Bool.{cases_order, cases_lt}
 use Rattle.std.proofs.lemmas.List.{take_more}
-use Rattle.script_lex.specs.Tokens.{doubled, IsQuoted, step_of, EndsQuoted}
+use Rattle.script_lex.specs.TokenParts.{step_of, EndsQuoted}
+use Rattle.script_lex.specs.Tokens.{doubled, IsQuoted}
 
 abbrev then_run : Option Bool → (Bool → Option Bool) → Option Bool
 then_run None f = None

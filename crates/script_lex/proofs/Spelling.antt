@@ -7,7 +7,6 @@ use Rattle.std.specs.List.{AllByRecursion}
 use Rattle.std.specs.Str.Lossy.{utf8_valid_len}
 use Rattle.cqa_value.specs.declared.memory.Fail.{Fail}
 use Rattle.cqa_value.specs.declared.memory.Fail.TheVariants.{NoMemory, Refused}
-use Rattle.script_lex.specs.declared.lexer.TheConstants.{LONGEST_TEXT}
 use Rattle.script_lex.specs.declared.kinds.Span.{Span}
 use Rattle.script_lex.specs.declared.kinds.Symbol.{Symbol}
 use Rattle.script_lex.specs.declared.kinds.Symbol.TheVariants.{Open, Close, Comma, Dot, Eq, Ne, Lt, Le, Gt, Ge}
@@ -20,7 +19,8 @@ use Rattle.script_lex.specs.declared.pieces.PieceKind.{PieceKind}
 use Rattle.script_lex.specs.declared.pieces.PieceKind.TheVariants.{Blank, Comment, Token as OfToken}
 use Rattle.script_lex.specs.declared.pieces.Piece.{Piece}
 use Rattle.script_lex.specs.Bytes.{is_digit}
-use Rattle.script_lex.specs.Tokens.{symbol_bytes, IsQuoted, IsPiece, IsLongest, NoPiece, Splits, inside_of, IsClean, IsUnclean, kept, tokens_of, Spells, IsBadAt, IsBadByte, IsFault, RefusesByte, Found}
+use Rattle.script_lex.specs.TokenParts.{RefusesByte, Found}
+use Rattle.script_lex.specs.Tokens.{longest_text, symbol_bytes, IsQuoted, IsPiece, IsLongest, NoPiece, Splits, inside_of, IsClean, IsUnclean, kept, tokens_of, Spells, IsBadAt, IsBadByte, IsFault}
 use Rattle.script_lex.proofs.FirstCuts.{rest_of}
 use Rattle.script_lex.proofs.FirstBytes.{begins, first_of, none_empty}
 use Rattle.script_lex.proofs.Quotes.{no_quoted}
@@ -235,8 +235,8 @@ bad_same {text = text} {a = a} {b = b} h k =
 abbrev pub Right : List ℕ → Result (List Token) (Fail LexFault) → Type 0
 Right text r = MatchResult r (Spells text) (RefusesByte text)
 
-pub only_tokens : (text : List ℕ) (r : Result (List Token) (Fail LexFault)) → length text ≤ LONGEST_TEXT → Right text r
-    → (tokens : List Token) → length text ≤ LONGEST_TEXT → Spells text tokens → MatchResult r (λ v. v ≡ tokens) (λ e. e ≡ NoMemory)
+pub only_tokens : (text : List ℕ) (r : Result (List Token) (Fail LexFault)) → length text ≤ longest_text → Right text r
+    → (tokens : List Token) → length text ≤ longest_text → Spells text tokens → MatchResult r (λ v. v ≡ tokens) (λ e. e ≡ NoMemory)
 only_tokens text (Ok v) size h tokens le s = spells_same h s
 only_tokens text (Err NoMemory) size h tokens le s = refl
 only_tokens text (Err (Refused (BadByte at))) size h tokens le s = absurd (spelled_not_bad s h)
@@ -248,11 +248,11 @@ fault_same text (TooLong m) (BadByte at) h k = let lt = h.1 in let le = k.0 in a
 fault_same text (BadByte at) (TooLong n) h k = let lt = k.1 in let le = h.0 in absurd (omega arith)
 fault_same text (BadByte at) (BadByte to) h k = ap BadByte (bad_same h.1 k.1)
 
-spelled_no_fault : (text : List ℕ) (tokens : List Token) (f : LexFault) → length text ≤ LONGEST_TEXT → Spells text tokens → IsFault text f → ⊥
+spelled_no_fault : (text : List ℕ) (tokens : List Token) (f : LexFault) → length text ≤ longest_text → Spells text tokens → IsFault text f → ⊥
 spelled_no_fault text tokens (TooLong m) le s h = let lt = h.1 in absurd (omega arith)
 spelled_no_fault text tokens (BadByte at) le s h = spelled_not_bad s h.1
 
-pub only_fault : (text : List ℕ) (r : Result (List Token) (Fail LexFault)) → length text ≤ LONGEST_TEXT → Right text r
+pub only_fault : (text : List ℕ) (r : Result (List Token) (Fail LexFault)) → length text ≤ longest_text → Right text r
     → (fault : LexFault) → IsFault text fault → MatchResult r (λ _. ⊥) (λ e. (e ≡ Refused fault) ⊎ (e ≡ NoMemory))
 only_fault text (Ok v) size h fault k = spelled_no_fault text v fault size h k
 only_fault text (Err NoMemory) size h fault k = inr refl

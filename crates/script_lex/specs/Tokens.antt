@@ -1,10 +1,9 @@
 -- How tokens spell a text.
-use Rattle.std.specs.Prelude.{◌≡◌, ◌⊎◌, ◌+◌, ◌-◌, ◌<◌, ◌≤◌, ◌==◌, ℕ, Bool, true, not, ◌||◌, List, [], ◌∷◌, ◌++◌, if◌then◌else◌, length, take, drop, slice_range, Option, Some, None, IsUtf8}
+use Rattle.std.specs.Prelude.{◌≡◌, ◌⊎◌, ◌+◌, ◌-◌, ◌<◌, ◌≤◌, ◌==◌, ℕ, true, List, [], ◌∷◌, ◌++◌, if◌then◌else◌, length, take, drop, slice_range, IsUtf8}
 use Rattle.std.specs.List.{AllByRecursion}
 use Rattle.std.specs.Str.{IsValidUpTo}
 use Rattle.cqa_value.specs.declared.memory.Fail.{Fail}
 use Rattle.cqa_value.specs.declared.memory.Fail.TheVariants.{NoMemory, Refused}
-use Rattle.script_lex.specs.declared.lexer.TheConstants.{LONGEST_TEXT}
 use Rattle.script_lex.specs.declared.kinds.Span.{Span}
 use Rattle.script_lex.specs.declared.kinds.Symbol.{Symbol}
 use Rattle.script_lex.specs.declared.kinds.Symbol.TheVariants.{Open, Close, Comma, Dot, Eq, Ne, Lt, Le, Gt, Ge}
@@ -18,6 +17,7 @@ use Rattle.script_lex.specs.declared.pieces.PieceKind.TheVariants.{Blank, Commen
 use Rattle.script_lex.specs.declared.pieces.Piece.{Piece}
 use Rattle.script_lex.specs.Bytes.{is_blank, is_letter, is_digit, is_word_byte, is_not_line_feed, AllPass}
 
+-- how each symbol is spelled
 abbrev pub symbol_bytes : Symbol → List ℕ
 symbol_bytes Open = 40 ∷ []
 symbol_bytes Close = 41 ∷ []
@@ -100,6 +100,7 @@ kept Blank span = []
 kept Comment span = []
 kept (OfToken kind) span = record { kind = kind; span = span } ∷ []
 
+-- the tokens among the pieces
 abbrev pub tokens_of : List Piece → List Token
 tokens_of [] = []
 tokens_of (p ∷ ps) = kept p.kind p.span ++ tokens_of ps
@@ -137,37 +138,16 @@ pub record IsBadByte (text : List ℕ) (at : ℕ) : Type 0 where
   pub clean : AllByRecursion (IsClean text) pieces
   pub bad : IsBadAt text end at
 
+-- the most bytes of a statement's text
+abbrev pub longest_text : ℕ
+longest_text = 1048576
+
 -- why a text has no tokens
 abbrev pub IsFault : List ℕ → LexFault → Type 0
-IsFault text (TooLong size) = (size ≡ length text) × (LONGEST_TEXT < length text)
-IsFault text (BadByte at) = (length text ≤ LONGEST_TEXT) × IsBadByte text at
+IsFault text (TooLong size) = (size ≡ length text) × (longest_text < length text)
+IsFault text (BadByte at) = (length text ≤ longest_text) × IsBadByte text at
 
+-- a fault of the text, or want of memory, which is free
 abbrev pub Refuses : List ℕ → Fail LexFault → Type 0
 Refuses text NoMemory = Unit {0}
 Refuses text (Refused fault) = IsFault text fault
-
--- for the parts of the lexer
-
-abbrev pub RefusesByte : List ℕ → Fail LexFault → Type 0
-RefusesByte text NoMemory = Unit {0}
-RefusesByte text (Refused (TooLong size)) = ⊥
-RefusesByte text (Refused (BadByte at)) = IsBadByte text at
-
--- the piece that stands first, with its length, or none
-abbrev pub Found : List ℕ → Option (PieceKind × ℕ) → Type 0
-Found bytes None = NoPiece bytes
-Found bytes (Some p) = IsLongest p.0 p.1 bytes × (0 < p.1)
-
--- a byte that is a symbol and begins no other
-abbrev pub is_single : ℕ → Bool
-is_single b = ((b == 40 || b == 41) || (b == 44 || b == 46)) || b == 61
-
--- whether a text is open behind one more byte, if the byte belongs to it
-abbrev pub step_of : Bool → ℕ → Option Bool
-step_of open_ b = if b == 39 then Some (not open_) else (if open_ then Some true else None)
-
--- Of the bytes behind a quote the first so many end a text, and no more do; 0 if none do.
-pub record EndsQuoted (bytes : List ℕ) (n : ℕ) : Type 0 where
-  pub within : n ≤ length bytes
-  pub ends : 0 < n → IsQuoted (take n bytes)
-  pub longest : (m : ℕ) → n < m → m ≤ length bytes → IsQuoted (take m bytes) → ⊥

@@ -3,7 +3,8 @@ ghost use Rattle.std.specs.Str.{IsValidUpTo};
 ghost use Rattle.cqa_value.specs.declared.memory.Fail.TheVariants.{NoMemory as FailNoMemory, Refused};
 ghost use Rattle.script_lex.specs.declared.kinds.Token.{Token};
 ghost use Rattle.script_lex.specs.declared.kinds.LexFault.{LexFault};
-ghost use Rattle.script_lex.specs.Tokens.{Spells, LiesIn, IsSpelled, Rise, IsFault, Refuses, RefusesByte, IsClean, IsUnclean};
+ghost use Rattle.script_lex.specs.TokenParts.{RefusesByte};
+ghost use Rattle.script_lex.specs.Tokens.{longest_text, Spells, LiesIn, IsSpelled, Rise, IsFault, Refuses, IsClean, IsUnclean};
 
 use crate::pieces::{Piece, PieceKind, first_piece};
 use crate::{LexFault, Span, Token, TokenKind};
@@ -38,6 +39,7 @@ fn unclean(text: &[u8], piece: Piece) -> Option<usize>
     }
 }
 
+/// The tokens of a text of any length.
 fn tokens_of_any(alloc: Global, text: &[u8]) -> Result<Items<Token>, Fail<LexFault>>
     ensures { MatchResult result (Spells text.now) (RefusesByte text.now) }
 {
@@ -65,12 +67,13 @@ fn tokens_of_any(alloc: Global, text: &[u8]) -> Result<Items<Token>, Fail<LexFau
 /// The tokens of a statement's text.
 ///
 /// # Errors
-/// The text is longer than `LONGEST_TEXT`, or else its first byte that belongs to no token, blank or comment.
+/// `TooLong` with the length of a text longer than `LONGEST_TEXT`; else `BadByte` with the place of the first byte that begins no token,
+/// blank or comment, or that isn't UTF-8 in a text between quotes. A quote that no later one closes is such a byte.
 pub fn tokens(alloc: Global, text: &[u8]) -> Result<Items<Token>, Fail<LexFault>>
     // The tokens spell a text that isn't too long, and a refusal has its cause.
-    ensures exact { MatchResult result (λ tokens. (length text.now ≤ LONGEST_TEXT) × Spells text.now tokens) (Refuses text.now) }
+    ensures exact { MatchResult result (λ tokens. (length text.now ≤ longest_text) × Spells text.now tokens) (Refuses text.now) }
     // A text that tokens spell gives these tokens, unless memory runs out.
-    ensures only_tokens { (tokens : List Token) → length text.now ≤ LONGEST_TEXT → Spells text.now tokens → MatchResult result (λ v. v ≡ tokens) (λ e. e ≡ FailNoMemory) }
+    ensures only_tokens { (tokens : List Token) → length text.now ≤ longest_text → Spells text.now tokens → MatchResult result (λ v. v ≡ tokens) (λ e. e ≡ FailNoMemory) }
     // A fault of the text is the answer, unless memory runs out.
     ensures only_fault { (fault : LexFault) → IsFault text.now fault → MatchResult result (λ _. ⊥) (λ e. (e ≡ Refused fault) ⊎ (e ≡ FailNoMemory)) }
 

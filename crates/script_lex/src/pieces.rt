@@ -1,5 +1,6 @@
 ghost use Rattle.std.specs.Prelude.{◌≡◌, ◌<◌, length, slice_index, MatchOption, false, true, [], ◌∷◌, ◌==◌, if◌then◌else◌};
-ghost use Rattle.script_lex.specs.Tokens.{Found, EndsQuoted, symbol_bytes, is_single, step_of};
+ghost use Rattle.script_lex.specs.TokenParts.{Found, EndsQuoted, is_single, step_of};
+ghost use Rattle.script_lex.specs.Tokens.{symbol_bytes};
 
 use crate::bytes::{Class, is_in, run_length};
 use crate::{Span, Symbol, TokenKind};
@@ -84,7 +85,7 @@ fn single(byte: u8) -> Option<Symbol>
 }
 
 /// Whether a text is still open after one more byte, where the byte belongs to it.
-fn after(inside: bool, byte: u8) -> Option<bool>
+fn still_open(inside: bool, byte: u8) -> Option<bool>
     ensures { result ≡ step_of inside byte }
 {
     if byte == b'\'' {
@@ -94,7 +95,7 @@ fn after(inside: bool, byte: u8) -> Option<bool>
 }
 
 /// How many bytes end the text so far.
-fn ended(inside: bool, last: usize, here: usize) -> usize
+fn end_so_far(inside: bool, last: usize, here: usize) -> usize
     ensures { result ≡ (if inside then last else here) }
 {
     if inside { last } else { here }
@@ -107,12 +108,12 @@ fn quoted_length(bytes: &[u8]) -> usize
     let mut inside = true;
     let mut last = 0;
     for (i, byte) in bytes.iter().enumerate() {
-        match after(inside, *byte) {
+        match still_open(inside, *byte) {
             None => {
                 return last;
             }
             Some(now) => {
-                last = ended(now, last, i + 1);
+                last = end_so_far(now, last, i + 1);
                 inside = now;
             }
         }

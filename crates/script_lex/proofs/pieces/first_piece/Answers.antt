@@ -1,5 +1,5 @@
 use Rattle.std.proofs.Common.{arith, sym, subst, drop}
-use Rattle.script_lex.specs.Tokens.{EndsQuoted}
+use Rattle.script_lex.specs.TokenParts.{EndsQuoted}
 use Rattle.script_lex.proofs.FirstCuts.{rest_of}
 use Rattle.script_lex.proofs.Longest.{blank_stands, word_stands, int_stands, single_stands, nothing_stands, unclosed, text_stands}
 use Rattle.script_lex.proofs.pieces.first_piece.Goals as goal

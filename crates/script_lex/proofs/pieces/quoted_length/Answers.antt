@@ -6,7 +6,7 @@ pub returns-in-None : goal.returns-in-None
 returns-in-None c = text_stuck c.args.bytes.now c.loop-i.i c.loop-i.inside c.loop-i.last c.loop-i-test.true c.loop-i.invariant (sym c.in-None.ensures)
 
 pub loop-i-preserved : goal.loop-i-preserved
-loop-i-preserved c = text_goes c.args.bytes.now c.loop-i.i c.loop-i.inside c.in-Some.now c.loop-i.last c.ended-last.result c.loop-i-test.true c.loop-i.invariant (sym c.in-Some.ensures) c.ended-last.ensures
+loop-i-preserved c = text_goes c.args.bytes.now c.loop-i.i c.loop-i.inside c.in-Some.now c.loop-i.last c.end_so_far-last.result c.loop-i-test.true c.loop-i.invariant (sym c.in-Some.ensures) c.end_so_far-last.ensures
 
 pub returns : goal.returns
 returns c =
