@@ -7,7 +7,8 @@ use Rattle.std.proofs.lemmas.Grind.{common_steps}
 use Rattle.std.proofs.lemmas.Bool.Decides.{nat_tests}
 use Rattle.std.specs.List.{AllByRecursion}
 use Rattle.script_lex.specs.Bytes.{is_line_blank, is_not_line_feed, AllPass}
-use Rattle.script_lex.specs.Scripts.{IsLineEnd, Skips, IsEndingLine, IsBlockLine, lines_text, EndsBlock, IsBlock, HasNoBlock}
+use Rattle.script_lex.specs.ScriptParts.{HasNoBlock}
+use Rattle.script_lex.specs.Scripts.{IsLineEnd, Skips, IsEndingLine, IsBlockLine, lines_text, EndsBlock, IsBlock}
 use Rattle.script_lex.proofs.Runs.{AllPass-push, run_same, run_none}
 
 ending_one : (line : List ℕ) → IsEndingLine line → AllPass is_not_line_feed line

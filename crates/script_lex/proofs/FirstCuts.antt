@@ -10,7 +10,8 @@ use Rattle.script_lex.specs.declared.modes.Mode.TheVariants.{Outside, Dash, Text
 use Rattle.script_lex.specs.declared.modes.Region.TheVariants as regions
 use Rattle.script_lex.specs.declared.modes.Stop.{Stop}
 use Rattle.script_lex.specs.Bytes.{is_blank}
-use Rattle.script_lex.specs.Scripts.{after, is_gap_byte, is_text_byte, Leads, IsGap, IsSpace, BeginsOutright, IsText, IsCopy, Skips, IsBlock, Follows, First, IsCut, Stands, BeginsAt, EndsAt, HasNoEnd, SkipsAt, BlockEndsAt, HasNoBlock}
+use Rattle.script_lex.specs.ScriptParts.{Stands, BeginsAt, EndsAt, HasNoEnd, SkipsAt, BlockEndsAt, HasNoBlock}
+use Rattle.script_lex.specs.Scripts.{after, is_gap_byte, is_text_byte, Leads, IsGap, IsSpace, BeginsOutright, IsText, IsCopy, Skips, IsBlock, Follows, First, IsCut}
 use Rattle.script_lex.proofs.Runs.{clash}
 use Rattle.script_lex.proofs.Leading.{Leads-rest, stop_same, stop_none, semicolon_ends, outright_stays, gap_same, outright-semicolon, outright-take, last_dash}
 use Rattle.script_lex.proofs.BlockLines.{skips_same}

@@ -3,3 +3,8 @@ pub mod Leading
 pub mod BlockLines
 pub mod Statements
 pub mod FirstCuts
+pub mod FirstBytes
+pub mod Quotes
+pub mod Longest
+pub mod Spelling
+pub mod Placed

@@ -1,5 +1,6 @@
 -- Statements, one after another.
 use Rattle.std.proofs.Common.{◌≡◌, ◌+◌, ◌-◌, ◌<◌, ◌≤◌, ℕ, Bool, false, List, [], ◌∷◌, ◌++◌, length, take, drop, slice_range, Option, Some, None, IfSome, refl, sym, ◌∙◌, ap, subst, arith, append_assoc, length-take, length-drop}
+use Rattle.std.proofs.lemmas.List.{drop-drop}
 use Rattle.std.specs.Option.{option_map}
 use Rattle.script_lex.specs.declared.kinds.Span.{Span}
 use Rattle.script_lex.specs.declared.cutting.Cut.{Cut}
@@ -104,16 +105,24 @@ pub Begins-push : (ended : Bool) (input : List ℕ) (s : List Statement) (mid : 
 Begins-push ended input [] mid t rest h k = (rest, subst (λ z. StartsWith ended z t rest) (sym h) k, refl)
 Begins-push ended input (a ∷ s) mid t rest h k = (h.0, h.1, Begins-push ended h.0 s mid t rest h.2 k)
 
--- one statement before
-pub Cuts-push : (ended : Bool) (bytes : List ℕ) (text : Span) (block : Option Span) (at : ℕ) (s : List Statement) (rest : List ℕ) → IsCut ended bytes (cuts.Statement text block at) → Cuts ended (drop at bytes) s rest
+-- For a loop over an input: the statements before a place, and the first cut there.
+
+pub Begins-statement : (ended : Bool) (input : List ℕ) (s : List Statement) (place : ℕ) (text : Span) (block : Option Span) (at : ℕ) → Begins ended input s (drop place input) → IsCut ended (drop place input) (cuts.Statement text block at)
+    → Begins ended input (s ++ statement_at (drop place input) text block ∷ []) (drop (place + at) input)
+Begins-statement ended input s place text block at h k =
+    subst (Begins ended input (s ++ statement_at (drop place input) text block ∷ [])) (drop-drop at place input)
+    (Begins-push ended input s (drop place input) (statement_at (drop place input) text block) (drop at (drop place input)) h (first_statement ended (drop place input) text block at k))
+
+pub Cuts-blank : (ended : Bool) (input : List ℕ) (s : List Statement) (rest : List ℕ) → Begins ended input s rest → IsCut ended rest cuts.Blank → Cuts ended input s rest
+Cuts-blank ended input s rest h k = record { begins = h; over = space_over ended rest k }
+
+pub Cuts-part : (ended : Bool) (input : List ℕ) (s : List Statement) (rest : List ℕ) → Begins ended input s rest → IsCut ended rest cuts.Part → Cuts ended input s rest
+Cuts-part ended input s rest h k = record { begins = h; over = k.1 }
+
+-- For a recursion: the first statement before the cut of what follows it.
+pub Cuts-statement : (ended : Bool) (bytes : List ℕ) (text : Span) (block : Option Span) (at : ℕ) (s : List Statement) (rest : List ℕ) → IsCut ended bytes (cuts.Statement text block at) → Cuts ended (drop at bytes) s rest
     → Cuts ended bytes (statement_at bytes text block ∷ s) rest
-Cuts-push ended bytes text block at s rest h k = record { begins = (drop at bytes, first_statement ended bytes text block at h, k.begins); over = k.over }
-
-pub Cuts-blank : (ended : Bool) (bytes : List ℕ) → IsCut ended bytes cuts.Blank → Cuts ended bytes [] bytes
-Cuts-blank ended bytes h = record { begins = refl; over = space_over ended bytes h }
-
-pub Cuts-part : (ended : Bool) (bytes : List ℕ) → IsCut ended bytes cuts.Part → Cuts ended bytes [] bytes
-Cuts-part ended bytes h = record { begins = refl; over = h.1 }
+Cuts-statement ended bytes text block at s rest h k = record { begins = (drop at bytes, first_statement ended bytes text block at h, k.begins); over = k.over }
 
 -- spans of the same bytes are the same
 

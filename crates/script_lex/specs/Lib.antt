@@ -1,2 +1,5 @@
 pub mod Bytes
+pub mod ScriptParts
 pub mod Scripts
+pub mod TokenParts
+pub mod Tokens

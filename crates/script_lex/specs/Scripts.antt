@@ -1,5 +1,5 @@
 -- How a script is cut into statements.
-use Rattle.std.specs.Prelude.{◌≡◌, ◌⊎◌, ◌+◌, ◌<◌, ◌≤◌, ◌==◌, ℕ, Bool, true, false, not, ◌&&◌, ◌||◌, List, [], ◌∷◌, ◌++◌, if◌then◌else◌, length, take, drop, slice_index, slice_range, codes, Option, Some, None, IfSome}
+use Rattle.std.specs.Prelude.{◌≡◌, ◌⊎◌, ◌+◌, ◌<◌, ◌≤◌, ◌==◌, ℕ, Bool, true, false, not, ◌&&◌, ◌||◌, List, [], ◌∷◌, ◌++◌, if◌then◌else◌, length, take, drop, slice_range, codes, Option, Some, None, IfSome}
 use Rattle.std.specs.Option.{option_map}
 use Rattle.std.specs.List.{AllByRecursion}
 use Rattle.script_lex.specs.declared.kinds.Span.{Span}
@@ -7,10 +7,6 @@ use Rattle.script_lex.specs.declared.cutting.Cut.{Cut}
 use Rattle.script_lex.specs.declared.cutting.Cut.TheVariants as cuts
 use Rattle.script_lex.specs.declared.modes.Mode.{Mode}
 use Rattle.script_lex.specs.declared.modes.Mode.TheVariants.{Outside, Dash, Text, Comment}
-use Rattle.script_lex.specs.declared.modes.Region.{Region}
-use Rattle.script_lex.specs.declared.modes.Region.TheVariants as regions
-use Rattle.script_lex.specs.declared.modes.Stop.{Stop}
-use Rattle.script_lex.specs.declared.blocks.BlockEnd.{BlockEnd}
 use Rattle.script_lex.specs.Bytes.{is_blank, is_line_blank, is_word_byte, is_not_line_feed, AllPass}
 
 -- Where the byte after this one stands. A `'` outside begins a text and the next one ends it; two dashes outside begin a comment, which ends before a line feed.
@@ -59,13 +55,14 @@ BeginsOutright [] = Unit {0}
 BeginsOutright (a ∷ []) = is_blank a ≡ false
 BeginsOutright (a ∷ b ∷ _) = (is_blank a ≡ false) × (a ≡ 45 → b ≡ 45 → ⊥)
 
--- the text of a statement
+-- the text of a statement: no `;` stands outside its texts and comments, all of which end in it
 pub record IsText (text : List ℕ) : Type 0 where
   pub outright : BeginsOutright text
   pub ends : Mode
   pub leads : Leads is_text_byte Outside text ends
   pub closed : is_outside ends ≡ true
 
+-- no letter, digit or `_` stands first
 abbrev pub BeginsWithNoWordByte : List ℕ → Type 0
 BeginsWithNoWordByte [] = Unit {0}
 BeginsWithNoWordByte (b ∷ _) = is_word_byte b ≡ false
@@ -91,6 +88,7 @@ pub record Skips (bytes skipped body : List ℕ) : Type 0 where
 abbrev pub IsEndingLine : List ℕ → Type 0
 IsEndingLine line = (line ≡ 92 ∷ 46 ∷ []) ⊎ (line ≡ 92 ∷ 46 ∷ 13 ∷ [])
 
+-- a line of a block
 pub record IsBlockLine (line : List ℕ) : Type 0 where
   pub one : AllPass is_not_line_feed line
   pub inner : IsEndingLine line → ⊥
@@ -130,7 +128,7 @@ pub record First (ended : Bool) (bytes gap text : List ℕ) (block : Option (Lis
 abbrev pub Statement : Type 0
 Statement = List ℕ × Option (List ℕ)
 
--- the statement at these spans
+-- the statement between these places
 abbrev pub statement_at : List ℕ → Span → Option Span → Statement
 statement_at bytes text block = (slice_range bytes text.from text.to, option_map (λ b. slice_range bytes b.from b.to) block)
 
@@ -163,7 +161,7 @@ AtMostOneCut = (ended : Bool) (input : List ℕ) (s t : List Statement) (r q : L
 abbrev pub CutsGoOn : Type 0
 CutsGoOn = (ended : Bool) (input more : List ℕ) (s t : List Statement) (r q : List ℕ) → Cuts false input s r → Cuts ended (input ++ more) t q → (later : List Statement) × (t ≡ s ++ later)
 
--- the bytes of a statement's spans, in their order
+-- the spans of a statement stand in their order, within so many bytes
 pub record InOrder (size : ℕ) (text : Span) (block : Option Span) (rest : ℕ) : Type 0 where
   pub begins : text.from ≤ text.to
   pub ends : text.to < rest
@@ -174,52 +172,9 @@ pub record InOrder (size : ℕ) (text : Span) (block : Option Span) (rest : ℕ)
 abbrev pub block_at : List ℕ → ℕ → Option Span → Option (List ℕ × List ℕ)
 block_at bytes to block = option_map (λ b. (slice_range bytes (to + 1) b.from, slice_range bytes b.from b.to)) block
 
--- what stands first in some bytes
+-- What stands first in some bytes: a statement between its places, blanks and comments alone, or more than these and no complete statement.
 abbrev pub IsCut : Bool → List ℕ → Cut → Type 0
 IsCut ended bytes (cuts.Statement text block rest) = InOrder (length bytes) text block rest
     × First ended bytes (take text.from bytes) (slice_range bytes text.from text.to) (block_at bytes text.to block) (drop rest bytes)
 IsCut ended bytes cuts.Blank = IsSpace bytes
 IsCut ended bytes cuts.Part = (IsSpace bytes → ⊥) × HasNoStatement ended bytes
-
--- for the parts of the cut
-
-abbrev pub passes_in : Region → Mode → ℕ → Bool
-passes_in regions.Gap mode b = is_gap_byte mode b
-passes_in regions.Statement mode b = is_text_byte mode b
-
--- the bytes before the place belong to the region, and the one there doesn't
-pub record Stands (region : Region) (bytes : List ℕ) (stop : Stop) : Type 0 where
-  pub within : stop.at ≤ length bytes
-  pub leads : Leads (passes_in region) Outside (take stop.at bytes) stop.mode
-  pub here : stop.at < length bytes → passes_in region stop.mode (slice_index bytes stop.at) ≡ false
-
--- a gap goes to the place, and something else begins there
-pub record BeginsAt (bytes : List ℕ) (at : ℕ) : Type 0 where
-  pub within : at < length bytes
-  pub gap : IsGap (take at bytes)
-  pub outright : BeginsOutright (drop at bytes)
-
--- the first `;` outside texts and comments stands at the place
-pub record EndsAt (bytes : List ℕ) (at : ℕ) : Type 0 where
-  pub within : at < length bytes
-  pub ends : Mode
-  pub leads : Leads is_text_byte Outside (take at bytes) ends
-  pub closed : is_outside ends ≡ true
-  pub here : slice_index bytes at ≡ 59
-
--- no `;` stands outside texts and comments
-pub record HasNoEnd (bytes : List ℕ) : Type 0 where
-  pub ends : Mode
-  pub leads : Leads is_text_byte Outside bytes ends
-
-pub record SkipsAt (bytes : List ℕ) (at : ℕ) : Type 0 where
-  pub within : at ≤ length bytes
-  pub skips : Skips bytes (take at bytes) (drop at bytes)
-
-pub record BlockEndsAt (ended : Bool) (bytes : List ℕ) (end : BlockEnd) : Type 0 where
-  pub order : end.at ≤ end.rest
-  pub within : end.rest ≤ length bytes
-  pub block : IsBlock ended bytes (take end.at bytes) (drop end.rest bytes)
-
-pub record HasNoBlock (ended : Bool) (bytes : List ℕ) : Type 0 where
-  pub none : (block rest : List ℕ) → IsBlock ended bytes block rest → ⊥

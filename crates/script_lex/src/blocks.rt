@@ -1,5 +1,6 @@
 ghost use Rattle.std.specs.Prelude.{◌≡◌, IsTrue, ◌↔◌, MatchOption};
-ghost use Rattle.script_lex.specs.Scripts.{IsCopy, IsEndingLine, SkipsAt, BlockEndsAt, HasNoBlock};
+ghost use Rattle.script_lex.specs.ScriptParts.{SkipsAt, BlockEndsAt, HasNoBlock};
+ghost use Rattle.script_lex.specs.Scripts.{IsCopy, IsEndingLine};
 
 use crate::bytes::{Class, is_in, run_length};
 

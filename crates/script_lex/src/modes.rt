@@ -1,5 +1,6 @@
 ghost use Rattle.std.specs.Prelude.{◌≡◌};
-ghost use Rattle.script_lex.specs.Scripts.{after, passes_in, Stands};
+ghost use Rattle.script_lex.specs.ScriptParts.{passes_in, Stands};
+ghost use Rattle.script_lex.specs.Scripts.{after};
 
 use crate::bytes::{Class, is_in};
 

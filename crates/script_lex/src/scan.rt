@@ -1,6 +1,7 @@
 ghost use Rattle.std.specs.Prelude.{◌≡◌, MatchOption};
 ghost use Rattle.script_lex.specs.declared.cutting.Cut.{Cut};
-ghost use Rattle.script_lex.specs.Scripts.{IsSpace, IsCut, BeginsAt, EndsAt, HasNoEnd};
+ghost use Rattle.script_lex.specs.ScriptParts.{BeginsAt, EndsAt, HasNoEnd};
+ghost use Rattle.script_lex.specs.Scripts.{IsSpace, IsCut};
 
 use crate::blocks::{block_end, is_copy, skipped_length};
 use crate::modes::{Mode, Region, region_end};
@@ -35,7 +36,11 @@ fn text_end(bytes: &[u8]) -> Option<usize>
     }
 }
 
-/// What stands first in the bytes of a script, which ends with them or may go on.
+/// What stands first in the bytes of a script; `at_end` says that it ends with them.
+///
+/// Blanks and comments are skipped. A statement's text goes up to the first `;` outside texts and comments.
+/// Where it begins with the word `copy`, a block follows: the lines up to one that is `\.`, apart from the rest of the line of the `;` where that is blank.
+/// Spans and the rest are places in `bytes`.
 pub fn cut(bytes: &[u8], at_end: bool) -> Cut
     // The answer is the first statement with its places, or says why there is none.
     ensures first { IsCut at_end bytes.now result }

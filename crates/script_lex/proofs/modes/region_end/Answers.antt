@@ -1,6 +1,6 @@
 use Rattle.std.proofs.Common.{sym, ◌∙◌}
 use Rattle.script_lex.specs.declared.modes.Mode.TheVariants.{Outside}
-use Rattle.script_lex.specs.Scripts.{passes_in}
+use Rattle.script_lex.specs.ScriptParts.{passes_in}
 use Rattle.script_lex.proofs.Leading.{Leads-more}
 use Rattle.script_lex.proofs.modes.region_end.Goals as goal
 

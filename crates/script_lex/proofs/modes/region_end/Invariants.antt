@@ -1,6 +1,7 @@
 use Rattle.std.proofs.Common.{take}
 use Rattle.script_lex.specs.declared.modes.Mode.TheVariants.{Outside}
-use Rattle.script_lex.specs.Scripts.{Leads, passes_in}
+use Rattle.script_lex.specs.ScriptParts.{passes_in}
+use Rattle.script_lex.specs.Scripts.{Leads}
 use Rattle.script_lex.proofs.modes.region_end.Given as goal
 
 abbrev pub invariant-loop-at : goal.invariant-loop-at
