@@ -1,0 +1,10 @@
+pub mod Runs
+pub mod Leading
+pub mod BlockLines
+pub mod Statements
+pub mod FirstCuts
+pub mod FirstBytes
+pub mod Quotes
+pub mod Longest
+pub mod Spelling
+pub mod Placed

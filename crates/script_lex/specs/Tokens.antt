@@ -1,0 +1,173 @@
+-- How tokens spell a text.
+use Rattle.std.specs.Prelude.{◌≡◌, ◌⊎◌, ◌+◌, ◌-◌, ◌<◌, ◌≤◌, ◌==◌, ℕ, Bool, true, not, ◌||◌, List, [], ◌∷◌, ◌++◌, if◌then◌else◌, length, take, drop, slice_range, Option, Some, None, IsUtf8}
+use Rattle.std.specs.List.{AllByRecursion}
+use Rattle.std.specs.Str.{IsValidUpTo}
+use Rattle.cqa_value.specs.declared.memory.Fail.{Fail}
+use Rattle.cqa_value.specs.declared.memory.Fail.TheVariants.{NoMemory, Refused}
+use Rattle.script_lex.specs.declared.lexer.TheConstants.{LONGEST_TEXT}
+use Rattle.script_lex.specs.declared.kinds.Span.{Span}
+use Rattle.script_lex.specs.declared.kinds.Symbol.{Symbol}
+use Rattle.script_lex.specs.declared.kinds.Symbol.TheVariants.{Open, Close, Comma, Dot, Eq, Ne, Lt, Le, Gt, Ge}
+use Rattle.script_lex.specs.declared.kinds.TokenKind.{TokenKind}
+use Rattle.script_lex.specs.declared.kinds.TokenKind.TheVariants.{Word, Int, Text, Sym}
+use Rattle.script_lex.specs.declared.kinds.Token.{Token}
+use Rattle.script_lex.specs.declared.kinds.LexFault.{LexFault}
+use Rattle.script_lex.specs.declared.kinds.LexFault.TheVariants.{TooLong, BadByte}
+use Rattle.script_lex.specs.declared.pieces.PieceKind.{PieceKind}
+use Rattle.script_lex.specs.declared.pieces.PieceKind.TheVariants.{Blank, Comment, Token as OfToken}
+use Rattle.script_lex.specs.declared.pieces.Piece.{Piece}
+use Rattle.script_lex.specs.Bytes.{is_blank, is_letter, is_digit, is_word_byte, is_not_line_feed, AllPass}
+
+abbrev pub symbol_bytes : Symbol → List ℕ
+symbol_bytes Open = 40 ∷ []
+symbol_bytes Close = 41 ∷ []
+symbol_bytes Comma = 44 ∷ []
+symbol_bytes Dot = 46 ∷ []
+symbol_bytes Eq = 61 ∷ []
+symbol_bytes Ne = 60 ∷ 62 ∷ []
+symbol_bytes Lt = 60 ∷ []
+symbol_bytes Le = 60 ∷ 61 ∷ []
+symbol_bytes Gt = 62 ∷ []
+symbol_bytes Ge = 62 ∷ 61 ∷ []
+
+-- one or more digits
+abbrev pub IsNumber : List ℕ → Type 0
+IsNumber [] = ⊥
+IsNumber (b ∷ bs) = AllPass is_digit (b ∷ bs)
+
+-- with each quote doubled
+abbrev pub doubled : List ℕ → List ℕ
+doubled [] = []
+doubled (b ∷ bs) = if b == 39 then 39 ∷ 39 ∷ doubled bs else b ∷ doubled bs
+
+-- what follows the first quote of a text: its value with each quote doubled, and a quote
+abbrev pub IsQuoted : List ℕ → Type 0
+IsQuoted bytes = (value : List ℕ) × (bytes ≡ doubled value ++ 39 ∷ [])
+
+-- how each kind of token is spelled
+abbrev pub IsToken : TokenKind → List ℕ → Type 0
+IsToken Word [] = ⊥
+IsToken Word (b ∷ bs) = (is_letter b ≡ true) × AllPass is_word_byte bs
+IsToken Int [] = ⊥
+IsToken Int (b ∷ bs) = ((b ≡ 45) × IsNumber bs) ⊎ IsNumber (b ∷ bs)
+IsToken Text [] = ⊥
+IsToken Text (b ∷ bs) = (b ≡ 39) × IsQuoted bs
+IsToken (Sym s) bytes = bytes ≡ symbol_bytes s
+
+-- a token, a blank, or two dashes and bytes that end no line
+abbrev pub IsPiece : PieceKind → List ℕ → Type 0
+IsPiece Blank [] = ⊥
+IsPiece Blank (b ∷ bs) = (is_blank b ≡ true) × (bs ≡ [])
+IsPiece Comment [] = ⊥
+IsPiece Comment (a ∷ []) = ⊥
+IsPiece Comment (a ∷ b ∷ bs) = (a ≡ 45) × (b ≡ 45) × AllPass is_not_line_feed bs
+IsPiece (OfToken kind) bytes = IsToken kind bytes
+
+-- Of the fronts of these bytes that are some piece, the longest is this one, of n bytes.
+pub record IsLongest (kind : PieceKind) (n : ℕ) (bytes : List ℕ) : Type 0 where
+  pub within : n ≤ length bytes
+  pub piece : IsPiece kind (take n bytes)
+  pub longest : (m : ℕ) (other : PieceKind) → n < m → m ≤ length bytes → IsPiece other (take m bytes) → ⊥
+
+-- no front of these bytes is a piece
+abbrev pub NoPiece : List ℕ → Type 0
+NoPiece bytes = (m : ℕ) (other : PieceKind) → IsPiece other (take m bytes) → ⊥
+
+-- From one offset to another the text is these pieces, each as long as it can be.
+abbrev pub Splits : List ℕ → ℕ → List Piece → ℕ → Type 0
+Splits text at [] end = at ≡ end
+Splits text at (p ∷ ps) end = (p.span.from ≡ at) × (at < p.span.to) × IsLongest p.kind (p.span.to - at) (drop at text) × Splits text p.span.to ps end
+
+-- what stands between the quotes of a text
+abbrev pub inside_of : List ℕ → Piece → List ℕ
+inside_of text p = slice_range text (p.span.from + 1) (p.span.to - 1)
+
+-- where it is a text, it is UTF-8 between its quotes
+pub record IsClean (text : List ℕ) (p : Piece) : Type 0 where
+  pub utf8 : p.kind ≡ OfToken Text → IsUtf8 (inside_of text p)
+
+-- a text that isn't UTF-8: the offset is that of the first byte after the longest front of it that is
+pub record IsUnclean (text : List ℕ) (p : Piece) (at : ℕ) : Type 0 where
+  pub is_text : p.kind ≡ OfToken Text
+  pub not_utf8 : IsUtf8 (inside_of text p) → ⊥
+  pub count : ℕ
+  pub valid : IsValidUpTo (inside_of text p) count
+  pub place : at ≡ (p.span.from + 1) + count
+
+-- the token that a piece is, if it is one
+abbrev pub kept : PieceKind → Span → List Token
+kept Blank span = []
+kept Comment span = []
+kept (OfToken kind) span = record { kind = kind; span = span } ∷ []
+
+abbrev pub tokens_of : List Piece → List Token
+tokens_of [] = []
+tokens_of (p ∷ ps) = kept p.kind p.span ++ tokens_of ps
+
+-- The tokens spell the text: with blanks and comments between them they are all of it, each as long as it can be.
+pub record Spells (text : List ℕ) (tokens : List Token) : Type 0 where
+  pub pieces : List Piece
+  pub splits : Splits text 0 pieces (length text)
+  pub clean : AllByRecursion (IsClean text) pieces
+  pub tokens_are : tokens ≡ tokens_of pieces
+
+-- the token is some bytes of the text
+pub record LiesIn (text : List ℕ) (token : Token) : Type 0 where
+  pub some : token.span.from < token.span.to
+  pub within : token.span.to ≤ length text
+
+-- its bytes are spelled as its kind
+pub record IsSpelled (text : List ℕ) (token : Token) : Type 0 where
+  pub spelled : IsToken token.kind (slice_range text token.span.from token.span.to)
+
+-- from an offset on the tokens rise, and no two meet
+abbrev pub Rise : ℕ → List Token → Type 0
+Rise at [] = Unit {0}
+Rise at (token ∷ tokens) = (at ≤ token.span.from) × Rise token.span.to tokens
+
+-- no piece stands at the offset, or a text that isn't UTF-8
+abbrev pub IsBadAt : List ℕ → ℕ → ℕ → Type 0
+IsBadAt text end at = ((at ≡ end) × (end < length text) × NoPiece (drop end text)) ⊎ ((p : Piece) × Splits text end (p ∷ []) p.span.to × IsUnclean text p at)
+
+-- Up to an offset the text is pieces, and there it goes wrong: the first bad byte.
+pub record IsBadByte (text : List ℕ) (at : ℕ) : Type 0 where
+  pub pieces : List Piece
+  pub end : ℕ
+  pub splits : Splits text 0 pieces end
+  pub clean : AllByRecursion (IsClean text) pieces
+  pub bad : IsBadAt text end at
+
+-- why a text has no tokens
+abbrev pub IsFault : List ℕ → LexFault → Type 0
+IsFault text (TooLong size) = (size ≡ length text) × (LONGEST_TEXT < length text)
+IsFault text (BadByte at) = (length text ≤ LONGEST_TEXT) × IsBadByte text at
+
+abbrev pub Refuses : List ℕ → Fail LexFault → Type 0
+Refuses text NoMemory = Unit {0}
+Refuses text (Refused fault) = IsFault text fault
+
+-- for the parts of the lexer
+
+abbrev pub RefusesByte : List ℕ → Fail LexFault → Type 0
+RefusesByte text NoMemory = Unit {0}
+RefusesByte text (Refused (TooLong size)) = ⊥
+RefusesByte text (Refused (BadByte at)) = IsBadByte text at
+
+-- the piece that stands first, with its length, or none
+abbrev pub Found : List ℕ → Option (PieceKind × ℕ) → Type 0
+Found bytes None = NoPiece bytes
+Found bytes (Some p) = IsLongest p.0 p.1 bytes × (0 < p.1)
+
+-- a byte that is a symbol and begins no other
+abbrev pub is_single : ℕ → Bool
+is_single b = ((b == 40 || b == 41) || (b == 44 || b == 46)) || b == 61
+
+-- whether a text is open behind one more byte, if the byte belongs to it
+abbrev pub step_of : Bool → ℕ → Option Bool
+step_of open_ b = if b == 39 then Some (not open_) else (if open_ then Some true else None)
+
+-- Of the bytes behind a quote the first so many end a text, and no more do; 0 if none do.
+pub record EndsQuoted (bytes : List ℕ) (n : ℕ) : Type 0 where
+  pub within : n ≤ length bytes
+  pub ends : 0 < n → IsQuoted (take n bytes)
+  pub longest : (m : ℕ) → n < m → m ≤ length bytes → IsQuoted (take m bytes) → ⊥

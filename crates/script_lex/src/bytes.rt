@@ -1,0 +1,45 @@
+ghost use Rattle.std.specs.Prelude.{◌≡◌};
+ghost use Rattle.script_lex.specs.Bytes.{test_of, Runs};
+
+/// A set of bytes.
+#[derive(Clone, Copy)]
+pub enum Class {
+    Blank,
+    LineBlank,
+    Letter,
+    Digit,
+    WordByte,
+    NotLineFeed,
+}
+
+pub fn is_in(class: Class, byte: u8) -> bool
+    ensures { result ≡ test_of class byte }
+{
+    match class {
+        Class::Blank => byte == b' ' || byte == b'\t' || byte == b'\n' || byte == b'\r',
+        Class::LineBlank => byte == b' ' || byte == b'\t' || byte == b'\r',
+        Class::Letter => b'A' <= byte && byte <= b'Z'
+            || b'a' <= byte && byte <= b'z'
+            || byte == b'_',
+        Class::Digit => b'0' <= byte && byte <= b'9',
+        Class::WordByte => {
+            b'A' <= byte && byte <= b'Z'
+                || b'a' <= byte && byte <= b'z'
+                || byte == b'_'
+                || b'0' <= byte && byte <= b'9'
+        }
+        Class::NotLineFeed => byte != b'\n',
+    }
+}
+
+/// How many bytes of a class stand first.
+pub fn run_length(class: Class, bytes: &[u8]) -> usize
+    ensures { Runs class bytes.now result }
+{
+    for (i, byte) in bytes.iter().enumerate() {
+        if !is_in(class, *byte) {
+            return i;
+        }
+    }
+    bytes.len()
+}

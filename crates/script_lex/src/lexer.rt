@@ -1,0 +1,86 @@
+ghost use Rattle.std.specs.Prelude.{◌≡◌, ◌≤◌, ◌<◌, ◌+◌, List, length, IsUtf8, All, IfOk, MatchOption, MatchResult, ◌⊎◌};
+ghost use Rattle.std.specs.Str.{IsValidUpTo};
+ghost use Rattle.cqa_value.specs.declared.memory.Fail.TheVariants.{NoMemory as FailNoMemory, Refused};
+ghost use Rattle.script_lex.specs.declared.kinds.Token.{Token};
+ghost use Rattle.script_lex.specs.declared.kinds.LexFault.{LexFault};
+ghost use Rattle.script_lex.specs.Tokens.{Spells, LiesIn, IsSpelled, Rise, IsFault, Refuses, RefusesByte, IsClean, IsUnclean};
+
+use crate::pieces::{Piece, PieceKind, first_piece};
+use crate::{LexFault, Span, Token, TokenKind};
+use cqa_value::{Fail, Items};
+use std::alloc::Global;
+
+/// The most bytes of a statement's text.
+pub const LONGEST_TEXT: usize = 1_048_576;
+
+/// How many bytes are UTF-8, where not all are.
+fn utf8_fault(bytes: &[u8]) -> Option<usize>
+    ensures { MatchOption result (IsUtf8 bytes.now) (λ n. (IsUtf8 bytes.now → ⊥) × IsValidUpTo bytes.now n) }
+{
+    match std::str::from_utf8(bytes) {
+        Ok(_) => None,
+        Err(e) => Some(e.valid_up_to()),
+    }
+}
+
+/// Where a text isn't UTF-8.
+fn unclean(text: &[u8], piece: Piece) -> Option<usize>
+    requires { piece.kind ≡ PieceKind.Token TokenKind.Text → (piece.span.from + 2 ≤ piece.span.to) × (piece.span.to ≤ length text.now) }
+    ensures { MatchOption result (IsClean text.now piece) (IsUnclean text.now piece) }
+{
+    let PieceKind::Token(TokenKind::Text) = piece.kind else {
+        return None;
+    };
+    let inside = piece.span.from + 1;
+    match utf8_fault(&text[inside..piece.span.to - 1]) {
+        Some(count) => Some(inside + count),
+        None => None,
+    }
+}
+
+fn tokens_of_any(alloc: Global, text: &[u8]) -> Result<Items<Token>, Fail<LexFault>>
+    ensures { MatchResult result (Spells text.now) (RefusesByte text.now) }
+{
+    let mut found = Items::new(alloc);
+    let mut at = 0;
+    'pieces: while at < text.len() {
+        let Some((kind, count)) = first_piece(&text[at..]) else {
+            return Err(Fail::Refused(LexFault::BadByte(at)));
+        };
+        let span = Span {
+            from: at,
+            to: at + count,
+        };
+        if let Some(place) = unclean(text, Piece { kind, span }) {
+            return Err(Fail::Refused(LexFault::BadByte(place)));
+        }
+        if let PieceKind::Token(kind) = kind {
+            found.push(Token { kind, span })?;
+        }
+        at = span.to;
+    }
+    Ok(found)
+}
+
+/// The tokens of a statement's text.
+///
+/// # Errors
+/// The text is longer than `LONGEST_TEXT`, or else its first byte that belongs to no token, blank or comment.
+pub fn tokens(alloc: Global, text: &[u8]) -> Result<Items<Token>, Fail<LexFault>>
+    // The tokens spell a text that isn't too long, and a refusal has its cause.
+    ensures exact { MatchResult result (λ tokens. (length text.now ≤ LONGEST_TEXT) × Spells text.now tokens) (Refuses text.now) }
+    // A text that tokens spell gives these tokens, unless memory runs out.
+    ensures only_tokens { (tokens : List Token) → length text.now ≤ LONGEST_TEXT → Spells text.now tokens → MatchResult result (λ v. v ≡ tokens) (λ e. e ≡ FailNoMemory) }
+    // A fault of the text is the answer, unless memory runs out.
+    ensures only_fault { (fault : LexFault) → IsFault text.now fault → MatchResult result (λ _. ⊥) (λ e. (e ≡ Refused fault) ⊎ (e ≡ FailNoMemory)) }
+
+    // The tokens are bytes of the text, in their order, and each is spelled as its kind.
+    ensures lie_in { IfOk result (All (LiesIn text.now)) }
+    ensures rise { IfOk result (Rise 0) }
+    ensures spelled { IfOk result (All (IsSpelled text.now)) }
+{
+    if text.len() > LONGEST_TEXT {
+        return Err(Fail::Refused(LexFault::TooLong(text.len())));
+    }
+    tokens_of_any(alloc, text)
+}

@@ -1,0 +1,100 @@
+ghost use Rattle.std.specs.Prelude.{◌≡◌};
+ghost use Rattle.script_lex.specs.Scripts.{after, passes_in, Stands};
+
+use crate::bytes::{Class, is_in};
+
+/// Where a byte of a script stands.
+#[derive(Clone, Copy)]
+pub enum Mode {
+    /// Outside texts and comments.
+    Outside,
+    /// There too, behind a dash that may begin a comment.
+    Dash,
+    Text,
+    Comment,
+}
+
+/// A part of a script.
+#[derive(Clone, Copy)]
+pub enum Region {
+    /// Blanks and comments.
+    Gap,
+    /// A statement without its `;`.
+    Statement,
+}
+
+/// A place and its mode.
+#[derive(Clone, Copy)]
+pub struct Stop {
+    pub at: usize,
+    pub mode: Mode,
+}
+
+/// The mode after one more byte.
+fn next_mode(mode: Mode, byte: u8) -> Mode
+    ensures { result ≡ after mode byte }
+{
+    match mode {
+        Mode::Outside => match byte {
+            b'\'' => Mode::Text,
+            b'-' => Mode::Dash,
+            _ => Mode::Outside,
+        },
+        Mode::Dash => match byte {
+            b'\'' => Mode::Text,
+            b'-' => Mode::Comment,
+            _ => Mode::Outside,
+        },
+        Mode::Text => {
+            if byte == b'\'' {
+                Mode::Outside
+            } else {
+                Mode::Text
+            }
+        }
+        Mode::Comment => {
+            if byte == b'\n' {
+                Mode::Outside
+            } else {
+                Mode::Comment
+            }
+        }
+    }
+}
+
+/// Whether a byte belongs to the region.
+fn belongs(region: Region, mode: Mode, byte: u8) -> bool
+    ensures { result ≡ passes_in region mode byte }
+{
+    match region {
+        Region::Gap => match mode {
+            Mode::Outside => is_in(Class::Blank, byte) || byte == b'-',
+            Mode::Dash => byte == b'-',
+            Mode::Text => false,
+            Mode::Comment => true,
+        },
+        Region::Statement => match mode {
+            Mode::Outside => byte != b';',
+            Mode::Dash => byte != b';',
+            Mode::Text => true,
+            Mode::Comment => true,
+        },
+    }
+}
+
+/// The first byte that doesn't belong to a region which begins outside texts and comments, or the end.
+pub fn region_end(region: Region, bytes: &[u8]) -> Stop
+    ensures { Stands region bytes.now result }
+{
+    let mut mode = Mode::Outside;
+    for (at, byte) in bytes.iter().enumerate() {
+        if !belongs(region, mode, *byte) {
+            return Stop { at, mode };
+        }
+        mode = next_mode(mode, *byte);
+    }
+    Stop {
+        at: bytes.len(),
+        mode,
+    }
+}
