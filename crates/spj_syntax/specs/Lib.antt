@@ -1,5 +1,9 @@
 pub mod Lexemes
 pub mod Shapes
+pub mod Walk
+pub mod First
 pub mod Grammar
+pub mod Factored
+pub mod Reading
 pub mod Written
 pub mod Parsed

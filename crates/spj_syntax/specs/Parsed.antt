@@ -4,7 +4,6 @@ use Rattle.std.specs.List.{AllByRecursion}
 use Rattle.std.specs.Cmp.Lexicographic.{pointwise}
 use Rattle.cqa_value.specs.Literals.{is_in_range}
 use Rattle.script_lex.specs.declared.kinds.Token.{Token}
-
 use Rattle.spj_syntax.specs.declared.fault.SyntaxFault.{SyntaxFault}
 use Rattle.spj_syntax.specs.declared.fault.SyntaxFault.TheVariants.{At, OutOfRange, TextTooLong, LongName}
 use Rattle.spj_syntax.specs.Lexemes.{Lexeme, Word, Number, Quoted, Mark, lexeme}
@@ -58,16 +57,16 @@ fault_of (Quoted t) at = TextTooLong at
 fault_of (Mark s) at = At at
 
 -- the first token that doesn't fit
-pub record IsFirstUnfit (text : List ℕ) (tokens : List Token) (fault : SyntaxFault) : Type 0 where
+pub record IsFirstUnfit (set : Bool) (text : List ℕ) (tokens : List Token) (fault : SyntaxFault) : Type 0 where
   pub front : List Token
   pub token : Token
   pub rest : List Token
   pub split : tokens ≡ front ++ token ∷ rest
-  pub fit : AllByRecursion (Fits (is_set (lexemes text tokens))) (lexemes text front)
-  pub unfit : ¬ Fits (is_set (lexemes text tokens)) (lexeme text token)
+  pub fit : AllByRecursion (Fits set) (lexemes text front)
+  pub unfit : ¬ Fits set (lexeme text token)
   pub fault_is : fault ≡ fault_of (lexeme text token) token.span.from
 
 -- why the tokens of a text are refused: the first fault of syntax, else the first token that doesn't fit
 abbrev pub Refuses : List ℕ → List Token → SyntaxFault → Type 0
 Refuses text tokens (At at) = IsSyntaxFault text tokens at
-Refuses text tokens fault = IsStatement (lexemes text tokens) × IsFirstUnfit text tokens fault
+Refuses text tokens fault = IsStatement (lexemes text tokens) × IsFirstUnfit (is_set (lexemes text tokens)) text tokens fault

@@ -2,7 +2,14 @@
 #![tactic(auto)]
 
 mod fault;
+mod leaf;
+mod lists;
+mod parser;
+mod parts;
+mod reader;
+mod statements;
 mod tree;
 
 pub use fault::SyntaxFault;
+pub use parser::parse;
 pub use tree::{RawCol, RawCond, RawSchema, RawTest, Select, Statement};

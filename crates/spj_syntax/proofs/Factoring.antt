@@ -1,0 +1,160 @@
+-- The grammar and its factored form generate the same tokens.
+use Rattle.std.proofs.Common.{◌≡◌, inl, inr, List, [], ◌∷◌, ◌++◌, refl, sym, ◌∙◌, ap, append_assoc, codes}
+use Rattle.std.specs.List.{AllByRecursion}
+use Rattle.spj_syntax.specs.Lexemes.{Lexeme}
+use Rattle.script_lex.specs.declared.kinds.Symbol.TheVariants.{Open, Close, Comma, Eq}
+use Rattle.spj_syntax.specs.Shapes.{word, mark, Shape, one, ◌⨾◌, ◌∣◌, many, nothing, Generates, joined, FirstFault, Stuck}
+use Rattle.spj_syntax.specs.Grammar as grammar
+use Rattle.spj_syntax.specs.Factored as factored
+use Rattle.std.proofs.lemmas.List.{append-nil}
+
+record Same (p q : Shape) : Type 0 where
+  to : (ls : List Lexeme) → Generates p ls → Generates q ls
+  from : (ls : List Lexeme) → Generates q ls → Generates p ls
+
+same : (p : Shape) → Same p p
+same p = record { to = λ ls g. g; from = λ ls g. g }
+
+both : {p q r s : Shape} → Same p q → Same r s → Same (p ⨾ r) (q ⨾ s)
+both f h = record {
+  to = λ ls g. (g.0, g.1, f.to g.0 g.2, h.to g.1 g.3, g.4);
+  from = λ ls g. (g.0, g.1, f.from g.0 g.2, h.from g.1 g.3, g.4);
+}
+
+either : {p q r s : Shape} → Same p q → Same r s → Same (p ∣ r) (q ∣ s)
+either f h = record {
+  to = λ ls g. elim g [ inl x ↦ inl (f.to ls x) | inr y ↦ inr (h.to ls y) ];
+  from = λ ls g. elim g [ inl x ↦ inl (f.from ls x) | inr y ↦ inr (h.from ls y) ];
+}
+
+each : (P Q : List Lexeme → Type 0) → ((ls : List Lexeme) → P ls → Q ls) → (parts : List (List Lexeme)) → AllByRecursion P parts → AllByRecursion Q parts
+each P Q f [] h = tt
+each P Q f (part ∷ parts) h = (f part h.0, each P Q f parts h.1)
+
+often : {p q : Shape} → Same p q → Same (many p) (many q)
+often {p = p} {q = q} f = record {
+  to = λ ls g. (g.0, each (Generates p) (Generates q) f.to g.0 g.1, g.2);
+  from = λ ls g. (g.0, each (Generates q) (Generates p) f.from g.0 g.1, g.2);
+}
+
+turned : (a c d more b f rest : List Lexeme) → d ++ (more ++ b) ≡ f ++ rest → a ++ (((c ++ d) ++ more) ++ b) ≡ (a ++ c) ++ (f ++ rest)
+turned a c d more b f rest e = simp append_assoc (ap (λ z. a ++ (c ++ z)) e)
+
+-- p, each q and p, and q; or each p and q
+turn : (p q : Shape) (parts : List (List Lexeme)) (a b : List Lexeme) → Generates p a → AllByRecursion (Generates (q ⨾ p)) parts → Generates q b
+    → (first : List Lexeme) × (others : List (List Lexeme)) × Generates (p ⨾ q) first × AllByRecursion (Generates (p ⨾ q)) others × (a ++ (joined parts ++ b) ≡ first ++ joined others)
+turn p q [] a b g h k = (a ++ b, [], (a, b, g, k, refl), tt, sym (append-nil (a ++ b)))
+turn p q (x ∷ parts) a b g h k =
+    let w = h.0 in
+    let t = turn p q parts w.1 b w.3 h.1 k in (
+      a ++ w.0,
+      t.0 ∷ t.1,
+      (a, w.0, g, w.2, refl),
+      (t.2, t.3),
+      ap (λ z. a ++ ((z ++ joined parts) ++ b)) w.4 ∙ turned a w.0 w.1 (joined parts) b t.0 (joined t.1) t.4,
+    )
+
+returned : (a c d f rest more b : List Lexeme) → (d ++ f) ++ rest ≡ d ++ (more ++ b) → (a ++ c) ++ ((d ++ f) ++ rest) ≡ a ++ (((c ++ d) ++ more) ++ b)
+returned a c d f rest more b e = ap (λ z. (a ++ c) ++ z) e ∙ simp append_assoc refl
+
+turn_back : (p q : Shape) (parts : List (List Lexeme)) (a c : List Lexeme) → Generates q c → AllByRecursion (Generates (p ⨾ q)) parts
+    → (others : List (List Lexeme)) × (b : List Lexeme) × AllByRecursion (Generates (q ⨾ p)) others × Generates q b × ((a ++ c) ++ joined parts ≡ a ++ (joined others ++ b))
+turn_back p q [] a c g h = ([], c, tt, g, append-nil (a ++ c))
+turn_back p q (y ∷ parts) a c g h =
+    let w = h.0 in
+    let t = turn_back p q parts w.0 w.1 w.3 h.1 in (
+      (c ++ w.0) ∷ t.0,
+      t.1,
+      ((c, w.0, g, w.2, refl), t.2),
+      t.3,
+      ap (λ z. (a ++ c) ++ (z ++ joined parts)) w.4 ∙ returned a c w.0 w.1 (joined parts) (joined t.0) t.1 t.4,
+    )
+
+trailing : (p q r : Shape) → Same (p ⨾ many (q ⨾ p) ⨾ q ⨾ r) (((p ⨾ q) ⨾ many (p ⨾ q)) ⨾ r)
+trailing p q r = record {
+  to = λ ls g.
+      let m = g.3 in
+      let n = m.3 in
+      let t = turn p q m.2.0 g.0 n.0 g.2 m.2.1 n.2 in (
+        t.0 ++ joined t.1,
+        n.1,
+        (t.0, joined t.1, t.2, (t.1, t.3, refl), refl),
+        n.3,
+        g.4 ∙ ap (λ z. g.0 ++ z) (m.4 ∙ ap (λ z. m.0 ++ z) n.4 ∙ ap (λ z. z ++ (n.0 ++ n.1)) m.2.2 ∙ sym (append_assoc (joined m.2.0) n.0 n.1)) ∙ sym (append_assoc g.0 (joined m.2.0 ++ n.0) n.1) ∙ ap (λ z. z ++ n.1) t.4,
+      );
+  from = λ ls g.
+      let m = g.2 in
+      let n = m.2 in
+      let t = turn_back p q m.3.0 n.0 n.1 n.3 m.3.1 in (
+        n.0,
+        joined t.0 ++ (t.1 ++ g.1),
+        n.2,
+        (joined t.0, t.1 ++ g.1, (t.0, t.2, refl), (t.1, g.1, t.3, g.3, refl), refl),
+        g.4 ∙ ap (λ z. z ++ g.1) (m.4 ∙ ap (λ z. z ++ m.1) n.4 ∙ ap (λ z. (n.0 ++ n.1) ++ z) m.3.2 ∙ t.4) ∙ append_assoc n.0 (joined t.0 ++ t.1) g.1 ∙ ap (λ z. n.0 ++ z) (append_assoc (joined t.0) t.1 g.1),
+      );
+}
+
+-- a beginning drawn out of two
+drawn : (p q r : Shape) → Same (p ⨾ q ∣ p ⨾ r) (p ⨾ (q ∣ r))
+drawn p q r = record {
+  to = λ ls g. elim g [ inl x ↦ (x.0, x.1, x.2, inl x.3, x.4) | inr x ↦ (x.0, x.1, x.2, inr x.3, x.4) ];
+  from = λ ls g. let y = g.3 in elim y [ inl x ↦ inl (g.0, g.1, g.2, x, g.4) | inr x ↦ inr (g.0, g.1, g.2, x, g.4) ];
+}
+
+then : {p q r : Shape} → Same p q → Same q r → Same p r
+then f h = record { to = λ ls g. h.to ls (f.to ls g); from = λ ls g. f.from ls (h.from ls g) }
+
+-- e and p, or e or o and q
+split : (e o p q : Shape) → Same (e ⨾ p ∣ (e ∣ o) ⨾ q) (e ⨾ (p ∣ q) ∣ o ⨾ q)
+split e o p q = record {
+  to = λ ls g. elim g [
+    | inl x ↦ inl (x.0, x.1, x.2, inl x.3, x.4)
+    | inr x ↦ let y = x.2 in elim y [ inl z ↦ inl (x.0, x.1, z, inr x.3, x.4) | inr z ↦ inr (x.0, x.1, z, x.3, x.4) ]
+  ];
+  from = λ ls g. elim g [
+    | inl x ↦ let y = x.3 in elim y [ inl z ↦ inl (x.0, x.1, x.2, z, x.4) | inr z ↦ inr (x.0, x.1, inl x.2, z, x.4) ]
+    | inr x ↦ inr (x.0, x.1, inr x.2, x.3, x.4)
+  ];
+}
+
+same_cond : Same grammar.cond factored.cond
+same_cond = then (drawn grammar.col (one (mark Eq) ⨾ grammar.col) (grammar.op ⨾ grammar.literal)) (both (same grammar.col) (split (one (mark Eq)) grammar.op_but_equal grammar.col grammar.literal))
+
+same_query : Same grammar.query factored.query
+same_query =
+    let a = often (both (same (one (word (codes "and")))) same_cond) in
+    both (same grammar.head) (both (same (one (word (codes "from")))) (both (same (grammar.listed grammar.a_name)) (either (both (same (one (word (codes "where")))) (both same_cond a)) (same nothing))))
+
+same_create : Same grammar.create factored.create
+same_create =
+    both (same (one (word (codes "create")))) (both (same (one (word (codes "table")))) (both (same grammar.a_name) (both (same (one (mark Open)))
+    (trailing grammar.column (one (mark Comma)) (grammar.key ⨾ one (mark Close))))))
+
+same_explain : Same grammar.explain factored.explain
+same_explain =
+    both (same (one (word (codes "explain")))) (both (same (one (word (codes "row")))) (both (same (one (mark Open))) (both (same (grammar.optional (grammar.listed grammar.literal)))
+    (both (same (one (mark Close))) (both (same (one (word (codes "for")))) same_query)))))
+
+same_asking : Same (grammar.asking ⨾ grammar.query) factored.asking_query
+same_asking = both (same grammar.asking) same_query
+
+same_show : Same grammar.show factored.show
+same_show = drawn (one (word (codes "show"))) (one (word (codes "tables"))) (one (word (codes "log")))
+
+pub to_factored : (ls : List Lexeme) → Generates grammar.statement ls → Generates factored.statement ls
+to_factored ls g = elim g [ inl x ↦ inr (inl (same_create.to ls x)) | inr g1 ↦ elim g1 [ inl x ↦ inr (inr (inl x)) | inr g2 ↦ elim g2 [ inl x ↦ inr (inr (inr (inl x))) | inr g3 ↦ elim g3 [ inl x ↦ inr (inr (inr (inr (inl (same_explain.to ls x))))) | inr g4 ↦ elim g4 [ inl x ↦ inr (inr (inr (inr (inr (inl x))))) | inr g5 ↦ elim g5 [ inl x ↦ inl x | inr g6 ↦ elim g6 [ inl x ↦ inr (inr (inr (inr (inr (inr (inr (inr ((same_asking.to ls x))))))))) | inr g7 ↦ elim g7 [ inl x ↦ inr (inr (inr (inr (inr (inr (inl x)))))) | inr g8 ↦ inr (inr (inr (inr (inr (inr (inr (inl (same_show.to ls g8)))))))) ] ] ] ] ] ] ] ]
+
+pub from_factored : (ls : List Lexeme) → Generates factored.statement ls → Generates grammar.statement ls
+from_factored ls g = elim g [ inl x ↦ inr (inr (inr (inr (inr (inl x))))) | inr g1 ↦ elim g1 [ inl x ↦ inl (same_create.from ls x) | inr g2 ↦ elim g2 [ inl x ↦ inr (inl x) | inr g3 ↦ elim g3 [ inl x ↦ inr (inr (inl x)) | inr g4 ↦ elim g4 [ inl x ↦ inr (inr (inr (inl (same_explain.from ls x)))) | inr g5 ↦ elim g5 [ inl x ↦ inr (inr (inr (inr (inl x)))) | inr g6 ↦ elim g6 [ inl x ↦ inr (inr (inr (inr (inr (inr (inr (inl x))))))) | inr g7 ↦ elim g7 [ inl x ↦ inr (inr (inr (inr (inr (inr (inr (inr ((same_show.from ls x))))))))) | inr g8 ↦ inr (inr (inr (inr (inr (inr (inl (same_asking.from ls g8))))))) ] ] ] ] ] ] ] ]
+
+pub same_fault : (ls rest : List Lexeme) → FirstFault factored.statement ls rest → FirstFault grammar.statement ls rest
+same_fault ls rest f = record {
+  front = f.front;
+  split = f.split;
+  begins = (f.begins.0, from_factored (f.front ++ f.begins.0) f.begins.1);
+  stuck = go f.front rest f.stuck;
+}
+  where
+    go : (front rest : List Lexeme) → Stuck factored.statement front rest → Stuck grammar.statement front rest
+    go front [] n = λ g. n (to_factored front g)
+    go front (t ∷ rest) n = λ b. n (b.0, to_factored ((front ++ t ∷ []) ++ b.0) b.1)

@@ -1,0 +1,9 @@
+pub mod Walking
+pub mod Exact
+pub mod Table
+pub mod Steps
+pub mod Factoring
+pub mod Values
+pub mod Trees
+pub mod Spelled
+pub mod Whole

@@ -1,0 +1,324 @@
+-- Tokens are written by one tree at most.
+use Rattle.std.proofs.Common.{◌≡◌, ◌⊎◌, inl, inr, ℕ, List, [], ◌∷◌, ◌++◌, Option, Some, None, refl, sym, ◌∙◌, ap, append_assoc, codes, length, ◌<◌, get_or, arith}
+use Rattle.std.proofs.Common.{◌+◌, ◌*◌}
+use Rattle.script_lex.specs.declared.kinds.Symbol.{Symbol}
+use Rattle.script_lex.specs.declared.kinds.Symbol.TheVariants as s
+use Rattle.cqa_value.specs.declared.value.Kind.{Kind}
+use Rattle.cqa_value.specs.declared.value.Kind.TheVariants as kinds
+use Rattle.cqa_model.specs.declared.schema.Column.{Column}
+use Rattle.cqa_model.specs.declared.query.Op.{Op}
+use Rattle.cqa_model.specs.declared.query.Op.TheVariants as ops
+use Rattle.cqa_value.specs.declared.value.Value.{Value}
+use Rattle.cqa_value.specs.declared.value.Value.TheVariants.{Int, Text}
+use Rattle.spj_syntax.specs.declared.tree.RawSchema.{RawSchema}
+use Rattle.spj_syntax.specs.declared.tree.RawTest.{RawTest}
+use Rattle.spj_syntax.specs.declared.tree.RawCol.{RawCol}
+use Rattle.spj_syntax.specs.declared.tree.RawCond.{RawCond}
+use Rattle.spj_syntax.specs.declared.tree.RawCond.TheVariants.{Join, Test}
+use Rattle.spj_syntax.specs.Lexemes.{Lexeme, Word, Number, Quoted, Mark}
+use Rattle.spj_syntax.specs.Written.{name_tokens, literal_tokens, kind_word, column_tokens, listed_tokens, row_tokens, schema_tokens, op_symbol, test_tokens, col_tokens_of, col_tokens, cond_tokens, each_after, between, filtered_tokens, head_tokens, select_tokens, statement_tokens, IsProper}
+use Rattle.spj_syntax.specs.declared.tree.Select.{Select}
+use Rattle.spj_syntax.specs.declared.tree.Statement.{Statement}
+use Rattle.spj_syntax.specs.declared.tree.Statement.TheVariants as statements
+
+-- the tokens don't go on with one of these
+abbrev Fine : (Lexeme → Type 0) → List Lexeme → Type 0
+Fine S [] = Unit {0}
+Fine S (t ∷ ts) = S t → ⊥
+
+abbrev Never : Lexeme → Type 0
+Never t = ⊥
+
+name_decodes : (a b : List ℕ) (r z : List Lexeme) → name_tokens a ++ r ≡ name_tokens b ++ z → (a ≡ b) × (r ≡ z)
+name_decodes a b r z e = ((cc), (cc))
+
+literal_decodes : (a b : Value) (r z : List Lexeme) → literal_tokens a ++ r ≡ literal_tokens b ++ z → (a ≡ b) × (r ≡ z)
+literal_decodes (Int m) (Int n) r z e = let h : m ≡ n = cc in (ap Int h, (cc))
+literal_decodes (Int m) (Text t) r z e = absurd (cc)
+literal_decodes (Text t) (Int m) r z e = absurd (cc)
+literal_decodes (Text t) (Text u) r z e = let h : t ≡ u = cc in (ap Text h, (cc))
+
+op_same : (a b : Op) → op_symbol a ≡ op_symbol b → a ≡ b
+op_same ops.Eq ops.Eq e = refl
+op_same ops.Ne ops.Ne e = refl
+op_same ops.Lt ops.Lt e = refl
+op_same ops.Le ops.Le e = refl
+op_same ops.Gt ops.Gt e = refl
+op_same ops.Ge ops.Ge e = refl
+op_same _ _ e = (cc)
+
+test_decodes : (a b : RawTest) (r z : List Lexeme) → test_tokens a ++ r ≡ test_tokens b ++ z → (a ≡ b) × (r ≡ z)
+test_decodes a b r z e =
+    let n : a.col ≡ b.col = cc in
+    let o : op_symbol a.op ≡ op_symbol b.op = cc in
+    let t : literal_tokens a.value ++ r ≡ literal_tokens b.value ++ z = cc in
+    let l = literal_decodes a.value b.value r z t in
+    let p = op_same a.op b.op o in
+    let v = l.0 in
+    (λ i. record { col = n i; op = p i; value = v i }, l.1)
+
+abbrev IsDot : Lexeme → Type 0
+IsDot t = t ≡ Mark s.Dot
+
+col_decodes : (t u : Option (List ℕ)) (n m : List ℕ) (r z : List Lexeme) → Fine IsDot r → Fine IsDot z → col_tokens_of t n ++ r ≡ col_tokens_of u m ++ z → (t ≡ u) × (n ≡ m) × (r ≡ z)
+col_decodes None None n m r z f g e = (refl, (cc), (cc))
+col_decodes None (Some u) n m [] z f g e = absurd (cc)
+col_decodes None (Some u) n m (t ∷ r) z f g e = absurd (f (let h : t ≡ Mark s.Dot = cc in h))
+col_decodes (Some t) None n m r [] f g e = absurd (cc)
+col_decodes (Some t) None n m r (u ∷ z) f g e = absurd (g (let h : u ≡ Mark s.Dot = cc in h))
+col_decodes (Some t) (Some u) n m r z f g e = let h : t ≡ u = cc in (ap Some h, (cc), (cc))
+
+cols_decode : (a b : RawCol) (r z : List Lexeme) → Fine IsDot r → Fine IsDot z → col_tokens a ++ r ≡ col_tokens b ++ z → (a ≡ b) × (r ≡ z)
+cols_decode a b r z f g e = let d = col_decodes a.table b.table a.name b.name r z f g e in let x = d.0 in let y = d.1 in (λ i. record { table = x i; name = y i }, d.2)
+
+not_dot : (y : Symbol) → (y ≡ s.Dot → ⊥) → (Mark y ≡ Mark s.Dot) → ⊥
+not_dot y n e = n (cc)
+
+op_not_dot : (o : Op) → op_symbol o ≡ s.Dot → ⊥
+op_not_dot ops.Eq e = (cc)
+op_not_dot ops.Ne e = (cc)
+op_not_dot ops.Lt e = (cc)
+op_not_dot ops.Le e = (cc)
+op_not_dot ops.Gt e = (cc)
+op_not_dot ops.Ge e = (cc)
+
+col_no_literal : (c : Option (List ℕ)) (n : List ℕ) (v : Value) (r z : List Lexeme) → col_tokens_of c n ++ r ≡ literal_tokens v ++ z → ⊥
+col_no_literal None n (Int x) r z e = absurd (cc)
+col_no_literal None n (Text x) r z e = absurd (cc)
+col_no_literal (Some t) n (Int x) r z e = absurd (cc)
+col_no_literal (Some t) n (Text x) r z e = absurd (cc)
+
+cond_decodes : (a b : RawCond) (r z : List Lexeme) → Fine IsDot r → Fine IsDot z → cond_tokens a ++ r ≡ cond_tokens b ++ z → (a ≡ b) × (r ≡ z)
+cond_decodes (Join a c) (Join b d) r z f g e =
+    let k = sym (append_assoc (col_tokens a) (Mark s.Eq ∷ col_tokens c) r) ∙ e ∙ append_assoc (col_tokens b) (Mark s.Eq ∷ col_tokens d) z in
+    let h = cols_decode a b (Mark s.Eq ∷ (col_tokens c ++ r)) (Mark s.Eq ∷ (col_tokens d ++ z)) (λ x. not_dot s.Eq (λ y. (cc)) x) (λ x. not_dot s.Eq (λ y. (cc)) x) k in
+    let t : col_tokens c ++ r ≡ col_tokens d ++ z = cc (h.1) in
+    let l = cols_decode c d r z f g t in
+    let x = h.0 in
+    let y = l.0 in
+    (λ i. Join (x i) (y i), l.1)
+cond_decodes (Join a c) (Test b o v) r z f g e =
+    let k = sym (append_assoc (col_tokens a) (Mark s.Eq ∷ col_tokens c) r) ∙ e ∙ append_assoc (col_tokens b) (Mark (op_symbol o) ∷ literal_tokens v) z in
+    let h = cols_decode a b (Mark s.Eq ∷ (col_tokens c ++ r)) (Mark (op_symbol o) ∷ (literal_tokens v ++ z)) (λ x. not_dot s.Eq (λ y. (cc)) x) (λ x. not_dot (op_symbol o) (op_not_dot o) x) k in
+    let t : col_tokens c ++ r ≡ literal_tokens v ++ z = cc (h.1) in
+    absurd (col_no_literal c.table c.name v r z t)
+cond_decodes (Test b o v) (Join a c) r z f g e =
+    let k = sym (append_assoc (col_tokens b) (Mark (op_symbol o) ∷ literal_tokens v) r) ∙ e ∙ append_assoc (col_tokens a) (Mark s.Eq ∷ col_tokens c) z in
+    let h = cols_decode b a (Mark (op_symbol o) ∷ (literal_tokens v ++ r)) (Mark s.Eq ∷ (col_tokens c ++ z)) (λ x. not_dot (op_symbol o) (op_not_dot o) x) (λ x. not_dot s.Eq (λ y. (cc)) x) k in
+    let t : literal_tokens v ++ r ≡ col_tokens c ++ z = cc (h.1) in
+    absurd (col_no_literal c.table c.name v z r (sym t))
+cond_decodes (Test a o v) (Test b q w) r z f g e =
+    let k = sym (append_assoc (col_tokens a) (Mark (op_symbol o) ∷ literal_tokens v) r) ∙ e ∙ append_assoc (col_tokens b) (Mark (op_symbol q) ∷ literal_tokens w) z in
+    let h = cols_decode a b (Mark (op_symbol o) ∷ (literal_tokens v ++ r)) (Mark (op_symbol q) ∷ (literal_tokens w ++ z)) (λ x. not_dot (op_symbol o) (op_not_dot o) x) (λ x. not_dot (op_symbol q) (op_not_dot q) x) k in
+    let t : literal_tokens v ++ r ≡ literal_tokens w ++ z = cc (h.1) in
+    let y : op_symbol o ≡ op_symbol q = cc (h.1) in
+    let l = literal_decodes v w r z t in
+    let x = h.0 in
+    let p = op_same o q y in
+    let n = l.0 in
+    (λ i. Test (x i) (p i) (n i), l.1)
+
+-- a list whose items are told apart, with a token before each that none of them goes on with
+abbrev OrAlso : Lexeme → (Lexeme → Type 0) → Lexeme → Type 0
+OrAlso l S t = (t ≡ l) ⊎ S t
+
+fine_more : {A : Type 0} (l : Lexeme) (S : Lexeme → Type 0) (f : A → List Lexeme) (xs : List A) (r : List Lexeme) → (S l → ⊥) → Fine (OrAlso l S) r → Fine S (each_after l f xs ++ r)
+fine_more l S f [] [] n h = tt
+fine_more l S f [] (t ∷ r) n h = λ k. h (inr k)
+fine_more l S f (x ∷ xs) r n h = n
+
+each_decodes : {A : Type 0} (l : Lexeme) (S : Lexeme → Type 0) (f : A → List Lexeme) → (S l → ⊥)
+    → ((a b : A) (r z : List Lexeme) → Fine S r → Fine S z → f a ++ r ≡ f b ++ z → (a ≡ b) × (r ≡ z))
+    → (xs ys : List A) (r z : List Lexeme) → Fine (OrAlso l S) r → Fine (OrAlso l S) z → each_after l f xs ++ r ≡ each_after l f ys ++ z → (xs ≡ ys) × (r ≡ z)
+each_decodes l S f n d [] [] r z h k e = (refl, e)
+each_decodes l S f n d [] (y ∷ ys) [] z h k e = absurd (cc)
+each_decodes l S f n d [] (y ∷ ys) (t ∷ r) z h k e = absurd (h (inl (let g : t ≡ l = cc in g)))
+each_decodes l S f n d (x ∷ xs) [] r [] h k e = absurd (cc)
+each_decodes l S f n d (x ∷ xs) [] r (t ∷ z) h k e = absurd (k (inl (let g : t ≡ l = cc in g)))
+each_decodes l S f n d (x ∷ xs) (y ∷ ys) r z h k e =
+    let g : (f x ++ each_after l f xs) ++ r ≡ (f y ++ each_after l f ys) ++ z = cc in
+    let i = d x y (each_after l f xs ++ r) (each_after l f ys ++ z) (fine_more l S f xs r n h) (fine_more l S f ys z n k) (sym (append_assoc (f x) (each_after l f xs) r) ∙ g ∙ append_assoc (f y) (each_after l f ys) z) in
+    let j = each_decodes l S f n d xs ys r z h k i.1 in
+    (ap (λ a. a ∷ xs) i.0 ∙ ap (λ a. y ∷ a) j.0, j.1)
+
+between_decodes : {A : Type 0} (l : Lexeme) (S : Lexeme → Type 0) (f : A → List Lexeme) → (S l → ⊥)
+    → ((a b : A) (r z : List Lexeme) → Fine S r → Fine S z → f a ++ r ≡ f b ++ z → (a ≡ b) × (r ≡ z))
+    → (xs ys : List A) (r z : List Lexeme) → 0 < length xs → 0 < length ys → Fine (OrAlso l S) r → Fine (OrAlso l S) z → between l f xs ++ r ≡ between l f ys ++ z → (xs ≡ ys) × (r ≡ z)
+between_decodes l S f n d [] ys r z p q h k e = absurd (omega arith)
+between_decodes l S f n d (x ∷ xs) [] r z p q h k e = absurd (omega arith)
+between_decodes l S f n d (x ∷ xs) (y ∷ ys) r z p q h k e =
+    let i = d x y (each_after l f xs ++ r) (each_after l f ys ++ z) (fine_more l S f xs r n h) (fine_more l S f ys z n k) (sym (append_assoc (f x) (each_after l f xs) r) ∙ e ∙ append_assoc (f y) (each_after l f ys) z) in
+    let j = each_decodes l S f n d xs ys r z h k i.1 in
+    (ap (λ a. a ∷ xs) i.0 ∙ ap (λ a. y ∷ a) j.0, j.1)
+
+filtered_decodes : {A : Type 0} (S : Lexeme → Type 0) (f : A → List Lexeme) → (S (Word (codes "and")) → ⊥)
+    → ((a b : A) (r z : List Lexeme) → Fine S r → Fine S z → f a ++ r ≡ f b ++ z → (a ≡ b) × (r ≡ z))
+    → (xs ys : List A) → filtered_tokens f xs ≡ filtered_tokens f ys → xs ≡ ys
+filtered_decodes S f n d [] [] e = refl
+filtered_decodes S f n d [] (y ∷ ys) e = (cc)
+filtered_decodes S f n d (x ∷ xs) [] e = (cc)
+filtered_decodes S f n d (x ∷ xs) (y ∷ ys) e =
+    let g : between (Word (codes "and")) f (x ∷ xs) ≡ between (Word (codes "and")) f (y ∷ ys) = cc in
+    (between_decodes (Word (codes "and")) S f n d (x ∷ xs) (y ∷ ys) [] [] (omega arith) (omega arith) tt tt (ap (λ w. w ++ []) g)).0
+
+fine_filtered : {A : Type 0} (f : A → List Lexeme) (xs : List A) → Fine (OrAlso (Mark s.Comma) Never) (filtered_tokens f xs)
+fine_filtered f [] = tt
+fine_filtered f (x ∷ xs) = λ h. elim h [ inl e ↦ absurd (cc) | inr b ↦ b ]
+
+fine_from : (r : List Lexeme) → Fine (OrAlso (Mark s.Comma) IsDot) (Word (codes "from") ∷ r)
+fine_from r = λ h. elim h [ inl e ↦ absurd (cc) | inr e ↦ absurd (cc) ]
+
+initial : List Lexeme → ℕ
+initial [] = 0
+initial (Word w ∷ ls) = get_or w 0 0
+initial (Number z ∷ ls) = 0
+initial (Quoted t ∷ ls) = 0
+initial (Mark y ∷ ls) = 0
+
+no_literal : (y : Value) (ys r t : List Lexeme) → Mark s.Close ∷ r ≡ (literal_tokens y ++ ys) ++ t → ⊥
+no_literal (Int m) ys r t e = absurd (cc)
+no_literal (Text m) ys r t e = absurd (cc)
+
+fine_close : (r : List Lexeme) → Fine (OrAlso (Mark s.Comma) Never) (Mark s.Close ∷ r)
+fine_close r = λ h. elim h [ inl e ↦ absurd (cc) | inr b ↦ b ]
+
+exists_select : (r z : List Lexeme) → Word (codes "exists") ∷ r ≡ Word (codes "select") ∷ z → ⊥
+unfolding initial
+exists_select r z e = absurd (omega (arith, ap initial e))
+
+head_decodes : (cs ds : List RawCol) (r z : List Lexeme) → head_tokens cs ++ (Word (codes "from") ∷ r) ≡ head_tokens ds ++ (Word (codes "from") ∷ z) → (cs ≡ ds) × (r ≡ z)
+head_decodes [] [] r z e = (refl, (cc))
+head_decodes [] (d ∷ ds) r z e = absurd (exists_select _ _ e)
+head_decodes (c ∷ cs) [] r z e = absurd (exists_select _ _ (sym e))
+head_decodes (c ∷ cs) (d ∷ ds) r z e =
+    let g : between (Mark s.Comma) col_tokens (c ∷ cs) ++ (Word (codes "from") ∷ r) ≡ between (Mark s.Comma) col_tokens (d ∷ ds) ++ (Word (codes "from") ∷ z) = cc in
+    let i = between_decodes (Mark s.Comma) IsDot col_tokens (λ x. not_dot s.Comma (λ y. (cc)) x) cols_decode (c ∷ cs) (d ∷ ds) _ _ (omega arith) (omega arith) (fine_from r) (fine_from z) g in
+    (i.0, (cc (i.1)))
+
+select_same : (p q : Select) → 0 < length p.tables → 0 < length q.tables → select_tokens p ≡ select_tokens q → p ≡ q
+select_same p q h k e =
+    let a = head_decodes p.columns q.columns _ _ e in
+    let b = between_decodes (Mark s.Comma) Never name_tokens (λ x. x) (λ x y r z f g e. name_decodes x y r z e) p.tables q.tables _ _ h k (fine_filtered cond_tokens p.conds) (fine_filtered cond_tokens q.conds) a.1 in
+    let c = filtered_decodes IsDot cond_tokens (λ x. absurd (cc)) cond_decodes p.conds q.conds b.1 in
+    let x = a.0 in
+    let y = b.0 in
+    λ i. record { columns = x i; tables = y i; conds = c i }
+
+-- what a list of literals goes on with, where a `)` ends it
+literals_decode : (xs ys : List Value) (r z : List Lexeme) → listed_tokens literal_tokens xs ++ Mark s.Close ∷ r ≡ listed_tokens literal_tokens ys ++ Mark s.Close ∷ z → (xs ≡ ys) × (r ≡ z)
+literals_decode [] [] r z e = (refl, (cc))
+literals_decode [] (y ∷ ys) r z e = absurd (no_literal y (each_after (Mark s.Comma) literal_tokens ys) r (Mark s.Close ∷ z) e)
+literals_decode (x ∷ xs) [] r z e = absurd (no_literal x (each_after (Mark s.Comma) literal_tokens xs) z (Mark s.Close ∷ r) (sym e))
+literals_decode (x ∷ xs) (y ∷ ys) r z e =
+    let i = between_decodes (Mark s.Comma) Never literal_tokens (λ x. x) (λ a b u v f g h. literal_decodes a b u v h) (x ∷ xs) (y ∷ ys) _ _ (omega arith) (omega arith) (fine_close r) (fine_close z) e in
+    (i.0, (cc (i.1)))
+
+row_decodes : (a b : List Value) (r z : List Lexeme) → row_tokens a ++ r ≡ row_tokens b ++ z → (a ≡ b) × (r ≡ z)
+row_decodes a b r z e =
+    let g : (listed_tokens literal_tokens a ++ Mark s.Close ∷ []) ++ r ≡ (listed_tokens literal_tokens b ++ Mark s.Close ∷ []) ++ z = cc in
+    literals_decode a b r z (sym (append_assoc (listed_tokens literal_tokens a) (Mark s.Close ∷ []) r) ∙ g ∙ append_assoc (listed_tokens literal_tokens b) (Mark s.Close ∷ []) z)
+
+kind_same : (a b : Kind) → kind_word a ≡ kind_word b → a ≡ b
+kind_same kinds.Int kinds.Int e = refl
+kind_same kinds.Text kinds.Text e = refl
+kind_same kinds.Int kinds.Text e = absurd (omega (arith, ap (λ w. get_or w 0 0) e))
+kind_same kinds.Text kinds.Int e = absurd (omega (arith, ap (λ w. get_or w 0 0) e))
+
+column_decodes : (a b : Column) (r z : List Lexeme) → column_tokens a ++ r ≡ column_tokens b ++ z → (a ≡ b) × (r ≡ z)
+column_decodes a b r z e =
+    let n : a.name ≡ b.name = cc in
+    let w : kind_word a.kind ≡ kind_word b.kind = cc in
+    let k = kind_same a.kind b.kind w in
+    (λ i. record { name = n i; kind = k i }, (cc))
+
+-- the key, which no column begins with
+abbrev Key : List Lexeme → List Lexeme
+Key r = Mark s.Comma ∷ Word (codes "primary") ∷ Word (codes "key") ∷ r
+
+kind_no_key : (k : Kind) → kind_word k ≡ codes "key" → ⊥
+kind_no_key kinds.Int e = absurd (omega (arith, ap (λ w. get_or w 0 0) e))
+kind_no_key kinds.Text e = absurd (omega (arith, ap (λ w. get_or w 0 0) e))
+
+column_no_key : (c : Column) (t r : List Lexeme) → Mark s.Comma ∷ (column_tokens c ++ t) ≡ Key r → ⊥
+column_no_key c t r e = kind_no_key c.kind (cc)
+
+columns_decode : (xs ys : List Column) (r z : List Lexeme) → each_after (Mark s.Comma) column_tokens xs ++ Key r ≡ each_after (Mark s.Comma) column_tokens ys ++ Key z → (xs ≡ ys) × (r ≡ z)
+columns_decode [] [] r z e = (refl, (cc))
+columns_decode [] (y ∷ ys) r z e = absurd (column_no_key y (each_after (Mark s.Comma) column_tokens ys ++ Key z) r (sym e))
+columns_decode (x ∷ xs) [] r z e = absurd (column_no_key x (each_after (Mark s.Comma) column_tokens xs ++ Key r) z e)
+columns_decode (x ∷ xs) (y ∷ ys) r z e =
+    let g : column_tokens x ++ (each_after (Mark s.Comma) column_tokens xs ++ Key r) ≡ column_tokens y ++ (each_after (Mark s.Comma) column_tokens ys ++ Key z) = cc in
+    let i = column_decodes x y _ _ g in
+    let j = columns_decode xs ys r z i.1 in
+    (ap (λ a. a ∷ xs) i.0 ∙ ap (λ a. y ∷ a) j.0, j.1)
+
+all_columns_decode : (xs ys : List Column) (r z : List Lexeme) → 0 < length xs → 0 < length ys → listed_tokens column_tokens xs ++ Key r ≡ listed_tokens column_tokens ys ++ Key z → (xs ≡ ys) × (r ≡ z)
+all_columns_decode [] ys r z p q e = absurd (omega arith)
+all_columns_decode (x ∷ xs) [] r z p q e = absurd (omega arith)
+all_columns_decode (x ∷ xs) (y ∷ ys) r z p q e =
+    let i = column_decodes x y (each_after (Mark s.Comma) column_tokens xs ++ Key r) (each_after (Mark s.Comma) column_tokens ys ++ Key z) e in
+    let j = columns_decode xs ys r z i.1 in
+    (ap (λ a. a ∷ xs) i.0 ∙ ap (λ a. y ∷ a) j.0, j.1)
+
+abbrev key_rest : List (List ℕ) → List Lexeme
+key_rest names = Mark s.Open ∷ (listed_tokens name_tokens names ++ (Mark s.Close ∷ Mark s.Close ∷ []))
+
+schema_same : (a b : RawSchema) → 0 < length a.columns → 0 < length a.key → 0 < length b.columns → 0 < length b.key → schema_tokens a ≡ schema_tokens b → a ≡ b
+schema_same a b p q h k e =
+    let n : a.name ≡ b.name = cc in
+    let c : listed_tokens column_tokens a.columns ++ Key (key_rest a.key) ≡ listed_tokens column_tokens b.columns ++ Key (key_rest b.key) = cc in
+    let i = all_columns_decode a.columns b.columns (key_rest a.key) (key_rest b.key) p h c in
+    let d : listed_tokens name_tokens a.key ++ (Mark s.Close ∷ Mark s.Close ∷ []) ≡ listed_tokens name_tokens b.key ++ (Mark s.Close ∷ Mark s.Close ∷ []) = cc (i.1) in
+    let j = between_decodes (Mark s.Comma) Never name_tokens (λ x. x) (λ x y u v f g d. name_decodes x y u v d) a.key b.key _ _ q k (fine_close (Mark s.Close ∷ [])) (fine_close (Mark s.Close ∷ [])) d in
+    let x = i.0 in
+    let y = j.0 in
+    λ i. record { name = n i; columns = x i; key = y i }
+
+rows_same : (xs ys : List (List Value)) → 0 < length xs → 0 < length ys → listed_tokens row_tokens xs ≡ listed_tokens row_tokens ys → xs ≡ ys
+rows_same xs ys p q e = (between_decodes (Mark s.Comma) Never row_tokens (λ x. x) (λ a b u v f g h. row_decodes a b u v h) xs ys [] [] p q tt tt (ap (λ w. w ++ []) e)).0
+
+-- the first two bytes of the first word, in one number
+mark_of : List Lexeme → ℕ
+mark_of [] = 0
+mark_of (Word v ∷ ls) = get_or v 0 0 * 256 + get_or v 1 0
+mark_of (Number z ∷ ls) = 0
+mark_of (Quoted t ∷ ls) = 0
+mark_of (Mark y ∷ ls) = 0
+
+second_mark : List Lexeme → ℕ
+second_mark [] = 0
+second_mark (l ∷ ls) = mark_of ls
+
+-- no tokens are written by two statements
+pub statement_same : (a b : Statement) → IsProper a → IsProper b → statement_tokens a ≡ statement_tokens b → a ≡ b
+unfolding mark_of second_mark
+statement_same (statements.Create c) (statements.Create d) p q e = ap statements.Create (schema_same c d p.0 p.1 q.0 q.1 (cc))
+statement_same (statements.Insert t xs) (statements.Insert u ys) p q e =
+    let h : t ≡ u = cc in
+    let g : listed_tokens row_tokens xs ≡ listed_tokens row_tokens ys = cc in
+    let c = rows_same xs ys p.0 q.0 g in
+    λ i. statements.Insert (h i) (c i)
+statement_same (statements.Delete t xs) (statements.Delete u ys) p q e =
+    let h : t ≡ u = cc in
+    let g : filtered_tokens test_tokens xs ≡ filtered_tokens test_tokens ys = cc in
+    let c = filtered_decodes Never test_tokens (λ x. x) (λ x y r z f g e. test_decodes x y r z e) xs ys g in
+    λ i. statements.Delete (h i) (c i)
+statement_same (statements.Ask c) (statements.Ask d) p q e = let g : select_tokens c ≡ select_tokens d = cc in ap statements.Ask (select_same c d p q g)
+statement_same (statements.Possible c) (statements.Possible d) p q e = let g : select_tokens c ≡ select_tokens d = cc in ap statements.Possible (select_same c d p q g)
+statement_same (statements.Classify c) (statements.Classify d) p q e = let g : select_tokens c ≡ select_tokens d = cc in ap statements.Classify (select_same c d p q g)
+statement_same (statements.Plan c) (statements.Plan d) p q e = let g : select_tokens c ≡ select_tokens d = cc in ap statements.Plan (select_same c d p q g)
+statement_same (statements.Explain r c) (statements.Explain t d) p q e =
+    let h : row_tokens r ++ (Word (codes "for") ∷ select_tokens c) ≡ row_tokens t ++ (Word (codes "for") ∷ select_tokens d) = cc in
+    let i = row_decodes r t (Word (codes "for") ∷ select_tokens c) (Word (codes "for") ∷ select_tokens d) h in
+    let g : select_tokens c ≡ select_tokens d = cc (i.1) in
+    let j = select_same c d p q g in
+    let k = i.0 in
+    λ l. statements.Explain (k l) (j l)
+statement_same (statements.SetConflicts n) (statements.SetConflicts m) p q e = ap statements.SetConflicts (cc)
+statement_same (statements.Copy t) (statements.Copy u) p q e = ap statements.Copy (cc)
+statement_same statements.Dump statements.Dump p q e = refl
+statement_same statements.ShowTables statements.ShowTables p q e = refl
+statement_same statements.ShowLog statements.ShowLog p q e = refl
+statement_same statements.ShowTables statements.ShowLog p q e = absurd (omega (arith, ap second_mark e))
+statement_same statements.ShowLog statements.ShowTables p q e = absurd (omega (arith, ap second_mark e))
+statement_same _ _ p q e = absurd (omega (arith, ap mark_of e))

@@ -1,0 +1,221 @@
+-- From what is read to what the parser answers.
+use Rattle.std.proofs.Common.{◌≡◌, ◌≤◌, ◌<◌, ◌-◌, ◌+◌, ◌^◌, lit≤, ℕ, ℤ, Bool, true, false, List, [], ◌∷◌, ◌++◌, length, drop, take, get_or, zero, suc, length-append, arith, sym, ◌∙◌, ap, subst, refl, append_assoc, codes, pos, nat_eq, Result, Ok, Err, MatchResult, OnOk, IfOk}
+use Rattle.std.proofs.Common.{Some}
+use Rattle.std.proofs.lemmas.Int.{ints}
+use Rattle.std.proofs.lemmas.List.{drop_at, length-map, append-nil}
+use Rattle.std.specs.List.{AllByRecursion}
+use Rattle.std.specs.Cmp.Lexicographic.{pointwise}
+use Rattle.script_lex.specs.declared.kinds.Token.{Token}
+use Rattle.cqa_value.specs.declared.memory.Fail.{Fail}
+use Rattle.cqa_value.specs.declared.memory.Fail.TheVariants.{Refused, NoMemory as FailNoMemory}
+use Rattle.spj_syntax.specs.declared.tree.Statement.{Statement}
+use Rattle.spj_syntax.specs.declared.tree.Statement.TheVariants.{SetConflicts}
+use Rattle.spj_syntax.specs.declared.fault.SyntaxFault.{SyntaxFault}
+use Rattle.spj_syntax.specs.declared.fault.SyntaxFault.TheVariants.{At, OutOfRange, TextTooLong, LongName}
+use Rattle.spj_syntax.specs.declared.reader.Stop.TheVariants.{Syntax}
+use Rattle.spj_syntax.specs.Lexemes.{Lexeme, Word, Number, Quoted, Mark, lexeme}
+use Rattle.spj_syntax.specs.Shapes.{one, word, FirstFault, Generates}
+use Rattle.spj_syntax.specs.Grammar as grammar
+use Rattle.spj_syntax.specs.Factored.{statement, plain}
+use Rattle.spj_syntax.specs.Walk.{Past, read, Opens, opens, has, only_if}
+use Rattle.spj_syntax.specs.Parsed.{IsStatement, IsSyntaxFault, IsInRange, Fits, AllFit, IsFirstUnfit, Refuses, fault_of, is_set, lexemes, place_of}
+use Rattle.spj_syntax.specs.Reading.{PlainFit, Took, Failed, IsUnfit, Parses}
+use Rattle.spj_syntax.specs.Written.{statement_tokens, IsProper, IsWrittenAs}
+use Rattle.spj_syntax.proofs.Steps.{opens_then, took_left, took_right, fails_left, fails_right}
+use Rattle.spj_syntax.proofs.Exact.{whole, too_many, stopped}
+use Rattle.spj_syntax.proofs.Factoring.{from_factored, same_fault}
+use Rattle.spj_syntax.proofs.Table.{statement_decided}
+use Rattle.spj_syntax.proofs.Trees.{statement_same}
+
+set_seen : (ls : List Lexeme) → opens (one (word (codes "set"))) ls ≡ is_set ls
+set_seen [] = refl
+set_seen (Word w ∷ ls) = go (pointwise nat_eq (codes "set") w)
+  where
+    go : (b : Bool) → has (only_if b (Some [])) ≡ b
+    go true = refl
+    go false = refl
+set_seen (Number z ∷ ls) = refl
+set_seen (Quoted t ∷ ls) = refl
+set_seen (Mark s ∷ ls) = refl
+
+-- A `set` is seen at its first word.
+pub set_opens : {b : Bool} {ls : List Lexeme} → Opens b (one (word (codes "set"))) ls → is_set ls ≡ b
+set_opens {ls = ls} o = sym (set_seen ls) ∙ sym o.is
+
+opens_set : {b : Bool} {ls : List Lexeme} → is_set ls ≡ b → Opens b grammar.set ls
+opens_set {ls = ls} e = let o : Opens _ (one (word (codes "set"))) ls = record { is = sym (set_seen ls ∙ e) } in opens_then refl o
+
+pub plain_took : {w s z : List Lexeme} → is_set s ≡ false → Took plain w s z → Took statement w s z
+plain_took e h = took_right refl (opens_set e) h
+
+pub plain_failed : {s z : List Lexeme} → is_set s ≡ false → Failed plain Syntax s z → Failed statement Syntax s z
+plain_failed e h = fails_right refl (opens_set e) h
+
+pub set_took : {w s z : List Lexeme} → is_set s ≡ true → Took grammar.set w s z → Took statement w s z
+set_took e h = took_left (opens_set e) h
+
+pub set_failed : {s z : List Lexeme} → is_set s ≡ true → Failed grammar.set Syntax s z → Failed statement Syntax s z
+set_failed e h = fails_left (opens_set e) h
+
+pub fault_at : (text : List ℕ) (tokens : List Token) (rest : List Lexeme) (left at : ℕ) → FirstFault statement (lexemes text tokens) rest → left ≡ length rest
+    → at ≡ place_of text (drop (length tokens - left) tokens) → IsSyntaxFault text tokens at
+fault_at text tokens rest left at g e p =
+    let f = same_fault (lexemes text tokens) rest g in
+    let n : length (lexemes text tokens) ≡ length tokens = length-map tokens (lexeme text) in
+    let m : length (lexemes text tokens) ≡ length f.front + length rest = ap length f.split ∙ length-append f.front rest in
+    let k : length f.front ≡ length tokens - left = omega arith in
+    let r : drop (length tokens - left) (lexemes text tokens) ≡ rest = ap (λ z. drop (length tokens - left) z) f.split ∙ drop_at f.front rest (length tokens - left) k in
+    record {
+      count = length tokens - left;
+      place = p;
+      first = subst (λ z. FirstFault grammar.statement (lexemes text tokens) z) (sym r) f;
+    }
+
+empty : (rest : List Lexeme) → length rest ≡ 0 → rest ≡ []
+empty [] e = refl
+empty (t ∷ rest) e = absurd (omega arith)
+
+pub is_statement : {w s z : List Lexeme} → Took statement w s z → length z ≡ 0 → IsStatement s × (PlainFit s → s ≡ w)
+is_statement {w = w} {s = s} {z = z} h e =
+    let n : z ≡ [] = empty z e in
+    (record { generated = from_factored s (whole statement s statement_decided (h.way ∙ ap Past n)) }, λ a. (h.takes a).0 ∙ ap (λ x. w ++ x) n ∙ append-nil w)
+
+pub more_is_fault : {w s z : List Lexeme} → Took statement w s z → (length z ≡ 0 → ⊥) → FirstFault statement s z
+more_is_fault {w = w} {s = s} {z = z} h n = go z h.way n
+  where
+    go : (z : List Lexeme) → read statement s ≡ Past z → (length z ≡ 0 → ⊥) → FirstFault statement s z
+    go [] e n = absurd (n refl)
+    go (t ∷ z) e n = too_many statement s t z statement_decided e
+
+pub stop_is_fault : {s z : List Lexeme} → Failed statement Syntax s z → FirstFault statement s z
+stop_is_fault {s = s} {z = z} h = stopped statement s z statement_decided h.way
+
+pub fault_shorter : {s z : List Lexeme} → FirstFault statement s z → length z ≤ length s
+fault_shorter {s = s} {z = z} f = let m : length s ≡ length f.front + length z = ap length f.split ∙ length-append f.front z in omega arith
+
+-- A symbol always fits.
+unfit_not : (set : Bool) (l : Lexeme) (at k : ℕ) → ¬ Fits set l → At k ≡ fault_of l at → ⊥
+unfit_not set (Word w) at k n e = (cc)
+unfit_not set (Number z) at k n e = (cc)
+unfit_not set (Quoted t) at k n e = (cc)
+unfit_not set (Mark s) at k n e = n tt
+
+pub refused : {set : Bool} (text : List ℕ) (tokens : List Token) (fault : SyntaxFault) → is_set (lexemes text tokens) ≡ set → IsFirstUnfit set text tokens fault → IsStatement (lexemes text tokens) → Refuses text tokens fault
+refused {set = set} text tokens (At k) e f s = absurd (unfit_not set (lexeme text f.token) f.token.span.from k f.unfit f.fault_is)
+refused text tokens (OutOfRange k) e f s = (s, subst (λ b. IsFirstUnfit b text tokens (OutOfRange k)) (sym e) f)
+refused text tokens (TextTooLong k) e f s = (s, subst (λ b. IsFirstUnfit b text tokens (TextTooLong k)) (sym e) f)
+refused text tokens (LongName k) e f s = (s, subst (λ b. IsFirstUnfit b text tokens (LongName k)) (sym e) f)
+
+pub all_fit : {set : Bool} (ls : List Lexeme) → is_set ls ≡ set → AllByRecursion (Fits set) ls → AllFit ls
+all_fit ls e a = subst (λ b. AllByRecursion (Fits b) ls) (sym e) a
+
+pub accepted : (text : List ℕ) (tokens : List Token) (v : Statement) → is_set (lexemes text tokens) ≡ false → PlainFit (lexemes text tokens)
+    → IsStatement (lexemes text tokens) × (PlainFit (lexemes text tokens) → lexemes text tokens ≡ statement_tokens v) → IsProper v → Parses text tokens (Ok v)
+accepted text tokens v e a h p = (h.0, all_fit (lexemes text tokens) e a, record { proper = p; tokens = h.1 a })
+
+split_at : (tokens : List Token) (i : ℕ) (d : Token) → i < length tokens → tokens ≡ take i tokens ++ get_or tokens i d ∷ drop (suc i) tokens
+split_at [] i d h = absurd (omega arith)
+split_at (t ∷ tokens) zero d h = refl
+split_at (t ∷ tokens) (suc i) d h = ap (λ z. t ∷ z) (split_at tokens i d (omega arith))
+
+pub first_unfit_at : (text : List ℕ) (tokens : List Token) (i : ℕ) (d : Token) (fault : SyntaxFault) → i < length tokens → PlainFit (lexemes text (take i tokens)) → IsUnfit text (get_or tokens i d) fault
+    → IsFirstUnfit false text tokens fault
+first_unfit_at text tokens i d fault lt a u = record {
+  front = take i tokens;
+  token = get_or tokens i d;
+  rest = drop (suc i) tokens;
+  split = split_at tokens i d lt;
+  fit = a;
+  unfit = u.unfit;
+  fault_is = u.fault_is;
+}
+
+-- the answers at a `set`
+
+abbrev set_tokens : ℤ → List Lexeme
+set_tokens z = Word (codes "set") ∷ Word (codes "conflicts") ∷ Number z ∷ []
+
+pub set_ended : (ls rest : List Lexeme) (z : ℤ) → ls ≡ Word (codes "set") ∷ Word (codes "conflicts") ∷ Number z ∷ rest → length rest ≡ 0 → ls ≡ set_tokens z
+set_ended ls rest z e n = e ∙ ap (λ r. Word (codes "set") ∷ Word (codes "conflicts") ∷ Number z ∷ r) (empty rest n)
+
+in_range : (n : ℕ) → n < 2 ^ 32 → IsInRange true (pos n)
+in_range n h = (omega (arith, ints), omega (arith, ints))
+
+pub set_accepted : (text : List ℕ) (tokens : List Token) (z : ℤ) (n : ℕ) → is_set (lexemes text tokens) ≡ true → lexemes text tokens ≡ set_tokens z → z ≡ pos n → n < 2 ^ 32 → IsStatement (lexemes text tokens)
+    → Parses text tokens (Ok (SetConflicts n))
+set_accepted text tokens z n e h k r s =
+    let is : lexemes text tokens ≡ set_tokens (pos n) = h ∙ ap set_tokens k in
+    (s, all_fit (lexemes text tokens) e (subst (λ ls. AllByRecursion (Fits true) ls) (sym is) (lit≤ tt, (lit≤ tt, (in_range n r, tt)))), record { proper = tt; tokens = is })
+
+pub set_length : (text : List ℕ) (tokens : List Token) (z : ℤ) → lexemes text tokens ≡ set_tokens z → length tokens ≡ 3
+set_length text tokens z h = sym (length-map tokens (lexeme text)) ∙ ap length h
+
+fault_there : (l : Lexeme) (z : ℤ) (at : ℕ) → l ≡ Number z → OutOfRange at ≡ fault_of l at
+fault_there (Number y) z at e = refl
+fault_there (Word w) z at e = (cc)
+fault_there (Quoted w) z at e = (cc)
+fault_there (Mark w) z at e = (cc)
+
+pub set_refused : (text : List ℕ) (tokens : List Token) (z : ℤ) (d : Token) → lexemes text tokens ≡ set_tokens z → ¬ IsInRange true z → IsFirstUnfit true text tokens (OutOfRange (get_or tokens 2 d).span.from)
+set_refused text [] z d h n = absurd (cc)
+set_refused text (a ∷ []) z d h n = absurd (cc)
+set_refused text (a ∷ b ∷ []) z d h n = absurd (cc)
+set_refused text (a ∷ b ∷ c ∷ rest) z d h n =
+    let at_a : lexeme text a ≡ Word (codes "set") = cc in
+    let at_b : lexeme text b ≡ Word (codes "conflicts") = cc in
+    let at_c : lexeme text c ≡ Number z = cc in
+    record {
+      front = a ∷ b ∷ [];
+      token = c;
+      rest = rest;
+      split = refl;
+      fit = (subst (Fits true) (sym at_a) (lit≤ tt), (subst (Fits true) (sym at_b) (lit≤ tt), tt));
+      unfit = λ f. n (subst (Fits true) at_c f);
+      fault_is = fault_there (lexeme text c) z c.span.from at_c;
+    }
+
+-- what follows from the answer
+
+fault_not : (ls rest : List Lexeme) → FirstFault grammar.statement ls rest → IsStatement ls → ⊥
+fault_not ls [] f s = f.stuck (subst (λ z. Generates grammar.statement z) (f.split ∙ append-nil f.front) s.generated)
+fault_not ls (t ∷ rest) f s = f.stuck (rest, subst (λ z. Generates grammar.statement z) (f.split ∙ sym (append_assoc f.front (t ∷ []) rest)) s.generated)
+
+fit_there : (set : Bool) (text : List ℕ) (front : List Token) (token : Token) (rest : List Token) → AllByRecursion (Fits set) (lexemes text (front ++ token ∷ rest)) → Fits set (lexeme text token)
+fit_there set text [] token rest a = a.0
+fit_there set text (t ∷ front) token rest a = fit_there set text front token rest a.1
+
+unfit_absurd : (set : Bool) (text : List ℕ) (tokens : List Token) (fault : SyntaxFault) → IsFirstUnfit set text tokens fault → AllByRecursion (Fits set) (lexemes text tokens) → ⊥
+unfit_absurd set text tokens fault f a = f.unfit (fit_there set text f.front f.token f.rest (subst (λ z. AllByRecursion (Fits set) (lexemes text z)) f.split a))
+
+not_refused : (text : List ℕ) (tokens : List Token) (fault : SyntaxFault) → Refuses text tokens fault → IsStatement (lexemes text tokens) → AllFit (lexemes text tokens) → ⊥
+not_refused text tokens (At k) h s a = fault_not (lexemes text tokens) (drop h.count (lexemes text tokens)) h.first s
+not_refused text tokens (OutOfRange k) h s a = unfit_absurd (is_set (lexemes text tokens)) text tokens (OutOfRange k) h.1 a
+not_refused text tokens (TextTooLong k) h s a = unfit_absurd (is_set (lexemes text tokens)) text tokens (TextTooLong k) h.1 a
+not_refused text tokens (LongName k) h s a = unfit_absurd (is_set (lexemes text tokens)) text tokens (LongName k) h.1 a
+
+pub ok_statement : (text : List ℕ) (tokens : List Token) (r : Result Statement (Fail SyntaxFault)) → Parses text tokens r → OnOk r (IsStatement (lexemes text tokens))
+ok_statement text tokens (Ok v) h = h.0
+ok_statement text tokens (Err e) h = tt
+
+pub ok_fit : (text : List ℕ) (tokens : List Token) (r : Result Statement (Fail SyntaxFault)) → Parses text tokens r → OnOk r (AllFit (lexemes text tokens))
+ok_fit text tokens (Ok v) h = h.1
+ok_fit text tokens (Err e) h = tt
+
+pub ok_written : (text : List ℕ) (tokens : List Token) (r : Result Statement (Fail SyntaxFault)) → Parses text tokens r → IfOk r (λ v. IsWrittenAs v (lexemes text tokens))
+ok_written text tokens (Ok v) h = h.2
+ok_written text tokens (Err e) h = tt
+
+pub err_refuses : (text : List ℕ) (tokens : List Token) (r : Result Statement (Fail SyntaxFault)) → Parses text tokens r → (fault : SyntaxFault) → r ≡ Err (Refused fault) → Refuses text tokens fault
+err_refuses text tokens (Ok v) h fault e = absurd (cc)
+err_refuses text tokens (Err FailNoMemory) h fault e = absurd (cc)
+err_refuses text tokens (Err (Refused f)) h fault e = let g : f ≡ fault = cc in subst (λ z. Refuses text tokens z) g h
+
+pub statement_read : (text : List ℕ) (tokens : List Token) (r : Result Statement (Fail SyntaxFault)) → Parses text tokens r → IsStatement (lexemes text tokens) → AllFit (lexemes text tokens)
+    → MatchResult r (λ _. Unit {0}) (λ e. e ≡ FailNoMemory)
+statement_read text tokens (Ok v) h s a = tt
+statement_read text tokens (Err FailNoMemory) h s a = refl
+statement_read text tokens (Err (Refused fault)) h s a = absurd (not_refused text tokens fault h s a)
+
+pub only_statement : (text : List ℕ) (tokens : List Token) (r : Result Statement (Fail SyntaxFault)) → Parses text tokens r → (v : Statement) → IsWrittenAs v (lexemes text tokens) → IfOk r (λ u. u ≡ v)
+only_statement text tokens (Ok u) h v w = let k = h.2 in statement_same u v k.proper w.proper (sym k.tokens ∙ w.tokens)
+only_statement text tokens (Err e) h v w = tt

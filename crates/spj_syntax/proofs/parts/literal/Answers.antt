@@ -1,0 +1,18 @@
+use Rattle.std.proofs.Common.{refl}
+use Rattle.spj_syntax.proofs.Steps.{int_takes, text_takes, literal_shut, literal_end}
+use Rattle.spj_syntax.proofs.parts.literal.Goals as goal
+
+pub returns-in-Int : goal.returns-in-Int
+returns-in-Int c = rw c.advance.ensures (int_takes _ _ _ c.in-Int.ensures.front c.int_value.ensures)
+
+pub returns-in_ok-text-in-Text : goal.returns-in_ok-text-in-Text
+returns-in_ok-text-in-Text c = rw c.advance-in-Text.ensures (text_takes _ _ _ c.in-Text.ensures.front c.in_ok-text-in-Text.ensures)
+
+pub returns-in-Word : goal.returns-in-Word
+returns-in-Word c = literal_shut _ _ c.in-Word.ensures.front refl refl
+
+pub returns-in-Sym : goal.returns-in-Sym
+returns-in-Sym c = literal_shut _ _ c.in-Sym.ensures.front refl refl
+
+pub returns-in-End : goal.returns-in-End
+returns-in-End c = literal_end _ c.in-End.ensures.front

@@ -1,0 +1,94 @@
+-- What a part of the parser gives.
+use Rattle.std.specs.Prelude.{◌≡◌, ◌≤◌, ℕ, length, List, ◌++◌, Option, Some, None, Result, Ok, Err, false, IsTrue, [], ◌∷◌}
+use Rattle.std.specs.List.{AllByRecursion, slice_range}
+use Rattle.std.specs.Str.{IsUtf8}
+use Rattle.cqa_value.specs.Literals.{integer_of, are_digits, without_minus}
+use Rattle.script_lex.specs.declared.kinds.Token.{Token}
+use Rattle.script_lex.specs.declared.kinds.TokenKind.{TokenKind}
+use Rattle.script_lex.specs.declared.kinds.TokenKind.TheVariants as kinds
+use Rattle.spj_syntax.specs.declared.reader.Stop.{Stop}
+use Rattle.spj_syntax.specs.declared.reader.Stop.TheVariants.{NoMemory, Syntax}
+use Rattle.spj_syntax.specs.declared.reader.Seen.{Seen}
+use Rattle.spj_syntax.specs.declared.reader.Seen.TheVariants as sights
+use Rattle.spj_syntax.specs.Lexemes.{Lexeme, Word, Number, Quoted, Mark, undoubled, inside, lexeme}
+use Rattle.spj_syntax.specs.Shapes.{Shape}
+use Rattle.spj_syntax.specs.Parsed.{Fits, AllFit, IsStatement, Refuses, fault_of, lexemes}
+use Rattle.spj_syntax.specs.Written.{IsWrittenAs}
+use Rattle.spj_syntax.specs.declared.tree.Statement.{Statement}
+use Rattle.spj_syntax.specs.declared.fault.SyntaxFault.{SyntaxFault}
+use Rattle.cqa_value.specs.declared.memory.Fail.{Fail}
+use Rattle.cqa_value.specs.declared.memory.Fail.TheVariants.{Refused, NoMemory as FailNoMemory}
+use Rattle.spj_syntax.specs.Walk.{read, Past, Stopped}
+
+-- All fit, where the statement is no `set`.
+abbrev pub PlainFit : List Lexeme → Type 0
+PlainFit = AllByRecursion (Fits false)
+
+-- The old tokens are these and then the new ones.
+abbrev pub Takes : List Lexeme → List Lexeme → List Lexeme → Type 0
+Takes written old new = PlainFit old → (old ≡ written ++ new) × PlainFit new
+
+pub record Took (p : Shape) (written old new : List Lexeme) : Type 0 where
+  pub way : read p old ≡ Past new
+  pub takes : Takes written old new
+
+-- The tokens that are left begin where the shape stops, unless memory ran out.
+abbrev pub StopsAt : Shape → Stop → List Lexeme → List Lexeme → Type 0
+StopsAt p Syntax old new = read p old ≡ Stopped new
+StopsAt p NoMemory old new = Unit {0}
+
+pub record Failed (p : Shape) (e : Stop) (old new : List Lexeme) : Type 0 where
+  pub way : StopsAt p e old new
+
+-- A value is read where the shape is, and it is written so where all tokens fit.
+abbrev pub Reads : {A : Type 0} → Shape → (A → List Lexeme) → Result A Stop → List Lexeme → List Lexeme → Type 0
+Reads p written (Ok v) old new = Took p (written v) old new
+Reads p written (Err e) old new = Failed p e old new
+
+-- each with a token behind it
+abbrev pub each_before : {A : Type 0} → Lexeme → (A → List Lexeme) → List A → List Lexeme
+each_before l f [] = []
+each_before l f (x ∷ xs) = (f x ++ l ∷ []) ++ each_before l f xs
+
+abbrev pub front_of : List Lexeme → Option Lexeme
+front_of [] = None
+front_of (l ∷ ls) = Some l
+
+abbrev pub seen : Seen → Option Lexeme
+seen (sights.Word b) = Some (Word b.now)
+seen (sights.Int b) = Some (Number (integer_of b.now))
+seen (sights.Text b) = Some (Quoted (undoubled b.now))
+seen (sights.Sym s) = Some (Mark s)
+seen sights.End = None
+
+-- The bytes of a word are UTF-8, an int has a digit or more, and a text is UTF-8 between its quotes.
+abbrev pub IsSound : TokenKind → List ℕ → Type 0
+IsSound kinds.Word bytes = IsUtf8 bytes
+IsSound kinds.Int bytes = IsTrue (are_digits (without_minus bytes))
+IsSound kinds.Text bytes = (2 ≤ length bytes) × IsUtf8 (undoubled (inside bytes))
+IsSound (kinds.Sym s) bytes = Unit {0}
+
+-- The token lies in the text, and it is one of its kind.
+pub record IsReadable (text : List ℕ) (token : Token) : Type 0 where
+  pub ordered : token.span.from ≤ token.span.to
+  pub within : token.span.to ≤ length text
+  pub sound : IsSound token.kind (slice_range text token.span.from token.span.to)
+
+-- what is known of the bytes that stand first
+abbrev pub SeenSound : Seen → Type 0
+SeenSound (sights.Word b) = IsUtf8 b.now
+SeenSound (sights.Int b) = IsTrue (are_digits (without_minus b.now))
+SeenSound (sights.Text b) = IsUtf8 (undoubled b.now)
+SeenSound (sights.Sym s) = Unit {0}
+SeenSound sights.End = Unit {0}
+
+-- what is wrong with a token alone
+pub record IsUnfit (text : List ℕ) (token : Token) (fault : SyntaxFault) : Type 0 where
+  pub unfit : ¬ Fits false (lexeme text token)
+  pub fault_is : fault ≡ fault_of (lexeme text token) token.span.from
+
+-- the answer of the parser
+abbrev pub Parses : List ℕ → List Token → Result Statement (Fail SyntaxFault) → Type 0
+Parses text tokens (Ok statement) = IsStatement (lexemes text tokens) × AllFit (lexemes text tokens) × IsWrittenAs statement (lexemes text tokens)
+Parses text tokens (Err FailNoMemory) = Unit {0}
+Parses text tokens (Err (Refused fault)) = Refuses text tokens fault

@@ -1,0 +1,96 @@
+ghost use Rattle.std.specs.Prelude.{◌≡◌, ◌≤◌, ◌<◌, ◌++◌, ◌∷◌, slice_index, IfOk, IsTrue, ◌↔◌, length, take, drop};
+ghost use Rattle.std.specs.Str.{IsUtf8};
+ghost use Rattle.spj_syntax.specs.Lexemes.{undoubled};
+ghost use Rattle.cqa_value.specs.Literals.{are_digits, without_minus, is_in_range, integer_of};
+
+use cqa_value::{Fail, Name, NoMemory, Value, read_int};
+use std::alloc::Global;
+
+/// The greatest number of bytes of a text value.
+const TEXT_BYTES: usize = 1024;
+
+/// The bytes where they aren't too many, else none.
+fn kept(bytes: &[u8]) -> &[u8]
+    requires { IsUtf8 bytes.now }
+    ensures utf8 { IsUtf8 result.now }
+    ensures short { length result.now ≤ 1024 }
+    ensures same { length bytes.now ≤ 1024 → result.now ≡ bytes.now }
+{
+    if bytes.len() <= TEXT_BYTES {
+        bytes
+    } else {
+        b""
+    }
+}
+
+/// The bytes as a name where they aren't too many, else any name.
+pub fn short_name(alloc: Global, bytes: &[u8]) -> Result<Name, NoMemory>
+    requires { IsUtf8 bytes.now }
+    ensures { IfOk result (λ n. length bytes.now ≤ 1024 → n ≡ bytes.now) }
+{
+    match Name::from_bytes(alloc, kept(bytes)) {
+        Ok(name) => Ok(name),
+        Err(Fail::NoMemory) => Err(NoMemory),
+        Err(Fail::Refused(_)) => unreachable!(),
+    }
+}
+
+/// Where the next byte of a text's value stands: behind this byte, or behind this quote and the next.
+fn next(bytes: &[u8], at: usize) -> usize
+    requires { at < length bytes.now }
+    ensures further { at < result }
+    ensures within { result ≤ length bytes.now }
+    ensures value { undoubled (drop at bytes.now) ≡ slice_index bytes.now at ∷ undoubled (drop result bytes.now) }
+{
+    if at + 1 < bytes.len() && bytes[at] == b'\'' && bytes[at + 1] == b'\'' {
+        at + 2
+    } else {
+        at + 1
+    }
+}
+
+/// Whether the bytes with each two quotes side by side taken as one aren't too many.
+pub fn is_short(bytes: &[u8]) -> bool
+    ensures { IsTrue result ↔ (length (undoubled bytes.now) ≤ 1024) }
+{
+    let mut length = 0;
+    let mut at = 0;
+    while at < bytes.len() {
+        if length == TEXT_BYTES {
+            return false;
+        }
+        length += 1;
+        at = next(bytes, at);
+    }
+    true
+}
+
+/// The bytes with each two quotes side by side taken as one where these aren't too many, else any name.
+pub fn text_value(alloc: Global, bytes: &[u8]) -> Result<Name, NoMemory>
+    requires { IsUtf8 (undoubled bytes.now) }
+    ensures { IfOk result (λ n. length (undoubled bytes.now) ≤ 1024 → n ≡ undoubled bytes.now) }
+{
+    let mut value = [0; TEXT_BYTES];
+    let mut length = 0;
+    let mut at = 0;
+    while at < bytes.len() {
+        if length == TEXT_BYTES {
+            return short_name(alloc, b"");
+        }
+        value[length] = bytes[at];
+        length += 1;
+        at = next(bytes, at);
+    }
+    short_name(alloc, &value[..length])
+}
+
+/// The value of an integer where it is in range, else any value.
+pub fn int_value(bytes: &[u8]) -> Value
+    requires { IsTrue (are_digits (without_minus bytes.now)) }
+    ensures { IsTrue (is_in_range (integer_of bytes.now)) → result ≡ Value.Int (integer_of bytes.now) }
+{
+    match read_int(bytes) {
+        Some(number) => Value::Int(number),
+        None => Value::Int(0),
+    }
+}

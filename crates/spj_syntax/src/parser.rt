@@ -1,0 +1,182 @@
+ghost use Rattle.std.specs.Prelude.{◌≡◌, ◌≤◌, ◌-◌, ◌^◌, All, IfOk, OnOk, Err, MatchResult, MatchOption, IsTrue, ◌↔◌, length, drop, pos, true, false};
+ghost use Rattle.cqa_value.specs.Literals.{are_digits, without_minus, integer_of};
+ghost use Rattle.cqa_value.specs.declared.memory.Fail.TheVariants.{NoMemory, Refused};
+ghost use Rattle.script_lex.specs.Tokens.{Spells};
+ghost use Rattle.spj_syntax.specs.Lexemes.{lexeme, undoubled};
+ghost use Rattle.spj_syntax.specs.Parsed.{AllFit, Fits, IsStatement, IsFirstUnfit, IsInRange, Refuses, is_set, lexemes, place_of};
+ghost use Rattle.spj_syntax.specs.Reading.{IsReadable, IsUnfit, Parses, PlainFit};
+ghost use Rattle.spj_syntax.specs.Written.{IsWrittenAs};
+ghost use Rattle.spj_syntax.specs.declared.tree.Statement.{Statement};
+ghost use Rattle.spj_syntax.specs.declared.fault.SyntaxFault.{SyntaxFault};
+
+use crate::leaf::is_short;
+use crate::reader::{Reader, Stop};
+use crate::statements::{plain, set};
+use crate::{Statement, SyntaxFault};
+use cqa_value::{Fail, read_int};
+use script_lex::{Token, TokenKind};
+use std::alloc::Global;
+
+/// The greatest number of bytes of a name.
+const NAME_BYTES: usize = 64;
+
+/// Where the first of the last so many tokens stands, or the text's length.
+fn place(text: &[u8], tokens: &[Token], left: usize) -> usize
+    requires { left ≤ length tokens.now }
+    ensures { result ≡ place_of text.now (drop (length tokens.now - left) tokens.now) }
+{
+    if left == 0 {
+        return text.len();
+    }
+    tokens[tokens.len() - left].span.from
+}
+
+/// What is wrong with a token alone, where the statement is no `set`.
+fn unfit(text: &[u8], token: Token) -> Option<SyntaxFault>
+    requires { IsReadable text.now token }
+    ensures { MatchOption result (Fits false (lexeme text.now token)) (λ fault. IsUnfit text.now token fault) }
+{
+    let from = token.span.from;
+    let bytes = &text[from..token.span.to];
+    match token.kind {
+        TokenKind::Word => {
+            if bytes.len() > NAME_BYTES {
+                return Some(SyntaxFault::LongName(from));
+            }
+            None
+        }
+        TokenKind::Int => match read_int(bytes) {
+            Some(_) => None,
+            None => Some(SyntaxFault::OutOfRange(from)),
+        },
+        TokenKind::Text => {
+            if is_short(&bytes[1..bytes.len() - 1]) {
+                return None;
+            }
+            Some(SyntaxFault::TextTooLong(from))
+        }
+        TokenKind::Sym(_) => None,
+    }
+}
+
+/// What is wrong with the first token that doesn't fit, where the statement is no `set`.
+fn first_unfit(text: &[u8], tokens: &[Token]) -> Option<SyntaxFault>
+    requires { All (IsReadable text.now) tokens.now }
+    ensures { MatchOption result (PlainFit (lexemes text.now tokens.now)) (λ fault. IsFirstUnfit false text.now tokens.now fault) }
+{
+    for token in tokens {
+        match unfit(text, *token) {
+            Some(fault) => {
+                return Some(fault);
+            }
+            None => {}
+        }
+    }
+    None
+}
+
+/// A statement that is no `set`.
+fn parse_plain(alloc: Global, text: &[u8], tokens: &[Token]) -> Result<Statement, Fail<SyntaxFault>>
+    requires readable { All (IsReadable text.now) tokens.now }
+    requires few { length tokens.now ≤ 2 ^ 20 }
+    requires no_set { is_set (lexemes text.now tokens.now) ≡ false }
+    ensures { Parses text.now tokens.now result }
+{
+    let mut reader = Reader::new(text, tokens);
+    match plain(alloc, &mut reader) {
+        Ok(found) => {
+            let left = reader.count();
+            if left > 0 {
+                return Err(Fail::Refused(SyntaxFault::At(place(text, tokens, left))));
+            }
+            match first_unfit(text, tokens) {
+                Some(fault) => Err(Fail::Refused(fault)),
+                None => Ok(found),
+            }
+        }
+        Err(Stop::Syntax) => Err(Fail::Refused(SyntaxFault::At(place(
+            text,
+            tokens,
+            reader.count(),
+        )))),
+        Err(Stop::NoMemory) => Err(Fail::NoMemory),
+    }
+}
+
+/// The number that digits write where it is one of conflicts.
+fn conflicts(digits: &[u8]) -> Option<u32>
+    requires { IsTrue (are_digits (without_minus digits.now)) }
+    ensures { MatchOption result (¬ IsInRange true (integer_of digits.now)) (λ number. integer_of digits.now ≡ pos number) }
+{
+    match read_int(digits) {
+        Some(number) => u32::try_from(number).ok(),
+        None => None,
+    }
+}
+
+/// A `set`.
+fn parse_set(text: &[u8], tokens: &[Token]) -> Result<Statement, Fail<SyntaxFault>>
+    requires readable { All (IsReadable text.now) tokens.now }
+    requires few { length tokens.now ≤ 2 ^ 20 }
+    requires set { is_set (lexemes text.now tokens.now) ≡ true }
+    ensures { Parses text.now tokens.now result }
+{
+    let mut reader = Reader::new(text, tokens);
+    match set(&mut reader) {
+        Ok(digits) => {
+            let left = reader.count();
+            if left > 0 {
+                return Err(Fail::Refused(SyntaxFault::At(place(text, tokens, left))));
+            }
+            match conflicts(digits) {
+                Some(number) => Ok(Statement::SetConflicts(number)),
+                None => Err(Fail::Refused(SyntaxFault::OutOfRange(tokens[2].span.from))),
+            }
+        }
+        Err(Stop::Syntax) => Err(Fail::Refused(SyntaxFault::At(place(
+            text,
+            tokens,
+            reader.count(),
+        )))),
+        Err(Stop::NoMemory) => Err(Fail::NoMemory),
+    }
+}
+
+fn parse_readable(
+    alloc: Global,
+    text: &[u8],
+    tokens: &[Token],
+) -> Result<Statement, Fail<SyntaxFault>>
+    requires readable { All (IsReadable text.now) tokens.now }
+    requires few { length tokens.now ≤ 2 ^ 20 }
+    ensures { Parses text.now tokens.now result }
+{
+    if Reader::new(text, tokens).sees_word(b"set") {
+        parse_set(text, tokens)
+    } else {
+        parse_plain(alloc, text, tokens)
+    }
+}
+
+/// The statement that the tokens of a text are.
+///
+/// # Errors
+/// `At` where the tokens are no statement, else a literal or a name that is out of its limits: the
+/// first such token.
+pub fn parse(alloc: Global, text: &[u8], tokens: &[Token]) -> Result<Statement, Fail<SyntaxFault>>
+    requires spelled { Spells text.now tokens.now }
+    requires short { length text.now ≤ 1048576 }
+    // The tokens are a statement of the grammar, they fit, and the statement is written as them.
+    ensures statement { OnOk result (IsStatement (lexemes text.now tokens.now)) }
+    ensures fit { OnOk result (AllFit (lexemes text.now tokens.now)) }
+    ensures written { IfOk result (λ statement. IsWrittenAs statement (lexemes text.now tokens.now)) }
+
+    // A refusal names the first fault of syntax, else the first token that doesn't fit.
+    ensures refused { (fault : SyntaxFault) → result ≡ Err (Refused fault) → Refuses text.now tokens.now fault }
+
+    // A statement that fits is read, unless memory runs out; and no other statement is written so.
+    ensures complete { IsStatement (lexemes text.now tokens.now) → AllFit (lexemes text.now tokens.now) → MatchResult result (λ _. Unit {0}) (λ e. e ≡ NoMemory) }
+    ensures only { (statement : Statement) → IsWrittenAs statement (lexemes text.now tokens.now) → IfOk result (λ found. found ≡ statement) }
+{
+    parse_readable(alloc, text, tokens)
+}

@@ -1,0 +1,191 @@
+#![tactic(auto, using(crate::proofs::Steps::steps))]
+
+ghost use Rattle.std.specs.Prelude.{◌≡◌, ◌≤◌, ◌<◌, ◌^◌, ◌++◌, ◌∷◌, [], Some, IsSome, IfSome, IfOk, IsTrue, length, drop, All};
+ghost use Rattle.spj_syntax.specs.Lexemes.{Word, Number, Mark};
+ghost use Rattle.cqa_value.specs.Literals.{integer_of, are_digits, without_minus};
+ghost use Rattle.spj_syntax.specs.Grammar.{literal};
+ghost use Rattle.spj_syntax.specs.Parsed.{lexemes};
+ghost use Rattle.spj_syntax.specs.Reading.{Reads, front_of, seen, SeenSound, IsReadable};
+ghost use Rattle.spj_syntax.specs.Written.{name_tokens};
+ghost use Rattle.spj_syntax.specs.Shapes.{word, name, int, mark, one};
+ghost use Rattle.spj_syntax.specs.Walk.{Opens};
+
+use crate::leaf::short_name;
+use cqa_value::{Name, NoMemory};
+use script_lex::{Symbol, Token, TokenKind};
+use std::alloc::Global;
+use std::marker::Model;
+
+/// Why reading stopped: want of memory, or a token that no statement goes on with.
+#[derive(Clone, Copy, Debug, PartialEq, Eq)]
+pub enum Stop {
+    NoMemory,
+    Syntax,
+}
+
+impl From<NoMemory> for Stop {
+    ghost use Rattle.spj_syntax.specs.declared.reader.Stop.TheVariants.{NoMemory};
+
+    ghost from_gives = { λ _ e. e ≡ NoMemory };
+
+    fn from(_: NoMemory) -> Self {
+        Stop::NoMemory
+    }
+}
+
+/// What stands first: a token by its bytes, those of a text without its outer quotes, or the end.
+#[derive(Clone, Copy)]
+pub enum Seen<'a> {
+    Word(&'a [u8]),
+    Int(&'a [u8]),
+    Text(&'a [u8]),
+    Sym(Symbol),
+    End,
+}
+
+/// The tokens of a text that are left to be read.
+#[derive(Drop)]
+pub struct Reader<'a> {
+    text: &'a [u8],
+    tokens: &'a [Token],
+}
+
+impl<'a> Model for Reader<'a> {
+    ghost use Rattle.std.specs.Prelude.{List, All, map, length, ◌≤◌, ◌^◌};
+    ghost use Rattle.spj_syntax.specs.Lexemes.{Lexeme, lexeme};
+    ghost use Rattle.spj_syntax.specs.Reading.{IsReadable};
+
+    ghost Value = { List Lexeme };
+
+    ghost view = { λ r. map (lexeme r.text.now) r.tokens.now };
+
+    ghost invariant = { λ r. All (IsReadable r.text.now) r.tokens.now × (length r.tokens.now ≤ 2 ^ 20) };
+}
+
+impl<'a> Reader<'a> {
+    pub fn new(text: &'a [u8], tokens: &'a [Token]) -> Reader<'a>
+        requires readable { All (IsReadable text.now) tokens.now }
+        requires few { length tokens.now ≤ 2 ^ 20 }
+        ensures { result ≡ lexemes text.now tokens.now }
+    {
+        Reader { text, tokens }
+    }
+
+    /// How many tokens are left.
+    pub fn count(&self) -> usize
+        ensures left { result ≡ length self.now }
+        ensures few { result ≤ 2 ^ 20 }
+    {
+        self.tokens.len()
+    }
+
+    pub fn peek(&self) -> Seen<'a>
+        ensures front { front_of self.now ≡ seen result }
+        ensures sound { SeenSound result }
+    {
+        if self.tokens.is_empty() {
+            return Seen::End;
+        }
+        let token = self.tokens[0];
+        let bytes = &self.text[token.span.from..token.span.to];
+        match token.kind {
+            TokenKind::Word => Seen::Word(bytes),
+            TokenKind::Int => Seen::Int(bytes),
+            TokenKind::Text => Seen::Text(&bytes[1..bytes.len() - 1]),
+            TokenKind::Sym(symbol) => Seen::Sym(symbol),
+        }
+    }
+
+    pub fn advance(&mut self)
+        requires { IsSome (front_of self.old) }
+        ensures { self.new ≡ drop 1 self.old }
+    {
+        self.tokens = &self.tokens[1..];
+    }
+
+    pub fn sees_word(&self, wanted: &[u8]) -> bool
+        ensures { Opens result (one (word wanted.now)) self.now }
+    {
+        match self.peek() {
+            Seen::Word(found) => wanted == found,
+            _ => false,
+        }
+    }
+
+    pub fn sees_name(&self) -> bool
+        ensures { Opens result (one name) self.now }
+    {
+        match self.peek() {
+            Seen::Word(found) => b"primary".as_slice() != found,
+            _ => false,
+        }
+    }
+
+    pub fn sees_literal(&self) -> bool
+        ensures { Opens result literal self.now }
+    {
+        matches!(self.peek(), Seen::Int(_) | Seen::Text(_))
+    }
+
+    pub fn sees_mark(&self, symbol: Symbol) -> bool
+        ensures { Opens result (one (mark symbol)) self.now }
+    {
+        match self.peek() {
+            Seen::Sym(found) => symbol == found,
+            _ => false,
+        }
+    }
+
+    pub fn word(&mut self, wanted: &[u8]) -> Result<(), Stop>
+        ensures { Reads (one (word wanted.now)) (λ _. Word wanted.now ∷ []) result self.old self.new }
+    {
+        if self.sees_word(wanted) {
+            self.advance();
+            Ok(())
+        } else {
+            Err(Stop::Syntax)
+        }
+    }
+
+    pub fn mark(&mut self, symbol: Symbol) -> Result<(), Stop>
+        ensures { Reads (one (mark symbol)) (λ _. Mark symbol ∷ []) result self.old self.new }
+    {
+        if self.sees_mark(symbol) {
+            self.advance();
+            Ok(())
+        } else {
+            Err(Stop::Syntax)
+        }
+    }
+
+    pub fn name(&mut self, alloc: Global) -> Result<Name, Stop>
+        ensures { Reads (one name) name_tokens result self.old self.new }
+    {
+        match self.peek() {
+            Seen::Word(bytes) => {
+                if b"primary".as_slice() == bytes {
+                    return Err(Stop::Syntax);
+                }
+                let name = short_name(alloc, bytes)?;
+                self.advance();
+                Ok(name)
+            }
+            _ => Err(Stop::Syntax),
+        }
+    }
+
+    /// The bytes of an integer.
+    pub fn int(&mut self) -> Result<&'a [u8], Stop>
+        ensures reads { Reads (one int) (λ digits. Number (integer_of digits.now) ∷ []) result self.old self.new }
+        ensures digits { IfOk result (λ digits. IsTrue (are_digits (without_minus digits.now))) }
+        ensures first { IfOk result (λ digits. self.old ≡ Number (integer_of digits.now) ∷ self.new) }
+    {
+        match self.peek() {
+            Seen::Int(digits) => {
+                self.advance();
+                Ok(digits)
+            }
+            _ => Err(Stop::Syntax),
+        }
+    }
+}

@@ -1,0 +1,207 @@
+ghost use Rattle.std.specs.Prelude.{◌≡◌, ◌<◌, ◌∷◌, ◌++◌, [], length, IfOk, IsTrue, codes};
+ghost use Rattle.cqa_value.specs.Literals.{integer_of, are_digits, without_minus};
+ghost use Rattle.spj_syntax.specs.Lexemes.{Word, Number, Mark};
+ghost use Rattle.spj_syntax.specs.Reading.{Reads};
+ghost use Rattle.spj_syntax.specs.Shapes.{◌⨾◌};
+ghost use Rattle.spj_syntax.specs.Written.{head_tokens, select_tokens, statement_tokens, listed_tokens, literal_tokens, name_tokens, IsProper};
+ghost use Rattle.spj_syntax.specs.Grammar as grammar;
+ghost use Rattle.spj_syntax.specs.Factored as factored;
+
+use crate::lists::{columns, filtered, listed, literals};
+use crate::reader::{Reader, Stop};
+use crate::{RawCol, RawSchema, Select, Statement};
+use cqa_value::{Items, Name, Row};
+use script_lex::Symbol;
+use std::alloc::Global;
+
+/// The columns of a `select`, or none for `exists`.
+fn head(alloc: Global, reader: &mut Reader<'_>) -> Result<Items<RawCol>, Stop>
+    ensures { Reads grammar.head head_tokens result reader.old reader.new }
+{
+    if reader.sees_word(b"select") {
+        reader.advance();
+        let columns = listed(alloc, reader)?;
+        return Ok(columns);
+    }
+    reader.word(b"exists")?;
+    Ok(Items::new(alloc))
+}
+
+fn query(alloc: Global, reader: &mut Reader<'_>) -> Result<Select, Stop>
+    ensures reads { Reads factored.query select_tokens result reader.old reader.new }
+    ensures some { IfOk result (λ q. 0 < length q.tables) }
+{
+    let columns = head(alloc, reader)?;
+    let _ = reader.word(b"from")?;
+    let tables = listed(alloc, reader)?;
+    let conds = filtered(alloc, reader)?;
+    Ok(Select {
+        columns,
+        tables,
+        conds,
+    })
+}
+
+fn asking(alloc: Global, reader: &mut Reader<'_>) -> Result<Statement, Stop>
+    ensures reads { Reads factored.asking_query statement_tokens result reader.old reader.new }
+    ensures proper { IfOk result (λ s. IsProper s) }
+{
+    if reader.sees_word(b"ask") {
+        reader.advance();
+        let asked = query(alloc, reader)?;
+        return Ok(Statement::Ask(asked));
+    }
+    if reader.sees_word(b"possible") {
+        reader.advance();
+        let possible = query(alloc, reader)?;
+        return Ok(Statement::Possible(possible));
+    }
+    if reader.sees_word(b"classify") {
+        reader.advance();
+        let classified = query(alloc, reader)?;
+        return Ok(Statement::Classify(classified));
+    }
+    reader.word(b"plan")?;
+    let planned = query(alloc, reader)?;
+    Ok(Statement::Plan(planned))
+}
+
+/// The names of a key.
+fn key(alloc: Global, reader: &mut Reader<'_>) -> Result<Items<Name>, Stop>
+    ensures reads { Reads grammar.key (λ names. Word (codes "primary") ∷ Word (codes "key") ∷ Mark Symbol.Open ∷ (listed_tokens name_tokens names ++ Mark Symbol.Close ∷ [])) result reader.old reader.new }
+    ensures some { IfOk result (λ v. 0 < length v) }
+{
+    let _ = reader.word(b"primary")?;
+    let _ = reader.word(b"key")?;
+    let _ = reader.mark(Symbol::Open)?;
+    let names = listed(alloc, reader)?;
+    let _ = reader.mark(Symbol::Close)?;
+    Ok(names)
+}
+
+fn create(alloc: Global, reader: &mut Reader<'_>) -> Result<Statement, Stop>
+    ensures reads { Reads factored.create statement_tokens result reader.old reader.new }
+    ensures proper { IfOk result (λ s. IsProper s) }
+{
+    let _ = reader.word(b"create")?;
+    let _ = reader.word(b"table")?;
+    let name = reader.name(alloc)?;
+    let _ = reader.mark(Symbol::Open)?;
+    let columns = columns(alloc, reader)?;
+    let key = key(alloc, reader)?;
+    let _ = reader.mark(Symbol::Close)?;
+    let schema = RawSchema { name, columns, key };
+    Ok(Statement::Create { schema })
+}
+
+fn insert(alloc: Global, reader: &mut Reader<'_>) -> Result<Statement, Stop>
+    ensures reads { Reads grammar.insert statement_tokens result reader.old reader.new }
+    ensures proper { IfOk result (λ s. IsProper s) }
+{
+    let _ = reader.word(b"insert")?;
+    let _ = reader.word(b"into")?;
+    let table = reader.name(alloc)?;
+    let _ = reader.word(b"values")?;
+    let rows = listed(alloc, reader)?;
+    Ok(Statement::Insert { table, rows })
+}
+
+fn delete(alloc: Global, reader: &mut Reader<'_>) -> Result<Statement, Stop>
+    ensures reads { Reads grammar.delete statement_tokens result reader.old reader.new }
+    ensures proper { IfOk result (λ s. IsProper s) }
+{
+    let _ = reader.word(b"delete")?;
+    let _ = reader.word(b"from")?;
+    let table = reader.name(alloc)?;
+    let tests = filtered(alloc, reader)?;
+    Ok(Statement::Delete { table, tests })
+}
+
+/// The literals of a row, or none before its `)`.
+fn optional_literals(alloc: Global, reader: &mut Reader<'_>) -> Result<Row, Stop>
+    ensures { Reads (grammar.optional (grammar.listed grammar.literal)) (listed_tokens literal_tokens) result reader.old reader.new }
+{
+    if reader.sees_literal() {
+        let values = literals(alloc, reader)?;
+        return Ok(values);
+    }
+    Ok(Row::new(alloc))
+}
+
+fn explain(alloc: Global, reader: &mut Reader<'_>) -> Result<Statement, Stop>
+    ensures reads { Reads factored.explain statement_tokens result reader.old reader.new }
+    ensures proper { IfOk result (λ s. IsProper s) }
+{
+    let _ = reader.word(b"explain")?;
+    let _ = reader.word(b"row")?;
+    let _ = reader.mark(Symbol::Open)?;
+    let row = optional_literals(alloc, reader)?;
+    let _ = reader.mark(Symbol::Close)?;
+    let _ = reader.word(b"for")?;
+    let select = query(alloc, reader)?;
+    Ok(Statement::Explain { row, select })
+}
+
+fn copy(alloc: Global, reader: &mut Reader<'_>) -> Result<Statement, Stop>
+    ensures reads { Reads grammar.copy statement_tokens result reader.old reader.new }
+    ensures proper { IfOk result (λ s. IsProper s) }
+{
+    let _ = reader.word(b"copy")?;
+    let table = reader.name(alloc)?;
+    Ok(Statement::Copy { table })
+}
+
+fn show(reader: &mut Reader<'_>) -> Result<Statement, Stop>
+    ensures reads { Reads factored.show statement_tokens result reader.old reader.new }
+    ensures proper { IfOk result (λ s. IsProper s) }
+{
+    reader.word(b"show")?;
+    if reader.sees_word(b"tables") {
+        reader.advance();
+        return Ok(Statement::ShowTables);
+    }
+    let _ = reader.word(b"log")?;
+    Ok(Statement::ShowLog)
+}
+
+/// The digits of the number of a `set`.
+pub fn set<'a>(reader: &mut Reader<'a>) -> Result<&'a [u8], Stop>
+    ensures reads { Reads grammar.set (λ digits. Word (codes "set") ∷ Word (codes "conflicts") ∷ Number (integer_of digits.now) ∷ []) result reader.old reader.new }
+    ensures digits { IfOk result (λ digits. IsTrue (are_digits (without_minus digits.now))) }
+    ensures whole { IfOk result (λ digits. reader.old ≡ Word (codes "set") ∷ Word (codes "conflicts") ∷ Number (integer_of digits.now) ∷ reader.new) }
+{
+    let _ = reader.word(b"set")?;
+    let _ = reader.word(b"conflicts")?;
+    let digits = reader.int()?;
+    Ok(digits)
+}
+
+/// Any statement but a `set`.
+pub fn plain(alloc: Global, reader: &mut Reader<'_>) -> Result<Statement, Stop>
+    ensures reads { Reads factored.plain statement_tokens result reader.old reader.new }
+    ensures proper { IfOk result (λ s. IsProper s) }
+{
+    if reader.sees_word(b"create") {
+        return create(alloc, reader);
+    }
+    if reader.sees_word(b"insert") {
+        return insert(alloc, reader);
+    }
+    if reader.sees_word(b"delete") {
+        return delete(alloc, reader);
+    }
+    if reader.sees_word(b"explain") {
+        return explain(alloc, reader);
+    }
+    if reader.sees_word(b"copy") {
+        return copy(alloc, reader);
+    }
+    if reader.sees_word(b"dump") {
+        reader.advance();
+        return Ok(Statement::Dump);
+    }
+    if reader.sees_word(b"show") {
+        return show(reader);
+    }
+    asking(alloc, reader)
+}
