@@ -1,6 +1,7 @@
 -- Devices in memory, as their callers see them.
 use Rattle.std.specs.Prelude.{◌≡◌, ◌==◌, ◌||◌, min, length, Result, is_err, IfOk, ℕ, zero, suc, ◌+◌, ◌-◌, ◌^◌, Bool, nat_eq, nat_lt, if◌then◌else◌, ◌&&◌, List}
 use Rattle.std.specs.List.{list_any}
+use Rattle.cqa_io.specs.Causes.{Counts}
 use Rattle.cqa_io.specs.declared.streams.Failed.{Failed}
 
 -- the numbers of the calls that fail, from 1, and how many calls have had a number
@@ -41,7 +42,7 @@ after_call calls = record calls { done = if has_number calls then calls.done + 1
 -- Else it takes the whole piece, or as much as there is room for.
 pub record WritesToMemory (old : SinkView) (bytes : List ℕ) (result : Result ℕ Failed) (new : SinkView) : Type 0 where
   pub fails : is_err result ≡ (next_fails old.calls || (length old.held == old.room))
-  pub raised : new.faults ≡ (if is_err result then min (old.faults + 1) (2 ^ 64 - 1) else old.faults)
+  pub counted : Counts old.faults new.faults result
   pub count : IfOk result (λ n. n ≡ min (length bytes) (old.room - length old.held))
   pub called : new.calls ≡ after_call old.calls
   pub same_room : new.room ≡ old.room

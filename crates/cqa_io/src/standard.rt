@@ -1,5 +1,8 @@
-ghost use Rattle.std.specs.Prelude.{◌≡◌};
-ghost use Rattle.cqa_io.specs.Standard.{errors_read, errors_written};
+ghost use Rattle.std.specs.Prelude.{◌≡◌, ◌<◌, ◌≤◌, IfOk, length, take};
+ghost use Rattle.std.specs.Io.{ReadsAtMost};
+ghost use Rattle.std.specs.Io.KnownBytes.{Appends, ReadConsumes};
+ghost use Rattle.cqa_io.specs.Causes.{Counts, HasCause};
+ghost use Rattle.cqa_io.specs.Standard.{errors_read, errors_written, reader_of, writer_of};
 
 use crate::{Failed, Sink, Source};
 use std::io::{Read, Write};
@@ -13,7 +16,8 @@ pub struct StdSource<R: Read> {
 
 impl<R: Read> StdSource<R> {
     pub fn new(reader: R) -> StdSource<R>
-        ensures { errors_read result ≡ 0 }
+        ensures errors { errors_read result ≡ 0 }
+        ensures reader { reader_of result ≡ reader }
     {
         StdSource { reader, faults: 0 }
     }
@@ -26,7 +30,13 @@ impl<R: Read> Source for StdSource<R> {
 
     ghost faults = { errors_read };
 
-    fn read(&mut self, into: &mut [u8]) -> Result<usize, Failed> {
+    fn read(&mut self, into: &mut [u8]) -> Result<usize, Failed>
+        requires { 0 < length into.old }
+        ensures bound { ReadsAtMost result into.new }
+        ensures reader { ReadConsumes (R.remaining (reader_of self.old)) (R.remaining (reader_of self.new)) result into.new }
+        ensures cause { HasCause (errors_read self.old) (errors_read self.new) result }
+        ensures counted { Counts (errors_read self.old) (errors_read self.new) result }
+    {
         match self.reader.read(into) {
             Ok(count) => Ok(count),
             Err(_) => {
@@ -47,7 +57,8 @@ pub struct StdSink<W: Write> {
 
 impl<W: Write> StdSink<W> {
     pub fn new(writer: W) -> StdSink<W>
-        ensures { errors_written result ≡ 0 }
+        ensures errors { errors_written result ≡ 0 }
+        ensures writer { writer_of result ≡ writer }
     {
         StdSink { writer, faults: 0 }
     }
@@ -60,7 +71,14 @@ impl<W: Write> Sink for StdSink<W> {
 
     ghost faults = { errors_written };
 
-    fn write(&mut self, bytes: &[u8]) -> Result<usize, Failed> {
+    fn write(&mut self, bytes: &[u8]) -> Result<usize, Failed>
+        requires { 0 < length bytes.now }
+        ensures some { IfOk result (λ n. 0 < n) }
+        ensures bound { IfOk result (λ n. n ≤ length bytes.now) }
+        ensures writer { IfOk result (λ n. Appends (W.contents (writer_of self.old)) (W.contents (writer_of self.new)) (take n bytes.now)) }
+        ensures cause { HasCause (errors_written self.old) (errors_written self.new) result }
+        ensures counted { Counts (errors_written self.old) (errors_written self.new) result }
+    {
         if let Ok(count) = self.writer.write(bytes)
             && count > 0
             && self.writer.flush().is_ok()
