@@ -119,6 +119,10 @@ Cuts-blank ended input s rest h k = record { begins = h; over = space_over ended
 pub Cuts-part : (ended : Bool) (input : List ℕ) (s : List Statement) (rest : List ℕ) → Begins ended input s rest → IsCut ended rest cuts.Part → Cuts ended input s rest
 Cuts-part ended input s rest h k = record { begins = h; over = k.1 }
 
+-- an input that its statements take up
+pub Cuts-end : (ended : Bool) (input : List ℕ) (s : List Statement) → Begins ended input s [] → Cuts ended input s []
+Cuts-end ended input s h = Cuts-blank ended input s [] h (record { ends = Outside; leads = refl; whole = λ e. absurd (cc e) })
+
 -- For a recursion: the first statement before the cut of what follows it.
 pub Cuts-statement : (ended : Bool) (bytes : List ℕ) (text : Span) (block : Option Span) (at : ℕ) (s : List Statement) (rest : List ℕ) → IsCut ended bytes (cuts.Statement text block at) → Cuts ended (drop at bytes) s rest
     → Cuts ended bytes (statement_at bytes text block ∷ s) rest
