@@ -85,7 +85,14 @@ fn add_conds(out: &mut Text, conds: &[RawCond]) -> Result<(), NoMemory> {
 fn add_select(out: &mut Text, word: &[u8], select: &Select) -> Result<(), NoMemory> {
     add(out, word)?;
     let columns = select.columns.as_slice();
-    add(out, if columns.is_empty() { b"exists" } else { b"select " })?;
+    add(
+        out,
+        if columns.is_empty() {
+            b"exists"
+        } else {
+            b"select "
+        },
+    )?;
     for (at, col) in columns.iter().enumerate() {
         add(out, if at == 0 { b"" } else { b", " })?;
         add_col(out, col)?;
@@ -197,8 +204,14 @@ fn statements() -> [(&'static [u8], &'static [u8]); 22] {
             b"ask exists from where where and = and and where = 'and'",
         ),
         (b"possible exists from r", b"possible exists from r"),
-        (b"classify select x from r, s", b"classify select x from r, s"),
-        (b"plan exists from r where x = y", b"plan exists from r where x = y"),
+        (
+            b"classify select x from r, s",
+            b"classify select x from r, s",
+        ),
+        (
+            b"plan exists from r where x = y",
+            b"plan exists from r where x = y",
+        ),
         (
             b"explain row () for exists from r",
             b"explain row () for exists from r",
@@ -228,12 +241,24 @@ fn faults() -> [(&'static [u8], SyntaxFault); 34] {
         (b"show copy", SyntaxFault::At(5)),
         (b"copy 1", SyntaxFault::At(5)),
         (b"copy primary", SyntaxFault::At(5)),
-        (b"create table primary (a int, primary key (a))", SyntaxFault::At(13)),
+        (
+            b"create table primary (a int, primary key (a))",
+            SyntaxFault::At(13),
+        ),
         (b"create table r (primary key (a))", SyntaxFault::At(16)),
         (b"create table r (a int)", SyntaxFault::At(21)),
-        (b"create table r (a int, primary key ())", SyntaxFault::At(36)),
-        (b"create table r (a date, primary key (a))", SyntaxFault::At(18)),
-        (b"create table r (a int, primary key (a)", SyntaxFault::At(38)),
+        (
+            b"create table r (a int, primary key ())",
+            SyntaxFault::At(36),
+        ),
+        (
+            b"create table r (a date, primary key (a))",
+            SyntaxFault::At(18),
+        ),
+        (
+            b"create table r (a int, primary key (a)",
+            SyntaxFault::At(38),
+        ),
         (b"insert into r values ()", SyntaxFault::At(22)),
         (b"insert into r values (1,)", SyntaxFault::At(24)),
         (b"insert into r values (1) (2)", SyntaxFault::At(25)),
@@ -248,12 +273,24 @@ fn faults() -> [(&'static [u8], SyntaxFault); 34] {
         (b"set conflicts 5 6", SyntaxFault::At(16)),
         (b"set conflicts x", SyntaxFault::At(14)),
         (b"set conflicts", SyntaxFault::At(13)),
-        (b"insert into r values (1, 9223372036854775808)", SyntaxFault::OutOfRange(25)),
-        (b"delete from r where a = -9223372036854775809", SyntaxFault::OutOfRange(24)),
+        (
+            b"insert into r values (1, 9223372036854775808)",
+            SyntaxFault::OutOfRange(25),
+        ),
+        (
+            b"delete from r where a = -9223372036854775809",
+            SyntaxFault::OutOfRange(24),
+        ),
         (b"set conflicts 4294967296", SyntaxFault::OutOfRange(14)),
         (b"set conflicts -1", SyntaxFault::OutOfRange(14)),
-        (b"set conflicts 9223372036854775808", SyntaxFault::OutOfRange(14)),
-        (b"insert into r values (9223372036854775808", SyntaxFault::At(41)),
+        (
+            b"set conflicts 9223372036854775808",
+            SyntaxFault::OutOfRange(14),
+        ),
+        (
+            b"insert into r values (9223372036854775808",
+            SyntaxFault::At(41),
+        ),
     ]
 }
 
@@ -261,7 +298,10 @@ fn faults() -> [(&'static [u8], SyntaxFault); 34] {
 fn statements_are_read(rt: HostRuntime) -> Result<(), Fail> {
     for (text, wanted) in statements() {
         let found = read(rt.alloc(), text)?;
-        assert!(rt; matches!(&found, Ok(spelling) if spelling.as_slice() == wanted), "{text:?}");
+        assert!(rt;
+            matches!(&found, Ok(spelling) if spelling.as_slice() == wanted),
+            "{text:?}"
+        );
     }
     Ok(())
 }
@@ -270,13 +310,22 @@ fn statements_are_read(rt: HostRuntime) -> Result<(), Fail> {
 fn faults_are_told(rt: HostRuntime) -> Result<(), Fail> {
     for (text, wanted) in faults() {
         let found = read(rt.alloc(), text)?;
-        assert!(rt; matches!(&found, Err(fault) if *fault == wanted), "{text:?}");
+        assert!(rt;
+            matches!(&found, Err(fault) if *fault == wanted),
+            "{text:?}"
+        );
     }
     Ok(())
 }
 
 /// A text with so many times a piece between two others.
-fn repeated(alloc: Global, first: &[u8], piece: &[u8], times: usize, last: &[u8]) -> Result<Text, NoMemory> {
+fn repeated(
+    alloc: Global,
+    first: &[u8],
+    piece: &[u8],
+    times: usize,
+    last: &[u8],
+) -> Result<Text, NoMemory> {
     let mut text = Vec::new(alloc);
     add(&mut text, first)?;
     for _ in 0..times {
@@ -287,7 +336,13 @@ fn repeated(alloc: Global, first: &[u8], piece: &[u8], times: usize, last: &[u8]
 }
 
 /// The fault of a text made of a piece, so many times, between two others; `None` where it is a statement.
-fn fault_of(alloc: Global, first: &[u8], piece: &[u8], times: usize, last: &[u8]) -> Result<Option<SyntaxFault>, &'static str> {
+fn fault_of(
+    alloc: Global,
+    first: &[u8],
+    piece: &[u8],
+    times: usize,
+    last: &[u8],
+) -> Result<Option<SyntaxFault>, &'static str> {
     let Ok(text) = repeated(alloc, first, piece, times, last) else {
         return Err("no memory");
     };
@@ -297,23 +352,68 @@ fn fault_of(alloc: Global, first: &[u8], piece: &[u8], times: usize, last: &[u8]
     }
 }
 
+type Limit = (
+    &'static [u8],
+    &'static [u8],
+    usize,
+    &'static [u8],
+    Option<SyntaxFault>,
+);
+
+/// Texts with a piece repeated, at a limit and past it. The first token that doesn't fit is told,
+/// and a fault of syntax before it.
+fn limits() -> [Limit; 11] {
+    [
+        (b"copy ", b"a", 64, b"", None),
+        (b"copy ", b"a", 65, b"", Some(SyntaxFault::LongName(5))),
+        (b"copy ", b"a", 2000, b"", Some(SyntaxFault::LongName(5))),
+        (b"delete from r where a = '", b"b", 1024, b"'", None),
+        (
+            b"delete from r where a = '",
+            b"b",
+            1025,
+            b"'",
+            Some(SyntaxFault::TextTooLong(24)),
+        ),
+        (b"delete from r where a = '", b"''", 1024, b"'", None),
+        (
+            b"delete from r where a = '",
+            b"''",
+            1025,
+            b"'",
+            Some(SyntaxFault::TextTooLong(24)),
+        ),
+        (
+            b"insert into ",
+            b"a",
+            65,
+            b" values (9223372036854775808)",
+            Some(SyntaxFault::LongName(12)),
+        ),
+        (
+            b"insert into r values (9223372036854775808, '",
+            b"b",
+            1025,
+            b"')",
+            Some(SyntaxFault::OutOfRange(22)),
+        ),
+        (
+            b"insert into r values ('",
+            b"b",
+            1025,
+            b"', 9223372036854775808)",
+            Some(SyntaxFault::TextTooLong(22)),
+        ),
+        (b"copy ", b"a", 65, b" b", Some(SyntaxFault::At(71))),
+    ]
+}
+
 #[test]
 fn limits_are_kept(rt: HostRuntime) -> Result<(), Fail> {
-    let alloc = rt.alloc();
-    let long_name = SyntaxFault::LongName;
-    let long_text = SyntaxFault::TextTooLong;
-    assert_eq!(rt; fault_of(alloc, b"copy ", b"a", 64, b"")?, None);
-    assert_eq!(rt; fault_of(alloc, b"copy ", b"a", 65, b"")?, Some(long_name(5)));
-    assert_eq!(rt; fault_of(alloc, b"copy ", b"a", 2000, b"")?, Some(long_name(5)));
-    assert_eq!(rt; fault_of(alloc, b"delete from r where a = '", b"b", 1024, b"'")?, None);
-    assert_eq!(rt; fault_of(alloc, b"delete from r where a = '", b"b", 1025, b"'")?, Some(long_text(24)));
-    assert_eq!(rt; fault_of(alloc, b"delete from r where a = '", b"''", 1024, b"'")?, None);
-    assert_eq!(rt; fault_of(alloc, b"delete from r where a = '", b"''", 1025, b"'")?, Some(long_text(24)));
-    // The first token that doesn't fit is told, and a fault of syntax before it.
-    assert_eq!(rt; fault_of(alloc, b"insert into ", b"a", 65, b" values (9223372036854775808)")?, Some(long_name(12)));
-    assert_eq!(rt; fault_of(alloc, b"insert into r values (9223372036854775808, '", b"b", 1025, b"')")?, Some(SyntaxFault::OutOfRange(22)));
-    assert_eq!(rt; fault_of(alloc, b"insert into r values ('", b"b", 1025, b"', 9223372036854775808)")?, Some(long_text(22)));
-    assert_eq!(rt; fault_of(alloc, b"copy ", b"a", 65, b" b")?, Some(SyntaxFault::At(71)));
+    for (first, piece, times, last, wanted) in limits() {
+        let found = fault_of(rt.alloc(), first, piece, times, last)?;
+        assert!(rt; found == wanted, "{first:?} {times} {last:?}");
+    }
     Ok(())
 }
 
