@@ -7,3 +7,5 @@ pub mod Values
 pub mod Trees
 pub mod Spelled
 pub mod Whole
+pub mod Answered
+pub mod Sizes

@@ -1,5 +1,5 @@
 -- How a statement is written as tokens.
-use Rattle.std.specs.Prelude.{◌≡◌, ◌<◌, length, List, [], ◌∷◌, ◌++◌, ℕ, Option, Some, None, codes, pos, All}
+use Rattle.std.specs.Prelude.{◌≡◌, ◌<◌, ◌≤◌, length, List, [], ◌∷◌, ◌++◌, ℕ, Option, Some, None, codes, pos, All}
 use Rattle.script_lex.specs.declared.kinds.Symbol.{Symbol}
 use Rattle.script_lex.specs.declared.kinds.Symbol.TheVariants as s
 use Rattle.cqa_value.specs.declared.value.Kind.{Kind}
@@ -121,6 +121,22 @@ IsProper (statements.Classify q) = IsSome q.tables
 IsProper (statements.Plan q) = IsSome q.tables
 IsProper (statements.Explain row q) = IsSome q.tables
 IsProper _ = Unit {0}
+
+-- No list of a query has more than so many items.
+abbrev pub SelectHasAtMost : ℕ → Select → Type 0
+SelectHasAtMost n q = (length q.columns ≤ n) × (length q.tables ≤ n) × (length q.conds ≤ n)
+
+-- Neither has a list of the statement.
+abbrev pub HasAtMost : ℕ → Statement → Type 0
+HasAtMost n (statements.Create r) = (length r.columns ≤ n) × (length r.key ≤ n)
+HasAtMost n (statements.Insert table rows) = length rows ≤ n
+HasAtMost n (statements.Delete table tests) = length tests ≤ n
+HasAtMost n (statements.Ask q) = SelectHasAtMost n q
+HasAtMost n (statements.Possible q) = SelectHasAtMost n q
+HasAtMost n (statements.Classify q) = SelectHasAtMost n q
+HasAtMost n (statements.Plan q) = SelectHasAtMost n q
+HasAtMost n (statements.Explain row q) = SelectHasAtMost n q
+HasAtMost n _ = Unit {0}
 
 -- A statement is written as tokens.
 pub record IsWrittenAs (statement : Statement) (ls : List Lexeme) : Type 0 where

@@ -1,11 +1,11 @@
-ghost use Rattle.std.specs.Prelude.{◌≡◌, ◌≤◌, ◌-◌, ◌^◌, All, IfOk, OnOk, Err, MatchResult, MatchOption, IsTrue, ◌↔◌, length, drop, pos, true, false};
+ghost use Rattle.std.specs.Prelude.{◌≡◌, ◌⊎◌, ◌≤◌, ◌-◌, ◌^◌, All, IfOk, OnOk, Err, MatchResult, MatchOption, IsTrue, ◌↔◌, length, drop, pos, true, false};
 ghost use Rattle.cqa_value.specs.Literals.{are_digits, without_minus, integer_of};
 ghost use Rattle.cqa_value.specs.declared.memory.Fail.TheVariants.{NoMemory, Refused};
 ghost use Rattle.script_lex.specs.Tokens.{Spells};
 ghost use Rattle.spj_syntax.specs.Lexemes.{lexeme, undoubled};
 ghost use Rattle.spj_syntax.specs.Parsed.{AllFit, Fits, IsStatement, IsFirstUnfit, IsInRange, Refuses, is_set, lexemes, place_of};
 ghost use Rattle.spj_syntax.specs.Reading.{IsReadable, IsUnfit, Parses, PlainFit};
-ghost use Rattle.spj_syntax.specs.Written.{IsWrittenAs};
+ghost use Rattle.spj_syntax.specs.Written.{IsWrittenAs, HasAtMost};
 ghost use Rattle.spj_syntax.specs.declared.tree.Statement.{Statement};
 ghost use Rattle.spj_syntax.specs.declared.fault.SyntaxFault.{SyntaxFault};
 
@@ -124,9 +124,9 @@ fn parse_set(text: &[u8], tokens: &[Token]) -> Result<Statement, Fail<SyntaxFaul
     let mut reader = Reader::new(text, tokens);
     match set(&mut reader) {
         Ok(digits) => {
-            let left = reader.count();
-            if left > 0 {
-                return Err(Fail::Refused(SyntaxFault::At(place(text, tokens, left))));
+            let behind = reader.count();
+            if behind > 0 {
+                return Err(Fail::Refused(SyntaxFault::At(place(text, tokens, behind))));
             }
             match conflicts(digits) {
                 Some(number) => Ok(Statement::SetConflicts(number)),
@@ -171,12 +171,16 @@ pub fn parse(alloc: Global, text: &[u8], tokens: &[Token]) -> Result<Statement, 
     ensures fit { OnOk result (AllFit (lexemes text.now tokens.now)) }
     ensures written { IfOk result (λ statement. IsWrittenAs statement (lexemes text.now tokens.now)) }
 
-    // A refusal names the first fault of syntax, else the first token that doesn't fit.
-    ensures refused { (fault : SyntaxFault) → result ≡ Err (Refused fault) → Refuses text.now tokens.now fault }
+    // No list of it is longer than the text.
+    ensures small { IfOk result (λ statement. HasAtMost (length text.now) statement) }
 
     // A statement that fits is read, unless memory runs out; and no other statement is written so.
     ensures complete { IsStatement (lexemes text.now tokens.now) → AllFit (lexemes text.now tokens.now) → MatchResult result (λ _. Unit {0}) (λ e. e ≡ NoMemory) }
     ensures only { (statement : Statement) → IsWrittenAs statement (lexemes text.now tokens.now) → IfOk result (λ found. found ≡ statement) }
+
+    // A refusal names the first fault of syntax, else the first token that doesn't fit; and where there is one, it is the answer, unless memory runs out.
+    ensures refused { (fault : SyntaxFault) → result ≡ Err (Refused fault) → Refuses text.now tokens.now fault }
+    ensures only_fault { (fault : SyntaxFault) → Refuses text.now tokens.now fault → MatchResult result (λ _. ⊥) (λ e. (e ≡ Refused fault) ⊎ (e ≡ NoMemory)) }
 {
     parse_readable(alloc, text, tokens)
 }

@@ -1,6 +1,7 @@
 use Rattle.std.proofs.Common.{arith}
 use Rattle.spj_syntax.proofs.Spelled.{spelled_readable, spelled_few}
-use Rattle.spj_syntax.proofs.Whole.{ok_statement, ok_fit, ok_written, err_refuses, statement_read, only_statement}
+use Rattle.spj_syntax.proofs.Answered.{ok_statement, ok_fit, ok_written, err_refuses, statement_read, only_statement, only_fault}
+use Rattle.spj_syntax.proofs.Sizes.{ok_within}
 use Rattle.spj_syntax.proofs.parser.parse.Goals as goal
 
 pub parse_readable-requires : goal.parse_readable-requires
@@ -23,3 +24,9 @@ returns-clause-complete c = statement_read _ _ _ c.parse_readable.ensures
 
 pub returns-clause-only : goal.returns-clause-only
 returns-clause-only c = only_statement _ _ _ c.parse_readable.ensures
+
+pub returns-clause-only_fault : goal.returns-clause-only_fault
+returns-clause-only_fault c = only_fault _ _ _ c.parse_readable.ensures
+
+pub returns-clause-small : goal.returns-clause-small
+returns-clause-small c = ok_within _ _ _ (spelled_few c.requires.spelled) c.parse_readable.ensures
