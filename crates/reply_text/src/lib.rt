@@ -1,6 +1,10 @@
 //! Replies to statements, and the text of each.
 #![tactic(auto)]
 
+mod append;
+mod refused;
 mod reply;
+mod text;
 
 pub use reply::{Reply, TableLine};
+pub use text::reply_bytes;
