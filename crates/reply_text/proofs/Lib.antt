@@ -1,1 +1,2 @@
+mod Example
 mod Pieces

@@ -3,6 +3,7 @@ use Rattle.std.specs.Prelude.{ℕ, Bool, true, false, List, ◌++◌, length, Op
 use Rattle.std.specs.Fmt.{decimal}
 use Rattle.std.specs.List.{flat_map}
 use Rattle.cqa_value.specs.Literals.{row_bytes}
+use Rattle.cqa_value.specs.declared.value.Value.{Value}
 use Rattle.cqa_model.specs.Text.{schema_bytes}
 use Rattle.cqa_model.specs.declared.refusal.Refusal.{Refusal}
 use Rattle.cqa_model.specs.declared.refusal.Refusal.TheVariants.{BadByte, Syntax, StatementTooLong, UnknownTable, TableExists, UnknownColumn, AmbiguousColumn, SelfJoin, TypeMismatch, WrongArity, DuplicateColumn, BadKey, OutOfRange, TextTooLong, Unfinished, Limit, WitnessLimit, Spent, BadCsv}
@@ -59,13 +60,21 @@ refusal_text (BadCsv number) = codes "error 19 BadCsv record " ++ decimal number
 abbrev pub table_text : TableLine → List ℕ
 table_text line = schema_bytes line.schema ++ codes " rows " ++ decimal line.rows ++ codes " blocks " ++ decimal line.blocks
 
--- the lines of a reply, each with its line feed
+-- each row on a line of its own, then N rows
+abbrev pub rows_text : List (List Value) → List ℕ
+rows_text rows = flat_map (λ row. row_bytes row ++ codes "\n") rows ++ decimal (length rows) ++ codes " rows"
+
+-- each table on a line of its own, then N tables
+abbrev pub tables_text : List TableLine → List ℕ
+tables_text lines = flat_map (λ line. table_text line ++ codes "\n") lines ++ decimal (length lines) ++ codes " tables"
+
+-- the lines of a reply, each with a line feed at its end
 abbrev pub reply_text : Reply → List ℕ
 reply_text (Created name) = codes "created " ++ name ++ codes "\n"
 reply_text (Inserted count) = codes "inserted " ++ decimal count ++ codes "\n"
 reply_text (Deleted count) = codes "deleted " ++ decimal count ++ codes "\n"
-reply_text (Rows rows) = flat_map (λ row. row_bytes row ++ codes "\n") rows ++ decimal (length rows) ++ codes " rows\n"
-reply_text (Tables lines) = flat_map (λ line. table_text line ++ codes "\n") lines ++ decimal (length lines) ++ codes " tables\n"
+reply_text (Rows rows) = rows_text rows ++ codes "\n"
+reply_text (Tables lines) = tables_text lines ++ codes "\n"
 reply_text (Refused refusal) = refusal_text refusal ++ codes "\n"
 
 -- the reply says that the statement was refused

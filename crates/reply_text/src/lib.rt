@@ -8,3 +8,6 @@ mod text;
 
 pub use reply::{Reply, TableLine};
 pub use text::reply_bytes;
+
+#[cfg(test)]
+mod tests;

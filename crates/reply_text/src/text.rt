@@ -1,8 +1,5 @@
-ghost use Rattle.std.specs.Prelude.{◌≡◌, ◌++◌, IfOk, OnOk, codes, length};
-ghost use Rattle.std.specs.Fmt.{decimal};
-ghost use Rattle.std.specs.List.{flat_map};
-ghost use Rattle.cqa_value.specs.Literals.{row_bytes};
-ghost use Rattle.reply_text.specs.Texts.{reply_text, table_text};
+ghost use Rattle.std.specs.Prelude.{◌≡◌, ◌++◌, IfOk, OnOk, codes};
+ghost use Rattle.reply_text.specs.Texts.{reply_text, rows_text, table_text, tables_text};
 
 use crate::append::{append_named, append_number, append_numbered, append_words};
 use crate::refused::append_refusal;
@@ -39,7 +36,7 @@ fn append_reply(reply: &Reply, out: &mut Vec<u8>) -> Result<(), NoMemory>
 }
 
 fn append_rows(rows: &[Row], out: &mut Vec<u8>) -> Result<(), NoMemory>
-    ensures { OnOk result (out.new.items ≡ out.old.items ++ (flat_map (λ row. row_bytes row ++ codes "\n") rows.now ++ decimal (length rows.now) ++ codes " rows")) }
+    ensures { OnOk result (out.new.items ≡ out.old.items ++ rows_text rows.now) }
 {
     for row in rows {
         row_text(row, out)?;
@@ -50,7 +47,7 @@ fn append_rows(rows: &[Row], out: &mut Vec<u8>) -> Result<(), NoMemory>
 }
 
 fn append_tables(lines: &[TableLine], out: &mut Vec<u8>) -> Result<(), NoMemory>
-    ensures { OnOk result (out.new.items ≡ out.old.items ++ (flat_map (λ line. table_text line ++ codes "\n") lines.now ++ decimal (length lines.now) ++ codes " tables")) }
+    ensures { OnOk result (out.new.items ≡ out.old.items ++ tables_text lines.now) }
 {
     for line in lines {
         append_table(line, out)?;
