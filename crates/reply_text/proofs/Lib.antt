@@ -1,0 +1,2 @@
+mod Example
+mod Pieces

@@ -1,0 +1,87 @@
+-- The bytes of each reply.
+use Rattle.std.specs.Prelude.{ℕ, Bool, true, false, List, ◌++◌, length, Option, Some, None, codes}
+use Rattle.std.specs.Fmt.{decimal}
+use Rattle.std.specs.List.{flat_map}
+use Rattle.cqa_value.specs.Literals.{row_bytes}
+use Rattle.cqa_value.specs.declared.value.Value.{Value}
+use Rattle.cqa_model.specs.Text.{schema_bytes}
+use Rattle.cqa_model.specs.declared.refusal.Refusal.{Refusal}
+use Rattle.cqa_model.specs.declared.refusal.Refusal.TheVariants.{BadByte, Syntax, StatementTooLong, UnknownTable, TableExists, UnknownColumn, AmbiguousColumn, SelfJoin, TypeMismatch, WrongArity, DuplicateColumn, BadKey, OutOfRange, TextTooLong, Unfinished, Limit, WitnessLimit, Spent, BadCsv}
+use Rattle.cqa_model.specs.declared.refusal.Place.{Place}
+use Rattle.cqa_model.specs.declared.refusal.Place.TheVariants.{Cell, Condition}
+use Rattle.cqa_model.specs.declared.refusal.LimitKind.{LimitKind}
+use Rattle.cqa_model.specs.declared.refusal.LimitKind.TheVariants.{Name as NameLimit, Tables as TablesLimit, Columns as ColumnsLimit, Atoms as AtomsLimit, Answer as AnswerLimit, Rows as RowsLimit}
+use Rattle.reply_text.specs.declared.reply.TableLine.{TableLine}
+use Rattle.reply_text.specs.declared.reply.Reply.{Reply}
+use Rattle.reply_text.specs.declared.reply.Reply.TheVariants.{Created, Inserted, Deleted, Rows, Tables, Refused}
+
+-- row R column C, or condition K
+abbrev pub place_text : Place → List ℕ
+place_text (Cell row column) = codes "row " ++ decimal row ++ codes " column " ++ decimal column
+place_text (Condition number) = codes "condition " ++ decimal number
+
+-- what is limited, and its greatest number
+abbrev pub limit_text : LimitKind → List ℕ
+limit_text NameLimit = codes "name 64"
+limit_text TablesLimit = codes "tables 64"
+limit_text ColumnsLimit = codes "columns 16"
+limit_text AtomsLimit = codes "atoms 12"
+limit_text AnswerLimit = codes "answer 192"
+limit_text RowsLimit = codes "rows 1000000"
+
+-- a column as it was written: NAME, or TABLE.NAME
+abbrev pub written_column : Option (List ℕ) → List ℕ → List ℕ
+written_column None name = name
+written_column (Some table) name = table ++ codes "." ++ name
+
+-- a refusal: its number, its name, and what it is about
+abbrev pub refusal_text : Refusal → List ℕ
+refusal_text (BadByte at) = codes "error 1 BadByte at " ++ decimal at
+refusal_text (Syntax at) = codes "error 2 Syntax at " ++ decimal at
+refusal_text (StatementTooLong len) = codes "error 3 StatementTooLong " ++ decimal len
+refusal_text (UnknownTable name) = codes "error 4 UnknownTable " ++ name
+refusal_text (TableExists name) = codes "error 5 TableExists " ++ name
+refusal_text (UnknownColumn table name) = codes "error 6 UnknownColumn " ++ written_column table name
+refusal_text (AmbiguousColumn name) = codes "error 7 AmbiguousColumn " ++ name
+refusal_text (SelfJoin name) = codes "error 8 SelfJoin " ++ name
+refusal_text (TypeMismatch place) = codes "error 9 TypeMismatch " ++ place_text place
+refusal_text (WrongArity row) = codes "error 10 WrongArity row " ++ decimal row
+refusal_text (DuplicateColumn name) = codes "error 11 DuplicateColumn " ++ name
+refusal_text (BadKey name) = codes "error 12 BadKey " ++ name
+refusal_text (OutOfRange at) = codes "error 13 OutOfRange at " ++ decimal at
+refusal_text (TextTooLong at) = codes "error 14 TextTooLong at " ++ decimal at
+refusal_text Unfinished = codes "error 15 Unfinished"
+refusal_text (Limit what) = codes "error 16 Limit " ++ limit_text what
+refusal_text (WitnessLimit row) = codes "error 17 WitnessLimit " ++ row_bytes row
+refusal_text (Spent row conflicts) = codes "error 18 Spent " ++ row_bytes row ++ codes " conflicts " ++ decimal conflicts
+refusal_text (BadCsv number) = codes "error 19 BadCsv record " ++ decimal number
+
+-- SCHEMA rows N blocks M
+abbrev pub table_text : TableLine → List ℕ
+table_text line = schema_bytes line.schema ++ codes " rows " ++ decimal line.rows ++ codes " blocks " ++ decimal line.blocks
+
+-- each row on a line of its own, then N rows
+abbrev pub rows_text : List (List Value) → List ℕ
+rows_text rows = flat_map (λ row. row_bytes row ++ codes "\n") rows ++ decimal (length rows) ++ codes " rows"
+
+-- each table on a line of its own, then N tables
+abbrev pub tables_text : List TableLine → List ℕ
+tables_text lines = flat_map (λ line. table_text line ++ codes "\n") lines ++ decimal (length lines) ++ codes " tables"
+
+-- the lines of a reply, each with a line feed at its end
+abbrev pub reply_text : Reply → List ℕ
+reply_text (Created name) = codes "created " ++ name ++ codes "\n"
+reply_text (Inserted count) = codes "inserted " ++ decimal count ++ codes "\n"
+reply_text (Deleted count) = codes "deleted " ++ decimal count ++ codes "\n"
+reply_text (Rows rows) = rows_text rows ++ codes "\n"
+reply_text (Tables lines) = tables_text lines ++ codes "\n"
+reply_text (Refused refusal) = refusal_text refusal ++ codes "\n"
+
+-- the reply says that the statement was refused
+abbrev pub is_refusal : Reply → Bool
+is_refusal (Refused refusal) = true
+is_refusal (Created name) = false
+is_refusal (Inserted count) = false
+is_refusal (Deleted count) = false
+is_refusal (Rows rows) = false
+is_refusal (Tables lines) = false

@@ -1,0 +1,48 @@
+//! Appends what the lines of replies are made of.
+
+ghost use Rattle.std.specs.Prelude.{◌≡◌, ◌++◌, OnOk};
+ghost use Rattle.std.specs.Fmt.{decimal};
+ghost use Rattle.cqa_value.specs.Literals.{row_bytes};
+
+use cqa_value::{Name, NoMemory, Row, row_text};
+use itoa::Buffer;
+
+/// Appends words.
+pub fn append_words(words: &str, out: &mut Vec<u8>) -> Result<(), NoMemory>
+    ensures { OnOk result (out.new.items ≡ out.old.items ++ words.now) }
+{
+    out.extend_from_slice(words.as_bytes())?;
+    Ok(())
+}
+
+/// Appends a number in decimal.
+pub fn append_number(number: usize, out: &mut Vec<u8>) -> Result<(), NoMemory>
+    ensures { OnOk result (out.new.items ≡ out.old.items ++ decimal number) }
+{
+    let mut buffer = Buffer::new();
+    append_words(buffer.format(number), out)
+}
+
+/// Appends words and a number.
+pub fn append_numbered(words: &str, number: u32, out: &mut Vec<u8>) -> Result<(), NoMemory>
+    ensures { OnOk result (out.new.items ≡ out.old.items ++ (words.now ++ decimal number)) }
+{
+    append_words(words, out)?;
+    append_number(number as usize, out)
+}
+
+/// Appends words and a name.
+pub fn append_named(words: &str, name: &Name, out: &mut Vec<u8>) -> Result<(), NoMemory>
+    ensures { OnOk result (out.new.items ≡ out.old.items ++ (words.now ++ name.now)) }
+{
+    append_words(words, out)?;
+    append_words(name.as_str(), out)
+}
+
+/// Appends words and a row.
+pub fn append_row(words: &str, row: &Row, out: &mut Vec<u8>) -> Result<(), NoMemory>
+    ensures { OnOk result (out.new.items ≡ out.old.items ++ (words.now ++ row_bytes row.now)) }
+{
+    append_words(words, out)?;
+    row_text(row, out)
+}

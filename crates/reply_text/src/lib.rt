@@ -1,0 +1,13 @@
+//! Replies to statements, and the text of each.
+#![tactic(auto)]
+
+mod append;
+mod refused;
+mod reply;
+mod text;
+
+pub use reply::{Reply, TableLine};
+pub use text::reply_bytes;
+
+#[cfg(test)]
+mod tests;

@@ -1,0 +1,99 @@
+ghost use Rattle.std.specs.Prelude.{◌≡◌, ◌++◌, OnOk, codes};
+ghost use Rattle.std.specs.Fmt.{decimal};
+ghost use Rattle.cqa_value.specs.Literals.{row_bytes};
+ghost use Rattle.reply_text.specs.Texts.{limit_text, place_text, refusal_text, written_column};
+
+use crate::append::{append_named, append_numbered, append_row, append_words};
+use cqa_model::{LimitKind, Place, Refusal};
+use cqa_value::{Name, NoMemory, Row};
+
+/// Appends the line of a refusal without its line feed.
+pub fn append_refusal(refusal: &Refusal, out: &mut Vec<u8>) -> Result<(), NoMemory>
+    ensures { OnOk result (out.new.items ≡ out.old.items ++ refusal_text refusal.now) }
+{
+    match refusal {
+        Refusal::BadByte { at } => append_numbered("error 1 BadByte at ", *at, out),
+        Refusal::Syntax { at } => append_numbered("error 2 Syntax at ", *at, out),
+        Refusal::StatementTooLong { len } => append_numbered(
+            "error 3 StatementTooLong ",
+            *len,
+            out,
+        ),
+        Refusal::UnknownTable { name } => append_named("error 4 UnknownTable ", name, out),
+        Refusal::TableExists { name } => append_named("error 5 TableExists ", name, out),
+        Refusal::UnknownColumn { table, name } => append_column(
+            "error 6 UnknownColumn ",
+            table,
+            name,
+            out,
+        ),
+        Refusal::AmbiguousColumn { name } => append_named("error 7 AmbiguousColumn ", name, out),
+        Refusal::SelfJoin { name } => append_named("error 8 SelfJoin ", name, out),
+        Refusal::TypeMismatch { place } => append_place("error 9 TypeMismatch ", *place, out),
+        Refusal::WrongArity { row } => append_numbered("error 10 WrongArity row ", *row, out),
+        Refusal::DuplicateColumn { name } => append_named("error 11 DuplicateColumn ", name, out),
+        Refusal::BadKey { name } => append_named("error 12 BadKey ", name, out),
+        Refusal::OutOfRange { at } => append_numbered("error 13 OutOfRange at ", *at, out),
+        Refusal::TextTooLong { at } => append_numbered("error 14 TextTooLong at ", *at, out),
+        Refusal::Unfinished => append_words("error 15 Unfinished", out),
+        Refusal::Limit { what } => append_limit("error 16 Limit ", *what, out),
+        Refusal::WitnessLimit { row } => append_row("error 17 WitnessLimit ", row, out),
+        Refusal::Spent { row, conflicts } => append_spent("error 18 Spent ", row, *conflicts, out),
+        Refusal::BadCsv { number } => append_numbered("error 19 BadCsv record ", *number, out),
+    }
+}
+
+/// Appends words and a column as it was written.
+fn append_column(
+    words: &str,
+    table: &Option<Name>,
+    name: &Name,
+    out: &mut Vec<u8>,
+) -> Result<(), NoMemory>
+    ensures { OnOk result (out.new.items ≡ out.old.items ++ (words.now ++ written_column table.now name.now)) }
+{
+    match table {
+        None => append_named(words, name, out),
+        Some(table) => {
+            append_named(words, table, out)?;
+            append_named(".", name, out)
+        }
+    }
+}
+
+/// Appends words and a place.
+fn append_place(words: &str, place: Place, out: &mut Vec<u8>) -> Result<(), NoMemory>
+    ensures { OnOk result (out.new.items ≡ out.old.items ++ (words.now ++ place_text place)) }
+{
+    append_words(words, out)?;
+    match place {
+        Place::Cell { row, column } => {
+            append_numbered("row ", row, out)?;
+            append_numbered(" column ", column, out)
+        }
+        Place::Condition(number) => append_numbered("condition ", number, out),
+    }
+}
+
+/// Appends words, what is limited, and its greatest number.
+fn append_limit(words: &str, what: LimitKind, out: &mut Vec<u8>) -> Result<(), NoMemory>
+    ensures { OnOk result (out.new.items ≡ out.old.items ++ (words.now ++ limit_text what)) }
+{
+    append_words(words, out)?;
+    match what {
+        LimitKind::Name => append_words("name 64", out),
+        LimitKind::Tables => append_words("tables 64", out),
+        LimitKind::Columns => append_words("columns 16", out),
+        LimitKind::Atoms => append_words("atoms 12", out),
+        LimitKind::Answer => append_words("answer 192", out),
+        LimitKind::Rows => append_words("rows 1000000", out),
+    }
+}
+
+/// Appends words, a row and the conflicts that its search used up.
+fn append_spent(words: &str, row: &Row, conflicts: u32, out: &mut Vec<u8>) -> Result<(), NoMemory>
+    ensures { OnOk result (out.new.items ≡ out.old.items ++ (words.now ++ row_bytes row.now ++ codes " conflicts " ++ decimal conflicts)) }
+{
+    append_row(words, row, out)?;
+    append_numbered(" conflicts ", conflicts, out)
+}

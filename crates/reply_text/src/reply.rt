@@ -1,0 +1,27 @@
+use cqa_model::{Refusal, Schema};
+use cqa_value::{Items, Name, Row};
+
+/// What a statement is answered by.
+#[derive(Drop)]
+pub enum Reply {
+    /// The table of the name was made.
+    Created(Name),
+    /// So many rows are new.
+    Inserted(u32),
+    /// So many rows are gone.
+    Deleted(u32),
+    /// The rows of an answer.
+    Rows(Items<Row>),
+    /// The tables in the order in which they were made.
+    Tables(Items<TableLine>),
+    /// The statement was refused and changed nothing.
+    Refused(Refusal),
+}
+
+/// A table's schema, with its numbers of rows and of blocks.
+#[derive(Drop)]
+pub struct TableLine {
+    pub schema: Schema,
+    pub rows: u32,
+    pub blocks: u32,
+}

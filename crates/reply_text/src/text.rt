@@ -1,0 +1,66 @@
+ghost use Rattle.std.specs.Prelude.{◌≡◌, ◌++◌, IfOk, OnOk, codes};
+ghost use Rattle.reply_text.specs.Texts.{reply_text, rows_text, table_text, tables_text};
+
+use crate::append::{append_named, append_number, append_numbered, append_words};
+use crate::refused::append_refusal;
+use crate::{Reply, TableLine};
+use cqa_model::schema_text;
+use cqa_value::{NoMemory, Row, row_text};
+use std::alloc::Global;
+
+/// The text of a reply: its lines, each with a line feed at its end.
+///
+/// # Errors
+///
+/// `NoMemory` where memory is refused.
+pub fn reply_bytes(alloc: Global, reply: &Reply) -> Result<Vec<u8>, NoMemory>
+    ensures { IfOk result (λ bytes. bytes.items ≡ reply_text reply.now) }
+{
+    let mut out = Vec::new(alloc);
+    append_reply(reply, &mut out)?;
+    Ok(out)
+}
+
+fn append_reply(reply: &Reply, out: &mut Vec<u8>) -> Result<(), NoMemory>
+    ensures { OnOk result (out.new.items ≡ out.old.items ++ reply_text reply.now) }
+{
+    match reply {
+        Reply::Created(name) => append_named("created ", name, out)?,
+        Reply::Inserted(count) => append_numbered("inserted ", *count, out)?,
+        Reply::Deleted(count) => append_numbered("deleted ", *count, out)?,
+        Reply::Rows(rows) => append_rows(rows.as_slice(), out)?,
+        Reply::Tables(lines) => append_tables(lines.as_slice(), out)?,
+        Reply::Refused(refusal) => append_refusal(refusal, out)?,
+    }
+    append_words("\n", out)
+}
+
+fn append_rows(rows: &[Row], out: &mut Vec<u8>) -> Result<(), NoMemory>
+    ensures { OnOk result (out.new.items ≡ out.old.items ++ rows_text rows.now) }
+{
+    for row in rows {
+        row_text(row, out)?;
+        append_words("\n", out)?;
+    }
+    append_number(rows.len(), out)?;
+    append_words(" rows", out)
+}
+
+fn append_tables(lines: &[TableLine], out: &mut Vec<u8>) -> Result<(), NoMemory>
+    ensures { OnOk result (out.new.items ≡ out.old.items ++ tables_text lines.now) }
+{
+    for line in lines {
+        append_table(line, out)?;
+    }
+    append_number(lines.len(), out)?;
+    append_words(" tables", out)
+}
+
+fn append_table(line: &TableLine, out: &mut Vec<u8>) -> Result<(), NoMemory>
+    ensures { OnOk result (out.new.items ≡ out.old.items ++ (table_text line.now ++ codes "\n")) }
+{
+    schema_text(&line.schema, out)?;
+    append_numbered(" rows ", line.rows, out)?;
+    append_numbered(" blocks ", line.blocks, out)?;
+    append_words("\n", out)
+}
