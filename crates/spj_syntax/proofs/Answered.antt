@@ -1,6 +1,6 @@
 -- What follows from the parser's answer.
-use Rattle.std.proofs.Common.{◌≡◌, ◌⊎◌, inl, inr, ◌≤◌, ◌<◌, ◌-◌, ◌+◌, ℕ, Bool, List, [], ◌∷◌, ◌++◌, length, drop, map, arith, sym, ◌∙◌, ap, subst, refl, append_assoc, Result, Ok, Err, MatchResult, OnOk, IfOk}
-use Rattle.std.proofs.lemmas.Bool.{cases_order, cases_lt}
+use Rattle.std.proofs.Common.{◌≡◌, ◌⊎◌, inl, inr, ◌-◌, ℕ, Bool, List, [], ◌∷◌, ◌++◌, length, drop, arith, sym, ◌∙◌, ap, subst, refl, append_assoc, Result, Ok, Err, MatchResult, OnOk, IfOk}
+use Rattle.std.proofs.lemmas.Bool.{cases_lt}
 use Rattle.std.proofs.lemmas.List.{length-map, length-drop, drop_all, append-nil}
 use Rattle.std.specs.List.{AllByRecursion}
 use Rattle.script_lex.specs.declared.kinds.Token.{Token}

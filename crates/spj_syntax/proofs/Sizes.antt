@@ -1,22 +1,18 @@
 -- A list of a statement has no more items than the statement has tokens.
-use Rattle.std.proofs.Common.{◌≡◌, ◌≤◌, ◌<◌, ◌+◌, ℕ, List, [], ◌∷◌, ◌++◌, Option, Some, None, length, arith, sym, ◌∙◌, ap, subst, length-append, codes, Result, Ok, Err, IfOk}
+use Rattle.std.proofs.Common.{◌≤◌, ◌<◌, ℕ, List, [], ◌∷◌, ◌++◌, Option, Some, None, length, arith, ap, length-append, codes, Result, Ok, Err, IfOk}
 use Rattle.std.proofs.lemmas.List.{length-map}
 use Rattle.script_lex.specs.declared.kinds.Symbol.TheVariants as s
 use Rattle.script_lex.specs.declared.kinds.Token.{Token}
 use Rattle.cqa_value.specs.declared.memory.Fail.{Fail}
-use Rattle.cqa_value.specs.declared.value.Value.{Value}
-use Rattle.cqa_model.specs.declared.schema.Column.{Column}
 use Rattle.spj_syntax.specs.declared.tree.RawCol.{RawCol}
 use Rattle.spj_syntax.specs.declared.tree.RawCond.{RawCond}
 use Rattle.spj_syntax.specs.declared.tree.RawCond.TheVariants.{Join, Test}
-use Rattle.spj_syntax.specs.declared.tree.RawTest.{RawTest}
 use Rattle.spj_syntax.specs.declared.tree.Select.{Select}
 use Rattle.spj_syntax.specs.declared.tree.Statement.{Statement}
 use Rattle.spj_syntax.specs.declared.tree.Statement.TheVariants as statements
 use Rattle.spj_syntax.specs.declared.fault.SyntaxFault.{SyntaxFault}
 use Rattle.spj_syntax.specs.Lexemes.{Lexeme, Word, Mark, lexeme}
-use Rattle.spj_syntax.specs.Written.{name_tokens, column_tokens, test_tokens, col_tokens, cond_tokens, row_tokens, each_after, between, listed_tokens, filtered_tokens, head_tokens, select_tokens, schema_tokens, statement_tokens, op_symbol, literal_tokens, SelectHasAtMost, HasAtMost, IsWrittenAs}
-use Rattle.spj_syntax.specs.Parsed.{lexemes}
+use Rattle.spj_syntax.specs.Written.{name_tokens, column_tokens, test_tokens, col_tokens, cond_tokens, row_tokens, each_after, between, listed_tokens, filtered_tokens, head_tokens, select_tokens, statement_tokens, op_symbol, literal_tokens, SelectHasAtMost, HasAtMost}
 use Rattle.spj_syntax.specs.Reading.{Parses}
 
 -- Each item is written as some tokens.

@@ -39,7 +39,7 @@ letters_ascii : (b : ℕ) (bytes : List ℕ) → is_letter b ≡ true → AllPas
 letters_ascii b bytes h k zero = letter_small b h
 letters_ascii b bytes h k (suc i) = word_ascii bytes k i
 
-word_sound : (bytes : List ℕ) → IsToken Word bytes → IsUtf8 bytes
+pub word_sound : (bytes : List ℕ) → IsToken Word bytes → IsUtf8 bytes
 word_sound [] h = absurd h
 word_sound (b ∷ bytes) h = IsUtf8-from_ascii (b ∷ bytes) (letters_ascii b bytes h.0 h.1)
 
@@ -125,7 +125,7 @@ text_sound text from to lt le h u =
 -- a piece that is a token is readable
 readable : (text : List ℕ) (p : Piece) (kind : TokenKind) → p.kind ≡ OfToken kind → p.span.from ≤ p.span.to → p.span.to ≤ length text → IsToken kind (slice_range text p.span.from p.span.to) → IsClean text p
     → IsReadable text (record { kind = kind; span = p.span })
-readable text p Word e lt le h c = record { ordered = lt; within = le; sound = word_sound (slice_range text p.span.from p.span.to) h }
+readable text p Word e lt le h c = record { ordered = lt; within = le; sound = h }
 readable text p Int e lt le h c = record { ordered = lt; within = le; sound = int_sound (slice_range text p.span.from p.span.to) h }
 readable text p Text e lt le h c = record { ordered = lt; within = le; sound = text_sound text p.span.from p.span.to lt le h (c.utf8 e) }
 readable text p (Sym s) e lt le h c = record { ordered = lt; within = le; sound = tt }

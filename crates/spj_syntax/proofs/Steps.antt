@@ -185,7 +185,7 @@ name_left (t ∷ s) b e h = one_stopped name t s (subst (λ l. matches name l �
     the_same : (a b : Lexeme) → Some a ≡ Some b → a ≡ b
     the_same a b e = cc
 
-pub name_takes : (s : List Lexeme) (b n : List ℕ) → front_of s ≡ Some (Word b) → pointwise nat_eq primary b ≡ false → (length b ≤ 1024 → n ≡ b) → Took (one name) (Word n ∷ []) s (drop 1 s)
+pub name_takes : (s : List Lexeme) (b n : List ℕ) → front_of s ≡ Some (Word b) → pointwise nat_eq primary b ≡ false → (length b ≤ 64 → n ≡ b) → Took (one name) (Word n ∷ []) s (drop 1 s)
 name_takes s b n e h f = one_takes name (Word b) s (Word n ∷ []) e (ap not h) (λ fits. ap (λ z. Word z ∷ []) (f (omega arith)))
 
 -- where a part fails, the whole does

@@ -1,31 +1,28 @@
 -- From what is read to what the parser answers.
-use Rattle.std.proofs.Common.{◌≡◌, ◌≤◌, ◌<◌, ◌-◌, ◌+◌, ◌^◌, lit≤, ℕ, ℤ, Bool, true, false, List, [], ◌∷◌, ◌++◌, length, drop, take, get_or, zero, suc, length-append, arith, sym, ◌∙◌, ap, subst, refl, append_assoc, codes, pos, nat_eq, Result, Ok, Err, MatchResult, OnOk, IfOk}
+use Rattle.std.proofs.Common.{◌≡◌, ◌≤◌, ◌<◌, ◌-◌, ◌+◌, ◌^◌, lit≤, ℕ, ℤ, Bool, true, false, List, [], ◌∷◌, ◌++◌, length, drop, take, get_or, zero, suc, length-append, arith, sym, ◌∙◌, ap, subst, refl, codes, pos, nat_eq, Ok}
 use Rattle.std.proofs.Common.{Some}
 use Rattle.std.proofs.lemmas.Int.{ints}
 use Rattle.std.proofs.lemmas.List.{drop_at, length-map, append-nil}
 use Rattle.std.specs.List.{AllByRecursion}
 use Rattle.std.specs.Cmp.Lexicographic.{pointwise}
 use Rattle.script_lex.specs.declared.kinds.Token.{Token}
-use Rattle.cqa_value.specs.declared.memory.Fail.{Fail}
-use Rattle.cqa_value.specs.declared.memory.Fail.TheVariants.{Refused, NoMemory as FailNoMemory}
 use Rattle.spj_syntax.specs.declared.tree.Statement.{Statement}
 use Rattle.spj_syntax.specs.declared.tree.Statement.TheVariants.{SetConflicts}
 use Rattle.spj_syntax.specs.declared.fault.SyntaxFault.{SyntaxFault}
 use Rattle.spj_syntax.specs.declared.fault.SyntaxFault.TheVariants.{At, OutOfRange, TextTooLong, LongName}
 use Rattle.spj_syntax.specs.declared.reader.Stop.TheVariants.{Syntax}
 use Rattle.spj_syntax.specs.Lexemes.{Lexeme, Word, Number, Quoted, Mark, lexeme}
-use Rattle.spj_syntax.specs.Shapes.{one, word, FirstFault, Generates}
+use Rattle.spj_syntax.specs.Shapes.{one, word, FirstFault}
 use Rattle.spj_syntax.specs.Grammar as grammar
 use Rattle.spj_syntax.specs.Factored.{statement, plain}
 use Rattle.spj_syntax.specs.Walk.{Past, read, Opens, opens, has, only_if}
 use Rattle.spj_syntax.specs.Parsed.{IsStatement, IsSyntaxFault, IsInRange, Fits, AllFit, IsFirstUnfit, Refuses, fault_of, is_set, lexemes, place_of}
 use Rattle.spj_syntax.specs.Reading.{PlainFit, Took, Failed, IsUnfit, Parses}
-use Rattle.spj_syntax.specs.Written.{statement_tokens, IsProper, IsWrittenAs}
+use Rattle.spj_syntax.specs.Written.{statement_tokens, IsProper}
 use Rattle.spj_syntax.proofs.Steps.{opens_then, took_left, took_right, fails_left, fails_right}
 use Rattle.spj_syntax.proofs.Exact.{whole, too_many, stopped}
 use Rattle.spj_syntax.proofs.Factoring.{from_factored, same_fault}
 use Rattle.spj_syntax.proofs.Table.{statement_decided}
-use Rattle.spj_syntax.proofs.Trees.{statement_same}
 
 set_seen : (ls : List Lexeme) → opens (one (word (codes "set"))) ls ≡ is_set ls
 set_seen [] = refl

@@ -6,6 +6,7 @@ use Rattle.cqa_value.specs.Literals.{integer_of, are_digits, without_minus}
 use Rattle.script_lex.specs.declared.kinds.Token.{Token}
 use Rattle.script_lex.specs.declared.kinds.TokenKind.{TokenKind}
 use Rattle.script_lex.specs.declared.kinds.TokenKind.TheVariants as kinds
+use Rattle.script_lex.specs.Tokens.{IsToken}
 use Rattle.spj_syntax.specs.declared.reader.Stop.{Stop}
 use Rattle.spj_syntax.specs.declared.reader.Stop.TheVariants.{NoMemory, Syntax}
 use Rattle.spj_syntax.specs.declared.reader.Seen.{Seen}
@@ -61,9 +62,9 @@ seen (sights.Text b) = Some (Quoted (undoubled b.now))
 seen (sights.Sym s) = Some (Mark s)
 seen sights.End = None
 
--- The bytes of a word are UTF-8, an int has a digit or more, and a text is UTF-8 between its quotes.
+-- A word is spelled as one, an int has a digit or more, and a text is UTF-8 between its quotes.
 abbrev pub IsSound : TokenKind → List ℕ → Type 0
-IsSound kinds.Word bytes = IsUtf8 bytes
+IsSound kinds.Word bytes = IsToken kinds.Word bytes
 IsSound kinds.Int bytes = IsTrue (are_digits (without_minus bytes))
 IsSound kinds.Text bytes = (2 ≤ length bytes) × IsUtf8 (undoubled (inside bytes))
 IsSound (kinds.Sym s) bytes = Unit {0}
@@ -76,7 +77,7 @@ pub record IsReadable (text : List ℕ) (token : Token) : Type 0 where
 
 -- what is known of the bytes that stand first
 abbrev pub SeenSound : Seen → Type 0
-SeenSound (sights.Word b) = IsUtf8 b.now
+SeenSound (sights.Word b) = IsToken kinds.Word b.now
 SeenSound (sights.Int b) = IsTrue (are_digits (without_minus b.now))
 SeenSound (sights.Text b) = IsUtf8 (undoubled b.now)
 SeenSound (sights.Sym s) = Unit {0}

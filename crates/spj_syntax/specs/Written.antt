@@ -1,5 +1,5 @@
 -- How a statement is written as tokens.
-use Rattle.std.specs.Prelude.{◌≡◌, ◌<◌, ◌≤◌, length, List, [], ◌∷◌, ◌++◌, ℕ, Option, Some, None, codes, pos, All}
+use Rattle.std.specs.Prelude.{◌≡◌, ◌<◌, ◌≤◌, length, List, [], ◌∷◌, ◌++◌, ℕ, Option, Some, None, true, codes, pos, All}
 use Rattle.script_lex.specs.declared.kinds.Symbol.{Symbol}
 use Rattle.script_lex.specs.declared.kinds.Symbol.TheVariants as s
 use Rattle.cqa_value.specs.declared.value.Kind.{Kind}
@@ -17,7 +17,10 @@ use Rattle.spj_syntax.specs.declared.tree.RawCond.TheVariants.{Join, Test}
 use Rattle.spj_syntax.specs.declared.tree.Select.{Select}
 use Rattle.spj_syntax.specs.declared.tree.Statement.{Statement}
 use Rattle.spj_syntax.specs.declared.tree.Statement.TheVariants as statements
+use Rattle.script_lex.specs.declared.kinds.TokenKind.TheVariants as token
+use Rattle.script_lex.specs.Tokens.{IsToken}
 use Rattle.spj_syntax.specs.Lexemes.{Lexeme, Word, Number, Quoted, Mark}
+use Rattle.spj_syntax.specs.Shapes.{name, matches}
 
 abbrev pub name_tokens : List ℕ → List Lexeme
 name_tokens n = Word n ∷ []
@@ -121,6 +124,17 @@ IsProper (statements.Classify q) = IsSome q.tables
 IsProper (statements.Plan q) = IsSome q.tables
 IsProper (statements.Explain row q) = IsSome q.tables
 IsProper _ = Unit {0}
+
+-- a name of the grammar, of at most 64 bytes
+pub record IsName (bytes : List ℕ) : Type 0 where
+  pub word : IsToken token.Word bytes
+  pub allowed : matches name (Word bytes) ≡ true
+  pub short : length bytes ≤ 64
+
+-- A table that is created has names, and so have its columns and its key.
+abbrev pub IsNamed : Statement → Type 0
+IsNamed (statements.Create r) = IsName r.name × All (λ c. IsName c.name) r.columns × All IsName r.key
+IsNamed _ = Unit {0}
 
 -- No list of a query has more than so many items.
 abbrev pub SelectHasAtMost : ℕ → Select → Type 0

@@ -1,6 +1,10 @@
-ghost use Rattle.std.specs.Prelude.{◌≡◌, ◌≤◌, ◌<◌, ◌++◌, ◌∷◌, slice_index, IfOk, IsTrue, ◌↔◌, length, take, drop};
+ghost use Rattle.std.specs.Prelude.{◌≡◌, ◌≤◌, ◌<◌, ◌++◌, ◌∷◌, slice_index, IfOk, IsTrue, ◌↔◌, length, take, drop, true};
 ghost use Rattle.std.specs.Str.{IsUtf8};
-ghost use Rattle.spj_syntax.specs.Lexemes.{undoubled};
+ghost use Rattle.script_lex.specs.declared.kinds.TokenKind.TheVariants as token;
+ghost use Rattle.script_lex.specs.Tokens.{IsToken};
+ghost use Rattle.spj_syntax.specs.Lexemes.{Word, undoubled};
+ghost use Rattle.spj_syntax.specs.Shapes.{name, matches};
+ghost use Rattle.spj_syntax.specs.Written.{IsName};
 ghost use Rattle.cqa_value.specs.Literals.{are_digits, without_minus, is_in_range, integer_of};
 
 use cqa_value::{Fail, Name, NoMemory, Value, read_int};
@@ -8,6 +12,20 @@ use std::alloc::Global;
 
 /// The greatest number of bytes of a text value.
 const TEXT_BYTES: usize = 1024;
+
+/// The greatest number of bytes of a name.
+pub const NAME_BYTES: usize = 64;
+
+/// The word where it isn't too long, else any name.
+pub fn kept_word(word: &[u8]) -> &[u8]
+    requires word { IsToken token.Word word.now }
+    requires allowed { matches name (Word word.now) ≡ true }
+    ensures named { IsName result.now }
+    ensures utf8 { IsUtf8 result.now }
+    ensures same { length word.now ≤ 64 → result.now ≡ word.now }
+{
+    if word.len() <= NAME_BYTES { word } else { b"_" }
+}
 
 /// The bytes where they aren't too many, else none.
 fn kept(bytes: &[u8]) -> &[u8]

@@ -1,7 +1,7 @@
 ghost use Rattle.std.specs.Prelude.{◌<◌, length, IfOk, All};
 ghost use Rattle.spj_syntax.specs.Reading.{Reads, each_before};
 ghost use Rattle.spj_syntax.specs.Lexemes.{Mark};
-ghost use Rattle.spj_syntax.specs.Written.{listed_tokens, anded_tokens, filtered_tokens, literal_tokens, column_tokens};
+ghost use Rattle.spj_syntax.specs.Written.{listed_tokens, anded_tokens, filtered_tokens, literal_tokens, column_tokens, IsName};
 ghost use Rattle.spj_syntax.specs.Grammar as grammar;
 ghost use Rattle.spj_syntax.specs.Factored as factored;
 
@@ -77,6 +77,7 @@ pub fn filtered<P: Piece>(alloc: Global, reader: &mut Reader<'_>) -> Result<Item
 
 /// One or more columns, each with a comma behind it.
 pub fn columns(alloc: Global, reader: &mut Reader<'_>) -> Result<Items<Column>, Stop>
+    ensures named { IfOk result (λ v. All (λ c. IsName c.name) v) }
     ensures reads { Reads factored.columns (each_before (Mark Symbol.Comma) column_tokens) result reader.old reader.new }
     ensures some { IfOk result (λ v. 0 < length v) }
 {
@@ -111,11 +112,13 @@ pub fn literals(alloc: Global, reader: &mut Reader<'_>) -> Result<Row, Stop>
 
 impl Piece for Name {
     ghost use Rattle.spj_syntax.specs.Grammar.{a_name};
-    ghost use Rattle.spj_syntax.specs.Written.{name_tokens};
+    ghost use Rattle.spj_syntax.specs.Written.{name_tokens, IsName};
 
     ghost shape = { a_name };
 
     ghost tokens = { name_tokens };
+
+    ghost kept = { λ n. IsName n };
 
     fn piece(alloc: Global, reader: &mut Reader<'_>) -> Result<Self, Stop> {
         reader.name(alloc)

@@ -1,24 +1,21 @@
 ghost use Rattle.std.specs.Prelude.{◌≡◌, ◌⊎◌, ◌≤◌, ◌-◌, ◌^◌, All, IfOk, OnOk, Err, MatchResult, MatchOption, IsTrue, ◌↔◌, length, drop, pos, true, false};
 ghost use Rattle.cqa_value.specs.Literals.{are_digits, without_minus, integer_of};
 ghost use Rattle.cqa_value.specs.declared.memory.Fail.TheVariants.{NoMemory, Refused};
-ghost use Rattle.script_lex.specs.Tokens.{Spells};
+ghost use Rattle.script_lex.specs.Tokens.{Spells, longest_text};
 ghost use Rattle.spj_syntax.specs.Lexemes.{lexeme, undoubled};
 ghost use Rattle.spj_syntax.specs.Parsed.{AllFit, Fits, IsStatement, IsFirstUnfit, IsInRange, Refuses, is_set, lexemes, place_of};
 ghost use Rattle.spj_syntax.specs.Reading.{IsReadable, IsUnfit, Parses, PlainFit};
-ghost use Rattle.spj_syntax.specs.Written.{IsWrittenAs, HasAtMost};
+ghost use Rattle.spj_syntax.specs.Written.{IsWrittenAs, IsNamed, HasAtMost};
 ghost use Rattle.spj_syntax.specs.declared.tree.Statement.{Statement};
 ghost use Rattle.spj_syntax.specs.declared.fault.SyntaxFault.{SyntaxFault};
 
-use crate::leaf::is_short;
+use crate::leaf::{NAME_BYTES, is_short};
 use crate::reader::{Reader, Stop};
 use crate::statements::{plain, set};
 use crate::{Statement, SyntaxFault};
 use cqa_value::{Fail, read_int};
 use script_lex::{Token, TokenKind};
 use std::alloc::Global;
-
-/// The greatest number of bytes of a name.
-const NAME_BYTES: usize = 64;
 
 /// Where the first of the last so many tokens stands, or the text's length.
 fn place(text: &[u8], tokens: &[Token], left: usize) -> usize
@@ -80,7 +77,8 @@ fn parse_plain(alloc: Global, text: &[u8], tokens: &[Token]) -> Result<Statement
     requires readable { All (IsReadable text.now) tokens.now }
     requires few { length tokens.now ≤ 2 ^ 20 }
     requires no_set { is_set (lexemes text.now tokens.now) ≡ false }
-    ensures { Parses text.now tokens.now result }
+    ensures exact { Parses text.now tokens.now result }
+    ensures named { IfOk result (λ statement. IsNamed statement) }
 {
     let mut reader = Reader::new(text, tokens);
     match plain(alloc, &mut reader) {
@@ -119,7 +117,8 @@ fn parse_set(text: &[u8], tokens: &[Token]) -> Result<Statement, Fail<SyntaxFaul
     requires readable { All (IsReadable text.now) tokens.now }
     requires few { length tokens.now ≤ 2 ^ 20 }
     requires set { is_set (lexemes text.now tokens.now) ≡ true }
-    ensures { Parses text.now tokens.now result }
+    ensures exact { Parses text.now tokens.now result }
+    ensures named { IfOk result (λ statement. IsNamed statement) }
 {
     let mut reader = Reader::new(text, tokens);
     match set(&mut reader) {
@@ -149,7 +148,8 @@ fn parse_readable(
 ) -> Result<Statement, Fail<SyntaxFault>>
     requires readable { All (IsReadable text.now) tokens.now }
     requires few { length tokens.now ≤ 2 ^ 20 }
-    ensures { Parses text.now tokens.now result }
+    ensures exact { Parses text.now tokens.now result }
+    ensures named { IfOk result (λ statement. IsNamed statement) }
 {
     if Reader::new(text, tokens).sees_word(b"set") {
         parse_set(text, tokens)
@@ -165,13 +165,14 @@ fn parse_readable(
 /// first such token.
 pub fn parse(alloc: Global, text: &[u8], tokens: &[Token]) -> Result<Statement, Fail<SyntaxFault>>
     requires spelled { Spells text.now tokens.now }
-    requires short { length text.now ≤ 1048576 }
+    requires short { length text.now ≤ longest_text }
     // The tokens are a statement of the grammar, they fit, and the statement is written as them.
     ensures statement { OnOk result (IsStatement (lexemes text.now tokens.now)) }
     ensures fit { OnOk result (AllFit (lexemes text.now tokens.now)) }
     ensures written { IfOk result (λ statement. IsWrittenAs statement (lexemes text.now tokens.now)) }
 
-    // No list of it is longer than the text.
+    // A table that it creates has names, and no list of it is longer than the text.
+    ensures named { IfOk result (λ statement. IsNamed statement) }
     ensures small { IfOk result (λ statement. HasAtMost (length text.now) statement) }
 
     // A statement that fits is read, unless memory runs out; and no other statement is written so.

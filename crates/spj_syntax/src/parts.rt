@@ -1,7 +1,7 @@
-ghost use Rattle.std.specs.Prelude.{◌∷◌, []};
+ghost use Rattle.std.specs.Prelude.{◌∷◌, [], IfOk};
 ghost use Rattle.spj_syntax.specs.Lexemes.{Word, Mark};
 ghost use Rattle.spj_syntax.specs.Reading.{Reads};
-ghost use Rattle.spj_syntax.specs.Written.{literal_tokens, column_tokens, col_tokens, op_symbol, kind_word};
+ghost use Rattle.spj_syntax.specs.Written.{literal_tokens, column_tokens, col_tokens, op_symbol, kind_word, IsName};
 ghost use Rattle.spj_syntax.specs.Grammar as grammar;
 
 use crate::RawCol;
@@ -24,7 +24,8 @@ pub fn kind(reader: &mut Reader<'_>) -> Result<Kind, Stop>
 }
 
 pub fn column(alloc: Global, reader: &mut Reader<'_>) -> Result<Column, Stop>
-    ensures { Reads grammar.column column_tokens result reader.old reader.new }
+    ensures reads { Reads grammar.column column_tokens result reader.old reader.new }
+    ensures named { IfOk result (λ c. IsName c.name) }
 {
     let name = reader.name(alloc)?;
     let kind = kind(reader)?;

@@ -6,11 +6,11 @@ ghost use Rattle.cqa_value.specs.Literals.{integer_of, are_digits, without_minus
 ghost use Rattle.spj_syntax.specs.Grammar.{literal};
 ghost use Rattle.spj_syntax.specs.Parsed.{lexemes};
 ghost use Rattle.spj_syntax.specs.Reading.{Reads, front_of, seen, SeenSound, IsReadable};
-ghost use Rattle.spj_syntax.specs.Written.{name_tokens};
+ghost use Rattle.spj_syntax.specs.Written.{name_tokens, IsName};
 ghost use Rattle.spj_syntax.specs.Shapes.{word, name, int, mark, one};
 ghost use Rattle.spj_syntax.specs.Walk.{Opens};
 
-use crate::leaf::short_name;
+use crate::leaf::{kept_word, short_name};
 use cqa_value::{Name, NoMemory};
 use script_lex::{Symbol, Token, TokenKind};
 use std::alloc::Global;
@@ -159,14 +159,15 @@ impl<'a> Reader<'a> {
     }
 
     pub fn name(&mut self, alloc: Global) -> Result<Name, Stop>
-        ensures { Reads (one name) name_tokens result self.old self.new }
+        ensures reads { Reads (one name) name_tokens result self.old self.new }
+        ensures named { IfOk result (λ n. IsName n) }
     {
         match self.peek() {
             Seen::Word(bytes) => {
                 if b"primary".as_slice() == bytes {
                     return Err(Stop::Syntax);
                 }
-                let name = short_name(alloc, bytes)?;
+                let name = short_name(alloc, kept_word(bytes))?;
                 self.advance();
                 Ok(name)
             }

@@ -1,9 +1,9 @@
-ghost use Rattle.std.specs.Prelude.{◌≡◌, ◌<◌, ◌∷◌, ◌++◌, [], length, IfOk, IsTrue, codes};
+ghost use Rattle.std.specs.Prelude.{◌≡◌, ◌<◌, ◌∷◌, ◌++◌, [], length, IfOk, All, IsTrue, codes};
 ghost use Rattle.cqa_value.specs.Literals.{integer_of, are_digits, without_minus};
 ghost use Rattle.spj_syntax.specs.Lexemes.{Word, Number, Mark};
 ghost use Rattle.spj_syntax.specs.Reading.{Reads};
 ghost use Rattle.spj_syntax.specs.Shapes.{◌⨾◌};
-ghost use Rattle.spj_syntax.specs.Written.{head_tokens, select_tokens, statement_tokens, listed_tokens, literal_tokens, name_tokens, IsProper};
+ghost use Rattle.spj_syntax.specs.Written.{head_tokens, select_tokens, statement_tokens, listed_tokens, literal_tokens, name_tokens, IsName, IsNamed, IsProper};
 ghost use Rattle.spj_syntax.specs.Grammar as grammar;
 ghost use Rattle.spj_syntax.specs.Factored as factored;
 
@@ -45,6 +45,7 @@ fn query(alloc: Global, reader: &mut Reader<'_>) -> Result<Select, Stop>
 fn asking(alloc: Global, reader: &mut Reader<'_>) -> Result<Statement, Stop>
     ensures reads { Reads factored.asking_query statement_tokens result reader.old reader.new }
     ensures proper { IfOk result (λ s. IsProper s) }
+    ensures named { IfOk result (λ s. IsNamed s) }
 {
     if reader.sees_word(b"ask") {
         reader.advance();
@@ -70,6 +71,7 @@ fn asking(alloc: Global, reader: &mut Reader<'_>) -> Result<Statement, Stop>
 fn key(alloc: Global, reader: &mut Reader<'_>) -> Result<Items<Name>, Stop>
     ensures reads { Reads grammar.key (λ names. Word (codes "primary") ∷ Word (codes "key") ∷ Mark Symbol.Open ∷ (listed_tokens name_tokens names ++ Mark Symbol.Close ∷ [])) result reader.old reader.new }
     ensures some { IfOk result (λ v. 0 < length v) }
+    ensures named { IfOk result (λ v. All IsName v) }
 {
     let _ = reader.word(b"primary")?;
     let _ = reader.word(b"key")?;
@@ -82,6 +84,7 @@ fn key(alloc: Global, reader: &mut Reader<'_>) -> Result<Items<Name>, Stop>
 fn create(alloc: Global, reader: &mut Reader<'_>) -> Result<Statement, Stop>
     ensures reads { Reads factored.create statement_tokens result reader.old reader.new }
     ensures proper { IfOk result (λ s. IsProper s) }
+    ensures named { IfOk result (λ s. IsNamed s) }
 {
     let _ = reader.word(b"create")?;
     let _ = reader.word(b"table")?;
@@ -97,6 +100,7 @@ fn create(alloc: Global, reader: &mut Reader<'_>) -> Result<Statement, Stop>
 fn insert(alloc: Global, reader: &mut Reader<'_>) -> Result<Statement, Stop>
     ensures reads { Reads grammar.insert statement_tokens result reader.old reader.new }
     ensures proper { IfOk result (λ s. IsProper s) }
+    ensures named { IfOk result (λ s. IsNamed s) }
 {
     let _ = reader.word(b"insert")?;
     let _ = reader.word(b"into")?;
@@ -109,6 +113,7 @@ fn insert(alloc: Global, reader: &mut Reader<'_>) -> Result<Statement, Stop>
 fn delete(alloc: Global, reader: &mut Reader<'_>) -> Result<Statement, Stop>
     ensures reads { Reads grammar.delete statement_tokens result reader.old reader.new }
     ensures proper { IfOk result (λ s. IsProper s) }
+    ensures named { IfOk result (λ s. IsNamed s) }
 {
     let _ = reader.word(b"delete")?;
     let _ = reader.word(b"from")?;
@@ -131,6 +136,7 @@ fn optional_literals(alloc: Global, reader: &mut Reader<'_>) -> Result<Row, Stop
 fn explain(alloc: Global, reader: &mut Reader<'_>) -> Result<Statement, Stop>
     ensures reads { Reads factored.explain statement_tokens result reader.old reader.new }
     ensures proper { IfOk result (λ s. IsProper s) }
+    ensures named { IfOk result (λ s. IsNamed s) }
 {
     let _ = reader.word(b"explain")?;
     let _ = reader.word(b"row")?;
@@ -145,6 +151,7 @@ fn explain(alloc: Global, reader: &mut Reader<'_>) -> Result<Statement, Stop>
 fn copy(alloc: Global, reader: &mut Reader<'_>) -> Result<Statement, Stop>
     ensures reads { Reads grammar.copy statement_tokens result reader.old reader.new }
     ensures proper { IfOk result (λ s. IsProper s) }
+    ensures named { IfOk result (λ s. IsNamed s) }
 {
     let _ = reader.word(b"copy")?;
     let table = reader.name(alloc)?;
@@ -154,6 +161,7 @@ fn copy(alloc: Global, reader: &mut Reader<'_>) -> Result<Statement, Stop>
 fn show(reader: &mut Reader<'_>) -> Result<Statement, Stop>
     ensures reads { Reads factored.show statement_tokens result reader.old reader.new }
     ensures proper { IfOk result (λ s. IsProper s) }
+    ensures named { IfOk result (λ s. IsNamed s) }
 {
     reader.word(b"show")?;
     if reader.sees_word(b"tables") {
@@ -180,6 +188,7 @@ pub fn set<'a>(reader: &mut Reader<'a>) -> Result<&'a [u8], Stop>
 pub fn plain(alloc: Global, reader: &mut Reader<'_>) -> Result<Statement, Stop>
     ensures reads { Reads factored.plain statement_tokens result reader.old reader.new }
     ensures proper { IfOk result (λ s. IsProper s) }
+    ensures named { IfOk result (λ s. IsNamed s) }
 {
     if reader.sees_word(b"create") {
         return create(alloc, reader);

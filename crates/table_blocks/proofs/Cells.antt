@@ -4,7 +4,6 @@ use Rattle.std.specs.Bool.{IsTrue}
 use Rattle.std.proofs.lemmas.Option.{unwrap_or-slice_get}
 use Rattle.cqa_value.specs.declared.value.Value.{Value}
 use Rattle.cqa_value.specs.declared.value.Value.TheVariants.{Int}
-use Rattle.cqa_model.specs.Query.{OpHolds}
 use Rattle.cqa_model.specs.Database.{nothing}
 use Rattle.cqa_model.proofs.Values.{dec_op}
 use Rattle.table_blocks.specs.declared.test.ColumnTest.{ColumnTest}

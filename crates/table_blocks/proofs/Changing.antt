@@ -1,15 +1,15 @@
 -- Databases whose tables are made and changed.
-use Rattle.std.proofs.Common.{◌≡◌, ◌⊎◌, inl, inr, ℕ, zero, suc, ◌+◌, ◌<◌, ◌≤◌, nat_lt, Bool, true, false, List, [], ◌∷◌, ◌++◌, length, length-append, map, get_or, slice_get, slice_set, take, Contains, Option, Some, None, refl, sym, ap, ◌∙◌, subst, arith, rules}
+use Rattle.std.proofs.Common.{◌≡◌, ◌⊎◌, inl, inr, ℕ, zero, suc, ◌+◌, ◌<◌, ◌≤◌, nat_lt, Bool, true, false, List, [], ◌∷◌, ◌++◌, length, length-append, get_or, slice_get, slice_set, take, Contains, Some, refl, sym, ap, ◌∙◌, subst, arith, rules}
 use Rattle.std.specs.List.Sorted.{IsStrictlySortedBy}
 use Rattle.std.proofs.lemmas.List.{map-append, length-map, length-set, get_or_append_left}
 use Rattle.std.proofs.Math.Seq.{get_or-append_seam}
 use Rattle.std.proofs.lemmas.List.Elements.{Contains-append_cases, Contains-get_or}
-use Rattle.std.proofs.lemmas.Option.{slice_get_within, get_or_from_slice_get}
+use Rattle.std.proofs.lemmas.Option.{slice_get_within}
 use Rattle.cqa_value.specs.declared.value.Value.{Value}
 use Rattle.cqa_model.specs.declared.schema.Schema.{Schema}
-use Rattle.cqa_model.specs.Database.{Table, IsTable, IsDatabase, block_cmp, names_of, row_total}
+use Rattle.cqa_model.specs.Database.{Table, IsTable, IsDatabase, names_of, row_total}
 use Rattle.table_blocks.specs.Tables.{with_rows, rows_at}
-use Rattle.table_blocks.proofs.Membership.{contains_none, contains_head, contains_later, contains_cases, contains_got}
+use Rattle.table_blocks.proofs.Membership.{contains_none, contains_head, contains_later, contains_cases}
 
 pub without_rows : (schema : Schema) → IsTable (record { schema = schema; rows = [] })
 unfolding IsStrictlySortedBy
@@ -48,7 +48,7 @@ member_set : (w : Table) (db : List Table) (i : ℕ) (x : Table) → Contains (s
 member_set w [] i x h = inr h
 member_set w (u ∷ db) zero x h = elim (contains_cases w db x h) [ inl e ↦ inl e | inr l ↦ inr (contains_later u db x l) ]
 member_set w (u ∷ db) (suc i) x h = elim (contains_cases u (slice_set db i w) x h) [
-  inl e ↦ inr (subst (Contains (u ∷ db)) e (contains_head u db))
+  | inl e ↦ inr (subst (Contains (u ∷ db)) e (contains_head u db))
   | inr l ↦ elim (member_set w db i x l) [ inl e ↦ inl e | inr m ↦ inr (contains_later u db x m) ]
 ]
 
@@ -81,10 +81,13 @@ new_name names name i j other a b apart e = go (nat_lt i (length names)) refl (n
   where
     early : (k : ℕ) → k < length names → get_or (names ++ name ∷ []) k [] ≡ get_or names k []
     early k h = get_or_append_left names (name ∷ []) [] k h
+
     last : (k : ℕ) → k ≡ length names → get_or (names ++ name ∷ []) k [] ≡ name
     last k h = ap (λ n. get_or (names ++ name ∷ []) n []) h ∙ get_or-append_seam names name [] []
+
     there : (k : ℕ) → k < length names → get_or names k [] ≡ name → ⊥
     there k h q = other (subst (Contains names) q (Contains-get_or names k [] h))
+
     go : (s : Bool) → nat_lt i (length names) ≡ s → (t : Bool) → nat_lt j (length names) ≡ t → i ≡ j
     go true p true q = let x : i < length names = search (rules, p) in let y : j < length names = search (rules, q) in
         apart i j x y (sym (early i x) ∙ e ∙ early j y)
@@ -105,7 +108,7 @@ database_push db schema d room other =
     record {
       few_tables = omega (arith, long, room);
       each = λ x h. elim (Contains-append_cases db (t ∷ []) x h) [
-        inl l ↦ d.each x l
+        | inl l ↦ d.each x l
         | inr r ↦ elim (contains_cases t [] x r) [ inl q ↦ subst IsTable q (without_rows schema) | inr n ↦ absurd (contains_none x n) ]
       ];
       names_differ = λ i j a b q. new_name (names_of db) schema.name i j other (omega (arith, a, long, many)) (omega (arith, b, long, many))
@@ -119,6 +122,7 @@ total_more db i h = ap (λ n. row_total (take n db)) (plus_one i) ∙ go db i h
   where
     plus_one : (n : ℕ) → n + 1 ≡ suc n
     plus_one n = omega arith
+
     go : (db : List Table) (i : ℕ) → i < length db → row_total (take (suc i) db) ≡ row_total (take i db) + length (rows_at db i)
     go [] i h = absurd (omega (arith, h))
     go (t ∷ db) zero h = omega arith

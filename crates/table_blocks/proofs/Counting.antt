@@ -1,6 +1,5 @@
 -- How many rows are new.
-use Rattle.std.proofs.Common.{◌≡◌, ◌⊎◌, ◌↔◌, inl, inr, zero, suc, ◌+◌, ℕ, Bool, true, false, not, ◌||◌, cond, List, [], ◌∷◌, length, Contains, refl, sym, ap, ◌∙◌, subst, arith, true≢false}
-use Rattle.std.specs.Bool.{Decides}
+use Rattle.std.proofs.Common.{◌≡◌, ◌↔◌, inl, inr, suc, ◌+◌, ℕ, Bool, true, false, not, ◌||◌, cond, List, [], ◌∷◌, length, Contains, refl, sym, ap, ◌∙◌, subst, arith, true≢false}
 use Rattle.std.specs.List.{filter, AllByRecursion}
 use Rattle.std.specs.List.Sorted.{IsStrictlySortedBy}
 use Rattle.std.specs.declared.cmp.Ordering.TheVariants.{Less, Equal}
@@ -24,6 +23,7 @@ less_differs key x y l = go (row_eq x y) refl
   where
     apart : Less ≡ Equal → ⊥
     apart e = (cc)
+
     go : (b : Bool) → row_eq x y ≡ b → b ≡ false
     go true e = absurd (apart (sym l ∙ ap (block_cmp key x) (sym ((row_decides x y).0 e)) ∙ block_alike key x))
     go false e = refl

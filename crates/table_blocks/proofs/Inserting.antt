@@ -1,5 +1,5 @@
 -- What an insert gives.
-use Rattle.std.proofs.Common.{◌≡◌, ◌≤◌, ◌↔◌, ◌⊎◌, inl, inr, ◌+◌, ℕ, Bool, true, false, nat_le, List, Option, Some, None, Contains, refl, sym, ap, ◌∙◌, subst, arith, rules, true≢false}
+use Rattle.std.proofs.Common.{◌≡◌, ◌≤◌, ◌↔◌, ◌⊎◌, inl, inr, ◌+◌, ℕ, Bool, true, false, nat_le, List, Option, Some, None, Contains, refl, sym, ap, ◌∙◌, rules, true≢false}
 use Rattle.std.specs.Prelude.{if◌then◌else◌}
 use Rattle.cqa_value.specs.declared.value.Kind.{Kind}
 use Rattle.cqa_value.specs.declared.value.Value.{Value}

@@ -9,3 +9,4 @@ pub mod Changing
 pub mod Cells
 pub mod Naming
 pub mod Inserting
+mod Example

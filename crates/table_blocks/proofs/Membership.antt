@@ -1,12 +1,11 @@
 -- The test of being among rows, and how many rows are new.
-use Rattle.std.proofs.Common.{◌≡◌, ◌⊎◌, ◌↔◌, inl, inr, zero, suc, ◌+◌, ℕ, Bool, true, false, not, ◌||◌, cond, List, [], ◌∷◌, ◌++◌, length, Contains, slice_get, Some, refl, sym, ap, ◌∙◌, subst, arith, true≢false}
+use Rattle.std.proofs.Common.{◌≡◌, ◌⊎◌, ◌↔◌, inl, inr, zero, suc, ℕ, Bool, true, false, not, ◌||◌, cond, List, [], ◌∷◌, Contains, slice_get, Some, refl, sym, ap, ◌∙◌, subst, arith, true≢false}
 use Rattle.std.specs.Bool.{Decides}
-use Rattle.std.specs.List.{list_any, filter}
-use Rattle.std.proofs.lemmas.List.Elements.{Contains-append_cases, Contains-append_left, Contains-append_right}
+use Rattle.std.specs.List.{filter}
 use Rattle.std.proofs.lemmas.Option.{slice_get_within, get_or_from_slice_get}
 use Rattle.cqa_value.specs.declared.value.Value.{Value}
 use Rattle.cqa_value.specs.Values.{row_eq, row_decides}
-use Rattle.table_blocks.specs.Tables.{is_among, count_new}
+use Rattle.table_blocks.specs.Tables.{is_among}
 
 pub contains_none : {A : Type 0} (x : A) → Contains [] x → ⊥
 contains_none x h = absurd (omega (arith, h.1))

@@ -1,5 +1,5 @@
 -- Merging rows that stand behind sorted ones, from the greatest on.
-use Rattle.std.proofs.Common.{◌≡◌, ◌≢◌, ◌⊎◌, ◌↔◌, inl, inr, zero, suc, ◌≤◌, ◌<◌, ◌+◌, ◌-◌, ℕ, List, [], ◌∷◌, ◌++◌, length, take, drop, slice_get, get_or, Contains, Option, Some, None, refl, sym, ap, ◌∙◌, subst, arith, rules, append_assoc, length-append}
+use Rattle.std.proofs.Common.{◌≡◌, inl, inr, zero, suc, ◌≤◌, ◌<◌, ◌+◌, ◌-◌, ℕ, List, [], ◌∷◌, ◌++◌, length, take, drop, get_or, Contains, refl, sym, ap, ◌∙◌, subst, arith, append_assoc, length-append}
 use Rattle.std.proofs.lemmas.List.{append-nil}
 use Rattle.std.specs.List.{AllByRecursion}
 use Rattle.std.specs.List.Sorted.{IsStrictlySortedBy}
@@ -8,7 +8,7 @@ use Rattle.std.specs.Ordering.{ordering_reverse}
 use Rattle.std.specs.declared.cmp.Ordering.{Ordering}
 use Rattle.std.specs.declared.cmp.Ordering.TheVariants.{Less, Equal, Greater}
 use Rattle.std.proofs.lemmas.List.Elements.{Contains-append_cases, Contains-append_left, Contains-append_right, Contains-get_or, Contains-push}
-use Rattle.std.proofs.lemmas.List.{take-append-drop, get_or-take, length-take-le, get_or-drop, length-drop}
+use Rattle.std.proofs.lemmas.List.{take-append-drop, length-take-le, get_or-drop, length-drop}
 use Rattle.std.proofs.Math.Seq.{take-append_seam, drop-append_seam}
 use Rattle.std.proofs.lemmas.Option.{slice_get-get_or}
 use Rattle.table_blocks.specs.Tables.{IsPlace}
@@ -39,7 +39,7 @@ module _ {A : Type 0} (cmp : A → A → Ordering) (total : IsTotalOrder cmp) (e
   unfolding IsStrictlySortedBy
   across [] vs s u v m n = absurd (contains_none u m)
   across (w ∷ us) vs s u v m n = elim (contains_cases w us u m) [
-    inl e ↦ subst (λ z. cmp z v ≡ Less) e (of_all (λ y. cmp w y ≡ Less) (us ++ vs) s.0 v (Contains-append_right us vs v n))
+    | inl e ↦ subst (λ z. cmp z v ≡ Less) e (of_all (λ y. cmp w y ≡ Less) (us ++ vs) s.0 v (Contains-append_right us vs v n))
     | inr l ↦ across us vs s.1 u v l n
   ]
 
@@ -52,7 +52,7 @@ module _ {A : Type 0} (cmp : A → A → Ordering) (total : IsTotalOrder cmp) (e
   sorted_join [] vs s t below = t
   sorted_join (u ∷ us) vs s t below = (
     all_by (λ y. cmp u y ≡ Less) (us ++ vs) (λ x m. elim (Contains-append_cases us vs x m) [
-      inl l ↦ of_all (λ y. cmp u y ≡ Less) us s.0 x l
+      | inl l ↦ of_all (λ y. cmp u y ≡ Less) us s.0 x l
       | inr r ↦ below u x (contains_head u us) r
     ]),
     sorted_join us vs s.1 t (λ a b m n. below a b (contains_later u us a m) n),
@@ -127,7 +127,7 @@ module _ {A : Type 0} (cmp : A → A → Ordering) (total : IsTotalOrder cmp) (e
       let r = last_of m.fresh left m.lefts in
       let fs = r.0 in
       let seam : rows ≡ (m.before ++ fs) ++ (r.1 ∷ m.tail) =
-          m.is ∙ ap (λ l. m.before ++ (l ++ m.tail)) r.2 ∙ ap (λ l. m.before ++ l) (append_assoc fs (r.1 ∷ []) m.tail) ∙ sym (append_assoc m.before fs (r.1 ∷ m.tail)) in
+      m.is ∙ ap (λ l. m.before ++ (l ++ m.tail)) r.2 ∙ ap (λ l. m.before ++ l) (append_assoc fs (r.1 ∷ []) m.tail) ∙ sym (append_assoc m.before fs (r.1 ∷ m.tail)) in
       let far : length (m.before ++ fs) ≡ end + left = length-append m.before fs ∙ ap (λ n. n + length fs) m.ends ∙ ap (λ n. end + n) r.3 in
       let is_y : r.1 ≡ y = sym (read_seam (m.before ++ fs) r.1 m.tail d) ∙ ap (λ l. get_or l (length (m.before ++ fs)) d) (sym seam) ∙ ap (λ n. get_or rows n d) far ∙ here in
       let fresh_is : m.fresh ≡ fs ++ y ∷ [] = r.2 ∙ ap (λ z. fs ++ z ∷ []) is_y in
@@ -140,10 +140,10 @@ module _ {A : Type 0} (cmp : A → A → Ordering) (total : IsTotalOrder cmp) (e
       let short : length b ≡ length m.before - place = length-drop place m.before in
       let given : Contains m.fresh y = subst (λ l. Contains l y) (sym fresh_is) (Contains-push fs y) in
       let over : (x : A) → Contains rest x → cmp y x ≡ Less =
-          λ x h. elim (Contains-append_cases b m.tail x h) [
-            inl l ↦ above m.before y place (sorted_front m.before m.tail m.ascending) at (λ k. m.apart y k given) x l
-            | inr l ↦ across m.fresh m.tail m.rising y x given l
-          ] in
+      λ x h. elim (Contains-append_cases b m.tail x h) [
+        | inl l ↦ above m.before y place (sorted_front m.before m.tail m.ascending) at (λ k. m.apart y k given) x l
+        | inr l ↦ across m.fresh m.tail m.rising y x given l
+      ] in
       let split : IsStrictlySortedBy cmp (a ++ rest) = subst (IsStrictlySortedBy cmp) (ap (λ l. l ++ m.tail) (sym whole) ∙ append_assoc a b m.tail) m.ascending in
       let behind : IsStrictlySortedBy cmp (y ∷ rest) = sorted_cons y rest over (sorted_back a rest split) in
       let risen : IsStrictlySortedBy cmp (fs ++ y ∷ m.tail) = subst (IsStrictlySortedBy cmp) (ap (λ l. l ++ m.tail) fresh_is ∙ append_assoc fs (y ∷ []) m.tail) m.rising in
@@ -153,15 +153,15 @@ module _ {A : Type 0} (cmp : A → A → Ordering) (total : IsTotalOrder cmp) (e
         fresh = fs;
         tail = y ∷ rest;
         is = turns a b m.fresh m.tail (m.is ∙ ap (λ l. l ++ (m.fresh ++ m.tail)) (sym whole) ∙ append_assoc a b (m.fresh ++ m.tail)) long m.lefts (omega (arith, long, short, m.lefts, m.ends, at.within))
-        ∙ ap (λ l. a ++ (l ++ rest)) fresh_is ∙ ap (λ l. a ++ l) (append_assoc fs (y ∷ []) rest);
+            ∙ ap (λ l. a ++ (l ++ rest)) fresh_is ∙ ap (λ l. a ++ l) (append_assoc fs (y ∷ []) rest);
         ends = long;
         lefts = r.3;
         ascending = sorted_join a (y ∷ rest) (sorted_front a rest split) behind (λ u v h k. elim (contains_cases y rest v k) [
-          inl e ↦ subst (λ z. cmp u z ≡ Less) e (of_all (λ z. cmp z y ≡ Less) a at.below u h)
+          | inl e ↦ subst (λ z. cmp u z ≡ Less) e (of_all (λ z. cmp z y ≡ Less) a at.below u h)
           | inr l ↦ across a rest split u v h l
         ]);
         rising = sorted_join fs (y ∷ rest) (sorted_front fs (y ∷ m.tail) risen) behind (λ u v h k. elim (contains_cases y rest v k) [
-          inl e ↦ subst (λ z. cmp u z ≡ Less) e (under u h)
+          | inl e ↦ subst (λ z. cmp u z ≡ Less) e (under u h)
           | inr l ↦ total.trans u y v (under u h) (over v l)
         ]);
         apart = λ x h k. m.apart x (subst (λ l. Contains l x) whole (Contains-append_left a b x h)) (subst (λ l. Contains l x) (sym fresh_is) (Contains-append_left fs (y ∷ []) x k));

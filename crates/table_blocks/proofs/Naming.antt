@@ -1,5 +1,5 @@
 -- The tables of a map from names, and the list that they are.
-use Rattle.std.proofs.Common.{◌≡◌, ◌⊎◌, ◌↔◌, arith, ◌≤◌, ◌<◌, ◌+◌, ℕ, zero, suc, List, [], ◌∷◌, ◌++◌, Some, None, Bool, true, false, ◌||◌, cond, length, refl, sym, ap, ◌∙◌, subst, true≢false, Contains, nat_eq, slice_set, slice_get, rules}
+use Rattle.std.proofs.Common.{◌≡◌, ◌⊎◌, ◌↔◌, arith, ◌≤◌, ◌<◌, ◌+◌, ℕ, zero, suc, List, [], ◌∷◌, ◌++◌, Some, None, Bool, true, false, ◌||◌, cond, length, refl, sym, ap, ◌∙◌, subst, true≢false, Contains, nat_eq, slice_set, slice_get}
 use Rattle.std.specs.List.{list_any}
 use Rattle.std.specs.Map.{keys_of, values_of, lookup}
 use Rattle.std.specs.Cmp.Lexicographic.{pointwise, same_text}
@@ -15,7 +15,6 @@ use Rattle.std.specs.List.Sorted.{IsStrictlySortedBy}
 use Rattle.table_blocks.specs.declared.test.ColumnTest.{ColumnTest}
 use Rattle.table_blocks.specs.Tables.{IsJoined, IsSpared, TestsHold, key_at, rows_at}
 use Rattle.table_blocks.proofs.Changing.{names_set, database_set, database_push, total_set}
-
 
 lookup_none : {K X : Type 0} (test : K → Bool) (es : List (K × X)) → list_any test (keys_of es) ≡ false → lookup test es ≡ None
 lookup_none test [] h = refl

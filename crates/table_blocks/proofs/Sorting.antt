@@ -1,9 +1,9 @@
 -- Strictly sorted lists: where something stands in them, and how two are merged.
-use Rattle.std.proofs.Common.{◌≡◌, ◌≢◌, ◌⊎◌, ◌↔◌, inl, inr, zero, suc, ◌≤◌, ◌<◌, ◌+◌, ℕ, Bool, true, false, nat_lt, List, [], ◌∷◌, ◌++◌, length, take, drop, slice_get, get_or, Contains, Option, Some, None, refl, sym, ap, ◌∙◌, subst, arith, rules}
-use Rattle.std.specs.List.{AllByRecursion, AllWithin}
+use Rattle.std.proofs.Common.{◌≡◌, zero, suc, ◌≤◌, ◌<◌, ℕ, Bool, true, false, nat_lt, List, [], ◌∷◌, length, take, slice_get, get_or, Contains, Some, refl, sym, ap, ◌∙◌, subst, arith, rules}
+use Rattle.std.specs.List.{AllByRecursion}
 use Rattle.std.specs.List.Sorted.{IsStrictlySortedBy, IsPartitionedBy, IsPartitionPoint}
 use Rattle.std.specs.Cmp.{IsTotalOrder}
-use Rattle.std.specs.Ordering.{ordering_reverse, is_lt}
+use Rattle.std.specs.Ordering.{is_lt}
 use Rattle.std.specs.declared.cmp.Ordering.{Ordering}
 use Rattle.std.specs.declared.cmp.Ordering.TheVariants.{Less, Equal, Greater}
 use Rattle.std.proofs.lemmas.List.Elements.{All-from_get_or, recursion_from_All}
@@ -54,8 +54,8 @@ module _ {A : Type 0} (cmp : A → A → Ordering) (total : IsTotalOrder cmp) (e
     within = within;
     below = recursion_from_All (λ y. cmp y k ≡ Less) (take at xs)
         (All-from_get_or (λ y. cmp y k ≡ Less) (take at xs) k
-            (λ i b. let short = length-take-le at xs within in
-                rw (get_or-take at xs i k (omega (arith, b, short))) (less_is (cmp (get_or xs i k) k) (point.0 i k (omega arith) (omega (arith, b, short))))));
+        (λ i b. let short = length-take-le at xs within in
+        rw (get_or-take at xs i k (omega (arith, b, short))) (less_is (cmp (get_or xs i k) k) (point.0 i k (omega arith) (omega (arith, b, short))))));
     stops = λ other found. let inside = slice_get_within xs at other found in
         not_less (cmp other k) (subst (λ y. is_lt (cmp y k) ≡ false) (get_or_from_slice_get xs at other k found) (point.1 at k (omega arith) inside));
   }
@@ -66,6 +66,7 @@ module _ {A : Type 0} (cmp : A → A → Ordering) (total : IsTotalOrder cmp) (e
     where
       self_less : cmp k k ≡ Less → ⊥
       self_less e = (cc (sym e ∙ alike k))
+
       later : (t : Bool) → nat_lt at h.0 ≡ t → at ≤ h.0 → ⊥
       later true e a = let x : at < h.0 = search (rules, e) in
           let y = slice_get-get_or xs at k (omega (arith, x, h.1)) in
@@ -73,6 +74,7 @@ module _ {A : Type 0} (cmp : A → A → Ordering) (total : IsTotalOrder cmp) (e
       later false e a = let x : h.0 ≤ at = search (rules, e) in
           let same : h.0 ≡ at = omega (arith, x, a) in
           other (subst (λ n. slice_get xs n ≡ Some k) same (slice_get-get_or xs h.0 k h.1 ∙ ap Some h.2))
+
       before : (t : Bool) → nat_lt h.0 at ≡ t → ⊥
       before true e = let x : h.0 < at = search (rules, e) in
           let short = length-take-le at xs p.within in

@@ -1,5 +1,5 @@
 -- What a turned range of a list holds.
-use Rattle.std.proofs.Common.{◌≡◌, ◌+◌, ◌-◌, ℕ, List, ◌++◌, length, take, drop, refl, sym, ap, ◌∙◌, subst, arith, append_assoc, length-append}
+use Rattle.std.proofs.Common.{◌≡◌, ◌+◌, ◌-◌, ℕ, List, ◌++◌, length, take, drop, sym, ap, ◌∙◌, arith, append_assoc, length-append}
 use Rattle.std.proofs.Math.Seq.{take-append_seam, drop-append_seam}
 use borrow.Rule.Slice.PartMut.{put_mid, mid_of, post_of}
 
@@ -28,9 +28,9 @@ module _ {A : Type 0} (a b c d : List A) where
       let front : take from xs ≡ a = ap (λ n. take n xs) (sym la) ∙ ap (take (length a)) is ∙ take-append_seam a (b ++ (c ++ d)) in
       let part : length (b ++ c) - count ≡ length b = omega (arith, long, lc) in
       let swapped : ys ≡ c ++ b =
-          e ∙ ap (λ m. drop (length m - count) m ++ take (length m - count) m) mid
-          ∙ ap (λ n. drop n (b ++ c) ++ take n (b ++ c)) part
-          ∙ ap (λ l. l ++ take (length b) (b ++ c)) (drop-append_seam b c) ∙ ap (λ l. c ++ l) (take-append_seam b c) in
+      e ∙ ap (λ m. drop (length m - count) m ++ take (length m - count) m) mid
+      ∙ ap (λ n. drop n (b ++ c) ++ take n (b ++ c)) part
+      ∙ ap (λ l. l ++ take (length b) (b ++ c)) (drop-append_seam b c) ∙ ap (λ l. c ++ l) (take-append_seam b c) in
       ap (λ l. l ++ (ys ++ post_of from (to - from) xs)) front
       ∙ ap (λ l. a ++ (l ++ post_of from (to - from) xs)) swapped
       ∙ ap (λ l. a ++ ((c ++ b) ++ l)) post

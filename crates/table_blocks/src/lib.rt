@@ -7,6 +7,8 @@ mod order;
 mod rows;
 mod table;
 mod test;
+#[cfg(test)]
+mod tests;
 
 pub use database::Database;
-pub use test::ColumnTest;
+pub use test::{ColumnTest, compares};

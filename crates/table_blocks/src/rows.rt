@@ -15,9 +15,11 @@ fn sorted(mut rows: Vec<Row>, key: &[u32]) -> Vec<Row>
     ensures ascending { IsStrictlySortedBy (block_cmp key.now) result.items }
     ensures same { (row : List Cell) → Contains result.items row ↔ Contains rows.items row }
 {
-    rows.sort_unstable_by(|a, b| -> Ordering
-        ensures { result ≡ block_cmp key.entry.now a.now b.now }
-    { block_compare(key, a, b) });
+    rows.sort_unstable_by(
+        |a, b| -> Ordering
+            ensures { result ≡ block_cmp key.entry.now a.now b.now }
+        { block_compare(key, a, b) },
+    );
     rows.dedup();
     rows
 }
@@ -27,9 +29,11 @@ pub fn place_in(rows: &[Row], key: &[u32], row: &Row) -> usize
     ensures within { result ≤ length rows.now }
     ensures place { IsStrictlySortedBy (block_cmp key.now) rows.now → IsPlace (block_cmp key.now) rows.now row.now result }
 {
-    rows.partition_point(|other| -> bool
-        ensures { result ≡ is_lt (block_cmp key.entry.now other.now row.entry.now) }
-    { block_compare(key, other, row).is_lt() })
+    rows.partition_point(
+        |other| -> bool
+            ensures { result ≡ is_lt (block_cmp key.entry.now other.now row.entry.now) }
+        { block_compare(key, other, row).is_lt() },
+    )
 }
 
 fn same_row(a: &Row, b: &Row) -> bool
@@ -74,10 +78,12 @@ fn without(mut rows: Vec<Row>, stored: &[Row], key: &[u32]) -> Vec<Row>
     ensures ascending { IsStrictlySortedBy (block_cmp key.now) result.items }
     ensures new { (row : List Cell) → Contains result.items row ↔ (Contains rows.items row × (Contains stored.now row → ⊥)) }
 {
-    rows.retain(|row| -> bool
-        requires { IsStrictlySortedBy (block_cmp key.now) stored.now }
-        ensures { result ≡ not (is_among stored.entry.now row.now) }
-    { is_new(stored, key, row) });
+    rows.retain(
+        |row| -> bool
+            requires { IsStrictlySortedBy (block_cmp key.now) stored.now }
+            ensures { result ≡ not (is_among stored.entry.now row.now) }
+        { is_new(stored, key, row) },
+    );
     rows
 }
 
@@ -144,9 +150,11 @@ pub fn remove(rows: &mut Vec<Row>, key: &[u32], tests: &[ColumnTest])
     ensures members { (row : List Cell) → Contains rows.new.items row ↔ (Contains rows.old.items row × (TestsHold tests.now row → ⊥)) }
     ensures fewer { length rows.new.items ≤ length rows.old.items }
 {
-    rows.retain(|row| -> bool
-        ensures { IsTrue result ↔ (TestsHold tests.entry.now row.now → ⊥) }
-    { !passes_all(row, tests) });
+    rows.retain(
+        |row| -> bool
+            ensures { IsTrue result ↔ (TestsHold tests.entry.now row.now → ⊥) }
+        { !passes_all(row, tests) },
+    );
 }
 
 /// Those of some rows that aren't stored, in block order and each once.

@@ -23,7 +23,7 @@ fn same_value(a: &Value, b: &Value) -> bool
 }
 
 /// Whether two values stand in the relation of an operator.
-fn compares(op: Op, a: &Value, b: &Value) -> bool
+pub fn compares(op: Op, a: &Value, b: &Value) -> bool
     ensures { IsTrue result ↔ OpHolds op a.now b.now }
 {
     match op {

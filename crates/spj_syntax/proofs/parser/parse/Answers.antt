@@ -8,25 +8,25 @@ pub parse_readable-requires : goal.parse_readable-requires
 parse_readable-requires c = record { readable = spelled_readable c.requires.spelled; few = omega (arith, spelled_few c.requires.spelled) }
 
 pub returns-clause-statement : goal.returns-clause-statement
-returns-clause-statement c = ok_statement _ _ _ c.parse_readable.ensures
+returns-clause-statement c = ok_statement _ _ _ c.parse_readable.ensures.exact
 
 pub returns-clause-fit : goal.returns-clause-fit
-returns-clause-fit c = ok_fit _ _ _ c.parse_readable.ensures
+returns-clause-fit c = ok_fit _ _ _ c.parse_readable.ensures.exact
 
 pub returns-clause-written : goal.returns-clause-written
-returns-clause-written c = ok_written _ _ _ c.parse_readable.ensures
+returns-clause-written c = ok_written _ _ _ c.parse_readable.ensures.exact
 
 pub returns-clause-refused : goal.returns-clause-refused
-returns-clause-refused c = err_refuses _ _ _ c.parse_readable.ensures
+returns-clause-refused c = err_refuses _ _ _ c.parse_readable.ensures.exact
 
 pub returns-clause-complete : goal.returns-clause-complete
-returns-clause-complete c = statement_read _ _ _ c.parse_readable.ensures
+returns-clause-complete c = statement_read _ _ _ c.parse_readable.ensures.exact
 
 pub returns-clause-only : goal.returns-clause-only
-returns-clause-only c = only_statement _ _ _ c.parse_readable.ensures
+returns-clause-only c = only_statement _ _ _ c.parse_readable.ensures.exact
 
 pub returns-clause-only_fault : goal.returns-clause-only_fault
-returns-clause-only_fault c = only_fault _ _ _ c.parse_readable.ensures
+returns-clause-only_fault c = only_fault _ _ _ c.parse_readable.ensures.exact
 
 pub returns-clause-small : goal.returns-clause-small
-returns-clause-small c = ok_within _ _ _ (spelled_few c.requires.spelled) c.parse_readable.ensures
+returns-clause-small c = ok_within _ _ _ (spelled_few c.requires.spelled) c.parse_readable.ensures.exact

@@ -7,14 +7,14 @@ use Rattle.spj_syntax.specs.Parsed.{is_set}
 use Rattle.spj_syntax.proofs.Whole.{plain_took, plain_failed, fault_at, is_statement, more_is_fault, stop_is_fault, fault_shorter, refused, accepted}
 use Rattle.spj_syntax.proofs.parser.parse_plain.Goals as goal
 
-pub returns-in-Some : goal.returns-in-Some
-returns-in-Some c =
+pub returns-in-Some-clause-exact : goal.returns-in-Some-clause-exact
+returns-in-Some-clause-exact c =
     let plain : is_set c.new-reader.result ≡ false = ap is_set c.new-reader.ensures ∙ c.requires.no_set in
     let h = is_statement (plain_took plain c.in-Ok.ensures.reads) (sym c.count-left.ensures.left ∙ omega arith) in
     refused _ _ c.in-Some.fault c.requires.no_set c.in-Some.ensures (rw c.new-reader.ensures at h.0)
 
-pub returns-in-None : goal.returns-in-None
-returns-in-None c =
+pub returns-in-None-clause-exact : goal.returns-in-None-clause-exact
+returns-in-None-clause-exact c =
     let plain : is_set c.new-reader.result ≡ false = ap is_set c.new-reader.ensures ∙ c.requires.no_set in
     let h = is_statement (plain_took plain c.in-Ok.ensures.reads) (sym c.count-left.ensures.left ∙ omega arith) in
     accepted _ _ _ c.requires.no_set c.in-None.ensures (rw c.new-reader.ensures at h) c.in-Ok.ensures.proper
@@ -31,14 +31,14 @@ place-requires-in-Err-Syntax c =
     let f = fault_shorter (stop_is_fault (plain_failed plain (rw c.in-Err-Syntax.field-0-is at c.in-Err-Syntax.ensures.reads))) in
     omega (arith, f, c.count.ensures.left, ap length c.new-reader.ensures, length-map c.args.tokens.now (lexeme c.args.text.now))
 
-pub returns-then-left-gt0 : goal.returns-then-left-gt0
-returns-then-left-gt0 c =
+pub returns-then-left-gt0-clause-exact : goal.returns-then-left-gt0-clause-exact
+returns-then-left-gt0-clause-exact c =
     let plain : is_set c.new-reader.result ≡ false = ap is_set c.new-reader.ensures ∙ c.requires.no_set in
     let f : FirstFault statement c.new-reader.result c.plain.new.reader = more_is_fault (plain_took plain c.in-Ok.ensures.reads) (λ e. absurd (omega (arith, c.if-left-gt0.true, c.count-left.ensures.left, e))) in
     fault_at c.args.text.now c.args.tokens.now _ _ _ (rw c.new-reader.ensures at f) c.count-left.ensures.left c.place.ensures
 
-pub returns-in-Err-Syntax : goal.returns-in-Err-Syntax
-returns-in-Err-Syntax c =
+pub returns-in-Err-Syntax-clause-exact : goal.returns-in-Err-Syntax-clause-exact
+returns-in-Err-Syntax-clause-exact c =
     let plain : is_set c.new-reader.result ≡ false = ap is_set c.new-reader.ensures ∙ c.requires.no_set in
     let f : FirstFault statement c.new-reader.result c.plain.new.reader = stop_is_fault (plain_failed plain (rw c.in-Err-Syntax.field-0-is at c.in-Err-Syntax.ensures.reads)) in
     fault_at c.args.text.now c.args.tokens.now _ _ _ (rw c.new-reader.ensures at f) c.count.ensures.left c.place-in-Err-Syntax.ensures

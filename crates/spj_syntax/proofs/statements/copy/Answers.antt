@@ -6,7 +6,7 @@ pub returns-in_err-word-clause-reads : goal.returns-in_err-word-clause-reads
 returns-in_err-word-clause-reads c = exit _ _ c.from_residual.ensures.1 (fails_first c.in_err-word.ensures)
 
 pub returns-in_err-table-clause-reads : goal.returns-in_err-table-clause-reads
-returns-in_err-table-clause-reads c = exit _ _ c.from_residual-in_err-table.ensures.1 (fails_then c.in_ok-word.ensures c.in_err-table.ensures)
+returns-in_err-table-clause-reads c = exit _ _ c.from_residual-in_err-table.ensures.1 (fails_then c.in_ok-word.ensures c.in_err-table.ensures.reads)
 
 pub returns-clause-reads : goal.returns-clause-reads
-returns-clause-reads c = took_both c.in_ok-word.ensures c.in_ok-table.ensures refl
+returns-clause-reads c = took_both c.in_ok-word.ensures c.in_ok-table.ensures.reads refl

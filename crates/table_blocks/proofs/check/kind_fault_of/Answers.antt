@@ -1,4 +1,4 @@
-use Rattle.std.proofs.Common.{◌≡◌, ◌∙◌, sym, ap, arith, length, map, slice_get, Some, subst, ◌<◌}
+use Rattle.std.proofs.Common.{◌∙◌, sym, arith}
 use Rattle.cqa_model.specs.Database.{kinds_of}
 use Rattle.std.proofs.lemmas.List.{length-map}
 use Rattle.table_blocks.proofs.Faults.{kind_more, kind_found, kind_over, kind_read}
@@ -9,8 +9,8 @@ returns-in-Some c =
     let t = c.loop-at-test.true in
     let long = c.len.ensures in
     sym (kind_found c.args.number c.loop-at.at (kinds_of c.args.schema.now) c.args.row.now c.index-columns-at.result.kind c.get.result.now c.loop-at.invariant.fault
-        (kind_read c.args.schema.now.columns c.as_slice-columns.result.now c.loop-at.at c.index-columns-at.result c.as_slice-columns.ensures (omega (arith, t, long, c.requires)) c.index-columns-at.is)
-        c.get.ensures c.in-Some.fault (sym c.in-Some.ensures))
+    (kind_read c.args.schema.now.columns c.as_slice-columns.result.now c.loop-at.at c.index-columns-at.result c.as_slice-columns.ensures (omega (arith, t, long, c.requires)) c.index-columns-at.is)
+    c.get.ensures c.in-Some.fault (sym c.in-Some.ensures))
 
 pub loop-at-preserved : goal.loop-at-preserved
 loop-at-preserved c =

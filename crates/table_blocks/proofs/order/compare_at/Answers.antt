@@ -1,7 +1,4 @@
-use Rattle.std.proofs.Common.{◌≡◌, ◌∙◌, sym, ap, Option, Some, None, unwrap_or, slice_get, slice_index_or, pos, List, ℕ, refl}
-use Rattle.cqa_value.specs.declared.value.Value.{Value}
-use Rattle.cqa_value.specs.declared.value.Value.TheVariants.{Int}
-use Rattle.cqa_value.specs.Values.{value_cmp}
+use Rattle.std.proofs.Common.{refl}
 use Rattle.table_blocks.proofs.Cells.{read}
 use Rattle.table_blocks.proofs.order.compare_at.Goals as goal
 

@@ -2,7 +2,7 @@ use Rattle.std.proofs.Common.{◌≡◌, ◌<◌, ◌+◌, ◌-◌, ◌∙◌, �
 use Rattle.std.proofs.lemmas.List.Sorted.{IsPermutation-refl, IsPermutation-trans}
 use Rattle.cqa_model.specs.Database.{block_cmp}
 use Rattle.table_blocks.proofs.BlockOrder.{block_total, block_exact, block_alike}
-use Rattle.table_blocks.proofs.Merging.{Merging, begun, stepped, ended, front_sorted}
+use Rattle.table_blocks.proofs.Merging.{Merging, begun, stepped, front_sorted}
 use Rattle.table_blocks.proofs.rows.merge.Goals as goal
 
 one_more : (n : ℕ) → 0 < n → n ≡ suc (n - 1)
@@ -41,6 +41,6 @@ loop-left-preserved c =
       within = omega (arith, low, within, same_length, some);
       same = IsPermutation-trans _ _ _ c.loop-left.invariant.same c.turn.ensures.same;
       merging = stepped (block_cmp key) (block_total key) (block_exact key) (block_alike key) rows c.turn.new.rows c.loop-left.end (c.loop-left.left - 1) place _ []
-      (subst (Merging (block_cmp key) (block_total key) (block_exact key) (block_alike key) rows c.loop-left.end) one c.loop-left.invariant.merging)
-      (ap (λ n. get_or rows n []) (last_at c.loop-left.end c.loop-left.left some)) (c.place_among-place.ensures.place sorted) (λ a b c' d is la lc lt. c.turn.ensures.turned a b c' d is la (lc ∙ sym one) (lt ∙ ap (λ n. c.loop-left.end + n) (sym one)));
+          (subst (Merging (block_cmp key) (block_total key) (block_exact key) (block_alike key) rows c.loop-left.end) one c.loop-left.invariant.merging)
+          (ap (λ n. get_or rows n []) (last_at c.loop-left.end c.loop-left.left some)) (c.place_among-place.ensures.place sorted) (λ a b c' d is la lc lt. c.turn.ensures.turned a b c' d is la (lc ∙ sym one) (lt ∙ ap (λ n. c.loop-left.end + n) (sym one)));
     }

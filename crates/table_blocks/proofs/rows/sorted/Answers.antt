@@ -1,4 +1,4 @@
-use Rattle.std.proofs.Common.{rules, ap, Contains, subst}
+use Rattle.std.proofs.Common.{rules, ap}
 use Rattle.std.specs.Ordering.{is_lt}
 use Rattle.std.proofs.lemmas.Fn.{always_returns_same}
 use Rattle.std.proofs.lemmas.List.Kept.{IsStrictlySortedBy-dedup, Contains-dedup, Contains-from_dedup}
@@ -12,7 +12,7 @@ pub returns-clause-ascending : goal.returns-clause-ascending
 returns-clause-ascending c =
     rw (dedup_is row_eq _ _ c.dedup.ensures.filtered)
     (IsStrictlySortedBy-dedup (block_total c.args.key.now) (block_ties c.args.key.now) _
-        (c.sort_unstable_by.ensures.sorted _ (ranks_by (block_total c.args.key.now) (λ row. row)) (always_returns_same _ _ _ (λ a r f k. (ap is_lt (search rules), search rules)))))
+    (c.sort_unstable_by.ensures.sorted _ (ranks_by (block_total c.args.key.now) (λ row. row)) (always_returns_same _ _ _ (λ a r f k. (ap is_lt (search rules), search rules)))))
 
 pub returns-clause-same : goal.returns-clause-same
 returns-clause-same c row =

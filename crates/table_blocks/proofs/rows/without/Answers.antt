@@ -1,10 +1,9 @@
-use Rattle.std.proofs.Common.{rules, ◌≡◌, Bool, true, false, not, List, sym, ◌∙◌, ap, Contains, true≢false, refl}
+use Rattle.std.proofs.Common.{rules, not}
 use Rattle.std.proofs.lemmas.Fn.{filter_same}
 use Rattle.std.proofs.lemmas.List.Kept.{IsStrictlySortedBy-filter}
-use Rattle.cqa_value.specs.declared.value.Value.{Value}
 use Rattle.cqa_model.specs.Database.{block_cmp}
 use Rattle.table_blocks.specs.Tables.{is_among}
-use Rattle.table_blocks.proofs.Membership.{among, contains_filter, not_among}
+use Rattle.table_blocks.proofs.Membership.{contains_filter, not_among}
 use Rattle.table_blocks.proofs.rows.without.Goals as goal
 
 pub returns-clause-ascending : goal.returns-clause-ascending

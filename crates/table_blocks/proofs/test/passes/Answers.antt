@@ -1,7 +1,3 @@
-use Rattle.std.proofs.Common.{subst}
-use Rattle.cqa_model.specs.Query.{OpHolds}
-use Rattle.std.specs.Bool.{IsTrue}
-use Rattle.std.proofs.Common.{◌↔◌}
 use Rattle.table_blocks.proofs.Cells.{read}
 use Rattle.table_blocks.proofs.test.passes.Goals as goal
 

@@ -1,9 +1,7 @@
-use Rattle.std.proofs.Common.{◌≡◌, ◌≤◌, ◌+◌, ℕ, ◌∙◌, sym, ap, subst, arith, length, List, Some, slice_get, slice_set, Contains}
+use Rattle.std.proofs.Common.{◌≡◌, ◌≤◌, ◌+◌, ℕ, ◌∙◌, sym, ap, subst, arith, length, Some, slice_get, slice_set, Contains}
 use Rattle.std.specs.Prelude.{Result, Ok, Err, OnErr}
-use Rattle.std.specs.Map.{values_of}
 use Rattle.cqa_model.specs.Database.{Table, row_total}
 use Rattle.cqa_model.proofs.Places.{rows-at}
-use Rattle.table_blocks.specs.Tables.{with_rows}
 use Rattle.table_blocks.proofs.Changing.{set_with_rows, set_same}
 use Rattle.table_blocks.proofs.Naming.{named_more, joined_by, values_set}
 use Rattle.table_blocks.proofs.database.Database.add.Goals as goal
@@ -52,4 +50,4 @@ returns-in_err-add-in-Some-clause-err c =
     let found = subst (λ db. slice_get db c.args.table ≡ Some c.in-Some.found.now) c.self.view_is (sym c.in-Some.ensures.value) in
     on_err c.from_residual.result
     (values_set c.self.inside.tables.entries c.args.table c.add.new.self ∙ ap (λ db. slice_set db c.args.table c.add.new.self) c.self.view_is
-        ∙ ap (λ t. slice_set c.args.self.now c.args.table t) c.in_err-add-in-Some.ensures.err ∙ set_same c.args.self.now c.args.table c.in-Some.found.now found)
+    ∙ ap (λ t. slice_set c.args.self.now c.args.table t) c.in_err-add-in-Some.ensures.err ∙ set_same c.args.self.now c.args.table c.in-Some.found.now found)

@@ -1,8 +1,8 @@
-use Rattle.std.proofs.Common.{◌≡◌, ◌<◌, ◌++◌, ◌∷◌, [], ℕ, List, length, ◌∙◌, sym, ap, subst, nat_eq, Contains}
+use Rattle.std.proofs.Common.{◌≡◌, ◌<◌, ◌++◌, ◌∷◌, [], length, ◌∙◌, sym, ap, subst, nat_eq, Contains}
 use Rattle.std.specs.Map.{keys_of, values_of}
 use Rattle.std.specs.Cmp.Lexicographic.{pointwise}
 use Rattle.indexmap.proofs.CallerLemmas.{insert_entry-new}
-use Rattle.cqa_model.specs.Database.{Table, names_of}
+use Rattle.cqa_model.specs.Database.{names_of}
 use Rattle.table_blocks.proofs.Naming.{AreNamed, name_absent, named_push}
 use Rattle.table_blocks.proofs.database.Database.create.Goals as goal
 

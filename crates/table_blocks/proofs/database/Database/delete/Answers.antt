@@ -1,5 +1,5 @@
-use Rattle.std.proofs.Common.{◌≡◌, ◌≤◌, ◌<◌, ◌-◌, ◌+◌, ℕ, ◌∙◌, sym, ap, subst, arith, length}
-use Rattle.table_blocks.specs.Tables.{rows_at, with_rows}
+use Rattle.std.proofs.Common.{◌≡◌, ◌≤◌, ◌-◌, ◌+◌, ℕ, ◌∙◌, ap, arith, length}
+use Rattle.table_blocks.specs.Tables.{rows_at}
 use Rattle.table_blocks.proofs.Changing.{length-with_rows, rows_at-with_rows}
 use Rattle.table_blocks.proofs.database.Database.delete.Goals as goal
 

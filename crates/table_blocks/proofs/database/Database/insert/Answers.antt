@@ -1,7 +1,7 @@
-use Rattle.std.proofs.Common.{◌≡◌, ◌≤◌, ◌-◌, ◌+◌, ◌↔◌, ◌∙◌, sym, ap, subst, arith, length, List, ℕ, None, Contains}
+use Rattle.std.proofs.Common.{◌≡◌, ◌≤◌, ◌-◌, ◌+◌, ◌↔◌, sym, subst, arith, length, List, ℕ, None, Contains}
 use Rattle.cqa_value.specs.declared.value.Value.{Value}
 use Rattle.cqa_model.specs.Database.{row_total}
-use Rattle.table_blocks.specs.Tables.{rows_at, kinds_at, key_at, rows_fault, count_new}
+use Rattle.table_blocks.specs.Tables.{rows_at, kinds_at, key_at, count_new}
 use Rattle.table_blocks.proofs.Faults.{rows_fit}
 use Rattle.table_blocks.proofs.Inserting.{joined_given, valid_insert, fault_seen, count_seen}
 use Rattle.table_blocks.proofs.database.Database.insert.Goals as goal
@@ -25,8 +25,8 @@ room_left total all count new t n few room = omega (arith, t, n, few, room)
 pub returns-clause-inserted : goal.returns-clause-inserted
 returns-clause-inserted c =
     let new : (row : List Value) → Contains c.fresh_rows-fresh.result.items row ↔ (Contains c.args.rows row × (Contains (rows_at c.args.self.now c.args.table) row → ⊥)) =
-        subst (λ stored. (row : List Value) → Contains c.fresh_rows-fresh.result.items row ↔ (Contains c.args.rows row × (Contains stored row → ⊥))) c.rows-2.ensures.is
-        (subst (λ given. (row : List Value) → Contains c.fresh_rows-fresh.result.items row ↔ (Contains given row × (Contains c.rows-2.result.now row → ⊥))) c.into_vec.ensures c.fresh_rows-fresh.ensures.new) in
+    subst (λ stored. (row : List Value) → Contains c.fresh_rows-fresh.result.items row ↔ (Contains c.args.rows row × (Contains stored row → ⊥))) c.rows-2.ensures.is
+    (subst (λ given. (row : List Value) → Contains c.fresh_rows-fresh.result.items row ↔ (Contains given row × (Contains c.rows-2.result.now row → ⊥))) c.into_vec.ensures c.fresh_rows-fresh.ensures.new) in
     record {
       rows = c.in_ok-add.ensures.changed.0;
       joined = joined_given (key_at c.args.self.now c.args.table) (rows_at c.args.self.now c.args.table) c.args.rows c.fresh_rows-fresh.result.items c.in_ok-add.ensures.changed.0 c.in_ok-add.ensures.changed.1 new;

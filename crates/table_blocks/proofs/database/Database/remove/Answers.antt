@@ -1,6 +1,4 @@
 use Rattle.std.proofs.Common.{◌≡◌, ◌≤◌, ◌∙◌, sym, ap, subst, length, Some, slice_get, slice_set}
-use Rattle.std.specs.Map.{values_of}
-use Rattle.cqa_model.specs.Database.{Table}
 use Rattle.cqa_model.proofs.Places.{rows-at}
 use Rattle.table_blocks.proofs.Changing.{set_with_rows}
 use Rattle.table_blocks.proofs.Naming.{named_less, spared_by, values_set}

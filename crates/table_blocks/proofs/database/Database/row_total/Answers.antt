@@ -1,4 +1,4 @@
-use Rattle.std.proofs.Common.{◌≡◌, ◌∙◌, ap, arith, length, ◌+◌, ◌<◌, ◌≤◌, ℕ, List, take, subst, sym}
+use Rattle.std.proofs.Common.{◌≡◌, ap, arith, length, ◌+◌, ◌<◌, ◌≤◌, ℕ, List, take, subst}
 use Rattle.cqa_model.specs.Database.{Table, IsDatabase, row_total}
 use Rattle.table_blocks.specs.Tables.{rows_at}
 use Rattle.table_blocks.proofs.Changing.{total_more, total_within}

@@ -1,4 +1,4 @@
-use Rattle.std.proofs.Common.{◌≡◌, ◌∙◌, ◌+◌, sym, ap, subst, ◌++◌, length, length-append, inl, inr, Contains}
+use Rattle.std.proofs.Common.{◌∙◌, ◌+◌, sym, ap, subst, ◌++◌, length, length-append, inl, inr, Contains}
 use Rattle.std.specs.List.Sorted.{IsStrictlySortedBy}
 use Rattle.std.proofs.lemmas.List.Sorted.{Contains-permutation, IsPermutation-sym, length_permutation}
 use Rattle.std.proofs.lemmas.List.Elements.{Contains-append_cases, Contains-append_left, Contains-append_right}
@@ -12,7 +12,7 @@ in_block_order : (c : goal.In_ok-put) → IsTable (record { schema = c.self.insi
 in_block_order c = record {
   in_order = subst (λ key. IsStrictlySortedBy (block_cmp key) c.put.new.rows.items) c.key_places.ensures c.in_ok-put.ensures.ascending;
   of_schema = λ row h. elim (Contains-append_cases c.self.inside.rows.items c.args.fresh.items row (Contains-permutation _ _ row (IsPermutation-sym _ _ c.in_ok-put.ensures.same) h)) [
-    inl m ↦ c.self.invariant.of_schema row m
+    | inl m ↦ c.self.invariant.of_schema row m
     | inr m ↦ subst (λ schema. IsRowOf schema row) (sym (ap (λ t. t.schema) c.self.view_is)) (c.requires.fits row m)
   ];
 }
@@ -25,11 +25,11 @@ returns-clause-members c row =
     let moved = c.in_ok-put.ensures.same in
     let stored = ap (λ t. t.rows) c.self.view_is in (
       λ h. elim (Contains-append_cases c.self.inside.rows.items c.args.fresh.items row (Contains-permutation _ _ row (IsPermutation-sym _ _ moved) h)) [
-        inl m ↦ inl (subst (λ rows. Contains rows row) stored m)
+        | inl m ↦ inl (subst (λ rows. Contains rows row) stored m)
         | inr m ↦ inr m
       ],
       λ h. Contains-permutation (c.self.inside.rows.items ++ c.args.fresh.items) _ row moved (elim h [
-        inl m ↦ Contains-append_left c.self.inside.rows.items c.args.fresh.items row (subst (λ rows. Contains rows row) (sym stored) m)
+        | inl m ↦ Contains-append_left c.self.inside.rows.items c.args.fresh.items row (subst (λ rows. Contains rows row) (sym stored) m)
         | inr m ↦ Contains-append_right c.self.inside.rows.items c.args.fresh.items row m
       ]),
     )
