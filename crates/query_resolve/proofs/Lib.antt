@@ -1,0 +1,5 @@
+pub mod Members
+pub mod Lookups
+pub mod Schemas
+pub mod Scopes
+pub mod Queries

@@ -1,0 +1,105 @@
+-- The first fault of a list, a member further on, and the values of the members so far.
+use Rattle.std.proofs.Common.{◌≡◌, ℕ, zero, suc, ◌+◌, ◌<◌, ◌≤◌, List, [], ◌∷◌, ◌++◌, length, drop, take, get_or, slice_get, Option, Some, None, Result, Ok, Err, IfErr, refl, sym, ap, ◌∙◌, subst, arith}
+use Rattle.std.specs.List.{AllZip}
+use Rattle.std.specs.Result.{IsErrAnd}
+use Rattle.std.proofs.lemmas.List.{length-take-le, take_all}
+use Rattle.std.proofs.lemmas.Option.{slice_get_within, slice_get_read, get_or_from_slice_get}
+use Rattle.std.proofs.Math.Seq.{drop-cons, take-suc}
+use Rattle.cqa_value.specs.declared.memory.Fail.{Fail}
+use Rattle.cqa_value.specs.declared.memory.Fail.TheVariants.{NoMemory, Refused}
+use Rattle.cqa_model.specs.declared.refusal.Refusal.{Refusal}
+use Rattle.table_blocks.specs.Tables.{first_of, IsRefusedAs}
+use Rattle.query_resolve.specs.Checks.{first_fault, by_number}
+
+-- a refusal by the first of two checks, or by the second where the first passes
+pub refused_first : (e : Fail Refusal) (a b : Option Refusal) → IsRefusedAs e a → IsRefusedAs e (first_of a b)
+refused_first NoMemory a b h = h
+refused_first (Refused r) a b h = ap (λ o. first_of o b) h
+
+pub refused_second : (e : Fail Refusal) (a b : Option Refusal) → a ≡ None → IsRefusedAs e b → IsRefusedAs e (first_of a b)
+refused_second NoMemory a b n h = h
+refused_second (Refused r) a b n h = ap (λ o. first_of o b) n ∙ h
+
+pub neither : (a b : Option Refusal) → a ≡ None → b ≡ None → first_of a b ≡ None
+neither a b p q = ap (λ o. first_of o b) p ∙ q
+
+some_none : {A : Type 0} (x : A) → Some x ≡ None → ⊥
+some_none x e = (cc)
+
+-- neither of two faults is there
+pub both_none : (a b : Option Refusal) → first_of a b ≡ None → (a ≡ None) × (b ≡ None)
+both_none None b e = (refl, e)
+both_none (Some f) b e = absurd (some_none f e)
+
+-- an error that is handed on
+pub handed_on : {T : Type 0} (r : Result T (Fail Refusal)) (e : Fail Refusal) (fault : Option Refusal) → IsErrAnd r (λ x. x ≡ e) → IsRefusedAs e fault → IfErr r (λ x. IsRefusedAs x fault)
+handed_on (Ok v) e fault s h = absurd s
+handed_on (Err x) e fault s h = subst (λ y. IsRefusedAs y fault) (sym s) h
+
+plus_one : (n : ℕ) → suc n ≡ n + 1
+plus_one n = omega arith
+
+pub take_next : {A : Type 0} (xs : List A) (at : ℕ) (x : A) → slice_get xs at ≡ Some x → take (at + 1) xs ≡ take at xs ++ x ∷ []
+take_next xs at x here = ap (λ n. take n xs) (sym (plus_one at)) ∙ take-suc xs at x (slice_get_within xs at x here) ∙ ap (λ y. take at xs ++ y ∷ []) (get_or_from_slice_get xs at x x here)
+
+pub drop_next : {A : Type 0} (xs : List A) (at : ℕ) (x : A) → slice_get xs at ≡ Some x → drop at xs ≡ x ∷ drop (at + 1) xs
+drop_next xs at x here = drop-cons xs at x (slice_get_within xs at x here) ∙ ap (λ y. y ∷ drop (suc at) xs) (get_or_from_slice_get xs at x x here) ∙ ap (λ n. x ∷ drop n xs) (plus_one at)
+
+-- a member that was read in a loop
+pub read : {A : Type 0} (xs : List A) (at : ℕ) (x : A) → at < length xs → x ≡ get_or xs at x → slice_get xs at ≡ Some x
+read xs at x inside is = slice_get_read xs (length xs) at x refl inside is
+
+pub all_zip_next : {A B : Type 0} (R : A → B → Type 0) (xs : List A) (ys : List B) (x : A) (y : B) → AllZip R xs ys → R x y → AllZip R (xs ++ x ∷ []) (ys ++ y ∷ [])
+all_zip_next R [] [] x y so h = (h, tt)
+all_zip_next R [] (b ∷ ys) x y so h = absurd so
+all_zip_next R (a ∷ xs) [] x y so h = absurd so
+all_zip_next R (a ∷ xs) (b ∷ ys) x y so h = (so.0, all_zip_next R xs ys x y so.1 h)
+
+-- the members before a place pass their checks and have their values
+pub record SoFar {A B : Type 0} (check : List A → A → Option Refusal) (R : A → B → Type 0) (xs : List A) (at : ℕ) (out : List B) : Type 0 where
+  pub fault : first_fault check [] xs ≡ first_fault check (take at xs) (drop at xs)
+  pub values : AllZip R (take at xs) out
+
+module _ {A : Type 0} (check : List A → A → Option Refusal) (xs : List A) (at : ℕ) (x : A) (here : slice_get xs at ≡ Some x) where
+  pub fault_next : first_fault check (take at xs) (drop at xs) ≡ first_of (check (take at xs) x) (first_fault check (take (at + 1) xs) (drop (at + 1) xs))
+  fault_next = ap (first_fault check (take at xs)) (drop_next xs at x here)
+      ∙ ap (λ b. first_of (check (take at xs) x) (first_fault check b (drop (at + 1) xs))) (sym (take_next xs at x here))
+
+module _ {A B : Type 0} (check : List A → A → Option Refusal) (R : A → B → Type 0) (xs : List A) (at : ℕ) (out : List B) where
+  pub start : at ≡ 0 → out ≡ [] → SoFar check R xs at out
+  start z e = record {
+    fault = ap (λ n. first_fault check (take n xs) (drop n xs)) (sym z);
+    values = subst (λ o. AllZip R (take at xs) o) (sym e) (subst (λ n. AllZip R (take n xs) []) (sym z) tt);
+  }
+
+-- the member at a place passes its check and has its value, or doesn't
+module _ {A B : Type 0} (check : List A → A → Option Refusal) (R : A → B → Type 0) (xs : List A) (at : ℕ) (out : List B) (x : A) (so : SoFar check R xs at out) (inside : at < length xs) (is : x ≡ get_or xs at x) where
+  pub more : (y : B) (next : List B) → check (take at xs) x ≡ None → R x y → next ≡ out ++ y ∷ [] → SoFar check R xs (at + 1) next
+  more y next none h e = let here = read xs at x inside is in record {
+    fault = so.fault ∙ fault_next check xs at x here ∙ ap (λ o. first_of o (first_fault check (take (at + 1) xs) (drop (at + 1) xs))) none;
+    values = subst (λ o. AllZip R (take (at + 1) xs) o) (sym e) (subst (λ l. AllZip R l (out ++ y ∷ [])) (sym (take_next xs at x here)) (all_zip_next R (take at xs) out x y so.values h));
+  }
+
+  pub found : (e : Fail Refusal) → IsRefusedAs e (check (take at xs) x) → IsRefusedAs e (first_fault check [] xs)
+  found e h = subst (IsRefusedAs e) (sym (so.fault ∙ fault_next check xs at x (read xs at x inside is))) (refused_first e (check (take at xs) x) (first_fault check (take (at + 1) xs) (drop (at + 1) xs)) h)
+
+  pub stopped : {T : Type 0} (r : Result T (Fail Refusal)) (e : Fail Refusal) → IsErrAnd r (λ f. f ≡ e) → IsRefusedAs e (check (take at xs) x) → IfErr r (λ f. IsRefusedAs f (first_fault check [] xs))
+  stopped r e same h = handed_on r e (first_fault check [] xs) same (found e h)
+
+drop_all : {A : Type 0} (at : ℕ) (xs : List A) → length xs ≤ at → drop at xs ≡ []
+drop_all zero [] h = refl
+drop_all (suc at) [] h = refl
+drop_all zero (x ∷ xs) h = absurd (omega (arith, h))
+drop_all (suc at) (x ∷ xs) h = drop_all at xs (omega (arith, h))
+
+-- all members pass their checks and have their values
+module _ {A B : Type 0} (check : List A → A → Option Refusal) (R : A → B → Type 0) (xs : List A) (at : ℕ) (out : List B) (so : SoFar check R xs at out) (over : length xs ≤ at) where
+  pub passed : first_fault check [] xs ≡ None
+  passed = so.fault ∙ ap (first_fault check (take at xs)) (drop_all at xs over)
+
+  pub resolved : (result : List B) → result ≡ out → AllZip R xs result
+  resolved result same = subst (AllZip R xs) (sym same) (subst (λ l. AllZip R l out) (take_all at xs over) so.values)
+
+-- the number of a member
+pub numbered : {A : Type 0} (check : ℕ → A → Option Refusal) (xs : List A) (at : ℕ) (x : A) → at < length xs → check (at + 1) x ≡ by_number check (take at xs) x
+numbered check xs at x inside = ap (λ n. check (n + 1) x) (sym (length-take-le at xs (omega (arith, inside))))

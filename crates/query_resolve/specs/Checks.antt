@@ -1,0 +1,105 @@
+-- The first failing check of a schema, of the tests of a `delete`, and of a query.
+use Rattle.std.specs.Prelude.{ℕ, ◌+◌, Bool, nat_lt, nat_le, not, ◌&&◌, if◌then◌else◌, List, [], ◌∷◌, ◌++◌, length, Option, Some, None, is_some, is_none, slice_index_or}
+use Rattle.cqa_value.specs.declared.value.Kind.{Kind}
+use Rattle.cqa_value.specs.Values.{kind_of}
+use Rattle.cqa_model.specs.declared.schema.Column.{Column}
+use Rattle.cqa_model.specs.declared.refusal.Refusal.{Refusal}
+use Rattle.cqa_model.specs.declared.refusal.Refusal.TheVariants.{UnknownTable, TableExists, UnknownColumn, AmbiguousColumn, SelfJoin, TypeMismatch, DuplicateColumn, BadKey, Limit}
+use Rattle.cqa_model.specs.declared.refusal.Place.TheVariants.{Condition}
+use Rattle.cqa_model.specs.declared.refusal.LimitKind.TheVariants.{Tables, Columns, Atoms, Answer}
+use Rattle.cqa_model.specs.Database.{Table}
+use Rattle.spj_syntax.specs.declared.tree.RawSchema.{RawSchema}
+use Rattle.spj_syntax.specs.declared.tree.RawTest.{RawTest}
+use Rattle.spj_syntax.specs.declared.tree.RawCol.{RawCol}
+use Rattle.spj_syntax.specs.declared.tree.RawCond.{RawCond}
+use Rattle.spj_syntax.specs.declared.tree.RawCond.TheVariants.{Join, Test}
+use Rattle.spj_syntax.specs.declared.tree.Select.{Select}
+use Rattle.table_blocks.specs.Tables.{table_named, first_of, same_kind}
+use Rattle.query_resolve.specs.Names.{name_place, has_column, kind_named, columns_at, columns_in, owners}
+
+-- the refusal of a check that fails
+abbrev pub fault_unless : Bool → Refusal → Option Refusal
+fault_unless passes refusal = if passes then None else Some refusal
+
+-- the first fault of a list's members, each checked after those before it
+abbrev pub first_fault : {A : Type 0} → (List A → A → Option Refusal) → List A → List A → Option Refusal
+first_fault check before [] = None
+first_fault check before (x ∷ xs) = first_of (check before x) (first_fault check (before ++ x ∷ []) xs)
+
+-- a check by a member's number, from 1
+abbrev pub by_number : {A : Type 0} → (ℕ → A → Option Refusal) → List A → A → Option Refusal
+by_number check before x = check (length before + 1) x
+
+-- two kinds are one, in the condition of a number
+abbrev pub kinds_fault : ℕ → Kind → Kind → Option Refusal
+kinds_fault number a b = fault_unless (same_kind a b) (TypeMismatch (Condition number))
+
+-- a table can be made: its name is free, fewer than 64 tables are there, and it has at most 16 columns
+abbrev pub table_fault : List Table → RawSchema → Option Refusal
+table_fault db raw =
+    first_of (fault_unless (is_none (table_named db raw.name)) (TableExists raw.name))
+    (first_of (fault_unless (nat_lt (length db) 64) (Limit Tables)) (fault_unless (nat_le (length raw.columns) 16) (Limit Columns)))
+
+-- no column before has the name
+abbrev pub duplicate_fault : List Column → Column → Option Refusal
+duplicate_fault before column = fault_unless (not (has_column before column.name)) (DuplicateColumn column.name)
+
+-- a name of the key is a column and hasn't stood before
+abbrev pub key_fault : List Column → List (List ℕ) → List ℕ → Option Refusal
+key_fault columns before name = fault_unless (has_column columns name && is_none (name_place before name)) (BadKey name)
+
+abbrev pub schema_fault : List Table → RawSchema → Option Refusal
+schema_fault db raw = first_of (table_fault db raw) (first_of (first_fault duplicate_fault [] raw.columns) (first_fault (key_fault raw.columns) [] raw.key))
+
+-- the column of the test of a number is there and has the literal's kind
+abbrev pub test_fault : List Column → ℕ → RawTest → Option Refusal
+test_fault columns number test = first_of (fault_unless (has_column columns test.col) (UnknownColumn None test.col)) (kinds_fault number (kind_named columns test.col) (kind_of test.value))
+
+abbrev pub tests_fault : List Table → ℕ → List RawTest → Option Refusal
+tests_fault db table tests = first_fault (by_number (test_fault (columns_at db table))) [] tests
+
+-- a query's table is there, and the query hasn't named it before
+abbrev pub from_fault : List Table → List (List ℕ) → List ℕ → Option Refusal
+from_fault db before name = first_of (fault_unless (is_some (table_named db name)) (UnknownTable name)) (fault_unless (is_none (name_place before name)) (SelfJoin name))
+
+-- exactly one table has a column that is written without a table
+abbrev pub owner_fault : List (List Column) → List ℕ → Option Refusal
+owner_fault [] name = Some (UnknownColumn None name)
+owner_fault (owner ∷ []) name = None
+owner_fault (owner ∷ other ∷ more) name = Some (AmbiguousColumn name)
+
+-- a column's table, where it is written, is one of the query's and has the column
+abbrev pub column_fault : List Table → List (List ℕ) → Option (List ℕ) → List ℕ → Option Refusal
+column_fault db names None name = owner_fault (owners db names name) name
+column_fault db names (Some table) name =
+    first_of (fault_unless (is_some (name_place names table)) (UnknownTable table)) (fault_unless (has_column (columns_in db table) name) (UnknownColumn (Some table) name))
+
+-- the columns of the table that a column is of
+abbrev pub table_of : List Table → List (List ℕ) → Option (List ℕ) → List ℕ → List Column
+table_of db names None name = slice_index_or (owners db names name) 0 []
+table_of db names (Some table) name = columns_in db table
+
+abbrev pub column_kind : List Table → List (List ℕ) → RawCol → Kind
+column_kind db names col = kind_named (table_of db names col.table col.name) col.name
+
+-- the columns of a condition are there, and its two sides have one kind
+abbrev pub cond_fault : List Table → List (List ℕ) → ℕ → RawCond → Option Refusal
+cond_fault db names number (Join left right) =
+    first_of (column_fault db names left.table left.name) (first_of (column_fault db names right.table right.name) (kinds_fault number (column_kind db names left) (column_kind db names right)))
+cond_fault db names number (Test col op value) = first_of (column_fault db names col.table col.name) (kinds_fault number (column_kind db names col) (kind_of value))
+
+-- a query names at most 12 tables and 192 columns
+abbrev pub size_fault : Select → Option Refusal
+size_fault select = first_of (fault_unless (nat_le (length select.tables) 12) (Limit Atoms)) (fault_unless (nat_le (length select.columns) 192) (Limit Answer))
+
+-- the checks of the columns that a query selects, and of its conditions
+abbrev pub select_fault : List Table → List (List ℕ) → List RawCol → Option Refusal
+select_fault db names columns = first_fault (λ before (col : RawCol). column_fault db names col.table col.name) [] columns
+
+abbrev pub where_fault : List Table → List (List ℕ) → List RawCond → Option Refusal
+where_fault db names conds = first_fault (by_number (cond_fault db names)) [] conds
+
+abbrev pub query_fault : List Table → Select → Option Refusal
+query_fault db select =
+    first_of (size_fault select)
+    (first_of (first_fault (from_fault db) [] select.tables) (first_of (select_fault db select.tables select.columns) (where_fault db select.tables select.conds)))

@@ -1,0 +1,67 @@
+-- What schemas, tests and queries are once each name is resolved.
+use Rattle.std.specs.Prelude.{◌≡◌, ℕ, IsTrue, List, length, Option, Some, None}
+use Rattle.std.specs.List.{AllZip}
+use Rattle.cqa_model.specs.declared.schema.Schema.{Schema}
+use Rattle.cqa_model.specs.declared.schema.Column.{Column}
+use Rattle.cqa_model.specs.declared.query.Query.{Query}
+use Rattle.cqa_model.specs.declared.query.Atom.{Atom}
+use Rattle.cqa_model.specs.declared.query.ColRef.{ColRef}
+use Rattle.cqa_model.specs.declared.query.Cond.{Cond}
+use Rattle.cqa_model.specs.declared.query.Cond.TheVariants.{Join, Test}
+use Rattle.cqa_model.specs.Database.{Table}
+use Rattle.cqa_model.specs.Query.{FitsDatabase}
+use Rattle.spj_syntax.specs.declared.tree.RawSchema.{RawSchema}
+use Rattle.spj_syntax.specs.declared.tree.RawTest.{RawTest}
+use Rattle.spj_syntax.specs.declared.tree.RawCol.{RawCol}
+use Rattle.spj_syntax.specs.declared.tree.RawCond.{RawCond}
+use Rattle.spj_syntax.specs.declared.tree.RawCond.TheVariants.{Join as WrittenJoin, Test as WrittenTest}
+use Rattle.spj_syntax.specs.declared.tree.Select.{Select}
+use Rattle.table_blocks.specs.declared.test.ColumnTest.{ColumnTest}
+use Rattle.table_blocks.specs.Tables.{table_named, key_at}
+use Rattle.query_resolve.specs.Names.{name_place, column_named, has_column, columns_at, atom_columns}
+
+-- the key's places are those of the columns that it names; all else is kept
+pub record IsSchemaOf (raw : RawSchema) (schema : Schema) : Type 0 where
+  pub name : schema.name ≡ raw.name
+  pub columns : schema.columns ≡ raw.columns
+  pub key : AllZip (λ name place. column_named raw.columns name ≡ Some place) raw.key schema.key
+
+-- the test's column has its place among these; all else is kept
+pub record IsTestOf (columns : List Column) (raw : RawTest) (test : ColumnTest) : Type 0 where
+  pub col : column_named columns raw.col ≡ Some test.col
+  pub op : test.op ≡ raw.op
+  pub value : test.value ≡ raw.value
+
+-- one test for each, in order
+abbrev pub AreTestsOf : List Table → ℕ → List RawTest → List ColumnTest → Type 0
+AreTestsOf db table raw tests = AllZip (IsTestOf (columns_at db table)) raw tests
+
+-- the atom of a name: the place, the width and the key of the table so named
+pub record IsAtomOf (db : List Table) (name : List ℕ) (atom : Atom) : Type 0 where
+  pub table : table_named db name ≡ Some atom.table
+  pub width : atom.width ≡ length (columns_at db atom.table)
+  pub key : atom.key ≡ key_at db atom.table
+
+-- the atom of a column: that of the table where it is written, else the only one whose table has the column
+abbrev pub IsAtomFor : List Table → List (List ℕ) → Option (List ℕ) → List ℕ → ℕ → Type 0
+IsAtomFor db names None name atom = (other : ℕ) → IsTrue (has_column (atom_columns db names other) name) → other ≡ atom
+IsAtomFor db names (Some table) name atom = name_place names table ≡ Some atom
+
+-- the atom and the place of a written column
+pub record IsColumnOf (db : List Table) (names : List (List ℕ)) (written : RawCol) (col : ColRef) : Type 0 where
+  pub atom : IsAtomFor db names written.table written.name col.atom
+  pub place : column_named (atom_columns db names col.atom) written.name ≡ Some col.col
+
+-- a condition with its columns resolved; the operator and the literal are kept
+abbrev pub IsCondOf : List Table → List (List ℕ) → RawCond → Cond → Type 0
+IsCondOf db names (WrittenJoin left right) (Join l r) = IsColumnOf db names left l × IsColumnOf db names right r
+IsCondOf db names (WrittenJoin left right) (Test c op value) = ⊥
+IsCondOf db names (WrittenTest col op value) (Join l r) = ⊥
+IsCondOf db names (WrittenTest col op value) (Test c o v) = IsColumnOf db names col c × (o ≡ op) × (v ≡ value)
+
+-- one atom for each name, one condition for each written one, one answer column for each selected one, all in order
+pub record IsQueryOf (db : List Table) (select : Select) (query : Query) : Type 0 where
+  pub atoms : AllZip (IsAtomOf db) select.tables query.atoms
+  pub conds : AllZip (IsCondOf db select.tables) select.conds query.conds
+  pub answer : AllZip (IsColumnOf db select.tables) select.columns query.answer
+  pub fits : FitsDatabase query db

@@ -1,0 +1,76 @@
+ghost use Rattle.std.specs.Prelude.{◌≡◌, ◌<◌, ◌≤◌, ◌^◌, [], None, IfOk, OnOk, IfErr, length};
+ghost use Rattle.std.specs.List.{AllZip};
+ghost use Rattle.table_blocks.specs.Tables.{IsRefusedAs};
+ghost use Rattle.query_resolve.specs.Checks.{first_fault, by_number, test_fault, tests_fault};
+ghost use Rattle.query_resolve.specs.Resolved.{IsTestOf, AreTestsOf};
+
+use crate::condition::check_kinds;
+use crate::names::{place_of_column, table_columns};
+use cqa_model::{Column, Refusal};
+use cqa_value::{Fail, Items};
+use spj_syntax::RawTest;
+use std::alloc::Global;
+use table_blocks::{ColumnTest, Database};
+
+/// The tests of a `delete` from a table, whose columns are known and have the kinds of the literals.
+///
+/// # Errors
+///
+/// The first test's `UnknownColumn` or `TypeMismatch` with its number, from 1.
+pub fn resolve_tests(
+    alloc: Global,
+    db: &Database,
+    table: u32,
+    tests: &[RawTest],
+) -> Result<Items<ColumnTest>, Fail<Refusal>>
+    requires there { table < length db.now }
+    requires few { length tests.now < 2 ^ 32 }
+    ensures resolved { IfOk result (λ resolved. AreTestsOf db.now table tests.now resolved) }
+    ensures valid { OnOk result (tests_fault db.now table tests.now ≡ None) }
+    ensures refused { IfErr result (λ e. IsRefusedAs e (tests_fault db.now table tests.now)) }
+{
+    tests_of(alloc, table_columns(db, table), tests)
+}
+
+/// The tests of columns among these.
+fn tests_of(
+    alloc: Global,
+    columns: &[Column],
+    tests: &[RawTest],
+) -> Result<Items<ColumnTest>, Fail<Refusal>>
+    requires narrow { length columns.now ≤ 16 }
+    requires few { length tests.now < 2 ^ 32 }
+    ensures resolved { IfOk result (λ resolved. AllZip (IsTestOf columns.now) tests.now resolved) }
+    ensures valid { OnOk result (first_fault (by_number (test_fault columns.now)) [] tests.now ≡ None) }
+    ensures refused { IfErr result (λ e. IsRefusedAs e (first_fault (by_number (test_fault columns.now)) [] tests.now)) }
+{
+    let mut resolved = Vec::with_capacity(alloc, tests.len())?;
+    for (at, test) in tests.iter().enumerate() {
+        resolved.push(column_test(alloc, columns, test, at as u32 + 1)?)?;
+    }
+    Ok(Items::from_vec(resolved))
+}
+
+/// The test of a number.
+fn column_test(
+    alloc: Global,
+    columns: &[Column],
+    test: &RawTest,
+    number: u32,
+) -> Result<ColumnTest, Fail<Refusal>>
+    requires { length columns.now ≤ 16 }
+    ensures resolved { IfOk result (λ resolved. IsTestOf columns.now test.now resolved) }
+    ensures valid { OnOk result (test_fault columns.now number test.now ≡ None) }
+    ensures refused { IfErr result (λ e. IsRefusedAs e (test_fault columns.now number test.now)) }
+{
+    let Some(place) = place_of_column(columns, &test.col) else {
+        let name = test.col.copy(alloc)?;
+        return Err(Fail::Refused(Refusal::UnknownColumn { table: None, name }));
+    };
+    check_kinds(number, columns[place].kind, test.value.kind())?;
+    Ok(ColumnTest {
+        col: place as u32,
+        op: test.op,
+        value: test.value.copy(alloc)?,
+    })
+}

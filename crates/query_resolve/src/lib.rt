@@ -1,0 +1,14 @@
+//! The names of schemas, of the tests of a `delete` and of queries, resolved over a database's tables.
+#![tactic(auto)]
+
+mod column;
+mod condition;
+mod from;
+mod names;
+mod query;
+mod schema;
+mod deletion;
+
+pub use query::resolve;
+pub use schema::resolve_schema;
+pub use deletion::resolve_tests;
