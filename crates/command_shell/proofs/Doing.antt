@@ -1,0 +1,92 @@
+-- What a statement does where no check fails.
+use Rattle.std.proofs.Common.{◌≡◌, inr, ℕ, suc, ◌+◌, ◌≤◌, Bool, true, false, ◌&&◌, nat_eq, nat_lt, nat_le, is_none, if◌then◌else◌, List, [], ◌∷◌, ◌++◌, length, take, get_or, slice_get, Contains, Option, Some, None, Result, Ok, Err, refl, sym, ap, ◌∙◌, subst, arith}
+use Rattle.std.specs.List.{list_all}
+use Rattle.std.proofs.lemmas.Bool.Decides.{nat_tests}
+use Rattle.std.proofs.lemmas.Option.{slice_get_within, get_or_from_slice_get}
+use Rattle.std.proofs.lemmas.Slice.Zip.{AllZip-long}
+use Rattle.std.proofs.Math.Seq.{take-suc}
+use Rattle.cqa_value.specs.declared.value.Value.{Value}
+use Rattle.cqa_model.specs.declared.schema.Schema.{Schema}
+use Rattle.cqa_model.specs.declared.query.Query.{Query}
+use Rattle.cqa_model.specs.declared.refusal.Refusal.TheVariants.{TableExists, Limit, Syntax}
+use Rattle.cqa_model.specs.declared.refusal.LimitKind.TheVariants.{Tables, Columns}
+use Rattle.cqa_model.specs.Database.{Table, names_of}
+use Rattle.cqa_model.specs.Certain.{IsCertainAnswer}
+use Rattle.spj_syntax.specs.declared.tree.RawSchema.{RawSchema}
+use Rattle.spj_syntax.specs.declared.tree.Select.{Select}
+use Rattle.spj_syntax.specs.declared.tree.Statement.{Statement}
+use Rattle.spj_syntax.specs.declared.tree.Statement.TheVariants as statements
+use Rattle.spj_syntax.specs.Written.{HasAtMost}
+use Rattle.table_blocks.specs.Tables.{table_named, first_of}
+use Rattle.query_resolve.specs.Checks.{fault_unless, first_fault, duplicate_fault, key_fault, table_fault, schema_fault, query_fault}
+use Rattle.query_resolve.specs.Resolved.{IsSchemaOf, IsAtomOf, IsQueryOf}
+use Rattle.query_resolve.proofs.Members.{both_none}
+use Rattle.query_resolve.proofs.Lookups.{named_nowhere, passes, none_is}
+use Rattle.reply_text.specs.declared.reply.Reply.{Reply}
+use Rattle.reply_text.specs.declared.reply.Reply.TheVariants.{Created, Rows}
+use Rattle.command_shell.specs.declared.ending.Stop.{Stop}
+use Rattle.command_shell.specs.declared.ending.Stop.TheVariants as stops
+use Rattle.command_shell.specs.State.{State}
+use Rattle.command_shell.specs.Machine.{is_test, is_single, Executes, RefusedOr, Replies, Step}
+use Rattle.command_shell.specs.Top.{AnswerRow, ReplyRow}
+
+-- the name of a schema without a fault is free
+pub free_name : (db : List Table) (raw : RawSchema) (name : List ℕ) → schema_fault db raw ≡ None → name ≡ raw.name → Contains (names_of db) name → ⊥
+free_name db raw name valid same h =
+    let table : table_fault db raw ≡ None = (both_none (table_fault db raw) (first_of (first_fault duplicate_fault [] raw.columns) (first_fault (key_fault raw.columns) [] raw.key)) valid).0 in
+    let free = (both_none (fault_unless (is_none (table_named db raw.name)) (TableExists raw.name)) (first_of (fault_unless (nat_lt (length db) 64) (Limit Tables)) (fault_unless (nat_le (length raw.columns) 16) (Limit Columns))) table).0 in
+    let absent : table_named db raw.name ≡ None = none_is (table_named db raw.name) (passes (is_none (table_named db raw.name)) (TableExists raw.name) free) in
+    let there : Contains (names_of db) raw.name = subst (Contains (names_of db)) same h in
+    named_nowhere (λ (n : List ℕ). n) raw.name (names_of db) raw.name there.0 absent there.1 there.2
+
+pub created : (db : List Table) (raw : RawSchema) (schema : Schema) (name : List ℕ) (new : List Table) → schema_fault db raw ≡ None → IsSchemaOf raw schema → name ≡ schema.name
+    → new ≡ db ++ (record { schema = schema; rows = [] }) ∷ [] → Replies db (statements.Create raw) (Created name) new
+created db raw schema name new valid is named grown =
+    subst (λ fault. RefusedOr fault db (Created name) new (Executes db (statements.Create raw) (Created name) new)) (sym valid) (schema, is, named ∙ is.name, grown)
+
+-- a member more of those in front
+pub take_next : {A : Type 0} (xs : List A) (i : ℕ) (x : A) → slice_get xs i ≡ Some x → take i xs ++ x ∷ [] ≡ take (i + 1) xs
+take_next xs i x e =
+    let next : take (suc i) xs ≡ take i xs ++ get_or xs i x ∷ [] = take-suc xs i x (slice_get_within xs i x e) in
+    let got : get_or xs i x ≡ x = get_or_from_slice_get xs i x x e in
+    let count : suc i ≡ i + 1 = omega arith in
+    ap (λ y. take i xs ++ y ∷ []) (sym got) ∙ sym next ∙ ap (λ n. take n xs) count
+
+both_hold : (a b : Bool) → (a && b) ≡ true → a ≡ true
+both_hold true b e = refl
+both_hold false b e = e
+
+pub one_table : (select : Select) → is_single select ≡ true → length select.tables ≡ 1
+one_table select e = let one = both_hold (nat_eq (length select.tables) 1) (list_all is_test select.conds) e in grind (arith, nat_tests)
+
+pub one_atom : (db : List Table) (select : Select) (query : Query) → is_single select ≡ true → IsQueryOf db select query → length query.atoms ≡ 1
+one_atom db select query single is = AllZip-long (IsAtomOf db) select.tables query.atoms is.atoms ∙ one_table select single
+
+pub asked : (db : List Table) (select : Select) (query : Query) (rows : List (List Value)) → is_single select ≡ true → query_fault db select ≡ None → IsQueryOf db select query
+    → IsCertainAnswer db query rows → Replies db (statements.Ask select) (Rows rows) db
+asked db select query rows single valid is certain =
+    subst (λ b. RefusedOr (if b then query_fault db select else Some (Syntax 0)) db (Rows rows) db (Executes db (statements.Ask select) (Rows rows) db)) (sym single)
+    (subst (λ fault. RefusedOr fault db (Rows rows) db (Executes db (statements.Ask select) (Rows rows) db)) (sym valid) (query, is, certain, refl))
+
+-- a reply that is written answers its statement
+pub answered : (result : Result Bool Stop) (rose : Type 0) (held_old held_new : Option (List ℕ)) (old new : State) (s : List ℕ × Option (List ℕ)) (reply : Reply) → Step old s.0 s.1 reply new
+    → ReplyRow result rose held_old held_new reply → AnswerRow result rose held_old held_new old s new
+answered (Ok refused) rose held_old held_new old new s reply step row = (reply, step, row.0, row.1)
+answered (Err stops.WriteFault) rose held_old held_new old new s reply step row = (row.0, (reply, row.1.0, step, row.1.1))
+answered (Err stops.OutOfMemory) rose held_old held_new old new s reply step row = (inr (reply, step), row)
+
+-- a list that is no longer than some number is no longer than a greater one
+pub at_most_more : (m n : ℕ) (s : Statement) → m ≤ n → HasAtMost m s → HasAtMost n s
+at_most_more m n (statements.Create r) le h = (omega (arith, le, h.0), omega (arith, le, h.1))
+at_most_more m n (statements.Insert table rows) le h = omega (arith, le, h)
+at_most_more m n (statements.Delete table tests) le h = omega (arith, le, h)
+at_most_more m n (statements.Ask q) le h = (omega (arith, le, h.0), omega (arith, le, h.1), omega (arith, le, h.2))
+at_most_more m n (statements.Possible q) le h = (omega (arith, le, h.0), omega (arith, le, h.1), omega (arith, le, h.2))
+at_most_more m n (statements.Classify q) le h = (omega (arith, le, h.0), omega (arith, le, h.1), omega (arith, le, h.2))
+at_most_more m n (statements.Plan q) le h = (omega (arith, le, h.0), omega (arith, le, h.1), omega (arith, le, h.2))
+at_most_more m n (statements.Explain row q) le h = (omega (arith, le, h.0), omega (arith, le, h.1), omega (arith, le, h.2))
+at_most_more m n (statements.SetConflicts conflicts) le h = h
+at_most_more m n (statements.Copy table) le h = h
+at_most_more m n statements.Dump le h = h
+at_most_more m n statements.ShowTables le h = h
+at_most_more m n statements.ShowLog le h = h

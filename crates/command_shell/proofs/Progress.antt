@@ -1,0 +1,240 @@
+-- How the answers to an input go on, statement by statement.
+use Rattle.std.proofs.Common.{◌≡◌, ◌⊎◌, inl, inr, ℕ, ◌+◌, Bool, true, false, ◌||◌, List, [], ◌∷◌, ◌++◌, take, drop, Option, Result, Ok, Err, refl, sym, ap, ◌∙◌, subst, append_assoc, append-nil}
+use Rattle.std.proofs.lemmas.List.{take-append-drop}
+use Rattle.std.specs.Io.KnownBytes.{Appends, Keeps}
+use Rattle.std.proofs.KnownBytes.{Appends-nil, Appends-trans, Appends-kept}
+use Rattle.script_lex.specs.declared.kinds.Span.{Span}
+use Rattle.script_lex.specs.declared.cutting.Cut.TheVariants as cuts
+use Rattle.script_lex.specs.Scripts.{Statement, statement_at, Begins, IsCut, IsSpace, HasNoStatement}
+use Rattle.script_lex.proofs.Statements.{Begins-statement, Cuts-part, space_over}
+use Rattle.cqa_model.specs.declared.refusal.Refusal.TheVariants.{Unfinished}
+use Rattle.reply_text.specs.declared.reply.Reply.{Reply}
+use Rattle.reply_text.specs.declared.reply.Reply.TheVariants.{Refused}
+use Rattle.reply_text.specs.Texts.{reply_text, is_refusal}
+use Rattle.command_shell.specs.declared.ending.Stop.{Stop}
+use Rattle.command_shell.specs.declared.ending.Stop.TheVariants as stops
+use Rattle.command_shell.specs.State.{State}
+use Rattle.command_shell.specs.Machine.{Step}
+use Rattle.command_shell.specs.Runs.{Run, Closes, text_of, has_refusal}
+use Rattle.command_shell.specs.Top.{Answers, CutShort, AnswerRow, ReplyRow, CloseRow, ProgressRow}
+
+pub Run-push : (old : State) (statements : List Statement) (replies : List Reply) (now : State) (s : Statement) (reply : Reply) (new : State)
+    → Run old statements replies now → Step now s.0 s.1 reply new → Run old (statements ++ s ∷ []) (replies ++ reply ∷ []) new
+Run-push old [] [] now s reply new run step = (new, subst (λ state. Step state s.0 s.1 reply new) run step, refl)
+Run-push old [] (r ∷ replies) now s reply new run step = absurd run
+Run-push old (t ∷ statements) [] now s reply new run step = absurd run
+Run-push old (t ∷ statements) (r ∷ replies) now s reply new run step = (run.0, run.1, Run-push run.0 statements replies now s reply new run.2 step)
+
+pub text_of-append : (xs ys : List Reply) → text_of (xs ++ ys) ≡ text_of xs ++ text_of ys
+text_of-append [] ys = refl
+text_of-append (x ∷ xs) ys = ap (λ l. reply_text x ++ l) (text_of-append xs ys) ∙ sym (append_assoc (reply_text x) (text_of xs) (text_of ys))
+
+pub text_of-push : (xs : List Reply) (y : Reply) → text_of xs ++ reply_text y ≡ text_of (xs ++ y ∷ [])
+text_of-push xs y = ap (λ l. text_of xs ++ l) (sym (append-nil (reply_text y))) ∙ sym (text_of-append xs (y ∷ []))
+
+or_assoc : (a b c : Bool) → (a || (b || c)) ≡ ((a || b) || c)
+or_assoc true b c = refl
+or_assoc false b c = refl
+
+or_false : (b : Bool) → (b || false) ≡ b
+or_false true = refl
+or_false false = refl
+
+pub has_refusal-push : (xs : List Reply) (y : Reply) → has_refusal (xs ++ y ∷ []) ≡ (has_refusal xs || is_refusal y)
+has_refusal-push [] y = or_false (is_refusal y)
+has_refusal-push (x ∷ xs) y = ap (λ b. is_refusal x || b) (has_refusal-push xs y) ∙ or_assoc (is_refusal x) (has_refusal xs) (is_refusal y)
+
+or_true : (b : Bool) → (b || true) ≡ true
+or_true true = refl
+or_true false = refl
+
+closes_blank : (e : Bool) (rest : List ℕ) → IsSpace rest → Closes e rest []
+closes_blank true rest blank = blank
+closes_blank false rest blank = refl
+
+-- what is written of a text, and what isn't
+parted : (xs : List Reply) (y : Reply) (n : ℕ) → text_of (xs ++ y ∷ []) ≡ (text_of xs ++ take n (reply_text y)) ++ drop n (reply_text y)
+parted xs y n = sym (text_of-push xs y) ∙ ap (λ l. text_of xs ++ l) (sym (take-append-drop n (reply_text y))) ∙ sym (append_assoc (text_of xs) (take n (reply_text y)) (drop n (reply_text y)))
+
+-- the statements before the rest were answered
+pub record SoFar (old : State) (input : List ℕ) (ended : Bool) (rest : List ℕ) (now : State) (refused : Bool) (held_old held_now : Option (List ℕ)) : Type 0 where
+  pub statements : List Statement
+  pub replies : List Reply
+  pub begins : Begins ended input statements rest
+  pub run : Run old statements replies now
+  pub written : Appends held_old held_now (text_of replies)
+  pub refused_is : refused ≡ has_refusal replies
+
+pub start : (old : State) (input : List ℕ) (ended : Bool) (held : Option (List ℕ)) → SoFar old input ended input old false held held
+start old input ended held = record { statements = []; replies = []; begins = refl; run = refl; written = Appends-nil held; refused_is = refl }
+
+module _ {old : State} {input : List ℕ} {ended : Bool} {now : State} {refused : Bool} {held_old held_now : Option (List ℕ)} where
+  -- one statement more is answered
+  pub more : (place : ℕ) (held_new : Option (List ℕ)) (new : State) (r : Bool) (rose : Type 0) (text : Span) (block : Option Span) (at : ℕ)
+      → SoFar old input ended (drop place input) now refused held_old held_now → IsCut ended (drop place input) (cuts.Statement text block at)
+      → AnswerRow (Ok r) rose held_now held_new now (statement_at (drop place input) text block) new
+      → SoFar old input ended (drop (place + at) input) new (refused || r) held_old held_new
+  more place held_new new r rose text block at s cut row =
+      let statement = statement_at (drop place input) text block in
+      record {
+        statements = s.statements ++ statement ∷ [];
+        replies = s.replies ++ row.0 ∷ [];
+        begins = Begins-statement ended input s.statements place text block at s.begins cut;
+        run = Run-push old s.statements s.replies now statement row.0 new s.run row.1;
+        written = subst (Appends held_old held_new) (text_of-push s.replies row.0) (Appends-trans held_old held_now held_new (text_of s.replies) (reply_text row.0) s.written row.2);
+        refused_is = ap (λ b. b || r) s.refused_is ∙ ap (λ b. has_refusal s.replies || b) row.3 ∙ sym (has_refusal-push s.replies row.0);
+      }
+
+  -- nothing is left to answer
+  done : (rest : List ℕ) → SoFar old input ended rest now refused held_old held_now → HasNoStatement ended rest → Closes ended rest []
+      → (written : List ℕ) × Appends held_old held_now written × Answers old input ended now written refused
+  done rest s over closes = (
+    text_of s.replies,
+    s.written,
+    record {
+      replies = s.replies;
+      run = record { statements = s.statements; rest = rest; answered = s.replies; last = []; cut = record { begins = s.begins; over = over }; run = s.run; closes = closes; all = sym (append-nil s.replies) };
+      written_is = refl;
+      refused_is = s.refused_is;
+    },
+  )
+
+  pub done_blank : (rest : List ℕ) → SoFar old input ended rest now refused held_old held_now → IsSpace rest → (written : List ℕ) × Appends held_old held_now written × Answers old input ended now written refused
+  done_blank rest s blank = done rest s (space_over ended rest blank) (closes_blank ended rest blank)
+
+  -- a statement found no memory, before it did anything or after it
+  pub short_of_memory : (place : ℕ) (at_end : Type 0) (held_new : Option (List ℕ)) (new : State) (text : Span) (block : Option Span) (at : ℕ) → (ended ≡ true → at_end)
+      → SoFar old input ended (drop place input) now refused held_old held_now → IsCut ended (drop place input) (cuts.Statement text block at)
+      → ((new ≡ now) ⊎ ((reply : Reply) × Step now (statement_at (drop place input) text block).0 (statement_at (drop place input) text block).1 reply new)) → Keeps held_now held_new
+      → (written : List ℕ) × Appends held_old held_new written × CutShort old input at_end new written
+  short_of_memory place at_end held_new new text block at is_end s cut did kept = (
+    text_of s.replies,
+    Appends-kept held_old held_now held_new (text_of s.replies) s.written kept,
+    elim did [
+      | inl same ↦ record {
+        ended = ended;
+        is_end = is_end;
+        statements = s.statements;
+        rest = drop place input;
+        replies = s.replies;
+        last = [];
+        more = [];
+        begins = s.begins;
+        run = subst (Run old s.statements s.replies) (sym same) s.run;
+        tail = inl refl;
+        written_is = refl;
+      }
+      | inr step ↦ record {
+        ended = ended;
+        is_end = is_end;
+        statements = s.statements ++ statement_at (drop place input) text block ∷ [];
+        rest = drop (place + at) input;
+        replies = s.replies ++ step.0 ∷ [];
+        last = [];
+        more = reply_text step.0;
+        begins = Begins-statement ended input s.statements place text block at s.begins cut;
+        run = Run-push old s.statements s.replies now (statement_at (drop place input) text block) step.0 new s.run step.1;
+        tail = inl refl;
+        written_is = append-nil (text_of (s.replies ++ step.0 ∷ [])) ∙ sym (text_of-push s.replies step.0);
+      }
+    ],
+  )
+
+  -- a reply wasn't wholly written
+  pub fault_in_reply : (place : ℕ) (at_end : Type 0) (held_new : Option (List ℕ)) (new : State) (text : Span) (block : Option Span) (at : ℕ) → (ended ≡ true → at_end)
+      → SoFar old input ended (drop place input) now refused held_old held_now → IsCut ended (drop place input) (cuts.Statement text block at)
+      → ((reply : Reply) × (n : ℕ) × Step now (statement_at (drop place input) text block).0 (statement_at (drop place input) text block).1 reply new × Appends held_now held_new (take n (reply_text reply)))
+      → (written : List ℕ) × Appends held_old held_new written × CutShort old input at_end new written
+  fault_in_reply place at_end held_new new text block at is_end s cut row =
+      let reply = row.0 in
+      let n = row.1 in (
+        text_of s.replies ++ take n (reply_text reply),
+        Appends-trans held_old held_now held_new (text_of s.replies) (take n (reply_text reply)) s.written row.3,
+        record {
+          ended = ended;
+          is_end = is_end;
+          statements = s.statements ++ statement_at (drop place input) text block ∷ [];
+          rest = drop (place + at) input;
+          replies = s.replies ++ reply ∷ [];
+          last = [];
+          more = drop n (reply_text reply);
+          begins = Begins-statement ended input s.statements place text block at s.begins cut;
+          run = Run-push old s.statements s.replies now (statement_at (drop place input) text block) reply new s.run row.2;
+          tail = inl refl;
+          written_is = append-nil (text_of (s.replies ++ reply ∷ [])) ∙ parted s.replies reply n;
+        },
+      )
+
+  -- an answer that stops
+  pub stopped : (stop : Stop) (place : ℕ) (rose rose_all : Type 0) (held_new : Option (List ℕ)) (new : State) (text : Span) (block : Option Span) (at : ℕ) → (rose → rose_all)
+      → SoFar old input ended (drop place input) now refused held_old held_now → IsCut ended (drop place input) (cuts.Statement text block at)
+      → AnswerRow (Err stop) rose held_now held_new now (statement_at (drop place input) text block) new → ProgressRow (Err stop) rose_all held_old held_new old input ended new
+  stopped stops.WriteFault place rose rose_all held_new new text block at up s cut row = (up row.0, fault_in_reply place (ended ≡ true) held_new new text block at (λ e. e) s cut row.1)
+  stopped stops.OutOfMemory place rose rose_all held_new new text block at up s cut row = short_of_memory place (ended ≡ true) held_new new text block at (λ e. e) s cut row.0 row.1
+
+-- what is left at the end of an input that has ended
+module _ {old : State} {input rest : List ℕ} {now : State} {refused : Bool} {held_old held_now : Option (List ℕ)} where
+  last_begins : (s : SoFar old input true rest now refused held_old held_now) → HasNoStatement true rest → (IsSpace rest → ⊥) → (written left : List ℕ)
+      → text_of s.replies ++ text_of (Refused Unfinished ∷ []) ≡ written ++ left → CutShort old input (true ≡ true) now written
+  last_begins s over some written left is = record {
+    ended = true;
+    is_end = λ e. e;
+    statements = s.statements;
+    rest = rest;
+    replies = s.replies;
+    last = Refused Unfinished ∷ [];
+    more = left;
+    begins = s.begins;
+    run = s.run;
+    tail = inr (refl, over, (some, refl, refl));
+    written_is = is;
+  }
+
+  pub close_ended : (held_new : Option (List ℕ)) (result : Result Bool Stop) (rose rose_all : Type 0) → (rose → rose_all) → SoFar old input true rest now refused held_old held_now → IsCut true rest cuts.Part
+      → ReplyRow result rose held_now held_new (Refused Unfinished) → ProgressRow result rose_all held_old held_new old input true now
+  close_ended held_new (Ok r) rose rose_all up s cut row = (
+    text_of (s.replies ++ Refused Unfinished ∷ []),
+    subst (Appends held_old held_new) (text_of-push s.replies (Refused Unfinished)) (Appends-trans held_old held_now held_new (text_of s.replies) (reply_text (Refused Unfinished)) s.written row.0),
+    record {
+      replies = s.replies ++ Refused Unfinished ∷ [];
+      run = record { statements = s.statements; rest = rest; answered = s.replies; last = Refused Unfinished ∷ []; cut = Cuts-part true input s.statements rest s.begins cut; run = s.run; closes = (cut.0, refl, refl); all = refl };
+      written_is = refl;
+      refused_is = row.1 ∙ sym (has_refusal-push s.replies (Refused Unfinished) ∙ or_true (has_refusal s.replies));
+    },
+  )
+  close_ended held_new (Err stops.WriteFault) rose rose_all up s cut row =
+      let n = row.1.0 in
+      let last = reply_text (Refused Unfinished) in (
+        up row.0,
+        (
+          text_of s.replies ++ take n last,
+          Appends-trans held_old held_now held_new (text_of s.replies) (take n last) s.written row.1.1,
+          last_begins s cut.1 cut.0 (text_of s.replies ++ take n last) (drop n last)
+              (ap (λ l. text_of s.replies ++ l) (append-nil last ∙ sym (take-append-drop n last)) ∙ sym (append_assoc (text_of s.replies) (take n last) (drop n last))),
+        ),
+      )
+  close_ended held_new (Err stops.OutOfMemory) rose rose_all up s cut row = (
+    text_of s.replies,
+    Appends-kept held_old held_now held_new (text_of s.replies) s.written row,
+    last_begins s cut.1 cut.0 (text_of s.replies) (text_of (Refused Unfinished ∷ [])) refl,
+  )
+
+-- what is left of an input that hasn't ended gets no reply
+pub close_open : {old : State} {input rest : List ℕ} {now : State} {refused : Bool} {held_old held_now : Option (List ℕ)} (held_new : Option (List ℕ)) (rose : Type 0)
+    → SoFar old input false rest now refused held_old held_now → IsCut false rest cuts.Part → Keeps held_now held_new → ProgressRow (Ok refused) rose held_old held_new old input false now
+close_open {old = old} {input = input} {rest = rest} {refused = refused} {held_old = held_old} {held_now = held_now} held_new rose s cut kept = (
+  text_of s.replies,
+  Appends-kept held_old held_now held_new (text_of s.replies) s.written kept,
+  record {
+    replies = s.replies;
+    run = record { statements = s.statements; rest = rest; answered = s.replies; last = []; cut = Cuts-part false input s.statements rest s.begins cut; run = s.run; closes = refl; all = sym (append-nil s.replies) };
+    written_is = refl;
+    refused_is = s.refused_is;
+  },
+)
+
+pub closed : {old : State} {input rest : List ℕ} {now : State} {refused : Bool} {held_old held_now : Option (List ℕ)} (held_new : Option (List ℕ)) (ended : Bool) (result : Result Bool Stop) (rose rose_all : Type 0) → (rose → rose_all)
+    → SoFar old input ended rest now refused held_old held_now → IsCut ended rest cuts.Part → CloseRow result rose held_now held_new ended refused → ProgressRow result rose_all held_old held_new old input ended now
+closed held_new true result rose rose_all up s cut row = close_ended held_new result rose rose_all up s cut row
+closed {old = old} {input = input} {now = now} {held_old = held_old} held_new false result rose rose_all up s cut row =
+    subst (λ r. ProgressRow r rose_all held_old held_new old input false now) (sym row.0) (close_open held_new rose_all s cut row.1)

@@ -1,0 +1,131 @@
+ghost use Rattle.std.specs.Prelude.{◌≡◌, ◌≤◌, ◌<◌, IfSome, length, slice_range};
+ghost use Rattle.script_lex.specs.Scripts.{statement_at};
+ghost use Rattle.std.specs.Option.{option_copied};
+ghost use Rattle.cqa_io.specs.Causes.{Rose};
+ghost use Rattle.reply_text.specs.Texts.{reply_text, is_refusal};
+ghost use Rattle.command_shell.specs.Top.{ReplyRow, CloseRow, AnswerRow, ProgressRow};
+
+use crate::Session;
+use crate::ending::Stop;
+use cqa_io::{Failed, Sink, write_all};
+use cqa_model::Refusal;
+use reply_text::{Reply, reply_bytes};
+use script_lex::{Cut, Span, cut};
+use std::alloc::Global;
+
+fn is_refused(reply: &Reply) -> bool
+    ensures { result ≡ is_refusal reply.now }
+{
+    match reply {
+        Reply::Refused(_) => true,
+        _ => false,
+    }
+}
+
+/// Answers one statement, and says whether it was refused.
+fn answer<K: Sink>(
+    alloc: Global,
+    session: &mut Session,
+    sink: &mut K,
+    text: &[u8],
+    block: Option<&[u8]>,
+) -> Result<bool, Stop>
+    requires { length text.now ≤ 268_435_456 }
+    ensures row { AnswerRow result (Rose (K.faults sink.old) (K.faults sink.new)) (K.held sink.old) (K.held sink.new) session.old (text.now, option_copied block.entry) session.new }
+    ensures later { K.faults sink.old ≤ K.faults sink.new }
+{
+    match session.run(alloc, text, block) {
+        Err(_) => Err(Stop::OutOfMemory),
+        Ok(reply) => write_reply(alloc, sink, &reply),
+    }
+}
+
+/// Writes a reply, and says whether it is a refusal.
+fn write_reply<K: Sink>(alloc: Global, sink: &mut K, reply: &Reply) -> Result<bool, Stop>
+    ensures row { ReplyRow result (Rose (K.faults sink.old) (K.faults sink.new)) (K.held sink.old) (K.held sink.new) reply.now }
+    ensures later { K.faults sink.old ≤ K.faults sink.new }
+{
+    match reply_bytes(alloc, reply) {
+        Err(_) => Err(Stop::OutOfMemory),
+        Ok(bytes) => match write_all(sink, bytes.as_slice()) {
+            Err(Failed) => Err(Stop::WriteFault),
+            Ok(()) => Ok(is_refused(reply)),
+        },
+    }
+}
+
+fn part(bytes: &[u8], span: Span) -> &[u8]
+    requires order { span.from ≤ span.to }
+    requires within { span.to ≤ length bytes.now }
+    ensures { result.now ≡ slice_range bytes.now span.from span.to }
+{
+    &bytes[span.from..span.to]
+}
+
+/// Answers the statement at its places in some bytes.
+fn answer_at<K: Sink>(
+    alloc: Global,
+    session: &mut Session,
+    sink: &mut K,
+    bytes: &[u8],
+    text: Span,
+    block: Option<Span>,
+) -> Result<bool, Stop>
+    requires short { length bytes.now ≤ 268_435_456 }
+    requires text { (text.from ≤ text.to) × (text.to ≤ length bytes.now) }
+    requires block { IfSome block (λ b. (b.from ≤ b.to) × (b.to ≤ length bytes.now)) }
+    ensures row { AnswerRow result (Rose (K.faults sink.old) (K.faults sink.new)) (K.held sink.old) (K.held sink.new) session.old (statement_at bytes.now text block) session.new }
+    ensures later { K.faults sink.old ≤ K.faults sink.new }
+{
+    match block {
+        None => answer(alloc, session, sink, part(bytes, text), None),
+        Some(span) => answer(
+            alloc,
+            session,
+            sink,
+            part(bytes, text),
+            Some(part(bytes, span)),
+        ),
+    }
+}
+
+/// Refuses what is left at the end of an input; where the input hasn't ended, nothing is replied.
+fn close<K: Sink>(alloc: Global, sink: &mut K, ended: bool, refused: bool) -> Result<bool, Stop>
+    ensures row { CloseRow result (Rose (K.faults sink.old) (K.faults sink.new)) (K.held sink.old) (K.held sink.new) ended refused }
+    ensures later { K.faults sink.old ≤ K.faults sink.new }
+{
+    if !ended {
+        return Ok(refused);
+    }
+    write_reply(alloc, sink, &Reply::Refused(Refusal::Unfinished))
+}
+
+/// Answers the statements of an input, and says whether one was refused.
+pub fn answer_all<K: Sink>(
+    alloc: Global,
+    session: &mut Session,
+    sink: &mut K,
+    input: &[u8],
+    ended: bool,
+) -> Result<bool, Stop>
+    requires { length input.now ≤ 268_435_456 }
+    ensures row { ProgressRow result (Rose (K.faults sink.old) (K.faults sink.new)) (K.held sink.old) (K.held sink.new) session.old input.now ended session.new }
+    ensures later { K.faults sink.old ≤ K.faults sink.new }
+{
+    let mut place = 0;
+    let mut refused = false;
+    loop {
+        let left = &input[place..];
+        match cut(left, ended) {
+            Cut::Statement { text, block, rest } => {
+                match answer_at(alloc, session, sink, left, text, block) {
+                    Err(stop) => return Err(stop),
+                    Ok(more) => refused |= more,
+                }
+                place += rest;
+            }
+            Cut::Blank => return Ok(refused),
+            Cut::Part => return close(alloc, sink, ended, refused),
+        }
+    }
+}

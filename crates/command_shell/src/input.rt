@@ -1,0 +1,56 @@
+ghost use Rattle.std.specs.Prelude.{◌≡◌, ◌≤◌, ◌<◌, ℕ, List, [], IfOk, length};
+ghost use Rattle.std.specs.Io.KnownBytes.{Consumes, IsAtEnd};
+ghost use Rattle.cqa_io.specs.Causes.{Rose};
+ghost use Rattle.command_shell.specs.Top.{ReadRow};
+
+use crate::ending::ReadEnd;
+use cqa_io::{Failed, Source};
+use std::alloc::{AllocError, Global};
+
+/// The most bytes of input that a call answers.
+pub const LIMIT: usize = 268_435_456;
+
+/// How many bytes a read asks for, where so many are allowed.
+const PIECE: usize = 65_536;
+
+fn zeros(alloc: Global, count: usize) -> Result<Vec<u8>, AllocError>
+    ensures { IfOk result (λ v. length v.items ≡ count) }
+{
+    vec![in alloc; 0u8; count]
+}
+
+/// Reads to the end, to a fault, or one byte past the limit.
+pub fn read_all<S: Source>(alloc: Global, source: &mut S, input: &mut Vec<u8>) -> ReadEnd
+    requires { input.old.items ≡ [] }
+    ensures took { (came : List ℕ) × Consumes (S.left source.old) (S.left source.new) came
+        × ReadRow result (IsAtEnd (S.left source.new)) (Rose (S.faults source.old) (S.faults source.new)) came input.new.items }
+    ensures later { S.faults source.old ≤ S.faults source.new }
+{
+    match zeros(alloc, PIECE) {
+        Err(_) => ReadEnd::OutOfMemory,
+        Ok(mut piece) => read_by(source, input, piece.as_mut_slice()),
+    }
+}
+
+/// Reads by pieces as long as a buffer.
+fn read_by<S: Source>(source: &mut S, input: &mut Vec<u8>, piece: &mut [u8]) -> ReadEnd
+    requires empty { input.old.items ≡ [] }
+    requires piece { 0 < length piece.old }
+    ensures took { (came : List ℕ) × Consumes (S.left source.old) (S.left source.new) came
+        × ReadRow result (IsAtEnd (S.left source.new)) (Rose (S.faults source.old) (S.faults source.new)) came input.new.items }
+    ensures later { S.faults source.old ≤ S.faults source.new }
+{
+    while input.len() <= LIMIT {
+        let want = piece.len().min(LIMIT + 1 - input.len());
+        match source.read(&mut piece[..want]) {
+            Err(Failed) => return ReadEnd::Fault,
+            Ok(0) => return ReadEnd::End,
+            Ok(count) => {
+                if input.extend_from_slice(&piece[..count]).is_err() {
+                    return ReadEnd::OutOfMemory;
+                }
+            }
+        }
+    }
+    ReadEnd::TooLong
+}

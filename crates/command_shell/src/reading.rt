@@ -1,0 +1,69 @@
+ghost use Rattle.std.specs.Prelude.{◌≡◌, ◌≤◌, ◌<◌, ◌^◌, Result, Ok, IfOk, length};
+ghost use Rattle.script_lex.specs.Tokens.{Spells};
+ghost use Rattle.spj_syntax.specs.Written.{HasAtMost, IsProper};
+ghost use Rattle.spj_syntax.specs.declared.tree.Statement.{Statement as Parsed};
+ghost use Rattle.command_shell.specs.Machine.{of_lexing, of_parsing, HasStatement, Says};
+ghost use Rattle.command_shell.specs.Offsets.{lexing_offset, parsing_offset};
+
+use cqa_model::{LimitKind, Refusal};
+use cqa_value::{Fail, NoMemory};
+use script_lex::{LexFault, Token, tokens};
+use spj_syntax::{Statement, SyntaxFault, parse};
+use std::alloc::Global;
+
+/// The refusal of a text that has no tokens.
+fn without_tokens(fault: LexFault) -> Refusal
+    requires { lexing_offset fault < 2 ^ 32 }
+    ensures { result ≡ of_lexing fault }
+{
+    match fault {
+        LexFault::TooLong(len) => Refusal::StatementTooLong { len: len as u32 },
+        LexFault::BadByte(at) => Refusal::BadByte { at: at as u32 },
+    }
+}
+
+/// The refusal of tokens that are no statement, or of one that is out of its limits.
+fn without_statement(fault: SyntaxFault) -> Refusal
+    requires { parsing_offset fault < 2 ^ 32 }
+    ensures { result ≡ of_parsing fault }
+{
+    match fault {
+        SyntaxFault::At(at) => Refusal::Syntax { at: at as u32 },
+        SyntaxFault::OutOfRange(at) => Refusal::OutOfRange { at: at as u32 },
+        SyntaxFault::TextTooLong(at) => Refusal::TextTooLong { at: at as u32 },
+        SyntaxFault::LongName(_) => Refusal::Limit {
+            what: LimitKind::Name,
+        },
+    }
+}
+
+/// The statement that the tokens of a text are, or its refusal.
+fn parsed(
+    alloc: Global,
+    text: &[u8],
+    tokens: &[Token],
+) -> Result<Result<Statement, Refusal>, NoMemory>
+    requires spelled { Spells text.now tokens.now }
+    requires short { length text.now ≤ 1048576 }
+    ensures says { IfOk result (Says text.now) }
+    ensures small { IfOk result (λ said. IfOk said (HasAtMost (length text.now))) }
+{
+    match parse(alloc, text, tokens) {
+        Ok(statement) => Ok(Ok(statement)),
+        Err(Fail::NoMemory) => Err(NoMemory),
+        Err(Fail::Refused(fault)) => Ok(Err(without_statement(fault))),
+    }
+}
+
+/// The statement that a text is, or the refusal by the first check on its form that fails.
+pub fn read(alloc: Global, text: &[u8]) -> Result<Result<Statement, Refusal>, NoMemory>
+    requires { length text.now ≤ 268_435_456 }
+    ensures says { IfOk result (Says text.now) }
+    ensures small { IfOk result (λ said. IfOk said (HasAtMost (length text.now))) }
+{
+    match tokens(alloc, text) {
+        Ok(tokens) => parsed(alloc, text, tokens.as_slice()),
+        Err(Fail::NoMemory) => Err(NoMemory),
+        Err(Fail::Refused(fault)) => Ok(Err(without_tokens(fault))),
+    }
+}

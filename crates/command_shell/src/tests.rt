@@ -1,0 +1,231 @@
+use crate::{Session, run_words};
+use cqa_io::{MemSink, MemSource, StdSink, StdSource};
+use std::alloc::Global;
+use std::test::Fail;
+
+/// The first run, and what it writes.
+const FIRST: &str = "create table person (id int, name text, city text, primary key (id));
+insert into person values (1, 'Ann', 'Oslo'), (1, 'Ann', 'Bergen'), (2, 'Bo', 'Oslo');
+ask select name from person where id = 1;
+ask select city from person where id = 1;
+ask select name from person where city = 'Oslo';
+";
+
+const REPLIES: &str = "created person
+inserted 3
+('Ann')
+1 rows
+0 rows
+('Bo')
+1 rows
+";
+
+/// A call of the program: its word and input, the first call of the source and of the sink that fails (0: none), and
+/// how many bytes the sink takes.
+#[derive(Drop, Clone, Copy)]
+struct Call {
+    word: &'static str,
+    input: &'static str,
+    read: u64,
+    write: u64,
+    room: usize,
+}
+
+/// The call's status, and what it has written.
+fn ends(alloc: Global, call: &Call) -> Result<(u8, Vec<u8>), Fail> {
+    let words = vec![in alloc; String::from_str(alloc, call.word)?]?;
+    let bytes = Vec::from_slice(alloc, call.input.as_bytes())?;
+    let mut source = MemSource::new(bytes, 7, vec![in alloc; call.read]?);
+    let mut sink = MemSink::new(alloc, call.room, vec![in alloc; call.write]?)?;
+    let mut session = Session::new(alloc, 200_000);
+    let status = run_words(
+        alloc,
+        words.as_slice(),
+        &mut session,
+        &mut source,
+        &mut sink,
+    );
+    let written = Vec::from_slice(alloc, sink.bytes())?;
+    Ok((status, written))
+}
+
+/// A call whose devices never fail.
+fn whole(input: &'static str) -> Call {
+    Call {
+        word: "run",
+        input,
+        read: 0,
+        write: 0,
+        room: 10_000,
+    }
+}
+
+#[test]
+fn each_status_has_its_cause(rt: HostRuntime) -> Result<(), Fail> {
+    let alloc = rt.alloc();
+    let cases: [(Call, u8, &str); 9] = [
+        (whole(FIRST), 0, REPLIES),
+        (whole(""), 0, ""),
+        (whole(" -- nothing\n"), 0, ""),
+        (
+            whole("create table t (a int, primary key (a)); ask"),
+            1,
+            "created t\nerror 15 Unfinished\n",
+        ),
+        (
+            Call {
+                word: "runs",
+                ..whole(FIRST)
+            },
+            2,
+            "",
+        ),
+        (
+            Call {
+                read: 1,
+                ..whole(FIRST)
+            },
+            3,
+            "",
+        ),
+        (
+            Call {
+                read: 12,
+                ..whole(FIRST)
+            },
+            3,
+            "created person\n",
+        ),
+        (
+            Call {
+                write: 1,
+                ..whole(FIRST)
+            },
+            4,
+            "",
+        ),
+        (
+            Call {
+                room: 20,
+                ..whole(FIRST)
+            },
+            4,
+            "created person\ninser",
+        ),
+    ];
+    for (call, status, written) in cases.iter() {
+        let (answer, bytes) = ends(alloc, call)?;
+        assert_eq!(rt; answer, *status, "at {written}");
+        assert_eq!(rt; bytes.as_slice(), written.as_bytes(), "at {written}");
+    }
+    Ok(())
+}
+
+#[test]
+fn each_statement_has_its_reply(rt: HostRuntime) -> Result<(), Fail> {
+    let alloc = rt.alloc();
+    let cases: [(&str, &str); 24] = [
+        ("show tables;", "0 tables\n"),
+        (
+            "create table t (a int, b text, primary key (a)); show tables;",
+            "created t\nt (a int, b text, primary key (a)) rows 0 blocks 0\n1 tables\n",
+        ),
+        (
+            "create table t (a int, b text, primary key (a)); insert into t values (2, 'x'), (1, 'y'), (2, 'z'), (2, 'x'); delete from t where b = 'x'; show tables;",
+            "created t\ninserted 3\ndeleted 1\nt (a int, b text, primary key (a)) rows 2 blocks 2\n1 tables\n",
+        ),
+        (
+            "create table t (a int, primary key (a)); insert into t values (1), (2); delete from t; insert into t values (1);",
+            "created t\ninserted 2\ndeleted 2\ninserted 1\n",
+        ),
+        ("create;", "error 2 Syntax at 6\n"),
+        (
+            "create table t (a int, primary key (a)) x;",
+            "error 2 Syntax at 40\n",
+        ),
+        ("show tables; @;", "0 tables\nerror 1 BadByte at 0\n"),
+        (
+            "insert into t values (9223372036854775808);",
+            "error 13 OutOfRange at 22\n",
+        ),
+        ("insert into t values (1);", "error 4 UnknownTable t\n"),
+        ("ask select a from t;", "error 4 UnknownTable t\n"),
+        ("delete from t;", "error 4 UnknownTable t\n"),
+        (
+            "create table t (a int, primary key (a)); create table t (a int, primary key (a));",
+            "created t\nerror 5 TableExists t\n",
+        ),
+        (
+            "create table t (a int, primary key (a)); ask select b from t;",
+            "created t\nerror 6 UnknownColumn b\n",
+        ),
+        (
+            "create table t (a int, primary key (a)); ask select t.b from t;",
+            "created t\nerror 6 UnknownColumn t.b\n",
+        ),
+        (
+            "create table t (a int, primary key (a)); delete from t where b = 1;",
+            "created t\nerror 6 UnknownColumn b\n",
+        ),
+        (
+            "create table t (a int, primary key (a)); insert into t values (1, 2);",
+            "created t\nerror 10 WrongArity row 1\n",
+        ),
+        (
+            "create table t (a int, primary key (a)); insert into t values (1), ('x'); show tables;",
+            "created t\nerror 9 TypeMismatch row 2 column 1\nt (a int, primary key (a)) rows 0 blocks 0\n1 tables\n",
+        ),
+        (
+            "create table t (a int, primary key (a)); ask select a from t where a = 1 and a = 'x';",
+            "created t\nerror 9 TypeMismatch condition 2\n",
+        ),
+        (
+            "create table t (a int, a text, primary key (a));",
+            "error 11 DuplicateColumn a\n",
+        ),
+        (
+            "create table t (a int, primary key (a, b));",
+            "error 12 BadKey b\n",
+        ),
+        (
+            "create table t (a int, primary key (a)); create table u (b int, primary key (b)); ask select a from t, u;",
+            "created t\ncreated u\nerror 2 Syntax at 0\n",
+        ),
+        (
+            "create table t (a int, primary key (a)); insert into t values (1); ask exists from t;",
+            "created t\ninserted 1\n()\n1 rows\n",
+        ),
+        (
+            "create table t (a int, primary key (a)); possible select a from t;",
+            "created t\nerror 2 Syntax at 0\n",
+        ),
+        (
+            "create table t (a text, primary key (a)); insert into t values ('it''s; -- so'); ask select a from t;",
+            "created t\ninserted 1\n('it''s; -- so')\n1 rows\n",
+        ),
+    ];
+    for (input, written) in cases {
+        let (_, bytes) = ends(alloc, &whole(input))?;
+        assert_eq!(rt; bytes.as_slice(), written.as_bytes(), "at {input}");
+    }
+    Ok(())
+}
+
+#[test]
+fn the_first_run_goes_over_streams_of_std(rt: HostRuntime) -> Result<(), Fail> {
+    let alloc = rt.alloc();
+    let words = vec![in alloc; String::from_str(alloc, "run")?]?;
+    let mut input = FIRST.as_bytes();
+    let mut written = Vec::new(alloc);
+    let mut session = Session::new(alloc, 200_000);
+    let status = run_words(
+        alloc,
+        words.as_slice(),
+        &mut session,
+        &mut StdSource::new(&mut input),
+        &mut StdSink::new(&mut written),
+    );
+    assert_eq!(rt; status, 0);
+    assert_eq!(rt; written.as_slice(), REPLIES.as_bytes());
+    Ok(())
+}
