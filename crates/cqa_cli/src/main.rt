@@ -1,0 +1,44 @@
+//! The program `cqa`: a machine over its standard input and output.
+#![tactic(auto)]
+
+use command_shell::{Session, run_words};
+use cqa_io::{StdSink, StdSource};
+use std::env;
+use std::io::ErrorKind;
+use std::process::ExitCode;
+
+/// The status where the words can't be obtained.
+const NO_WORDS: u8 = 7;
+
+/// The status where memory for the words is refused.
+const OUT_OF_MEMORY: u8 = 5;
+
+/// The most conflicts of a search, where a script doesn't set them.
+const CONFLICTS: u32 = 200_000;
+
+fn main(rt: HostRuntime) -> ExitCode {
+    let alloc = rt.alloc();
+    let args = match env::args(&rt) {
+        Ok(args) => args,
+        Err(error) if error.kind() == ErrorKind::OutOfMemory => {
+            return ExitCode::from(OUT_OF_MEMORY);
+        }
+        Err(_) => return ExitCode::from(NO_WORDS),
+    };
+    let mut words = Vec::new(alloc);
+    for word in args.skip(1) {
+        if words.push(word).is_err() {
+            return ExitCode::from(OUT_OF_MEMORY);
+        }
+    }
+    let mut session = Session::new(alloc, CONFLICTS);
+    let mut source = StdSource::new(rt.stdin());
+    let mut sink = StdSink::new(rt.stdout());
+    ExitCode::from(run_words(
+        alloc,
+        words.as_slice(),
+        &mut session,
+        &mut source,
+        &mut sink,
+    ))
+}
