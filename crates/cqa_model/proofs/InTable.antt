@@ -51,5 +51,5 @@ module _ (db : List Table) (q : Query) (t : ℕ) (table : Table) (here : slice_g
       let atom : atom_at q 0 ≡ atom_of t table.schema = first_is 0 (omega (arith, one)) in
       let rows : get_or (stored db) (atom_at q 0).table [] ≡ table.rows = ap (λ a. get_or (stored db) a.table []) atom ∙ rows-at db t table here in
       let same : SomeBlockFits (atom_at q 0).key (get_or (stored db) (atom_at q 0).table []) (FitsRow q row) ≡ SomeBlockFits table.schema.key table.rows (FitsRow q row) =
-          ap (λ a. SomeBlockFits a.key (get_or (stored db) (atom_at q 0).table []) (FitsRow q row)) atom ∙ ap (λ xs. SomeBlockFits table.schema.key xs (FitsRow q row)) rows in
+      ap (λ a. SomeBlockFits a.key (get_or (stored db) (atom_at q 0).table []) (FitsRow q row)) atom ∙ ap (λ xs. SomeBlockFits table.schema.key xs (FitsRow q row)) rows in
       subst (λ P. IsCertain db q row ↔ P) same law

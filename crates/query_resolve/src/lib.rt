@@ -3,12 +3,12 @@
 
 mod column;
 mod condition;
+mod deletion;
 mod from;
 mod names;
 mod query;
 mod schema;
-mod deletion;
 
+pub use deletion::resolve_tests;
 pub use query::resolve;
 pub use schema::resolve_schema;
-pub use deletion::resolve_tests;

@@ -1,15 +1,16 @@
--- Merging rows that stand behind sorted ones, from the greatest on.
-use Rattle.std.proofs.Common.{◌≡◌, inl, inr, zero, suc, ◌≤◌, ◌<◌, ◌+◌, ◌-◌, ℕ, List, [], ◌∷◌, ◌++◌, length, take, drop, get_or, Contains, refl, sym, ap, ◌∙◌, subst, arith, append_assoc, length-append}
+-- Merging sorted rows with others, from the greatest on, in room behind them.
+use Rattle.std.proofs.Common.{◌≡◌, inl, inr, zero, suc, ◌≤◌, ◌<◌, ◌+◌, ◌-◌, ℕ, List, [], ◌∷◌, ◌++◌, length, take, drop, get_or, set, Contains, refl, sym, ap, ◌∙◌, subst, arith, append_assoc, length-append}
 use Rattle.std.proofs.lemmas.List.{append-nil}
 use Rattle.std.specs.List.{AllByRecursion}
-use Rattle.std.specs.List.Sorted.{IsStrictlySortedBy}
+use Rattle.std.specs.List.Sorted.{IsStrictlySortedBy, IsPermutation}
+use Rattle.std.proofs.lemmas.List.Sorted.{IsPermutation-refl, IsPermutation-trans, IsPermutation-append_left, IsPermutation-append_right, IsPermutation-append_comm}
 use Rattle.std.specs.Cmp.{IsTotalOrder}
 use Rattle.std.specs.Ordering.{ordering_reverse}
 use Rattle.std.specs.declared.cmp.Ordering.{Ordering}
 use Rattle.std.specs.declared.cmp.Ordering.TheVariants.{Less, Equal, Greater}
 use Rattle.std.proofs.lemmas.List.Elements.{Contains-append_cases, Contains-append_left, Contains-append_right, Contains-get_or, Contains-push}
-use Rattle.std.proofs.lemmas.List.{take-append-drop, length-take-le, get_or-drop, length-drop}
-use Rattle.std.proofs.Math.Seq.{take-append_seam, drop-append_seam}
+use Rattle.std.proofs.lemmas.List.{take-append-drop, take_all, length-take-le, get_or-drop, length-drop}
+use Rattle.std.proofs.Math.Seq.{take-append_seam, set-append_seam}
 use Rattle.std.proofs.lemmas.Option.{slice_get-get_or}
 use Rattle.table_blocks.specs.Tables.{IsPlace}
 use Rattle.table_blocks.proofs.Membership.{contains_head, contains_later, contains_cases, contains_none}
@@ -71,43 +72,58 @@ module _ {A : Type 0} (cmp : A → A → Ordering) (total : IsTotalOrder cmp) (e
       further zero less here within = subst (λ z. cmp y z ≡ Less) here (subst (λ n. cmp y (get_or xs n x) ≡ Less) (omega arith) less)
       further (suc k) less here within = subst (λ z. cmp y z ≡ Less) here (total.trans y (get_or xs at x) (get_or xs (at + suc k) x) less (earlier_below cmp total exact alike xs s at (at + suc k) x (omega arith) within))
 
-  -- rows that are merged: stored ones, given ones, and those that stand at their place already
-  pub record Merging (rows : List A) (end left : ℕ) : Type 0 where
+  -- rows that are merged: stored ones, room for the given ones, and those that stand at their place already
+  pub record Merging (all rows : List A) (end : ℕ) (fresh : List A) : Type 0 where
     pub before : List A
-    pub fresh : List A
+    pub room : List A
     pub tail : List A
-    pub is : rows ≡ before ++ (fresh ++ tail)
+    pub is : rows ≡ before ++ (room ++ tail)
     pub ends : length before ≡ end
-    pub lefts : length fresh ≡ left
+    pub rooms : length room ≡ length fresh
     pub ascending : IsStrictlySortedBy cmp (before ++ tail)
     pub rising : IsStrictlySortedBy cmp (fresh ++ tail)
     pub apart : (x : A) → Contains before x → Contains fresh x → ⊥
+    pub same : IsPermutation all (before ++ (fresh ++ tail))
 
-  pub begun : (rows : List A) (end : ℕ) → end ≤ length rows → IsStrictlySortedBy cmp (take end rows) → IsStrictlySortedBy cmp (drop end rows) → ((x : A) → Contains (take end rows) x → Contains (drop end rows) x → ⊥) → Merging rows end (length rows - end)
-  begun rows end within s t apart = record {
+  pub begun : (rows : List A) (end : ℕ) (fresh : List A) → length rows ≡ end + length fresh → IsStrictlySortedBy cmp (take end rows) → IsStrictlySortedBy cmp fresh → ((x : A) → Contains (take end rows) x → Contains fresh x → ⊥) → Merging (take end rows ++ fresh) rows end fresh
+  begun rows end fresh long s t apart = record {
     before = take end rows;
-    fresh = drop end rows;
+    room = drop end rows;
     tail = [];
     is = sym (ap (λ l. take end rows ++ l) (append-nil (drop end rows)) ∙ take-append-drop end rows);
-    ends = length-take-le end rows within;
-    lefts = length-drop end rows;
+    ends = length-take-le end rows (omega (arith, long));
+    rooms = length-drop end rows ∙ omega (arith, long);
     ascending = subst (IsStrictlySortedBy cmp) (sym (append-nil (take end rows))) s;
-    rising = subst (IsStrictlySortedBy cmp) (sym (append-nil (drop end rows))) t;
+    rising = subst (IsStrictlySortedBy cmp) (sym (append-nil fresh)) t;
     apart = apart;
+    same = subst (IsPermutation (take end rows ++ fresh)) (ap (λ l. take end rows ++ l) (sym (append-nil fresh))) (IsPermutation-refl (take end rows ++ fresh));
   }
 
-  front_of : (rows : List A) (end left : ℕ) (m : Merging rows end left) → take end rows ≡ m.before
-  front_of rows end left m = ap (λ n. take n rows) (sym m.ends) ∙ ap (take (length m.before)) m.is ∙ take-append_seam m.before (m.fresh ++ m.tail)
+  front_of : (all rows : List A) (end : ℕ) (fresh : List A) (m : Merging all rows end fresh) → take end rows ≡ m.before
+  front_of all rows end fresh m = ap (λ n. take n rows) (sym m.ends) ∙ ap (take (length m.before)) m.is ∙ take-append_seam m.before (m.room ++ m.tail)
 
-  pub front_sorted : (rows : List A) (end left : ℕ) → Merging rows end left → IsStrictlySortedBy cmp (take end rows)
-  front_sorted rows end left m = subst (IsStrictlySortedBy cmp) (sym (front_of rows end left m)) (sorted_front m.before m.tail m.ascending)
+  pub front_sorted : (all rows : List A) (end : ℕ) (fresh : List A) → Merging all rows end fresh → IsStrictlySortedBy cmp (take end rows)
+  front_sorted all rows end fresh m = subst (IsStrictlySortedBy cmp) (sym (front_of all rows end fresh m)) (sorted_front m.before m.tail m.ascending)
+
+  -- there is room for the given ones behind the stored ones
+  pub roomy : (all rows : List A) (end : ℕ) (fresh : List A) → Merging all rows end fresh → end + length fresh ≤ length rows
+  roomy all rows end fresh m =
+      let long = ap length m.is ∙ length-append m.before (m.room ++ m.tail) in
+      let more = length-append m.room m.tail in
+      omega (arith, long, more, m.ends, m.rooms)
 
   nil_of : (xs : List A) → length xs ≡ 0 → xs ≡ []
   nil_of [] e = refl
   nil_of (x ∷ xs) e = absurd (omega (arith, e))
 
-  pub ended : (rows : List A) (end : ℕ) → Merging rows end 0 → IsStrictlySortedBy cmp rows
-  ended rows end m = subst (IsStrictlySortedBy cmp) (sym (m.is ∙ ap (λ l. m.before ++ (l ++ m.tail)) (nil_of m.fresh m.lefts))) m.ascending
+  merged : (all rows : List A) (end : ℕ) (m : Merging all rows end []) → rows ≡ m.before ++ m.tail
+  merged all rows end m = m.is ∙ ap (λ l. m.before ++ (l ++ m.tail)) (nil_of m.room m.rooms)
+
+  pub ended_sorted : (all rows : List A) (end : ℕ) → Merging all rows end [] → IsStrictlySortedBy cmp rows
+  ended_sorted all rows end m = subst (IsStrictlySortedBy cmp) (sym (merged all rows end m)) m.ascending
+
+  pub ended_same : (all rows : List A) (end : ℕ) → Merging all rows end [] → IsPermutation all rows
+  ended_same all rows end m = subst (IsPermutation all) (sym (merged all rows end m)) m.same
 
   last_of : (xs : List A) (n : ℕ) → length xs ≡ suc n → (ys : List A) × (y : A) × (xs ≡ ys ++ y ∷ []) × (length ys ≡ n)
   last_of [] n e = absurd (omega (arith, e))
@@ -115,47 +131,43 @@ module _ {A : Type 0} (cmp : A → A → Ordering) (total : IsTotalOrder cmp) (e
   last_of (x ∷ z ∷ xs) zero e = absurd (omega (arith, e))
   last_of (x ∷ z ∷ xs) (suc n) e = let r = last_of (z ∷ xs) n (omega (arith, e)) in (x ∷ r.0, r.1, ap (λ l. x ∷ l) r.2, omega (arith, r.3))
 
-  read_seam : (us : List A) (y : A) (vs : List A) (d : A) → get_or (us ++ y ∷ vs) (length us) d ≡ y
-  read_seam [] y vs d = refl
-  read_seam (u ∷ us) y vs d = read_seam us y vs d
-
   -- the greatest of the given rows goes to its place
-  pub stepped : (rows turned : List A) (end left place : ℕ) (y d : A) → Merging rows end (suc left) → get_or rows (end + left) d ≡ y → IsPlace cmp (take end rows) y place
-      → ((a b c d : List A) → rows ≡ a ++ (b ++ (c ++ d)) → length a ≡ place → length c ≡ suc left → length a + length b + length c ≡ end + suc left → turned ≡ a ++ (c ++ (b ++ d)))
-      → Merging turned place left
-  stepped rows turned end left place y d m here p turns =
-      let r = last_of m.fresh left m.lefts in
-      let fs = r.0 in
-      let seam : rows ≡ (m.before ++ fs) ++ (r.1 ∷ m.tail) =
-      m.is ∙ ap (λ l. m.before ++ (l ++ m.tail)) r.2 ∙ ap (λ l. m.before ++ l) (append_assoc fs (r.1 ∷ []) m.tail) ∙ sym (append_assoc m.before fs (r.1 ∷ m.tail)) in
-      let far : length (m.before ++ fs) ≡ end + left = length-append m.before fs ∙ ap (λ n. n + length fs) m.ends ∙ ap (λ n. end + n) r.3 in
-      let is_y : r.1 ≡ y = sym (read_seam (m.before ++ fs) r.1 m.tail d) ∙ ap (λ l. get_or l (length (m.before ++ fs)) d) (sym seam) ∙ ap (λ n. get_or rows n d) far ∙ here in
-      let fresh_is : m.fresh ≡ fs ++ y ∷ [] = r.2 ∙ ap (λ z. fs ++ z ∷ []) is_y in
-      let at : IsPlace cmp m.before y place = subst (λ l. IsPlace cmp l y place) (front_of rows end (suc left) m) p in
+  pub stepped : (all rows moved : List A) (end place : ℕ) (fs : List A) (y : A) → Merging all rows end (fs ++ y ∷ []) → IsPlace cmp (take end rows) y place
+      → ((a b c d : List A) → rows ≡ a ++ (b ++ (c ++ d)) → length a ≡ place → length a + length b ≡ end → length c ≡ length fs + 1 → (e : List A) × (length e ≡ length fs + 1) × (moved ≡ a ++ (e ++ (b ++ d))))
+      → Merging all (set moved (place + length fs) y) place fs
+  stepped all rows moved end place fs y m p moves =
+      let fresh = fs ++ y ∷ [] in
+      let at : IsPlace cmp m.before y place = subst (λ l. IsPlace cmp l y place) (front_of all rows end fresh m) p in
       let a = take place m.before in
       let b = drop place m.before in
       let rest = b ++ m.tail in
       let whole : a ++ b ≡ m.before = take-append-drop place m.before in
       let long : length a ≡ place = length-take-le place m.before at.within in
       let short : length b ≡ length m.before - place = length-drop place m.before in
-      let given : Contains m.fresh y = subst (λ l. Contains l y) (sym fresh_is) (Contains-push fs y) in
+      let many : length fresh ≡ length fs + 1 = length-append fs (y ∷ []) in
+      let given : Contains fresh y = Contains-push fs y in
       let over : (x : A) → Contains rest x → cmp y x ≡ Less =
       λ x h. elim (Contains-append_cases b m.tail x h) [
         | inl l ↦ above m.before y place (sorted_front m.before m.tail m.ascending) at (λ k. m.apart y k given) x l
-        | inr l ↦ across m.fresh m.tail m.rising y x given l
+        | inr l ↦ across fresh m.tail m.rising y x given l
       ] in
       let split : IsStrictlySortedBy cmp (a ++ rest) = subst (IsStrictlySortedBy cmp) (ap (λ l. l ++ m.tail) (sym whole) ∙ append_assoc a b m.tail) m.ascending in
       let behind : IsStrictlySortedBy cmp (y ∷ rest) = sorted_cons y rest over (sorted_back a rest split) in
-      let risen : IsStrictlySortedBy cmp (fs ++ y ∷ m.tail) = subst (IsStrictlySortedBy cmp) (ap (λ l. l ++ m.tail) fresh_is ∙ append_assoc fs (y ∷ []) m.tail) m.rising in
+      let risen : IsStrictlySortedBy cmp (fs ++ y ∷ m.tail) = subst (IsStrictlySortedBy cmp) (append_assoc fs (y ∷ []) m.tail) m.rising in
       let under : (u : A) → Contains fs u → cmp u y ≡ Less = λ u h. across fs (y ∷ m.tail) risen u y h (contains_head y m.tail) in
+      let gone = moves a b m.room m.tail (m.is ∙ ap (λ l. l ++ (m.room ++ m.tail)) (sym whole) ∙ append_assoc a b (m.room ++ m.tail)) long (omega (arith, long, short, m.ends, at.within)) (m.rooms ∙ many) in
+      let r = last_of gone.0 (length fs) (gone.1 ∙ omega arith) in
+      let es = r.0 in
+      let seam : moved ≡ (a ++ es) ++ r.1 ∷ rest =
+      gone.2 ∙ ap (λ l. a ++ (l ++ rest)) r.2 ∙ ap (λ l. a ++ l) (append_assoc es (r.1 ∷ []) rest) ∙ sym (append_assoc a es (r.1 ∷ rest)) in
+      let far : length (a ++ es) ≡ place + length fs = length-append a es ∙ ap (λ n. n + length es) long ∙ ap (λ n. place + n) r.3 in
       record {
         before = a;
-        fresh = fs;
+        room = es;
         tail = y ∷ rest;
-        is = turns a b m.fresh m.tail (m.is ∙ ap (λ l. l ++ (m.fresh ++ m.tail)) (sym whole) ∙ append_assoc a b (m.fresh ++ m.tail)) long m.lefts (omega (arith, long, short, m.lefts, m.ends, at.within))
-            ∙ ap (λ l. a ++ (l ++ rest)) fresh_is ∙ ap (λ l. a ++ l) (append_assoc fs (y ∷ []) rest);
+        is = ap (λ n. set moved n y) (sym far) ∙ ap (λ l. set l (length (a ++ es)) y) seam ∙ set-append_seam (a ++ es) r.1 rest y ∙ append_assoc a es (y ∷ rest);
         ends = long;
-        lefts = r.3;
+        rooms = r.3;
         ascending = sorted_join a (y ∷ rest) (sorted_front a rest split) behind (λ u v h k. elim (contains_cases y rest v k) [
           | inl e ↦ subst (λ z. cmp u z ≡ Less) e (of_all (λ z. cmp z y ≡ Less) a at.below u h)
           | inr l ↦ across a rest split u v h l
@@ -164,11 +176,18 @@ module _ {A : Type 0} (cmp : A → A → Ordering) (total : IsTotalOrder cmp) (e
           | inl e ↦ subst (λ z. cmp u z ≡ Less) e (under u h)
           | inr l ↦ total.trans u y v (under u h) (over v l)
         ]);
-        apart = λ x h k. m.apart x (subst (λ l. Contains l x) whole (Contains-append_left a b x h)) (subst (λ l. Contains l x) (sym fresh_is) (Contains-append_left fs (y ∷ []) x k));
+        apart = λ x h k. m.apart x (subst (λ l. Contains l x) whole (Contains-append_left a b x h)) (Contains-append_left fs (y ∷ []) x k);
+        same = IsPermutation-trans all (m.before ++ (fresh ++ m.tail)) (a ++ (fs ++ y ∷ rest)) m.same
+            (subst (λ l. IsPermutation l (a ++ (fs ++ y ∷ rest))) (sym (append_assoc a b (fresh ++ m.tail)) ∙ ap (λ l. l ++ (fresh ++ m.tail)) whole)
+            (IsPermutation-append_right a (b ++ (fresh ++ m.tail)) (fs ++ y ∷ rest)
+            (subst (IsPermutation (b ++ (fresh ++ m.tail))) (append_assoc fs (y ∷ []) rest)
+            (subst (λ l. IsPermutation l (fresh ++ rest)) (append_assoc b fresh m.tail)
+            (subst (IsPermutation ((b ++ fresh) ++ m.tail)) (append_assoc fresh b m.tail)
+            (IsPermutation-append_left m.tail (b ++ fresh) (fresh ++ b) (IsPermutation-append_comm b fresh)))))));
       }
 
--- what stands apart in two lists does so in their joined list
-pub apart_in : {A : Type 0} (xs a b : List A) (n : ℕ) → xs ≡ a ++ b → n ≡ length a → ((x : A) → Contains a x → Contains b x → ⊥) → (x : A) → Contains (take n xs) x → Contains (drop n xs) x → ⊥
-apart_in xs a b n e l h x m k = h x
-    (subst (λ ys. Contains ys x) (ap (λ i. take i xs) l ∙ ap (take (length a)) e ∙ take-append_seam a b) m)
-    (subst (λ ys. Contains ys x) (ap (λ i. drop i xs) l ∙ ap (drop (length a)) e ∙ drop-append_seam a b) k)
+-- a list's first part, once it has grown
+pub kept : {A : Type 0} (old more : List A) (m n : ℕ) → m ≡ length old → m ≤ n → take m (take n old ++ more) ≡ old
+kept old more m n e l =
+    let all : take n old ≡ old = take_all n old (omega (arith, e, l)) in
+    ap (λ i. take i (take n old ++ more)) e ∙ ap (λ xs. take (length old) (xs ++ more)) all ∙ take-append_seam old more

@@ -1,5 +1,6 @@
--- What a turned range of a list holds.
-use Rattle.std.proofs.Common.{◌≡◌, ◌+◌, ◌-◌, ℕ, List, ◌++◌, length, take, drop, sym, ap, ◌∙◌, arith, append_assoc, length-append}
+-- What a list holds whose ranges changed places.
+use Rattle.std.proofs.Common.{◌≡◌, ◌+◌, ◌-◌, ◌≤◌, ℕ, List, ◌++◌, length, take, drop, sym, ap, ◌∙◌, arith, append_assoc, length-append}
+use Rattle.std.proofs.lemmas.List.{take-append-drop, length-take-le, length-drop}
 use Rattle.std.proofs.Math.Seq.{take-append_seam, drop-append_seam}
 use borrow.Rule.Slice.PartMut.{put_mid, mid_of, post_of}
 
@@ -35,3 +36,48 @@ module _ {A : Type 0} (a b c d : List A) where
       ∙ ap (λ l. a ++ (l ++ post_of from (to - from) xs)) swapped
       ∙ ap (λ l. a ++ ((c ++ b) ++ l)) post
       ∙ ap (λ l. a ++ l) (append_assoc c b d)
+
+-- b and d change places, which are of one length
+pub exchanged : {A : Type 0} (a b c d e rows low high s o : List A) (from to count : ℕ) → rows ≡ a ++ (b ++ (c ++ (d ++ e))) → length a ≡ from → length a + length b ≡ to → length b ≡ length d → length c + length d ≡ count
+    → low ≡ take (from + count) rows → high ≡ drop (from + count) rows → s ≡ take (to - from) high → o ≡ mid_of from (to - from) low
+    → (take from low ++ (s ++ post_of from (to - from) low)) ++ (o ++ drop (to - from) high) ≡ a ++ (d ++ (c ++ (b ++ e)))
+exchanged a b c d e rows low high s o from to count is la lb same lc el eh es eo =
+    let front = a ++ (b ++ c) in
+    let long = length-append a (b ++ c) in
+    let wide = length-append b c in
+    let split : rows ≡ front ++ (d ++ e) = is ∙ ap (λ l. a ++ l) (sym (append_assoc b c (d ++ e))) ∙ sym (append_assoc a (b ++ c) (d ++ e)) in
+    let seam : from + count ≡ length front = omega (arith, la, lb, same, lc, long, wide) in
+    let low_is : low ≡ front = el ∙ ap (λ n. take n rows) seam ∙ ap (take (length front)) split ∙ take-append_seam front (d ++ e) in
+    let high_is : high ≡ d ++ e = eh ∙ ap (λ n. drop n rows) seam ∙ ap (drop (length front)) split ∙ drop-append_seam front (d ++ e) in
+    let some : to - from ≡ length b = omega (arith, la, lb) in
+    let other : to - from ≡ length d = omega (arith, la, lb, same) in
+    let first : take from low ≡ a = ap (λ n. take n low) (sym la) ∙ ap (take (length a)) low_is ∙ take-append_seam a (b ++ c) in
+    let rest : drop from low ≡ b ++ c = ap (λ n. drop n low) (sym la) ∙ ap (drop (length a)) low_is ∙ drop-append_seam a (b ++ c) in
+    let mid : mid_of from (to - from) low ≡ b = ap (λ n. take n (drop from low)) some ∙ ap (take (length b)) rest ∙ take-append_seam b c in
+    let post : post_of from (to - from) low ≡ c = ap (λ n. drop n (drop from low)) some ∙ ap (drop (length b)) rest ∙ drop-append_seam b c in
+    let head : take (to - from) high ≡ d = ap (λ n. take n high) other ∙ ap (take (length d)) high_is ∙ take-append_seam d e in
+    let tail : drop (to - from) high ≡ e = ap (λ n. drop n high) other ∙ ap (drop (length d)) high_is ∙ drop-append_seam d e in
+    ap (λ l. (l ++ (s ++ post_of from (to - from) low)) ++ (o ++ drop (to - from) high)) first
+    ∙ ap (λ l. (a ++ (l ++ post_of from (to - from) low)) ++ (o ++ drop (to - from) high)) (es ∙ head)
+    ∙ ap (λ l. (a ++ (d ++ l)) ++ (o ++ drop (to - from) high)) post
+    ∙ ap (λ l. (a ++ (d ++ c)) ++ (l ++ drop (to - from) high)) (eo ∙ mid)
+    ∙ ap (λ l. (a ++ (d ++ c)) ++ (b ++ l)) tail
+    ∙ append_assoc a (d ++ c) (b ++ e)
+    ∙ ap (λ l. a ++ l) (append_assoc d c (b ++ e))
+
+-- b moves back behind c, of which it takes the end
+pub moved_far : {A : Type 0} (a b c d rows new : List A) (from to count : ℕ) → rows ≡ a ++ (b ++ (c ++ d)) → length a ≡ from → length a + length b ≡ to → length c ≡ count → length b ≤ count
+    → ((a b c d e : List A) → rows ≡ a ++ (b ++ (c ++ (d ++ e))) → length a ≡ from → length a + length b ≡ to → length b ≡ length d → length c + length d ≡ count → new ≡ a ++ (d ++ (c ++ (b ++ e))))
+    → (x : List A) × (length x ≡ count) × (new ≡ a ++ (x ++ (b ++ d)))
+moved_far a b c d rows new from to count is la lb lc short changed =
+    let n = count - length b in
+    let x = take n c in
+    let y = drop n c in
+    let lx : length x ≡ n = length-take-le n c (omega (arith, lc)) in
+    let ly : length y ≡ length c - n = length-drop n c in
+    let both = length-append y x in (
+      y ++ x,
+      omega (arith, both, lx, ly, lc, short),
+      changed a b x y d (is ∙ ap (λ l. a ++ (b ++ (l ++ d))) (sym (take-append-drop n c)) ∙ ap (λ l. a ++ (b ++ l)) (append_assoc x y d)) la lb (omega (arith, ly, lc, short)) (omega (arith, lx, ly, lc, short))
+          ∙ ap (λ l. a ++ l) (sym (append_assoc y x (b ++ d))),
+    )

@@ -92,44 +92,56 @@ fn turn(rows: &mut [Row], from: usize, to: usize, count: usize)
     requires order { from ≤ to }
     requires within { to ≤ length rows.old }
     requires enough { count ≤ to - from }
-    ensures same { IsPermutation rows.old rows.new }
     ensures turned { (a b c d : List (List Cell)) → rows.old ≡ a ++ (b ++ (c ++ d)) → length a ≡ from → length c ≡ count → length a + length b + length c ≡ to → rows.new ≡ a ++ (c ++ (b ++ d)) }
 {
     rows[from..to].rotate_right(count);
 }
 
-/// The place among the first `end` rows of the row at `given`.
-fn place_among(rows: &[Row], key: &[u32], end: usize, given: usize) -> usize
-    requires end { end ≤ length rows.now }
-    requires given { given < length rows.now }
-    ensures within { result ≤ end }
-    ensures place { IsStrictlySortedBy (block_cmp key.now) (take end rows.now) → IsPlace (block_cmp key.now) (take end rows.now) (slice_index_or rows.now given []) result }
+/// Lets a range change places with as many rows as stand `count` places behind it, where it is no longer than that.
+fn exchange(rows: &mut [Row], from: usize, to: usize, count: usize)
+    requires order { from ≤ to }
+    requires within { to + count ≤ length rows.old }
+    requires short { to - from ≤ count }
+    ensures changed { (a b c d e : List (List Cell)) → rows.old ≡ a ++ (b ++ (c ++ (d ++ e))) → length a ≡ from → length a + length b ≡ to → length b ≡ length d → length c + length d ≡ count → rows.new ≡ a ++ (d ++ (c ++ (b ++ e))) }
 {
-    place_in(&rows[..end], key, &rows[given])
+    let (low, high) = rows.split_at_mut(from + count);
+    low[from..to].swap_with_slice(&mut high[..to - from]);
 }
 
-/// Merges sorted rows with those that stand behind them: from the greatest on, each of these goes to its place, together
-/// with those before it that are still to go.
-fn merge(rows: &mut [Row], key: &[u32], stored: usize)
-    requires within { stored ≤ length rows.old }
+/// Moves a range back by `count` places. The rows that stood there come before it, in any order.
+fn move_back(rows: &mut [Row], from: usize, to: usize, count: usize)
+    requires order { from ≤ to }
+    requires within { to + count ≤ length rows.old }
+    ensures moved { (a b c d : List (List Cell)) → rows.old ≡ a ++ (b ++ (c ++ d)) → length a ≡ from → length a + length b ≡ to → length c ≡ count → (e : List (List Cell)) × (length e ≡ count) × (rows.new ≡ a ++ (e ++ (b ++ d))) }
+{
+    if to - from < count {
+        exchange(rows, from, to, count);
+    } else {
+        turn(rows, from, to + count, count);
+    }
+}
+
+/// Merges sorted rows with fresh ones, for which there is room behind them: from the greatest on, each of these goes to
+/// its place, and the stored rows behind it move to theirs.
+fn merge(rows: &mut [Row], key: &[u32], stored: usize, mut fresh: Vec<Row>)
+    requires room { length rows.old ≡ stored + length fresh.items }
     requires ascending { IsStrictlySortedBy (block_cmp key.now) (take stored rows.old) }
-    requires rising { IsStrictlySortedBy (block_cmp key.now) (drop stored rows.old) }
-    requires apart { (row : List Cell) → Contains (take stored rows.old) row → Contains (drop stored rows.old) row → ⊥ }
+    requires rising { IsStrictlySortedBy (block_cmp key.now) fresh.items }
+    requires apart { (row : List Cell) → Contains (take stored rows.old) row → Contains fresh.items row → ⊥ }
     ensures ascending { IsStrictlySortedBy (block_cmp key.now) rows.new }
-    ensures same { IsPermutation rows.old rows.new }
+    ensures same { IsPermutation (take stored rows.old ++ fresh.items) rows.new }
 {
     let mut end = stored;
-    let mut left = rows.len() - stored;
-    while left > 0 {
-        let place = place_among(rows, key, end, end + left - 1);
-        turn(rows, place, end + left, left);
+    while let Some(row) = fresh.pop() {
+        let place = place_in(&rows[..end], key, &row);
+        move_back(rows, place, end, fresh.len() + 1);
+        rows[place + fresh.len()] = row;
         end = place;
-        left -= 1;
     }
 }
 
 /// Puts sorted rows that aren't there yet among sorted rows.
-pub fn put(rows: &mut Vec<Row>, key: &[u32], mut fresh: Vec<Row>) -> Result<(), NoMemory>
+pub fn put(rows: &mut Vec<Row>, key: &[u32], fresh: Vec<Row>) -> Result<(), NoMemory>
     requires ascending { IsStrictlySortedBy (block_cmp key.now) rows.old.items }
     requires fresh { IsStrictlySortedBy (block_cmp key.now) fresh.items }
     requires new { (row : List Cell) → Contains rows.old.items row → Contains fresh.items row → ⊥ }
@@ -138,8 +150,9 @@ pub fn put(rows: &mut Vec<Row>, key: &[u32], mut fresh: Vec<Row>) -> Result<(), 
     ensures err { OnErr result (rows.new.items ≡ rows.old.items) }
 {
     let stored = rows.len();
-    rows.append(&mut fresh)?;
-    merge(rows.as_mut_slice(), key, stored);
+    let alloc = *rows.allocator();
+    rows.resize_with(stored + fresh.len(), || -> Row { Row::new(alloc) })?;
+    merge(rows.as_mut_slice(), key, stored, fresh);
     Ok(())
 }
 

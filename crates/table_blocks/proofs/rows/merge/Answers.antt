@@ -1,46 +1,26 @@
-use Rattle.std.proofs.Common.{◌≡◌, ◌<◌, ◌+◌, ◌-◌, ◌∙◌, ℕ, suc, [], subst, sym, ap, arith, get_or}
-use Rattle.std.proofs.lemmas.List.Sorted.{IsPermutation-refl, IsPermutation-trans}
+use Rattle.std.proofs.Common.{◌≡◌, ◌+◌, ◌++◌, ◌∙◌, sym, ap, subst, arith, length, take, set}
 use Rattle.cqa_model.specs.Database.{block_cmp}
 use Rattle.table_blocks.proofs.BlockOrder.{block_total, block_exact, block_alike}
 use Rattle.table_blocks.proofs.Merging.{Merging, begun, stepped, front_sorted}
 use Rattle.table_blocks.proofs.rows.merge.Goals as goal
 
-one_more : (n : ℕ) → 0 < n → n ≡ suc (n - 1)
-one_more n h = omega (arith, h)
-
-last_at : (end n : ℕ) → 0 < n → end + (n - 1) ≡ end + n - 1
-last_at end n h = omega (arith, h)
-
-pub loop-left-init : goal.loop-left-init
-loop-left-init c =
+pub loop-row-init : goal.loop-row-init
+loop-row-init c =
     let key = c.args.key.now in
-    record {
-      within = (let h = c.requires.within in omega (arith, h));
-      same = IsPermutation-refl _;
-      merging = begun (block_cmp key) (block_total key) (block_exact key) (block_alike key) c.args.rows.now c.args.stored c.requires.within c.requires.ascending c.requires.rising c.requires.apart;
-    }
+    begun (block_cmp key) (block_total key) (block_exact key) (block_alike key) c.args.rows.now c.args.stored c.args.fresh.items c.requires.room c.requires.ascending c.requires.rising c.requires.apart
 
-pub turn-requires-clause-order : goal.turn-requires-clause-order
-turn-requires-clause-order c = let h = c.place_among-place.ensures.within in omega (arith, h)
-
-pub turn-requires-clause-enough : goal.turn-requires-clause-enough
-turn-requires-clause-enough c = let h = c.place_among-place.ensures.within in omega (arith, h)
-
-pub loop-left-preserved : goal.loop-left-preserved
-loop-left-preserved c =
+pub loop-row-preserved : goal.loop-row-preserved
+loop-row-preserved c =
     let key = c.args.key.now in
-    let rows = c.loop-left.rows in
-    let some = c.loop-left-test.true in
-    let place = c.place_among-place.result in
-    let low = c.place_among-place.ensures.within in
-    let within = c.loop-left.invariant.within in
-    let same_length = c.turn.auto.rows in
-    let one : c.loop-left.left ≡ suc (c.loop-left.left - 1) = one_more c.loop-left.left some in
-    let sorted = front_sorted (block_cmp key) (block_total key) (block_exact key) (block_alike key) rows c.loop-left.end c.loop-left.left c.loop-left.invariant.merging in
-    record {
-      within = omega (arith, low, within, same_length, some);
-      same = IsPermutation-trans _ _ _ c.loop-left.invariant.same c.turn.ensures.same;
-      merging = stepped (block_cmp key) (block_total key) (block_exact key) (block_alike key) rows c.turn.new.rows c.loop-left.end (c.loop-left.left - 1) place _ []
-          (subst (Merging (block_cmp key) (block_total key) (block_exact key) (block_alike key) rows c.loop-left.end) one c.loop-left.invariant.merging)
-          (ap (λ n. get_or rows n []) (last_at c.loop-left.end c.loop-left.left some)) (c.place_among-place.ensures.place sorted) (λ a b c' d is la lc lt. c.turn.ensures.turned a b c' d is la (lc ∙ sym one) (lt ∙ ap (λ n. c.loop-left.end + n) (sym one)));
-    }
+    let all = take c.args.stored c.args.rows.now ++ c.args.fresh.items in
+    let rows = c.loop-row.rows in
+    let place = c.place_in-place.result in
+    let fs = c.pop.new.self.items in
+    let row = c.in-Some.row in
+    let one : c.len.result ≡ length fs = (let r = c.len.ensures in omega (arith, r)) in
+    let two : c.len-in-Some.result ≡ length fs = (let r = c.len-in-Some.ensures in omega (arith, r)) in
+    let m = subst (Merging (block_cmp key) (block_total key) (block_exact key) (block_alike key) all rows c.loop-row.end) c.in-Some.ensures.items c.loop-row.invariant in
+    let sorted = front_sorted (block_cmp key) (block_total key) (block_exact key) (block_alike key) all rows c.loop-row.end c.loop-row.fresh.items c.loop-row.invariant in
+    subst (λ n. Merging (block_cmp key) (block_total key) (block_exact key) (block_alike key) all (set c.move_back.new.rows (place + n) row) place fs) (sym two)
+    (stepped (block_cmp key) (block_total key) (block_exact key) (block_alike key) all rows c.move_back.new.rows c.loop-row.end place fs row m (c.place_in-place.ensures.place sorted)
+    (λ a b c' d is la lb lc. let r = c.move_back.ensures.moved a b c' d is la lb (lc ∙ ap (λ n. n + 1) (sym one)) in (r.0, r.1 ∙ ap (λ n. n + 1) one, r.2)))
