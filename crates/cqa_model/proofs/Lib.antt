@@ -23,6 +23,8 @@ mod Example
 mod BrokenKey
 pub mod Mending
 pub mod Labels
+pub mod Columns
+mod ClassSteps
 pub mod OverOne
 pub mod Possible
 pub mod Databases

@@ -11,6 +11,7 @@ pub mod Graph
 pub mod Plan
 pub mod Partial
 pub mod Labels
+pub mod Naming
 pub mod Formula
 pub mod Laws
 pub mod Text
