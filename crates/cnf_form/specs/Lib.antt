@@ -1,0 +1,10 @@
+pub mod Literals
+pub mod Logs
+pub mod Propagation
+pub mod Spent
+pub mod Lines
+pub mod Numbers
+pub mod Scans
+pub mod Formulas
+pub mod Reading
+pub mod Writing
