@@ -1,0 +1,11 @@
+mod Deleted
+pub mod Exact
+mod Followed
+mod Loaded
+mod MarkLemmas
+mod Shown
+mod Stored
+mod Takes
+mod StepLines
+mod LogLines
+mod RoundTrip

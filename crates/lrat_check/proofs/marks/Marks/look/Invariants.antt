@@ -1,0 +1,6 @@
+use Rattle.std.proofs.Common.{take}
+use Rattle.lrat_check.specs.Marks.{FoundIs}
+use Rattle.lrat_check.proofs.marks.Marks.look.Given as goal
+
+abbrev pub invariant-loop-lit : goal.invariant-loop-lit
+invariant-loop-lit l = FoundIs l.self.truths.items (take l.lit-index l.clause) l.found

@@ -1,0 +1,9 @@
+pub mod Failing
+pub mod Marks
+pub mod Store
+pub mod Following
+pub mod Steps
+pub mod Checked
+pub mod LogTexts
+pub mod LogParts
+pub mod Writing

@@ -1,0 +1,24 @@
+// Deletions.
+
+ghost use Rattle.std.specs.Prelude.{◌≡◌, ℕ, true, false};
+ghost use Rattle.cnf_form.specs.Logs.{DeletionPasses, after_deletion};
+ghost use Rattle.lrat_check.specs.Store.{live_of, IsStore};
+ghost use Rattle.lrat_check.specs.Failing.{DeletionFails};
+
+use crate::store::Store;
+
+pub fn delete_all(store: &mut Store, ids: &[u64]) -> bool
+    requires { IsStore store.old.pool.items store.old.places }
+    ensures store { IsStore store.new.pool.items store.new.places }
+    ensures yes { result ≡ true → DeletionPasses (live_of store.old.pool.items store.old.places) ids.now }
+    ensures no { result ≡ false → DeletionFails (live_of store.old.pool.items store.old.places) ids.now }
+    ensures live { result ≡ true → live_of store.new.pool.items store.new.places ≡ after_deletion (live_of store.old.pool.items store.old.places) ids.now }
+{
+    for id in ids {
+        match store.remove(*id) {
+            true => {}
+            false => return false,
+        }
+    }
+    true
+}

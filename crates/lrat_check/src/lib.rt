@@ -1,0 +1,20 @@
+//! Reads logs of refutations, and checks them over their formulas.
+#![tactic(auto)]
+
+mod checking;
+mod deleting;
+mod fault;
+mod following;
+pub mod laws;
+mod marks;
+mod reading;
+mod steps;
+mod store;
+#[cfg(test)]
+mod tests;
+mod writing;
+
+pub use checking::check;
+pub use fault::{LogCause, LogFault};
+pub use reading::read_log;
+pub use writing::log_text;

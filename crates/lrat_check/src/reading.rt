@@ -1,0 +1,297 @@
+//! Reads logs.
+
+ghost use Rattle.std.specs.Prelude.{◌≡◌, ◌≢◌, [], ◌∷◌, ◌<◌, ◌^◌, ◌++◌, IfOk, MatchOption, None, Some, List, option_map};
+ghost use Rattle.cqa_value.specs.declared.memory.Fail.TheVariants.{Refused};
+ghost use Rattle.cnf_form.specs.declared.fault.Part.TheVariants as part;
+ghost use Rattle.cnf_form.specs.declared.log.Step.{Step as LogStep};
+ghost use Rattle.cnf_form.specs.Lines.{after_line, line_of, tokens};
+ghost use Rattle.cnf_form.specs.Formulas.{literal};
+ghost use Rattle.cnf_form.specs.Numbers.{without_sign};
+ghost use Rattle.lrat_check.specs.LogTexts.{LogIs, add_step, addition_of, by_first, delete_step, hint_value, hints_of, ids_of, line_steps, step_after};
+ghost use Rattle.cnf_form.specs.declared.log.Log.{Log as LogValue};
+ghost use Rattle.lrat_check.specs.Writing.{IsWritableLog, ReadsBack, log_bytes};
+ghost use Rattle.lrat_check.specs.LogParts.{IdIsNext, NoIdNext};
+
+use cnf_form::scan::{Next, Signed, is_comment_line, next_number, next_token, skip_line, unsigned};
+use cnf_form::{Clause, FormatFault, Lit, Log, Part, Step};
+use cqa_value::{Fail, Items};
+use std::alloc::{AllocError, Global};
+
+const GREATEST: u64 = 9_223_372_036_854_775_807;
+
+fn lit_of(number: Signed) -> Lit
+    requires { number.size < 2 ^ 32 }
+    ensures { result ≡ literal (number.negative, number.size) }
+{
+    Lit {
+        var: number.size as u32,
+        positive: !number.negative,
+    }
+}
+
+fn hint_of(number: Signed) -> i64
+    requires some { 0 < number.size }
+    requires small { number.size < 2 ^ 63 }
+    ensures { result ≡ hint_value (number.negative, number.size) }
+{
+    if number.negative {
+        -(number.size as i64)
+    } else {
+        number.size as i64
+    }
+}
+
+/// What a step's literals and hints are gathered in before they are copied to where they stay.
+#[derive(Drop)]
+struct Gathered {
+    lits: Vec<Lit>,
+    hints: Vec<i64>,
+}
+
+/// Gathers literals up to a zero, and gives the bytes after it.
+fn read_lits<'a>(
+    lits: &mut Vec<Lit>,
+    text: &'a [u8],
+    vars: u32,
+) -> Result<Option<&'a [u8]>, AllocError>
+    ensures { IfOk result (λ r. MatchOption r
+        (addition_of vars (tokens (line_of text.now)) ≡ None)
+        (λ rest. (addition_of vars (tokens (line_of text.now)) ≡ option_map (λ hs. (lits.new.items, hs)) (hints_of (tokens (line_of rest.now)))) × (after_line text.now ≡ after_line rest.now))) }
+{
+    lits.clear();
+    let mut rest = text;
+    loop {
+        match next_number(rest, vars as u64) {
+            Next::Number(number, after) => {
+                if number.size == 0 {
+                    return Ok(Some(after));
+                }
+                lits.push(lit_of(number))?;
+                rest = after;
+            }
+            _ => return Ok(None),
+        }
+    }
+}
+
+/// The bytes after a line that has no more tokens.
+fn line_end(text: &[u8]) -> Option<&[u8]>
+    ensures { MatchOption result (tokens (line_of text.now) ≢ []) (λ rest. (tokens (line_of text.now) ≡ []) × (rest.now ≡ after_line text.now)) }
+{
+    match next_number(text, 0) {
+        Next::End(rest) => Some(rest),
+        _ => None,
+    }
+}
+
+/// Gathers hints up to a zero that ends the line, and gives the bytes after the line.
+fn read_hints<'a>(hints: &mut Vec<i64>, text: &'a [u8]) -> Result<Option<&'a [u8]>, AllocError>
+    ensures { IfOk result (λ r. MatchOption r
+        (hints_of (tokens (line_of text.now)) ≡ None)
+        (λ rest. (hints_of (tokens (line_of text.now)) ≡ Some hints.new.items) × (rest.now ≡ after_line text.now))) }
+{
+    hints.clear();
+    let mut rest = text;
+    loop {
+        match next_number(rest, GREATEST) {
+            Next::Number(number, after) => {
+                if number.size == 0 {
+                    return Ok(line_end(after));
+                }
+                hints.push(hint_of(number))?;
+                rest = after;
+            }
+            _ => return Ok(None),
+        }
+    }
+}
+
+/// Reads ids up to a zero that ends the line, and gives the bytes after the line.
+fn read_ids<'a>(alloc: Global, text: &'a [u8]) -> Result<Option<(Vec<u64>, &'a [u8])>, AllocError>
+    ensures { IfOk result (λ r. MatchOption r
+        (ids_of (tokens (line_of text.now)) ≡ None)
+        (λ p. (ids_of (tokens (line_of text.now)) ≡ Some p.0.items) × (p.1.now ≡ after_line text.now))) }
+{
+    let mut ids = Vec::new(alloc);
+    let mut rest = text;
+    loop {
+        match next_id(rest) {
+            None => return Ok(None),
+            Some((id, after)) => {
+                if id == 0 {
+                    return match line_end(after) {
+                        Some(end) => Ok(Some((ids, end))),
+                        None => Ok(None),
+                    };
+                }
+                ids.push(id)?;
+                rest = after;
+            }
+        }
+    }
+}
+
+/// The next id of a line, or a zero.
+fn next_id(text: &[u8]) -> Option<(u64, &[u8])>
+    ensures { MatchOption result (NoIdNext text.now) (λ n. IdIsNext text.now n.0 n.1.now) }
+{
+    match next_number(text, GREATEST) {
+        Next::Number(number, rest) => {
+            let id = unsigned(number)?;
+            Some((id, rest))
+        }
+        _ => None,
+    }
+}
+
+/// Reads a deletion after its `d`.
+fn read_deletion<'a>(alloc: Global, text: &'a [u8]) -> Result<Option<(Step, &'a [u8])>, AllocError>
+    ensures { IfOk result (λ r. MatchOption r
+        (ids_of (tokens (line_of text.now)) ≡ None)
+        (λ p. (option_map delete_step (ids_of (tokens (line_of text.now))) ≡ Some p.0) × (p.1.now ≡ after_line text.now))) }
+{
+    let Some((ids, rest)) = read_ids(alloc, text)? else {
+        return Ok(None);
+    };
+    let step = Step::Delete {
+        ids: Items::from_vec(ids),
+    };
+    Ok(Some((step, rest)))
+}
+
+/// Reads an addition after its id.
+fn read_addition<'a>(
+    alloc: Global,
+    gathered: &mut Gathered,
+    id: u64,
+    text: &'a [u8],
+    vars: u32,
+) -> Result<Option<(Step, &'a [u8])>, AllocError>
+    ensures { IfOk result (λ r. MatchOption r
+        (addition_of vars (tokens (line_of text.now)) ≡ None)
+        (λ p. (option_map (add_step id) (addition_of vars (tokens (line_of text.now))) ≡ Some p.0) × (p.1.now ≡ after_line text.now))) }
+{
+    let Some(rest) = read_lits(&mut gathered.lits, text, vars)? else {
+        return Ok(None);
+    };
+    let Some(rest) = read_hints(&mut gathered.hints, rest)? else {
+        return Ok(None);
+    };
+    let lits = Vec::from_slice(alloc, gathered.lits.as_slice())?;
+    let hints = Vec::from_slice(alloc, gathered.hints.as_slice())?;
+    let step = Step::Add {
+        id,
+        clause: Clause {
+            lits: Items::from_vec(lits),
+        },
+        hints: Items::from_vec(hints),
+    };
+    Ok(Some((step, rest)))
+}
+
+/// Reads a step after its first number.
+fn read_step<'a>(
+    alloc: Global,
+    gathered: &mut Gathered,
+    id: u64,
+    text: &'a [u8],
+    vars: u32,
+) -> Result<Option<(Step, &'a [u8])>, AllocError>
+    ensures { IfOk result (λ r. MatchOption r
+        (step_after vars id (tokens (line_of text.now)) ≡ None)
+        (λ p. (step_after vars id (tokens (line_of text.now)) ≡ Some p.0) × (p.1.now ≡ after_line text.now))) }
+{
+    let (token, rest) = next_token(text);
+    if token == b"d".as_slice() {
+        read_deletion(alloc, rest)
+    } else {
+        read_addition(alloc, gathered, id, text, vars)
+    }
+}
+
+/// Takes the step that begins with a number, and gives the bytes after its line; `None` where it breaks a rule.
+fn take_step<'a>(
+    alloc: Global,
+    gathered: &mut Gathered,
+    vars: u32,
+    steps: &mut Vec<Step>,
+    first: Signed,
+    text: &'a [u8],
+) -> Result<Option<&'a [u8]>, AllocError>
+    ensures { IfOk result (λ r. MatchOption r
+        (by_first vars (without_sign first.negative first.size) (tokens (line_of text.now)) ≡ None)
+        (λ rest. (rest.now ≡ after_line text.now) × ((step : LogStep) × (by_first vars (without_sign first.negative first.size) (tokens (line_of text.now)) ≡ Some step) × (steps.new.items ≡ steps.old.items ++ step ∷ [])))) }
+{
+    let Some(id) = unsigned(first) else {
+        return Ok(None);
+    };
+    if id == 0 {
+        return Ok(None);
+    }
+    let Some((step, rest)) = read_step(alloc, gathered, id, text, vars)? else {
+        return Ok(None);
+    };
+    steps.push(step)?;
+    Ok(Some(rest))
+}
+
+/// Takes the step that the first line is, or none where it is skipped, and gives the bytes after the line; `None` where it
+/// breaks a rule.
+fn take_line<'a>(
+    alloc: Global,
+    gathered: &mut Gathered,
+    vars: u32,
+    steps: &mut Vec<Step>,
+    text: &'a [u8],
+) -> Result<Option<&'a [u8]>, AllocError>
+    ensures { IfOk result (λ r. MatchOption r
+        (line_steps vars (line_of text.now) ≡ None)
+        (λ rest. (rest.now ≡ after_line text.now) × ((said : List LogStep) × (line_steps vars (line_of text.now) ≡ Some said) × (steps.new.items ≡ steps.old.items ++ said)))) }
+{
+    if is_comment_line(text) {
+        return Ok(Some(skip_line(text)));
+    }
+    match next_number(text, GREATEST) {
+        Next::End(rest) => Ok(Some(rest)),
+        Next::Number(first, rest) => take_step(alloc, gathered, vars, steps, first, rest),
+        Next::Other => Ok(None),
+    }
+}
+
+fn read_steps(alloc: Global, bytes: &[u8], vars: u32) -> Result<Log, Fail<FormatFault>>
+    ensures { LogIs vars bytes.now result }
+{
+    let mut gathered = Gathered {
+        lits: Vec::new(alloc),
+        hints: Vec::new(alloc),
+    };
+    let mut steps = Vec::new(alloc);
+    let mut rest = bytes;
+    let mut number = 1u64;
+    while !rest.is_empty() {
+        let Some(after) = take_line(alloc, &mut gathered, vars, &mut steps, rest)? else {
+            return Err(Fail::Refused(FormatFault {
+                line: number,
+                part: Part::Log,
+            }));
+        };
+        number += 1;
+        rest = after;
+    }
+    Ok(Log {
+        steps: Items::from_vec(steps),
+    })
+}
+
+/// Reads a log, the text after the `lrat` line, over a formula of so many variables.
+///
+/// # Errors
+/// `FormatFault` with the number of the first line that breaks a rule, from 1.
+pub fn read_log(alloc: Global, bytes: &[u8], vars: u32) -> Result<Log, Fail<FormatFault>>
+    // The answer is what the lines say, or the first that breaks a rule.
+    ensures exact { LogIs vars bytes.now result }
+    // What is written of a log of additions is read as the same log.
+    ensures reads_written { (log : LogValue) → IsWritableLog vars log.steps → bytes.now ≡ log_bytes log.steps → ReadsBack log result }
+{
+    read_steps(alloc, bytes, vars)
+}
