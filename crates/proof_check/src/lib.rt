@@ -1,0 +1,11 @@
+//! Checks an input of a formula and a log, and says the line about it.
+#![tactic(auto)]
+
+mod checking;
+mod reply;
+
+pub use checking::{check_bytes, input_has_one_reply};
+pub use reply::CheckReply;
+
+#[cfg(test)]
+mod tests;
