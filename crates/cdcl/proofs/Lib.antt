@@ -1,0 +1,17 @@
+pub mod SettledLemmas
+pub mod TrailLemmas
+pub mod Works
+pub mod Places
+pub mod States
+pub mod Jump
+pub mod Ends
+pub mod Watches
+pub mod Values
+pub mod Bridge
+pub mod Clauses
+pub mod WatchState
+pub mod LookState
+pub mod Visiting
+pub mod Stretches
+pub mod Learning
+pub mod Attaching

@@ -1,0 +1,221 @@
+-- How a solver's state changes.
+use Rattle.cdcl.specs.Trail.{At}
+use Rattle.std.proofs.Common.{take, ◌≡◌, ℕ, zero, suc, ◌<◌, ◌≤◌, ◌+◌, ◌-◌, List, [], ◌∷◌, ◌++◌, ◌⊎◌, inl, inr, refl, sym, ◌∙◌, ap, subst, arith, length, get_or, Option, Some}
+use Rattle.std.specs.Prelude.{Contains}
+use Rattle.std.proofs.lemmas.List.{length-map, map-append, take-append-le, length-take, take_all}
+use Rattle.std.proofs.lemmas.List.Elements.{Contains-push_cases, Contains-append_left, Contains-push}
+use Rattle.cnf_form.specs.declared.formula.Lit.{Lit}
+use Rattle.cnf_form.specs.declared.formula.Clause.{Clause}
+use Rattle.cnf_form.specs.Literals.{OthersDenied, literals}
+use Rattle.cdcl.specs.Settled.{IsSettled, AllSettled}
+use Rattle.cdcl.specs.declared.trail.Entry.{Entry}
+use Rattle.cdcl.specs.Trail.{held, ArePlaces, AllInRange, AllLow}
+use Rattle.cdcl.specs.Analysis.{IsForcedBy}
+use Rattle.cdcl.specs.State.{IsState}
+use Rattle.cdcl.proofs.Works.{At-same, At-take, At-contains}
+use Rattle.cdcl.proofs.Places.{At-push_cases, At-push_old, At-push_new}
+
+pub take_of_take : {X : Type 0} (p s : ℕ) (xs : List X) → p ≤ s → take p (take s xs) ≡ take p xs
+take_of_take zero s xs h = refl
+take_of_take (suc p) zero xs h = absurd (omega arith)
+take_of_take (suc p) (suc s) [] h = refl
+take_of_take {X} (suc p) (suc s) (x ∷ xs) h = ap (λ (ys : List X). x ∷ ys) (take_of_take p s xs (omega arith))
+
+pub held_take : (s : ℕ) (trail : List Entry) → held (take s trail) ≡ take s (held trail)
+held_take zero trail = refl
+held_take (suc s) [] = refl
+held_take (suc s) (e ∷ trail) = ap (λ (ys : List Lit). e.lit ∷ ys) (held_take s trail)
+
+pub held_push : (trail : List Entry) (e : Entry) → held (trail ++ e ∷ []) ≡ held trail ++ e.lit ∷ []
+held_push trail e = map-append (λ (x : Entry). x.lit) trail (e ∷ [])
+
+pub length_held : (trail : List Entry) → length (held trail) ≡ length trail
+length_held trail = length-map trail (λ (x : Entry). x.lit)
+
+pub length_push : {X : Type 0} (xs : List X) (x : X) → length (xs ++ x ∷ []) ≡ length xs + 1
+length_push [] x = refl
+length_push (y ∷ ys) x = let r = length_push ys x in omega (arith, r)
+
+-- what stands before a place stays when more is put on
+pub take_put : (p : ℕ) (trail : List Entry) (e : Entry) → p ≤ length trail → take p (held (trail ++ e ∷ [])) ≡ take p (held trail)
+take_put p trail e h =
+    let l : p ≤ length (held trail) = let k = length_held trail in omega (arith, k) in
+    ap (λ (xs : List Lit). take p xs) (held_push trail e) ∙ take-append-le p (held trail) (e.lit ∷ []) l
+
+pub take_cut : (p s : ℕ) (trail : List Entry) → p ≤ s → take p (held (take s trail)) ≡ take p (held trail)
+take_cut p s trail h = ap (λ (xs : List Lit). take p xs) (held_take s trail) ∙ take_of_take p s (held trail) h
+
+forced_by_same : (db : List (List Lit)) (t u : List Lit) (p : ℕ) (e : Entry) → take p t ≡ take p u → IsForcedBy db t p e → IsForcedBy db u p e
+forced_by_same db t u p e same f = record {
+  reason = f.reason;
+  clause = f.clause;
+  is = f.is;
+  there = f.there;
+  inside = f.inside;
+  others = subst (λ (xs : List Lit). OthersDenied xs f.clause e.lit) same f.others;
+}
+
+contains_cut : (s : ℕ) (trail : List Entry) (l : Lit) → Contains (held (take s trail)) l → Contains (held trail) l
+contains_cut s trail l i =
+    let j : Contains (take s (held trail)) l = subst (λ (xs : List Lit). Contains xs l) (held_take s trail) i in
+    let a = At-take s (held trail) j.0 l (j.1, j.2) in At-contains (held trail) j.0 l a.1
+
+-- the last level's start is the highest
+pub below_last : (starts : List ℕ) (s x : ℕ) → ((i j a b : ℕ) → i < j → At (starts ++ s ∷ []) i a → At (starts ++ s ∷ []) j b → a < b)
+    → Contains starts x → x < s
+below_last starts s x rising i = rising i.0 (length starts) x s i.1 (At-push_old starts (s ∷ []) i.0 x (i.1, i.2)) (At-push_new starts s)
+
+-- the last level is left
+pub state_back : (db : List (List Lit)) (trail : List Entry) (places places' : List (Option ℕ)) (starts : List ℕ) (s : ℕ)
+    → IsState db trail places (starts ++ s ∷ []) → ArePlaces (held (take s trail)) places' → length places' ≡ length places
+    → IsState db (take s trail) places' starts
+state_back db trail places places' starts s st are len =
+    let lower : (x : ℕ) → Contains starts x → x < s = λ x i. below_last starts s x st.rising i in
+    record {
+      places_are = are;
+      held_in = λ l i. let r = st.held_in l (contains_cut s trail l i) in omega (arith, r, len);
+      held_low = λ l i. st.held_low l (contains_cut s trail l i);
+      db_low = st.db_low;
+      db_in = λ c i l j. let r = st.db_in c i l j in omega (arith, r, len);
+      rising = λ i j a b h x y. st.rising i j a b h (At-push_old starts (s ∷ []) i a x) (At-push_old starts (s ∷ []) j b y);
+      under = λ x i. let r = lower x i in let q = length-take s trail in let w = st.under s (Contains-push starts s) in omega (arith, q);
+      forced = λ p n e a.
+          let b = At-take s trail p e a in
+          forced_by_same db (held trail) (held (take s trail)) p e (sym (take_cut p s trail (omega (arith, b.0))))
+          (st.forced p (λ i. elim (Contains-push_cases starts s p i) [ inl j ↦ n j | inr q ↦ absurd (omega (arith, q, b.0)) ]) e b.1);
+      ended = λ x i. let r = lower x i in
+          subst (λ (xs : List Lit). AllSettled xs db) (sym (take_cut x s trail (omega (arith, r)))) (st.ended x (Contains-append_left starts (s ∷ []) x i));
+    }
+
+-- a forced literal is put on the trail
+pub state_forced : (db : List (List Lit)) (trail : List Entry) (places places' : List (Option ℕ)) (starts : List ℕ) (l : Lit) (r : ℕ) (c : List Lit) (e : Entry)
+    → e.lit ≡ l → e.reason ≡ Some r → IsState db trail places starts → At db r c → Contains c l → OthersDenied (held trail) c l → l.var < length places
+    → ArePlaces (held (trail ++ e ∷ [])) places' → length places' ≡ length places → IsState db (trail ++ e ∷ []) places' starts
+state_forced db trail places places' starts l r c e el er st at inside others range are len = record {
+  places_are = are;
+  held_in = λ m i. elim (Contains-push_cases (held trail) e.lit m (subst (λ (xs : List Lit). Contains xs m) (held_push trail e) i)) [
+    | inl j ↦ let q = st.held_in m j in omega (arith, q, len)
+    | inr q ↦ let v : m.var ≡ l.var = ap (λ (x : Lit). x.var) (sym q ∙ el) in omega (arith, v, range, len)
+  ];
+  held_low = λ m i. elim (Contains-push_cases (held trail) e.lit m (subst (λ (xs : List Lit). Contains xs m) (held_push trail e) i)) [
+    | inl j ↦ st.held_low m j
+    | inr q ↦ let v : m.var ≡ l.var = ap (λ (x : Lit). x.var) (sym q ∙ el) in
+        let k = st.db_low c (At-contains db r c at) l inside in omega (arith, v, k)
+  ];
+  db_low = st.db_low;
+  db_in = λ d i m j. let q = st.db_in d i m j in omega (arith, q, len);
+  rising = st.rising;
+  under = λ s i. let q = st.under s i in let w = length_push trail e in omega (arith, q, w);
+  forced = λ p n x a. elim (At-push_cases trail e p x a) [
+    | inl b ↦ forced_by_same db (held trail) (held (trail ++ e ∷ [])) p x (sym (take_put p trail e (omega (arith, b.0)))) (st.forced p n x b)
+    | inr b ↦ subst (λ (y : Entry). IsForcedBy db (held (trail ++ e ∷ [])) p y) b.1 (record {
+      reason = r;
+      clause = c;
+      is = er;
+      there = at;
+      inside = subst (λ (y : Lit). Contains c y) (sym el) inside;
+      others = subst (λ (xs : List Lit). OthersDenied xs c e.lit) (sym (whole p b.0)) (subst (λ (y : Lit). OthersDenied (held trail) c y) (sym el) others);
+    })
+  ];
+  ended = λ s i. let q = st.under s i in subst (λ (xs : List Lit). AllSettled xs db) (sym (take_put s trail e (omega (arith, q)))) (st.ended s i);
+}
+  where
+    whole : (p : ℕ) → p ≡ length trail → take p (held (trail ++ e ∷ [])) ≡ held trail
+    whole p h = take_put p trail e (omega (arith, h)) ∙ take_all p (held trail) (let k = length_held trail in omega (arith, k, h))
+
+-- a decision starts a level
+pub state_decided : (db : List (List Lit)) (trail : List Entry) (places places' : List (Option ℕ)) (starts : List ℕ) (e : Entry)
+    → IsState db trail places starts → AllSettled (held trail) db → 1 ≤ e.lit.var → e.lit.var < length places
+    → ArePlaces (held (trail ++ e ∷ [])) places' → length places' ≡ length places → IsState db (trail ++ e ∷ []) places' (starts ++ length trail ∷ [])
+state_decided db trail places places' starts e st settled low range are len = record {
+  places_are = are;
+  held_in = λ m i. elim (Contains-push_cases (held trail) e.lit m (subst (λ (xs : List Lit). Contains xs m) (held_push trail e) i)) [
+    | inl j ↦ let q = st.held_in m j in omega (arith, q, len)
+    | inr q ↦ let v : e.lit.var ≡ m.var = ap (λ (x : Lit). x.var) q in omega (arith, v, range, len)
+  ];
+  held_low = λ m i. elim (Contains-push_cases (held trail) e.lit m (subst (λ (xs : List Lit). Contains xs m) (held_push trail e) i)) [
+    | inl j ↦ st.held_low m j
+    | inr q ↦ let v : e.lit.var ≡ m.var = ap (λ (x : Lit). x.var) q in omega (arith, v, low)
+  ];
+  db_low = st.db_low;
+  db_in = λ d i m j. let q = st.db_in d i m j in omega (arith, q, len);
+  rising = λ i j a b h x y. elim (At-push_cases starts (length trail) j b y) [
+    | inl v ↦ elim (At-push_cases starts (length trail) i a x) [
+      | inl u ↦ st.rising i j a b h u v
+      | inr u ↦ absurd (omega (arith, u.0, v.0, h))
+    ]
+    | inr v ↦ elim (At-push_cases starts (length trail) i a x) [
+      | inl u ↦ let q = st.under a (i, u.0, u.1) in omega (arith, q, v.1)
+      | inr u ↦ absurd (omega (arith, u.0, v.0, h))
+    ]
+  ];
+  under = λ s i. let w = length_push trail e in elim (Contains-push_cases starts (length trail) s i) [
+    | inl j ↦ let q = st.under s j in omega (arith, q, w)
+    | inr q ↦ omega (arith, q, w)
+  ];
+  forced = λ p n x a. elim (At-push_cases trail e p x a) [
+    | inl b ↦ forced_by_same db (held trail) (held (trail ++ e ∷ [])) p x (sym (take_put p trail e (omega (arith, b.0))))
+        (st.forced p (λ i. n (Contains-append_left starts (length trail ∷ []) p i)) x b)
+    | inr b ↦ absurd (n (subst (λ (k : ℕ). Contains (starts ++ length trail ∷ []) k) (sym b.0) (Contains-push starts (length trail))))
+  ];
+  ended = λ s i. elim (Contains-push_cases starts (length trail) s i) [
+    | inl j ↦ let q = st.under s j in subst (λ (xs : List Lit). AllSettled xs db) (sym (take_put s trail e (omega (arith, q)))) (st.ended s j)
+    | inr q ↦ subst (λ (xs : List Lit). AllSettled xs db) (sym (whole s (sym q))) settled
+  ];
+}
+  where
+    whole : (p : ℕ) → p ≡ length trail → take p (held (trail ++ e ∷ [])) ≡ held trail
+    whole p h = take_put p trail e (omega (arith, h)) ∙ take_all p (held trail) (let k = length_held trail in omega (arith, k, h))
+
+-- a clause is learnt
+pub state_learnt : (db : List (List Lit)) (trail : List Entry) (places : List (Option ℕ)) (starts : List ℕ) (c : List Lit)
+    → IsState db trail places starts → AllInRange c (length places) → AllLow c → ((s : ℕ) → Contains starts s → IsSettled (take s (held trail)) c)
+    → IsState (db ++ c ∷ []) trail places starts
+state_learnt db trail places starts c st range low settled = record {
+  places_are = st.places_are;
+  held_in = st.held_in;
+  held_low = st.held_low;
+  db_low = λ d i. elim (Contains-push_cases db c d i) [ inl j ↦ st.db_low d j | inr e ↦ subst AllLow e low ];
+  db_in = λ d i. elim (Contains-push_cases db c d i) [ inl j ↦ st.db_in d j | inr e ↦ subst (λ (x : List Lit). AllInRange x (length places)) e range ];
+  rising = st.rising;
+  under = st.under;
+  forced = λ p n e a. let f = st.forced p n e a in record {
+    reason = f.reason;
+    clause = f.clause;
+    is = f.is;
+    there = At-push_old db (c ∷ []) f.reason f.clause f.there;
+    inside = f.inside;
+    others = f.others;
+  };
+  ended = λ s i d j. elim (Contains-push_cases db c d j) [ inl k ↦ st.ended s i d k | inr e ↦ subst (λ (x : List Lit). IsSettled (take s (held trail)) x) e (settled s i) ];
+}
+
+-- the clause at an index
+pub db_at : (cs : List Clause) (k : ℕ) → k < length cs → (c : List Lit) × At (literals cs) k c
+db_at [] k h = absurd (omega arith)
+db_at (c ∷ cs) zero h = (c.lits, (omega arith, refl))
+db_at (c ∷ cs) (suc k) h = let r = db_at cs k (omega arith) in (r.0, (omega (arith, r.1.0), r.1.1))
+
+pub literals_count : (cs : List Clause) → length (literals cs) ≡ length cs
+literals_count cs = length-map cs (λ (c : Clause). c.lits)
+
+pub prefix_more : {X : Type 0} (new old first : List X) (s : ℕ) → new ≡ take s old → (k : ℕ) × (old ≡ take k first) → (k : ℕ) × (new ≡ take k first)
+prefix_more {X} new old first s e p = elim (cases s p.0) [
+  | inl h ↦ (s, e ∙ ap (λ (xs : List X). take s xs) p.1 ∙ take_of_take s p.0 first h)
+  | inr h ↦ (p.0, e ∙ take_all s old (shorter h) ∙ p.1)
+]
+  where
+    cases : (a b : ℕ) → (a ≤ b) ⊎ (b ≤ a)
+    cases a b = grind arith
+
+    shorter : p.0 ≤ s → length old ≤ s
+    shorter h = let l : length old ≡ length (take p.0 first) = ap (λ (xs : List X). length xs) p.1 in let q = length-take p.0 first in omega (arith, l, q, h)
+
+pub last_is : (xs ys : List ℕ) (s n x : ℕ) → xs ≡ ys ++ s ∷ [] → n ≡ length xs → x ≡ get_or xs (n - 1) x → x ≡ s
+last_is xs ys s n x e len at =
+    let l : length xs ≡ length ys + 1 = ap (λ (zs : List ℕ). length zs) e ∙ length_push ys s in
+    let i : n - 1 ≡ length ys = omega (arith, l, len) in
+    let a : get_or (ys ++ s ∷ []) (length ys) x ≡ x =
+    subst (λ (k : ℕ). get_or (ys ++ s ∷ []) k x ≡ x) i (subst (λ (zs : List ℕ). get_or zs (n - 1) x ≡ x) e (sym at)) in
+    let new = At-push_new ys s in
+    At-same (ys ++ s ∷ []) (length ys) x s (new.0, a) new

@@ -1,0 +1,42 @@
+use Rattle.std.proofs.Common.{◌≡◌, ◌++◌, ◌∷◌, [], ℕ, None, List, sym, subst, ap, length, ◌∙◌, arith}
+use Rattle.cnf_form.specs.declared.formula.Lit.{Lit}
+use Rattle.cnf_form.specs.Literals.{literals}
+use Rattle.cdcl.specs.declared.trail.Entry.{Entry}
+use Rattle.cdcl.specs.Trail.{held, ArePlaces}
+use Rattle.cdcl.specs.State.{IsState}
+use Rattle.cdcl.specs.Watching.{IsListed, IsWatching, AreLists}
+use Rattle.std.specs.Prelude.{false}
+use Rattle.cdcl.proofs.States.{state_decided, held_push, length_held}
+use Rattle.cdcl.proofs.WatchState.{watching_level, watching_put}
+use Rattle.cdcl.proofs.solver.Solver.decide.Goals as goal
+
+pub returns-clause-ready : goal.returns-clause-ready
+returns-clause-ready c =
+    let self = c.args.self.now in
+    let entry : Entry = record { lit = record { var = c.args.var; positive = false }; reason = None } in
+    let db = literals self.clauses.items in
+    let trail = self.trail.items in
+    let R = IsListed self.lists.items in
+    let ready = c.requires.ready in
+    let e = c.in_ok-put.ensures.trail in
+    let start : length trail ≡ c.len-start.result = omega (arith, c.len-start.ensures, self.trail.ok) in
+    let starts : self.starts.items ++ length trail ∷ [] ≡ c.push.new.self.items =
+    ap (λ (n : ℕ). self.starts.items ++ n ∷ []) start ∙ sym c.in_ok-push.ensures.items in
+    let t : held c.put.new.trail.items ≡ held trail ++ entry.lit ∷ [] = ap held e ∙ held_push trail entry in
+    let len = length_held trail in
+    record {
+      watchful = record {
+        sound = subst (λ (ss : List ℕ). IsState db c.put.new.trail.items c.put.new.places.items ss) starts
+            (subst (λ (es : List Entry). IsState db es c.put.new.places.items (self.starts.items ++ length trail ∷ [])) (sym e)
+            (state_decided db trail self.places.items c.put.new.places.items self.starts.items entry
+            ready.watchful.sound c.requires.still c.requires.low c.requires.range
+            (subst (λ (es : List Entry). ArePlaces (held es) c.put.new.places.items) e c.in_ok-put.ensures.places) c.put.ensures.len));
+        watching = subst (λ (ss : List ℕ). IsWatching R db (held c.put.new.trail.items) ss self.head self.pairs.items) starts
+            (subst (λ (xs : List Lit). IsWatching R db xs (self.starts.items ++ length trail ∷ []) self.head self.pairs.items) (sym t)
+            (watching_put R db (held trail) (self.starts.items ++ length trail ∷ []) self.head self.pairs.items entry.lit
+            (subst (λ (n : ℕ). IsWatching R db (held trail) (self.starts.items ++ n ∷ []) self.head self.pairs.items) len
+            (watching_level R db (held trail) self.starts.items self.head self.pairs.items (omega (arith, len, c.requires.whole)) ready.watchful.watching))));
+        lists = subst (λ (n : ℕ). AreLists self.lists.items n (length self.pairs.items)) (sym c.put.ensures.len) ready.watchful.lists;
+      };
+      all = ready.all;
+    }

@@ -1,0 +1,142 @@
+use Rattle.std.proofs.Common.{◌≡◌, ◌<◌, ◌+◌, ℕ, List, ◌∷◌, ◌++◌, [], take, drop, set, get_or, length, refl, ◌∙◌, ap, subst, arith}
+use Rattle.std.specs.Prelude.{Vec}
+use Rattle.std.specs.declared.alloc.Global.{Global}
+use Rattle.std.proofs.lemmas.List.{length-set}
+use Rattle.cdcl.specs.declared.solver.Visit.{Visit}
+use Rattle.cdcl.specs.declared.solver.Visit.TheVariants.{Conflict}
+use Rattle.cdcl.specs.Trail.{held}
+use Rattle.cdcl.specs.Watching.{code_of}
+use Rattle.cdcl.specs.Looking.{IsLookingAt, VisitIs}
+use Rattle.cdcl.proofs.Stretches.{next_index, drop_end, append_none}
+use Rattle.cdcl.proofs.Visiting.{code_in, first_at, last_at, grown_same, grown_more, stays_more, stays_all, dropped_next, kept_next}
+use Rattle.cdcl.proofs.solver.Solver.look_through.Goals.{in-Dropped, in-Kept}
+use Rattle.cdcl.proofs.solver.Solver.look_through.Goals as goal
+
+pub loop-at-init : goal.loop-at-init
+loop-at-init c =
+    let s = c.args.self.now in
+    let t = c.take_list-list in
+    let own : t.result.items ≡ get_or s.lists.items (code_of c.args.lit) [] = t.ensures.taken ∙ ap (λ (i : ℕ). get_or s.lists.items i []) c.code.ensures in
+    let left : t.new.lists.items ≡ set s.lists.items (code_of c.args.lit) [] = t.ensures.left ∙ ap (λ (i : ℕ). set s.lists.items i []) c.code.ensures in
+    record {
+      order = omega arith;
+      len = omega (arith, c.len-at-end.ensures, t.result.ok);
+      looking = first_at s c.args.lit t.new.lists t.result.items c.requires.ready c.requires.next own left;
+      stays = record { clauses = refl; starts = refl; head = refl; count = refl; len = refl };
+      grows = grown_same (held s.trail.items);
+    }
+
+pub put_list-requires : goal.put_list-requires
+put_list-requires c =
+    let list = c.loop-at.list.items in
+    let kept = c.loop-at.kept in
+    let at = c.loop-at.at in
+    let x = c.index-index.result.now in
+    let h : at < length list = omega (arith, c.loop-at-test.true, c.loop-at.invariant.len) in
+    let next : drop at list ≡ x ∷ drop (at + 1) list = next_index list at x h c.index-index.ensures in
+    let l : IsLookingAt c.loop-at.self c.args.lit (take kept list) (x ∷ drop (at + 1) list) =
+    subst (λ (xs : List ℕ). IsLookingAt c.loop-at.self c.args.lit (take kept list) xs) next c.loop-at.invariant.looking in
+    let visited : VisitIs c.visit.new.self c.args.lit (take kept list) (drop (at + 1) list) x c.in_ok-visit.field-0 = c.in_ok-visit.ensures.visit (take kept list) (drop (at + 1) list) l in
+    let f : VisitIs c.visit.new.self c.args.lit (take kept list) (drop (at + 1) list) x Conflict =
+    subst (λ (v : Visit). VisitIs c.visit.new.self c.args.lit (take kept list) (drop (at + 1) list) x v) c.in-Conflict.is visited in
+    let range = code_in c.visit.new.self c.args.lit f.0.sound f.0.denied in
+    omega (arith, range, f.0.lists_are.room, c.code-in-Conflict.ensures)
+
+pub returns-in-Conflict-clause-ready : goal.returns-in-Conflict-clause-ready
+returns-in-Conflict-clause-ready c =
+    let list = c.loop-at.list.items in
+    let kept = c.loop-at.kept in
+    let at = c.loop-at.at in
+    let x = c.index-index.result.now in
+    let h : at < length list = omega (arith, c.loop-at-test.true, c.loop-at.invariant.len) in
+    let next : drop at list ≡ x ∷ drop (at + 1) list = next_index list at x h c.index-index.ensures in
+    let l : IsLookingAt c.loop-at.self c.args.lit (take kept list) (x ∷ drop (at + 1) list) =
+    subst (λ (xs : List ℕ). IsLookingAt c.loop-at.self c.args.lit (take kept list) xs) next c.loop-at.invariant.looking in
+    let visited : VisitIs c.visit.new.self c.args.lit (take kept list) (drop (at + 1) list) x c.in_ok-visit.field-0 = c.in_ok-visit.ensures.visit (take kept list) (drop (at + 1) list) l in
+    let f : VisitIs c.visit.new.self c.args.lit (take kept list) (drop (at + 1) list) x Conflict =
+    subst (λ (v : Visit). VisitIs c.visit.new.self c.args.lit (take kept list) (drop (at + 1) list) x v) c.in-Conflict.is visited in
+    let own : c.close_gap.new.list.items ≡ take kept list ++ x ∷ drop (at + 1) list = c.close_gap.ensures ∙ ap (λ (ys : List ℕ). take kept list ++ ys) next in
+    let put : c.put_list.new.lists.items ≡ set c.visit.new.self.lists.items (code_of c.args.lit) c.close_gap.new.list.items =
+    c.put_list.ensures ∙ ap (λ (i : ℕ). set c.visit.new.self.lists.items i c.close_gap.new.list.items) c.code-in-Conflict.ensures in
+    let all = stays_all c.args.self.now c.visit.new.self (stays_more c.args.self.now c.loop-at.self c.visit.new.self c.loop-at.invariant.stays c.visit.ensures.stays) c.requires.ready.all in
+    last_at c.visit.new.self c.args.lit c.put_list.new.lists (take kept list) (x ∷ drop (at + 1) list) c.close_gap.new.list.items all own put f.0
+
+pub returns-in-Conflict-clause-conflict : goal.returns-in-Conflict-clause-conflict
+returns-in-Conflict-clause-conflict c =
+    let list = c.loop-at.list.items in
+    let kept = c.loop-at.kept in
+    let at = c.loop-at.at in
+    let x = c.index-index.result.now in
+    let h : at < length list = omega (arith, c.loop-at-test.true, c.loop-at.invariant.len) in
+    let next : drop at list ≡ x ∷ drop (at + 1) list = next_index list at x h c.index-index.ensures in
+    let l : IsLookingAt c.loop-at.self c.args.lit (take kept list) (x ∷ drop (at + 1) list) =
+    subst (λ (xs : List ℕ). IsLookingAt c.loop-at.self c.args.lit (take kept list) xs) next c.loop-at.invariant.looking in
+    let visited : VisitIs c.visit.new.self c.args.lit (take kept list) (drop (at + 1) list) x c.in_ok-visit.field-0 = c.in_ok-visit.ensures.visit (take kept list) (drop (at + 1) list) l in
+    let f : VisitIs c.visit.new.self c.args.lit (take kept list) (drop (at + 1) list) x Conflict =
+    subst (λ (v : Visit). VisitIs c.visit.new.self c.args.lit (take kept list) (drop (at + 1) list) x v) c.in-Conflict.is visited in
+    f.1
+
+pub loop-at-preserved : goal.loop-at-preserved
+loop-at-preserved c =
+    let list = c.loop-at.list.items in
+    let kept = c.loop-at.kept in
+    let at = c.loop-at.at in
+    let x = c.index-index.result.now in
+    let h : at < length list = omega (arith, c.loop-at-test.true, c.loop-at.invariant.len) in
+    let next : drop at list ≡ x ∷ drop (at + 1) list = next_index list at x h c.index-index.ensures in
+    let l : IsLookingAt c.loop-at.self c.args.lit (take kept list) (x ∷ drop (at + 1) list) =
+    subst (λ (xs : List ℕ). IsLookingAt c.loop-at.self c.args.lit (take kept list) xs) next c.loop-at.invariant.looking in
+    let visited : VisitIs c.visit.new.self c.args.lit (take kept list) (drop (at + 1) list) x c.in_ok-visit.field-0 = c.in_ok-visit.ensures.visit (take kept list) (drop (at + 1) list) l in
+    let new = c.match-branch-2 in
+    let stays = stays_more c.args.self.now c.loop-at.self c.visit.new.self c.loop-at.invariant.stays c.visit.ensures.stays in
+    let grows = grown_more (held c.args.self.now.trail.items) (held c.loop-at.self.trail.items) (held c.visit.new.self.trail.items) c.loop-at.invariant.grows c.in_ok-visit.ensures.grows in
+    elim c.match-branch-2.branch [
+      | in-Dropped w ↦
+          let same : new.list.items ≡ list = ap (λ (v : Vec ℕ Global). v.items) w.list-is in
+          let d : IsLookingAt c.visit.new.self c.args.lit (take kept list) (drop (at + 1) list) =
+          subst (λ (v : Visit). VisitIs c.visit.new.self c.args.lit (take kept list) (drop (at + 1) list) x v) w.in-Dropped.is visited in
+          record {
+            order = omega (arith, c.loop-at.invariant.order, w.kept-is);
+            len = ap (λ (xs : List ℕ). length xs) same ∙ c.loop-at.invariant.len;
+            looking = dropped_next c.visit.new.self c.args.lit kept at new.kept list new.list.items w.kept-is same d;
+            stays = stays;
+            grows = grows;
+          }
+      | in-Kept w ↦
+          let put : new.list.items ≡ set list kept x = ap (λ (v : Vec ℕ Global). v.items) w.list-is in
+          let d : IsLookingAt c.visit.new.self c.args.lit (take kept list ++ x ∷ []) (drop (at + 1) list) =
+          subst (λ (v : Visit). VisitIs c.visit.new.self c.args.lit (take kept list) (drop (at + 1) list) x v) w.in-Kept.is visited in
+          record {
+            order = omega (arith, c.loop-at.invariant.order, w.kept-is);
+            len = ap (λ (xs : List ℕ). length xs) put ∙ length-set list kept x ∙ c.loop-at.invariant.len;
+            looking = kept_next c.visit.new.self c.args.lit kept at new.kept x list new.list.items c.loop-at.invariant.order h w.kept-is put d;
+            stays = stays;
+            grows = grows;
+          }
+    ]
+
+pub put_list-requires-2 : goal.put_list-requires-2
+put_list-requires-2 c =
+    let l = c.loop-at.invariant.looking in
+    let range = code_in c.loop-at.self c.args.lit l.sound l.denied in
+    omega (arith, range, l.lists_are.room, c.code-2.ensures)
+
+pub returns-clause-ready : goal.returns-clause-ready
+returns-clause-ready c =
+    let list = c.loop-at.list.items in
+    let kept = c.loop-at.kept in
+    let none : drop c.loop-at.at list ≡ [] = drop_end list c.loop-at.at (omega (arith, c.loop-at-test.false, c.loop-at.invariant.len)) in
+    let l : IsLookingAt c.loop-at.self c.args.lit (take kept list) [] =
+    subst (λ (xs : List ℕ). IsLookingAt c.loop-at.self c.args.lit (take kept list) xs) none c.loop-at.invariant.looking in
+    let put : c.put_list-2.new.lists.items ≡ set c.loop-at.self.lists.items (code_of c.args.lit) c.truncate.new.self.items =
+    c.put_list-2.ensures ∙ ap (λ (i : ℕ). set c.loop-at.self.lists.items i c.truncate.new.self.items) c.code-2.ensures in
+    last_at c.loop-at.self c.args.lit c.put_list-2.new.lists (take kept list) [] c.truncate.new.self.items
+    (stays_all c.args.self.now c.loop-at.self c.loop-at.invariant.stays c.requires.ready.all) (c.truncate.ensures.items ∙ append_none (take kept list)) put l
+
+pub returns-clause-conflict : goal.returns-clause-conflict
+returns-clause-conflict c =
+    let list = c.loop-at.list.items in
+    let none : drop c.loop-at.at list ≡ [] = drop_end list c.loop-at.at (omega (arith, c.loop-at-test.false, c.loop-at.invariant.len)) in
+    let l : IsLookingAt c.loop-at.self c.args.lit (take c.loop-at.kept list) [] =
+    subst (λ (xs : List ℕ). IsLookingAt c.loop-at.self c.args.lit (take c.loop-at.kept list) xs) none c.loop-at.invariant.looking in
+    l.pending

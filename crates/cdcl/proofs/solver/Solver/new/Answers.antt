@@ -1,0 +1,31 @@
+use Rattle.std.proofs.Common.{◌≡◌, ◌+◌, ℕ, List, Option, None, length, subst, sym, ap, ◌∙◌, refl}
+use Rattle.std.specs.Prelude.{Contains}
+use Rattle.std.proofs.lemmas.List.{length-replicate}
+use Rattle.cnf_form.specs.declared.formula.Lit.{Lit}
+use Rattle.cnf_form.specs.Literals.{literals}
+use Rattle.cdcl.specs.Trail.{AllLow}
+use Rattle.cdcl.specs.Analysis.{AreAllInRange}
+use Rattle.cdcl.specs.Watching.{IsListed, AreLists}
+use Rattle.cdcl.proofs.Values.{state_first, watching_first}
+use Rattle.cdcl.proofs.solver.Solver.new.Goals as goal
+
+pub returns-clause-new : goal.returns-clause-new
+returns-clause-new c =
+    let n = c.args.cnf.now.vars + 1 in
+    let db = literals c.in_ok-copy_clauses.field-0.items in
+    let same : literals c.args.cnf.now.clauses ≡ db = ap literals (sym c.as_slice.ensures) ∙ sym c.in_ok-copy_clauses.ensures in
+    let lists = c.in_ok-no_lists.field-0.items in
+    let len : n ≡ length c.in_ok-no_places.field-0.items =
+    sym (length-replicate n (let o : Option ℕ = None in o)) ∙ ap (λ (ps : List (Option ℕ)). length ps) (sym c.in_ok-no_places.ensures) in
+    record {
+      watchful = record {
+        sound = rw (c.new.ensures.items, c.new-2.ensures.items, c.in_ok-no_places.ensures)
+            (state_first db n
+            (subst (λ (d : List (List Lit)). AreAllInRange d n) same c.requires.range)
+            (subst (λ (d : List (List Lit)). (x : List Lit) → Contains d x → AllLow x) same c.requires.low));
+        watching = rw (c.new.ensures.items, c.new-2.ensures.items, c.new-3.ensures.items) (watching_first (IsListed lists) db);
+        lists = rw c.new-3.ensures.items (subst (λ (m : ℕ). AreLists lists m 0) len c.in_ok-no_lists.ensures);
+      };
+      first = record { starts = c.new-2.ensures.items; head = refl };
+      none = c.new-3.ensures.items;
+    }

@@ -1,0 +1,15 @@
+use Rattle.std.proofs.Common.{◌≡◌, ◌≤◌, ◌-◌, length}
+use Rattle.cdcl.specs.Looking.{IsReady}
+use Rattle.cdcl.proofs.solver.Solver.propagate.Given as goal
+
+abbrev pub invariant-loop-self : goal.invariant-loop-self
+invariant-loop-self l = record {
+  ready : IsReady l.self;
+  grows : length l.initial.self.trail.items ≤ length l.self.trail.items;
+  clauses : l.self.clauses ≡ l.initial.self.clauses;
+  starts : l.self.starts ≡ l.initial.self.starts;
+  len : length l.self.places.items ≡ length l.initial.self.places.items;
+}
+
+abbrev pub decreases-loop-self : goal.decreases-loop-self
+decreases-loop-self l = length l.self.places.items - l.self.head

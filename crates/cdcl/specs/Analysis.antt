@@ -1,0 +1,88 @@
+-- What is learnt from a conflict.
+use Rattle.cdcl.specs.Trail.{At}
+use Rattle.std.specs.Prelude.{◌≡◌, ◌<◌, ◌≤◌, ◌+◌, ℕ, Bool, true, false, ℤ, pos, ◌⊎◌, List, [], ◌∷◌, ◌++◌, Some, length, slice_index_or, map, Contains, take}
+use Rattle.cnf_form.specs.declared.formula.Lit.{Lit}
+use Rattle.cnf_form.specs.Literals.{Denied, AllDenied, OthersDenied, IsUnit, opposite}
+use Rattle.cnf_form.specs.Spent.{NoVarTwice}
+use Rattle.cdcl.specs.declared.trail.Entry.{Entry}
+use Rattle.cdcl.specs.Trail.{held, AllInRange}
+
+abbrev pub IsSeen : List Bool → ℕ → Type 0
+IsSeen seen v = slice_index_or seen v false ≡ true
+
+abbrev pub AllSeen : List Bool → List Lit → Type 0
+AllSeen seen c = (m : Lit) → Contains c m → IsSeen seen m.var
+
+-- no literal from the one place up to the other is marked
+abbrev pub NoneSeen : List Lit → ℕ → ℕ → List Bool → Type 0
+NoneSeen t start end seen = (p : ℕ) (l : Lit) → start ≤ p → p < end → At t p l → IsSeen seen l.var → ⊥
+
+-- the marked variables below the level, and the denied literals kept of them
+pub record AreMarks (t : List Lit) (start : ℕ) (seen : List Bool) (lower : List Lit) : Type 0 where
+  pub kept : (p : ℕ) (l : Lit) → p < start → At t p l → IsSeen seen l.var → Contains lower (opposite l)
+  pub below : (m : Lit) → Contains lower m → Denied (take start t) m
+  pub marked : (m : Lit) → Contains lower m → IsSeen seen m.var
+  pub once : NoVarTwice lower
+
+-- marks are only added
+pub record Grow (seen seen' : List Bool) (lower lower' : List Lit) : Type 0 where
+  pub same : length seen' ≡ length seen
+  pub seen_more : (v : ℕ) → IsSeen seen v → IsSeen seen' v
+  pub lower_more : (m : Lit) → Contains lower m → Contains lower' m
+
+-- the entry's literal was forced by a clause, whose other literals were denied before it
+pub record IsForcedBy (db : List (List Lit)) (t : List Lit) (p : ℕ) (e : Entry) : Type 0 where
+  pub reason : ℕ
+  pub clause : List Lit
+  pub is : e.reason ≡ Some reason
+  pub there : At db reason clause
+  pub inside : Contains clause e.lit
+  pub others : OthersDenied (take p t) clause e.lit
+
+-- each entry after the level's first was forced
+abbrev pub AreForcedAfter : List (List Lit) → List Entry → ℕ → Type 0
+AreForcedAfter db trail start = (p : ℕ) (e : Entry) → start < p → At trail p e → IsForcedBy db (held trail) p e
+
+abbrev pub IsForcedAt : List (List Lit) → List Entry → ℕ → Type 0
+IsForcedAt db trail p = (e : Entry) → At trail p e → IsForcedBy db (held trail) p e
+
+abbrev pub AreAllInRange : List (List Lit) → ℕ → Type 0
+AreAllInRange db n = (c : List Lit) → Contains db c → AllInRange c n
+
+abbrev pub IsFalse : List Lit → List (List Lit) → ℕ → Type 0
+IsFalse t db k = (c : List Lit) → At db k c → AllDenied t c
+
+-- what comes before `end` denies the literals, and no less does
+pub record EndIs (t c : List Lit) (end : ℕ) : Type 0 where
+  pub all : (m : Lit) → Contains c m → Denied (take end t) m
+  pub last : (k : ℕ) → end ≡ k + 1 → (m : Lit) × Contains c m × At t k (opposite m)
+
+-- one more than the place of the variable
+abbrev pub AfterIs : List Lit → ℕ → ℕ → Type 0
+AfterIs t v n = (p : ℕ) (l : Lit) → At t p l → l.var ≡ v → n ≡ p + 1
+
+-- Hints that name clauses by their places, from 1: each clause but the last leaves one literal, which is held from then
+-- on, and the last leaves none.
+abbrev pub ChainPasses : List (List Lit) → List Lit → List ℤ → Type 0
+ChainPasses db have' [] = ⊥
+ChainPasses db have' (hint ∷ hints) =
+    (i : ℕ) × (hint ≡ pos (i + 1)) × (c : List Lit) × At db i c × (AllDenied have' c ⊎ ((l : Lit) × IsUnit have' c l × ChainPasses db (l ∷ have') hints))
+
+-- the clause that is learnt: one literal of the conflict's level, and the others denied before it
+pub record IsLesson (db : List (List Lit)) (t : List Lit) (start : ℕ) (lits : List Lit) (hints : List ℤ) (asserted : Lit) (end : ℕ) : Type 0 where
+  pub place : ℕ
+  pub uip : Lit
+  pub lower : List Lit
+  pub asserts : asserted ≡ opposite uip
+  pub ends : EndIs t lower end
+  pub shape : lits ≡ lower ++ opposite uip ∷ []
+  pub there : At t place uip
+  pub after : start ≤ place
+  pub below : (m : Lit) → Contains lower m → Denied (take start t) m
+  pub once : NoVarTwice lits
+  pub passes : ChainPasses db (map opposite lits) hints
+
+-- With a list that holds the marked literals of the level below `place` and denies the kept ones, the hints pass.
+pub record Works (db : List (List Lit)) (t : List Lit) (start : ℕ) (seen : List Bool) (lower : List Lit) (place : ℕ) (hints : List ℤ) : Type 0 where
+  pub chain : (have' : List Lit) → ((l : Lit) → Contains have' l → Contains t l) → ((m : Lit) → Contains lower m → Denied have' m)
+      → ((p : ℕ) (l : Lit) → start ≤ p → p < place → At t p l → IsSeen seen l.var → Contains have' l) → ChainPasses db have' hints

@@ -1,0 +1,11 @@
+pub mod Settled
+pub mod Trail
+pub mod Watching
+pub mod Looks
+pub mod Analysis
+pub mod State
+pub mod Visits
+pub mod Looking
+pub mod Lines
+pub mod Outcomes
+pub mod Tests

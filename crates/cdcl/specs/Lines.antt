@@ -1,0 +1,72 @@
+-- What a search leaves as evidence.
+use Rattle.std.specs.Prelude.{◌≡◌, ◌<◌, ◌≤◌, ◌+◌, ℕ, ℤ, List, [], ◌∷◌, ◌++◌, length, Contains, map}
+use Rattle.cnf_form.specs.declared.formula.Lit.{Lit}
+use Rattle.cnf_form.specs.declared.log.Step.{Step}
+use Rattle.cnf_form.specs.declared.log.Step.TheVariants.{Add, Delete}
+use Rattle.cnf_form.specs.Literals.{opposite}
+use Rattle.cnf_form.specs.Propagation.{ReachesEmpty, StaysOpen}
+use Rattle.cnf_form.specs.Spent.{NoVarTwice, IsNew}
+use Rattle.cdcl.specs.declared.solver.Solver.{Solver}
+use Rattle.cdcl.specs.declared.solver.Verdict.{Verdict}
+use Rattle.cdcl.specs.declared.solver.Verdict.TheVariants.{Sat, Unsat, Spent}
+use Rattle.cdcl.specs.State.{IsSound}
+use Rattle.cdcl.specs.Visits.{IsModelled}
+use Rattle.cdcl.specs.Trail.{AllInRange, AllLow}
+use Rattle.cdcl.specs.Analysis.{ChainPasses}
+
+-- an added clause: its hints pass, and it is new, not empty, and of the formula's variables, each once
+pub record IsLine (db : List (List Lit)) (n : ℕ) (lits : List Lit) (hints : List ℤ) : Type 0 where
+  pub passes : ChainPasses db (map opposite lits) hints
+  pub fresh : IsNew db lits
+  pub once : NoVarTwice lits
+  pub some : (l : Lit) × Contains lits l
+  pub range : AllInRange lits n
+  pub low : AllLow lits
+
+-- the step adds the clause under the id, with the hints
+abbrev pub Adds : Step → ℕ → List Lit → List ℤ → Type 0
+Adds (Add id clause hints) n lits hs = (id ≡ n) × (clause.lits ≡ lits) × (hints ≡ hs)
+Adds (Delete ids) n lits hs = ⊥
+
+abbrev pub added_lits : Step → List Lit
+added_lits (Add id clause hints) = clause.lits
+added_lits (Delete ids) = []
+
+abbrev pub learnt : List Step → List (List Lit)
+learnt steps = map added_lits steps
+
+abbrev pub IsLineStep : List (List Lit) → ℕ → Step → Type 0
+IsLineStep db n (Add id clause hints) = (id ≡ length db + 1) × IsLine db n clause.lits hints
+IsLineStep db n (Delete ids) = ⊥
+
+-- Each added clause is a line over the clauses before it.
+abbrev pub AreLines : List (List Lit) → ℕ → List Step → Type 0
+AreLines db n [] = Unit {0}
+AreLines db n (step ∷ steps) = IsLineStep db n step × AreLines (db ++ added_lits step ∷ []) n steps
+
+-- the empty clause, whose hints pass
+abbrev pub IsLastStep : List (List Lit) → Step → Type 0
+IsLastStep db (Add id clause hints) = (id ≡ length db + 1) × (clause.lits ≡ []) × ChainPasses db [] hints
+IsLastStep db (Delete ids) = ⊥
+
+-- lines, and then the empty clause
+pub record EndsEmpty (db : List (List Lit)) (n budget : ℕ) (log : List Step) : Type 0 where
+  pub before : List Step
+  pub last : Step
+  pub shape : log ≡ before ++ last ∷ []
+  pub lines : AreLines db n before
+  pub ends : IsLastStep (db ++ learnt before) last
+  pub count : length before ≤ budget
+
+-- as many lines as the budget, and propagation stays short of an answer
+pub record EndsSpent (db : List (List Lit)) (n budget : ℕ) (log : List Step) : Type 0 where
+  pub lines : AreLines db n log
+  pub count : length log ≡ budget
+  pub stuck : ReachesEmpty (db ++ learnt log) → ⊥
+  pub free : (v : ℕ) × (1 ≤ v) × (v < n) × StaysOpen (db ++ learnt log) v
+
+-- how a search over the clauses ends
+abbrev pub VerdictIs : List (List Lit) → ℕ → ℕ → Solver → List Step → Verdict → Type 0
+VerdictIs db n budget s log Sat = IsSound s × (length s.places.items ≡ n) × IsModelled db s
+VerdictIs db n budget s log Unsat = EndsEmpty db n budget log
+VerdictIs db n budget s log Spent = EndsSpent db n budget log

@@ -1,0 +1,31 @@
+-- What a look at a clause tells.
+use Rattle.std.specs.Prelude.{◌≡◌, ◌≢◌, List, Contains}
+use Rattle.cnf_form.specs.declared.formula.Lit.{Lit}
+use Rattle.cnf_form.specs.Literals.{Denied, AllDenied, OthersDenied}
+use Rattle.cdcl.specs.Settled.{IsOpen}
+use Rattle.cdcl.specs.declared.look.Two.{Two}
+use Rattle.cdcl.specs.declared.look.Two.TheVariants.{None as NoLit, One, Both}
+use Rattle.cdcl.specs.declared.look.Found.{Found}
+use Rattle.cdcl.specs.declared.look.Found.TheVariants.{Holds, Free, Forces, AllFalse}
+
+-- the literal of the clause is open, and all others are denied
+pub record IsForced (t c : List Lit) (l : Lit) : Type 0 where
+  pub inside : Contains c l
+  pub free : IsOpen t l.var
+  pub others : OthersDenied t c l
+
+-- a literal of the clause beside the other that is not denied
+abbrev pub IsFree : List Lit → List Lit → Lit → Lit → Type 0
+IsFree t c other l = Contains c l × (Denied t l → ⊥) × (l ≢ other)
+
+abbrev pub FoundIs : List Lit → List Lit → Lit → Found → Type 0
+FoundIs t c other Holds = Contains t other
+FoundIs t c other (Free l) = IsFree t c other l
+FoundIs t c other Forces = IsForced t c other
+FoundIs t c other AllFalse = AllDenied t c
+
+-- no literal, one, or two different ones
+abbrev pub TwoIs : List Lit → Two → Type 0
+TwoIs c NoLit = (m : Lit) → Contains c m → ⊥
+TwoIs c (One l) = Contains c l × ((m : Lit) → Contains c m → m ≡ l)
+TwoIs c (Both a b) = Contains c a × Contains c b × (a ≢ b)

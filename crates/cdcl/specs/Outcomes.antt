@@ -1,0 +1,39 @@
+-- What the answers of a solver mean.
+use Rattle.std.specs.Prelude.{◌≡◌, ℕ, ◌≤◌, ◌+◌, ◌-◌, Bool, false, List, [], ◌∷◌, Contains, length, slice_index_or}
+use Rattle.cnf_form.specs.declared.formula.Lit.{Lit}
+use Rattle.cnf_form.specs.declared.formula.Cnf.{Cnf}
+use Rattle.cnf_form.specs.declared.log.Step.{Step}
+use Rattle.cnf_form.specs.declared.log.Step.TheVariants.{Add, Delete}
+use Rattle.cnf_form.specs.Literals.{literals, SatisfiesAll}
+use Rattle.cnf_form.specs.Logs.{Refutes}
+use Rattle.cnf_form.specs.Spent.{NoVarTwice, IsSpentLog}
+use Rattle.cdcl.specs.declared.outcome.Outcome.{Outcome}
+use Rattle.cdcl.specs.declared.outcome.Outcome.TheVariants.{Sat, Unsat, Spent}
+
+-- each literal's variable is one of the formula's, which are numbered from 1
+abbrev pub IsInRange : Cnf → Type 0
+IsInRange cnf = (c : List Lit) → Contains (literals cnf.clauses) c → (l : Lit) → Contains c l → (1 ≤ l.var) × (l.var ≤ cnf.vars)
+
+-- no clause holds a variable twice
+abbrev pub IsOnce : Cnf → Type 0
+IsOnce cnf = (c : List Lit) → Contains (literals cnf.clauses) c → NoVarTwice c
+
+-- the assignment that gives variable i the value at place i - 1
+abbrev pub assignment : List Bool → ℕ → Bool
+assignment values v = slice_index_or values (v - 1) false
+
+-- a value for each variable of the formula, which satisfy every clause
+abbrev pub IsModel : Cnf → List Bool → Type 0
+IsModel cnf values = (length values ≡ cnf.vars) × SatisfiesAll (assignment values) (literals cnf.clauses)
+
+-- additions alone, under the ids that follow n
+abbrev pub AreConsecutive : ℕ → List Step → Type 0
+AreConsecutive n [] = Unit {0}
+AreConsecutive n (Add id clause hints ∷ steps) = (id ≡ n + 1) × AreConsecutive (n + 1) steps
+AreConsecutive n (Delete ids ∷ steps) = ⊥
+
+-- what each outcome says of the formula
+abbrev pub OutcomeIs : Cnf → ℕ → Outcome → Type 0
+OutcomeIs cnf budget (Sat values) = IsModel cnf values
+OutcomeIs cnf budget (Unsat log) = Refutes cnf log.steps × AreConsecutive (length cnf.clauses) log.steps × (length log.steps ≤ budget + 1)
+OutcomeIs cnf budget (Spent log) = IsSpentLog cnf budget log.steps

@@ -1,0 +1,21 @@
+-- What a list of literals leaves to be forced.
+use Rattle.cnf_form.specs.Literals.{HasVar}
+use Rattle.std.specs.Prelude.{ℕ, List, Contains}
+use Rattle.cnf_form.specs.declared.formula.Lit.{Lit}
+use Rattle.cnf_form.specs.Literals.{Denied, OthersDenied}
+
+-- no literal is in the list together with its opposite
+abbrev pub IsConsistent : List Lit → Type 0
+IsConsistent t = (l : Lit) → Contains t l → Denied t l → ⊥
+
+-- Each literal that the clause would force is in the list. It need not be in the clause, so a clause whose literals are
+-- all denied is settled by no consistent list.
+abbrev pub IsSettled : List Lit → List Lit → Type 0
+IsSettled t c = (l : Lit) → OthersDenied t c l → Contains t l
+
+abbrev pub AllSettled : List Lit → List (List Lit) → Type 0
+AllSettled t f = (c : List Lit) → Contains f c → IsSettled t c
+
+-- the variable has no literal in the list
+abbrev pub IsOpen : List Lit → ℕ → Type 0
+IsOpen t n = HasVar t n → ⊥

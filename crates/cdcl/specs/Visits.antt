@@ -1,0 +1,59 @@
+-- What visits to clauses tell.
+use Rattle.cnf_form.specs.Literals.{HasVar}
+use Rattle.cdcl.specs.Trail.{At}
+use Rattle.std.specs.Prelude.{◌≡◌, ◌<◌, ◌≤◌, ◌-◌, ℕ, Bool, false, slice_index_or, List, length, Contains, Option, None, Some, ◌++◌, ◌∷◌, [], take}
+use Rattle.cnf_form.specs.declared.formula.Lit.{Lit}
+use Rattle.cnf_form.specs.Literals.{literals}
+use Rattle.cdcl.specs.Settled.{AllSettled, IsOpen}
+use Rattle.cdcl.specs.declared.analysis.Lesson.{Lesson}
+use Rattle.cdcl.specs.declared.solver.Solver.{Solver}
+use Rattle.cdcl.specs.declared.trail.Entry.{Entry}
+use Rattle.cdcl.specs.Trail.{held}
+use Rattle.cdcl.specs.Analysis.{IsFalse, IsLesson}
+
+abbrev pub IsConflict : Solver → ℕ → Type 0
+IsConflict s k = (k < length s.clauses.items) × IsFalse (held s.trail.items) (literals s.clauses.items) k
+
+-- no clause forces anything that is not held
+abbrev pub IsStill : Solver → Type 0
+IsStill s = AllSettled (held s.trail.items) (literals s.clauses.items)
+
+abbrev pub ConflictIs : Solver → Option ℕ → Type 0
+ConflictIs s None = IsStill s × (length s.trail.items ≤ s.head)
+ConflictIs s (Some k) = IsConflict s k
+
+-- every variable has a value
+abbrev pub IsComplete : Solver → Type 0
+IsComplete s = (v : ℕ) → 1 ≤ v → v < length s.places.items → HasVar (held s.trail.items) v
+
+abbrev pub OpenVarIs : Solver → Option ℕ → Type 0
+OpenVarIs s None = IsComplete s
+OpenVarIs s (Some v) = (1 ≤ v) × (v < length s.places.items) × IsOpen (held s.trail.items) v
+
+abbrev pub SearchIs : Solver → Option ℕ → Type 0
+SearchIs s None = IsStill s × IsComplete s
+SearchIs s (Some k) = IsConflict s k
+
+-- the last level's start is gone, and the trail from there on
+abbrev pub LeavesLevel : Solver → Solver → Type 0
+LeavesLevel old new = (s : ℕ) × (old.starts.items ≡ new.starts.items ++ s ∷ []) × (new.trail.items ≡ take s old.trail.items)
+
+abbrev pub IsPrefix : List Entry → List Entry → Type 0
+IsPrefix new old = (k : ℕ) × (new ≡ take k old)
+
+-- the trail has a value for each variable, and a literal of each clause
+pub record IsModelled (db : List (List Lit)) (s : Solver) : Type 0 where
+  pub complete : IsComplete s
+  pub holds : (c : List Lit) → Contains db c → (l : Lit) × Contains c l × Contains (held s.trail.items) l
+
+-- what is learnt from a conflict on the last level
+abbrev pub IsStudied : Solver → Lesson → Type 0
+IsStudied s lesson = (start : ℕ) × At s.starts.items (length s.starts.items - 1) start
+    × IsLesson (literals s.clauses.items) (held s.trail.items) start lesson.lits.items lesson.hints.items lesson.asserted lesson.end
+
+-- the values of variables, from 1 on, make the literals true: those of variables below a number, and all
+abbrev pub AgreesBelow : ℕ → List Bool → List Lit → Type 0
+AgreesBelow n values t = (l : Lit) → Contains t l → 1 ≤ l.var → l.var < n → slice_index_or values (l.var - 1) false ≡ l.positive
+
+abbrev pub AgreesWith : List Bool → List Lit → Type 0
+AgreesWith values t = (l : Lit) → Contains t l → 1 ≤ l.var → slice_index_or values (l.var - 1) false ≡ l.positive

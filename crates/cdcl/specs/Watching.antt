@@ -1,0 +1,75 @@
+-- Watched literals: each clause watches two, and one that is false excuses it by a true one, or is still to be looked at.
+use Rattle.std.specs.Prelude.{◌≡◌, ◌≢◌, ◌<◌, ◌≤◌, ◌+◌, ◌⊎◌, ℕ, Bool, true, false, List, [], ◌∷◌, ◌++◌, length, slice_index_or, slice_set, Contains}
+use Rattle.cnf_form.specs.declared.formula.Lit.{Lit}
+use Rattle.cnf_form.specs.Literals.{opposite}
+use Rattle.cdcl.specs.declared.watch.Pair.{Pair}
+use Rattle.cdcl.specs.Trail.{At}
+
+-- the place of a literal's list among the lists
+abbrev pub sign_code : Bool → ℕ
+sign_code true = 1
+sign_code false = 0
+
+abbrev pub code_of : Lit → ℕ
+code_of l = l.var + l.var + sign_code l.positive
+
+-- the clause of the index is in the list of the literal
+abbrev pub IsListed : List (List ℕ) → Lit → ℕ → Type 0
+IsListed lists l k = Contains (slice_index_or lists (code_of l) []) k
+
+-- a list with an index at its end
+abbrev pub listed_at : List (List ℕ) → ℕ → ℕ → List (List ℕ)
+listed_at lists i k = slice_set lists i (slice_index_or lists i [] ++ k ∷ [])
+
+-- the same where the list of one literal is taken out
+abbrev pub IsListedBut : Lit → List ℕ → List (List ℕ) → Lit → ℕ → Type 0
+IsListedBut out own lists l k = ((l ≡ out) → Contains own k) × ((l ≢ out) → IsListed lists l k)
+
+-- some literal of the clause is on the trail
+abbrev pub HoldsIn : List Lit → List Lit → Type 0
+HoldsIn t c = (m : Lit) × Contains c m × Contains t m
+
+-- below all levels
+abbrev pub IsBase : List Lit → List ℕ → List Lit → Type 0
+IsBase t starts c = (q : ℕ) × (m : Lit) × Contains c m × At t q m × ((s : ℕ) → Contains starts s → q < s)
+
+-- for a place of the trail: at no later level
+abbrev pub IsExcused : List Lit → List ℕ → List Lit → ℕ → Type 0
+IsExcused t starts c p = (q : ℕ) × (m : Lit) × Contains c m × At t q m × ((s : ℕ) → Contains starts s → p < s → q < s)
+
+-- each place that was looked at and makes the watched literal false is excused
+abbrev pub WatchIs : List Lit → List ℕ → ℕ → List Lit → Lit → Type 0
+WatchIs t starts head c w = (p : ℕ) → p < head → At t p (opposite w) → IsExcused t starts c p
+
+-- the clause of the index watches the two literals, and is listed with both
+pub record IsPaired (R : Lit → ℕ → Type 0) (t : List Lit) (starts : List ℕ) (head k : ℕ) (c : List Lit) (pair : Pair) : Type 0 where
+  pub apart : pair.first ≢ pair.second
+  pub first : WatchIs t starts head c pair.first
+  pub second : WatchIs t starts head c pair.second
+  pub first_in : R pair.first k
+  pub second_in : R pair.second k
+
+-- The places below `head` were looked at, and the first clauses have pairs. Each has a true literal below all levels, or
+-- watches its pair.
+pub record IsWatching (R : Lit → ℕ → Type 0) (db : List (List Lit)) (t : List Lit) (starts : List ℕ) (head : ℕ) (pairs : List Pair) : Type 0 where
+  pub head_in : head ≤ length t
+  pub levels : (s : ℕ) → Contains starts s → s ≤ head
+  pub some : length pairs ≤ length db
+  pub inside : (k : ℕ) (c : List Lit) (pair : Pair) → At db k c → At pairs k pair → Contains c pair.first × Contains c pair.second
+  pub each : (k : ℕ) (c : List Lit) (pair : Pair) → At db k c → At pairs k pair → IsBase t starts c ⊎ IsPaired R t starts head k c pair
+
+abbrev pub HasWatch : Pair → Lit → Type 0
+HasWatch pair l = (pair.first ≡ l) ⊎ (pair.second ≡ l)
+
+-- the pair is the two literals
+abbrev pub IsPairOf : Pair → Lit → Lit → Type 0
+IsPairOf pair l other = ((pair.first ≡ l) × (pair.second ≡ other)) ⊎ ((pair.second ≡ l) × (pair.first ≡ other))
+
+-- each clause that watches the literal is among the indexes, or holds
+abbrev pub IsPending : List Lit → List (List Lit) → List Pair → Lit → List ℕ → Type 0
+IsPending t db pairs l rest = (k : ℕ) (c : List Lit) (pair : Pair) → At db k c → At pairs k pair → HasWatch pair l → Contains rest k ⊎ HoldsIn t c
+
+-- two lists for each variable, of the indexes of clauses that have pairs
+pub record AreLists (lists : List (List ℕ)) (n count : ℕ) : Type 0 where
+  pub room : length lists ≡ n + n
+  pub below : (i k : ℕ) → Contains (slice_index_or lists i []) k → k < count

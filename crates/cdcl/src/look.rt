@@ -1,0 +1,109 @@
+//! What the trail makes of a clause.
+
+ghost use Rattle.cdcl.specs.Trail.{At};
+ghost use Rattle.std.specs.Prelude.{◌≡◌, ◌<◌, ◌≤◌, ◌+◌, ◌≢◌, ℕ, length, Contains, MatchOption, true, false};
+ghost use Rattle.cnf_form.specs.Literals.{Denied, AllDenied, OthersDenied, literals, opposite};
+ghost use Rattle.cdcl.specs.Settled.{IsConsistent};
+ghost use Rattle.cdcl.specs.Trail.{held, ArePlaces, AllInRange};
+ghost use Rattle.cdcl.specs.Looks.{FoundIs, IsFree, TwoIs};
+
+use crate::trail::{Entry, Truth, same_lit, truth_of};
+use cnf_form::{Clause, Lit};
+
+/// What a clause comes to that watches a false literal and another one.
+#[derive(Clone, Copy)]
+pub enum Found {
+    /// The other watched literal is true.
+    Holds,
+    /// A further literal is not false.
+    Free(Lit),
+    /// The other watched literal is open, and all else is false.
+    Forces,
+    AllFalse,
+}
+
+fn is_false(trail: &[Entry], places: &[Option<usize>], lit: Lit) -> bool
+    requires consistent { IsConsistent (held trail.now) }
+    requires places { ArePlaces (held trail.now) places.now }
+    requires range { lit.var < length places.now }
+    ensures yes { result ≡ true → Denied (held trail.now) lit }
+    ensures no { result ≡ false → Denied (held trail.now) lit → ⊥ }
+{
+    truth_of(trail, places, lit) == Truth::False
+}
+
+/// A literal of the clause beside the other one that is not false.
+fn free_lit(trail: &[Entry], places: &[Option<usize>], clause: &[Lit], other: Lit) -> Option<Lit>
+    requires consistent { IsConsistent (held trail.now) }
+    requires places { ArePlaces (held trail.now) places.now }
+    requires range { AllInRange clause.now (length places.now) }
+    ensures { MatchOption result (OthersDenied (held trail.now) clause.now other) (λ lit. IsFree (held trail.now) clause.now other lit) }
+{
+    for lit in clause {
+        if !same_lit(*lit, other) && !is_false(trail, places, *lit) {
+            return Some(*lit);
+        }
+    }
+    None
+}
+
+#[tactic(auto, using(crate::proofs::TrailLemmas::all_denied))]
+pub(crate) fn seek(trail: &[Entry], places: &[Option<usize>], clause: &[Lit], other: Lit) -> Found
+    requires consistent { IsConsistent (held trail.now) }
+    requires places { ArePlaces (held trail.now) places.now }
+    requires range { AllInRange clause.now (length places.now) }
+    requires inside { Contains clause.now other }
+    ensures { FoundIs (held trail.now) clause.now other result }
+{
+    match truth_of(trail, places, other) {
+        Truth::True => Found::Holds,
+        Truth::Open => match free_lit(trail, places, clause, other) {
+            None => Found::Forces,
+            Some(lit) => Found::Free(lit),
+        },
+        Truth::False => match free_lit(trail, places, clause, other) {
+            None => Found::AllFalse,
+            Some(lit) => Found::Free(lit),
+        },
+    }
+}
+
+/// Up to two different literals of a clause.
+#[derive(Clone, Copy)]
+pub enum Two {
+    None,
+    One(Lit),
+    Both(Lit, Lit),
+}
+
+/// A literal of the clause that is another one.
+fn other_lit(clause: &[Lit], first: Lit) -> Option<Lit>
+    ensures { MatchOption result ((m : Lit) → Contains clause.now m → m ≡ first) (λ lit. Contains clause.now lit × (first ≢ lit)) }
+{
+    for lit in clause {
+        if !same_lit(first, *lit) {
+            return Some(*lit);
+        }
+    }
+    None
+}
+
+pub(crate) fn two_of(clause: &[Lit]) -> Two
+    ensures { TwoIs clause.now result }
+{
+    if clause.is_empty() {
+        return Two::None;
+    }
+    let first = clause[0];
+    match other_lit(clause, first) {
+        None => Two::One(first),
+        Some(second) => Two::Both(first, second),
+    }
+}
+
+pub(crate) fn literals_at(clauses: &[Clause], index: usize) -> &[Lit]
+    requires { index < length clauses.now }
+    ensures { At (literals clauses.now) index result.now }
+{
+    clauses[index].lits.as_slice()
+}

@@ -1,0 +1,57 @@
+//! The call that decides a formula.
+
+ghost use Rattle.std.specs.Prelude.{◌≡◌, ◌<◌, ◌≤◌, ◌+◌, ◌^◌, Bool, List, length, IfOk};
+ghost use Rattle.cnf_form.specs.declared.log.Log.{Log};
+ghost use Rattle.cnf_form.specs.Logs.{Refutes};
+ghost use Rattle.cnf_form.specs.Spent.{IsSpentLog};
+ghost use Rattle.cdcl.specs.Outcomes.{AreConsecutive, IsInRange, IsModel, IsOnce, OutcomeIs};
+
+use crate::solver::{Solver, Verdict};
+use cnf_form::{Cnf, Log};
+use cqa_value::{Items, NoMemory};
+use std::alloc::Global;
+
+/// What a solver finds out of a formula, with evidence.
+#[derive(Debug, Drop)]
+pub enum Outcome {
+    /// Truth values that satisfy every clause, that of variable i at place i - 1.
+    Sat(Items<bool>),
+    /// A refutation.
+    Unsat(Log),
+    /// As many added clauses as the budget allows, after which propagation decides nothing.
+    Spent(Log),
+}
+
+fn outcome_of(alloc: Global, cnf: &Cnf, budget: u32) -> Result<Outcome, NoMemory>
+    requires range { IsInRange cnf.now }
+    ensures { IfOk result (λ outcome. OutcomeIs cnf.now budget outcome) }
+{
+    let mut solver = Solver::new(alloc, cnf)?;
+    let mut log = Vec::new(alloc);
+    let verdict = solver.run(alloc, budget, &mut log)?;
+    let steps = Items::from_vec(log);
+    Ok(match verdict {
+        Verdict::Sat => Outcome::Sat(Items::from_vec(solver.values(alloc)?)),
+        Verdict::Unsat => Outcome::Unsat(Log { steps }),
+        Verdict::Spent => Outcome::Spent(Log { steps }),
+    })
+}
+
+/// Decides whether some assignment satisfies a formula, with at most `budget` conflicts.
+///
+/// A budget of 0 asks for unit propagation alone, without search.
+///
+/// # Errors
+/// `NoMemory` where memory is refused.
+pub fn solve(alloc: Global, cnf: &Cnf, budget: u32) -> Result<Outcome, NoMemory>
+    requires range { IsInRange cnf.now }
+    requires once { IsOnce cnf.now }
+    ensures sat { (values : List Bool) → result ≡ Ok (Outcome.Sat values) → IsModel cnf.now values }
+    ensures unsat { (log : Log) → result ≡ Ok (Outcome.Unsat log) → Refutes cnf.now log.steps }
+    ensures unsat_ids { (log : Log) → result ≡ Ok (Outcome.Unsat log) → AreConsecutive (length cnf.now.clauses) log.steps }
+    ensures unsat_size { (log : Log) → result ≡ Ok (Outcome.Unsat log) → length log.steps ≤ budget + 1 }
+    ensures spent { (log : Log) → result ≡ Ok (Outcome.Spent log) → IsSpentLog cnf.now budget log.steps }
+    ensures spent_below { (log : Log) → result ≡ Ok (Outcome.Spent log) → budget < 3 ^ cnf.now.vars }
+{
+    outcome_of(alloc, cnf, budget)
+}

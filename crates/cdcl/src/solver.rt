@@ -1,0 +1,587 @@
+//! The solver: a search that learns from each conflict (Marques-Silva and Sakallah, 1996).
+
+ghost use Rattle.cdcl.specs.Trail.{At};
+ghost use Rattle.std.specs.Prelude.{◌≡◌, ◌<◌, ◌≤◌, ◌+◌, ◌≢◌, ℕ, length, List, Contains, OnOk, IfOk, true, false, replicate, take, ◌++◌, ◌∷◌, [], ◌-◌, ◌^◌, MatchOption};
+ghost use Rattle.cnf_form.specs.Literals.{Denied, AllDenied, OthersDenied, literals, opposite};
+ghost use Rattle.cdcl.specs.Settled.{IsSettled, IsOpen};
+ghost use Rattle.cdcl.specs.Trail.{At, held, ValueIs, AllInRange, AllLow};
+ghost use Rattle.cdcl.specs.Looks.{IsForced};
+ghost use Rattle.cdcl.specs.Analysis.{AreAllInRange};
+ghost use Rattle.cdcl.specs.State.{IsSound};
+ghost use Rattle.cdcl.specs.Watching.{AreLists, IsBase};
+ghost use Rattle.cdcl.specs.Looking.{IsForcedIn, IsPut, IsSameBeside, IsSameAttached, Stays, IsGrown, FoundIsAt, IsLookingAt, VisitIs, LookedIs, IsReady, IsWatchful, IsUnattached, IsFirst, CanWatch, IsPairFor};
+ghost use Rattle.cdcl.specs.Visits.{ConflictIs, OpenVarIs, SearchIs, IsStill, LeavesLevel, IsPrefix, IsConflict, IsStudied, AgreesWith};
+ghost use Rattle.cdcl.specs.Lines.{Adds, IsLineStep, IsLastStep, VerdictIs, added_lits};
+
+use crate::analysis::{Lesson, analyze, refute};
+use crate::look::{Found, Two, literals_at, seek, two_of};
+use crate::trail::{Entry, Truth, cut, lit_at, negate, put, truth_of, value_at};
+use crate::watch::{Pair, close_gap, code, other_of, push_index, put_list, take_list};
+use cnf_form::{Clause, Cnf, Lit, Step};
+use cqa_value::{Items, NoMemory};
+use std::alloc::Global;
+
+/// What came of a visit to a clause that watches a literal which is false.
+#[derive(Clone, Copy)]
+pub enum Visit {
+    /// It watches the literal still, and holds.
+    Kept,
+    /// It watches it no more.
+    Dropped,
+    /// All its literals are false.
+    Conflict,
+}
+
+// A copy of literals.
+fn copy_lits(alloc: Global, lits: &Vec<Lit>) -> Result<Vec<Lit>, NoMemory>
+    ensures { IfOk result (λ v. v.items ≡ lits.now.items) }
+{
+    let mut copy = Vec::new(alloc);
+    copy.extend_from_slice(lits.as_slice())?;
+    Ok(copy)
+}
+
+// A copy of a clause.
+fn copy_clause(alloc: Global, clause: &Clause) -> Result<Clause, NoMemory>
+    ensures { IfOk result (λ copy. copy.lits ≡ clause.now.lits) }
+{
+    let mut lits = Vec::new(alloc);
+    lits.extend_from_slice(clause.lits.as_slice())?;
+    Ok(Clause {
+        lits: Items::from_vec(lits),
+    })
+}
+
+// A copy of clauses.
+fn copy_clauses(alloc: Global, clauses: &[Clause]) -> Result<Vec<Clause>, NoMemory>
+    ensures { IfOk result (λ v. literals v.items ≡ literals clauses.now) }
+{
+    let mut copy = Vec::new(alloc);
+    for clause in clauses {
+        copy.push(copy_clause(alloc, clause)?)?;
+    }
+    Ok(copy)
+}
+
+// Places of variables, none of which has a value.
+fn no_places(alloc: Global, len: usize) -> Result<Vec<Option<usize>>, NoMemory>
+    ensures { IfOk result (λ v. v.items ≡ replicate len None) }
+{
+    let mut places = Vec::new(alloc);
+    for _var in 0..len {
+        places.push(None)?;
+    }
+    Ok(places)
+}
+
+// Lists of clauses for the literals of so many variables, all empty.
+fn no_lists(alloc: Global, vars: usize) -> Result<Vec<Items<usize>>, NoMemory>
+    ensures { IfOk result (λ v. AreLists v.items vars 0) }
+{
+    let mut lists = Vec::new(alloc);
+    for _var in 0..vars {
+        lists.push(Items::new(alloc))?;
+        lists.push(Items::new(alloc))?;
+    }
+    Ok(lists)
+}
+
+// The step that adds a clause.
+fn step_of(id: u64, lits: Vec<Lit>, hints: Vec<i64>) -> Step
+    ensures { Adds result id lits.items hints.items }
+{
+    Step::Add {
+        id,
+        clause: Clause {
+            lits: Items::from_vec(lits),
+        },
+        hints: Items::from_vec(hints),
+    }
+}
+
+#[derive(Drop)]
+pub(crate) struct Solver {
+    clauses: Vec<Clause>,
+    trail: Vec<Entry>,
+    places: Vec<Option<usize>>,
+    starts: Vec<usize>,
+    /// The first place of the trail that was not looked at.
+    head: usize,
+    /// What each clause watches.
+    pairs: Vec<Pair>,
+    /// The clauses that watch each literal.
+    lists: Vec<Items<usize>>,
+}
+
+impl Solver {
+    // A solver of a formula's clauses, before any literal is true.
+    pub(crate) fn new(alloc: Global, cnf: &Cnf) -> Result<Solver, NoMemory>
+        requires range { AreAllInRange (literals cnf.now.clauses) (cnf.now.vars + 1) }
+        requires low { (c : List Lit) → Contains (literals cnf.now.clauses) c → AllLow c }
+        ensures new { IfOk result (λ s. IsUnattached s) }
+        ensures clauses { IfOk result (λ s. literals s.clauses.items ≡ literals cnf.now.clauses) }
+        ensures len { IfOk result (λ s. length s.places.items ≡ cnf.now.vars + 1) }
+        ensures small { IfOk result (λ s. length s.places.items ≤ 2 ^ 32) }
+    {
+        Ok(Solver {
+            clauses: copy_clauses(alloc, cnf.clauses.as_slice())?,
+            trail: Vec::new(alloc),
+            places: no_places(alloc, cnf.vars as usize + 1)?,
+            starts: Vec::new(alloc),
+            head: 0,
+            pairs: Vec::new(alloc),
+            lists: no_lists(alloc, cnf.vars as usize + 1)?,
+        })
+    }
+
+    // The value of a variable on the trail.
+    fn value_of(&self, var: u32) -> bool
+        requires sound { IsSound self.now }
+        requires range { var < length self.now.places.items }
+        ensures { ValueIs (held self.now.trail.items) var result }
+    {
+        value_at(self.trail.as_slice(), self.places.as_slice(), var)
+    }
+
+    // The values of the variables from 1 on.
+    pub(crate) fn values(&self, alloc: Global) -> Result<Vec<bool>, NoMemory>
+        requires sound { IsSound self.now }
+        requires some { 1 ≤ length self.now.places.items }
+        requires small { length self.now.places.items ≤ 2 ^ 32 }
+        ensures len { IfOk result (λ v. length v.items ≡ length self.now.places.items - 1) }
+        ensures values { IfOk result (λ v. AgreesWith v.items (held self.now.trail.items)) }
+    {
+        let mut values = Vec::new(alloc);
+        for var in 1..self.places.len() {
+            values.push(self.value_of(var as u32))?;
+        }
+        Ok(values)
+    }
+
+    // Puts on the trail what a clause forces.
+    fn force(&mut self, index: usize, lit: Lit) -> Result<(), NoMemory>
+        requires sound { IsSound self.old }
+        requires forced { IsForcedIn (literals self.old.clauses.items) (held self.old.trail.items) index lit }
+        ensures sound { OnOk result (IsSound self.new) }
+        ensures trail { OnOk result (IsPut self.old.trail.items lit self.new.trail.items) }
+        ensures same { IsSameBeside self.old self.new }
+    {
+        let entry = Entry {
+            lit,
+            reason: Some(index),
+        };
+        put(&mut self.trail, &mut self.places, entry)?;
+        Ok(())
+    }
+
+    // What the clause at an index comes to that watches a false literal and another one.
+    fn seek(&self, index: usize, other: Lit) -> Found
+        requires sound { IsSound self.now }
+        requires inside { (c : List Lit) × At (literals self.now.clauses.items) index c × Contains c other }
+        ensures { FoundIsAt self.now index other result }
+    {
+        seek(
+            self.trail.as_slice(),
+            self.places.as_slice(),
+            literals_at(self.clauses.as_slice(), index),
+            other,
+        )
+    }
+
+    // Visits a clause of the list of a literal that has become false.
+    fn visit(&mut self, index: usize, lit: Lit) -> Result<Visit, NoMemory>
+        requires { (kept : List ℕ) × (rest : List ℕ) × IsLookingAt self.old lit kept (index ∷ rest) }
+        ensures stays { Stays self.old self.new }
+        ensures grows { OnOk result (IsGrown (held self.old.trail.items) (held self.new.trail.items)) }
+        ensures visit { IfOk result (λ v. (kept rest : List ℕ) → IsLookingAt self.old lit kept (index ∷ rest) → VisitIs self.new lit kept rest index v) }
+    {
+        let Some(other) = other_of(self.pairs[index], lit) else {
+            return Ok(Visit::Dropped);
+        };
+        match self.seek(index, other) {
+            Found::Holds => Ok(Visit::Kept),
+            Found::Free(new) => {
+                self.pairs[index] = Pair {
+                    first: other,
+                    second: new,
+                };
+                push_index(&mut self.lists, code(new), index)?;
+                Ok(Visit::Dropped)
+            }
+            Found::Forces => {
+                self.force(index, other)?;
+                Ok(Visit::Kept)
+            }
+            Found::AllFalse => Ok(Visit::Conflict),
+        }
+    }
+
+    // Visits the clauses that watch a literal which has become false, up to one whose literals all are.
+    fn look_through(&mut self, alloc: Global, lit: Lit) -> Result<Option<usize>, NoMemory>
+        requires ready { IsReady self.old }
+        requires next { At (held self.old.trail.items) self.old.head (opposite lit) }
+        ensures ready { OnOk result (IsReady self.new) }
+        ensures stays { Stays self.old self.new }
+        ensures grows { OnOk result (IsGrown (held self.old.trail.items) (held self.new.trail.items)) }
+        ensures conflict { IfOk result (λ r. LookedIs self.new lit r) }
+    {
+        let mut list = take_list(alloc, &mut self.lists, code(lit));
+        let mut kept = 0usize;
+        for at in 0..list.len() {
+            let index = list[at];
+            match self.visit(index, lit)? {
+                Visit::Dropped => {}
+                Visit::Kept => {
+                    list[kept] = index;
+                    kept += 1;
+                }
+                Visit::Conflict => {
+                    close_gap(&mut list, kept, at);
+                    put_list(&mut self.lists, code(lit), list);
+                    return Ok(Some(index));
+                }
+            }
+        }
+        list.truncate(kept);
+        put_list(&mut self.lists, code(lit), list);
+        Ok(None)
+    }
+
+    // Puts on the trail what the clauses force, until nothing more is forced or a clause is false.
+    fn propagate(&mut self, alloc: Global) -> Result<Option<usize>, NoMemory>
+        requires { IsReady self.old }
+        ensures ready { OnOk result (IsReady self.new) }
+        ensures clauses { self.new.clauses ≡ self.old.clauses }
+        ensures starts { self.new.starts ≡ self.old.starts }
+        ensures grows { OnOk result (length self.old.trail.items ≤ length self.new.trail.items) }
+        ensures len { length self.new.places.items ≡ length self.old.places.items }
+        ensures conflict { IfOk result (λ r. ConflictIs self.new r) }
+    {
+        while self.head < self.trail.len() {
+            let lit = negate(lit_at(self.trail.as_slice(), self.head));
+            match self.look_through(alloc, lit)? {
+                None => self.head += 1,
+                Some(conflict) => return Ok(Some(conflict)),
+            }
+        }
+        Ok(None)
+    }
+
+    // Has the next clause watch two of its literals.
+    fn attach(&mut self, first: Lit, second: Lit) -> Result<(), NoMemory>
+        requires watchful { IsWatchful self.old }
+        requires pair { CanWatch self.old (IsPairFor self.old first second) first second }
+        ensures watchful { OnOk result (IsWatchful self.new) }
+        ensures same { IsSameAttached self.old self.new }
+        ensures count { OnOk result (length self.new.pairs.items ≡ length self.old.pairs.items + 1) }
+    {
+        let index = self.pairs.len();
+        self.pairs.push(Pair { first, second })?;
+        push_index(&mut self.lists, code(first), index)?;
+        push_index(&mut self.lists, code(second), index)?;
+        Ok(())
+    }
+
+    // Passes over the next clause, which has a literal that is true below all levels.
+    fn attach_none(&mut self, lit: Lit) -> Result<(), NoMemory>
+        requires watchful { IsWatchful self.old }
+        requires base { CanWatch self.old (IsBase (held self.old.trail.items) self.old.starts.items) lit lit }
+        ensures watchful { OnOk result (IsWatchful self.new) }
+        ensures same { IsSameAttached self.old self.new }
+        ensures count { OnOk result (length self.new.pairs.items ≡ length self.old.pairs.items + 1) }
+    {
+        self.pairs.push(Pair {
+            first: lit,
+            second: lit,
+        })?;
+        Ok(())
+    }
+
+    // A variable with no value.
+    fn open_var(&self) -> Option<u32>
+        requires sound { IsSound self.now }
+        requires small { length self.now.places.items ≤ 2 ^ 32 }
+        ensures { OpenVarIs self.now result }
+    {
+        for var in 1..self.places.len() {
+            match self.places[var] {
+                None => return Some(var as u32),
+                Some(_) => {}
+            }
+        }
+        None
+    }
+
+    // Starts a level by a decision.
+    fn decide(&mut self, var: u32) -> Result<(), NoMemory>
+        requires ready { IsReady self.old }
+        requires still { IsStill self.old }
+        requires whole { length self.old.trail.items ≤ self.old.head }
+        requires low { 1 ≤ var }
+        requires range { var < length self.old.places.items }
+        requires open { IsOpen (held self.old.trail.items) var }
+        ensures ready { OnOk result (IsReady self.new) }
+        ensures clauses { self.new.clauses ≡ self.old.clauses }
+        ensures len { length self.new.places.items ≡ length self.old.places.items }
+        ensures trail { OnOk result (length self.old.trail.items < length self.new.trail.items) }
+    {
+        let start = self.trail.len();
+        self.starts.push(start)?;
+        let lit = Lit {
+            var,
+            positive: false,
+        };
+        put(
+            &mut self.trail,
+            &mut self.places,
+            Entry { lit, reason: None },
+        )?;
+        Ok(())
+    }
+
+    // Decides until a clause is false, or every variable has a value.
+    fn search(&mut self, alloc: Global) -> Result<Option<usize>, NoMemory>
+        requires ready { IsReady self.old }
+        requires small { length self.old.places.items ≤ 2 ^ 32 }
+        ensures ready { OnOk result (IsReady self.new) }
+        ensures clauses { self.new.clauses ≡ self.old.clauses }
+        ensures len { length self.new.places.items ≡ length self.old.places.items }
+        ensures found { IfOk result (λ r. SearchIs self.new r) }
+    {
+        loop {
+            if let Some(conflict) = self.propagate(alloc)? {
+                return Ok(Some(conflict));
+            }
+            match self.open_var() {
+                None => return Ok(None),
+                Some(var) => self.decide(var)?,
+            }
+        }
+    }
+
+    // Leaves the last level.
+    fn leave(&mut self)
+        requires ready { IsReady self.old }
+        requires level { 0 < length self.old.starts.items }
+        ensures ready { IsReady self.new }
+        ensures clauses { self.new.clauses ≡ self.old.clauses }
+        ensures len { length self.new.places.items ≡ length self.old.places.items }
+        ensures leave { LeavesLevel self.old self.new }
+    {
+        if let Some(start) = self.starts.pop() {
+            cut(&mut self.trail, &mut self.places, start);
+            self.head = self.head.min(start);
+        }
+    }
+
+    // Leaves the levels that start at `end` or later.
+    fn back_to(&mut self, end: usize)
+        requires ready { IsReady self.old }
+        ensures ready { IsReady self.new }
+        ensures clauses { self.new.clauses ≡ self.old.clauses }
+        ensures len { length self.new.places.items ≡ length self.old.places.items }
+        ensures below { (s : ℕ) → Contains self.new.starts.items s → s < end }
+        ensures kept { take end (held self.new.trail.items) ≡ take end (held self.old.trail.items) }
+        ensures fewer { IsPrefix self.new.trail.items self.old.trail.items }
+    {
+        while !self.starts.is_empty() && self.starts[self.starts.len() - 1] >= end {
+            self.leave();
+        }
+    }
+
+    // Adds a learnt clause, and puts on the trail what it forces.
+    fn add_learnt(&mut self, lits: Vec<Lit>, asserted: Lit, end: usize) -> Result<(), NoMemory>
+        requires ready { IsReady self.old }
+        requires range { AllInRange lits.items (length self.old.places.items) }
+        requires low { AllLow lits.items }
+        requires forced { IsForced (held self.old.trail.items) lits.items asserted }
+        requires settled { (s : ℕ) → Contains self.old.starts.items s → IsSettled (take s (held self.old.trail.items)) lits.items }
+        requires below { (s : ℕ) → Contains self.old.starts.items s → s < end }
+        requires last { (k : ℕ) → end ≡ k + 1 → (m : Lit) × Contains lits.items m × At (held self.old.trail.items) k (opposite m) }
+        ensures ready { OnOk result (IsReady self.new) }
+        ensures added { OnOk result (literals self.new.clauses.items ≡ literals self.old.clauses.items ++ lits.items ∷ []) }
+        ensures len { length self.new.places.items ≡ length self.old.places.items }
+    {
+        let index = self.clauses.len();
+        self.clauses.push(Clause {
+            lits: Items::from_vec(lits),
+        })?;
+        self.force(index, asserted)?;
+        if end == 0 {
+            self.attach_none(asserted)?;
+        } else {
+            let deepest = negate(lit_at(self.trail.as_slice(), end - 1));
+            self.attach(asserted, deepest)?;
+        }
+        Ok(())
+    }
+
+    // What is learnt from a conflict above level 0.
+    fn study(&self, alloc: Global, conflict: usize) -> Result<Lesson, NoMemory>
+        requires sound { IsSound self.now }
+        requires conflict { IsConflict self.now conflict }
+        requires level { 0 < length self.now.starts.items }
+        ensures { IfOk result (λ lesson. IsStudied self.now lesson) }
+    {
+        let start = self.starts[self.starts.len() - 1];
+        analyze(
+            alloc,
+            self.clauses.as_slice(),
+            self.trail.as_slice(),
+            self.places.as_slice(),
+            start,
+            conflict,
+        )
+    }
+
+    // Learns from a conflict above level 0, and jumps back.
+    fn learn(&mut self, alloc: Global, conflict: usize) -> Result<Step, NoMemory>
+        requires ready { IsReady self.old }
+        requires conflict { IsConflict self.old conflict }
+        requires level { 0 < length self.old.starts.items }
+        ensures ready { OnOk result (IsReady self.new) }
+        ensures len { length self.new.places.items ≡ length self.old.places.items }
+        ensures added { IfOk result (λ step. literals self.new.clauses.items ≡ literals self.old.clauses.items ++ added_lits step ∷ []) }
+        ensures line { IfOk result (λ step. IsLineStep (literals self.old.clauses.items) (length self.old.places.items) step) }
+    {
+        let lesson = self.study(alloc, conflict)?;
+        let id = self.clauses.len() as u64 + 1;
+        let lits = copy_lits(alloc, &lesson.lits)?;
+        self.leave();
+        self.back_to(lesson.end);
+        self.add_learnt(lits, lesson.asserted, lesson.end)?;
+        Ok(step_of(id, lesson.lits, lesson.hints))
+    }
+
+    // The step that adds the empty clause.
+    fn end(&self, alloc: Global, conflict: usize) -> Result<Step, NoMemory>
+        requires sound { IsSound self.now }
+        requires conflict { IsConflict self.now conflict }
+        requires level { length self.now.starts.items ≡ 0 }
+        ensures { IfOk result (λ step. IsLastStep (literals self.now.clauses.items) step) }
+    {
+        let id = self.clauses.len() as u64 + 1;
+        let hints = refute(
+            alloc,
+            self.clauses.as_slice(),
+            self.trail.as_slice(),
+            self.places.as_slice(),
+            conflict,
+        )?;
+        Ok(step_of(id, Vec::new(alloc), hints))
+    }
+
+    // Has the next clause watch two of its literals; one of one literal forces it. Gives the clause where it is false.
+    fn attach_next(&mut self) -> Result<Option<usize>, NoMemory>
+        requires watchful { IsWatchful self.old }
+        requires some { length self.old.pairs.items < length self.old.clauses.items }
+        requires first { IsFirst self.old }
+        ensures watchful { OnOk result (IsWatchful self.new) }
+        ensures first { OnOk result (IsFirst self.new) }
+        ensures clauses { self.new.clauses ≡ self.old.clauses }
+        ensures len { length self.new.places.items ≡ length self.old.places.items }
+        ensures conflict { IfOk result (λ r. MatchOption r (length self.new.pairs.items ≡ length self.old.pairs.items + 1) (λ k. IsConflict self.new k)) }
+    {
+        let index = self.pairs.len();
+        match two_of(literals_at(self.clauses.as_slice(), index)) {
+            Two::None => Ok(Some(index)),
+            Two::One(lit) => {
+                match truth_of(self.trail.as_slice(), self.places.as_slice(), lit) {
+                    Truth::True => {}
+                    Truth::False => return Ok(Some(index)),
+                    Truth::Open => self.force(index, lit)?,
+                }
+                self.attach_none(lit)?;
+                Ok(None)
+            }
+            Two::Both(first, second) => {
+                self.attach(first, second)?;
+                Ok(None)
+            }
+        }
+    }
+
+    // The same for all clauses.
+    fn attach_all(&mut self) -> Result<Option<usize>, NoMemory>
+        requires { IsUnattached self.old }
+        ensures watchful { OnOk result (IsWatchful self.new) }
+        ensures first { OnOk result (IsFirst self.new) }
+        ensures clauses { self.new.clauses ≡ self.old.clauses }
+        ensures len { length self.new.places.items ≡ length self.old.places.items }
+        ensures conflict { IfOk result (λ r. MatchOption r (length self.new.pairs.items ≡ length self.new.clauses.items) (λ k. IsConflict self.new k)) }
+    {
+        for _index in 0..self.clauses.len() {
+            match self.attach_next()? {
+                None => {}
+                Some(conflict) => return Ok(Some(conflict)),
+            }
+        }
+        Ok(None)
+    }
+
+    // Searches, and learns from each conflict, until the answer is known or the budget is used up.
+    fn search_and_learn(
+        &mut self,
+        alloc: Global,
+        budget: u32,
+        log: &mut Vec<Step>,
+    ) -> Result<Verdict, NoMemory>
+        requires ready { IsReady self.old }
+        requires small { length self.old.places.items ≤ 2 ^ 32 }
+        requires log { log.old.items ≡ [] }
+        ensures { IfOk result (λ verdict. VerdictIs (literals self.old.clauses.items) (length self.old.places.items) budget self.new log.new.items verdict) }
+    {
+        for _round in 0..budget {
+            match self.search(alloc)? {
+                None => return Ok(Verdict::Sat),
+                Some(conflict) => {
+                    if self.starts.is_empty() {
+                        log.push(self.end(alloc, conflict)?)?;
+                        return Ok(Verdict::Unsat);
+                    }
+                    log.push(self.learn(alloc, conflict)?)?;
+                }
+            }
+        }
+        self.back_to(0);
+        match self.propagate(alloc)? {
+            Some(conflict) => {
+                log.push(self.end(alloc, conflict)?)?;
+                Ok(Verdict::Unsat)
+            }
+            None => match self.open_var() {
+                None => Ok(Verdict::Sat),
+                Some(_) => Ok(Verdict::Spent),
+            },
+        }
+    }
+
+    // Has all clauses watch their literals, and searches.
+    pub(crate) fn run(
+        &mut self,
+        alloc: Global,
+        budget: u32,
+        log: &mut Vec<Step>,
+    ) -> Result<Verdict, NoMemory>
+        requires new { IsUnattached self.old }
+        requires small { length self.old.places.items ≤ 2 ^ 32 }
+        requires log { log.old.items ≡ [] }
+        ensures { IfOk result (λ verdict. VerdictIs (literals self.old.clauses.items) (length self.old.places.items) budget self.new log.new.items verdict) }
+    {
+        match self.attach_all()? {
+            None => self.search_and_learn(alloc, budget, log),
+            Some(conflict) => {
+                log.push(self.end(alloc, conflict)?)?;
+                Ok(Verdict::Unsat)
+            }
+        }
+    }
+}
+
+/// How a search ends.
+#[derive(Clone, Copy, PartialEq, Eq)]
+pub enum Verdict {
+    Sat,
+    Unsat,
+    Spent,
+}

@@ -1,0 +1,154 @@
+//! The trail: the literals that are true, in the order in which they came, and where each variable stands on it.
+
+ghost use Rattle.cnf_form.specs.Literals.{HasVar};
+ghost use Rattle.cdcl.specs.Trail.{At};
+ghost use Rattle.std.specs.Prelude.{◌≡◌, ◌<◌, ◌≤◌, ◌+◌, ◌≢◌, ℕ, length, Contains, OnOk, IfOk, true, false, take, ◌++◌, ◌∷◌, [], ◌-◌};
+ghost use Rattle.cnf_form.specs.Literals.{Denied, AllDenied, OthersDenied, literals, opposite};
+ghost use Rattle.cdcl.specs.Settled.{IsOpen};
+ghost use Rattle.cdcl.specs.Trail.{held, ArePlaces, ValueIs, AllInRange};
+ghost use Rattle.cdcl.specs.Analysis.{EndIs, AfterIs};
+
+use cnf_form::Lit;
+use cqa_value::NoMemory;
+
+/// A literal on the trail, with the clause that forced it.
+#[derive(Clone, Copy)]
+pub struct Entry {
+    pub lit: Lit,
+    pub reason: Option<usize>,
+}
+
+/// What the trail says of a literal.
+#[derive(Clone, Copy, PartialEq, Eq)]
+pub enum Truth {
+    True,
+    False,
+    Open,
+}
+
+pub(crate) fn truth_of(trail: &[Entry], places: &[Option<usize>], lit: Lit) -> Truth
+    requires places { ArePlaces (held trail.now) places.now }
+    requires range { lit.var < length places.now }
+    ensures yes { result ≡ Truth.True → Contains (held trail.now) lit }
+    ensures no { result ≡ Truth.False → Denied (held trail.now) lit }
+    ensures open { result ≡ Truth.Open → IsOpen (held trail.now) lit.var }
+{
+    match places[lit.var as usize] {
+        None => Truth::Open,
+        Some(place) => {
+            if trail[place].lit.positive == lit.positive {
+                Truth::True
+            } else {
+                Truth::False
+            }
+        }
+    }
+}
+
+/// The value of a variable; false where it is open.
+pub(crate) fn value_at(trail: &[Entry], places: &[Option<usize>], var: u32) -> bool
+    requires places { ArePlaces (held trail.now) places.now }
+    requires range { var < length places.now }
+    ensures { ValueIs (held trail.now) var result }
+{
+    match places[var as usize] {
+        None => false,
+        Some(place) => trail[place].lit.positive,
+    }
+}
+
+pub(crate) fn same_lit(a: Lit, b: Lit) -> bool
+    ensures yes { result ≡ true → a ≡ b }
+    ensures no { result ≡ false → a ≢ b }
+{
+    a.var == b.var && a.positive == b.positive
+}
+
+pub(crate) fn lit_at(trail: &[Entry], at: usize) -> Lit
+    requires { at < length trail.now }
+    ensures { At (held trail.now) at result }
+{
+    trail[at].lit
+}
+
+pub(crate) fn negate(lit: Lit) -> Lit
+    ensures { result ≡ opposite lit }
+{
+    Lit {
+        var: lit.var,
+        positive: !lit.positive,
+    }
+}
+
+// How much of the trail denies the literals.
+pub(crate) fn end_of(trail: &[Entry], places: &[Option<usize>], lits: &[Lit]) -> usize
+    requires places { ArePlaces (held trail.now) places.now }
+    requires range { AllInRange lits.now (length places.now) }
+    requires denied { AllDenied (held trail.now) lits.now }
+    ensures { EndIs (held trail.now) lits.now result }
+{
+    let mut end = 0usize;
+    for lit in lits {
+        end = end.max(place_after(trail, places, lit.var));
+    }
+    end
+}
+
+// One more than the place of a variable that is on the trail.
+pub(crate) fn place_after(trail: &[Entry], places: &[Option<usize>], var: u32) -> usize
+    requires places { ArePlaces (held trail.now) places.now }
+    requires range { var < length places.now }
+    requires there { HasVar (held trail.now) var }
+    ensures { AfterIs (held trail.now) var result }
+{
+    match places[var as usize] {
+        None => 0,
+        Some(place) => place + 1,
+    }
+}
+
+// Puts an open literal on the trail.
+pub(crate) fn put(
+    trail: &mut Vec<Entry>,
+    places: &mut Vec<Option<usize>>,
+    entry: Entry,
+) -> Result<(), NoMemory>
+    requires places { ArePlaces (held trail.old.items) places.old.items }
+    requires range { entry.lit.var < length places.old.items }
+    requires open { IsOpen (held trail.old.items) entry.lit.var }
+    ensures trail { OnOk result (trail.new.items ≡ trail.old.items ++ entry ∷ []) }
+    ensures places { OnOk result (ArePlaces (held trail.new.items) places.new.items) }
+    ensures len { length places.new.items ≡ length places.old.items }
+{
+    let place = trail.len();
+    trail.push(entry)?;
+    places[entry.lit.var as usize] = Some(place);
+    Ok(())
+}
+
+// Takes the last literal off the trail.
+pub(crate) fn take_off(trail: &mut Vec<Entry>, places: &mut Vec<Option<usize>>)
+    requires places { ArePlaces (held trail.old.items) places.old.items }
+    requires range { AllInRange (held trail.old.items) (length places.old.items) }
+    requires some { 0 < length trail.old.items }
+    ensures trail { trail.new.items ≡ take (length trail.old.items - 1) trail.old.items }
+    ensures places { ArePlaces (held trail.new.items) places.new.items }
+    ensures len { length places.new.items ≡ length places.old.items }
+{
+    if let Some(entry) = trail.pop() {
+        places[entry.lit.var as usize] = None;
+    }
+}
+
+// Cuts the trail down to a length.
+pub(crate) fn cut(trail: &mut Vec<Entry>, places: &mut Vec<Option<usize>>, len: usize)
+    requires places { ArePlaces (held trail.old.items) places.old.items }
+    requires range { AllInRange (held trail.old.items) (length places.old.items) }
+    ensures trail { trail.new.items ≡ take len trail.old.items }
+    ensures places { ArePlaces (held trail.new.items) places.new.items }
+    ensures len { length places.new.items ≡ length places.old.items }
+{
+    while trail.len() > len {
+        take_off(trail, places);
+    }
+}
