@@ -1,0 +1,8 @@
+use Rattle.std.proofs.Common.{ℕ, ◌<◌, ◌↔◌}
+use Rattle.cqa_model.specs.Graph.{Attacks}
+use Rattle.key_closure.specs.Sets.{HasAtom}
+use Rattle.key_closure.specs.Members.{seen}
+use Rattle.attack_graph.proofs.building.attacked_by.Given as goal
+
+abbrev pub invariant-loop-atom : goal.invariant-loop-atom
+invariant-loop-atom l = (K : ℕ) → HasAtom l.atoms K ↔ ((K < l.atom) × Attacks l.query (seen l.query l.view) l.from K)

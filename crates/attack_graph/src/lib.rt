@@ -1,0 +1,9 @@
+//! The attacks between the atoms of a query, and which of them are weak.
+#![tactic(auto)]
+
+mod building;
+mod graph;
+mod spreading;
+
+pub use building::attacks;
+pub use graph::Attacks;

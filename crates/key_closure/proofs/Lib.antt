@@ -1,0 +1,3 @@
+pub mod Members
+pub mod Growing
+pub mod Sameness

@@ -1,0 +1,75 @@
+/// A set of a query's atoms, each by its place.
+#[derive(Clone, Copy)]
+pub struct AtomSet {
+    bits: [bool; 12],
+}
+
+impl AtomSet {
+    ghost use Rattle.std.specs.Prelude.{◌≡◌, ◌≢◌, ℕ, ◌<◌, ◌↔◌, ◌⊎◌, IsTrue, MatchOption};
+    ghost use Rattle.key_closure.specs.Sets.{HasAtom, size};
+
+    /// The empty set.
+    pub fn new() -> AtomSet
+        ensures { (k : ℕ) → HasAtom result k → ⊥ }
+    {
+        AtomSet { bits: [false; 12] }
+    }
+
+    /// All places that an atom can have.
+    pub fn full() -> AtomSet
+        ensures { (k : ℕ) → HasAtom result k ↔ (k < 12) }
+    {
+        AtomSet { bits: [true; 12] }
+    }
+
+    /// Is the atom in the set?
+    pub fn has(&self, atom: u32) -> bool
+        requires { atom < 12 }
+        ensures { IsTrue result ↔ HasAtom self.now atom }
+    {
+        self.bits[atom as usize]
+    }
+
+    /// Adds an atom if it is wanted.
+    pub fn insert_if(&mut self, atom: u32, wanted: bool)
+        requires { atom < 12 }
+        ensures { (k : ℕ) → HasAtom self.new k ↔ (HasAtom self.old k ⊎ (IsTrue wanted × (k ≡ atom))) }
+    {
+        if wanted {
+            self.bits[atom as usize] = true;
+        }
+    }
+
+    /// The atoms in either set.
+    pub fn union(&self, other: &AtomSet) -> AtomSet
+        ensures { (k : ℕ) → HasAtom result k ↔ (HasAtom self.now k ⊎ HasAtom other.now k) }
+    {
+        let mut set = *self;
+        for atom in 0..12u32 {
+            set.insert_if(atom, other.has(atom));
+        }
+        set
+    }
+
+    /// The first atom that is in both sets.
+    pub fn first_shared(&self, other: &AtomSet) -> Option<u32>
+        ensures { MatchOption result ((k : ℕ) → HasAtom self.now k → HasAtom other.now k → ⊥) (λ k. (k < 12) × HasAtom self.now k × HasAtom other.now k) }
+    {
+        for atom in 0..12u32 {
+            if self.has(atom) && other.has(atom) {
+                return Some(atom);
+            }
+        }
+        None
+    }
+
+    /// Takes an atom out.
+    pub fn remove(&mut self, atom: u32)
+        requires within { atom < 12 }
+        requires there { HasAtom self.old atom }
+        ensures is { (k : ℕ) → HasAtom self.new k ↔ (HasAtom self.old k × (k ≢ atom)) }
+        ensures fewer { size self.new < size self.old }
+    {
+        self.bits[atom as usize] = false;
+    }
+}

@@ -1,0 +1,16 @@
+//! Closures of variables under the dependencies of a query's atoms, over sets of a small fixed size.
+//!
+//! The calls of this level name the query's variables themselves. A caller with many of them names the variables once
+//! and uses the calls of [`named`].
+#![tactic(auto)]
+
+mod atom_set;
+pub mod named;
+mod rest;
+mod set_by_query;
+mod variable_set;
+
+pub use atom_set::AtomSet;
+pub use rest::View;
+pub use set_by_query::{closure, key_set, var_set};
+pub use variable_set::VarSet;

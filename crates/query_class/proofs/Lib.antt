@@ -1,0 +1,3 @@
+mod WalkSteps
+pub mod Rounds
+mod Example

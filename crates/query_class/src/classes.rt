@@ -1,0 +1,88 @@
+ghost use Rattle.std.specs.Prelude.{ℕ, ◌<◌, ◌↔◌, IsTrue};
+ghost use Rattle.cqa_model.specs.declared.query.Query.{Query};
+ghost use Rattle.cqa_model.specs.Variables.{whole};
+ghost use Rattle.attack_graph.specs.Attacking.{AreAttacks};
+ghost use Rattle.query_class.specs.Cycles.{
+  IsClass,
+  IsClassOf,
+  IsCyclic,
+  IsStrong,
+  IsStronglyCyclic,
+  Reaches,
+};
+
+use crate::walking::reach;
+use attack_graph::Attacks;
+
+/// How hard it is to decide the certain rows of a query.
+#[derive(Clone, Copy, Debug, PartialEq, Eq)]
+pub enum Class {
+    /// No cycle of attacks: a plan decides them.
+    FirstOrder,
+    /// A cycle, but none with a strong attack: decided in polynomial time.
+    Polynomial,
+    /// A cycle with a strong attack: as hard as any problem in coNP.
+    CoNp,
+}
+
+/// The class of a graph of attacks, and so of the query whose attacks they are.
+pub fn class_of(graph: &Attacks) -> Class
+    ensures graph { IsClassOf graph.now result }
+    ensures query { (q : Query) → AreAttacks q (whole q) graph.now → IsClass q (whole q) result }
+{
+    if has_strong_cycle(graph) {
+        return Class::CoNp;
+    }
+    if has_cycle(graph) {
+        Class::Polynomial
+    } else {
+        Class::FirstOrder
+    }
+}
+
+/// Is there a cycle?
+fn has_cycle(graph: &Attacks) -> bool
+    ensures { IsTrue result ↔ IsCyclic graph.now }
+{
+    for atom in 0..12u32 {
+        if reach(graph, atom).has(atom) {
+            return true;
+        }
+    }
+    false
+}
+
+/// Is there a cycle with a strong attack?
+fn has_strong_cycle(graph: &Attacks) -> bool
+    ensures { IsTrue result ↔ IsStronglyCyclic graph.now }
+{
+    for atom in 0..12u32 {
+        if is_on_strong_cycle(graph, atom) {
+            return true;
+        }
+    }
+    false
+}
+
+/// Does an atom that is reached from this one attack it strongly?
+fn is_on_strong_cycle(graph: &Attacks, to: u32) -> bool
+    requires { to < 12 }
+    ensures { IsTrue result ↔ ((F : ℕ) × IsStrong graph.now F to × Reaches graph.now to F) }
+{
+    let reached = reach(graph, to);
+    for atom in 0..12u32 {
+        if reached.has(atom) && is_strong(graph, atom, to) {
+            return true;
+        }
+    }
+    false
+}
+
+/// Is there a strong attack of an atom on another?
+fn is_strong(graph: &Attacks, from: u32, to: u32) -> bool
+    requires from { from < 12 }
+    requires to { to < 12 }
+    ensures { IsTrue result ↔ IsStrong graph.now from to }
+{
+    graph.has(from, to) && !graph.weak(from, to)
+}
