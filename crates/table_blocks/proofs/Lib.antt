@@ -9,4 +9,7 @@ pub mod Changing
 pub mod Cells
 pub mod Naming
 pub mod Inserting
+pub mod Taken
+pub mod Halving
+pub mod Spanning
 mod Example

@@ -1,19 +1,24 @@
-ghost use Rattle.std.specs.Prelude.{◌≡◌, ◌≤◌, ◌<◌, ◌^◌, ◌++◌, ◌∷◌, [], Some, None, Contains, OnOk, OnErr, IfOk, IfErr, IfSome, MatchOption, MatchResult, length, map, slice_get, List, ◌+◌};
+ghost use Rattle.std.specs.Prelude.{◌≡◌, ◌≤◌, ◌<◌, ◌^◌, ◌++◌, ◌∷◌, [], Some, None, Contains, OnOk, OnErr, IfOk, IfErr, IfSome, MatchOption, MatchResult, length, map, slice_get, List, ◌+◌, ◌*◌, ℕ};
 ghost use Rattle.cqa_model.specs.Database.{Table as StoredTable, IsDatabase, names_of, row_total, kinds_of, block_cmp};
 ghost use Rattle.std.specs.List.Sorted.{IsStrictlySortedBy};
 ghost use Rattle.cqa_value.specs.declared.value.Value.{Value};
 ghost use Rattle.cqa_value.specs.Values.{kind_of};
+ghost use Rattle.table_blocks.specs.Spans.{IsSpan};
 ghost use Rattle.table_blocks.specs.Tables.{table_named, rows_at, key_at, kinds_at, with_rows, insert_fault, Inserts, Deletes, IsJoined, IsSpared, IsRefusedAs};
 
 use crate::check::rows_fault_of;
+use crate::probe::Probe;
 use crate::rows::{find_in, fresh_rows};
+use crate::span::span_in;
+use crate::steps::Steps;
 use crate::table::Table;
 use crate::test::ColumnTest;
 use cqa_model::{LimitKind, Refusal, Schema};
 use cqa_value::{Fail, Items, Name, NoMemory, Row};
 use indexmap::IndexMap;
 use std::alloc::Global;
-use std::marker::Model;
+use std::marker::{Brand, Model};
+use std::sync::ledger::{Blank, Ledger};
 
 /// The most rows that all tables may have together.
 const MOST_ROWS: usize = 1_000_000;
@@ -123,6 +128,61 @@ impl Database {
             Some(at) => Some(at as u32),
             None => None,
         }
+    }
+
+    /// The rows of a table whose first key values are a probe's, and the place of the first of them.
+    ///
+    /// It takes at most twice as many comparisons of keys as the number of the table's rows has binary digits.
+    pub fn span<L: Ledger>(
+        &self,
+        table: u32,
+        probe: &Probe<'_>,
+        steps: &mut Steps<L>,
+    ) -> (u32, &[Row])
+        requires there { table < length self.now }
+        requires few { length probe.now ≤ length (key_at self.now table) }
+        ensures span { IsSpan (key_at self.now table) (rows_at self.now table) probe.now result.0 result.1.now }
+        ensures within { result.0 + length result.1.now ≤ 1_000_000 }
+        ensures cost { (digits : ℕ) → length (rows_at self.now table) < 2 ^ digits → steps.new ≤ steps.old + 2 * digits }
+    {
+        let (start, rows) = span_in(self.rows(table), self.key(table), probe, steps);
+        (start as u32, rows)
+    }
+
+    /// The block of a table whose key values are a probe's; no rows where there is none.
+    ///
+    /// It takes at most twice as many comparisons of keys as the number of the table's rows has binary digits.
+    pub fn block<L: Ledger>(&self, table: u32, probe: &Probe<'_>, steps: &mut Steps<L>) -> &[Row]
+        requires there { table < length self.now }
+        requires all { length probe.now ≡ length (key_at self.now table) }
+        ensures block { (start : ℕ) × IsSpan (key_at self.now table) (rows_at self.now table) probe.now start result.now }
+        ensures cost { (digits : ℕ) → length (rows_at self.now table) < 2 ^ digits → steps.new ≤ steps.old + 2 * digits }
+    {
+        let (_, rows) = self.span(table, probe, steps);
+        rows
+    }
+
+    fn span_from<L: Ledger>(&self, table: u32, probe: &Probe<'_>, blank: Blank) -> (u32, &[Row])
+        requires name { blank.name ≡ L.name }
+        requires parts { blank.parts ≡ L.parts }
+        requires some { 0 < blank.parts }
+        requires there { table < length self.now }
+        requires few { length probe.now ≤ length (key_at self.now table) }
+        ensures span { IsSpan (key_at self.now table) (rows_at self.now table) probe.now result.0 result.1.now }
+        ensures within { result.0 + length result.1.now ≤ 1_000_000 }
+    {
+        let mut steps = Steps::<L>::new(blank);
+        self.span(table, probe, &mut steps)
+    }
+
+    /// The same rows and place as `span`, with no count.
+    pub fn rows_with(&self, table: u32, probe: &Probe<'_>) -> (u32, &[Row])
+        requires there { table < length self.now }
+        requires few { length probe.now ≤ length (key_at self.now table) }
+        ensures span { IsSpan (key_at self.now table) (rows_at self.now table) probe.now result.0 result.1.now }
+        ensures within { result.0 + length result.1.now ≤ 1_000_000 }
+    {
+        self.span_from::<Brand>(table, probe, Blank::new(1))
     }
 
     /// Puts a table without rows last.

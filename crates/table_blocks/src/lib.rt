@@ -4,11 +4,16 @@
 mod check;
 mod database;
 mod order;
+mod probe;
 mod rows;
+mod span;
+mod steps;
 mod table;
 mod test;
 #[cfg(test)]
 mod tests;
 
 pub use database::Database;
+pub use probe::Probe;
+pub use steps::Steps;
 pub use test::{ColumnTest, compares};

@@ -18,6 +18,17 @@ pub fn cell<'a>(row: &'a Row, place: u32) -> Option<&'a Value>
     }
 }
 
+/// The value of a row in a column, or another where the row is too narrow.
+pub fn value_or_zero<'a>(row: &'a Row, place: u32, zero: &'a Value) -> &'a Value
+    ensures { result.now ≡ slice_index_or row.now place zero.now }
+{
+    if place < row.len() {
+        row.get(place)
+    } else {
+        zero
+    }
+}
+
 /// Compares two rows in one column; a row that is too narrow counts as 0 there.
 fn compare_at(place: u32, a: &Row, b: &Row) -> Ordering
     ensures { result ≡ value_cmp (slice_index_or a.now place (Int (pos 0))) (slice_index_or b.now place (Int (pos 0))) }

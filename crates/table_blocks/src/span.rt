@@ -1,0 +1,68 @@
+ghost use Rattle.std.specs.Prelude.{◌≡◌, ◌+◌, ◌*◌, ◌<◌, ◌≤◌, ◌^◌, ℕ, length, true, false};
+ghost use Rattle.std.specs.List.Sorted.{IsStrictlySortedBy, IsPartitionedBy, IsPartitionPoint};
+ghost use Rattle.cqa_model.specs.Database.{block_cmp};
+ghost use Rattle.table_blocks.specs.Spans.{probe_cmp, comes_before, IsSpan};
+
+use crate::probe::Probe;
+use crate::steps::Steps;
+use cqa_value::Row;
+use std::cmp::Ordering;
+use std::sync::ledger::Ledger;
+
+/// Whether a row that compares so comes before those that are looked for, or before those behind them.
+fn is_before(with_ties: bool, ordering: Ordering) -> bool
+    ensures { result ≡ comes_before with_ties ordering }
+{
+    match ordering {
+        Ordering::Less => true,
+        Ordering::Equal => with_ties,
+        Ordering::Greater => false,
+    }
+}
+
+/// How many rows come before those that are looked for, or before those behind them.
+fn bound<L: Ledger>(
+    rows: &[Row],
+    key: &[u32],
+    probe: &Probe<'_>,
+    with_ties: bool,
+    steps: &mut Steps<L>,
+) -> usize
+    requires few { length probe.now ≤ length key.now }
+    requires parted { IsPartitionedBy (λ row. comes_before with_ties (probe_cmp key.now probe.now row)) rows.now }
+    ensures within { result ≤ length rows.now }
+    ensures place { IsPartitionPoint (λ row. comes_before with_ties (probe_cmp key.now probe.now row) ≡ true) (λ row. comes_before with_ties (probe_cmp key.now probe.now row) ≡ false) rows.now result }
+    ensures cost { (digits : ℕ) → length rows.now < 2 ^ digits → steps.new ≤ steps.old + digits }
+{
+    let mut base = 0;
+    let mut size = rows.len();
+    while size > 0 {
+        let half = size / 2;
+        let middle = base + half;
+        if is_before(with_ties, steps.compare(key, probe, &rows[middle])) {
+            base = middle + 1;
+            size -= half + 1;
+        } else {
+            size = half;
+        }
+    }
+    base
+}
+
+/// The rows whose first key values are a probe's, and how many rows come before them.
+pub fn span_in<'a, L: Ledger>(
+    rows: &'a [Row],
+    key: &[u32],
+    probe: &Probe<'_>,
+    steps: &mut Steps<L>,
+) -> (usize, &'a [Row])
+    requires few { length probe.now ≤ length key.now }
+    requires in_order { IsStrictlySortedBy (block_cmp key.now) rows.now }
+    ensures span { IsSpan key.now rows.now probe.now result.0 result.1.now }
+    ensures cost { (digits : ℕ) → length rows.now < 2 ^ digits → steps.new ≤ steps.old + 2 * digits }
+{
+    let start = bound(rows, key, probe, false, steps);
+    let (_, rest) = rows.split_at(start);
+    let (span, _) = rest.split_at(bound(rest, key, probe, true, steps));
+    (start, span)
+}

@@ -1,0 +1,64 @@
+ghost use Rattle.std.specs.Prelude.{◌≡◌, ◌+◌, ◌<◌, ◌≤◌, length};
+ghost use Rattle.cqa_value.specs.Values.{row_cmp};
+ghost use Rattle.table_blocks.specs.Spans.{first_key, probe_cmp};
+
+use crate::order::value_or_zero;
+use crate::probe::Probe;
+use cqa_value::{Row, Value, compare};
+use std::cmp::Ordering;
+use std::marker::Model;
+use std::sync::ledger::{Blank, Book, Ledger, Share};
+
+/// How many keys were compared. It takes no bytes, and only `compare` changes it.
+#[derive(Drop)]
+pub struct Steps<L: Ledger> {
+    book: Book<L>,
+    share: Share<L>,
+}
+
+impl<L: Ledger> Model for Steps<L> {
+    ghost use Rattle.std.specs.Prelude.{ℕ, ◌<◌};
+
+    ghost Value = { ℕ };
+
+    ghost view = { λ s. s.book.total };
+
+    ghost invariant = { λ s. 0 < s.share.parts };
+}
+
+/// Compares the first key values of a row with a probe.
+fn compare_key(key: &[u32], probe: &Probe<'_>, row: &Row) -> Ordering
+    requires { length probe.now ≤ length key.now }
+    ensures { result ≡ probe_cmp key.now probe.now row.now }
+{
+    for at in 0..probe.len() {
+        let ordering = compare(value_or_zero(row, key[at], &Value::Int(0)), probe.get(at));
+        if ordering != Ordering::Equal {
+            return ordering;
+        }
+    }
+    Ordering::Equal
+}
+
+impl<L: Ledger> Steps<L> {
+    /// No steps yet.
+    pub fn new(blank: Blank) -> Steps<L>
+        requires name { blank.name ≡ L.name }
+        requires parts { blank.parts ≡ L.parts }
+        requires some { 0 < blank.parts }
+        ensures { result ≡ 0 }
+    {
+        let (book, share) = blank.open::<L>();
+        Steps { book, share }
+    }
+
+    /// Compares the first key values of a row with a probe, at the cost of a step.
+    pub fn compare(&mut self, key: &[u32], probe: &Probe<'_>, row: &Row) -> Ordering
+        requires { length probe.now ≤ length key.now }
+        ensures answer { result ≡ probe_cmp key.now probe.now row.now }
+        ensures cost { self.new ≡ self.old + 1 }
+    {
+        self.book.add(&mut self.share, 1);
+        compare_key(key, probe, row)
+    }
+}
