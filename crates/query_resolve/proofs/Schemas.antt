@@ -1,18 +1,19 @@
 -- Schemas that pass their checks.
-use Rattle.std.proofs.Common.{◌≡◌, ℕ, ◌<◌, ◌≤◌, List, [], length, take, get_or, Some, None, Bool, true, false, ◌&&◌, nat_le, nat_lt, is_none, refl, sym, ap, ◌∙◌, subst, arith, true≢false}
+use Rattle.std.proofs.Common.{◌≡◌, ℕ, ◌<◌, ◌≤◌, List, [], length, take, get_or, Contains, Some, None, Bool, true, false, ◌&&◌, nat_le, nat_lt, is_none, refl, sym, ap, ◌∙◌, subst, arith, true≢false}
+use Rattle.std.proofs.lemmas.Bool.Decides.{nat_tests}
 use Rattle.std.specs.List.{AllZip}
 use Rattle.cqa_value.specs.declared.value.Kind.TheVariants.{Int}
 use Rattle.cqa_model.specs.declared.schema.Column.{Column}
 use Rattle.cqa_model.specs.declared.refusal.Refusal.TheVariants.{TableExists, DuplicateColumn, BadKey, Limit}
 use Rattle.cqa_model.specs.declared.refusal.LimitKind.TheVariants.{Tables, Columns}
-use Rattle.cqa_model.specs.Database.{Table}
+use Rattle.cqa_model.specs.Database.{Table, names_of}
 use Rattle.cqa_model.specs.Shape.{AreDistinct, IsSchema, column_at}
 use Rattle.spj_syntax.specs.declared.tree.RawSchema.{RawSchema}
 use Rattle.table_blocks.specs.Tables.{table_named, first_of}
 use Rattle.query_resolve.specs.Names.{name_place, column_named, has_column}
 use Rattle.query_resolve.specs.Checks.{fault_unless, first_fault, table_fault, duplicate_fault, key_fault}
 use Rattle.query_resolve.proofs.Members.{both_none}
-use Rattle.query_resolve.proofs.Lookups.{passes, at_most, none_is, not_some, named_at, named_apart, passes_at, zip_at, zip_length}
+use Rattle.query_resolve.proofs.Lookups.{passes, at_most, none_is, not_some, named_at, named_nowhere, named_apart, passes_at, zip_at, zip_length}
 
 no_column : Column
 no_column = record { name = []; kind = Int }
@@ -45,10 +46,26 @@ module _ (columns : List Column) (names : List (List ℕ)) (key : List ℕ) (val
       let long = zip_length (λ (name : List ℕ) (place : ℕ). column_named columns name ≡ Some place) names key places in
       record { size = (some, few); names_differ = columns_differ columns fresh; some_key = omega (arith, long, some_key); key_in_range = λ i d inside. (named i d inside).0; key_apart = key_distinct }
 
-narrow : (db : List Table) (raw : RawSchema) → table_fault db raw ≡ None → length raw.columns ≤ 16
-narrow db raw valid =
+-- what the checks of a table that pass say, one by one
+checked : (db : List Table) (raw : RawSchema) → table_fault db raw ≡ None
+    → (fault_unless (is_none (table_named db raw.name)) (TableExists raw.name) ≡ None) × (fault_unless (nat_lt (length db) 64) (Limit Tables) ≡ None) × (fault_unless (nat_le (length raw.columns) 16) (Limit Columns) ≡ None)
+checked db raw valid =
     let rest = both_none (fault_unless (is_none (table_named db raw.name)) (TableExists raw.name)) (first_of (fault_unless (nat_lt (length db) 64) (Limit Tables)) (fault_unless (nat_le (length raw.columns) 16) (Limit Columns))) valid in
-    at_most (length raw.columns) 16 (passes _ (Limit Columns) (both_none (fault_unless (nat_lt (length db) 64) (Limit Tables)) (fault_unless (nat_le (length raw.columns) 16) (Limit Columns)) rest.1).1)
+    let sizes = both_none (fault_unless (nat_lt (length db) 64) (Limit Tables)) (fault_unless (nat_le (length raw.columns) 16) (Limit Columns)) rest.1 in
+    (rest.0, sizes.0, sizes.1)
+
+-- no table has the name
+pub free_name : (db : List Table) (raw : RawSchema) → table_fault db raw ≡ None → Contains (names_of db) raw.name → ⊥
+free_name db raw valid h =
+    let absent : table_named db raw.name ≡ None = none_is (table_named db raw.name) (passes (is_none (table_named db raw.name)) (TableExists raw.name) (checked db raw valid).0) in
+    named_nowhere (λ (n : List ℕ). n) raw.name (names_of db) raw.name h.0 absent h.1 h.2
+
+-- fewer than 64 tables are there
+pub has_room : (db : List Table) (raw : RawSchema) → table_fault db raw ≡ None → length db < 64
+has_room db raw valid = let test : nat_lt (length db) 64 ≡ true = passes (nat_lt (length db) 64) (Limit Tables) (checked db raw valid).1 in grind (arith, nat_tests)
+
+narrow : (db : List Table) (raw : RawSchema) → table_fault db raw ≡ None → length raw.columns ≤ 16
+narrow db raw valid = at_most (length raw.columns) 16 (passes _ (Limit Columns) (checked db raw valid).2)
 
 -- the places of the key's names, which were read from the schema
 pub key_seen : (raw : RawSchema) (columns : List Column) (names : List (List ℕ)) (key : List ℕ) → columns ≡ raw.columns → names ≡ raw.key → AllZip (λ (name : List ℕ) (place : ℕ). column_named columns name ≡ Some place) names key

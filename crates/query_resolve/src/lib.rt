@@ -12,3 +12,6 @@ mod schema;
 pub use deletion::resolve_tests;
 pub use query::resolve;
 pub use schema::resolve_schema;
+
+#[cfg(test)]
+mod tests;

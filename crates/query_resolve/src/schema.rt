@@ -1,5 +1,6 @@
-ghost use Rattle.std.specs.Prelude.{◌≡◌, ◌≤◌, [], Some, None, IfOk, OnOk, IfErr, length};
+ghost use Rattle.std.specs.Prelude.{◌≡◌, ◌≤◌, ◌<◌, [], Some, None, IfOk, OnOk, IfErr, Contains, length};
 ghost use Rattle.std.specs.List.{AllZip};
+ghost use Rattle.cqa_model.specs.Database.{names_of};
 ghost use Rattle.table_blocks.specs.Tables.{IsRefusedAs};
 ghost use Rattle.query_resolve.specs.Names.{column_named};
 ghost use Rattle.query_resolve.specs.Checks.{first_fault, table_fault, duplicate_fault, key_fault, schema_fault};
@@ -32,6 +33,10 @@ pub fn resolve_schema(
     requires some_key { 1 ≤ length raw.now.key }
     ensures resolved { IfOk result (λ schema. IsSchemaOf raw.now schema) }
     ensures valid { OnOk result (schema_fault db.now raw.now ≡ None) }
+
+    // The table can be made.
+    ensures room { OnOk result (length db.now < 64) }
+    ensures free { OnOk result (Contains (names_of db.now) raw.now.name → ⊥) }
     ensures refused { IfErr result (λ e. IsRefusedAs e (schema_fault db.now raw.now)) }
 {
     check_table(alloc, db, raw)?;

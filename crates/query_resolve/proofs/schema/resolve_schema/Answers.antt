@@ -1,5 +1,5 @@
 use Rattle.std.proofs.Common.{◌∙◌}
-use Rattle.query_resolve.proofs.Schemas.{kept_schema, key_seen}
+use Rattle.query_resolve.proofs.Schemas.{kept_schema, key_seen, free_name, has_room}
 use Rattle.query_resolve.proofs.schema.resolve_schema.Goals as goal
 
 pub invariant_of-result : goal.invariant_of-result
@@ -15,3 +15,9 @@ returns-clause-resolved c = record {
   columns = c.in_ok-columns.ensures.copied ∙ c.as_slice.ensures;
   key = key_seen c.args.raw.now c.as_slice-2.result.now c.as_slice-3.result.now c.in_ok-key.key c.as_slice-2.ensures c.as_slice-3.ensures c.in_ok-key.ensures.resolved;
 }
+
+pub returns-clause-room : goal.returns-clause-room
+returns-clause-room c = has_room c.args.db.now c.args.raw.now c.in_ok-check_table.ensures.valid
+
+pub returns-clause-free : goal.returns-clause-free
+returns-clause-free c = free_name c.args.db.now c.args.raw.now c.in_ok-check_table.ensures.valid
