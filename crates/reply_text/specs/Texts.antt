@@ -11,9 +11,12 @@ use Rattle.cqa_model.specs.declared.refusal.Place.{Place}
 use Rattle.cqa_model.specs.declared.refusal.Place.TheVariants.{Cell, Condition}
 use Rattle.cqa_model.specs.declared.refusal.LimitKind.{LimitKind}
 use Rattle.cqa_model.specs.declared.refusal.LimitKind.TheVariants.{Name as NameLimit, Tables as TablesLimit, Columns as ColumnsLimit, Atoms as AtomsLimit, Answer as AnswerLimit, Rows as RowsLimit}
+use Rattle.query_class.specs.declared.classes.Class.{Class}
+use Rattle.query_class.specs.declared.classes.Class.TheVariants.{FirstOrder, Polynomial, CoNp}
+use Rattle.reply_text.specs.declared.reply.AttackLine.{AttackLine}
 use Rattle.reply_text.specs.declared.reply.TableLine.{TableLine}
 use Rattle.reply_text.specs.declared.reply.Reply.{Reply}
-use Rattle.reply_text.specs.declared.reply.Reply.TheVariants.{Created, Inserted, Deleted, Rows, Tables, Refused}
+use Rattle.reply_text.specs.declared.reply.Reply.TheVariants.{Created, Inserted, Deleted, Rows, Classified, Tables, Refused}
 
 -- row R column C, or condition K
 abbrev pub place_text : Place → List ℕ
@@ -64,6 +67,23 @@ table_text line = schema_bytes line.schema ++ codes " rows " ++ decimal line.row
 abbrev pub rows_text : List (List Value) → List ℕ
 rows_text rows = flat_map (λ row. row_bytes row ++ codes "\n") rows ++ decimal (length rows) ++ codes " rows"
 
+abbrev pub class_text : Class → List ℕ
+class_text FirstOrder = codes "first-order"
+class_text Polynomial = codes "polynomial"
+class_text CoNp = codes "conp-complete"
+
+abbrev pub strength_text : Bool → List ℕ
+strength_text true = codes ", weak"
+strength_text false = codes ", strong"
+
+-- NAME attacks NAME, weak or strong
+abbrev pub attack_text : AttackLine → List ℕ
+attack_text line = line.from ++ codes " attacks " ++ line.to ++ strength_text line.weak
+
+-- class CLASS, then each attack on a line of its own
+abbrev pub classified_text : Class → List AttackLine → List ℕ
+classified_text class lines = codes "class " ++ class_text class ++ flat_map (λ line. codes "\n" ++ attack_text line) lines
+
 -- each table on a line of its own, then N tables
 abbrev pub tables_text : List TableLine → List ℕ
 tables_text lines = flat_map (λ line. table_text line ++ codes "\n") lines ++ decimal (length lines) ++ codes " tables"
@@ -74,6 +94,7 @@ reply_text (Created name) = codes "created " ++ name ++ codes "\n"
 reply_text (Inserted count) = codes "inserted " ++ decimal count ++ codes "\n"
 reply_text (Deleted count) = codes "deleted " ++ decimal count ++ codes "\n"
 reply_text (Rows rows) = rows_text rows ++ codes "\n"
+reply_text (Classified class lines) = classified_text class lines ++ codes "\n"
 reply_text (Tables lines) = tables_text lines ++ codes "\n"
 reply_text (Refused refusal) = refusal_text refusal ++ codes "\n"
 
@@ -84,4 +105,5 @@ is_refusal (Created name) = false
 is_refusal (Inserted count) = false
 is_refusal (Deleted count) = false
 is_refusal (Rows rows) = false
+is_refusal (Classified class lines) = false
 is_refusal (Tables lines) = false

@@ -2,11 +2,12 @@
 #![tactic(auto)]
 
 mod append;
+mod classified;
 mod refused;
 mod reply;
 mod text;
 
-pub use reply::{Reply, TableLine};
+pub use reply::{AttackLine, Reply, TableLine};
 pub use text::reply_bytes;
 
 #[cfg(test)]

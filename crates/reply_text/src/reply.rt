@@ -1,5 +1,6 @@
 use cqa_model::{Refusal, Schema};
 use cqa_value::{Items, Name, Row};
+use query_class::Class;
 
 /// What a statement is answered by.
 #[derive(Drop)]
@@ -12,6 +13,11 @@ pub enum Reply {
     Deleted(u32),
     /// The rows of an answer.
     Rows(Items<Row>),
+    /// The class of a query, and the attacks between its atoms.
+    Classified {
+        class: Class,
+        lines: Items<AttackLine>,
+    },
     /// The tables in the order in which they were made.
     Tables(Items<TableLine>),
     /// The statement was refused and changed nothing.
@@ -24,4 +30,12 @@ pub struct TableLine {
     pub schema: Schema,
     pub rows: u32,
     pub blocks: u32,
+}
+
+/// An attack of one of a query's tables on another.
+#[derive(Drop)]
+pub struct AttackLine {
+    pub from: Name,
+    pub to: Name,
+    pub weak: bool,
 }

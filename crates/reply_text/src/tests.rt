@@ -1,6 +1,7 @@
-use crate::{Reply, TableLine, reply_bytes};
+use crate::{AttackLine, Reply, TableLine, reply_bytes};
 use cqa_model::{Column, LimitKind, Place, Refusal, Schema};
 use cqa_value::{Fail, Items, Kind, Name, NameFault, Row, Value};
+use query_class::Class;
 use std::alloc::Global;
 use std::test::Fail as TestFail;
 
@@ -74,6 +75,37 @@ fn lists(alloc: Global) -> Result<Vec<Case>, Fail<NameFault>> {
             Reply::Tables(lines),
             "r (x int, primary key (x)) rows 3 blocks 2\ntown (city int, primary key (city)) rows 150 blocks 100\n2 tables\n",
         ),
+    ]?)
+}
+
+fn classes(alloc: Global) -> Result<Vec<Case>, Fail<NameFault>> {
+    let name = |text: &str| name(alloc, text);
+    let lines = Items::from_vec(vec![in alloc;
+        AttackLine {
+            from: name("r")?,
+            to: name("s")?,
+            weak: true
+        },
+        AttackLine {
+            from: name("s")?,
+            to: name("town")?,
+            weak: false
+        },
+    ]?);
+    let classified = |class: Class| Reply::Classified {
+        class,
+        lines: Items::new(alloc),
+    };
+    Ok(vec![in alloc;
+        (
+            Reply::Classified {
+                class: Class::CoNp,
+                lines
+            },
+            "class conp-complete\nr attacks s, weak\ns attacks town, strong\n",
+        ),
+        (classified(Class::FirstOrder), "class first-order\n"),
+        (classified(Class::Polynomial), "class polynomial\n"),
     ]?)
 }
 
@@ -216,6 +248,7 @@ fn each_reply_is_written(rt: HostRuntime) -> Result<(), TestFail> {
     let tables = [
         counts(alloc)?,
         lists(alloc)?,
+        classes(alloc)?,
         refusals_with_numbers(alloc)?,
         refusals_with_names(alloc)?,
         refusals_with_limits(alloc)?,

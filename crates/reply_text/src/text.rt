@@ -2,6 +2,7 @@ ghost use Rattle.std.specs.Prelude.{◌≡◌, ◌++◌, IfOk, OnOk, codes};
 ghost use Rattle.reply_text.specs.Texts.{reply_text, rows_text, table_text, tables_text};
 
 use crate::append::{append_named, append_number, append_numbered, append_words};
+use crate::classified::append_classified;
 use crate::refused::append_refusal;
 use crate::{Reply, TableLine};
 use cqa_model::schema_text;
@@ -29,6 +30,7 @@ fn append_reply(reply: &Reply, out: &mut Vec<u8>) -> Result<(), NoMemory>
         Reply::Inserted(count) => append_numbered("inserted ", *count, out)?,
         Reply::Deleted(count) => append_numbered("deleted ", *count, out)?,
         Reply::Rows(rows) => append_rows(rows.as_slice(), out)?,
+        Reply::Classified { class, lines } => append_classified(*class, lines.as_slice(), out)?,
         Reply::Tables(lines) => append_tables(lines.as_slice(), out)?,
         Reply::Refused(refusal) => append_refusal(refusal, out)?,
     }
