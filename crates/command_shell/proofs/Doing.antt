@@ -1,6 +1,5 @@
 -- What a statement does where no check fails.
-use Rattle.std.proofs.Common.{◌≡◌, inr, ℕ, suc, ◌+◌, ◌≤◌, Bool, true, false, ◌&&◌, nat_eq, nat_lt, nat_le, is_none, if◌then◌else◌, List, [], ◌∷◌, ◌++◌, length, take, get_or, slice_get, Contains, Option, Some, None, Result, Ok, Err, refl, sym, ap, ◌∙◌, subst, arith}
-use Rattle.std.specs.List.{list_all}
+use Rattle.std.proofs.Common.{◌≡◌, inr, ℕ, suc, ◌+◌, ◌≤◌, Bool, true, nat_lt, nat_le, is_none, if◌then◌else◌, List, [], ◌∷◌, ◌++◌, length, take, get_or, slice_get, Contains, Option, Some, None, Result, Ok, Err, refl, sym, ap, ◌∙◌, subst, arith}
 use Rattle.std.proofs.lemmas.Bool.Decides.{nat_tests}
 use Rattle.std.proofs.lemmas.Option.{slice_get_within, get_or_from_slice_get}
 use Rattle.std.proofs.lemmas.Slice.Zip.{AllZip-long}
@@ -11,7 +10,7 @@ use Rattle.cqa_model.specs.declared.query.Query.{Query}
 use Rattle.cqa_model.specs.declared.refusal.Refusal.TheVariants.{TableExists, Limit, Syntax}
 use Rattle.cqa_model.specs.declared.refusal.LimitKind.TheVariants.{Tables, Columns}
 use Rattle.cqa_model.specs.Database.{Table, names_of}
-use Rattle.cqa_model.specs.Certain.{IsCertainAnswer}
+use Rattle.cqa_model.specs.Certain.{IsCertainAnswer, IsPossibleAnswer}
 use Rattle.spj_syntax.specs.declared.tree.RawSchema.{RawSchema}
 use Rattle.spj_syntax.specs.declared.tree.Select.{Select}
 use Rattle.spj_syntax.specs.declared.tree.Statement.{Statement}
@@ -27,8 +26,8 @@ use Rattle.reply_text.specs.declared.reply.Reply.TheVariants.{Created, Rows}
 use Rattle.command_shell.specs.declared.ending.Stop.{Stop}
 use Rattle.command_shell.specs.declared.ending.Stop.TheVariants as stops
 use Rattle.command_shell.specs.State.{State}
-use Rattle.command_shell.specs.Machine.{is_test, is_single, Executes, RefusedOr, Replies, Step}
-use Rattle.command_shell.specs.Top.{AnswerRow, ReplyRow}
+use Rattle.command_shell.specs.Machine.{is_single, Executes, RefusedOr, Replies, Step}
+use Rattle.command_shell.specs.Parts.{AnswerRow, ReplyRow}
 
 -- the name of a schema without a fault is free
 pub free_name : (db : List Table) (raw : RawSchema) (name : List ℕ) → schema_fault db raw ≡ None → name ≡ raw.name → Contains (names_of db) name → ⊥
@@ -52,12 +51,8 @@ take_next xs i x e =
     let count : suc i ≡ i + 1 = omega arith in
     ap (λ y. take i xs ++ y ∷ []) (sym got) ∙ sym next ∙ ap (λ n. take n xs) count
 
-both_hold : (a b : Bool) → (a && b) ≡ true → a ≡ true
-both_hold true b e = refl
-both_hold false b e = e
-
 pub one_table : (select : Select) → is_single select ≡ true → length select.tables ≡ 1
-one_table select e = let one = both_hold (nat_eq (length select.tables) 1) (list_all is_test select.conds) e in grind (arith, nat_tests)
+one_table select e = grind (arith, nat_tests)
 
 pub one_atom : (db : List Table) (select : Select) (query : Query) → is_single select ≡ true → IsQueryOf db select query → length query.atoms ≡ 1
 one_atom db select query single is = AllZip-long (IsAtomOf db) select.tables query.atoms is.atoms ∙ one_table select single
@@ -67,6 +62,10 @@ pub asked : (db : List Table) (select : Select) (query : Query) (rows : List (Li
 asked db select query rows single valid is certain =
     subst (λ b. RefusedOr (if b then query_fault db select else Some (Syntax 0)) db (Rows rows) db (Executes db (statements.Ask select) (Rows rows) db)) (sym single)
     (subst (λ fault. RefusedOr fault db (Rows rows) db (Executes db (statements.Ask select) (Rows rows) db)) (sym valid) (query, is, certain, refl))
+
+pub looked_for : (db : List Table) (select : Select) (query : Query) (rows : List (List Value)) → query_fault db select ≡ None → IsQueryOf db select query → IsPossibleAnswer db query rows → Replies db (statements.Possible select) (Rows rows) db
+looked_for db select query rows valid is possible =
+    subst (λ fault. RefusedOr fault db (Rows rows) db (Executes db (statements.Possible select) (Rows rows) db)) (sym valid) (query, is, possible, refl)
 
 -- a reply that is written answers its statement
 pub answered : (result : Result Bool Stop) (rose : Type 0) (held_old held_new : Option (List ℕ)) (old new : State) (s : List ℕ × Option (List ℕ)) (reply : Reply) → Step old s.0 s.1 reply new

@@ -2,6 +2,8 @@ pub mod BlockWalk
 pub mod CertainCase
 pub mod CertainWalk
 pub mod Doing
+mod LineSteps
 pub mod FaultPlaces
 pub mod Progress
+pub mod Sayings
 pub mod Statuses

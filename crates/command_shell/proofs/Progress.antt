@@ -15,8 +15,8 @@ use Rattle.command_shell.specs.declared.ending.Stop.{Stop}
 use Rattle.command_shell.specs.declared.ending.Stop.TheVariants as stops
 use Rattle.command_shell.specs.State.{State}
 use Rattle.command_shell.specs.Machine.{Step}
-use Rattle.command_shell.specs.Runs.{Run, Closes, text_of, has_refusal}
-use Rattle.command_shell.specs.Top.{Answers, CutShort, AnswerRow, ReplyRow, CloseRow, ProgressRow}
+use Rattle.command_shell.specs.Runs.{Run, Closes, Answers, CutShort, text_of, has_refusal}
+use Rattle.command_shell.specs.Parts.{AnswerRow, ReplyRow, CloseRow, ProgressRow}
 
 pub Run-push : (old : State) (statements : List Statement) (replies : List Reply) (now : State) (s : Statement) (reply : Reply) (new : State)
     → Run old statements replies now → Step now s.0 s.1 reply new → Run old (statements ++ s ∷ []) (replies ++ reply ∷ []) new

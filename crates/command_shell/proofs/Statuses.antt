@@ -1,12 +1,23 @@
 -- The rows of the statuses.
-use Rattle.std.proofs.Common.{◌≡◌, inl, inr, ℕ, Bool, true, false, List, [], ◌++◌, take, drop, refl, subst}
-use Rattle.std.proofs.lemmas.List.{take-append-drop}
+use Rattle.std.proofs.Common.{◌≡◌, ◌≢◌, inl, inr, ◌≤◌, ◌+◌, ℕ, Bool, true, false, List, [], ◌++◌, length, take, drop, Option, None, Some, Err, refl, ap, ◌∙◌, subst, arith}
+use Rattle.std.proofs.lemmas.List.{take-append-drop, length-append}
+use Rattle.std.specs.Io.KnownBytes.{Consumes, Appends, IsAtEnd}
+use Rattle.std.proofs.KnownBytes.{Appends-nil, Consumes-nil}
+use Rattle.cqa_io.specs.Causes.{Rose}
 use Rattle.script_lex.specs.Scripts.{Statement, Begins}
 use Rattle.script_lex.proofs.Statements.{Begins-append}
+use Rattle.command_shell.specs.declared.ending.Command.{Command}
+use Rattle.command_shell.specs.declared.ending.Command.TheVariants.{Run, Check}
+use Rattle.command_shell.specs.declared.ending.ReadEnd.{ReadEnd}
+use Rattle.command_shell.specs.declared.ending.ReadEnd.TheVariants as reading
+use Rattle.command_shell.specs.declared.ending.Stop.{Stop}
+use Rattle.command_shell.specs.declared.ending.Stop.TheVariants as stops
 use Rattle.command_shell.specs.declared.ending.Ending.{Ending}
 use Rattle.command_shell.specs.declared.ending.Ending.TheVariants.{Answered, WithRefusal, BadWords, ReadFault, WriteFault, OutOfMemory, TooLong}
 use Rattle.command_shell.specs.State.{State}
-use Rattle.command_shell.specs.Top.{Call, CutShort, Ended, Outside, Row}
+use Rattle.command_shell.specs.Runs.{Answers, CutShort}
+use Rattle.command_shell.specs.Top.{Call, Ended, Outside, RunRow, CheckRow, CountsReadFault, CountsWriteFault, code_of, limit, IsWithinLimit, IsCompleted}
+use Rattle.command_shell.specs.Parts.{ReadRow, ProgressRow}
 
 pub nothing_written : (old : State) (bytes : List ℕ) (at_end : Type 0) → CutShort old bytes at_end old []
 nothing_written old bytes at_end = record { ended = false; is_end = λ e. absurd (cc e); statements = []; rest = bytes; replies = []; last = []; more = []; begins = refl; run = refl; tail = inl refl; written_is = refl }
@@ -35,30 +46,92 @@ of_front bytes n at_end s = record {
   written_is = s.written_is;
 }
 
--- an answer that stops where the input had ended, or not
-pub cut_at : {old new : State} {bytes written : List ℕ} {at_end : Type 0} (ended : Bool) → (ended ≡ true → at_end) → CutShort old bytes (ended ≡ true) new written → CutShort old bytes at_end new written
-cut_at ended end s = record {
-  ended = s.ended;
-  is_end = λ e. end (s.is_end e);
-  statements = s.statements;
-  rest = s.rest;
-  replies = s.replies;
-  last = s.last;
-  more = s.more;
-  begins = s.begins;
-  run = s.run;
-  tail = s.tail;
-  written_is = s.written_is;
-}
+-- ---- how a run ends
 
-pub accepted_row : (ending : Ending) (accepted at_end read_rose write_rose : Type 0) (call : Call) → accepted → Row ending (Unit {0}) at_end read_rose write_rose call → Row ending accepted at_end read_rose write_rose call
-accepted_row Answered accepted at_end read_rose write_rose call a r = (a, r.1, r.2, r.3)
-accepted_row WithRefusal accepted at_end read_rose write_rose call a r = (a, r.1, r.2, r.3)
-accepted_row BadWords accepted at_end read_rose write_rose call a r = absurd (r.0 tt)
-accepted_row ReadFault accepted at_end read_rose write_rose call a r = (a, r.1, r.2, r.3)
-accepted_row WriteFault accepted at_end read_rose write_rose call a r = (a, r.1, r.2)
-accepted_row OutOfMemory accepted at_end read_rose write_rose call a r = (a, r.1)
-accepted_row TooLong accepted at_end read_rose write_rose call a r = (a, r.1, r.2)
+exactly : (n : ℕ) → n ≡ limit + 1 → n ≤ limit + 1
+exactly n h = omega (arith, h)
 
-pub accept : {ending : Ending} {before after : Outside} {old new : State} (accepted : Type 0) → accepted → Ended ending (Unit {0}) before after old new → Ended ending accepted before after old new
-accept {ending = ending} accepted a e = record { came = e.came; written = e.written; took = e.took; put = e.put; row = accepted_row ending accepted _ _ _ _ a e.row }
+abbrev pub stop_ending : Stop → Ending
+stop_ending stops.WriteFault = WriteFault
+stop_ending stops.OutOfMemory = OutOfMemory
+
+-- how the reading ended: with these bytes
+abbrev pub Took : ReadEnd → (before after : Outside) → List ℕ → Type 0
+Took end before after input = (came : List ℕ) × Consumes before.left after.left came × ReadRow end (IsAtEnd after.left) (Rose before.reads after.reads) came input
+
+-- All of some bytes was answered.
+abbrev pub Done : (before after : Outside) → State → List ℕ → Bool → State → Bool → Type 0
+Done before after old bytes ended new refused = (written : List ℕ) × Appends before.held after.held written × Answers old bytes ended new written refused
+
+module _ {before after : Outside} {old : State} where
+  -- memory ran out while the input was read
+  pub unread : (input : List ℕ) → Took reading.OutOfMemory before after input → Appends before.held after.held [] → Ended (Some Run) OutOfMemory before after old old
+  unread input took put = record { came = took.0; written = []; took = took.1; put = put; row = (took.2, nothing_written old took.0 (IsAtEnd after.left)) }
+
+  -- too much came, and what is within the limit was answered
+  pub answered_front : {new : State} {input slice : List ℕ} → Took reading.TooLong before after input → slice ≡ take limit input → (refused : Bool) → Done before after old slice false new refused → Ended (Some Run) TooLong before after old new
+  answered_front {new = new} took is refused done = record {
+    came = took.0;
+    written = done.0;
+    took = took.1;
+    put = done.1;
+    row = (took.2.1, (refused, subst (λ l. Answers old l false new done.0 refused) (is ∙ ap (take limit) took.2.0) done.2));
+  }
+
+  -- too much came, and the answers stopped
+  pub stopped_in_front : {new : State} {input slice : List ℕ} → Took reading.TooLong before after input → slice ≡ take limit input → (stop : Stop)
+      → ProgressRow (Err stop) (Rose before.writes after.writes) before.held after.held old slice false new → Ended (Some Run) (stop_ending stop) before after old new
+  stopped_in_front {new = new} {slice = slice} took is stop done = by_stop stop done
+    where
+      few : length took.0 ≤ limit + 1
+      few = exactly (length took.0) took.2.1
+
+      short : (written : List ℕ) → CutShort old slice (false ≡ true) new written → CutShort old took.0 (IsAtEnd after.left) new written
+      short written s = of_front took.0 limit (IsAtEnd after.left) (subst (λ l. CutShort old l (false ≡ true) new written) (is ∙ ap (take limit) took.2.0) s)
+
+      by_stop : (stop : Stop) → ProgressRow (Err stop) (Rose before.writes after.writes) before.held after.held old slice false new → Ended (Some Run) (stop_ending stop) before after old new
+      by_stop stops.WriteFault done = record { came = took.0; written = done.1.0; took = took.1; put = done.1.1; row = (done.0, few, short done.1.0 done.1.2) }
+      by_stop stops.OutOfMemory done = record { came = took.0; written = done.0; took = took.1; put = done.1; row = (few, short done.0 done.2) }
+
+-- words that aren't accepted
+pub refused_words : (command : Option Command) (outside : Outside) (state : State) → command ≡ None → Ended command BadWords outside outside state state
+refused_words (Some Run) outside state e = absurd (cc e)
+refused_words (Some Check) outside state e = absurd (cc e)
+refused_words None outside state e = record { came = []; written = []; took = Consumes-nil outside.left; put = Appends-nil outside.held; row = ((refl, refl, refl), refl) }
+
+-- ---- completeness
+
+longer : (bytes left : List ℕ) (n : ℕ) → length (bytes ++ left) ≤ n → length bytes ≡ n + 1 → ⊥
+longer bytes left n short long = let both = length-append bytes left in omega (arith, short, long, both)
+
+too_long : (left now : Option (List ℕ)) (came : List ℕ) → Consumes left now came → IsWithinLimit left → length came ≡ limit + 1 → ⊥
+too_long None now came took short long = short
+too_long (Some bytes) None came took short long = took
+too_long (Some bytes) (Some rest) came took short long = longer came rest limit (subst (λ l. length l ≤ limit) took short) long
+
+run_completed : (ending : Ending) (call : Call) (status : ℕ) → status ≡ code_of ending → Consumes call.before.left call.after.left call.came → RunRow ending call
+    → (CountsReadFault call → ⊥) → (CountsWriteFault call → ⊥) → IsWithinLimit call.before.left → IsCompleted status
+run_completed Answered call status is took row reads writes short = inl is
+run_completed WithRefusal call status is took row reads writes short = inr (inl is)
+run_completed BadWords call status is took row reads writes short = absurd row
+run_completed ReadFault call status is took row reads writes short = absurd (reads row.0)
+run_completed WriteFault call status is took row reads writes short = absurd (writes row.0)
+run_completed OutOfMemory call status is took row reads writes short = inr (inr is)
+run_completed TooLong call status is took row reads writes short = absurd (too_long call.before.left call.after.left call.came took short row.0)
+
+check_completed : (ending : Ending) (call : Call) (status : ℕ) → status ≡ code_of ending → Consumes call.before.left call.after.left call.came → CheckRow ending call
+    → (CountsReadFault call → ⊥) → (CountsWriteFault call → ⊥) → IsWithinLimit call.before.left → IsCompleted status
+check_completed Answered call status is took row reads writes short = inl is
+check_completed WithRefusal call status is took row reads writes short = inr (inl is)
+check_completed BadWords call status is took row reads writes short = absurd row
+check_completed ReadFault call status is took row reads writes short = absurd (reads row.0)
+check_completed WriteFault call status is took row reads writes short = absurd (writes row.0)
+check_completed OutOfMemory call status is took row reads writes short = inr (inr is)
+check_completed TooLong call status is took row reads writes short = absurd (too_long call.before.left call.after.left call.came took short row.0)
+
+-- a call without a fault over an input within the limit
+pub completed : (command : Option Command) (ending : Ending) (before after : Outside) (old new : State) (status : ℕ) → status ≡ code_of ending → Ended command ending before after old new
+    → command ≢ None → (Rose before.reads after.reads → ⊥) → (Rose before.writes after.writes → ⊥) → IsWithinLimit before.left → IsCompleted status
+completed (Some Run) ending before after old new status is e some reads writes short = run_completed ending _ status is e.took e.row reads writes short
+completed (Some Check) ending before after old new status is e some reads writes short = check_completed ending _ status is e.took e.row.0 reads writes short
+completed None ending before after old new status is e some reads writes short = absurd (some refl)

@@ -1,6 +1,8 @@
 pub mod State
 pub mod Counts
 pub mod Offsets
+pub mod AttackLines
 pub mod Machine
 pub mod Runs
 pub mod Top
+pub mod Parts

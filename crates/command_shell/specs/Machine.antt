@@ -1,6 +1,5 @@
 -- One step of the machine: what it replies to a statement, and the state after it.
-use Rattle.std.specs.Prelude.{◌≡◌, ◌⊎◌, ◌≤◌, ◌==◌, ◌&&◌, ◌++◌, ◌∷◌, [], ℕ, Bool, true, false, if◌then◌else◌, List, map, Option, Some, None, Result, Ok, Err, length}
-use Rattle.std.specs.List.{list_all}
+use Rattle.std.specs.Prelude.{◌≡◌, ◌⊎◌, ◌≤◌, ◌==◌, ◌++◌, ◌∷◌, [], ℕ, Bool, if◌then◌else◌, List, map, Option, Some, None, Result, Ok, Err, length}
 use Rattle.script_lex.specs.declared.kinds.Token.{Token}
 use Rattle.script_lex.specs.declared.kinds.LexFault.{LexFault}
 use Rattle.script_lex.specs.declared.kinds.LexFault.TheVariants as lexing
@@ -11,13 +10,13 @@ use Rattle.spj_syntax.specs.declared.tree.Statement.{Statement}
 use Rattle.spj_syntax.specs.declared.tree.Statement.TheVariants as statements
 use Rattle.spj_syntax.specs.Parsed.{lexemes, IsStatement, AllFit, Refuses}
 use Rattle.spj_syntax.specs.Written.{IsWrittenAs}
-use Rattle.spj_syntax.specs.declared.tree.RawCond.{RawCond}
-use Rattle.spj_syntax.specs.declared.tree.RawCond.TheVariants as conds
 use Rattle.spj_syntax.specs.declared.tree.Select.{Select}
 use Rattle.cqa_model.specs.declared.schema.Schema.{Schema}
 use Rattle.cqa_model.specs.declared.query.Query.{Query}
 use Rattle.cqa_model.specs.Database.{Table}
-use Rattle.cqa_model.specs.Certain.{IsCertainAnswer}
+use Rattle.cqa_model.specs.Certain.{IsCertainAnswer, IsPossibleAnswer}
+use Rattle.cqa_model.specs.Variables.{whole}
+use Rattle.query_class.specs.Cycles.{IsClass}
 use Rattle.table_blocks.specs.declared.test.ColumnTest.{ColumnTest}
 use Rattle.table_blocks.specs.Tables.{table_named, insert_fault, Inserts, Deletes}
 use Rattle.query_resolve.specs.Checks.{schema_fault, tests_fault, query_fault}
@@ -28,7 +27,8 @@ use Rattle.cqa_model.specs.declared.refusal.Refusal.{Refusal}
 use Rattle.cqa_model.specs.declared.refusal.Refusal.TheVariants.{BadByte, Syntax, StatementTooLong, UnknownTable, OutOfRange, TextTooLong, Limit}
 use Rattle.cqa_model.specs.declared.refusal.LimitKind.TheVariants.{Name}
 use Rattle.reply_text.specs.declared.reply.Reply.{Reply}
-use Rattle.reply_text.specs.declared.reply.Reply.TheVariants.{Created, Inserted, Deleted, Rows, Tables, Refused}
+use Rattle.reply_text.specs.declared.reply.Reply.TheVariants.{Created, Inserted, Deleted, Rows, Classified, Tables, Refused}
+use Rattle.command_shell.specs.AttackLines.{AreAttackLines}
 use Rattle.command_shell.specs.State.{State}
 
 -- ---- what a text says
@@ -72,16 +72,15 @@ abbrev pub Says : List ℕ → Result Statement Refusal → Type 0
 Says text (Ok statement) = HasStatement text statement
 Says text (Err refusal) = HasNoTokens text refusal ⊎ HasNoStatement text refusal
 
+-- The law: a text says at most one thing.
+abbrev pub SaysOneThing : Type 0
+SaysOneThing = (text : List ℕ) (a b : Result Statement Refusal) → Says text a → Says text b → a ≡ b
+
 -- ---- which check of a statement fails first
 
--- a condition between a column and a literal
-abbrev pub is_test : RawCond → Bool
-is_test (conds.Join left right) = false
-is_test (conds.Test col op value) = true
-
--- a query of one table without a condition between two columns
+-- a query of one table
 abbrev pub is_single : Select → Bool
-is_single select = (length select.tables == 1) && list_all is_test select.conds
+is_single select = length select.tables == 1
 
 -- a check of the table with a name, which has to be there
 abbrev pub at_place : Option ℕ → List ℕ → (ℕ → Option Refusal) → Option Refusal
@@ -97,6 +96,8 @@ fault_in db (statements.Create raw) = schema_fault db raw
 fault_in db (statements.Insert name rows) = on_table db name (λ table. insert_fault db table rows)
 fault_in db (statements.Delete name tests) = on_table db name (λ table. tests_fault db table tests)
 fault_in db (statements.Ask select) = if is_single select then query_fault db select else Some (Syntax 0)
+fault_in db (statements.Possible select) = query_fault db select
+fault_in db (statements.Classify select) = query_fault db select
 fault_in db statements.ShowTables = None
 fault_in db _ = Some (Syntax 0)
 
@@ -112,6 +113,8 @@ Executes old (statements.Create raw) (Created name) new = (schema : Schema) × I
 Executes old (statements.Insert name rows) (Inserted count) new = (table : ℕ) × (table_named old name ≡ Some table) × Inserts old table rows new count
 Executes old (statements.Delete name raw) (Deleted count) new = (table : ℕ) × (tests : List ColumnTest) × (table_named old name ≡ Some table) × AreTestsOf old table raw tests × Deletes old table tests new count
 Executes old (statements.Ask select) (Rows rows) new = (query : Query) × IsQueryOf old select query × IsCertainAnswer old query rows × (new ≡ old)
+Executes old (statements.Possible select) (Rows rows) new = (query : Query) × IsQueryOf old select query × IsPossibleAnswer old query rows × (new ≡ old)
+Executes old (statements.Classify select) (Classified class lines) new = (query : Query) × IsQueryOf old select query × IsClass query (whole query) class × AreAttackLines query select.tables lines × (new ≡ old)
 Executes old statements.ShowTables (Tables lines) new = (lines ≡ map line_of old) × (new ≡ old)
 Executes old statement reply new = ⊥
 

@@ -1,7 +1,7 @@
 -- Runs of the machine over an input.
-use Rattle.std.specs.Prelude.{◌≡◌, ℕ, Bool, true, false, List, [], ◌∷◌, ◌++◌}
+use Rattle.std.specs.Prelude.{◌≡◌, ◌⊎◌, ℕ, Bool, true, false, List, [], ◌∷◌, ◌++◌}
 use Rattle.std.specs.List.{flat_map, list_any}
-use Rattle.script_lex.specs.Scripts.{Statement, Cuts, IsSpace}
+use Rattle.script_lex.specs.Scripts.{Statement, Begins, Cuts, HasNoStatement, IsSpace}
 use Rattle.cqa_model.specs.declared.refusal.Refusal.TheVariants.{Unfinished}
 use Rattle.reply_text.specs.declared.reply.Reply.{Reply}
 use Rattle.reply_text.specs.declared.reply.Reply.TheVariants.{Refused}
@@ -40,3 +40,24 @@ pub record RunsOver (old : State) (input : List ℕ) (ended : Bool) (replies : L
   pub run : Run old statements answered new
   pub closes : Closes ended rest last
   pub all : replies ≡ answered ++ last
+
+-- The statements of the bytes were answered, and the end of the input where it has ended.
+pub record Answers (old : State) (bytes : List ℕ) (ended : Bool) (new : State) (written : List ℕ) (refused : Bool) : Type 0 where
+  pub replies : List Reply
+  pub run : RunsOver old bytes ended replies new
+  pub written_is : written ≡ text_of replies
+  pub refused_is : refused ≡ has_refusal replies
+
+-- What was written begins the replies to the first statements of the bytes, or to all of them and the end. The state is that after these statements.
+pub record CutShort (old : State) (bytes : List ℕ) (at_end : Type 0) (new : State) (written : List ℕ) : Type 0 where
+  pub ended : Bool
+  pub is_end : ended ≡ true → at_end
+  pub statements : List Statement
+  pub rest : List ℕ
+  pub replies : List Reply
+  pub last : List Reply
+  pub more : List ℕ
+  pub begins : Begins ended bytes statements rest
+  pub run : Run old statements replies new
+  pub tail : (last ≡ []) ⊎ ((ended ≡ true) × HasNoStatement true rest × Closes true rest last)
+  pub written_is : text_of replies ++ text_of last ≡ written ++ more

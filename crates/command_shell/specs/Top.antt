@@ -1,30 +1,29 @@
--- What each status of the top call says.
-use Rattle.std.specs.Prelude.{◌≡◌, ◌⊎◌, ℕ, ◌+◌, ◌≤◌, Bool, true, false, List, [], ◌∷◌, ◌++◌, length, take, map, Option, Result, Ok, Err, codes, string_bytes, String}
-use Rattle.std.specs.Io.KnownBytes.{Consumes, Appends, Keeps, IsAtEnd}
+-- What each status of the top call says, for each command.
+use Rattle.std.specs.Prelude.{◌≡◌, ◌⊎◌, ℕ, ◌+◌, ◌≤◌, Bool, true, false, if◌then◌else◌, nat_eq, List, [], ◌∷◌, length, take, Option, None, Some, codes, string_bytes, String}
+use Rattle.std.specs.Cmp.Lexicographic.{pointwise}
+use Rattle.std.specs.Io.KnownBytes.{Consumes, Appends, IsAtEnd}
 use Rattle.std.specs.declared.alloc.Global.{Global}
 use Rattle.cqa_io.specs.Causes.{Rose}
-use Rattle.script_lex.specs.Scripts.{Statement, Begins, HasNoStatement}
-use Rattle.reply_text.specs.declared.reply.Reply.{Reply}
-use Rattle.reply_text.specs.declared.reply.Reply.TheVariants.{Refused}
-use Rattle.reply_text.specs.Texts.{reply_text, is_refusal}
-use Rattle.cqa_model.specs.declared.refusal.Refusal.TheVariants.{Unfinished}
+use Rattle.proof_check.specs.Verdicts.{IsVerdict, BeginsVerdict}
+use Rattle.command_shell.specs.declared.ending.Command.{Command}
+use Rattle.command_shell.specs.declared.ending.Command.TheVariants.{Run, Check}
 use Rattle.command_shell.specs.declared.ending.Ending.{Ending}
 use Rattle.command_shell.specs.declared.ending.Ending.TheVariants.{Answered, WithRefusal, BadWords, ReadFault, WriteFault, OutOfMemory, TooLong}
-use Rattle.command_shell.specs.declared.ending.ReadEnd.{ReadEnd}
-use Rattle.command_shell.specs.declared.ending.ReadEnd.TheVariants as reading
-use Rattle.command_shell.specs.declared.ending.Stop.{Stop}
-use Rattle.command_shell.specs.declared.ending.Stop.TheVariants as stops
 use Rattle.command_shell.specs.State.{State}
-use Rattle.command_shell.specs.Machine.{Step}
-use Rattle.command_shell.specs.Runs.{Run, RunsOver, Closes, text_of, has_refusal}
+use Rattle.command_shell.specs.Runs.{Answers, CutShort}
 
 -- the most bytes of input that a call answers
 abbrev pub limit : ℕ
 limit = 268_435_456
 
--- the words that are accepted
-abbrev pub AreAccepted : List (String Global) → Type 0
-AreAccepted words = map string_bytes words ≡ codes "run" ∷ []
+-- the command that a word is
+abbrev pub command_named : List ℕ → Option Command
+command_named word = if pointwise nat_eq word (codes "run") then Some Run else (if pointwise nat_eq word (codes "check") then Some Check else None)
+
+-- the command that the words are; other words aren't accepted
+abbrev pub command_of : List (String Global) → Option Command
+command_of (word ∷ []) = command_named (string_bytes word)
+command_of _ = None
 
 -- the number that the process ends with
 abbrev pub code_of : Ending → ℕ
@@ -36,44 +35,6 @@ code_of WriteFault = 4
 code_of OutOfMemory = 5
 code_of TooLong = 6
 
--- What a call did: the bytes that came, those that were written, and the state before and after it.
-pub record Call : Type 0 where
-  pub came : List ℕ
-  pub written : List ℕ
-  pub old : State
-  pub new : State
-
--- The statements of the bytes were answered, and the end of the input where it has ended.
-pub record Answers (old : State) (bytes : List ℕ) (ended : Bool) (new : State) (written : List ℕ) (refused : Bool) : Type 0 where
-  pub replies : List Reply
-  pub run : RunsOver old bytes ended replies new
-  pub written_is : written ≡ text_of replies
-  pub refused_is : refused ≡ has_refusal replies
-
--- What was written begins the replies to the first statements of the bytes, or to all of them and the end. The state is that after these statements.
-pub record CutShort (old : State) (bytes : List ℕ) (at_end : Type 0) (new : State) (written : List ℕ) : Type 0 where
-  pub ended : Bool
-  pub is_end : ended ≡ true → at_end
-  pub statements : List Statement
-  pub rest : List ℕ
-  pub replies : List Reply
-  pub last : List Reply
-  pub more : List ℕ
-  pub begins : Begins ended bytes statements rest
-  pub run : Run old statements replies new
-  pub tail : (last ≡ []) ⊎ ((ended ≡ true) × HasNoStatement true rest × Closes true rest last)
-  pub written_is : text_of replies ++ text_of last ≡ written ++ more
-
--- The row of each ending. at_end: the source has nothing left; read_rose, write_rose: a fault was counted in the call.
-abbrev pub Row : Ending → (accepted at_end read_rose write_rose : Type 0) → Call → Type 0
-Row Answered accepted at_end read_rose write_rose call = accepted × at_end × (length call.came ≤ limit) × Answers call.old call.came true call.new call.written false
-Row WithRefusal accepted at_end read_rose write_rose call = accepted × at_end × (length call.came ≤ limit) × Answers call.old call.came true call.new call.written true
-Row BadWords accepted at_end read_rose write_rose call = (¬ accepted) × (call.came ≡ []) × (call.written ≡ []) × (call.new ≡ call.old)
-Row ReadFault accepted at_end read_rose write_rose call = accepted × read_rose × (length call.came ≤ limit) × ((refused : Bool) × Answers call.old call.came false call.new call.written refused)
-Row WriteFault accepted at_end read_rose write_rose call = accepted × write_rose × CutShort call.old call.came at_end call.new call.written
-Row OutOfMemory accepted at_end read_rose write_rose call = accepted × CutShort call.old call.came at_end call.new call.written
-Row TooLong accepted at_end read_rose write_rose call = accepted × (length call.came ≡ limit + 1) × ((refused : Bool) × Answers call.old (take limit call.came) false call.new call.written refused)
-
 -- what the source and the sink tell, and their counts of faults
 pub record Outside : Type 0 where
   pub left : Option (List ℕ)
@@ -81,42 +42,70 @@ pub record Outside : Type 0 where
   pub reads : ℕ
   pub writes : ℕ
 
+-- What a call did: the outside before and after it, the bytes that came, those that were written, and the state before and after.
+pub record Call : Type 0 where
+  pub before : Outside
+  pub after : Outside
+  pub came : List ℕ
+  pub written : List ℕ
+  pub old : State
+  pub new : State
+
+-- the source has nothing left
+abbrev pub IsReadToEnd : Call → Type 0
+IsReadToEnd call = IsAtEnd call.after.left
+
+-- a fault of reading was counted in the call
+abbrev pub CountsReadFault : Call → Type 0
+CountsReadFault call = Rose call.before.reads call.after.reads
+
+-- a fault of writing was counted in the call
+abbrev pub CountsWriteFault : Call → Type 0
+CountsWriteFault call = Rose call.before.writes call.after.writes
+
+-- The row of each ending of `run`.
+abbrev pub RunRow : Ending → Call → Type 0
+RunRow Answered call = IsReadToEnd call × (length call.came ≤ limit) × Answers call.old call.came true call.new call.written false
+RunRow WithRefusal call = IsReadToEnd call × (length call.came ≤ limit) × Answers call.old call.came true call.new call.written true
+RunRow BadWords call = ⊥
+RunRow ReadFault call = CountsReadFault call × (length call.came ≤ limit) × ((refused : Bool) × Answers call.old call.came false call.new call.written refused)
+RunRow WriteFault call = CountsWriteFault call × (length call.came ≤ limit + 1) × CutShort call.old call.came (IsReadToEnd call) call.new call.written
+RunRow OutOfMemory call = (length call.came ≤ limit + 1) × CutShort call.old call.came (IsReadToEnd call) call.new call.written
+RunRow TooLong call = (length call.came ≡ limit + 1) × ((refused : Bool) × Answers call.old (take limit call.came) false call.new call.written refused)
+
+-- The row of each ending of `check`.
+abbrev pub CheckRow : Ending → Call → Type 0
+CheckRow Answered call = IsReadToEnd call × (length call.came ≤ limit) × IsVerdict call.came true call.written
+CheckRow WithRefusal call = IsReadToEnd call × (length call.came ≤ limit) × IsVerdict call.came false call.written
+CheckRow BadWords call = ⊥
+CheckRow ReadFault call = CountsReadFault call × (length call.came ≤ limit) × (call.written ≡ [])
+CheckRow WriteFault call = CountsWriteFault call × IsReadToEnd call × (length call.came ≤ limit) × BeginsVerdict call.came call.written
+CheckRow OutOfMemory call = (length call.came ≤ limit + 1) × (call.written ≡ [])
+CheckRow TooLong call = (length call.came ≡ limit + 1) × (call.written ≡ [])
+
+-- Words that aren't accepted: nothing is read or written.
+abbrev pub BadWordsRow : Ending → Call → Type 0
+BadWordsRow ending call = (ending ≡ BadWords) × (call.came ≡ []) × (call.written ≡ [])
+
+-- The row of each ending for the command that the words are. Only `run` changes the session.
+abbrev pub Row : Option Command → Ending → Call → Type 0
+Row (Some Run) ending call = RunRow ending call
+Row (Some Check) ending call = CheckRow ending call × (call.new ≡ call.old)
+Row None ending call = BadWordsRow ending call × (call.new ≡ call.old)
+
 -- The call ended so: with the bytes that came and those that were written, where they are told.
-pub record Ended (ending : Ending) (accepted : Type 0) (before after : Outside) (old new : State) : Type 0 where
+pub record Ended (command : Option Command) (ending : Ending) (before after : Outside) (old new : State) : Type 0 where
   pub came : List ℕ
   pub written : List ℕ
   pub took : Consumes before.left after.left came
   pub put : Appends before.held after.held written
-  pub row : Row ending accepted (IsAtEnd after.left) (Rose before.reads after.reads) (Rose before.writes after.writes) (record { came = came; written = written; old = old; new = new })
+  pub row : Row command ending (record { before = before; after = after; came = came; written = written; old = old; new = new })
 
--- ---- the parts of the call
+-- the source tells what is left, and that this isn't too long
+abbrev pub IsWithinLimit : Option (List ℕ) → Type 0
+IsWithinLimit None = ⊥
+IsWithinLimit (Some bytes) = length bytes ≤ limit
 
--- how the reading ended: with these bytes
-abbrev pub ReadRow : ReadEnd → (at_end rose : Type 0) → (came input : List ℕ) → Type 0
-ReadRow reading.End at_end rose came input = (input ≡ came) × at_end × (length came ≤ limit)
-ReadRow reading.Fault at_end rose came input = (input ≡ came) × rose × (length came ≤ limit)
-ReadRow reading.TooLong at_end rose came input = (input ≡ came) × (length came ≡ limit + 1)
-ReadRow reading.OutOfMemory at_end rose came input = Unit {0}
-
--- how a reply was written
-abbrev pub ReplyRow : Result Bool Stop → (rose : Type 0) → (held_old held_new : Option (List ℕ)) → Reply → Type 0
-ReplyRow (Ok refused) rose held_old held_new reply = Appends held_old held_new (reply_text reply) × (refused ≡ is_refusal reply)
-ReplyRow (Err stops.WriteFault) rose held_old held_new reply = rose × ((n : ℕ) × Appends held_old held_new (take n (reply_text reply)))
-ReplyRow (Err stops.OutOfMemory) rose held_old held_new reply = Keeps held_old held_new
-
--- how what is left at the end was answered
-abbrev pub CloseRow : Result Bool Stop → (rose : Type 0) → (held_old held_new : Option (List ℕ)) → Bool → Bool → Type 0
-CloseRow result rose held_old held_new false refused = (result ≡ Ok refused) × Keeps held_old held_new
-CloseRow result rose held_old held_new true refused = ReplyRow result rose held_old held_new (Refused Unfinished)
-
--- how one statement was answered
-abbrev pub AnswerRow : Result Bool Stop → (rose : Type 0) → (held_old held_new : Option (List ℕ)) → State → Statement → State → Type 0
-AnswerRow (Ok refused) rose held_old held_new old s new = (reply : Reply) × Step old s.0 s.1 reply new × Appends held_old held_new (reply_text reply) × (refused ≡ is_refusal reply)
-AnswerRow (Err stops.WriteFault) rose held_old held_new old s new = rose × ((reply : Reply) × (n : ℕ) × Step old s.0 s.1 reply new × Appends held_old held_new (take n (reply_text reply)))
-AnswerRow (Err stops.OutOfMemory) rose held_old held_new old s new = ((new ≡ old) ⊎ ((reply : Reply) × Step old s.0 s.1 reply new)) × Keeps held_old held_new
-
--- how an input was answered
-abbrev pub ProgressRow : Result Bool Stop → (rose : Type 0) → (held_old held_new : Option (List ℕ)) → State → List ℕ → Bool → State → Type 0
-ProgressRow (Ok refused) rose held_old held_new old input ended new = (written : List ℕ) × Appends held_old held_new written × Answers old input ended new written refused
-ProgressRow (Err stops.WriteFault) rose held_old held_new old input ended new = rose × ((written : List ℕ) × Appends held_old held_new written × CutShort old input (ended ≡ true) new written)
-ProgressRow (Err stops.OutOfMemory) rose held_old held_new old input ended new = (written : List ℕ) × Appends held_old held_new written × CutShort old input (ended ≡ true) new written
+-- all was answered, or memory ran out
+abbrev pub IsCompleted : ℕ → Type 0
+IsCompleted status = (status ≡ 0) ⊎ (status ≡ 1) ⊎ (status ≡ 5)

@@ -3,7 +3,7 @@ ghost use Rattle.script_lex.specs.Scripts.{statement_at};
 ghost use Rattle.std.specs.Option.{option_copied};
 ghost use Rattle.cqa_io.specs.Causes.{Rose};
 ghost use Rattle.reply_text.specs.Texts.{reply_text, is_refusal};
-ghost use Rattle.command_shell.specs.Top.{ReplyRow, CloseRow, AnswerRow, ProgressRow};
+ghost use Rattle.command_shell.specs.Parts.{ReplyRow, CloseRow, AnswerRow, ProgressRow};
 
 use crate::Session;
 use crate::ending::Stop;

@@ -1,12 +1,21 @@
 ghost use Rattle.std.specs.Prelude.{◌≡◌};
 ghost use Rattle.command_shell.specs.Top.{code_of};
 
+/// What the words ask for.
+#[derive(Clone, Copy, Debug, PartialEq, Eq)]
+pub enum Command {
+    /// Answer the statements of the input.
+    Run,
+    /// Check that the log in the input refutes the formula in it.
+    Check,
+}
+
 /// How the top call ends.
 #[derive(Clone, Copy, Debug, PartialEq, Eq)]
 pub enum Ending {
-    /// All statements were answered, none was refused.
+    /// All was answered, and nothing was refused.
     Answered,
-    /// All statements were answered, and some reply is a refusal.
+    /// All was answered, and something was refused.
     WithRefusal,
     /// The words aren't accepted.
     BadWords,

@@ -1,25 +1,26 @@
 ghost use Rattle.std.specs.Prelude.{◌≡◌, ◌≤◌, ◌<◌, ◌^◌, IfOk, OnErr, Option, Some, length, map, slice_get};
-ghost use Rattle.std.specs.List.{list_all};
 ghost use Rattle.table_blocks.specs.Tables.{IsRefusedAs};
 ghost use Rattle.spj_syntax.specs.declared.tree.Statement.TheVariants as statements;
 ghost use Rattle.spj_syntax.specs.Written.{HasAtMost, IsProper};
 ghost use Rattle.cqa_model.specs.declared.refusal.Refusal.{Refusal as RefusalValue};
 ghost use Rattle.cqa_model.specs.declared.refusal.Refusal.TheVariants.{UnknownTable};
 ghost use Rattle.reply_text.specs.declared.reply.Reply.TheVariants.{Refused as RefusedReply};
-ghost use Rattle.command_shell.specs.Machine.{is_test, is_single, line_of, Replies};
+ghost use Rattle.command_shell.specs.Machine.{is_single, line_of, Replies};
 
 use crate::blocks::block_count;
 use crate::certain::certain_rows;
+use crate::classify::classify;
 use cqa_model::Refusal;
 use cqa_value::{Fail, Items, Name, NoMemory, Row};
+use join_witness::candidates;
 use query_resolve::{resolve, resolve_schema, resolve_tests};
 use reply_text::{Reply, TableLine};
-use spj_syntax::{RawCond, RawSchema, RawTest, Select, Statement};
+use spj_syntax::{RawSchema, RawTest, Select, Statement};
 use std::alloc::Global;
 use table_blocks::Database;
 
 /// The reply to a call that refuses.
-fn refused(fail: Fail<Refusal>) -> Result<Reply, NoMemory>
+pub(crate) fn refused(fail: Fail<Refusal>) -> Result<Reply, NoMemory>
     ensures { (fault : Option RefusalValue) → IsRefusedAs fail fault → IfOk result (λ reply. (refusal : RefusalValue) × (fault ≡ Some refusal) × (reply ≡ RefusedReply refusal)) }
 {
     match fail {
@@ -90,25 +91,10 @@ fn delete(
     }
 }
 
-fn is_literal_test(cond: &RawCond) -> bool
-    ensures { result ≡ is_test cond.now }
-{
-    match cond {
-        RawCond::Join { .. } => false,
-        RawCond::Test { .. } => true,
-    }
-}
-
-fn are_literal_tests(conds: &[RawCond]) -> bool
-    ensures { result ≡ list_all is_test conds.now }
-{
-    conds.iter().all(is_literal_test)
-}
-
 fn is_over_one_table(select: &Select) -> bool
     ensures { result ≡ is_single select.now }
 {
-    select.tables.as_slice().len() == 1 && are_literal_tests(select.conds.as_slice())
+    select.tables.as_slice().len() == 1
 }
 
 fn ask(alloc: Global, database: &Database, select: &Select) -> Result<Reply, NoMemory>
@@ -121,6 +107,17 @@ fn ask(alloc: Global, database: &Database, select: &Select) -> Result<Reply, NoM
     match resolve(alloc, database, select) {
         Err(fail) => refused(fail),
         Ok(query) => Ok(Reply::Rows(certain_rows(alloc, database, &query)?)),
+    }
+}
+
+fn possible(alloc: Global, database: &Database, select: &Select) -> Result<Reply, NoMemory>
+    requires some_table { 1 ≤ length select.now.tables }
+    requires few { length select.now.conds < 2 ^ 32 }
+    ensures { IfOk result (λ reply. Replies database.now (statements.Possible select.now) reply database.now) }
+{
+    match resolve(alloc, database, select) {
+        Err(fail) => refused(fail),
+        Ok(query) => Ok(Reply::Rows(candidates(alloc, database, &query)?)),
     }
 }
 
@@ -164,6 +161,8 @@ pub fn execute(
         Statement::Insert { table, rows } => insert(alloc, database, &table, rows),
         Statement::Delete { table, tests } => delete(alloc, database, &table, tests.as_slice()),
         Statement::Ask(select) => ask(alloc, database, &select),
+        Statement::Possible(select) => possible(alloc, database, &select),
+        Statement::Classify(select) => classify(alloc, database, &select),
         Statement::ShowTables => show_tables(alloc, database),
         _ => Ok(Reply::Refused(Refusal::Syntax { at: 0 })),
     }

@@ -1,7 +1,7 @@
 ghost use Rattle.std.specs.Prelude.{◌≡◌, ◌≤◌, ◌<◌, ℕ, List, [], IfOk, length};
 ghost use Rattle.std.specs.Io.KnownBytes.{Consumes, IsAtEnd};
 ghost use Rattle.cqa_io.specs.Causes.{Rose};
-ghost use Rattle.command_shell.specs.Top.{ReadRow};
+ghost use Rattle.command_shell.specs.Parts.{ReadRow};
 
 use crate::ending::ReadEnd;
 use cqa_io::{Failed, Source};

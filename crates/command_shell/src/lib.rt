@@ -4,14 +4,17 @@
 mod answers;
 mod blocks;
 mod certain;
+mod classify;
 mod ending;
 mod execute;
 mod input;
 mod reading;
 mod session;
 mod top;
+mod verdict;
 
-pub use session::Session;
+pub use proof_check::{CheckReply, check_bytes};
+pub use session::{Session, text_says_one_thing};
 pub use top::run_words;
 
 #[cfg(test)]

@@ -1,7 +1,9 @@
-ghost use Rattle.std.specs.Prelude.{◌≡◌, ◌≤◌, IfOk, OnErr, Option, Some, length};
+ghost use Rattle.std.specs.Prelude.{◌≡◌, ◌≤◌, IfOk, OnErr, Option, Some, Result, length};
 ghost use Rattle.std.specs.Option.{option_copied};
+ghost use Rattle.spj_syntax.specs.declared.tree.Statement.{Statement};
+ghost use Rattle.cqa_model.specs.declared.refusal.Refusal.{Refusal as RefusalValue};
 ghost use Rattle.command_shell.specs.State.{opening_with};
-ghost use Rattle.command_shell.specs.Machine.{Step};
+ghost use Rattle.command_shell.specs.Machine.{Says, Does, Step, SaysOneThing};
 
 use crate::execute::execute;
 use crate::reading::read;
@@ -50,6 +52,8 @@ impl Session {
     ) -> Result<Reply, NoMemory>
         requires { length text.now ≤ 268_435_456 }
         ensures step { IfOk result (λ reply. Step self.old text.now (option_copied block.entry) reply self.new) }
+        // What the text says decides the reply, unless memory runs out: a statement of which no check fails is done, and any other is refused.
+        ensures complete { (said : Result Statement RefusalValue) → Says text.now said → IfOk result (λ reply. Does self.old said reply self.new) }
         ensures err { OnErr result (self.new ≡ self.old) }
     {
         match read(alloc, text)? {
@@ -58,3 +62,8 @@ impl Session {
         }
     }
 }
+
+/// A text says at most one thing: one statement, or the one refusal of its form.
+pub fn text_says_one_thing()
+    ensures { SaysOneThing }
+{}

@@ -20,6 +20,9 @@ inserted 3
 1 rows
 ";
 
+/// A formula that nothing satisfies, and the step that says so.
+const REFUTED: &str = "c two units\np cnf 1 2\n1 0 -1\n0\nlrat\n3 0 1 2 0\n";
+
 /// A call of the program: its word and input, the first call of the source and of the sink that fails (0: none), and
 /// how many bytes the sink takes.
 #[derive(Drop, Clone, Copy)]
@@ -33,8 +36,13 @@ struct Call {
 
 /// The call's status, and what it has written.
 fn ends(alloc: Global, call: &Call) -> Result<(u8, Vec<u8>), Fail> {
+    ends_at(alloc, call, call.input)
+}
+
+/// The status of a call with another input, and what it has written.
+fn ends_at(alloc: Global, call: &Call, input: &str) -> Result<(u8, Vec<u8>), Fail> {
     let words = vec![in alloc; String::from_str(alloc, call.word)?]?;
-    let bytes = Vec::from_slice(alloc, call.input.as_bytes())?;
+    let bytes = Vec::from_slice(alloc, input.as_bytes())?;
     let mut source = MemSource::new(bytes, 7, vec![in alloc; call.read]?);
     let mut sink = MemSink::new(alloc, call.room, vec![in alloc; call.write]?)?;
     let mut session = Session::new(alloc, 200_000);
@@ -121,6 +129,66 @@ fn each_status_has_its_cause(rt: HostRuntime) -> Result<(), Fail> {
     Ok(())
 }
 
+/// A call of `check`.
+fn checked(input: &'static str) -> Call {
+    Call {
+        word: "check",
+        ..whole(input)
+    }
+}
+
+#[test]
+fn each_status_of_check_has_its_cause(rt: HostRuntime) -> Result<(), Fail> {
+    let alloc = rt.alloc();
+    let cases: [(Call, u8, &str); 7] = [
+        (checked(REFUTED), 0, "verified\n"),
+        (
+            checked("p cnf 1 2\n1 0\n-1 0\nlrat\n"),
+            1,
+            "refused step 0 NoEmptyClause\n",
+        ),
+        (checked(""), 1, "refused line 1 BadFormula\n"),
+        (
+            Call {
+                word: "Check",
+                ..whole(REFUTED)
+            },
+            2,
+            "",
+        ),
+        (
+            Call {
+                read: 3,
+                ..checked(REFUTED)
+            },
+            3,
+            "",
+        ),
+        (
+            Call {
+                write: 1,
+                ..checked(REFUTED)
+            },
+            4,
+            "",
+        ),
+        (
+            Call {
+                room: 4,
+                ..checked(REFUTED)
+            },
+            4,
+            "veri",
+        ),
+    ];
+    for (call, status, written) in cases.iter() {
+        let (answer, bytes) = ends(alloc, call)?;
+        assert_eq!(rt; answer, *status, "at {written}");
+        assert_eq!(rt; bytes.as_slice(), written.as_bytes(), "at {written}");
+    }
+    Ok(())
+}
+
 #[test]
 fn each_statement_has_its_reply(rt: HostRuntime) -> Result<(), Fail> {
     let alloc = rt.alloc();
@@ -197,11 +265,125 @@ fn each_statement_has_its_reply(rt: HostRuntime) -> Result<(), Fail> {
         ),
         (
             "create table t (a int, primary key (a)); possible select a from t;",
-            "created t\nerror 2 Syntax at 0\n",
+            "created t\n0 rows\n",
         ),
         (
             "create table t (a text, primary key (a)); insert into t values ('it''s; -- so'); ask select a from t;",
             "created t\ninserted 1\n('it''s; -- so')\n1 rows\n",
+        ),
+    ];
+    for (input, written) in cases {
+        let (_, bytes) = ends(alloc, &whole(input))?;
+        assert_eq!(rt; bytes.as_slice(), written.as_bytes(), "at {input}");
+    }
+    Ok(())
+}
+
+/// Two tables that name each other's columns, one of two columns and an empty one.
+const WEB: &str = "create table r (x int, y int, primary key (x));
+create table s (y int, x int, primary key (y));
+create table t (x int, c text, primary key (c));
+create table e (z int, primary key (z));
+insert into r values (1, 1), (1, 2), (2, 1);
+insert into s values (1, 1), (2, 1), (1, 2);
+insert into t values (1, 'a'), (2, 'b'), (1, 'c');
+";
+
+const WEB_REPLIES: &str = "created r
+created s
+created t
+created e
+inserted 3
+inserted 3
+inserted 3
+";
+
+#[test]
+fn possible_rows_are_those_of_a_witness(rt: HostRuntime) -> Result<(), Fail> {
+    let alloc = rt.alloc();
+    let cases: [(&str, &str); 14] = [
+        (
+            "select r.x, s.y from r, s where r.x = s.x and r.y = s.y",
+            "(1, 1)\n(1, 2)\n(2, 1)\n3 rows\n",
+        ),
+        (
+            "select r.x, s.x from r, s",
+            "(1, 1)\n(1, 2)\n(2, 1)\n(2, 2)\n4 rows\n",
+        ),
+        (
+            "select c, r.y from r, t where r.x = t.x and r.y <> 1",
+            "('a', 2)\n('c', 2)\n2 rows\n",
+        ),
+        (
+            "select c, r.y from t, r where r.x = t.x and r.y <> 1",
+            "('a', 2)\n('c', 2)\n2 rows\n",
+        ),
+        ("select z from r, e", "0 rows\n"),
+        ("select r.x from r, e", "0 rows\n"),
+        (
+            "select r.x, r.x, y from r where x = y",
+            "(1, 1, 1)\n1 rows\n",
+        ),
+        (
+            "exists from r, s, t where r.x = s.x and s.x = t.x",
+            "()\n1 rows\n",
+        ),
+        (
+            "exists from r, s where r.x = s.y and r.y = s.x and r.x = 3",
+            "0 rows\n",
+        ),
+        ("select x from r where y >= 2", "(1)\n1 rows\n"),
+        (
+            "select r.x from r, s, t where r.x = s.x and s.y = t.x and c = 'b'",
+            "(1)\n1 rows\n",
+        ),
+        ("select x from r, s", "error 7 AmbiguousColumn x\n"),
+        ("select r.x from r, r", "error 8 SelfJoin r\n"),
+        (
+            "select r.x from r, t where r.x = c",
+            "error 9 TypeMismatch condition 1\n",
+        ),
+    ];
+    for (query, written) in cases {
+        let mut input = String::from_str(alloc, WEB)?;
+        input.push_str("possible ")?;
+        input.push_str(query)?;
+        input.push_str(";")?;
+        let (_, bytes) = ends_at(alloc, &whole(""), input.as_str())?;
+        let mut wanted = Vec::from_slice(alloc, WEB_REPLIES.as_bytes())?;
+        wanted.extend_from_slice(written.as_bytes())?;
+        assert_eq!(rt; bytes.as_slice(), wanted.as_slice(), "at {query}");
+    }
+    Ok(())
+}
+
+#[test]
+fn classify_names_the_class_and_the_attacks(rt: HostRuntime) -> Result<(), Fail> {
+    let alloc = rt.alloc();
+    let cases: [(&str, &str); 6] = [
+        (
+            "create table r (x int, y int, primary key (x)); create table s (y int, z int, primary key (y)); classify exists from r, s where r.y = s.y;",
+            "created r\ncreated s\nclass first-order\nr attacks s, weak\n",
+        ),
+        (
+            "create table r (x int, z int, primary key (x)); create table s (y int, z int, primary key (y)); classify exists from r, s where r.z = s.z;",
+            "created r\ncreated s\nclass conp-complete\nr attacks s, strong\ns attacks r, strong\n",
+        ),
+        (
+            "create table r (x int, z int, primary key (x)); create table s (y int, z int, primary key (y)); classify select r.z from r, s where r.z = s.z;",
+            "created r\ncreated s\nclass first-order\n",
+        ),
+        (
+            "create table r (x int, y int, primary key (x)); create table s (y int, x int, primary key (y)); classify exists from r, s where r.x = s.x and r.y = s.y;",
+            "created r\ncreated s\nclass polynomial\nr attacks s, weak\ns attacks r, weak\n",
+        ),
+        (
+            "create table r (x int, y int, primary key (x)); create table s (y int, z int, primary key (y)); create table t (z int, x int, primary key (z)); classify exists from r, s, t where r.y = s.y and s.z = t.z and t.x = r.x;",
+            "created r\ncreated s\ncreated t\nclass polynomial\nr attacks s, weak\nr attacks t, weak\ns attacks r, weak\ns attacks t, weak\nt attacks r, weak\nt attacks s, weak\n",
+        ),
+        (
+            "create table r (x int, primary key (x)); classify exists from r, q;",
+            "created r\nerror 4 UnknownTable q\n",
         ),
     ];
     for (input, written) in cases {

@@ -1,13 +1,14 @@
-ghost use Rattle.std.specs.Prelude.{◌≡◌, ◌≤◌, ◌↔◌, IsTrue, length, take};
-ghost use Rattle.std.specs.Io.KnownBytes.{Consumes, Appends, IsAtEnd};
+ghost use Rattle.std.specs.Prelude.{◌≡◌, ◌≢◌, ◌≤◌, Some, None, length, take};
 ghost use Rattle.cqa_io.specs.Causes.{Rose};
-ghost use Rattle.command_shell.specs.State.{opening};
-ghost use Rattle.command_shell.specs.Top.{code_of, limit, AreAccepted, Outside, Ended};
+ghost use Rattle.command_shell.specs.State.{opening, State};
+ghost use Rattle.command_shell.specs.declared.ending.Command.TheVariants.{Run as RunWord, Check as CheckWord};
+ghost use Rattle.command_shell.specs.Top.{code_of, command_named, command_of, limit, Outside, Ended, IsWithinLimit, IsCompleted};
 
 use crate::Session;
 use crate::answers::answer_all;
-use crate::ending::{Ending, ReadEnd, Stop, code};
+use crate::ending::{Command, Ending, ReadEnd, Stop, code};
 use crate::input::{LIMIT, read_all};
+use crate::verdict::write_verdict;
 use cqa_io::{Sink, Source};
 use std::alloc::Global;
 
@@ -29,7 +30,7 @@ fn run<S: Source, K: Sink>(
 ) -> Ending
     ensures row { let before : Outside = record { left = S.left source.old; held = K.held sink.old; reads = S.faults source.old; writes = K.faults sink.old } in
         let after : Outside = record { left = S.left source.new; held = K.held sink.new; reads = S.faults source.new; writes = K.faults sink.new } in
-        Ended result (Unit {0}) before after session.old session.new }
+        Ended (Some RunWord) result before after session.old session.new }
     ensures reads { S.faults source.old ≤ S.faults source.new }
     ensures writes { K.faults sink.old ≤ K.faults sink.new }
 {
@@ -55,12 +56,48 @@ fn run<S: Source, K: Sink>(
     }
 }
 
-fn are_accepted(words: &[String]) -> bool
-    ensures { IsTrue result ↔ AreAccepted words.now }
+/// Reads the input and writes the line on it, as a formula with a log.
+fn check<S: Source, K: Sink>(alloc: Global, source: &mut S, sink: &mut K) -> Ending
+    ensures row { let before : Outside = record { left = S.left source.old; held = K.held sink.old; reads = S.faults source.old; writes = K.faults sink.old } in
+        let after : Outside = record { left = S.left source.new; held = K.held sink.new; reads = S.faults source.new; writes = K.faults sink.new } in
+        (state : State) → Ended (Some CheckWord) result before after state state }
+    ensures reads { S.faults source.old ≤ S.faults source.new }
+    ensures writes { K.faults sink.old ≤ K.faults sink.new }
+{
+    let mut input = Vec::new(alloc);
+    match read_all(alloc, source, &mut input) {
+        ReadEnd::OutOfMemory => Ending::OutOfMemory,
+        ReadEnd::Fault => Ending::ReadFault,
+        ReadEnd::TooLong => Ending::TooLong,
+        ReadEnd::End => match write_verdict(alloc, sink, input.as_slice()) {
+            Ok(true) => Ending::Answered,
+            Ok(false) => Ending::WithRefusal,
+            Err(Stop::WriteFault) => Ending::WriteFault,
+            Err(Stop::OutOfMemory) => Ending::OutOfMemory,
+        },
+    }
+}
+
+/// The command that a word is.
+fn command_named(word: &str) -> Option<Command>
+    ensures { result ≡ command_named word.now }
+{
+    if word == "run" {
+        return Some(Command::Run);
+    }
+    if word == "check" {
+        return Some(Command::Check);
+    }
+    None
+}
+
+/// The command that the words are.
+fn command(words: &[String]) -> Option<Command>
+    ensures { result ≡ command_of words.now }
 {
     match words {
-        [word] => word.as_str() == "run",
-        _ => false,
+        [word] => command_named(word.as_str()),
+        _ => None,
     }
 }
 
@@ -79,13 +116,15 @@ pub fn run_words<S: Source, K: Sink>(
     requires { session.old ≡ opening }
     ensures row { let before : Outside = record { left = S.left source.old; held = K.held sink.old; reads = S.faults source.old; writes = K.faults sink.old } in
         let after : Outside = record { left = S.left source.new; held = K.held sink.new; reads = S.faults source.new; writes = K.faults sink.new } in
-        (ending : Ending) × (result ≡ code_of ending) × Ended ending (AreAccepted words.now) before after session.old session.new }
+        (ending : Ending) × (result ≡ code_of ending) × Ended (command_of words.now) ending before after session.old session.new }
+    // With accepted words, where no fault is counted and the source tells that its bytes are within the limit, all is answered, or memory runs out.
+    ensures completed { command_of words.now ≢ None → (Rose (S.faults source.old) (S.faults source.new) → ⊥) → (Rose (K.faults sink.old) (K.faults sink.new) → ⊥) → IsWithinLimit (S.left source.old) → IsCompleted result }
     ensures reads { S.faults source.old ≤ S.faults source.new }
     ensures writes { K.faults sink.old ≤ K.faults sink.new }
 {
-    if are_accepted(words) {
-        code(run(alloc, session, source, sink))
-    } else {
-        code(Ending::BadWords)
+    match command(words) {
+        None => code(Ending::BadWords),
+        Some(Command::Run) => code(run(alloc, session, source, sink)),
+        Some(Command::Check) => code(check(alloc, source, sink)),
     }
 }

@@ -1,21 +1,15 @@
-use Rattle.std.proofs.Common.{[], refl}
+use Rattle.std.proofs.Common.{Some, sym}
+use Rattle.command_shell.specs.declared.ending.Command.TheVariants.{Run, Check}
 use Rattle.command_shell.specs.declared.ending.Ending.TheVariants.{BadWords}
-use Rattle.std.proofs.KnownBytes.{Appends-nil, Consumes-nil}
-use Rattle.command_shell.proofs.Statuses.{accept, false_true}
+use Rattle.command_shell.proofs.Statuses.{refused_words, completed}
 use Rattle.command_shell.proofs.top.run_words.Goals as goal
 
-pub returns-then-are_accepted-clause-row : goal.returns-then-are_accepted-clause-row
-returns-then-are_accepted-clause-row g c = (c.run.result, c.code.ensures, accept _ (c.if-are_accepted.ensures.0 refl) c.run.ensures.row)
+pub returns-in-None-clause-row : goal.returns-in-None-clause-row
+returns-in-None-clause-row g c = (BadWords, c.code.ensures, refused_words _ _ _ (sym c.in-None.ensures))
 
-pub returns-else-are_accepted-clause-row : goal.returns-else-are_accepted-clause-row
-returns-else-are_accepted-clause-row g c = (
-  BadWords,
-  c.code-else-are_accepted.ensures,
-  record {
-    came = [];
-    written = [];
-    took = Consumes-nil _;
-    put = Appends-nil _;
-    row = (λ a. false_true (c.if-are_accepted.ensures.1 a), refl, refl, refl);
-  },
-)
+pub returns-in-Some-Run-clause-completed : goal.returns-in-Some-Run-clause-completed
+returns-in-Some-Run-clause-completed g c some reads writes short = completed (Some Run) c.run.result _ _ _ _ _ c.code-in-Some-Run.ensures c.run.ensures.row (λ e. (cc)) reads writes short
+
+pub returns-in-Some-Check-clause-completed : goal.returns-in-Some-Check-clause-completed
+returns-in-Some-Check-clause-completed g c some reads writes short =
+    completed (Some Check) c.check.result _ _ c.args.session.now c.args.session.now _ c.code-in-Some-Check.ensures (c.check.ensures.row c.args.session.now) (λ e. (cc)) reads writes short

@@ -1,0 +1,70 @@
+-- A text says one thing.
+use Rattle.std.proofs.Common.{◌≡◌, ◌⊎◌, inl, inr, ◌≤◌, ℕ, List, length, Result, Ok, Err, IfOk, refl, sym, ap, ◌∙◌, subst, arith}
+use Rattle.cqa_value.specs.declared.memory.NoMemory.{NoMemory}
+use Rattle.cqa_value.specs.declared.memory.Fail.TheVariants as fails
+use Rattle.script_lex.specs.declared.kinds.Token.{Token}
+use Rattle.script_lex.specs.declared.kinds.LexFault.{LexFault}
+use Rattle.script_lex.specs.declared.kinds.LexFault.TheVariants as lexing
+use Rattle.script_lex.specs.Tokens.{Spells, IsFault, longest_text}
+use Rattle.script_lex.proofs.Spelling.{spells_same, spelled_not_bad, bad_same}
+use Rattle.spj_syntax.specs.declared.fault.SyntaxFault.{SyntaxFault}
+use Rattle.spj_syntax.specs.declared.tree.Statement.{Statement}
+use Rattle.spj_syntax.specs.Parsed.{lexemes, Refuses}
+use Rattle.spj_syntax.specs.Written.{IsWrittenAs}
+use Rattle.spj_syntax.proofs.Answered.{only_statement, only_fault}
+use Rattle.cqa_model.specs.declared.refusal.Refusal.{Refusal}
+use Rattle.cqa_model.specs.Database.{Table}
+use Rattle.reply_text.specs.declared.reply.Reply.{Reply}
+use Rattle.reply_text.specs.declared.reply.Reply.TheVariants.{Refused}
+use Rattle.command_shell.specs.State.{State}
+use Rattle.command_shell.specs.Machine.{of_lexing, of_parsing, HasNoStatement, HasStatement, Says, Does, Replies, SaysOneThing}
+
+lexing_same : (text : List ℕ) (f g : LexFault) → IsFault text f → IsFault text g → f ≡ g
+lexing_same text (lexing.TooLong m) (lexing.TooLong n) a b = ap lexing.TooLong (a.0 ∙ sym b.0)
+lexing_same text (lexing.TooLong m) (lexing.BadByte at) a b = let long = a.1 in let short = b.0 in absurd (omega (arith, long, short))
+lexing_same text (lexing.BadByte at) (lexing.TooLong n) a b = let short = a.0 in let long = b.1 in absurd (omega (arith, long, short))
+lexing_same text (lexing.BadByte at) (lexing.BadByte place) a b = ap lexing.BadByte (bad_same a.1 b.1)
+
+spelled_no_fault : (text : List ℕ) (tokens : List Token) (f : LexFault) → length text ≤ longest_text → Spells text tokens → IsFault text f → ⊥
+spelled_no_fault text tokens (lexing.TooLong m) short s f = let long = f.1 in omega (arith, long, short)
+spelled_no_fault text tokens (lexing.BadByte at) short s f = spelled_not_bad s f.1
+
+-- the tokens of one are those of the other
+same_statement : (text : List ℕ) (s t : Statement) → HasStatement text s → HasStatement text t → s ≡ t
+same_statement text s t a b =
+    only_statement text a.tokens (Ok s) (a.allowed, a.fit, a.written) t (subst (λ tokens. IsWrittenAs t (lexemes text tokens)) (spells_same b.spelled a.spelled) b.written)
+
+no_refusal : (text : List ℕ) (s : Statement) (refusal : Refusal) → HasStatement text s → HasNoStatement text refusal → ⊥
+no_refusal text s refusal a b =
+    only_fault text a.tokens (Ok s) (a.allowed, a.fit, a.written) b.fault (subst (λ tokens. Refuses text tokens b.fault) (spells_same b.spelled a.spelled) b.cause)
+
+refused_once : (f g : SyntaxFault) → ((fails.Refused f ≡ fails.Refused g) ⊎ (fails.Refused f ≡ fails.NoMemory)) → f ≡ g
+refused_once f g (inl e) = (cc)
+refused_once f g (inr e) = absurd (cc e)
+
+-- A text says one thing.
+pub says_same : SaysOneThing
+says_same text (Ok s) (Ok t) a b = ap Ok (same_statement text s t a b)
+says_same text (Ok s) (Err r) a (inl b) = absurd (spelled_no_fault text a.tokens b.fault a.short a.spelled b.cause)
+says_same text (Ok s) (Err r) a (inr b) = absurd (no_refusal text s r a b)
+says_same text (Err r) (Ok t) (inl a) b = absurd (spelled_no_fault text b.tokens a.fault b.short b.spelled a.cause)
+says_same text (Err r) (Ok t) (inr a) b = absurd (no_refusal text t r b a)
+says_same text (Err r) (Err q) (inl a) (inl b) = ap Err (a.is ∙ ap of_lexing (lexing_same text a.fault b.fault a.cause b.cause) ∙ sym b.is)
+says_same text (Err r) (Err q) (inl a) (inr b) = absurd (spelled_no_fault text b.tokens a.fault b.short b.spelled a.cause)
+says_same text (Err r) (Err q) (inr a) (inl b) = absurd (spelled_no_fault text a.tokens b.fault a.short a.spelled b.cause)
+says_same text (Err r) (Err q) (inr a) (inr b) =
+    let other = subst (λ tokens. Refuses text tokens b.fault) (spells_same b.spelled a.spelled) b.cause in
+    ap Err (a.is ∙ ap of_parsing (refused_once a.fault b.fault (only_fault text a.tokens (Err (fails.Refused a.fault)) a.cause b.fault other)) ∙ sym b.is)
+
+-- a refusal that the text says is the reply, whatever else it may say
+pub refused_as_said : (old : State) (text : List ℕ) (first : Result Statement Refusal) (refusal : Refusal) → Says text first → first ≡ Err refusal
+    → (said : Result Statement Refusal) → Says text said → Does old said (Refused refusal) old
+refused_as_said old text first refusal says is said other = subst (λ s. Does old s (Refused refusal) old) (sym is ∙ says_same text first said says other) (refl, refl)
+
+-- a statement that the text says is done, whatever else it may say
+pub done_as_said : (old : State) (tables : List Table) (text : List ℕ) (first : Result Statement Refusal) (statement : Statement) → Says text first → first ≡ Ok statement
+    → (result : Result Reply NoMemory) → IfOk result (λ reply. Replies old.tables statement reply tables)
+    → (said : Result Statement Refusal) → Says text said → IfOk result (λ reply. Does old said reply (record { tables = tables; budget = old.budget }))
+done_as_said old tables text first statement says is (Ok reply) replies said other =
+    subst (λ s. Does old s reply (record { tables = tables; budget = old.budget })) (sym is ∙ says_same text first said says other) (replies, refl)
+done_as_said old tables text first statement says is (Err e) replies said other = replies

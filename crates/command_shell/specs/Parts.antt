@@ -1,0 +1,60 @@
+-- What each part of the top call does.
+use Rattle.std.specs.Prelude.{◌≡◌, ◌⊎◌, ℕ, ◌+◌, ◌≤◌, Bool, true, false, List, length, take, Option, Result, Ok, Err}
+use Rattle.std.specs.Io.KnownBytes.{Appends, Keeps}
+use Rattle.script_lex.specs.Scripts.{Statement}
+use Rattle.reply_text.specs.declared.reply.Reply.{Reply}
+use Rattle.reply_text.specs.declared.reply.Reply.TheVariants.{Refused}
+use Rattle.reply_text.specs.Texts.{reply_text, is_refusal}
+use Rattle.cqa_model.specs.declared.refusal.Refusal.TheVariants.{Unfinished}
+use Rattle.command_shell.specs.declared.ending.ReadEnd.{ReadEnd}
+use Rattle.command_shell.specs.declared.ending.ReadEnd.TheVariants as reading
+use Rattle.command_shell.specs.declared.ending.Stop.{Stop}
+use Rattle.command_shell.specs.declared.ending.Stop.TheVariants as stops
+use Rattle.proof_check.specs.declared.reply.CheckReply.{CheckReply}
+use Rattle.proof_check.specs.Verdicts.{IsVerdict, BeginsVerdict, is_verified, line_of}
+use Rattle.command_shell.specs.State.{State}
+use Rattle.command_shell.specs.Machine.{Step}
+use Rattle.command_shell.specs.Runs.{Answers, CutShort}
+use Rattle.command_shell.specs.Top.{limit}
+
+-- how the reading ended: with these bytes
+abbrev pub ReadRow : ReadEnd → (at_end rose : Type 0) → (came input : List ℕ) → Type 0
+ReadRow reading.End at_end rose came input = (input ≡ came) × at_end × (length came ≤ limit)
+ReadRow reading.Fault at_end rose came input = (input ≡ came) × rose × (length came ≤ limit)
+ReadRow reading.TooLong at_end rose came input = (input ≡ came) × (length came ≡ limit + 1)
+ReadRow reading.OutOfMemory at_end rose came input = length came ≤ limit + 1
+
+-- how a reply was written
+abbrev pub ReplyRow : Result Bool Stop → (rose : Type 0) → (held_old held_new : Option (List ℕ)) → Reply → Type 0
+ReplyRow (Ok refused) rose held_old held_new reply = Appends held_old held_new (reply_text reply) × (refused ≡ is_refusal reply)
+ReplyRow (Err stops.WriteFault) rose held_old held_new reply = rose × ((n : ℕ) × Appends held_old held_new (take n (reply_text reply)))
+ReplyRow (Err stops.OutOfMemory) rose held_old held_new reply = Keeps held_old held_new
+
+-- how what is left at the end was answered
+abbrev pub CloseRow : Result Bool Stop → (rose : Type 0) → (held_old held_new : Option (List ℕ)) → Bool → Bool → Type 0
+CloseRow result rose held_old held_new false refused = (result ≡ Ok refused) × Keeps held_old held_new
+CloseRow result rose held_old held_new true refused = ReplyRow result rose held_old held_new (Refused Unfinished)
+
+-- how one statement was answered
+abbrev pub AnswerRow : Result Bool Stop → (rose : Type 0) → (held_old held_new : Option (List ℕ)) → State → Statement → State → Type 0
+AnswerRow (Ok refused) rose held_old held_new old s new = (reply : Reply) × Step old s.0 s.1 reply new × Appends held_old held_new (reply_text reply) × (refused ≡ is_refusal reply)
+AnswerRow (Err stops.WriteFault) rose held_old held_new old s new = rose × ((reply : Reply) × (n : ℕ) × Step old s.0 s.1 reply new × Appends held_old held_new (take n (reply_text reply)))
+AnswerRow (Err stops.OutOfMemory) rose held_old held_new old s new = ((new ≡ old) ⊎ ((reply : Reply) × Step old s.0 s.1 reply new)) × Keeps held_old held_new
+
+-- how an input was answered
+abbrev pub ProgressRow : Result Bool Stop → (rose : Type 0) → (held_old held_new : Option (List ℕ)) → State → List ℕ → Bool → State → Type 0
+ProgressRow (Ok refused) rose held_old held_new old input ended new = (written : List ℕ) × Appends held_old held_new written × Answers old input ended new written refused
+ProgressRow (Err stops.WriteFault) rose held_old held_new old input ended new = rose × ((written : List ℕ) × Appends held_old held_new written × CutShort old input (ended ≡ true) new written)
+ProgressRow (Err stops.OutOfMemory) rose held_old held_new old input ended new = (written : List ℕ) × Appends held_old held_new written × CutShort old input (ended ≡ true) new written
+
+-- how the line of a reply to an input was written
+abbrev pub LineRow : Result Bool Stop → (rose : Type 0) → (held_old held_new : Option (List ℕ)) → CheckReply → Type 0
+LineRow (Ok verified) rose held_old held_new reply = Appends held_old held_new (line_of reply) × (verified ≡ is_verified reply)
+LineRow (Err stops.WriteFault) rose held_old held_new reply = rose × ((n : ℕ) × Appends held_old held_new (take n (line_of reply)))
+LineRow (Err stops.OutOfMemory) rose held_old held_new reply = Keeps held_old held_new
+
+-- how the line of `check` on an input was written
+abbrev pub VerdictRow : Result Bool Stop → (rose : Type 0) → (held_old held_new : Option (List ℕ)) → List ℕ → Type 0
+VerdictRow (Ok verified) rose held_old held_new input = (written : List ℕ) × Appends held_old held_new written × IsVerdict input verified written
+VerdictRow (Err stops.WriteFault) rose held_old held_new input = rose × ((written : List ℕ) × Appends held_old held_new written × BeginsVerdict input written)
+VerdictRow (Err stops.OutOfMemory) rose held_old held_new input = Keeps held_old held_new

@@ -1,0 +1,80 @@
+//! The class of a query and the attacks between its atoms.
+
+ghost use Rattle.std.specs.Prelude.{◌≡◌, ◌<◌, ◌≤◌, ◌^◌, ℕ, IfOk, length};
+ghost use Rattle.spj_syntax.specs.declared.tree.Statement.TheVariants as statements;
+ghost use Rattle.cqa_model.specs.declared.query.Query.{Query as QueryValue};
+ghost use Rattle.cqa_model.specs.Variables.{whole};
+ghost use Rattle.attack_graph.specs.Attacking.{AreAttacks, AttackBy};
+ghost use Rattle.command_shell.specs.AttackLines.{AreAttackLines, IsGraphLine};
+ghost use Rattle.command_shell.specs.Machine.{Replies};
+
+use crate::execute::refused;
+use attack_graph::{Attacks, attacks};
+use cqa_value::{Items, Name, NoMemory};
+use key_closure::View;
+use query_class::class_of;
+use query_resolve::resolve;
+use reply_text::{AttackLine, Reply};
+use spj_syntax::Select;
+use std::alloc::Global;
+use table_blocks::Database;
+
+/// The reply to a `classify`.
+pub fn classify(alloc: Global, database: &Database, select: &Select) -> Result<Reply, NoMemory>
+    requires some_table { 1 ≤ length select.now.tables }
+    requires few { length select.now.conds < 2 ^ 32 }
+    ensures { IfOk result (λ reply. Replies database.now (statements.Classify select.now) reply database.now) }
+{
+    match resolve(alloc, database, select) {
+        Err(fail) => refused(fail),
+        Ok(query) => {
+            let graph = attacks(&query, &View::whole(&query));
+            let class = class_of(&graph);
+            let lines = attack_lines(alloc, select.tables.as_slice(), &graph)?;
+            Ok(Reply::Classified { class, lines })
+        }
+    }
+}
+
+/// A line for each attack, by the attacker and then by the attacked.
+fn attack_lines(
+    alloc: Global,
+    names: &[Name],
+    graph: &Attacks,
+) -> Result<Items<AttackLine>, NoMemory>
+    requires { (F G : ℕ) → AttackBy graph.now F G → (F < length names.now) × (G < length names.now) }
+    ensures { IfOk result (λ lines. (q : QueryValue) → AreAttacks q (whole q) graph.now → AreAttackLines q names.now lines) }
+{
+    let mut lines = Items::new(alloc);
+    for pair in 0..144u32 {
+        let from = pair / 12;
+        let to = pair % 12;
+        if graph.has(from, to) {
+            lines.push(attack_line(alloc, names, graph, from, to)?)?;
+        }
+    }
+    Ok(lines)
+}
+
+/// The line of an attack.
+fn attack_line(
+    alloc: Global,
+    names: &[Name],
+    graph: &Attacks,
+    from: u32,
+    to: u32,
+) -> Result<AttackLine, NoMemory>
+    requires from { from < 12 }
+    requires to { to < 12 }
+    requires attack { AttackBy graph.now from to }
+    requires names { (from < length names.now) × (to < length names.now) }
+    ensures { IfOk result (IsGraphLine graph.now names.now (record { from = from; to = to })) }
+{
+    let attacker = names[from as usize].copy(alloc)?;
+    let attacked = names[to as usize].copy(alloc)?;
+    Ok(AttackLine {
+        from: attacker,
+        to: attacked,
+        weak: graph.weak(from, to),
+    })
+}
