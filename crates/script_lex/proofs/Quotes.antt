@@ -4,7 +4,8 @@ use Rattle.std.proofs.lemmas.Bool.Decides.{nat_tests}
 use Rattle.std.proofs.lemmas.Bool.{cases_order, cases_lt}
 use Rattle.std.proofs.lemmas.List.{take_more}
 use Rattle.script_lex.specs.TokenParts.{step_of, EndsQuoted}
-use Rattle.script_lex.specs.Tokens.{doubled, IsQuoted}
+use Rattle.cqa_value.specs.Literals.{doubled}
+use Rattle.script_lex.specs.Tokens.{IsQuoted}
 
 abbrev then_run : Option Bool → (Bool → Option Bool) → Option Bool
 then_run None f = None
@@ -15,12 +16,15 @@ abbrev run : Bool → List ℕ → Option Bool
 run o [] = Some o
 run o (b ∷ bs) = then_run (step_of o b) (λ p. run p bs)
 
+is_39 : (b : ℕ) → (b == 39) ≡ true → b ≡ 39
+is_39 b e = grind (arith, nat_tests)
+
 quoted_runs : (value : List ℕ) → run true (doubled value ++ 39 ∷ []) ≡ Some false
 quoted_runs [] = refl
 quoted_runs (b ∷ v) = go (b == 39) refl (quoted_runs v)
   where
-    go : (t : Bool) → (b == 39) ≡ t → run true (doubled v ++ 39 ∷ []) ≡ Some false → run true ((if t then 39 ∷ 39 ∷ doubled v else b ∷ doubled v) ++ 39 ∷ []) ≡ Some false
-    go true e h = h
+    go : (t : Bool) → (b == 39) ≡ t → run true (doubled v ++ 39 ∷ []) ≡ Some false → run true (((if t then b ∷ b ∷ [] else b ∷ []) ++ doubled v) ++ 39 ∷ []) ≡ Some false
+    go true e h = rw (is_39 b e) h
     go false e h = rw e h
 
 abbrev Back : List ℕ → Type 0
@@ -30,18 +34,15 @@ runs_quoted : (bs : List ℕ) → Back bs
 runs_quoted [] = (λ e. absurd (cc), λ e. inl refl)
 runs_quoted (b ∷ bs) = (go (b == 39) refl (runs_quoted bs), λ e. inr (go2 (b == 39) refl (runs_quoted bs) e))
   where
-    is_39 : (b == 39) ≡ true → b ≡ 39
-    is_39 e = grind (arith, nat_tests)
-
     go : (t : Bool) → (b == 39) ≡ t → Back bs → then_run (if t then Some false else Some true) (λ p. run p bs) ≡ Some false → IsQuoted (b ∷ bs)
     go true e h r = elim (h.1 r) [
-      | inl n ↦ ([], rw (is_39 e, n) refl)
-      | inr v ↦ (39 ∷ v.0, rw (is_39 e, v.1) refl)
+      | inl n ↦ ([], rw (is_39 b e, n) refl)
+      | inr v ↦ (39 ∷ v.0, rw (is_39 b e, v.1) refl)
     ]
     go false e h r = let v = h.0 r in (b ∷ v.0, rw (e, v.1) refl)
 
     go2 : (t : Bool) → (b == 39) ≡ t → Back bs → then_run (if t then Some true else None) (λ p. run p bs) ≡ Some false → (value : List ℕ) × (b ∷ bs ≡ 39 ∷ doubled value ++ 39 ∷ [])
-    go2 true e h r = let v = h.0 r in (v.0, rw (is_39 e, v.1) refl)
+    go2 true e h r = let v = h.0 r in (v.0, rw (is_39 b e, v.1) refl)
     go2 false e h r = (cc)
 
 run-push : (xs : List ℕ) (o : Bool) (b : ℕ) → run o (xs ++ b ∷ []) ≡ then_run (run o xs) (λ p. step_of p b)

@@ -1,7 +1,8 @@
 -- How tokens spell a text.
-use Rattle.std.specs.Prelude.{◌≡◌, ◌⊎◌, ◌+◌, ◌-◌, ◌<◌, ◌≤◌, ◌==◌, ℕ, true, List, [], ◌∷◌, ◌++◌, if◌then◌else◌, length, take, drop, slice_range, IsUtf8}
+use Rattle.std.specs.Prelude.{◌≡◌, ◌⊎◌, ◌+◌, ◌-◌, ◌<◌, ◌≤◌, ℕ, true, List, [], ◌∷◌, ◌++◌, length, take, drop, slice_range, IsUtf8}
 use Rattle.std.specs.List.{AllByRecursion}
 use Rattle.std.specs.Str.{IsValidUpTo}
+use Rattle.cqa_value.specs.Literals.{doubled}
 use Rattle.cqa_value.specs.declared.memory.Fail.{Fail}
 use Rattle.cqa_value.specs.declared.memory.Fail.TheVariants.{NoMemory, Refused}
 use Rattle.script_lex.specs.declared.kinds.Span.{Span}
@@ -34,11 +35,6 @@ symbol_bytes Ge = 62 ∷ 61 ∷ []
 abbrev pub IsNumber : List ℕ → Type 0
 IsNumber [] = ⊥
 IsNumber (b ∷ bs) = AllPass is_digit (b ∷ bs)
-
--- with each quote doubled
-abbrev pub doubled : List ℕ → List ℕ
-doubled [] = []
-doubled (b ∷ bs) = if b == 39 then 39 ∷ 39 ∷ doubled bs else b ∷ doubled bs
 
 -- what follows the first quote of a text: its value with each quote doubled, and a quote
 abbrev pub IsQuoted : List ℕ → Type 0
@@ -79,8 +75,11 @@ Splits text at [] end = at ≡ end
 Splits text at (p ∷ ps) end = (p.span.from ≡ at) × (at < p.span.to) × IsLongest p.kind (p.span.to - at) (drop at text) × Splits text p.span.to ps end
 
 -- what stands between the quotes of a text
+abbrev pub inside : List ℕ → List ℕ
+inside bytes = slice_range bytes 1 (length bytes - 1)
+
 abbrev pub inside_of : List ℕ → Piece → List ℕ
-inside_of text p = slice_range text (p.span.from + 1) (p.span.to - 1)
+inside_of text p = inside (slice_range text p.span.from p.span.to)
 
 -- where it is a text, it is UTF-8 between its quotes
 pub record IsClean (text : List ℕ) (p : Piece) : Type 0 where

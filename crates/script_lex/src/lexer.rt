@@ -32,9 +32,9 @@ fn unclean(text: &[u8], piece: Piece) -> Option<usize>
     let PieceKind::Token(TokenKind::Text) = piece.kind else {
         return None;
     };
-    let inside = piece.span.from + 1;
-    match utf8_fault(&text[inside..piece.span.to - 1]) {
-        Some(count) => Some(inside + count),
+    let quoted = &text[piece.span.from..piece.span.to];
+    match utf8_fault(&quoted[1..quoted.len() - 1]) {
+        Some(count) => Some(piece.span.from + 1 + count),
         None => None,
     }
 }

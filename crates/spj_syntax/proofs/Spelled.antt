@@ -1,7 +1,7 @@
 -- What the parser needs to know of tokens, from how they spell their text.
 use Rattle.std.proofs.Common.{◌≡◌, inl, inr, ◌+◌, ◌-◌, ◌<◌, ◌≤◌, ◌==◌, ◌&&◌, nat_eq, lit<, ℕ, zero, suc, Bool, true, false, IsTrue, List, [], ◌∷◌, ◌++◌, length, take, drop, get_or, slice_index, All, refl, sym, ◌∙◌, ap, subst, arith, append_assoc, length-append, if◌then◌else◌}
 use Rattle.std.proofs.lemmas.Bool.Decides.{nat_tests}
-use Rattle.std.proofs.lemmas.List.{take-take, drop-drop, drop-take, length-take-le, length-drop, take_at, drop_at}
+use Rattle.std.proofs.lemmas.List.{length-take-le, length-drop, take_at, drop_at}
 use Rattle.std.proofs.lemmas.List.Elements.{All-from_recursion, recursion_from_All}
 use Rattle.std.proofs.lemmas.Str.{IsUtf8-from_ascii, IsUtf8-append, IsUtf8-take, IsUtf8-drop, IsCharBoundary-before_ascii, IsCharBoundary-after_ascii}
 use Rattle.std.proofs.Math.Seq.{get_or-append_seam}
@@ -16,10 +16,10 @@ use Rattle.script_lex.specs.declared.pieces.Piece.{Piece}
 use Rattle.script_lex.specs.declared.pieces.PieceKind.{PieceKind}
 use Rattle.script_lex.specs.declared.pieces.PieceKind.TheVariants.{Blank, Comment, Token as OfToken}
 use Rattle.script_lex.specs.Bytes.{is_letter, is_digit, is_word_byte, AllPass}
-use Rattle.script_lex.specs.Tokens.{doubled, IsNumber, IsToken, IsPiece, IsLongest, Splits, IsClean, kept, tokens_of, Spells, Rise, LiesIn}
+use Rattle.script_lex.specs.Tokens.{inside, IsNumber, IsToken, IsPiece, IsLongest, Splits, IsClean, kept, tokens_of, Spells, Rise, LiesIn}
 use Rattle.script_lex.proofs.Placed.{lie_in, rise}
-use Rattle.cqa_value.specs.Literals.{are_digits, without_minus}
-use Rattle.spj_syntax.specs.Lexemes.{undoubled, inside}
+use Rattle.cqa_value.specs.Literals.{are_digits, without_minus, doubled}
+use Rattle.spj_syntax.specs.Lexemes.{undoubled}
 use Rattle.spj_syntax.specs.Reading.{IsSound, IsReadable}
 
 -- words are ASCII
@@ -103,31 +103,15 @@ quoted_two : (bytes : List ℕ) → IsToken Text bytes → 2 ≤ length bytes
 quoted_two [] h = absurd h
 quoted_two (b ∷ bytes) h = let q = h.1 in omega (arith, ap length q.1, length-append (doubled q.0) (39 ∷ []))
 
--- the bytes of a text between its quotes, cut from the whole text or from its own bytes
-inside_is : (text : List ℕ) (from to : ℕ) → from + 2 ≤ to → to ≤ length text → inside (slice_range text from to) ≡ slice_range text (from + 1) (to - 1)
-inside_is text from to lt le =
-    let rest = drop from text in
-    let n : length (take (to - from) rest) ≡ to - from = length-take-le (to - from) rest (omega (arith, length-drop from text)) in
-    let m : to - from ≡ 1 + (to - from - 1) = omega arith in
-    let size : (length (take (to - from) rest) - 1) - 1 ≡ (to - 1) - (from + 1) = omega arith in
-    ap (λ z. take z (drop 1 (take (to - from) rest))) size
-    ∙ ap (λ z. take ((to - 1) - (from + 1)) (drop 1 (take z rest))) m
-    ∙ ap (λ z. take ((to - 1) - (from + 1)) z) (drop-take 1 (to - from - 1) rest)
-    ∙ take-take ((to - 1) - (from + 1)) (to - from - 1) (drop 1 rest) (omega arith)
-    ∙ ap (λ z. take ((to - 1) - (from + 1)) z) (drop-drop 1 from text)
-
-text_sound : (text : List ℕ) (from to : ℕ) → from ≤ to → to ≤ length text → IsToken Text (slice_range text from to) → IsUtf8 (slice_range text (from + 1) (to - 1)) → IsSound Text (slice_range text from to)
-text_sound text from to lt le h u =
-    let two = quoted_two (slice_range text from to) h in
-    let n : length (take (to - from) (drop from text)) ≡ to - from = length-take-le (to - from) (drop from text) (omega (arith, length-drop from text)) in
-    (two, undoubled-utf8 (inside (slice_range text from to)) [] (subst IsUtf8 (sym (inside_is text from to (omega (arith, two, n)) le)) u))
+text_sound : (bytes : List ℕ) → IsToken Text bytes → IsUtf8 (inside bytes) → IsSound Text bytes
+text_sound bytes h u = (quoted_two bytes h, undoubled-utf8 (inside bytes) [] u)
 
 -- a piece that is a token is readable
 readable : (text : List ℕ) (p : Piece) (kind : TokenKind) → p.kind ≡ OfToken kind → p.span.from ≤ p.span.to → p.span.to ≤ length text → IsToken kind (slice_range text p.span.from p.span.to) → IsClean text p
     → IsReadable text (record { kind = kind; span = p.span })
 readable text p Word e lt le h c = record { ordered = lt; within = le; sound = h }
 readable text p Int e lt le h c = record { ordered = lt; within = le; sound = int_sound (slice_range text p.span.from p.span.to) h }
-readable text p Text e lt le h c = record { ordered = lt; within = le; sound = text_sound text p.span.from p.span.to lt le h (c.utf8 e) }
+readable text p Text e lt le h c = record { ordered = lt; within = le; sound = text_sound (slice_range text p.span.from p.span.to) h (c.utf8 e) }
 readable text p (Sym s) e lt le h c = record { ordered = lt; within = le; sound = tt }
 
 each_kept : (P : Token → Type 0) (kind : PieceKind) (span : Span) (tokens : List Token) → ((k : TokenKind) → kind ≡ OfToken k → P (record { kind = k; span = span })) → AllByRecursion P tokens → AllByRecursion P (kept kind span ++ tokens)

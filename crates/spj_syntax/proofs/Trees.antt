@@ -6,6 +6,7 @@ use Rattle.script_lex.specs.declared.kinds.Symbol.TheVariants as s
 use Rattle.cqa_value.specs.declared.value.Kind.{Kind}
 use Rattle.cqa_value.specs.declared.value.Kind.TheVariants as kinds
 use Rattle.cqa_model.specs.declared.schema.Column.{Column}
+use Rattle.cqa_model.specs.Text.{kind_word}
 use Rattle.cqa_model.specs.declared.query.Op.{Op}
 use Rattle.cqa_model.specs.declared.query.Op.TheVariants as ops
 use Rattle.cqa_value.specs.declared.value.Value.{Value}
@@ -16,7 +17,7 @@ use Rattle.spj_syntax.specs.declared.tree.RawCol.{RawCol}
 use Rattle.spj_syntax.specs.declared.tree.RawCond.{RawCond}
 use Rattle.spj_syntax.specs.declared.tree.RawCond.TheVariants.{Join, Test}
 use Rattle.spj_syntax.specs.Lexemes.{Lexeme, Word, Number, Quoted, Mark}
-use Rattle.spj_syntax.specs.Written.{name_tokens, literal_tokens, kind_word, column_tokens, listed_tokens, row_tokens, schema_tokens, op_symbol, test_tokens, col_tokens_of, col_tokens, cond_tokens, each_after, between, filtered_tokens, head_tokens, select_tokens, statement_tokens, IsProper}
+use Rattle.spj_syntax.specs.Written.{name_tokens, literal_tokens, column_tokens, listed_tokens, row_tokens, schema_tokens, op_symbol, test_tokens, col_tokens_of, col_tokens, cond_tokens, each_after, between, filtered_tokens, head_tokens, select_tokens, statement_tokens, IsProper}
 use Rattle.spj_syntax.specs.declared.tree.Select.{Select}
 use Rattle.spj_syntax.specs.declared.tree.Statement.{Statement}
 use Rattle.spj_syntax.specs.declared.tree.Statement.TheVariants as statements

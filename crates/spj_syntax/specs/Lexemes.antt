@@ -1,11 +1,12 @@
 -- What a token stands for.
-use Rattle.std.specs.Prelude.{List, [], ◌∷◌, ◌-◌, ◌&&◌, ℕ, ℤ, length, nat_eq, if◌then◌else◌}
+use Rattle.std.specs.Prelude.{List, [], ◌∷◌, ◌&&◌, ℕ, ℤ, nat_eq, if◌then◌else◌}
 use Rattle.std.specs.List.{slice_range}
 use Rattle.cqa_value.specs.Literals.{integer_of}
 use Rattle.script_lex.specs.declared.kinds.Token.{Token}
 use Rattle.script_lex.specs.declared.kinds.TokenKind.{TokenKind}
 use Rattle.script_lex.specs.declared.kinds.TokenKind.TheVariants as kinds
 use Rattle.script_lex.specs.declared.kinds.Symbol.{Symbol}
+use Rattle.script_lex.specs.Tokens.{inside}
 
 -- a word, a number, the value of a text, a symbol
 pub data Lexeme : Type 0 where
@@ -19,10 +20,6 @@ abbrev pub undoubled : List ℕ → List ℕ
 undoubled [] = []
 undoubled (b ∷ []) = b ∷ []
 undoubled (b ∷ c ∷ bytes) = (if nat_eq 39 b && nat_eq 39 c then 39 ∷ undoubled bytes else b ∷ undoubled (c ∷ bytes))
-
--- what stands between the outer quotes
-abbrev pub inside : List ℕ → List ℕ
-inside bytes = slice_range bytes 1 (length bytes - 1)
 
 -- what bytes stand for as a token of a kind
 abbrev pub of_kind : TokenKind → List ℕ → Lexeme

@@ -6,12 +6,12 @@ use Rattle.cqa_value.specs.Literals.{integer_of, are_digits, without_minus}
 use Rattle.script_lex.specs.declared.kinds.Token.{Token}
 use Rattle.script_lex.specs.declared.kinds.TokenKind.{TokenKind}
 use Rattle.script_lex.specs.declared.kinds.TokenKind.TheVariants as kinds
-use Rattle.script_lex.specs.Tokens.{IsToken}
+use Rattle.script_lex.specs.Tokens.{IsToken, inside}
 use Rattle.spj_syntax.specs.declared.reader.Stop.{Stop}
 use Rattle.spj_syntax.specs.declared.reader.Stop.TheVariants.{NoMemory, Syntax}
 use Rattle.spj_syntax.specs.declared.reader.Seen.{Seen}
 use Rattle.spj_syntax.specs.declared.reader.Seen.TheVariants as sights
-use Rattle.spj_syntax.specs.Lexemes.{Lexeme, Word, Number, Quoted, Mark, undoubled, inside, lexeme}
+use Rattle.spj_syntax.specs.Lexemes.{Lexeme, Word, Number, Quoted, Mark, undoubled, lexeme}
 use Rattle.spj_syntax.specs.Shapes.{Shape}
 use Rattle.spj_syntax.specs.Parsed.{Fits, AllFit, IsStatement, Refuses, fault_of, lexemes}
 use Rattle.spj_syntax.specs.Written.{IsWrittenAs}

@@ -2,11 +2,10 @@
 use Rattle.std.specs.Prelude.{◌≡◌, ◌<◌, ◌≤◌, length, List, [], ◌∷◌, ◌++◌, ℕ, Option, Some, None, true, codes, pos, All}
 use Rattle.script_lex.specs.declared.kinds.Symbol.{Symbol}
 use Rattle.script_lex.specs.declared.kinds.Symbol.TheVariants as s
-use Rattle.cqa_value.specs.declared.value.Kind.{Kind}
-use Rattle.cqa_value.specs.declared.value.Kind.TheVariants as kinds
 use Rattle.cqa_value.specs.declared.value.Value.{Value}
 use Rattle.cqa_value.specs.declared.value.Value.TheVariants.{Int, Text}
 use Rattle.cqa_model.specs.declared.schema.Column.{Column}
+use Rattle.cqa_model.specs.Text.{kind_word}
 use Rattle.cqa_model.specs.declared.query.Op.{Op}
 use Rattle.cqa_model.specs.declared.query.Op.TheVariants as ops
 use Rattle.spj_syntax.specs.declared.tree.RawSchema.{RawSchema}
@@ -28,10 +27,6 @@ name_tokens n = Word n ∷ []
 abbrev pub literal_tokens : Value → List Lexeme
 literal_tokens (Int z) = Number z ∷ []
 literal_tokens (Text t) = Quoted t ∷ []
-
-abbrev pub kind_word : Kind → List ℕ
-kind_word kinds.Int = codes "int"
-kind_word kinds.Text = codes "text"
 
 abbrev pub column_tokens : Column → List Lexeme
 column_tokens c = name_tokens c.name ++ Word (kind_word c.kind) ∷ []
