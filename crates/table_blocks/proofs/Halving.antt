@@ -1,5 +1,5 @@
 -- A search by halving over items that a test parts.
-use Rattle.std.proofs.Common.{◌≡◌, ◌+◌, ◌/◌, ◌<◌, ◌≤◌, ◌^◌, ℕ, suc, zero, length, List, Bool, true, false, refl, sym, ◌∙◌, arith, slice_index_or, true≢false}
+use Rattle.std.proofs.Common.{◌≡◌, ◌+◌, ◌/◌, ◌<◌, ◌^◌, ℕ, suc, zero, length, List, Bool, true, false, refl, sym, ◌∙◌, arith, slice_index_or, true≢false}
 use Rattle.std.proofs.Math.Nat.{pow-suc}
 use Rattle.std.specs.List.{AllWithin, HoldsAt}
 use Rattle.std.specs.List.Sorted.{IsPartitionedBy}

@@ -6,7 +6,7 @@ pub mod Merging
 pub mod Counting
 pub mod Faults
 pub mod Changing
-pub mod Cells
+pub mod Passing
 pub mod Naming
 pub mod Inserting
 pub mod Taken

@@ -1,8 +1,7 @@
 -- Rows in block order are parted by a probe.
-use Rattle.std.proofs.Common.{◌≡◌, ◌+◌, ◌-◌, ◌<◌, ◌≤◌, ℕ, suc, zero, length, List, [], ◌∷◌, ◌++◌, Bool, true, false, refl, sym, ◌∙◌, ap, subst, arith, take, drop, map, get_or, true≢false, All, slice_get, Some, not, ◌==◌, length-append}
+use Rattle.std.proofs.Common.{◌≡◌, ◌+◌, ◌<◌, ◌≤◌, ℕ, suc, zero, length, List, [], ◌∷◌, ◌++◌, Bool, true, false, refl, sym, ◌∙◌, ap, subst, arith, take, drop, get_or, true≢false, slice_get, Some, not, ◌==◌, length-append}
 use Rattle.std.specs.List.Sorted.{IsStrictlySortedBy, IsPartitionedBy, IsPartitionPoint}
 use Rattle.std.specs.Ordering.{ordering_then, ordering_index, is_eq}
-use Rattle.std.specs.Cmp.{IsTotalOrder}
 use Rattle.std.specs.declared.cmp.Ordering.{Ordering}
 use Rattle.std.specs.declared.cmp.Ordering.TheVariants.{Less, Equal, Greater}
 use Rattle.std.proofs.lemmas.List.{get_or-take, get_or-drop, length-take-le, length-drop, take-append-drop, drop_more}
@@ -10,7 +9,7 @@ use Rattle.std.proofs.lemmas.Option.{get_or_from_slice_get}
 use Rattle.std.proofs.lemmas.List.Elements.{All-from_get_or}
 use native.Mathlib.Decide.{dec_lt}
 use Rattle.cqa_value.specs.declared.value.Value.{Value}
-use Rattle.cqa_value.specs.Values.{value_cmp, value_total, row_cmp, row_total, row_ties, row_equiv}
+use Rattle.cqa_value.specs.Values.{value_cmp, row_cmp, row_total, row_ties, row_equiv}
 use Rattle.cqa_model.specs.Database.{nothing, key_of, block_cmp}
 use Rattle.cqa_model.proofs.BlockOrder.{row_exact, sorted-less}
 use Rattle.table_blocks.proofs.BlockOrder.{block_total, block_exact, block_alike}

@@ -85,6 +85,7 @@ impl Database {
         requires { table < length self.now }
         ensures is { IfSome (slice_get self.now table) (λ t. result.now ≡ t.schema) }
         ensures kinds { kinds_of result.now ≡ kinds_at self.now table }
+        ensures key { result.now.key ≡ key_at self.now table }
     {
         self.table(table).schema()
     }

@@ -1,6 +1,7 @@
 //! The tables of a database, each a list of rows in block order.
 #![tactic(auto)]
 
+mod cells;
 mod check;
 mod database;
 mod order;
@@ -13,6 +14,7 @@ mod test;
 #[cfg(test)]
 mod tests;
 
+pub use cells::{cell, same_value, value_or};
 pub use database::Database;
 pub use probe::Probe;
 pub use steps::Steps;

@@ -2,7 +2,7 @@ ghost use Rattle.std.specs.Prelude.{◌≡◌, ◌+◌, ◌<◌, ◌≤◌, leng
 ghost use Rattle.cqa_value.specs.Values.{row_cmp};
 ghost use Rattle.table_blocks.specs.Spans.{first_key, probe_cmp};
 
-use crate::order::value_or_zero;
+use crate::cells::value_or;
 use crate::probe::Probe;
 use cqa_value::{Row, Value, compare};
 use std::cmp::Ordering;
@@ -32,7 +32,7 @@ fn compare_key(key: &[u32], probe: &Probe<'_>, row: &Row) -> Ordering
     ensures { result ≡ probe_cmp key.now probe.now row.now }
 {
     for at in 0..probe.len() {
-        let ordering = compare(value_or_zero(row, key[at], &Value::Int(0)), probe.get(at));
+        let ordering = compare(value_or(row, key[at], &Value::Int(0)), probe.get(at));
         if ordering != Ordering::Equal {
             return ordering;
         }

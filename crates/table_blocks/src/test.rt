@@ -3,7 +3,7 @@ ghost use Rattle.cqa_model.specs.Database.{nothing};
 ghost use Rattle.cqa_model.specs.Query.{OpHolds};
 ghost use Rattle.table_blocks.specs.Tables.{TestsHold};
 
-use crate::order::cell;
+use crate::cells::value_or;
 use cqa_model::Op;
 use cqa_value::{Row, Value, compare};
 use std::cmp::Ordering;
@@ -16,7 +16,7 @@ pub struct ColumnTest {
     pub value: Value,
 }
 
-fn same_value(a: &Value, b: &Value) -> bool
+fn is_same(a: &Value, b: &Value) -> bool
     ensures { IsTrue result ↔ (a.now ≡ b.now) }
 {
     a == b
@@ -27,8 +27,8 @@ pub fn compares(op: Op, a: &Value, b: &Value) -> bool
     ensures { IsTrue result ↔ OpHolds op a.now b.now }
 {
     match op {
-        Op::Eq => same_value(a, b),
-        Op::Ne => !same_value(a, b),
+        Op::Eq => is_same(a, b),
+        Op::Ne => !is_same(a, b),
         Op::Lt => compare(a, b) == Ordering::Less,
         Op::Le => compare(a, b) != Ordering::Greater,
         Op::Gt => compare(a, b) == Ordering::Greater,
@@ -40,10 +40,11 @@ pub fn compares(op: Op, a: &Value, b: &Value) -> bool
 fn passes(row: &Row, test: &ColumnTest) -> bool
     ensures { IsTrue result ↔ OpHolds test.now.op (slice_index_or row.now test.now.col nothing) test.now.value }
 {
-    match cell(row, test.col) {
-        Some(found) => compares(test.op, found, &test.value),
-        None => compares(test.op, &Value::Int(0), &test.value),
-    }
+    compares(
+        test.op,
+        value_or(row, test.col, &Value::Int(0)),
+        &test.value,
+    )
 }
 
 /// Whether a row passes all tests.

@@ -1,9 +1,13 @@
-ghost use Rattle.std.specs.Prelude.{◌≡◌, ◌+◌, ◌<◌, [], IfOk, OnOk, length};
+ghost use Rattle.std.specs.Prelude.{◌≡◌, ◌+◌, ◌<◌, ◌≤◌, [], IfOk, OnOk, length};
+ghost use Rattle.table_blocks.specs.Tables.{key_at, rows_at};
 
-use crate::{ColumnTest, Database};
+use crate::{ColumnTest, Database, Probe, Steps};
 use cqa_model::{Column, LimitKind, Op, Place, Refusal, Schema};
 use cqa_value::{Fail, Items, Kind, Name, NameFault, NoMemory, Row, Value, row_text};
 use std::alloc::Global;
+use std::cmp::Ordering;
+use std::marker::Brand;
+use std::sync::ledger::{Blank, Ledger};
 use std::test::Fail as TestFail;
 
 /// A value as the tables of cases write it.
@@ -491,4 +495,200 @@ fn rows_are_limited(rt: HostRuntime) {
         assert_eq!(rt; insert(&mut db, table, given), want);
     }
     assert_eq!(rt; db.row_total(), 1_000_000);
+}
+
+/// A probe of the values of a row.
+fn probe_of(alloc: Global, row: &Row) -> Probe<'_> {
+    let mut probe = Probe::new(alloc);
+    for value in row.as_slice() {
+        if probe.len() < 16 {
+            probe.put(value);
+        }
+    }
+    probe
+}
+
+/// How many rows compare below a probe and how many equal it, with each value of the probe read.
+fn counts<L: Ledger>(rows: &[Row], key: &[u32], probe: &Probe<'_>, blank: Blank) -> (usize, usize)
+    requires name { blank.name ≡ L.name }
+    requires parts { blank.parts ≡ L.parts }
+    requires some { 0 < blank.parts }
+    requires few { length probe.now ≤ length key.now }
+{
+    let mut steps = Steps::<L>::new(blank);
+    let (mut below, mut equal) = (0usize, 0usize);
+    for row in rows {
+        match steps.compare(key, probe, row) {
+            Ordering::Less => below = below.wrapping_add(1),
+            Ordering::Equal => equal = equal.wrapping_add(1),
+            Ordering::Greater => {}
+        }
+    }
+    (below, equal)
+}
+
+/// The same rows as those of `rows_with`, by `span` and, where the probe has all key values, by `block`.
+fn agrees<L: Ledger>(db: &Database, table: u32, probe: &Probe<'_>, blank: Blank) -> bool
+    requires name { blank.name ≡ L.name }
+    requires parts { blank.parts ≡ L.parts }
+    requires some { 0 < blank.parts }
+    requires there { table < length db.now }
+    requires few { length probe.now ≤ length (key_at db.now table) }
+{
+    let mut steps = Steps::<L>::new(blank);
+    let (place, rows) = db.rows_with(table, probe);
+    let (start, span) = db.span(table, probe, &mut steps);
+    let all = probe.len() == db.schema(table).key.len() as usize;
+    place == start && rows == span && (!all || db.block(table, probe, &mut steps) == rows)
+}
+
+/// How many rows compare below the first key values, the place of the first that has them, and the text of these.
+type Found = (usize, u32, Vec<u8>);
+
+fn look_up(
+    alloc: Global,
+    db: &Database,
+    table: u32,
+    cells: Cells,
+) -> Result<Option<Found>, Fail<NameFault>> {
+    let row = row(alloc, cells)?;
+    let probe = probe_of(alloc, &row);
+    if table >= db.count() || probe.len() > db.schema(table).key.as_slice().len() {
+        return Ok(None);
+    }
+    let key = db.schema(table).key.as_slice();
+    let (below, equal) = counts::<Brand>(db.rows(table), key, &probe, Blank::new(1));
+    let (place, rows) = db.rows_with(table, &probe);
+    if equal != rows.len() || !agrees::<Brand>(db, table, &probe, Blank::new(1)) {
+        return Ok(None);
+    }
+    Ok(Some((below, place, text(alloc, rows)?)))
+}
+
+/// A table, its rows, and their number.
+fn filled() -> [(u32, &'static [Cells], u32); 3] {
+    [
+        (0, &[&[N(5)]], 1),
+        (
+            1,
+            &[
+                &[N(2), N(1)],
+                &[N(1), N(9)],
+                &[N(1), N(-9)],
+                &[N(0), N(7)],
+                &[N(2), N(0)],
+                &[N(1), N(0)],
+            ],
+            6,
+        ),
+        (
+            3,
+            &[
+                &[N(1), T("x")],
+                &[N(2), T("y")],
+                &[N(3), T("y")],
+                &[N(4), T("z")],
+                &[N(5), T("x")],
+            ],
+            5,
+        ),
+    ]
+}
+
+/// A table, first key values, how many rows come before those that have them, and the text of these.
+fn spans() -> [(u32, Cells, u32, &'static str); 22] {
+    [
+        (0, &[N(4)], 0, ""),
+        (0, &[N(5)], 0, "(5)"),
+        (0, &[N(6)], 1, ""),
+        (1, &[], 0, "(0, 7)(1, -9)(1, 0)(1, 9)(2, 0)(2, 1)"),
+        (1, &[N(-1)], 0, ""),
+        (1, &[N(0)], 0, "(0, 7)"),
+        (1, &[N(1)], 1, "(1, -9)(1, 0)(1, 9)"),
+        (1, &[N(2)], 4, "(2, 0)(2, 1)"),
+        (1, &[N(3)], 6, ""),
+        (2, &[], 0, ""),
+        (2, &[T("a")], 0, ""),
+        (3, &[], 0, "(1, 'x')(5, 'x')(2, 'y')(3, 'y')(4, 'z')"),
+        (3, &[T("w")], 0, ""),
+        (3, &[T("x")], 0, "(1, 'x')(5, 'x')"),
+        (3, &[T("y")], 2, "(2, 'y')(3, 'y')"),
+        (3, &[T("z")], 4, "(4, 'z')"),
+        (3, &[T("zz")], 5, ""),
+        (3, &[T("x"), N(1)], 0, "(1, 'x')"),
+        (3, &[T("x"), N(3)], 1, ""),
+        (3, &[T("x"), N(5)], 1, "(5, 'x')"),
+        (3, &[T("y"), N(5)], 4, ""),
+        (3, &[T("z"), N(4)], 4, "(4, 'z')"),
+    ]
+}
+
+#[test]
+fn rows_are_found_by_first_key_values(rt: HostRuntime) {
+    let alloc = rt.alloc();
+    let mut db = tables(alloc).expect(&rt, "ample memory");
+    for (table, given, count) in filled() {
+        let given = rows(alloc, given).expect(&rt, "ample memory");
+        assert_eq!(rt; insert(&mut db, table, given), New(count));
+    }
+    for (table, cells, before, want) in spans() {
+        let found = look_up(alloc, &db, table, cells).expect(&rt, "ample memory");
+        let (below, place, text) = found.expect(&rt, "one answer of all calls");
+        assert_eq!(rt; below, before as usize, "{want}");
+        assert_eq!(rt; text.as_slice(), want.as_bytes());
+        assert!(rt; want.is_empty() || place == before);
+    }
+}
+
+/// The block of a probe. A look-up takes no step in a table without rows, at most two where there is one row, and at
+/// most 20 where there are 1,000.
+fn block<'a, L: Ledger>(
+    db: &'a Database,
+    table: u32,
+    probe: &Probe<'_>,
+    steps: &mut Steps<L>,
+) -> &'a [Row]
+    requires there { table < length db.now }
+    requires all { length probe.now ≡ length (key_at db.now table) }
+    ensures none { length (rows_at db.now table) ≡ 0 → steps.new ≤ steps.old }
+    ensures one { length (rows_at db.now table) ≡ 1 → steps.new ≤ steps.old + 2 }
+    ensures many { length (rows_at db.now table) ≡ 1_000 → steps.new ≤ steps.old + 20 }
+{
+    db.block(table, probe, steps)
+}
+
+/// How many of the numbers from 0 to another have a block of one row, which is theirs, in the first table.
+fn found_numbers<L: Ledger>(alloc: Global, db: &Database, last: i64, blank: Blank) -> u32
+    requires name { blank.name ≡ L.name }
+    requires parts { blank.parts ≡ L.parts }
+    requires some { 0 < blank.parts }
+{
+    let mut steps = Steps::<L>::new(blank);
+    let mut found = 0u32;
+    for number in 0..last {
+        let value = Value::Int(number);
+        let mut probe = Probe::new(alloc);
+        probe.put(&value);
+        if db.count() > 0 && db.schema(0).key.as_slice().len() == 1 {
+            let rows = block(db, 0, &probe, &mut steps);
+            if rows.len() == 1 && rows[0].len() == 1 && rows[0].get(0) == &value {
+                found = found.wrapping_add(1);
+            }
+        }
+    }
+    found
+}
+
+#[test]
+fn each_number_is_found(rt: HostRuntime) {
+    let alloc = rt.alloc();
+    for count in [0u32, 1, 1_000, 1_000_000] {
+        let mut db = tables(alloc).expect(&rt, "ample memory");
+        let given = numbers(alloc, false, 1, count as i64 + 1).expect(&rt, "ample memory");
+        assert_eq!(rt; insert(&mut db, 0, given), New(count));
+        assert_eq!(rt;
+            found_numbers::<Brand>(alloc, &db, count as i64 + 2, Blank::new(1)),
+            count
+        );
+    }
 }

@@ -5,7 +5,7 @@ use Rattle.cqa_value.specs.declared.value.Value.{Value}
 use Rattle.std.specs.Bool.{IsTrue}
 use Rattle.cqa_model.specs.Database.{block_cmp}
 use Rattle.table_blocks.specs.Tables.{TestsHold}
-use Rattle.table_blocks.proofs.Cells.{dec_tests, is_yes, is_no, turned_round}
+use Rattle.table_blocks.proofs.Passing.{dec_tests, is_yes, is_no, turned_round}
 use Rattle.table_blocks.proofs.Membership.{contains_filter}
 use Rattle.table_blocks.proofs.rows.remove.Goals as goal
 

@@ -1,4 +1,4 @@
-use Rattle.std.proofs.Common.{rules, ◌≡◌, ◌+◌, ◌/◌, ◌<◌, length, true, false, Bool, List, arith, sym, ap, ◌∙◌, subst}
+use Rattle.std.proofs.Common.{◌≡◌, ◌+◌, ◌/◌, ◌<◌, length, true, false, Bool, List, arith, sym, ap, ◌∙◌}
 use Rattle.std.proofs.lemmas.List.Elements.{at_read}
 use Rattle.cqa_value.specs.declared.value.Value.{Value}
 use Rattle.table_blocks.specs.Spans.{probe_cmp, comes_before}

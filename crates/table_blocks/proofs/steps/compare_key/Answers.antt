@@ -1,4 +1,4 @@
-use Rattle.std.proofs.Common.{◌≡◌, ◌<◌, length, sym, ap, ◌∙◌, arith, subst, true, false, not, ◌==◌}
+use Rattle.std.proofs.Common.{◌≡◌, sym, ◌∙◌, arith, subst, true, false, not, ◌==◌}
 use Rattle.std.specs.Ordering.{ordering_index}
 use Rattle.table_blocks.proofs.Spanning.{next_pair, decides, ties_on}
 use Rattle.table_blocks.proofs.steps.compare_key.Goals as goal
@@ -7,12 +7,12 @@ pub returns-then-ne : goal.returns-then-ne
 returns-then-ne c =
     let size = c.len-at-end.ensures.value in
     let here = c.loop-at-test.true in
-    let step = next_pair c.args.key.now c.args.row.now c.args.probe.now c.loop-at.at c.value_or_zero.result.now c.get.result.now c.requires (omega (arith, size, here)) c.value_or_zero.ensures c.get.ensures in
+    let step = next_pair c.args.key.now c.args.row.now c.args.probe.now c.loop-at.at c.value_or.result.now c.get.result.now c.requires (omega (arith, size, here)) c.value_or.ensures c.get.ensures in
     c.compare-ordering.ensures ∙ sym (c.loop-at.invariant ∙ (step ∙ decides _ _ (subst (λ o. true ≡ not (ordering_index o == 1)) c.compare-ordering.ensures c.if-ne.ensures)))
 
 pub loop-at-preserved : goal.loop-at-preserved
 loop-at-preserved c =
     let size = c.len-at-end.ensures.value in
     let here = c.loop-at-test.true in
-    let step = next_pair c.args.key.now c.args.row.now c.args.probe.now c.loop-at.at c.value_or_zero.result.now c.get.result.now c.requires (omega (arith, size, here)) c.value_or_zero.ensures c.get.ensures in
+    let step = next_pair c.args.key.now c.args.row.now c.args.probe.now c.loop-at.at c.value_or.result.now c.get.result.now c.requires (omega (arith, size, here)) c.value_or.ensures c.get.ensures in
     c.loop-at.invariant ∙ (step ∙ ties_on _ _ (subst (λ o. false ≡ not (ordering_index o == 1)) c.compare-ordering.ensures c.if-ne.ensures))

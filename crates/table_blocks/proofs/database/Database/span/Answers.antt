@@ -1,4 +1,4 @@
-use Rattle.std.proofs.Common.{arith, ap, subst, ◌≤◌, ◌+◌, length}
+use Rattle.std.proofs.Common.{arith}
 use Rattle.table_blocks.proofs.Spanning.{span-within}
 use Rattle.table_blocks.proofs.database.Database.span.Goals as goal
 

@@ -1,16 +1,11 @@
--- A cell that may not be there, and tests on it.
-use Rattle.std.proofs.Common.{◌≡◌, ℕ, Bool, true, false, not, List, [], ◌∷◌, Option, unwrap_or, slice_get, slice_index_or, pos, ap, ◌∙◌, refl, sym, true≢false}
+-- Tests on the cells of a row.
+use Rattle.std.proofs.Common.{◌≡◌, Bool, true, false, not, List, [], ◌∷◌, slice_index_or, sym, refl, true≢false}
 use Rattle.std.specs.Bool.{IsTrue}
-use Rattle.std.proofs.lemmas.Option.{unwrap_or-slice_get}
 use Rattle.cqa_value.specs.declared.value.Value.{Value}
-use Rattle.cqa_value.specs.declared.value.Value.TheVariants.{Int}
 use Rattle.cqa_model.specs.Database.{nothing}
 use Rattle.cqa_model.proofs.Values.{dec_op}
 use Rattle.table_blocks.specs.declared.test.ColumnTest.{ColumnTest}
 use Rattle.table_blocks.specs.Tables.{TestsHold}
-
-pub read : (row : List Value) (place : ℕ) (found : Option Value) → found ≡ slice_get row place → unwrap_or found (Int (pos 0)) ≡ slice_index_or row place (Int (pos 0))
-read row place found e = ap (λ o. unwrap_or o (Int (pos 0))) e ∙ unwrap_or-slice_get row place (Int (pos 0))
 
 dec_both : {A B : Type 0} → Dec A → Dec B → Dec (A × B)
 dec_both (yes a) (yes b) = yes (a, b)
