@@ -7,6 +7,7 @@ mod fault;
 mod following;
 pub mod laws;
 mod marks;
+mod places;
 mod reading;
 mod steps;
 mod store;

@@ -4,21 +4,14 @@ ghost use Rattle.std.specs.Prelude.{◌≡◌, ℕ, ◌≤◌, OnOk, IfOk, Match
 ghost use Rattle.lrat_check.specs.Store.{live_of, IsStore};
 ghost use Rattle.cnf_form.specs.Logs.{with_clause, without};
 
+use crate::places::{Place, Places};
 use cnf_form::Lit;
 use std::alloc::{AllocError, Global};
-use std::collections::BTreeMap;
-
-/// Where a clause's literals stand in the pool.
-#[derive(Clone, Copy)]
-pub struct Place {
-    pub from: usize,
-    pub to: usize,
-}
 
 #[derive(Drop)]
 pub struct Store {
     pub pool: Vec<Lit>,
-    pub places: BTreeMap<u64, Place>,
+    pub places: Places,
 }
 
 impl Store {
@@ -28,7 +21,7 @@ impl Store {
     {
         Store {
             pool: Vec::new(alloc),
-            places: BTreeMap::new(alloc),
+            places: Places::new(alloc),
         }
     }
 
@@ -36,7 +29,7 @@ impl Store {
         requires { IsStore self.now.pool.items self.now.places }
         ensures { MatchOption result (live_of self.now.pool.items self.now.places id ≡ None) (λ c. live_of self.now.pool.items self.now.places id ≡ Some c.now) }
     {
-        match self.places.get(&id) {
+        match self.places.get(id) {
             Some(place) => Some(&self.pool[place.from..place.to]),
             None => None,
         }
@@ -61,6 +54,6 @@ impl Store {
         ensures no { result ≡ false → live_of self.old.pool.items self.old.places id ≡ None }
         ensures live { (k : ℕ) → live_of self.new.pool.items self.new.places k ≡ without (live_of self.old.pool.items self.old.places) id k }
     {
-        self.places.remove(&id).is_some()
+        self.places.remove(id)
     }
 }

@@ -9,4 +9,4 @@ pub returns-clause-live : goal.returns-clause-live
 returns-clause-live c k =
     subst (λ (pool : List Lit). live_of pool c.insert.new.self k ≡ with_clause (live_of c.args.self.now.pool.items c.args.self.now.places) c.args.id c.args.clause.now k)
     (sym c.in_ok-extend_from_slice.ensures.items)
-    (added_live c.args.self.now.pool.items c.args.clause.now c.args.self.now.places c.insert.new.self c.args.id _ c.requires (omega arith) (let e = c.in_ok-extend_from_slice.ensures.len in omega (arith, e)) c.in_ok-insert.ensures.updates.1 c.in_ok-insert.ensures.updates.2 k)
+    (added_live c.args.self.now.pool.items c.args.clause.now c.args.self.now.places c.insert.new.self c.args.id _ c.requires (omega arith) (let e = c.in_ok-extend_from_slice.ensures.len in omega (arith, e)) c.in_ok-insert.ensures k)
