@@ -2,6 +2,7 @@ mod Deleted
 pub mod Exact
 mod Followed
 mod Loaded
+mod Reaching
 mod MarkLemmas
 mod Shown
 mod Stored

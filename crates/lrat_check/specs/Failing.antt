@@ -1,7 +1,9 @@
 -- Which logs are refused over a formula, and why.
-use Rattle.std.specs.Prelude.{◌≡◌, ◌≢◌, ℕ, zero, suc, ◌<◌, ◌≤◌, ℤ, pos, negsuc, List, [], ◌∷◌, ◌⊎◌, map, Contains, length, Some, None, Result, Ok, Err}
+use Rattle.std.specs.Prelude.{◌≡◌, ◌≢◌, ℕ, zero, suc, ◌<◌, ◌≤◌, ℤ, pos, negsuc, List, [], ◌∷◌, ◌⊎◌, map, Contains, length, Option, Some, None, Result, Ok, Err}
 use Rattle.cqa_value.specs.declared.memory.Fail.{Fail}
 use Rattle.cqa_value.specs.declared.memory.Fail.TheVariants as fail
+use Rattle.cnf_form.specs.declared.fault.FormatFault.{FormatFault}
+use Rattle.cnf_form.specs.declared.fault.Part.TheVariants as part
 use Rattle.cnf_form.specs.declared.formula.Lit.{Lit}
 use Rattle.cnf_form.specs.declared.formula.Cnf.{Cnf}
 use Rattle.cnf_form.specs.declared.log.Step.{Step}
@@ -63,3 +65,12 @@ abbrev pub Checked : Cnf → List Step → Result (Unit {0}) (Fail LogFault) →
 Checked cnf steps (Ok done) = Refutes cnf steps
 Checked cnf steps (Err (fail.Refused fault)) = Refused cnf steps fault
 Checked cnf steps (Err fail.NoMemory) = Unit {0}
+
+-- The same where the log is read first: no fault, that of the log, or the first faulty line.
+abbrev pub TextChecked : Cnf → Result (List Step) ℕ → Result (Option LogFault) (Fail FormatFault) → Type 0
+TextChecked cnf said (Err fail.NoMemory) = Unit {0}
+TextChecked cnf (Ok steps) (Ok None) = Refutes cnf steps
+TextChecked cnf (Ok steps) (Ok (Some fault)) = Refused cnf steps fault
+TextChecked cnf (Ok steps) (Err (fail.Refused fault)) = ⊥
+TextChecked cnf (Err line) (Ok end) = ⊥
+TextChecked cnf (Err line) (Err (fail.Refused fault)) = fault ≡ record { line = line; part = part.Log }

@@ -4,6 +4,7 @@ pub mod Store
 pub mod Following
 pub mod Steps
 pub mod Checked
+pub mod Reached
 pub mod LogTexts
 pub mod LogParts
 pub mod Writing

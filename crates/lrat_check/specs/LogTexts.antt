@@ -77,6 +77,11 @@ step_of vars (t ∷ ts) = by_first vars (unsigned_of greatest t) ts
 abbrev pub one_step : Step → List Step
 one_step s = s ∷ []
 
+-- the step of a line, if it has one
+abbrev pub said_steps : Option Step → List Step
+said_steps None = []
+said_steps (Some s) = one_step s
+
 -- the step that a line is, or none where it is skipped
 abbrev pub line_steps : ℕ → List ℕ → Option (List Step)
 line_steps vars l = cond (is_skipped l) (Some []) (option_map one_step (step_of vars (tokens l)))

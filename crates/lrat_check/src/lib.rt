@@ -1,6 +1,7 @@
 //! Reads logs of refutations, and checks them over their formulas.
 #![tactic(auto)]
 
+mod checker;
 mod checking;
 mod deleting;
 mod fault;
@@ -13,9 +14,11 @@ mod steps;
 mod store;
 #[cfg(test)]
 mod tests;
+mod text_checking;
 mod writing;
 
 pub use checking::check;
 pub use fault::{LogCause, LogFault};
 pub use reading::read_log;
+pub use text_checking::check_text;
 pub use writing::log_text;

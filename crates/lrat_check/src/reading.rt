@@ -1,13 +1,13 @@
 //! Reads logs.
 
-ghost use Rattle.std.specs.Prelude.{◌≡◌, ◌≢◌, [], ◌∷◌, ◌<◌, ◌^◌, ◌++◌, IfOk, MatchOption, None, Some, List, option_map};
+ghost use Rattle.std.specs.Prelude.{◌≡◌, ◌≢◌, [], ◌∷◌, ◌<◌, ◌^◌, ◌++◌, IfOk, OnOk, MatchOption, None, Some, List, option_map};
 ghost use Rattle.cqa_value.specs.declared.memory.Fail.TheVariants.{Refused};
 ghost use Rattle.cnf_form.specs.declared.fault.Part.TheVariants as part;
 ghost use Rattle.cnf_form.specs.declared.log.Step.{Step as LogStep};
 ghost use Rattle.cnf_form.specs.Lines.{after_line, line_of, tokens};
 ghost use Rattle.cnf_form.specs.Formulas.{literal};
 ghost use Rattle.cnf_form.specs.Numbers.{without_sign};
-ghost use Rattle.lrat_check.specs.LogTexts.{LogIs, add_step, addition_of, by_first, delete_step, hint_value, hints_of, ids_of, line_steps, step_after};
+ghost use Rattle.lrat_check.specs.LogTexts.{LogIs, add_step, addition_of, by_first, delete_step, hint_value, hints_of, ids_of, line_steps, said_steps, step_after};
 ghost use Rattle.cnf_form.specs.declared.log.Log.{Log as LogValue};
 ghost use Rattle.lrat_check.specs.Writing.{IsWritableLog, ReadsBack, log_bytes};
 ghost use Rattle.lrat_check.specs.LogParts.{IdIsNext, NoIdNext};
@@ -43,9 +43,18 @@ fn hint_of(number: Signed) -> i64
 
 /// What a step's literals and hints are gathered in before they are copied to where they stay.
 #[derive(Drop)]
-struct Gathered {
+pub struct Gathered {
     lits: Vec<Lit>,
     hints: Vec<i64>,
+}
+
+impl Gathered {
+    pub fn new(alloc: Global) -> Gathered {
+        Gathered {
+            lits: Vec::new(alloc),
+            hints: Vec::new(alloc),
+        }
+    }
 }
 
 /// Gathers literals up to a zero, and gives the bytes after it.
@@ -209,18 +218,17 @@ fn read_step<'a>(
     }
 }
 
-/// Takes the step that begins with a number, and gives the bytes after its line; `None` where it breaks a rule.
-fn take_step<'a>(
+/// Reads the step that begins with a number, and gives the bytes after its line; `None` where it breaks a rule.
+fn read_numbered<'a>(
     alloc: Global,
     gathered: &mut Gathered,
     vars: u32,
-    steps: &mut Vec<Step>,
     first: Signed,
     text: &'a [u8],
-) -> Result<Option<&'a [u8]>, AllocError>
+) -> Result<Option<(Step, &'a [u8])>, AllocError>
     ensures { IfOk result (λ r. MatchOption r
         (by_first vars (without_sign first.negative first.size) (tokens (line_of text.now)) ≡ None)
-        (λ rest. (rest.now ≡ after_line text.now) × ((step : LogStep) × (by_first vars (without_sign first.negative first.size) (tokens (line_of text.now)) ≡ Some step) × (steps.new.items ≡ steps.old.items ++ step ∷ [])))) }
+        (λ p. (by_first vars (without_sign first.negative first.size) (tokens (line_of text.now)) ≡ Some p.0) × (p.1.now ≡ after_line text.now))) }
 {
     let Some(id) = unsigned(first) else {
         return Ok(None);
@@ -228,53 +236,66 @@ fn take_step<'a>(
     if id == 0 {
         return Ok(None);
     }
-    let Some((step, rest)) = read_step(alloc, gathered, id, text, vars)? else {
-        return Ok(None);
-    };
-    steps.push(step)?;
-    Ok(Some(rest))
+    read_step(alloc, gathered, id, text, vars)
 }
 
-/// Takes the step that the first line is, or none where it is skipped, and gives the bytes after the line; `None` where it
+/// Reads the step that the first line is, or none where it is skipped, and gives the bytes after the line; `None` where it
 /// breaks a rule.
-fn take_line<'a>(
+pub fn read_line<'a>(
     alloc: Global,
     gathered: &mut Gathered,
     vars: u32,
-    steps: &mut Vec<Step>,
     text: &'a [u8],
-) -> Result<Option<&'a [u8]>, AllocError>
+) -> Result<Option<(Option<Step>, &'a [u8])>, AllocError>
     ensures { IfOk result (λ r. MatchOption r
         (line_steps vars (line_of text.now) ≡ None)
-        (λ rest. (rest.now ≡ after_line text.now) × ((said : List LogStep) × (line_steps vars (line_of text.now) ≡ Some said) × (steps.new.items ≡ steps.old.items ++ said)))) }
+        (λ p. (line_steps vars (line_of text.now) ≡ Some (said_steps p.0)) × (p.1.now ≡ after_line text.now))) }
 {
     if is_comment_line(text) {
-        return Ok(Some(skip_line(text)));
+        return Ok(Some((None, skip_line(text))));
     }
     match next_number(text, GREATEST) {
-        Next::End(rest) => Ok(Some(rest)),
-        Next::Number(first, rest) => take_step(alloc, gathered, vars, steps, first, rest),
+        Next::End(rest) => Ok(Some((None, rest))),
+        Next::Number(first, rest) => match read_numbered(alloc, gathered, vars, first, rest)? {
+            Some((step, rest)) => Ok(Some((Some(step), rest))),
+            None => Ok(None),
+        },
         Next::Other => Ok(None),
     }
+}
+
+/// Appends the step of a line, if it has one.
+fn append(steps: &mut Vec<Step>, step: Option<Step>) -> Result<(), AllocError>
+    ensures { OnOk result (steps.new.items ≡ steps.old.items ++ said_steps step) }
+{
+    if let Some(step) = step {
+        steps.push(step)?;
+    }
+    Ok(())
+}
+
+/// The fault of a line.
+pub fn line_fault(line: u64) -> Fail<FormatFault>
+    ensures { result ≡ Refused (record { line = line; part = part.Log }) }
+{
+    Fail::Refused(FormatFault {
+        line,
+        part: Part::Log,
+    })
 }
 
 fn read_steps(alloc: Global, bytes: &[u8], vars: u32) -> Result<Log, Fail<FormatFault>>
     ensures { LogIs vars bytes.now result }
 {
-    let mut gathered = Gathered {
-        lits: Vec::new(alloc),
-        hints: Vec::new(alloc),
-    };
+    let mut gathered = Gathered::new(alloc);
     let mut steps = Vec::new(alloc);
     let mut rest = bytes;
     let mut number = 1u64;
     while !rest.is_empty() {
-        let Some(after) = take_line(alloc, &mut gathered, vars, &mut steps, rest)? else {
-            return Err(Fail::Refused(FormatFault {
-                line: number,
-                part: Part::Log,
-            }));
+        let Some((step, after)) = read_line(alloc, &mut gathered, vars, rest)? else {
+            return Err(line_fault(number));
         };
+        append(&mut steps, step)?;
         number += 1;
         rest = after;
     }

@@ -6,28 +6,18 @@ ghost use Rattle.proof_check.specs.declared.reply.CheckReply.TheVariants.{Verifi
 ghost use Rattle.proof_check.specs.Verdicts.{Checks, ChecksLog, IsUnsatisfiable, OneReply};
 
 use crate::CheckReply;
-use cnf_form::{Cnf, Log, read_formula};
+use cnf_form::{Cnf, read_formula};
 use cqa_value::{Fail, NoMemory};
-use lrat_check::{check, read_log};
+use lrat_check::check_text;
 use std::alloc::Global;
-
-/// What the checker says of a log over a formula.
-fn check_steps(alloc: Global, cnf: &Cnf, log: &Log) -> Result<CheckReply, NoMemory>
-    ensures { IfOk result (ChecksLog cnf.now (Ok log.now.steps)) }
-{
-    match check(alloc, cnf, log) {
-        Ok(()) => Ok(CheckReply::Verified),
-        Err(Fail::NoMemory) => Err(NoMemory),
-        Err(Fail::Refused(fault)) => Ok(CheckReply::BadLog(fault)),
-    }
-}
 
 /// Reads the text of a log over a formula, and checks it.
 fn check_log(alloc: Global, cnf: &Cnf, text: &[u8]) -> Result<CheckReply, NoMemory>
     ensures { IfOk result (ChecksLog cnf.now (log_of cnf.now.vars 1 (lines text.now))) }
 {
-    match read_log(alloc, text, cnf.vars) {
-        Ok(log) => check_steps(alloc, cnf, &log),
+    match check_text(alloc, cnf, text) {
+        Ok(None) => Ok(CheckReply::Verified),
+        Ok(Some(fault)) => Ok(CheckReply::BadLog(fault)),
         Err(Fail::NoMemory) => Err(NoMemory),
         Err(Fail::Refused(fault)) => Ok(CheckReply::BadText(fault)),
     }

@@ -2,7 +2,7 @@ use Rattle.std.proofs.Common.{◌≡◌, ℕ, take}
 use Rattle.cnf_form.specs.Literals.{literals}
 use Rattle.cnf_form.specs.Logs.{numbered}
 use Rattle.lrat_check.specs.Store.{live_of, IsStore}
-use Rattle.lrat_check.proofs.checking.load.Given as goal
+use Rattle.lrat_check.proofs.checker.load.Given as goal
 
 abbrev pub invariant-loop-index : goal.invariant-loop-index
 invariant-loop-index l = record {

@@ -1,6 +1,6 @@
 use Rattle.std.proofs.Common.{◌+◌, arith}
 use Rattle.lrat_check.proofs.Loaded.{load_more}
-use Rattle.lrat_check.proofs.checking.load.Goals as goal
+use Rattle.lrat_check.proofs.checker.load.Goals as goal
 
 pub loop-index-preserved : goal.loop-index-preserved
 loop-index-preserved c = record {

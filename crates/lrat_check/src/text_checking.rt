@@ -1,0 +1,66 @@
+//! The check of a log while its text is read.
+
+ghost use Rattle.std.specs.Prelude.{◌≡◌, ◌<◌, ◌≤◌, ◌+◌, ◌-◌, ◌^◌, ◌++◌, ℕ, List, IfOk, MatchOption, None, Some};
+ghost use Rattle.cnf_form.specs.declared.log.Step.{Step as LogStep};
+ghost use Rattle.cnf_form.specs.Lines.{after_line, line_of, lines};
+ghost use Rattle.cnf_form.specs.Logs.{Live};
+ghost use Rattle.lrat_check.specs.LogTexts.{line_steps, log_of};
+ghost use Rattle.lrat_check.specs.Reached.{IsReady, Reached};
+ghost use Rattle.lrat_check.specs.Failing.{TextChecked};
+
+use crate::LogFault;
+use crate::checker::Checker;
+use crate::reading::{Gathered, line_fault, read_line};
+use cnf_form::{Cnf, FormatFault};
+use cqa_value::Fail;
+use std::alloc::{AllocError, Global};
+
+/// Takes the step that the first line is, or none where it is skipped, and gives the bytes after the line; `None` where it
+/// breaks a rule.
+fn take_line<'a>(
+    alloc: Global,
+    gathered: &mut Gathered,
+    checker: &mut Checker,
+    vars: u32,
+    text: &'a [u8],
+) -> Result<Option<&'a [u8]>, AllocError>
+    requires ready { IsReady checker.old }
+    requires room { checker.old.passed < 2 ^ 64 - 1 }
+    ensures { IfOk result (λ r. MatchOption r
+        (line_steps vars (line_of text.now) ≡ None)
+        (λ rest. (rest.now ≡ after_line text.now) × IsReady checker.new × (checker.new.passed ≤ checker.old.passed + 1)
+        × ((said : List LogStep) × (line_steps vars (line_of text.now) ≡ Some said)
+        × ((live : Live) (top : ℕ) (before : List LogStep) → Reached live top before checker.old → Reached live top (before ++ said) checker.new)))) }
+{
+    let Some((step, rest)) = read_line(alloc, gathered, vars, text)? else {
+        return Ok(None);
+    };
+    checker.take_said(&step)?;
+    Ok(Some(rest))
+}
+
+/// Reads a log, the text after the `lrat` line, and checks each step as it is read, so that none is kept. The answer is the
+/// fault of the log, and none where it refutes the formula.
+///
+/// # Errors
+/// `FormatFault` with the number of the first line that breaks a rule, from 1. It comes before any fault of a step.
+pub fn check_text(
+    alloc: Global,
+    cnf: &Cnf,
+    text: &[u8],
+) -> Result<Option<LogFault>, Fail<FormatFault>>
+    ensures { TextChecked cnf.now (log_of cnf.now.vars 1 (lines text.now)) result }
+{
+    let mut gathered = Gathered::new(alloc);
+    let mut checker = Checker::new(alloc, cnf.clauses.as_slice())?;
+    let mut rest = text;
+    let mut number = 1u64;
+    while !rest.is_empty() {
+        let Some(after) = take_line(alloc, &mut gathered, &mut checker, cnf.vars, rest)? else {
+            return Err(line_fault(number));
+        };
+        number += 1;
+        rest = after;
+    }
+    Ok(checker.end())
+}
