@@ -1,5 +1,5 @@
 use crate::LogCause::{HintNotUnit, IdNotRising, NoConflict, NoEmptyClause, RatHint, UnknownId};
-use crate::{LogCause, LogFault, check, log_text, read_log};
+use crate::{LogCause, LogFault, check, check_text, log_text, read_log};
 use cnf_form::{Clause, Cnf, FormatFault, Lit, Part, read_formula};
 use cqa_value::{Fail, Items};
 use std::alloc::{AllocError, Global};
@@ -20,20 +20,21 @@ fn two_units(alloc: Global) -> Result<Cnf, AllocError> {
     })
 }
 
-/// The fault of a log over two units; none where it refutes them.
-fn fault_of(alloc: Global, text: &[u8]) -> Result<Option<LogFault>, Fail<FormatFault>> {
+/// The fault of a log over two units, checked as a whole and while it is read; none where it refutes them.
+fn faults_of(alloc: Global, text: &[u8]) -> Result<[Option<LogFault>; 2], Fail<FormatFault>> {
     let cnf = two_units(alloc)?;
     let log = read_log(alloc, text, 2)?;
-    match check(alloc, &cnf, &log) {
-        Ok(()) => Ok(None),
-        Err(Fail::Refused(fault)) => Ok(Some(fault)),
-        Err(Fail::NoMemory) => Err(Fail::NoMemory),
-    }
+    let fault = match check(alloc, &cnf, &log) {
+        Ok(()) => None,
+        Err(Fail::Refused(fault)) => Some(fault),
+        Err(Fail::NoMemory) => return Err(Fail::NoMemory),
+    };
+    Ok([fault, check_text(alloc, &cnf, text)?])
 }
 
 #[test]
 fn refutations_are_verified(rt: HostRuntime) -> Result<(), TestFail> {
-    let cases: [&[u8]; 8] = [
+    let cases: [&[u8]; 9] = [
         b"3 0 1 2 0",
         b"9223372036854775807 0 1 2 0\n",
         b"c\n\n3 1 -1 0 0\r\n4 0 1 2 0\n",
@@ -42,21 +43,28 @@ fn refutations_are_verified(rt: HostRuntime) -> Result<(), TestFail> {
         b"3 2 -1 0 1 2 0\n7 0 1 2 00\n",
         b"3 0 1 2 0\n4 0 3 0\n",
         b"3 0 1 2 0\n1 d 1 2 -0\n4 0 3 0\n",
+        b"20 1 0 1 0\n21 1 0 1 0\n22 1 0 1 0\n23 1 0 1 0\n24 0 20 2 0\n",
     ];
     for text in cases {
-        assert_eq!(rt; fault_of(rt.alloc(), text)?, None);
+        assert_eq!(rt; faults_of(rt.alloc(), text)?, [None, None]);
     }
     Ok(())
 }
 
 #[test]
 fn the_first_step_that_fails_is_named(rt: HostRuntime) -> Result<(), TestFail> {
-    let cases: [(&[u8], u64, LogCause); 17] = [
+    let cases: [(&[u8], u64, LogCause); 19] = [
         (b"", 0, NoEmptyClause),
         (b"3 1 0 1 0\n1 d 3 0\n", 2, NoEmptyClause),
         (b"3 d 1 1 0\n", 1, UnknownId),
         (b"3 d 1 0\n4 0 1 2 0\n", 2, UnknownId),
         (b"3 d 3 0\n", 1, UnknownId),
+        (b"90 1 0 1 0\n90 d 90 0\n91 0 90 2 0\n", 3, UnknownId),
+        (
+            b"20 1 0 1 0\n21 1 0 1 0\n22 1 0 1 0\n23 1 0 1 0\n1 d 20 0\n24 0 20 2 0\n",
+            6,
+            UnknownId,
+        ),
         (b"3 0 3 0\n", 1, UnknownId),
         (b"3 0 1 9 0\n", 1, UnknownId),
         (b"3 0 1 2 0\n4 0 5 0\n", 2, UnknownId),
@@ -71,15 +79,16 @@ fn the_first_step_that_fails_is_named(rt: HostRuntime) -> Result<(), TestFail> {
         (b"3 0 1 -2 2 0\n", 1, RatHint),
     ];
     for (text, step, cause) in cases {
-        assert_eq!(rt; fault_of(rt.alloc(), text)?, Some(LogFault { step, cause }));
+        let fault = Some(LogFault { step, cause });
+        assert_eq!(rt; faults_of(rt.alloc(), text)?, [fault, fault]);
     }
     Ok(())
 }
 
 #[test]
-fn the_first_line_that_breaks_a_rule_is_named(rt: HostRuntime) {
+fn the_first_line_that_breaks_a_rule_is_named(rt: HostRuntime) -> Result<(), TestFail> {
     let alloc = rt.alloc();
-    let cases: [(&[u8], u64); 15] = [
+    let cases: [(&[u8], u64); 16] = [
         (b"9223372036854775808 0 1 2 0\n", 1),
         (b"0 0 1 2 0\n", 1),
         (b"-3 0 1 2 0\n", 1),
@@ -95,16 +104,19 @@ fn the_first_line_that_breaks_a_rule_is_named(rt: HostRuntime) {
         (b"3 d 1 0 0\n", 1),
         (b"3 d -1 0\n", 1),
         (b"3 0 1 2 0\n3 d1 0", 2),
+        (b"3 0 9 0\n4 0 1 2\n", 2),
     ];
+    let cnf = two_units(alloc)?;
     for (text, line) in cases {
-        match read_log(alloc, text, 2) {
-            Err(Fail::Refused(fault)) => {
-                let part = Part::Log;
-                assert_eq!(rt; fault, FormatFault { line, part });
+        let part = Part::Log;
+        match (read_log(alloc, text, 2), check_text(alloc, &cnf, text)) {
+            (Err(Fail::Refused(read)), Err(Fail::Refused(checked))) => {
+                assert_eq!(rt; [read, checked], [FormatFault { line, part }; 2]);
             }
             _ => assert!(rt; false, "{line}"),
         }
     }
+    Ok(())
 }
 
 #[test]
