@@ -1,7 +1,6 @@
 //! What is learnt from a conflict: the clause of the first unique implication point (Marques-Silva and Sakallah,
 //! 1996; Moskewicz and others, 2001), and the hints that show that it follows.
 
-ghost use Rattle.cdcl.specs.Trail.{At};
 ghost use Rattle.std.specs.Prelude.{◌≡◌, ◌<◌, ◌≤◌, ◌+◌, ◌≢◌, ℕ, length, Contains, OnOk, IfOk, true, false, reverse, [], pos, ◌++◌, ◌∷◌};
 ghost use Rattle.cnf_form.specs.Literals.{Denied, AllDenied, OthersDenied, literals, opposite};
 ghost use Rattle.cdcl.specs.Settled.{IsConsistent};

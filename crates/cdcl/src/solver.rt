@@ -1,6 +1,5 @@
 //! The solver: a search that learns from each conflict (Marques-Silva and Sakallah, 1996).
 
-ghost use Rattle.cdcl.specs.Trail.{At};
 ghost use Rattle.std.specs.Prelude.{◌≡◌, ◌<◌, ◌≤◌, ◌+◌, ◌≢◌, ℕ, length, List, Contains, OnOk, IfOk, true, false, replicate, take, ◌++◌, ◌∷◌, [], ◌-◌, ◌^◌, MatchOption};
 ghost use Rattle.cnf_form.specs.Literals.{Denied, AllDenied, OthersDenied, literals, opposite};
 ghost use Rattle.cdcl.specs.Settled.{IsSettled, IsOpen};
@@ -41,24 +40,13 @@ fn copy_lits(alloc: Global, lits: &Vec<Lit>) -> Result<Vec<Lit>, NoMemory>
     Ok(copy)
 }
 
-// A copy of a clause.
-fn copy_clause(alloc: Global, clause: &Clause) -> Result<Clause, NoMemory>
-    ensures { IfOk result (λ copy. copy.lits ≡ clause.now.lits) }
-{
-    let mut lits = Vec::new(alloc);
-    lits.extend_from_slice(clause.lits.as_slice())?;
-    Ok(Clause {
-        lits: Items::from_vec(lits),
-    })
-}
-
 // A copy of clauses.
 fn copy_clauses(alloc: Global, clauses: &[Clause]) -> Result<Vec<Clause>, NoMemory>
     ensures { IfOk result (λ v. literals v.items ≡ literals clauses.now) }
 {
     let mut copy = Vec::new(alloc);
     for clause in clauses {
-        copy.push(copy_clause(alloc, clause)?)?;
+        copy.push(clause.copy(alloc)?)?;
     }
     Ok(copy)
 }
