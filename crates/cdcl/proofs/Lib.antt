@@ -15,3 +15,4 @@ pub mod Visiting
 pub mod Stretches
 pub mod Learning
 pub mod Attaching
+pub mod Marking

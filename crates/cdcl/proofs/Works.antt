@@ -5,7 +5,7 @@ use Rattle.std.proofs.Common.{take, ◌≡◌, ℕ, zero, suc, ◌<◌, ◌≤�
 use Rattle.std.specs.Prelude.{Contains}
 use Rattle.std.proofs.lemmas.List.Elements.{Contains-push_cases, Contains-append_left, Contains-push}
 use Rattle.std.proofs.lemmas.List.{length-map, reverse-append, take_at}
-use Rattle.std.proofs.Common.{reverse, replicate, max}
+use Rattle.std.proofs.Common.{reverse, max}
 use Rattle.cnf_form.specs.declared.formula.Clause.{Clause}
 use Rattle.cnf_form.specs.Literals.{literals}
 use Rattle.cnf_form.specs.declared.formula.Lit.{Lit}
@@ -15,7 +15,8 @@ use Rattle.cnf_form.proofs.Lits.{nat_cases, opposite-opposite, cons_cases, conta
 use Rattle.cdcl.specs.declared.trail.Entry.{Entry}
 use Rattle.cdcl.specs.Trail.{held, ArePlaces}
 use Rattle.cnf_form.specs.Spent.{NoVarTwice}
-use Rattle.cdcl.specs.Analysis.{ChainPasses, IsSeen, AreMarks, Grow, IsLesson, AllSeen, NoneSeen, Works, EndIs, AfterIs}
+use Rattle.cdcl.specs.Analysis.{ChainPasses, AreMarks, Grow, IsLesson, AllSeen, NoneSeen, Works, EndIs, AfterIs}
+use Rattle.cdcl.specs.Marks.{IsSeen}
 use Rattle.cdcl.proofs.TrailLemmas.{At-map}
 use Rattle.std.proofs.Common.{set, get_or-set_other, get_or-set_same}
 
@@ -173,19 +174,6 @@ At-get_or (x ∷ xs) (suc k) d h = let r = At-get_or xs k d (omega arith) in (h,
 pub held_at : (trail : List Entry) (k : ℕ) (d : Entry) → k < length trail → At (held trail) k (get_or trail k d).lit
 held_at trail k d h = At-map (λ (e : Entry). e.lit) trail k (get_or trail k d) (At-get_or trail k d h)
 
-pub none_seen_more : (t : List Lit) (start place : ℕ) (seen : List Bool) (x : Lit) → At t place x → get_or seen x.var false ≡ false
-    → NoneSeen t start place seen → NoneSeen t start (place + 1) seen
-none_seen_more t start place seen x a f none p l g h b s = elim (cases p place h) [
-  | inl lt ↦ none p l g lt b s
-  | inr e ↦ clash (get_or seen l.var false) s (subst (λ (y : Lit). get_or seen y.var false ≡ false) (At-same t place x l a (subst (λ (n : ℕ). At t n l) e b)) f)
-]
-  where
-    cases : (p q : ℕ) → p < q + 1 → (p < q) ⊎ (p ≡ q)
-    cases p q h = grind arith
-
-    clash : (b : Bool) → b ≡ true → b ≡ false → ⊥
-    clash b e f = cc
-
 pub all_seen_more : (seen : List Bool) (c : List Lit) (x : Lit) → AllSeen seen c → IsSeen seen x.var → AllSeen seen (c ++ x ∷ [])
 all_seen_more seen c x a s m i = elim (Contains-push_cases c x m i) [ inl j ↦ a m j | inr e ↦ subst (λ (y : Lit). IsSeen seen y.var) e s ]
 
@@ -196,10 +184,16 @@ grow_on a b c k l m g h = record {
   lower_more = λ x i. h.lower_more x (g.lower_more x i);
 }
 
-seen_cases : (seen : List Bool) (v w : ℕ) → v < length seen → IsSeen (set seen v true) w → (w ≡ v) ⊎ IsSeen seen w
+pub seen_cases : (seen : List Bool) (v w : ℕ) → v < length seen → IsSeen (set seen v true) w → (w ≡ v) ⊎ IsSeen seen w
 seen_cases seen v w h s = elim (nat_cases w v) [
   | inl e ↦ inl e
   | inr n ↦ inr (sym (get_or-set_other seen v w true false n) ∙ s)
+]
+
+pub seen_more : (seen : List Bool) (v w : ℕ) → v < length seen → IsSeen seen w → IsSeen (set seen v true) w
+seen_more seen v w range s = elim (nat_cases w v) [
+  | inl e ↦ subst (λ (n : ℕ). IsSeen (set seen v true) n) (sym e) (get_or-set_same seen v true false range)
+  | inr n ↦ get_or-set_other seen v w true false n ∙ s
 ]
 
 pub marks_push : (t : List Lit) (places : List (Option ℕ)) (start : ℕ) (seen : List Bool) (lower : List Lit) (v place : ℕ) (x : Lit)
@@ -222,7 +216,7 @@ marks_push t places start seen lower v place x are is at below range unseen mark
             (subst (λ (y : Lit). Contains (take start t) y) (sym (opposite-opposite x)) (At-contains (take start t) place x (At-in_take start t place x below at)))
       ];
       marked = λ m i. elim (Contains-push_cases lower (opposite x) m i) [
-        | inl j ↦ more m.var (marks.marked m j)
+        | inl j ↦ seen_more seen v m.var range (marks.marked m j)
         | inr e ↦ subst (λ (y : Lit). IsSeen (set seen v true) y.var) e (subst (λ (n : ℕ). IsSeen (set seen v true) n) (sym xv) (get_or-set_same seen v true false range))
       ];
       once = once_more lower (opposite x) marks.once (λ h.
@@ -232,12 +226,6 @@ marks_push t places start seen lower v place x are is at below range unseen mark
   where
     clash : (b : Bool) → b ≡ true → b ≡ false → ⊥
     clash b e f = cc
-
-    more : (w : ℕ) → IsSeen seen w → IsSeen (set seen v true) w
-    more w s = elim (nat_cases w v) [
-      | inl e ↦ subst (λ (n : ℕ). IsSeen (set seen v true) n) (sym e) (get_or-set_same seen v true false range)
-      | inr n ↦ get_or-set_other seen v w true false n ∙ s
-    ]
 
 pub held_length : (trail : List Entry) (k : ℕ) → k < length (held trail) → k < length trail
 held_length trail k h = let e = length-map trail (λ (e : Entry). e.lit) in omega (arith, e)
@@ -253,19 +241,6 @@ literals_length cs k h = let e = length-map cs (λ (c : Clause). c.lits) in omeg
 
 pub reverse_push : {X : Type 0} (xs : List X) (x : X) → reverse (xs ++ x ∷ []) ≡ x ∷ reverse xs
 reverse_push xs x = reverse-append xs (x ∷ [])
-
-false_replicate : (n v : ℕ) → get_or (replicate n false) v false ≡ false
-false_replicate zero v = refl
-false_replicate (suc n) zero = refl
-false_replicate (suc n) (suc v) = false_replicate n v
-
-pub marks_none : (t : List Lit) (start n : ℕ) → AreMarks t start (replicate n false) []
-marks_none t start n = record {
-  kept = λ p l h a s. absurd (unseen _ (false_replicate n l.var) s);
-  below = λ m i. absurd (omega (arith, i.1));
-  marked = λ m i. absurd (omega (arith, i.1));
-  once = tt;
-}
 
 below_apart : (t : List Lit) (places : List (Option ℕ)) (start place : ℕ) (u : Lit) (lower : List Lit) → ArePlaces t places → start ≤ place
     → At t place u → ((m : Lit) → Contains lower m → Denied (take start t) m) → HasVar lower (opposite u).var → ⊥
@@ -300,9 +275,6 @@ take_front xs ys n e = take_at xs ys n e
 pub take_wider : (n m : ℕ) (t : List Lit) (l : Lit) → n ≤ m → Contains (take n t) l → Contains (take m t) l
 take_wider n m t l h i = let a = At-take n t i.0 l (i.1, i.2) in At-contains (take m t) i.0 l (At-in_take m t i.0 l (omega (arith, a.0)) a.1)
 
-pub end_none : (t : List Lit) → EndIs t [] 0
-end_none t = record { all = λ m i. absurd (omega (arith, i.1)); last = λ k e. absurd (omega arith) }
-
 pub end_more : (t c : List Lit) (end : ℕ) (x : Lit) (n : ℕ) → EndIs t c end → Denied t x → AfterIs t x.var n → EndIs t (c ++ x ∷ []) (max end n)
 end_more t c end x n e d after =
     let place : n ≡ d.0 + 1 = after d.0 (opposite x) (d.1, d.2) refl in
@@ -323,10 +295,3 @@ end_more t c end x n e d after =
 
     sum : (k : ℕ) → end < n → max end n ≡ k + 1 → d.0 ≡ k
     sum k lt q = let place : n ≡ d.0 + 1 = after d.0 (opposite x) (d.1, d.2) refl in omega (arith, place, q, lt)
-
-pub works_empty : (db : List (List Lit)) (t : List Lit) (seen : List Bool) (lower : List Lit) (hints : List ℤ)
-    → AreMarks t 0 seen lower → Works db t 0 seen lower 0 hints → ChainPasses db [] hints
-works_empty db t seen lower hints marks w = w.chain []
-    (λ l i. absurd (omega (arith, i.1)))
-    (λ m i. let d = marks.below m i in absurd (omega (arith, d.1)))
-    (λ p l g h a s. absurd (omega (arith, h)))

@@ -1,14 +1,13 @@
 -- What is learnt from a conflict.
 use Rattle.cdcl.specs.Trail.{At}
-use Rattle.std.specs.Prelude.{◌≡◌, ◌<◌, ◌≤◌, ◌+◌, ℕ, Bool, true, false, ℤ, pos, ◌⊎◌, List, [], ◌∷◌, ◌++◌, Some, length, slice_index_or, map, Contains, take}
+use Rattle.std.specs.Prelude.{◌≡◌, ◌<◌, ◌≤◌, ◌+◌, ℕ, Bool, ℤ, pos, ◌⊎◌, List, [], ◌∷◌, ◌++◌, Some, length, map, Contains, take}
 use Rattle.cnf_form.specs.declared.formula.Lit.{Lit}
 use Rattle.cnf_form.specs.Literals.{Denied, AllDenied, OthersDenied, IsUnit, opposite}
 use Rattle.cnf_form.specs.Spent.{NoVarTwice}
 use Rattle.cdcl.specs.declared.trail.Entry.{Entry}
+use Rattle.cdcl.specs.declared.analysis.Marks.{Marks}
 use Rattle.cdcl.specs.Trail.{held, AllInRange}
-
-abbrev pub IsSeen : List Bool → ℕ → Type 0
-IsSeen seen v = slice_index_or seen v false ≡ true
+use Rattle.cdcl.specs.Marks.{IsSeen, AllMet}
 
 abbrev pub AllSeen : List Bool → List Lit → Type 0
 AllSeen seen c = (m : Lit) → Contains c m → IsSeen seen m.var
@@ -23,6 +22,18 @@ pub record AreMarks (t : List Lit) (start : ℕ) (seen : List Bool) (lower : Lis
   pub below : (m : Lit) → Contains lower m → Denied (take start t) m
   pub marked : (m : Lit) → Contains lower m → IsSeen seen m.var
   pub once : NoVarTwice lower
+
+-- at most so many literals from the one place up to the other are marked
+pub record AtMostSeen (t : List Lit) (start end : ℕ) (seen : List Bool) (count : ℕ) : Type 0 where
+  pub places : List ℕ
+  pub few : length places ≤ count
+  pub all : (p : ℕ) (l : Lit) → start ≤ p → p < end → At t p l → IsSeen seen l.var → Contains places p
+
+-- the marks of an analysis: all that are made are among those met
+pub record AreMarksOf (t : List Lit) (start : ℕ) (m : Marks) : Type 0 where
+  pub marks : AreMarks t start m.seen.items m.lower.items
+  pub met : AllMet m.seen.items m.met.items
+  pub few : m.left ≤ length m.met.items
 
 -- marks are only added
 pub record Grow (seen seen' : List Bool) (lower lower' : List Lit) : Type 0 where

@@ -7,5 +7,6 @@ pub mod State
 pub mod Visits
 pub mod Looking
 pub mod Lines
+pub mod Marks
 pub mod Outcomes
 pub mod Tests

@@ -1,13 +1,15 @@
 //! What is learnt from a conflict: the clause of the first unique implication point (Marques-Silva and Sakallah,
 //! 1996; Moskewicz and others, 2001), and the hints that show that it follows.
 
-ghost use Rattle.std.specs.Prelude.{◌≡◌, ◌<◌, ◌≤◌, ◌+◌, ◌≢◌, ℕ, length, Contains, OnOk, IfOk, true, false, reverse, [], pos, ◌++◌, ◌∷◌};
+ghost use Rattle.std.specs.Prelude.{◌≡◌, ◌<◌, ◌≤◌, ◌+◌, ◌≢◌, ℕ, List, length, Contains, OnOk, IfOk, true, false, reverse, [], pos, ◌++◌, ◌∷◌};
 ghost use Rattle.cnf_form.specs.Literals.{Denied, AllDenied, OthersDenied, literals, opposite};
 ghost use Rattle.cdcl.specs.Settled.{IsConsistent};
 ghost use Rattle.cdcl.specs.Trail.{held, ArePlaces, AllInRange};
-ghost use Rattle.cdcl.specs.Analysis.{IsSeen, AreMarks, Grow, IsLesson, AllSeen, NoneSeen, AreForcedAfter, AreAllInRange, Works, IsFalse, IsForcedAt, ChainPasses};
+ghost use Rattle.cdcl.specs.Analysis.{AreMarksOf, AtMostSeen, Grow, IsLesson, AllSeen, NoneSeen, AreForcedAfter, AreAllInRange, Works, IsFalse, IsForcedAt, ChainPasses};
+ghost use Rattle.cdcl.specs.Marks.{IsSeen, AllClear, AllMet};
 
 use crate::look::literals_at;
+use crate::slate::clear_slate;
 use crate::trail::{Entry, end_of, lit_at, negate};
 use cnf_form::{Clause, Lit};
 use cqa_value::NoMemory;
@@ -22,31 +24,64 @@ pub struct Lesson {
     pub asserted: Lit,
     /// How much of the trail denies the others.
     pub end: usize,
+    /// The marks that were made, and the variables that have them.
+    pub seen: Vec<bool>,
+    pub met: Vec<u32>,
+}
+
+/// The variables that an analysis marks.
+#[derive(Drop)]
+pub struct Marks {
+    pub seen: Vec<bool>,
+    /// Those that are marked.
+    pub met: Vec<u32>,
+    /// The denied literals of those below the level.
+    pub lower: Vec<Lit>,
+    /// How many of the others are still to be walked over.
+    pub left: usize,
+}
+
+// No marks, on a slate that is clear.
+fn no_marks(alloc: Global, seen: Vec<bool>) -> Marks
+    requires clear { AllClear seen.items }
+    ensures marks { (t : List Lit) (start : ℕ) → AreMarksOf t start result }
+    ensures open { (t : List Lit) (start end : ℕ) → AtMostSeen t start end result.seen.items result.left }
+    ensures len { length result.seen.items ≡ length seen.items }
+{
+    Marks {
+        seen,
+        met: Vec::new(alloc),
+        lower: Vec::new(alloc),
+        left: 0,
+    }
 }
 
 pub(crate) fn mark_var(
     trail: &[Entry],
     places: &[Option<usize>],
     start: usize,
-    seen: &mut [bool],
-    lower: &mut Vec<Lit>,
+    marks: &mut Marks,
     var: u32,
 ) -> Result<(), NoMemory>
     requires places { ArePlaces (held trail.now) places.now }
-    requires len { length seen.old ≡ length places.now }
+    requires len { length marks.old.seen.items ≡ length places.now }
     requires range { var < length places.now }
-    requires marks { AreMarks (held trail.now) start seen.old lower.old.items }
-    ensures marks { OnOk result (AreMarks (held trail.now) start seen.new lower.new.items) }
-    ensures grow { OnOk result (Grow seen.old seen.new lower.old.items lower.new.items) }
-    ensures seen { OnOk result (IsSeen seen.new var) }
+    requires marks { AreMarksOf (held trail.now) start marks.old }
+    ensures marks { OnOk result (AreMarksOf (held trail.now) start marks.new) }
+    ensures open { OnOk result ((end : ℕ) → AtMostSeen (held trail.now) start end marks.old.seen.items marks.old.left → AtMostSeen (held trail.now) start end marks.new.seen.items marks.new.left) }
+    ensures grow { OnOk result (Grow marks.old.seen.items marks.new.seen.items marks.old.lower.items marks.new.lower.items) }
+    ensures seen { OnOk result (IsSeen marks.new.seen.items var) }
 {
-    if seen[var as usize] {
+    if marks.seen[var as usize] {
         return Ok(());
     }
-    seen[var as usize] = true;
+    marks.seen[var as usize] = true;
+    marks.met.push(var)?;
     if let Some(place) = places[var as usize] {
         if place < start {
-            lower.push(negate(trail[place].lit))?;
+            marks.lower.push(negate(trail[place].lit))?;
+        } else {
+            marks.left += 1;
         }
     }
     Ok(())
@@ -56,36 +91,31 @@ pub(crate) fn mark_all(
     trail: &[Entry],
     places: &[Option<usize>],
     start: usize,
-    seen: &mut [bool],
-    lower: &mut Vec<Lit>,
+    marks: &mut Marks,
     clause: &[Lit],
 ) -> Result<(), NoMemory>
     requires places { ArePlaces (held trail.now) places.now }
-    requires len { length seen.old ≡ length places.now }
+    requires len { length marks.old.seen.items ≡ length places.now }
     requires range { AllInRange clause.now (length places.now) }
-    requires marks { AreMarks (held trail.now) start seen.old lower.old.items }
-    ensures marks { OnOk result (AreMarks (held trail.now) start seen.new lower.new.items) }
-    ensures grow { OnOk result (Grow seen.old seen.new lower.old.items lower.new.items) }
-    ensures seen { OnOk result (AllSeen seen.new clause.now) }
+    requires marks { AreMarksOf (held trail.now) start marks.old }
+    ensures marks { OnOk result (AreMarksOf (held trail.now) start marks.new) }
+    ensures open { OnOk result ((end : ℕ) → AtMostSeen (held trail.now) start end marks.old.seen.items marks.old.left → AtMostSeen (held trail.now) start end marks.new.seen.items marks.new.left) }
+    ensures grow { OnOk result (Grow marks.old.seen.items marks.new.seen.items marks.old.lower.items marks.new.lower.items) }
+    ensures seen { OnOk result (AllSeen marks.new.seen.items clause.now) }
 {
     for lit in clause {
-        mark_var(trail, places, start, seen, lower, lit.var)?;
+        mark_var(trail, places, start, marks, lit.var)?;
     }
     Ok(())
 }
 
 // Whether the literal at a place is marked, and no other from `start` up to it is.
-pub(crate) fn is_last(trail: &[Entry], seen: &[bool], start: usize, at: usize) -> bool
+pub(crate) fn is_last(trail: &[Entry], marks: &Marks, at: usize) -> bool
     requires at { at < length trail.now }
-    requires range { AllInRange (held trail.now) (length seen.now) }
-    ensures { result ≡ true → NoneSeen (held trail.now) start at seen.now }
+    requires range { AllInRange (held trail.now) (length marks.now.seen.items) }
+    ensures { result ≡ true → (start : ℕ) → start ≤ at → AtMostSeen (held trail.now) start (at + 1) marks.now.seen.items marks.now.left → NoneSeen (held trail.now) start at marks.now.seen.items }
 {
-    for place in start..at {
-        if seen[trail[place].lit.var as usize] {
-            return false;
-        }
-    }
-    seen[trail[at].lit.var as usize]
+    marks.left <= 1 && marks.seen[trail[at].lit.var as usize]
 }
 
 // Appends the id of the clause at an index.
@@ -104,8 +134,7 @@ pub(crate) fn resolve(
     places: &[Option<usize>],
     start: usize,
     at: usize,
-    seen: &mut [bool],
-    lower: &mut Vec<Lit>,
+    marks: &mut Marks,
     hints: &mut Vec<i64>,
 ) -> Result<(), NoMemory>
     requires consistent { IsConsistent (held trail.now) }
@@ -115,25 +144,29 @@ pub(crate) fn resolve(
     requires held { AllInRange (held trail.now) (length places.now) }
     requires after { start ≤ at }
     requires at { at < length trail.now }
-    requires len { length seen.old ≡ length places.now }
-    requires marks { AreMarks (held trail.now) start seen.old lower.old.items }
-    requires works { Works (literals clauses.now) (held trail.now) start seen.old lower.old.items (at + 1) (reverse hints.old.items) }
-    ensures marks { OnOk result (AreMarks (held trail.now) start seen.new lower.new.items) }
-    ensures works { OnOk result (Works (literals clauses.now) (held trail.now) start seen.new lower.new.items at (reverse hints.new.items)) }
+    requires len { length marks.old.seen.items ≡ length places.now }
+    requires marks { AreMarksOf (held trail.now) start marks.old }
+    requires open { AtMostSeen (held trail.now) start (at + 1) marks.old.seen.items marks.old.left }
+    requires works { Works (literals clauses.now) (held trail.now) start marks.old.seen.items marks.old.lower.items (at + 1) (reverse hints.old.items) }
+    ensures len { OnOk result (length marks.new.seen.items ≡ length places.now) }
+    ensures marks { OnOk result (AreMarksOf (held trail.now) start marks.new) }
+    ensures open { OnOk result (AtMostSeen (held trail.now) start at marks.new.seen.items marks.new.left) }
+    ensures works { OnOk result (Works (literals clauses.now) (held trail.now) start marks.new.seen.items marks.new.lower.items at (reverse hints.new.items)) }
 {
     let entry = trail[at];
-    if !seen[entry.lit.var as usize] {
+    if !marks.seen[entry.lit.var as usize] {
         return Ok(());
     }
+    marks.left -= 1;
     if let Some(reason) = entry.reason {
         let clause = literals_at(clauses, reason);
-        mark_all(trail, places, start, seen, lower, clause)?;
+        mark_all(trail, places, start, marks, clause)?;
         push_hint(clauses, hints, reason)?;
     }
     Ok(())
 }
 
-/// Learns a clause from a conflict, a clause that the trail makes false.
+/// Learns a clause from a conflict, a clause that the trail makes false. The slate is to be clear.
 pub(crate) fn analyze(
     alloc: Global,
     clauses: &[Clause],
@@ -141,6 +174,7 @@ pub(crate) fn analyze(
     places: &[Option<usize>],
     start: usize,
     conflict: usize,
+    slate: Vec<bool>,
 ) -> Result<Lesson, NoMemory>
     requires consistent { IsConsistent (held trail.now) }
     requires places { ArePlaces (held trail.now) places.now }
@@ -150,43 +184,32 @@ pub(crate) fn analyze(
     requires start { start < length trail.now }
     requires conflict { conflict < length clauses.now }
     requires empty { IsFalse (held trail.now) (literals clauses.now) conflict }
-    ensures { IfOk result (λ lesson. IsLesson (literals clauses.now) (held trail.now) start lesson.lits.items lesson.hints.items lesson.asserted lesson.end) }
+    requires clear { AllClear slate.items }
+    requires len { length slate.items ≡ length places.now }
+    ensures lesson { IfOk result (λ lesson. IsLesson (literals clauses.now) (held trail.now) start lesson.lits.items lesson.hints.items lesson.asserted lesson.end) }
+    ensures met { IfOk result (λ lesson. AllMet lesson.seen.items lesson.met.items) }
 {
-    let mut seen = vec![in alloc; false; places.len()]?;
-    let mut lower = Vec::new(alloc);
+    let mut marks = no_marks(alloc, slate);
     let mut hints = Vec::new(alloc);
-    mark_all(
-        trail,
-        places,
-        start,
-        seen.as_mut_slice(),
-        &mut lower,
-        literals_at(clauses, conflict),
-    )?;
+    let clause = literals_at(clauses, conflict);
+    mark_all(trail, places, start, &mut marks, clause)?;
     push_hint(clauses, &mut hints, conflict)?;
     let mut at = trail.len() - 1;
-    while at > start && !is_last(trail, seen.as_slice(), start, at) {
-        resolve(
-            clauses,
-            trail,
-            places,
-            start,
-            at,
-            seen.as_mut_slice(),
-            &mut lower,
-            &mut hints,
-        )?;
+    while at > start && !is_last(trail, &marks, at) {
+        resolve(clauses, trail, places, start, at, &mut marks, &mut hints)?;
         at -= 1;
     }
-    let end = end_of(trail, places, lower.as_slice());
+    let end = end_of(trail, places, marks.lower.as_slice());
     let asserted = negate(lit_at(trail, at));
-    lower.push(asserted)?;
+    marks.lower.push(asserted)?;
     hints.reverse();
     Ok(Lesson {
-        lits: lower,
+        lits: marks.lower,
         hints,
         asserted,
         end,
+        seen: marks.seen,
+        met: marks.met,
     })
 }
 
@@ -207,31 +230,15 @@ pub(crate) fn refute(
     requires empty { IsFalse (held trail.now) (literals clauses.now) conflict }
     ensures { IfOk result (λ hints. ChainPasses (literals clauses.now) [] hints.items) }
 {
-    let mut seen = vec![in alloc; false; places.len()]?;
-    let mut lower = Vec::new(alloc);
+    let mut marks = no_marks(alloc, clear_slate(alloc, places.len())?);
     let mut hints = Vec::new(alloc);
-    mark_all(
-        trail,
-        places,
-        0,
-        seen.as_mut_slice(),
-        &mut lower,
-        literals_at(clauses, conflict),
-    )?;
+    let clause = literals_at(clauses, conflict);
+    mark_all(trail, places, 0, &mut marks, clause)?;
     push_hint(clauses, &mut hints, conflict)?;
     let mut at = trail.len();
     while at > 0 {
         at -= 1;
-        resolve(
-            clauses,
-            trail,
-            places,
-            0,
-            at,
-            seen.as_mut_slice(),
-            &mut lower,
-            &mut hints,
-        )?;
+        resolve(clauses, trail, places, 0, at, &mut marks, &mut hints)?;
     }
     hints.reverse();
     Ok(hints)

@@ -4,6 +4,7 @@
 mod analysis;
 mod look;
 mod outcome;
+mod slate;
 mod solver;
 #[cfg(test)]
 mod tests;

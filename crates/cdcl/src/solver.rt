@@ -7,6 +7,7 @@ ghost use Rattle.cdcl.specs.Trail.{At, held, ValueIs, AllInRange, AllLow};
 ghost use Rattle.cdcl.specs.Looks.{IsForced};
 ghost use Rattle.cdcl.specs.Analysis.{AreAllInRange};
 ghost use Rattle.cdcl.specs.State.{IsSound};
+ghost use Rattle.cdcl.specs.Marks.{AllClear, AllMet};
 ghost use Rattle.cdcl.specs.Watching.{AreLists, IsBase};
 ghost use Rattle.cdcl.specs.Looking.{IsForcedIn, IsPut, IsSameBeside, IsSameAttached, Stays, IsGrown, FoundIsAt, IsLookingAt, VisitIs, LookedIs, IsReady, IsWatchful, IsUnattached, IsFirst, CanWatch, IsPairFor};
 ghost use Rattle.cdcl.specs.Visits.{ConflictIs, OpenVarIs, SearchIs, IsStill, LeavesLevel, IsPrefix, IsConflict, IsStudied, AgreesWith};
@@ -14,6 +15,7 @@ ghost use Rattle.cdcl.specs.Lines.{Adds, IsLineStep, IsLastStep, VerdictIs, adde
 
 use crate::analysis::{Lesson, analyze, refute};
 use crate::look::{Found, Two, literals_at, seek, two_of};
+use crate::slate::Slate;
 use crate::trail::{Entry, Truth, cut, lit_at, negate, put, truth_of, value_at};
 use crate::watch::{Pair, close_gap, code, other_of, push_index, put_list, take_list};
 use cnf_form::{Clause, Cnf, Lit, Step};
@@ -99,6 +101,7 @@ pub(crate) struct Solver {
     pairs: Vec<Pair>,
     /// The clauses that watch each literal.
     lists: Vec<Items<usize>>,
+    slate: Slate,
 }
 
 impl Solver {
@@ -119,6 +122,7 @@ impl Solver {
             head: 0,
             pairs: Vec::new(alloc),
             lists: no_lists(alloc, cnf.vars as usize + 1)?,
+            slate: Slate::new(alloc),
         })
     }
 
@@ -404,12 +408,15 @@ impl Solver {
         Ok(())
     }
 
-    // What is learnt from a conflict above level 0.
-    fn study(&self, alloc: Global, conflict: usize) -> Result<Lesson, NoMemory>
+    // What is learnt from a conflict above level 0, by marks on a clear slate.
+    fn study(&self, alloc: Global, conflict: usize, slate: Vec<bool>) -> Result<Lesson, NoMemory>
         requires sound { IsSound self.now }
         requires conflict { IsConflict self.now conflict }
         requires level { 0 < length self.now.starts.items }
-        ensures { IfOk result (λ lesson. IsStudied self.now lesson) }
+        requires clear { AllClear slate.items }
+        requires len { length slate.items ≡ length self.now.places.items }
+        ensures lesson { IfOk result (λ lesson. IsStudied self.now lesson) }
+        ensures met { IfOk result (λ lesson. AllMet lesson.seen.items lesson.met.items) }
     {
         let start = self.starts[self.starts.len() - 1];
         analyze(
@@ -419,6 +426,7 @@ impl Solver {
             self.places.as_slice(),
             start,
             conflict,
+            slate,
         )
     }
 
@@ -432,7 +440,9 @@ impl Solver {
         ensures added { IfOk result (λ step. literals self.new.clauses.items ≡ literals self.old.clauses.items ++ added_lits step ∷ []) }
         ensures line { IfOk result (λ step. IsLineStep (literals self.old.clauses.items) (length self.old.places.items) step) }
     {
-        let lesson = self.study(alloc, conflict)?;
+        let slate = self.slate.take(alloc, self.places.len())?;
+        let lesson = self.study(alloc, conflict, slate)?;
+        self.slate.put_back(lesson.seen, lesson.met.as_slice());
         let id = self.clauses.len() as u64 + 1;
         let lits = copy_lits(alloc, &lesson.lits)?;
         self.leave();

@@ -17,15 +17,17 @@ pub loop-lit-preserved : goal.loop-lit-preserved
 loop-lit-preserved c =
     let i = c.loop-lit.lit-index in
     let cl = c.args.clause.now in
+    let seen = c.mark_var.new.marks.seen.items in
     record {
       marks = c.in_ok-mark_var.ensures.marks;
+      few = λ end m. c.in_ok-mark_var.ensures.open end (c.loop-lit.invariant.few end m);
       grow = grow_on _ _ _ _ _ _ c.loop-lit.invariant.grow c.in_ok-mark_var.ensures.grow;
-      all = subst (λ (ys : List Lit). AllSeen c.mark_var.new.seen ys) (sym ((take_at_read cl i none c.loop-lit-test.true).1))
-          (all_seen_more c.mark_var.new.seen (take i cl) (get_or cl i none)
+      all = subst (λ (ys : List Lit). AllSeen seen ys) (sym ((take_at_read cl i none c.loop-lit-test.true).1))
+          (all_seen_more seen (take i cl) (get_or cl i none)
           (λ m j. c.in_ok-mark_var.ensures.grow.seen_more m.var (c.loop-lit.invariant.all m j)) c.in_ok-mark_var.ensures.seen);
     }
 
 pub returns-clause-seen : goal.returns-clause-seen
 returns-clause-seen c =
     let e : take c.loop-lit.lit-index c.args.clause.now ≡ c.args.clause.now = take_all c.loop-lit.lit-index c.args.clause.now c.loop-lit-test.false in
-    subst (λ (ys : List Lit). AllSeen c.loop-lit.seen ys) e c.loop-lit.invariant.all
+    subst (λ (ys : List Lit). AllSeen c.loop-lit.marks.seen.items ys) e c.loop-lit.invariant.all

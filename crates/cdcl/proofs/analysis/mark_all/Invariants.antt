@@ -1,11 +1,12 @@
-use Rattle.std.proofs.Common.{take}
+use Rattle.std.proofs.Common.{ℕ, take}
 use Rattle.cdcl.specs.Trail.{held}
-use Rattle.cdcl.specs.Analysis.{AreMarks, Grow, AllSeen}
+use Rattle.cdcl.specs.Analysis.{AreMarksOf, AtMostSeen, Grow, AllSeen}
 use Rattle.cdcl.proofs.analysis.mark_all.Given as goal
 
 abbrev pub invariant-loop-lit : goal.invariant-loop-lit
 invariant-loop-lit l = record {
-  marks : AreMarks (held l.trail) l.start l.seen l.lower.items;
-  grow : Grow l.initial.seen l.seen l.initial.lower.items l.lower.items;
-  all : AllSeen l.seen (take l.lit-index l.clause);
+  marks : AreMarksOf (held l.trail) l.start l.marks;
+  few : (end : ℕ) → AtMostSeen (held l.trail) l.start end l.initial.marks.seen.items l.initial.marks.left → AtMostSeen (held l.trail) l.start end l.marks.seen.items l.marks.left;
+  grow : Grow l.initial.marks.seen.items l.marks.seen.items l.initial.marks.lower.items l.marks.lower.items;
+  all : AllSeen l.marks.seen.items (take l.lit-index l.clause);
 }

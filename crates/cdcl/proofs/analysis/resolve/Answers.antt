@@ -7,19 +7,42 @@ use Rattle.cdcl.specs.Trail.{held}
 use Rattle.cdcl.specs.Analysis.{IsForcedBy, Works}
 use Rattle.cdcl.proofs.Works.{held_at, At-get_or, At-contains, At-same, works_skip, works_resolve, unseen, some_same, literals_length, reverse_push}
 use Rattle.std.specs.Prelude.{Contains, take}
+use Rattle.cdcl.proofs.Marking.{at_most_walked, read_false, read_true}
 use Rattle.cdcl.proofs.analysis.resolve.Goals as goal
 
 abbrev none : Entry
 none = record { lit = record { var = 0; positive = false }; reason = None }
 
-pub bounds-seen-entry : goal.bounds-seen-entry
-bounds-seen-entry c =
-    let r = c.requires.held _ (At-contains (held c.args.trail.now) c.args.at _ (held_at c.args.trail.now c.args.at none c.requires.at)) in omega (arith, r, c.requires.len)
+pub index-requires : goal.index-requires
+index-requires c =
+    let r = c.requires.held _ (At-contains (held c.args.trail.now) c.args.at _ (held_at c.args.trail.now c.args.at none c.requires.at)) in
+    omega (arith, r, c.requires.len, c.args.marks.now.seen.ok)
 
-pub returns-then-not-seen-entry-clause-works : goal.returns-then-not-seen-entry-clause-works
-returns-then-not-seen-entry-clause-works c =
-    works_skip (literals c.args.clauses.now) (held c.args.trail.now) c.args.start c.args.seen.now c.args.lower.now.items c.args.at (reverse c.args.hints.now.items) _
-    (held_at c.args.trail.now c.args.at none c.requires.at) (unseen _ c.if-not-seen-entry.true) c.requires.works
+pub returns-then-not-index-clause-works : goal.returns-then-not-index-clause-works
+returns-then-not-index-clause-works c =
+    let m = c.args.marks.now in
+    works_skip (literals c.args.clauses.now) (held c.args.trail.now) c.args.start m.seen.items m.lower.items c.args.at (reverse c.args.hints.now.items) _
+    (held_at c.args.trail.now c.args.at none c.requires.at) (unseen _ (read_false m.seen.items _ _ c.index.ensures c.if-not-index.true)) c.requires.works
+
+pub overflow_sub-marks : goal.overflow_sub-marks
+overflow_sub-marks c =
+    let t = held c.args.trail.now in
+    let seen = c.args.marks.now.seen.items in
+    let x = (get_or c.args.trail.now c.args.at none).lit in
+    let there = held_at c.args.trail.now c.args.at none c.requires.at in
+    let range : x.var < length seen = let r = c.requires.held x (At-contains t c.args.at x there) in omega (arith, r, c.requires.len) in
+    (at_most_walked t c.args.start c.args.at seen c.args.marks.now.left x c.requires.after there
+    (read_true seen x.var _ range c.index.ensures c.if-not-index.false) c.requires.open).0
+
+pub returns-in_ok-push_hint-clause-open : goal.returns-in_ok-push_hint-clause-open
+returns-in_ok-push_hint-clause-open c =
+    let t = held c.args.trail.now in
+    let seen = c.args.marks.now.seen.items in
+    let x = (get_or c.args.trail.now c.args.at none).lit in
+    let there = held_at c.args.trail.now c.args.at none c.requires.at in
+    let range : x.var < length seen = let r = c.requires.held x (At-contains t c.args.at x there) in omega (arith, r, c.requires.len) in
+    c.in_ok-mark_all.ensures.open c.args.at (at_most_walked t c.args.start c.args.at seen c.args.marks.now.left x c.requires.after there
+    (read_true seen x.var _ range c.index.ensures c.if-not-index.false) c.requires.open).1
 
 pub literals_at-clause-requires : goal.literals_at-clause-requires
 literals_at-clause-requires c =
@@ -41,11 +64,11 @@ returns-in_ok-push_hint-clause-works c =
     let e : forced.reason ≡ c.in-Some.reason = some_same _ _ (sym forced.is ∙ c.in-Some.is) in
     let same : forced.clause ≡ c.literals_at-clause.result.now =
     At-same db c.in-Some.reason _ _ (subst (λ (n : ℕ). At db n forced.clause) e forced.there) c.literals_at-clause.ensures in
-    subst (λ (hs : List ℤ). Works db t c.args.start c.mark_all.new.seen c.mark_all.new.lower.items c.args.at hs)
+    subst (λ (hs : List ℤ). Works db t c.args.start c.mark_all.new.marks.seen.items c.mark_all.new.marks.lower.items c.args.at hs)
     (sym (ap reverse c.in_ok-push_hint.ensures ∙ reverse_push c.args.hints.now.items (pos (c.in-Some.reason + 1))))
-    (works_resolve db t c.args.start c.args.seen.now c.mark_all.new.seen c.args.lower.now.items c.mark_all.new.lower.items c.args.at (reverse c.args.hints.now.items)
+    (works_resolve db t c.args.start c.args.marks.now.seen.items c.mark_all.new.marks.seen.items c.args.marks.now.lower.items c.mark_all.new.marks.lower.items c.args.at (reverse c.args.hints.now.items)
     entry.lit (pos (c.in-Some.reason + 1)) c.in-Some.reason c.literals_at-clause.result.now refl c.requires.consistent
     (held_at c.args.trail.now c.args.at none c.requires.at) c.literals_at-clause.ensures
     (subst (λ (ys : List Lit). Contains ys entry.lit) same forced.inside)
     (subst (λ (ys : List Lit). OthersDenied (take c.args.at t) ys entry.lit) same forced.others)
-    c.in_ok-mark_all.ensures.grow c.in_ok-mark_all.ensures.marks c.in_ok-mark_all.ensures.seen c.requires.works)
+    c.in_ok-mark_all.ensures.grow c.in_ok-mark_all.ensures.marks.marks c.in_ok-mark_all.ensures.seen c.requires.works)
