@@ -9,7 +9,10 @@ use Rattle.cnf_form.specs.declared.formula.Lit.{Lit}
 use Rattle.cnf_form.specs.Literals.{opposite, negated}
 use Rattle.cdcl.specs.Settled.{IsConsistent, IsOpen}
 use Rattle.cnf_form.proofs.Lits.{nat_cases}
-use Rattle.cdcl.specs.Trail.{ArePlaces, AllInRange}
+use Rattle.cdcl.specs.Trail.{ArePlaces, AllInRange, NextIs, held}
+use Rattle.cdcl.specs.declared.solver.Solver.{Solver}
+use Rattle.cdcl.specs.State.{IsSound}
+use Rattle.cdcl.specs.Visits.{OpenVarIs}
 use Rattle.cdcl.proofs.Works.{At-same, At-get_or, some_same, Contains-from_map}
 use Rattle.std.specs.List.{IsDistinct, AllByRecursion}
 use Rattle.std.proofs.Math.Dec.{eqb}
@@ -149,9 +152,15 @@ has_var t places v p are is =
     let a = At-get_or t p none r.0 in
     (get_or t p none, (p, a.0, a.1), r.1 (get_or t p none) a)
 
-pub has_var_below : (t : List Lit) (places : List (Option ℕ)) (n p : ℕ) → ArePlaces t places → get_or places n None ≡ Some p
-    → ((v : ℕ) → 1 ≤ v → v < n → HasVar t v) → (v : ℕ) → 1 ≤ v → v < n + 1 → HasVar t v
-has_var_below t places n p are is all v low k = elim (nat_cases v n) [
-  | inl e ↦ subst (λ (m : ℕ). HasVar t m) (sym e) (has_var t places n p are is)
-  | inr ne ↦ all v low (omega arith)
-]
+none_some : (p : ℕ) (o : Option ℕ) → o ≡ None → o ≡ Some p → ⊥
+none_some p o e f = cc
+
+-- where the places say that a variable is open, it is
+pub open_var_is : (s : Solver) → IsSound s → (r : Option ℕ) → NextIs s.places.items r → OpenVarIs s r
+open_var_is s sound None m = λ v low k. let q = m v low k in has_var (held s.trail.items) s.places.items v q.0 sound.places_are q.1
+open_var_is s sound (Some v) m = (
+  m.0,
+  m.1,
+  λ h. none_some h.1.0 _ m.2
+      (subst (λ (n : ℕ). get_or s.places.items n None ≡ Some h.1.0) h.2 (sound.places_are.every h.1.0 h.0 (h.1.1, h.1.2))),
+)

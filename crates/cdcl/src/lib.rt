@@ -3,7 +3,9 @@
 
 mod analysis;
 mod look;
+mod order;
 mod outcome;
+mod restart;
 mod slate;
 mod solver;
 #[cfg(test)]

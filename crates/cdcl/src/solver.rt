@@ -15,6 +15,8 @@ ghost use Rattle.cdcl.specs.Lines.{Adds, IsLineStep, IsLastStep, VerdictIs, adde
 
 use crate::analysis::{Lesson, analyze, refute};
 use crate::look::{Found, Two, literals_at, seek, two_of};
+use crate::order::{Order, first_open};
+use crate::restart::Restarts;
 use crate::slate::Slate;
 use crate::trail::{Entry, Truth, cut, lit_at, negate, put, truth_of, value_at};
 use crate::watch::{Pair, close_gap, code, other_of, push_index, put_list, take_list};
@@ -102,6 +104,8 @@ pub(crate) struct Solver {
     /// The clauses that watch each literal.
     lists: Vec<Items<usize>>,
     slate: Slate,
+    order: Order,
+    restarts: Restarts,
 }
 
 impl Solver {
@@ -123,6 +127,8 @@ impl Solver {
             pairs: Vec::new(alloc),
             lists: no_lists(alloc, cnf.vars as usize + 1)?,
             slate: Slate::new(alloc),
+            order: Order::new(alloc, cnf.vars)?,
+            restarts: Restarts::new(),
         })
     }
 
@@ -295,13 +301,7 @@ impl Solver {
         requires small { length self.now.places.items ≤ 2 ^ 32 }
         ensures { OpenVarIs self.now result }
     {
-        for var in 1..self.places.len() {
-            match self.places[var] {
-                None => return Some(var as u32),
-                Some(_) => {}
-            }
-        }
-        None
+        first_open(self.places.as_slice())
     }
 
     // Starts a level by a decision.
@@ -321,7 +321,7 @@ impl Solver {
         self.starts.push(start)?;
         let lit = Lit {
             var,
-            positive: false,
+            positive: self.order.value(var),
         };
         put(
             &mut self.trail,
@@ -329,6 +329,18 @@ impl Solver {
             Entry { lit, reason: None },
         )?;
         Ok(())
+    }
+
+    // Leaves all levels, where a restart is due.
+    fn restart(&mut self)
+        requires { IsReady self.old }
+        ensures ready { IsReady self.new }
+        ensures clauses { self.new.clauses ≡ self.old.clauses }
+        ensures len { length self.new.places.items ≡ length self.old.places.items }
+    {
+        if self.restarts.is_due() {
+            self.back_to(0);
+        }
     }
 
     // Decides until a clause is false, or every variable has a value.
@@ -340,11 +352,12 @@ impl Solver {
         ensures len { length self.new.places.items ≡ length self.old.places.items }
         ensures found { IfOk result (λ r. SearchIs self.new r) }
     {
+        self.restart();
         loop {
             if let Some(conflict) = self.propagate(alloc)? {
                 return Ok(Some(conflict));
             }
-            match self.open_var() {
+            match self.order.next(self.places.as_slice()) {
                 None => return Ok(None),
                 Some(var) => self.decide(var)?,
             }
@@ -361,7 +374,7 @@ impl Solver {
         ensures leave { LeavesLevel self.old self.new }
     {
         if let Some(start) = self.starts.pop() {
-            cut(&mut self.trail, &mut self.places, start);
+            cut(&mut self.trail, &mut self.places, &mut self.order, start);
             self.head = self.head.min(start);
         }
     }
@@ -442,6 +455,7 @@ impl Solver {
     {
         let slate = self.slate.take(alloc, self.places.len())?;
         let lesson = self.study(alloc, conflict, slate)?;
+        self.order.raise(lesson.met.as_slice());
         self.slate.put_back(lesson.seen, lesson.met.as_slice());
         let id = self.clauses.len() as u64 + 1;
         let lits = copy_lits(alloc, &lesson.lits)?;

@@ -7,6 +7,7 @@ ghost use Rattle.cdcl.specs.Settled.{IsOpen};
 ghost use Rattle.cdcl.specs.Trail.{At, held, ArePlaces, ValueIs, AllInRange};
 ghost use Rattle.cdcl.specs.Analysis.{EndIs, AfterIs};
 
+use crate::order::Order;
 use cnf_form::Lit;
 use cqa_value::NoMemory;
 
@@ -125,8 +126,8 @@ pub(crate) fn put(
     Ok(())
 }
 
-// Takes the last literal off the trail.
-pub(crate) fn take_off(trail: &mut Vec<Entry>, places: &mut Vec<Option<usize>>)
+// Takes the last literal off the trail; its variable may be decided again.
+pub(crate) fn take_off(trail: &mut Vec<Entry>, places: &mut Vec<Option<usize>>, order: &mut Order)
     requires places { ArePlaces (held trail.old.items) places.old.items }
     requires range { AllInRange (held trail.old.items) (length places.old.items) }
     requires some { 0 < length trail.old.items }
@@ -136,11 +137,17 @@ pub(crate) fn take_off(trail: &mut Vec<Entry>, places: &mut Vec<Option<usize>>)
 {
     if let Some(entry) = trail.pop() {
         places[entry.lit.var as usize] = None;
+        order.put_back(entry.lit);
     }
 }
 
 // Cuts the trail down to a length.
-pub(crate) fn cut(trail: &mut Vec<Entry>, places: &mut Vec<Option<usize>>, len: usize)
+pub(crate) fn cut(
+    trail: &mut Vec<Entry>,
+    places: &mut Vec<Option<usize>>,
+    order: &mut Order,
+    len: usize,
+)
     requires places { ArePlaces (held trail.old.items) places.old.items }
     requires range { AllInRange (held trail.old.items) (length places.old.items) }
     ensures trail { trail.new.items ≡ take len trail.old.items }
@@ -148,6 +155,6 @@ pub(crate) fn cut(trail: &mut Vec<Entry>, places: &mut Vec<Option<usize>>, len: 
     ensures len { length places.new.items ≡ length places.old.items }
 {
     while trail.len() > len {
-        take_off(trail, places);
+        take_off(trail, places, order);
     }
 }

@@ -5,7 +5,6 @@ use Rattle.cdcl.specs.declared.trail.Entry.{Entry}
 use Rattle.cdcl.specs.Trail.{held, ArePlaces}
 use Rattle.cdcl.specs.State.{IsState}
 use Rattle.cdcl.specs.Watching.{IsListed, IsWatching, AreLists}
-use Rattle.std.specs.Prelude.{false}
 use Rattle.cdcl.proofs.States.{state_decided, held_push, length_held}
 use Rattle.cdcl.proofs.WatchState.{watching_level, watching_put}
 use Rattle.cdcl.proofs.solver.Solver.decide.Goals as goal
@@ -13,7 +12,7 @@ use Rattle.cdcl.proofs.solver.Solver.decide.Goals as goal
 pub returns-clause-ready : goal.returns-clause-ready
 returns-clause-ready c =
     let self = c.args.self.now in
-    let entry : Entry = record { lit = record { var = c.args.var; positive = false }; reason = None } in
+    let entry : Entry = record { lit = record { var = c.args.var; positive = c.value.result }; reason = None } in
     let db = literals self.clauses.items in
     let trail = self.trail.items in
     let R = IsListed self.lists.items in
