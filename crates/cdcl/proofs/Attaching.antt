@@ -1,5 +1,5 @@
 -- How the clauses of a formula get what they watch, before any level starts.
-use Rattle.std.proofs.Common.{◌≡◌, ◌≢◌, ℕ, List, [], ◌∷◌, ◌++◌, sym, ◌∙◌, ap, subst, arith, length}
+use Rattle.std.proofs.Common.{◌≡◌, ℕ, List, [], ◌∷◌, ◌++◌, sym, ◌∙◌, ap, subst, arith, length}
 use Rattle.std.specs.Prelude.{Contains, Vec}
 use Rattle.std.specs.declared.alloc.Global.{Global}
 use Rattle.std.proofs.lemmas.List.Elements.{Contains-push}
@@ -12,7 +12,7 @@ use Rattle.cdcl.specs.Settled.{IsOpen}
 use Rattle.cdcl.specs.Trail.{At, held}
 use Rattle.cdcl.specs.State.{IsSound}
 use Rattle.cdcl.specs.Watching.{IsListed, IsWatching, IsBase, AreLists}
-use Rattle.cdcl.specs.Looking.{IsPut, IsSameBeside, IsForcedIn, IsWatchful, IsFirst, CanWatch, IsPairFor}
+use Rattle.cdcl.specs.Looking.{IsPut, IsSameBeside, IsForcedIn, IsWatchful, IsFirst, CanWatch}
 use Rattle.cdcl.specs.Visits.{IsConflict}
 use Rattle.cdcl.proofs.Works.{At-same}
 use Rattle.cdcl.proofs.States.{held_push, literals_count}
@@ -50,16 +50,6 @@ base_one s k xs l first e at inside holds = (
     (holds.1, holds.2),
     λ x i. let j : Contains [] x = subst (λ (ys : List ℕ). Contains ys x) first.starts i in absurd (omega (arith, j.1)),
   ),
-)
-
-pub pair_two : (s : Solver) (k : ℕ) (xs : List Lit) (a b : Lit) → IsFirst s → k ≡ length s.pairs.items → At (literals s.clauses.items) k xs → Contains xs a → Contains xs b
-    → a ≢ b → CanWatch s (IsPairFor s a b) a b
-pair_two s k xs a b first e at ia ib apart = (
-  xs,
-  subst (λ (n : ℕ). At (literals s.clauses.items) n xs) e at,
-  ia,
-  ib,
-  (apart, λ p h _. absurd (omega (arith, h, first.head)), λ p h _. absurd (omega (arith, h, first.head))),
 )
 
 pub forced_watchful : (s s' : Solver) (l : Lit) → IsWatchful s → IsSameBeside s s' → IsPut s.trail.items l s'.trail.items → IsSound s' → IsWatchful s'

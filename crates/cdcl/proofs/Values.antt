@@ -79,9 +79,6 @@ watching_first R db = record {
   each = λ k c pair a b. absurd (omega (arith, b.0));
 }
 
-pub lists_first : AreLists [] 0 0
-lists_first = record { room = refl; below = λ i k c. absurd (omega (arith, c.1)) }
-
 empty_push : (xs : List (List ℕ)) → ((i k : ℕ) → Contains (get_or xs i []) k → ⊥) → (i k : ℕ) → Contains (get_or (xs ++ [] ∷ []) i []) k → ⊥
 empty_push [] none zero k c = omega (arith, c.1)
 empty_push [] none (suc i) k c = omega (arith, c.1)

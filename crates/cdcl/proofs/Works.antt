@@ -4,7 +4,7 @@ use Rattle.cdcl.specs.Trail.{At}
 use Rattle.std.proofs.Common.{take, ◌≡◌, ℕ, zero, suc, ◌<◌, ◌≤◌, ◌+◌, Bool, true, false, ℤ, pos, List, [], ◌∷◌, ◌++◌, ◌⊎◌, map, inl, inr, refl, sym, ◌∙◌, ap, subst, arith, length, get_or, Option, Some, None}
 use Rattle.std.specs.Prelude.{Contains}
 use Rattle.std.proofs.lemmas.List.Elements.{Contains-push_cases, Contains-append_left, Contains-push}
-use Rattle.std.proofs.lemmas.List.{length-map, reverse-append, take_at}
+use Rattle.std.proofs.lemmas.List.{length-map, reverse-append}
 use Rattle.std.proofs.Common.{reverse, max}
 use Rattle.cnf_form.specs.declared.formula.Clause.{Clause}
 use Rattle.cnf_form.specs.Literals.{literals}
@@ -268,9 +268,6 @@ lesson db t places start seen lower place hints u end are after at marks none en
   once = once_more lower (opposite u) marks.once (below_apart t places start place u lower are after at marks.below);
   passes = works_finish db t start seen lower place hints u at marks none w;
 }
-
-pub take_front : {X : Type 0} (xs ys : List X) (n : ℕ) → length xs ≡ n → take n (xs ++ ys) ≡ xs
-take_front xs ys n e = take_at xs ys n e
 
 pub take_wider : (n m : ℕ) (t : List Lit) (l : Lit) → n ≤ m → Contains (take n t) l → Contains (take m t) l
 take_wider n m t l h i = let a = At-take n t i.0 l (i.1, i.2) in At-contains (take m t) i.0 l (At-in_take m t i.0 l (omega (arith, a.0)) a.1)

@@ -127,6 +127,13 @@ fn push_hint(clauses: &[Clause], hints: &mut Vec<i64>, index: usize) -> Result<(
     Ok(())
 }
 
+fn push_lit(lits: &mut Vec<Lit>, lit: Lit) -> Result<(), NoMemory>
+    ensures { OnOk result (lits.new.items ≡ lits.old.items ++ lit ∷ []) }
+{
+    lits.push(lit)?;
+    Ok(())
+}
+
 // Takes the entry at a place for its reason, if it is marked.
 pub(crate) fn resolve(
     clauses: &[Clause],
@@ -201,7 +208,7 @@ pub(crate) fn analyze(
     }
     let end = end_of(trail, places, marks.lower.as_slice());
     let asserted = negate(lit_at(trail, at));
-    marks.lower.push(asserted)?;
+    push_lit(&mut marks.lower, asserted)?;
     hints.reverse();
     Ok(Lesson {
         lits: marks.lower,
