@@ -72,7 +72,7 @@ IsPut old l new = (e : Entry) × (e.lit ≡ l) × (new ≡ old ++ e ∷ [])
 abbrev pub IsGrown : List Lit → List Lit → Type 0
 IsGrown t u = (more : List Lit) × (u ≡ t ++ more)
 
--- all but the trail stays
+-- of what answers rest on, all but the trail stays
 pub record IsSameBeside (old new : Solver) : Type 0 where
   pub clauses : new.clauses ≡ old.clauses
   pub starts : new.starts ≡ old.starts
@@ -81,7 +81,7 @@ pub record IsSameBeside (old new : Solver) : Type 0 where
   pub lists : new.lists ≡ old.lists
   pub len : length new.places.items ≡ length old.places.items
 
--- all but what is watched stays
+-- of that, all but what is watched stays
 pub record IsSameAttached (old new : Solver) : Type 0 where
   pub clauses : new.clauses ≡ old.clauses
   pub starts : new.starts ≡ old.starts
@@ -89,7 +89,7 @@ pub record IsSameAttached (old new : Solver) : Type 0 where
   pub trail : new.trail ≡ old.trail
   pub len : length new.places.items ≡ length old.places.items
 
--- all but the trail and what is watched stays
+-- of that, all but the trail and what is watched stays
 pub record Stays (old new : Solver) : Type 0 where
   pub clauses : new.clauses ≡ old.clauses
   pub starts : new.starts ≡ old.starts

@@ -1,8 +1,8 @@
 //! What is learnt from a conflict: the clause of the first unique implication point (Marques-Silva and Sakallah,
 //! 1996; Moskewicz and others, 2001), and the hints that show that it follows.
 
-ghost use Rattle.std.specs.Prelude.{◌≡◌, ◌<◌, ◌≤◌, ◌+◌, ◌≢◌, ℕ, List, length, Contains, OnOk, IfOk, true, false, reverse, [], pos, ◌++◌, ◌∷◌};
-ghost use Rattle.cnf_form.specs.Literals.{Denied, AllDenied, OthersDenied, literals, opposite};
+ghost use Rattle.std.specs.Prelude.{◌≡◌, ◌<◌, ◌≤◌, ◌+◌, ◌≢◌, ℕ, List, length, OnOk, IfOk, true, false, reverse, [], pos, ◌++◌, ◌∷◌};
+ghost use Rattle.cnf_form.specs.Literals.{literals};
 ghost use Rattle.cdcl.specs.Settled.{IsConsistent};
 ghost use Rattle.cdcl.specs.Trail.{held, ArePlaces, AllInRange};
 ghost use Rattle.cdcl.specs.Analysis.{AreMarksOf, AtMostSeen, Grow, IsLesson, AllSeen, NoneSeen, AreForcedAfter, AreAllInRange, Works, IsFalse, IsForcedAt, ChainPasses};

@@ -1,7 +1,7 @@
 //! What the trail makes of a clause.
 
-ghost use Rattle.std.specs.Prelude.{◌≡◌, ◌<◌, ◌≤◌, ◌+◌, ◌≢◌, ℕ, length, Contains, MatchOption, true, false};
-ghost use Rattle.cnf_form.specs.Literals.{Denied, AllDenied, OthersDenied, literals, opposite};
+ghost use Rattle.std.specs.Prelude.{◌≡◌, ◌<◌, ◌≤◌, ◌+◌, ◌≢◌, length, Contains, MatchOption, true, false};
+ghost use Rattle.cnf_form.specs.Literals.{Denied, OthersDenied, literals};
 ghost use Rattle.cdcl.specs.Settled.{IsConsistent};
 ghost use Rattle.cdcl.specs.Trail.{At, held, ArePlaces, AllInRange};
 ghost use Rattle.cdcl.specs.Looks.{FoundIs, IsFree, TwoIs};

@@ -1,14 +1,14 @@
-//! When a search starts anew: after numbers of conflicts that follow the sequence 1, 1, 2, 1, 1, 2, 4, 1, .. (Luby, Sinclair
+//! When the search starts anew: after numbers of conflicts that follow the sequence 1, 1, 2, 1, 1, 2, 4, 1, .. (Luby, Sinclair
 //! and Zuckerman, 1993), by Knuth's rule for it.
 
-/// How many conflicts a 1 of the sequence stands for.
+/// How many searches, each up to a conflict, a 1 of the sequence stands for.
 const UNIT: u64 = 100;
 
 #[derive(Clone, Copy)]
 pub struct Restarts {
     turn: u64,
     length: u64,
-    /// The conflicts up to the next restart.
+    /// The searches up to the next restart.
     left: u64,
 }
 
@@ -23,7 +23,7 @@ impl Restarts {
 
     /// Counts a search, and tells whether it is to start anew.
     pub(crate) fn is_due(&mut self) -> bool {
-        if self.left > 0 {
+        if self.left > 1 {
             self.left -= 1;
             return false;
         }

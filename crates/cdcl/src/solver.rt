@@ -1,7 +1,7 @@
 //! The solver: a search that learns from each conflict (Marques-Silva and Sakallah, 1996).
 
 ghost use Rattle.std.specs.Prelude.{◌≡◌, ◌<◌, ◌≤◌, ◌+◌, ◌≢◌, ℕ, length, List, Contains, OnOk, IfOk, true, false, replicate, take, ◌++◌, ◌∷◌, [], ◌-◌, ◌^◌, MatchOption};
-ghost use Rattle.cnf_form.specs.Literals.{Denied, AllDenied, OthersDenied, literals, opposite};
+ghost use Rattle.cnf_form.specs.Literals.{literals, opposite};
 ghost use Rattle.cdcl.specs.Settled.{IsSettled, IsOpen};
 ghost use Rattle.cdcl.specs.Trail.{At, held, ValueIs, AllInRange, AllLow};
 ghost use Rattle.cdcl.specs.Looks.{IsForced};

@@ -1,8 +1,8 @@
 //! The trail: the literals that are true, in the order in which they came, and where each variable stands on it.
 
 ghost use Rattle.cnf_form.specs.Literals.{HasVar};
-ghost use Rattle.std.specs.Prelude.{◌≡◌, ◌<◌, ◌≤◌, ◌+◌, ◌≢◌, ℕ, length, Contains, OnOk, IfOk, true, false, take, ◌++◌, ◌∷◌, [], ◌-◌};
-ghost use Rattle.cnf_form.specs.Literals.{Denied, AllDenied, OthersDenied, literals, opposite};
+ghost use Rattle.std.specs.Prelude.{◌≡◌, ◌<◌, ◌≤◌, ◌+◌, ◌≢◌, length, Contains, OnOk, true, false, take, ◌++◌, ◌∷◌, [], ◌-◌};
+ghost use Rattle.cnf_form.specs.Literals.{Denied, AllDenied, literals, opposite};
 ghost use Rattle.cdcl.specs.Settled.{IsOpen};
 ghost use Rattle.cdcl.specs.Trail.{At, held, ArePlaces, ValueIs, AllInRange};
 ghost use Rattle.cdcl.specs.Analysis.{EndIs, AfterIs};
