@@ -1,4 +1,4 @@
-ghost use Rattle.std.specs.Prelude.{◌≡◌, ℕ, ◌<◌, ◌↔◌, IsTrue, length};
+ghost use Rattle.std.specs.Prelude.{◌≡◌, ◌≢◌, ℕ, ◌<◌, ◌↔◌, IsTrue, length};
 ghost use Rattle.cqa_model.specs.Variables.{IsKeyVar, whole};
 ghost use Rattle.cqa_model.specs.Closures.{InClosure};
 ghost use Rattle.cqa_model.specs.Graph.{Attacks as IsAttack, IsReached, IsWeak};
@@ -78,10 +78,15 @@ fn is_attacked(
     requires atom { atom < length query.now.atoms }
     ensures { IsTrue result ↔ IsAttack query.now (seen query.now view.now) from atom }
 {
-    if atom == from || view.gone.has(atom) {
-        return false;
-    }
-    is_touched(query, variables, view, reached, atom)
+    is_another(view, from, atom) && is_touched(query, variables, view, reached, atom)
+}
+
+/// Is the atom another one, and not gone?
+fn is_another(view: &View, from: u32, atom: u32) -> bool
+    requires { atom < 12 }
+    ensures { IsTrue result ↔ ((from ≢ atom) × (HasAtom view.now.gone atom → ⊥)) }
+{
+    from != atom && !view.gone.has(atom)
 }
 
 /// For each atom those whose key its own key derives.

@@ -7,3 +7,6 @@ mod spreading;
 
 pub use building::attacks;
 pub use graph::Attacks;
+
+#[cfg(test)]
+mod tests;
