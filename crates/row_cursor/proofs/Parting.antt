@@ -1,13 +1,11 @@
 -- The blocks of rows in block order, taken from the front.
-use Rattle.std.proofs.Common.{◌≡◌, ◌<◌, ◌≤◌, ℕ, suc, zero, inl, inr, Bool, true, false, length, List, [], ◌∷◌, ◌++◌, flat_map, take, drop, get_or, Contains, slice_get, IfSome, refl, sym, ap, subst, ◌∙◌, arith, true≢false, if◌then◌else◌, le_of_suc-le-suc, suc-le-suc}
+use Rattle.std.proofs.Common.{◌≡◌, ◌<◌, ◌≤◌, ◌+◌, ℕ, suc, zero, inl, inr, Bool, true, false, length, List, [], ◌∷◌, ◌++◌, flat_map, take, drop, get_or, Contains, refl, sym, ap, subst, ◌∙◌, arith, true≢false, if◌then◌else◌, le_of_suc-le-suc, suc-le-suc}
 use Rattle.std.specs.List.Sorted.{IsStrictlySortedBy}
 use Rattle.std.proofs.lemmas.List.Elements.{Contains-get_or, Contains-append_left, Contains-append_right}
 use Rattle.std.proofs.lemmas.List.{get_or_default}
 use Rattle.cqa_value.specs.declared.value.Value.{Value}
 use Rattle.cqa_value.specs.Values.{row_eq, row_decides}
-use Rattle.cqa_model.specs.declared.schema.Schema.{Schema}
-use Rattle.cqa_model.specs.Database.{Table, key_of, block_cmp}
-use Rattle.table_blocks.specs.Tables.{key_at}
+use Rattle.cqa_model.specs.Database.{key_of, block_cmp}
 use Rattle.cqa_model.specs.Repairs.{SharesKey}
 use Rattle.cqa_model.proofs.BlockOrder.{grouped, shares-from_key, key-from_shares}
 use Rattle.cqa_model.proofs.Repairs.{shares-sym, shares-trans}
@@ -149,8 +147,19 @@ module _ (key : List ℕ) where
   blocks-are [] s = record { joined = refl; some = λ b m. absurd (mem-nil b m); alike = λ b m. absurd (mem-nil b m); apart = λ i j l k. absurd (omega (arith, k)) }
   blocks-are (x ∷ rows) s = with-row x rows (blocks_of key rows) (blocks-are rows (side_tail x rows s)) s
 
--- the key of a table is that of its schema
-pub key_is : (db : List Table) (table : ℕ) (schema : Schema) → table < length db → IfSome (slice_get db table) (λ t. schema ≡ t.schema) → schema.key ≡ key_at db table
-key_is [] table schema l h = absurd (omega (arith, l))
-key_is (t ∷ db) zero schema l h = ap (λ (s : Schema). s.key) h
-key_is (t ∷ db) (suc table) schema l h = key_is db table schema (le_of_suc-le-suc l) h
+  with-row-few : (x : List Value) (bs : List (List (List Value))) → length (with_row key x bs) ≤ length bs + 1
+  with-row-few x [] = omega arith
+  with-row-few x ([] ∷ bs) = omega arith
+  with-row-few x ((y ∷ b) ∷ bs) = go (row_eq (key_of key x) (key_of key y))
+    where
+      go : (t : Bool) → length (if t then (x ∷ y ∷ b) ∷ bs else (x ∷ []) ∷ (y ∷ b) ∷ bs) ≤ length ((y ∷ b) ∷ bs) + 1
+      go true = omega arith
+      go false = omega arith
+
+  -- no more blocks than rows
+  pub blocks-few : (rows : List (List Value)) → length (blocks_of key rows) ≤ length rows
+  blocks-few [] = omega arith
+  blocks-few (x ∷ rows) =
+      let step = with-row-few x (blocks_of key rows) in
+      let few = blocks-few rows in
+      omega (arith, step, few)

@@ -3,9 +3,8 @@ ghost use Rattle.cqa_model.specs.Repairs.{SharesKey};
 ghost use Rattle.table_blocks.specs.Tables.{rows_at, key_at};
 ghost use Rattle.row_cursor.specs.Blocks.{AreBlocks, blocks_of, blocks_left};
 
-use crate::cells::same_value;
 use cqa_value::Row;
-use table_blocks::Database;
+use table_blocks::{Database, same_value};
 
 /// The blocks of a table, in block order.
 #[derive(Drop)]
@@ -46,7 +45,8 @@ impl<'a> BlockCursor<'a> {
     /// A cursor at the first block. It takes no memory.
     pub fn new(db: &'a Database, table: u32) -> BlockCursor<'a>
         requires { table < length db.now }
-        ensures { AreBlocks (key_at db.now table) (rows_at db.now table) (blocks_left result) }
+        ensures blocks { AreBlocks (key_at db.now table) (rows_at db.now table) (blocks_left result) }
+        ensures few { length (blocks_left result) ≤ 1_000_000 }
     {
         BlockCursor {
             rows: db.rows(table),
