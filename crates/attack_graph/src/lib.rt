@@ -7,6 +7,3 @@ mod spreading;
 
 pub use building::attacks;
 pub use graph::Attacks;
-
-#[cfg(test)]
-mod tests;

@@ -14,6 +14,3 @@ pub use atom_set::AtomSet;
 pub use rest::View;
 pub use set_by_query::{closure, key_set, var_set};
 pub use variable_set::VarSet;
-
-#[cfg(test)]
-mod tests;
