@@ -3,6 +3,8 @@ ghost use Rattle.cnf_form.specs.Literals.{HasVar};
 ghost use Rattle.cdcl.specs.Outcomes.{IsInRange, IsOnce};
 ghost use Rattle.cdcl.specs.Tests.{IsClauseOver};
 
+use crate::order::Order;
+use crate::restart::Restarts;
 use crate::{Outcome, solve};
 use cnf_form::{Clause, Cnf, Lit};
 use cqa_value::{Items, NoMemory};
@@ -154,4 +156,41 @@ fn propagates_along_a_chain(rt: HostRuntime) {
     let cnf = chain(alloc, 400_000).expect(&rt, "ample memory");
     let outcome = solve(alloc, &cnf, 0).expect(&rt, "ample memory");
     assert_eq!(rt; name(&outcome), ("sat", 400_000));
+}
+
+#[test]
+fn decides_first_what_conflicts_met_most(rt: HostRuntime) {
+    let alloc = rt.alloc();
+    let mut order = Order::new(alloc, 5).expect(&rt, "ample memory");
+    let places: [Option<usize>; 6] = [None; 6];
+    for _conflict in 0..700 {
+        order.raise(&[3, 4]);
+    }
+    order.raise(&[4, 2]);
+    assert_eq!(rt;
+        (order.next(&places), order.next(&places)),
+        (Some(4), Some(3))
+    );
+    let lit = Lit {
+        var: 4,
+        positive: true,
+    };
+    order.put_back(lit);
+    assert_eq!(rt;
+        (order.next(&places), order.next(&places)),
+        (Some(4), Some(2))
+    );
+    assert_eq!(rt; (order.value(4), order.value(3)), (true, false));
+}
+
+#[test]
+fn starts_anew_by_the_sequence(rt: HostRuntime) {
+    let mut restarts = Restarts::new();
+    for searches in [100u32, 100, 200, 100, 100, 200, 400, 100] {
+        let mut early = false;
+        for _search in 1..searches {
+            early = restarts.is_due() || early;
+        }
+        assert_eq!(rt; (early, restarts.is_due()), (false, true));
+    }
 }
