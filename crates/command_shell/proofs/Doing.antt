@@ -1,5 +1,5 @@
 -- What a statement does where no check fails.
-use Rattle.std.proofs.Common.{◌≡◌, inr, ℕ, suc, ◌+◌, ◌≤◌, Bool, true, nat_lt, nat_le, is_none, if◌then◌else◌, List, [], ◌∷◌, ◌++◌, length, take, get_or, slice_get, Contains, Option, Some, None, Result, Ok, Err, refl, sym, ap, ◌∙◌, subst, arith}
+use Rattle.std.proofs.Common.{◌≡◌, inr, ℕ, suc, ◌+◌, ◌≤◌, Bool, true, if◌then◌else◌, List, [], ◌∷◌, ◌++◌, length, take, get_or, slice_get, Option, Some, None, Result, Ok, Err, refl, sym, ap, ◌∙◌, subst, arith}
 use Rattle.std.proofs.lemmas.Bool.Decides.{nat_tests}
 use Rattle.std.proofs.lemmas.Option.{slice_get_within, get_or_from_slice_get}
 use Rattle.std.proofs.lemmas.Slice.Zip.{AllZip-long}
@@ -7,20 +7,16 @@ use Rattle.std.proofs.Math.Seq.{take-suc}
 use Rattle.cqa_value.specs.declared.value.Value.{Value}
 use Rattle.cqa_model.specs.declared.schema.Schema.{Schema}
 use Rattle.cqa_model.specs.declared.query.Query.{Query}
-use Rattle.cqa_model.specs.declared.refusal.Refusal.TheVariants.{TableExists, Limit, Syntax}
-use Rattle.cqa_model.specs.declared.refusal.LimitKind.TheVariants.{Tables, Columns}
-use Rattle.cqa_model.specs.Database.{Table, names_of}
+use Rattle.cqa_model.specs.declared.refusal.Refusal.TheVariants.{Syntax}
+use Rattle.cqa_model.specs.Database.{Table}
 use Rattle.cqa_model.specs.Certain.{IsCertainAnswer, IsPossibleAnswer}
 use Rattle.spj_syntax.specs.declared.tree.RawSchema.{RawSchema}
 use Rattle.spj_syntax.specs.declared.tree.Select.{Select}
 use Rattle.spj_syntax.specs.declared.tree.Statement.{Statement}
 use Rattle.spj_syntax.specs.declared.tree.Statement.TheVariants as statements
 use Rattle.spj_syntax.specs.Written.{HasAtMost}
-use Rattle.table_blocks.specs.Tables.{table_named, first_of}
-use Rattle.query_resolve.specs.Checks.{fault_unless, first_fault, duplicate_fault, key_fault, table_fault, schema_fault, query_fault}
+use Rattle.query_resolve.specs.Checks.{schema_fault, query_fault}
 use Rattle.query_resolve.specs.Resolved.{IsSchemaOf, IsAtomOf, IsQueryOf}
-use Rattle.query_resolve.proofs.Members.{both_none}
-use Rattle.query_resolve.proofs.Lookups.{named_nowhere, passes, none_is}
 use Rattle.reply_text.specs.declared.reply.Reply.{Reply}
 use Rattle.reply_text.specs.declared.reply.Reply.TheVariants.{Created, Rows}
 use Rattle.command_shell.specs.declared.ending.Stop.{Stop}
@@ -28,15 +24,6 @@ use Rattle.command_shell.specs.declared.ending.Stop.TheVariants as stops
 use Rattle.command_shell.specs.State.{State}
 use Rattle.command_shell.specs.Machine.{is_single, Executes, RefusedOr, Replies, Step}
 use Rattle.command_shell.specs.Parts.{AnswerRow, ReplyRow}
-
--- the name of a schema without a fault is free
-pub free_name : (db : List Table) (raw : RawSchema) (name : List ℕ) → schema_fault db raw ≡ None → name ≡ raw.name → Contains (names_of db) name → ⊥
-free_name db raw name valid same h =
-    let table : table_fault db raw ≡ None = (both_none (table_fault db raw) (first_of (first_fault duplicate_fault [] raw.columns) (first_fault (key_fault raw.columns) [] raw.key)) valid).0 in
-    let free = (both_none (fault_unless (is_none (table_named db raw.name)) (TableExists raw.name)) (first_of (fault_unless (nat_lt (length db) 64) (Limit Tables)) (fault_unless (nat_le (length raw.columns) 16) (Limit Columns))) table).0 in
-    let absent : table_named db raw.name ≡ None = none_is (table_named db raw.name) (passes (is_none (table_named db raw.name)) (TableExists raw.name) free) in
-    let there : Contains (names_of db) raw.name = subst (Contains (names_of db)) same h in
-    named_nowhere (λ (n : List ℕ). n) raw.name (names_of db) raw.name there.0 absent there.1 there.2
 
 pub created : (db : List Table) (raw : RawSchema) (schema : Schema) (name : List ℕ) (new : List Table) → schema_fault db raw ≡ None → IsSchemaOf raw schema → name ≡ schema.name
     → new ≡ db ++ (record { schema = schema; rows = [] }) ∷ [] → Replies db (statements.Create raw) (Created name) new

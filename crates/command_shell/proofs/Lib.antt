@@ -1,4 +1,4 @@
-pub mod BlockWalk
+pub mod BlockLists
 pub mod CertainCase
 pub mod CertainWalk
 pub mod Doing

@@ -1,5 +1,5 @@
 -- Steps of the code that writes down attacks.
-use Rattle.std.proofs.Common.{◌≡◌, ℕ, suc, ◌+◌, ◌*◌, ◌<◌, ◌≤◌, ◌⊎◌, ◌↔◌, inl, inr, List, [], ◌∷◌, ◌++◌, length, get_or, AllPairs, Contains, None, refl, sym, ap, subst, arith}
+use Rattle.std.proofs.Common.{◌≡◌, ℕ, suc, ◌+◌, ◌*◌, ◌<◌, ◌≤◌, ◌↔◌, inl, inr, List, [], ◌∷◌, ◌++◌, length, get_or, AllPairs, Contains, None, refl, sym, ap, subst, arith}
 use native.Mathlib.Decide.{ℕ_discrete, dec_le}
 use Rattle.std.proofs.lemmas.List.{get_or_default}
 use Rattle.std.proofs.lemmas.Slice.Zip.{AllZip-long}
@@ -21,7 +21,7 @@ use Rattle.spj_syntax.specs.declared.tree.Select.{Select}
 use Rattle.spj_syntax.specs.declared.tree.Statement.TheVariants as statements
 use Rattle.reply_text.specs.declared.reply.AttackLine.{AttackLine}
 use Rattle.reply_text.specs.declared.reply.Reply.TheVariants.{Classified}
-use Rattle.command_shell.specs.AttackLines.{Attack, IsBefore, AreAttacksOf, IsLineOf, AreAttackLines, IsGraphLine}
+use Rattle.command_shell.specs.AttackLines.{Attack, IsBefore, IsLineOf, AreAttackLines, IsGraphLine}
 use Rattle.command_shell.specs.Machine.{RefusedOr, Executes, Replies}
 
 -- the attacks of a graph with a number below this one have their lines

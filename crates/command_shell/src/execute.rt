@@ -126,11 +126,11 @@ fn table_line(alloc: Global, database: &Database, table: u32) -> Result<TableLin
     ensures { IfOk result (λ line. slice_get (map line_of database.now) table ≡ Some line) }
 {
     let schema = database.schema(table).copy(alloc)?;
-    let rows = database.rows(table);
-    let blocks = block_count(rows, schema.key.as_slice());
+    let rows = database.rows(table).len() as u32;
+    let blocks = block_count(database, table);
     Ok(TableLine {
         schema,
-        rows: rows.len() as u32,
+        rows,
         blocks,
     })
 }

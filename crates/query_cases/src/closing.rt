@@ -48,7 +48,9 @@ fn view(query: &Query, gone: Option<u32>) -> View {
 }
 
 const ROUND: &str = "exists from a, b where a.y = b.x and b.y = a.x";
+
 const SHARED: &str = "select a.y from a, b where a.y = b.y";
+
 const MIXED: &str =
     "select c.x from a, m, b, c where a.y = m.x and m.y = b.y and b.x = 1 and c.y = a.x";
 

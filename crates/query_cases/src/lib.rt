@@ -9,3 +9,5 @@ mod closing;
 mod possible;
 #[cfg(test)]
 mod scripts;
+#[cfg(test)]
+mod witnessing;

@@ -361,5 +361,5 @@ fn blocks_of(db: &Database) -> Option<u32> {
     if db.count() == 0 {
         return None;
     }
-    Some(block_count(db.rows(0), db.schema(0).key.as_slice()))
+    Some(block_count(db, 0))
 }

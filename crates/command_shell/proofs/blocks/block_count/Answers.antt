@@ -1,27 +1,24 @@
-use Rattle.std.proofs.Common.{◌≡◌, ◌+◌, ℕ, sym, ◌∙◌, arith, true≢false}
-use Rattle.command_shell.proofs.BlockWalk.{count-on, count-last}
+use Rattle.std.proofs.Common.{length, ap, arith}
+use Rattle.row_cursor.specs.Blocks.{blocks_left}
+use Rattle.table_blocks.specs.Tables.{rows_at, key_at}
+use Rattle.command_shell.proofs.BlockLists.{count-is}
 use Rattle.command_shell.proofs.blocks.block_count.Goals as goal
-use Rattle.command_shell.proofs.blocks.block_count.Goals.{then-not-goes_on, else-not-goes_on}
 
-one_more : (count new left rest total : ℕ) → new ≡ count + 1 → count + left ≡ total → left ≡ 1 + rest → new + rest ≡ total
-one_more count new left rest total n t l = omega arith
+pub overflow_add-count : goal.overflow_add-count
+overflow_add-count c =
+    let counted = c.loop-count.invariant in
+    let few = c.new-cursor.ensures.few in
+    omega (arith, counted, few)
 
-no_more : (count new left rest total : ℕ) → new ≡ count → count + left ≡ total → left ≡ rest → new + rest ≡ total
-no_more count new left rest total n t l = omega arith
+pub loop-count-preserved : goal.loop-count-preserved
+loop-count-preserved c =
+    let counted = c.loop-count.invariant in
+    let next = ap length c.in-Some.ensures.steps in
+    omega (arith, counted, next)
 
-pub loop-at-preserved : goal.loop-at-preserved
-loop-at-preserved c =
-    let key = c.args.key.now in
-    let rows = c.args.rows.now in
-    let so_far = c.loop-at.invariant in
-    elim c.if-not-goes_on.branch [
-      | then-not-goes_on w ↦ record {
-        few = omega arith;
-        counted = one_more _ _ _ _ _ w.count-is so_far.counted
-            (count-last key rows c.requires.in_order c.loop-at.at c.loop-at-test.true (λ on. true≢false (sym (c.goes_on.ensures.1 on) ∙ w.if-not-goes_on.true)));
-      }
-      | else-not-goes_on w ↦ record {
-        few = omega arith;
-        counted = no_more _ _ _ _ _ w.count-is so_far.counted (count-on key rows c.requires.in_order c.loop-at.at c.loop-at-test.true (c.goes_on.ensures.0 w.if-not-goes_on.false));
-      }
-    ]
+pub returns : goal.returns
+returns c =
+    let counted = c.loop-count.invariant in
+    let none = ap length c.in_default.ensures.steps.0 in
+    let all = count-is (key_at c.args.db.now c.args.table) (blocks_left c.new-cursor.result) (rows_at c.args.db.now c.args.table) c.new-cursor.ensures.blocks in
+    omega (arith, counted, none, all)

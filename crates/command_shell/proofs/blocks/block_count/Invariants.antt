@@ -1,10 +1,10 @@
-use Rattle.std.proofs.Common.{◌≡◌, ◌≤◌, ◌+◌, drop}
-use Rattle.command_shell.specs.Counts.{count_blocks}
+use Rattle.std.proofs.Common.{◌≡◌, ◌+◌, length}
+use Rattle.row_cursor.specs.Blocks.{blocks_left}
 use Rattle.command_shell.proofs.blocks.block_count.Given as goal
 
--- the blocks that are counted, and those that are left
-abbrev pub invariant-loop-at : goal.invariant-loop-at
-invariant-loop-at l = record {
-  few : l.count ≤ l.at;
-  counted : l.count + count_blocks l.key (drop l.at l.rows) ≡ count_blocks l.key l.rows;
-}
+-- the blocks so far are counted, and the others are still to come
+abbrev pub invariant-loop-count : goal.invariant-loop-count
+invariant-loop-count l = l.count + length (blocks_left l.cursor) ≡ length (blocks_left l.initial.cursor)
+
+abbrev pub decreases-loop-count : goal.decreases-loop-count
+decreases-loop-count l = length (blocks_left l.cursor)

@@ -1,10 +1,11 @@
-use Rattle.std.proofs.Common.{◌-◌, length}
-use Rattle.command_shell.proofs.CertainWalk.{IsWalked}
+use Rattle.std.proofs.Common.{length}
+use Rattle.row_cursor.specs.Blocks.{blocks_left}
+use Rattle.command_shell.proofs.CertainWalk.{AreSoFar}
 use Rattle.command_shell.proofs.certain.block_answers.Given as goal
 
--- the answers so far are those of the blocks so far
-abbrev pub invariant-loop-start : goal.invariant-loop-start
-invariant-loop-start l = IsWalked l.query l.key l.rows l.start l.answers.items
+-- the answers of the blocks so far
+abbrev pub invariant-loop-block : goal.invariant-loop-block
+invariant-loop-block l = AreSoFar l.query (blocks_left l.initial.cursor) (blocks_left l.cursor) l.answers.items
 
-abbrev pub decreases-loop-start : goal.decreases-loop-start
-decreases-loop-start l = length l.rows - l.start
+abbrev pub decreases-loop-block : goal.decreases-loop-block
+decreases-loop-block l = length (blocks_left l.cursor)
