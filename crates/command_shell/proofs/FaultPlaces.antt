@@ -1,5 +1,5 @@
 -- A fault of a text stands in it.
-use Rattle.std.proofs.Common.{◌≡◌, inl, inr, ◌≤◌, ◌+◌, ◌-◌, ℕ, List, [], ◌∷◌, length, drop, ap, sym, ◌∙◌, refl, zero, suc, Contains, Bool, subst, arith, length-drop}
+use Rattle.std.proofs.Common.{◌≡◌, inl, inr, ◌≤◌, ◌-◌, ℕ, List, [], ◌∷◌, length, drop, ap, sym, ◌∙◌, refl, zero, suc, Contains, Bool, subst, arith, length-drop}
 use Rattle.std.specs.Prelude.{slice_range}
 use Rattle.std.proofs.lemmas.List.{length-take}
 use Rattle.std.proofs.lemmas.List.Elements.{All-contains, Contains-append_right}
@@ -7,7 +7,7 @@ use Rattle.script_lex.specs.declared.kinds.Token.{Token}
 use Rattle.script_lex.specs.declared.kinds.LexFault.{LexFault}
 use Rattle.script_lex.specs.declared.kinds.LexFault.TheVariants as lexing
 use Rattle.script_lex.specs.declared.pieces.Piece.{Piece}
-use Rattle.script_lex.specs.Tokens.{Spells, IsFault, IsBadAt, LiesIn, Splits}
+use Rattle.script_lex.specs.Tokens.{Spells, IsFault, IsBadAt, LiesIn, Splits, inside_of}
 use Rattle.script_lex.proofs.Placed.{lie_in}
 use Rattle.spj_syntax.specs.declared.fault.SyntaxFault.{SyntaxFault}
 use Rattle.spj_syntax.specs.declared.fault.SyntaxFault.TheVariants as parsing
@@ -23,11 +23,13 @@ bad_at : (text : List ℕ) (end at : ℕ) → end ≤ length text → IsBadAt te
 bad_at text end at w (inl h) = omega (arith, h.0, w)
 bad_at text end at w (inr (p, splits, unclean)) =
     let short = unclean.valid.short in
-    let narrow = range_short text (p.span.from + 1) (p.span.to - 1) in
+    let token = slice_range text p.span.from p.span.to in
+    let whole : length token ≤ p.span.to - p.span.from = range_short text p.span.from p.span.to in
+    let narrow : length (inside_of text p) ≤ length token - 1 - 1 = range_short token 1 (length token - 1) in
     let place = unclean.place in
     let inside = splits.2.within in
     let left = length-drop end text in
-    omega (arith, short, narrow, place, inside, left, splits.0, splits.1)
+    omega (arith, short, whole, narrow, place, inside, left, splits.0, splits.1)
 
 splits_within : (text : List ℕ) (at : ℕ) (ps : List Piece) (end : ℕ) → at ≤ length text → Splits text at ps end → end ≤ length text
 splits_within text at [] end w h = subst (λ n. n ≤ length text) h w
