@@ -67,3 +67,6 @@ impl Session {
 pub fn text_says_one_thing()
     ensures { SaysOneThing }
 {}
+
+#[cfg(test)]
+mod queries;

@@ -1,6 +1,6 @@
 ghost use Rattle.cqa_model.specs.Query.{FitsDatabase};
 
-use crate::scripts::{database, query};
+use super::{query, session};
 use cqa_model::{Query, RowId};
 use cqa_value::{NoMemory, Row, Value, literal_text, row_text};
 use row_cursor::JoinCursor;
@@ -135,19 +135,19 @@ fn cases() -> [Case; 18] {
 #[test]
 fn witnesses_are_given_in_order(rt: HostRuntime) -> Result<(), Fail> {
     let alloc = rt.alloc();
-    let Ok(db) = database(alloc, &TABLES) else {
-        panic!(rt; "no tables");
+    let Ok(session) = session(alloc, &TABLES) else {
+        panic!(rt; "no memory");
     };
     for (text, asked, wanted) in cases() {
-        let Some(query) = query(alloc, &db, text) else {
+        let Some(query) = query(alloc, &session.database, text) else {
             panic!(rt; "no query");
         };
         let found = match asked {
             Some(numbers) => {
                 let row = row(alloc, numbers).expect(&rt, "ample memory");
-                witnesses(alloc, &db, &query, Some(&row))
+                witnesses(alloc, &session.database, &query, Some(&row))
             }
-            None => witnesses(alloc, &db, &query, None),
+            None => witnesses(alloc, &session.database, &query, None),
         };
         let found = found.expect(&rt, "ample memory");
         assert_eq!(rt; found.as_slice(), wanted.as_bytes(), "at {text}");

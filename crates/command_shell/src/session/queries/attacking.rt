@@ -1,4 +1,4 @@
-use crate::scripts::{database, query};
+use super::{query, session};
 use attack_graph::{Attacks, attacks};
 use cqa_model::Query;
 use cqa_value::NoMemory;
@@ -113,11 +113,11 @@ const CASES: [(&str, &str, Class); 12] = [
 #[test]
 fn attacks_of_queries(rt: HostRuntime) -> Result<(), Fail> {
     let alloc = rt.alloc();
-    let Ok(db) = database(alloc, &TABLES) else {
-        panic!(rt; "no tables");
+    let Ok(session) = session(alloc, &TABLES) else {
+        panic!(rt; "no memory");
     };
     for (text, wanted, class) in CASES {
-        let Some(query) = query(alloc, &db, text) else {
+        let Some(query) = query(alloc, &session.database, text) else {
             panic!(rt; "no query");
         };
         let graph = attacks(&query, &View::whole(&query));

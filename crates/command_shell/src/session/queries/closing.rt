@@ -1,4 +1,4 @@
-use crate::scripts::{database, query};
+use super::{query, session};
 use cqa_model::Query;
 use cqa_value::NoMemory;
 use key_closure::{VarSet, View, closure, key_set, var_set};
@@ -99,11 +99,11 @@ const CASES: [(&str, Option<u32>, u32, [&str; 4]); 9] = [
 #[test]
 fn sets_of_variables(rt: HostRuntime) -> Result<(), Fail> {
     let alloc = rt.alloc();
-    let Ok(db) = database(alloc, &TABLES) else {
-        panic!(rt; "no tables");
+    let Ok(session) = session(alloc, &TABLES) else {
+        panic!(rt; "no memory");
     };
     for (text, gone, atom, wanted) in CASES {
-        let Some(query) = query(alloc, &db, text) else {
+        let Some(query) = query(alloc, &session.database, text) else {
             panic!(rt; "no query");
         };
         let Some(sets) = sets(&query, &view(&query, gone), atom) else {
