@@ -106,6 +106,10 @@ impl MemSink {
     ghost use Rattle.std.specs.Prelude.{[]};
 
     /// A sink with room for so many bytes. The calls whose numbers, from 1, are in `failing` fail.
+    ///
+    /// # Errors
+    ///
+    /// `NoMemory` where memory is refused.
     pub fn new(alloc: Global, room: usize, failing: Vec<u64>) -> Result<MemSink, NoMemory>
         ensures { IfOk result (λ s. s ≡ record { held = []; room = room; calls = record { failing = failing.items; done = 0 }; faults = 0 }) }
     {

@@ -15,6 +15,7 @@ pub struct StdSource<R: Read> {
 }
 
 impl<R: Read> StdSource<R> {
+    /// A source over a reader, of which no error is counted yet.
     pub fn new(reader: R) -> StdSource<R>
         ensures errors { errors_read result ≡ 0 }
         ensures reader { reader_of result ≡ reader }
@@ -56,6 +57,7 @@ pub struct StdSink<W: Write> {
 }
 
 impl<W: Write> StdSink<W> {
+    /// A sink over a writer, of which no error is counted yet.
     pub fn new(writer: W) -> StdSink<W>
         ensures errors { errors_written result ≡ 0 }
         ensures writer { writer_of result ≡ writer }

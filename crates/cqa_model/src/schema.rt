@@ -11,6 +11,22 @@ pub struct Column {
     pub kind: Kind,
 }
 
+impl Column {
+    /// A column that equals this one.
+    ///
+    /// # Errors
+    ///
+    /// `NoMemory` where memory is refused.
+    pub fn copy(&self, alloc: Global) -> Result<Column, NoMemory>
+        ensures { IfOk result (λ column. column ≡ self.now) }
+    {
+        Ok(Column {
+            name: self.name.copy(alloc)?,
+            kind: self.kind,
+        })
+    }
+}
+
 /// The shape of a table: its name, its columns, and the places of its key columns in the key's order.
 ///
 /// It has 1 to 16 columns of different names, and its key is a list of one or more different columns.
@@ -33,7 +49,7 @@ impl Schema {
     {
         let name = self.name.copy(alloc)?;
         let columns = copy_columns(alloc, self.columns.as_slice())?;
-        let key = copy_key(alloc, self.key.as_slice())?;
+        let key = Items::from_slice(alloc, self.key.as_slice())?;
         Ok(Schema { name, columns, key })
     }
 }
@@ -43,17 +59,7 @@ fn copy_columns(alloc: Global, columns: &[Column]) -> Result<Items<Column>, NoMe
 {
     let mut copy = Vec::with_capacity(alloc, columns.len())?;
     for column in columns {
-        let name = column.name.copy(alloc)?;
-        copy.push(Column {
-            name,
-            kind: column.kind,
-        })?;
+        copy.push(column.copy(alloc)?)?;
     }
     Ok(Items::from_vec(copy))
-}
-
-fn copy_key(alloc: Global, key: &[u32]) -> Result<Items<u32>, NoMemory>
-    ensures { IfOk result (λ copy. copy ≡ key.now) }
-{
-    Ok(Items::from_vec(Vec::from_slice(alloc, key)?))
 }

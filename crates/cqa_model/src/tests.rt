@@ -1,6 +1,6 @@
 ghost use Rattle.std.specs.Prelude.{◌≡◌, IfOk};
 
-use crate::{Column, Schema, laws, schema_text};
+use crate::{Column, Schema, schema_text};
 use cqa_value::{Fail, Items, Kind, Name, NameFault};
 use std::alloc::Global;
 
@@ -72,14 +72,4 @@ fn writes_and_copies_schemas(rt: HostRuntime) {
         assert_eq!(rt; &out[1..], want.as_bytes());
         assert_eq!(rt; out[0], b'>');
     }
-}
-
-#[test]
-fn laws_are_there(rt: HostRuntime) {
-    laws::rewriting_is_exact();
-    laws::plan_or_cycle();
-    laws::certain_or_rejected();
-    laws::formula_is_exact();
-    laws::certain_over_one();
-    laws::possible_is_candidate();
 }

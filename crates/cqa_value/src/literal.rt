@@ -20,6 +20,10 @@ pub fn read_int(bytes: &[u8]) -> Option<i64>
 }
 
 /// Appends a literal: an integer in decimal, a text between quotes with each quote in it doubled.
+///
+/// # Errors
+///
+/// `NoMemory` where memory is refused; `out` stays as it was then.
 pub fn literal_text(value: &Value, out: &mut Vec<u8>) -> Result<(), NoMemory>
     ensures ok { OnOk result (out.new.items ≡ out.old.items ++ literal_bytes value.now) }
     ensures err { OnErr result (out.new.items ≡ out.old.items) }
@@ -33,6 +37,10 @@ pub fn literal_text(value: &Value, out: &mut Vec<u8>) -> Result<(), NoMemory>
 }
 
 /// Appends a row: its literals in parentheses, with a comma and a space between two.
+///
+/// # Errors
+///
+/// `NoMemory` where memory is refused; `out` stays as it was then.
 pub fn row_text(row: &Row, out: &mut Vec<u8>) -> Result<(), NoMemory>
     ensures ok { OnOk result (out.new.items ≡ out.old.items ++ row_bytes row.now) }
     ensures err { OnErr result (out.new.items ≡ out.old.items) }
