@@ -152,7 +152,7 @@ fn rows_are_ordered_by_their_first_difference(rt: HostRuntime) -> Result<(), Tes
     let rows = Items::from_vec(vec![in alloc; longer]?);
     assert_eq!(rt; rows.into_vec().len(), 1);
     let places = Items::from_slice(alloc, &[2, 0, 1])?;
-    assert_eq!(rt; places.as_slice(), &[2, 0, 1]);
+    assert_eq!(rt; places.as_slice(), [2, 0, 1].as_slice());
     Ok(())
 }
 
