@@ -1,5 +1,5 @@
 -- How the answers to an input go on, statement by statement.
-use Rattle.std.proofs.Common.{◌≡◌, ◌⊎◌, inl, inr, ℕ, ◌+◌, Bool, true, false, ◌||◌, List, [], ◌∷◌, ◌++◌, take, drop, Option, Result, Ok, Err, refl, sym, ap, ◌∙◌, subst, append_assoc, append-nil}
+use Rattle.std.proofs.Common.{◌≡◌, ◌⊎◌, inl, inr, ℕ, ◌+◌, Bool, true, false, ◌||◌, List, [], ◌∷◌, ◌++◌, take, drop, Option, Result, Ok, Err, IsErrAnd, refl, sym, ap, ◌∙◌, subst, append_assoc, append-nil}
 use Rattle.std.proofs.lemmas.List.{take-append-drop}
 use Rattle.std.specs.Io.KnownBytes.{Appends, Keeps}
 use Rattle.std.proofs.KnownBytes.{Appends-nil, Appends-trans, Appends-kept}
@@ -166,11 +166,18 @@ module _ {old : State} {input : List ℕ} {ended : Bool} {now : State} {refused 
       )
 
   -- an answer that stops
-  pub stopped : (stop : Stop) (place : ℕ) (rose rose_all : Type 0) (held_new : Option (List ℕ)) (new : State) (text : Span) (block : Option Span) (at : ℕ) → (rose → rose_all)
+  stopped_by : (stop : Stop) (place : ℕ) (rose rose_all : Type 0) (held_new : Option (List ℕ)) (new : State) (text : Span) (block : Option Span) (at : ℕ) → (rose → rose_all)
       → SoFar old input ended (drop place input) now refused held_old held_now → IsCut ended (drop place input) (cuts.Statement text block at)
       → AnswerRow (Err stop) rose held_now held_new now (statement_at (drop place input) text block) new → ProgressRow (Err stop) rose_all held_old held_new old input ended new
-  stopped stops.WriteFault place rose rose_all held_new new text block at up s cut row = (up row.0, fault_in_reply place (ended ≡ true) held_new new text block at (λ e. e) s cut row.1)
-  stopped stops.OutOfMemory place rose rose_all held_new new text block at up s cut row = short_of_memory place (ended ≡ true) held_new new text block at (λ e. e) s cut row.0 row.1
+  stopped_by stops.WriteFault place rose rose_all held_new new text block at up s cut row = (up row.0, fault_in_reply place (ended ≡ true) held_new new text block at (λ e. e) s cut row.1)
+  stopped_by stops.OutOfMemory place rose rose_all held_new new text block at up s cut row = short_of_memory place (ended ≡ true) held_new new text block at (λ e. e) s cut row.0 row.1
+
+  pub stopped : (result : Result Bool Stop) (stop : Stop) → IsErrAnd result (λ e. e ≡ stop) → (place : ℕ) (rose rose_all : Type 0) (held_new : Option (List ℕ)) (new : State) (text : Span) (block : Option Span) (at : ℕ) → (rose → rose_all)
+      → SoFar old input ended (drop place input) now refused held_old held_now → IsCut ended (drop place input) (cuts.Statement text block at)
+      → AnswerRow (Err stop) rose held_now held_new now (statement_at (drop place input) text block) new → ProgressRow result rose_all held_old held_new old input ended new
+  stopped (Ok more) stop is place rose rose_all held_new new text block at up s cut row = absurd is
+  stopped (Err e) stop is place rose rose_all held_new new text block at up s cut row =
+      stopped_by e place rose rose_all held_new new text block at up s cut (subst (λ x. AnswerRow (Err x) rose held_now held_new now (statement_at (drop place input) text block) new) (sym is) row)
 
 -- what is left at the end of an input that has ended
 module _ {old : State} {input rest : List ℕ} {now : State} {refused : Bool} {held_old held_now : Option (List ℕ)} where

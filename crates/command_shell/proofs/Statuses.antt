@@ -1,5 +1,5 @@
 -- The rows of the statuses.
-use Rattle.std.proofs.Common.{◌≡◌, ◌≢◌, inl, inr, ◌≤◌, ◌+◌, ℕ, Bool, true, false, List, [], ◌++◌, length, take, drop, Option, None, Some, Err, refl, ap, ◌∙◌, subst, arith}
+use Rattle.std.proofs.Common.{◌≡◌, ◌≢◌, inl, inr, ◌≤◌, ◌+◌, ℕ, Bool, true, false, List, [], ◌++◌, length, take, drop, Option, None, Some, Err, refl, sym, ap, ◌∙◌, subst, arith}
 use Rattle.std.proofs.lemmas.List.{take-append-drop, length-append}
 use Rattle.std.specs.Io.KnownBytes.{Consumes, Appends, IsAtEnd}
 use Rattle.std.proofs.KnownBytes.{Appends-nil, Consumes-nil}
@@ -17,7 +17,7 @@ use Rattle.command_shell.specs.declared.ending.Ending.TheVariants.{Answered, Wit
 use Rattle.command_shell.specs.State.{State}
 use Rattle.command_shell.specs.Runs.{Answers, CutShort}
 use Rattle.command_shell.specs.Top.{Call, Ended, Outside, RunRow, CheckRow, CountsReadFault, CountsWriteFault, code_of, limit, IsWithinLimit, IsCompleted}
-use Rattle.command_shell.specs.Parts.{ReadRow, ProgressRow}
+use Rattle.command_shell.specs.Parts.{ReadRow, ProgressRow, ending_of}
 
 pub nothing_written : (old : State) (bytes : List ℕ) (at_end : Type 0) → CutShort old bytes at_end old []
 nothing_written old bytes at_end = record { ended = false; is_end = λ e. absurd (cc e); statements = []; rest = bytes; replies = []; last = []; more = []; begins = refl; run = refl; tail = inl refl; written_is = refl }
@@ -51,9 +51,24 @@ of_front bytes n at_end s = record {
 exactly : (n : ℕ) → n ≡ limit + 1 → n ≤ limit + 1
 exactly n h = omega (arith, h)
 
-abbrev pub stop_ending : Stop → Ending
-stop_ending stops.WriteFault = WriteFault
-stop_ending stops.OutOfMemory = OutOfMemory
+at_most : (n : ℕ) → n ≤ limit → n ≤ limit + 1
+at_most n h = omega (arith, h)
+
+-- what is answered of bytes that have ended
+at_its_end : {old : State} {bytes : List ℕ} {at_end : Type 0} {new : State} {written : List ℕ} → at_end → CutShort old bytes (true ≡ true) new written → CutShort old bytes at_end new written
+at_its_end end s = record {
+  ended = s.ended;
+  is_end = λ e. end;
+  statements = s.statements;
+  rest = s.rest;
+  replies = s.replies;
+  last = s.last;
+  more = s.more;
+  begins = s.begins;
+  run = s.run;
+  tail = s.tail;
+  written_is = s.written_is;
+}
 
 -- how the reading ended: with these bytes
 abbrev pub Took : ReadEnd → (before after : Outside) → List ℕ → Type 0
@@ -78,18 +93,33 @@ module _ {before after : Outside} {old : State} where
     row = (took.2.1, (refused, subst (λ l. Answers old l false new done.0 refused) (is ∙ ap (take limit) took.2.0) done.2));
   }
 
+  -- all came, and the answers stopped
+  pub stopped_at_end : {new : State} {input : List ℕ} → Took reading.End before after input → (ending : Ending) (stop : Stop) → ending ≡ ending_of stop
+      → ProgressRow (Err stop) (Rose before.writes after.writes) before.held after.held old input true new → Ended (Some Run) ending before after old new
+  stopped_at_end {new = new} {input = input} took ending stop is done = subst (λ e. Ended (Some Run) e before after old new) (sym is) (by_stop stop done)
+    where
+      few : length took.0 ≤ limit + 1
+      few = at_most (length took.0) took.2.2
+
+      short : (written : List ℕ) → CutShort old input (true ≡ true) new written → CutShort old took.0 (IsAtEnd after.left) new written
+      short written s = at_its_end took.2.1 (subst (λ l. CutShort old l (true ≡ true) new written) took.2.0 s)
+
+      by_stop : (stop : Stop) → ProgressRow (Err stop) (Rose before.writes after.writes) before.held after.held old input true new → Ended (Some Run) (ending_of stop) before after old new
+      by_stop stops.WriteFault done = record { came = took.0; written = done.1.0; took = took.1; put = done.1.1; row = (done.0, few, short done.1.0 done.1.2) }
+      by_stop stops.OutOfMemory done = record { came = took.0; written = done.0; took = took.1; put = done.1; row = (few, short done.0 done.2) }
+
   -- too much came, and the answers stopped
-  pub stopped_in_front : {new : State} {input slice : List ℕ} → Took reading.TooLong before after input → slice ≡ take limit input → (stop : Stop)
-      → ProgressRow (Err stop) (Rose before.writes after.writes) before.held after.held old slice false new → Ended (Some Run) (stop_ending stop) before after old new
-  stopped_in_front {new = new} {slice = slice} took is stop done = by_stop stop done
+  pub stopped_in_front : {new : State} {input slice : List ℕ} → Took reading.TooLong before after input → slice ≡ take limit input → (ending : Ending) (stop : Stop) → ending ≡ ending_of stop
+      → ProgressRow (Err stop) (Rose before.writes after.writes) before.held after.held old slice false new → Ended (Some Run) ending before after old new
+  stopped_in_front {new = new} {slice = slice} took in_front ending stop is done = subst (λ e. Ended (Some Run) e before after old new) (sym is) (by_stop stop done)
     where
       few : length took.0 ≤ limit + 1
       few = exactly (length took.0) took.2.1
 
       short : (written : List ℕ) → CutShort old slice (false ≡ true) new written → CutShort old took.0 (IsAtEnd after.left) new written
-      short written s = of_front took.0 limit (IsAtEnd after.left) (subst (λ l. CutShort old l (false ≡ true) new written) (is ∙ ap (take limit) took.2.0) s)
+      short written s = of_front took.0 limit (IsAtEnd after.left) (subst (λ l. CutShort old l (false ≡ true) new written) (in_front ∙ ap (take limit) took.2.0) s)
 
-      by_stop : (stop : Stop) → ProgressRow (Err stop) (Rose before.writes after.writes) before.held after.held old slice false new → Ended (Some Run) (stop_ending stop) before after old new
+      by_stop : (stop : Stop) → ProgressRow (Err stop) (Rose before.writes after.writes) before.held after.held old slice false new → Ended (Some Run) (ending_of stop) before after old new
       by_stop stops.WriteFault done = record { came = took.0; written = done.1.0; took = took.1; put = done.1.1; row = (done.0, few, short done.1.0 done.1.2) }
       by_stop stops.OutOfMemory done = record { came = took.0; written = done.0; took = took.1; put = done.1; row = (few, short done.0 done.2) }
 

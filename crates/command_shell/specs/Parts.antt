@@ -10,6 +10,8 @@ use Rattle.command_shell.specs.declared.ending.ReadEnd.{ReadEnd}
 use Rattle.command_shell.specs.declared.ending.ReadEnd.TheVariants as reading
 use Rattle.command_shell.specs.declared.ending.Stop.{Stop}
 use Rattle.command_shell.specs.declared.ending.Stop.TheVariants as stops
+use Rattle.command_shell.specs.declared.ending.Ending.{Ending}
+use Rattle.command_shell.specs.declared.ending.Ending.TheVariants as endings
 use Rattle.proof_check.specs.declared.reply.CheckReply.{CheckReply}
 use Rattle.proof_check.specs.Verdicts.{IsVerdict, BeginsVerdict, is_verified, line_of}
 use Rattle.command_shell.specs.State.{State}
@@ -23,6 +25,11 @@ ReadRow reading.End at_end rose came input = (input ≡ came) × at_end × (leng
 ReadRow reading.Fault at_end rose came input = (input ≡ came) × rose × (length came ≤ limit)
 ReadRow reading.TooLong at_end rose came input = (input ≡ came) × (length came ≡ limit + 1)
 ReadRow reading.OutOfMemory at_end rose came input = length came ≤ limit + 1
+
+-- how the top call ends where the answers stopped
+abbrev pub ending_of : Stop → Ending
+ending_of stops.WriteFault = endings.WriteFault
+ending_of stops.OutOfMemory = endings.OutOfMemory
 
 -- how a reply was written
 abbrev pub ReplyRow : Result Bool Stop → (rose : Type 0) → (held_old held_new : Option (List ℕ)) → Reply → Type 0

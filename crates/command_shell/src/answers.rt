@@ -7,7 +7,7 @@ ghost use Rattle.command_shell.specs.Parts.{ReplyRow, CloseRow, AnswerRow, Progr
 
 use crate::Session;
 use crate::ending::Stop;
-use cqa_io::{Failed, Sink, write_all};
+use cqa_io::{Sink, write_all};
 use cqa_model::Refusal;
 use reply_text::{Reply, reply_bytes};
 use script_lex::{Cut, Span, cut};
@@ -34,10 +34,8 @@ fn answer<K: Sink>(
     ensures row { AnswerRow result (Rose (K.faults sink.old) (K.faults sink.new)) (K.held sink.old) (K.held sink.new) session.old (text.now, option_copied block.entry) session.new }
     ensures later { K.faults sink.old ≤ K.faults sink.new }
 {
-    match session.run(alloc, text, block) {
-        Err(_) => Err(Stop::OutOfMemory),
-        Ok(reply) => write_reply(alloc, sink, &reply),
-    }
+    let reply = session.run(alloc, text, block)?;
+    write_reply(alloc, sink, &reply)
 }
 
 /// Writes a reply, and says whether it is a refusal.
@@ -45,13 +43,9 @@ fn write_reply<K: Sink>(alloc: Global, sink: &mut K, reply: &Reply) -> Result<bo
     ensures row { ReplyRow result (Rose (K.faults sink.old) (K.faults sink.new)) (K.held sink.old) (K.held sink.new) reply.now }
     ensures later { K.faults sink.old ≤ K.faults sink.new }
 {
-    match reply_bytes(alloc, reply) {
-        Err(_) => Err(Stop::OutOfMemory),
-        Ok(bytes) => match write_all(sink, bytes.as_slice()) {
-            Err(Failed) => Err(Stop::WriteFault),
-            Ok(()) => Ok(is_refused(reply)),
-        },
-    }
+    let bytes = reply_bytes(alloc, reply)?;
+    write_all(sink, bytes.as_slice())?;
+    Ok(is_refused(reply))
 }
 
 fn part(bytes: &[u8], span: Span) -> &[u8]
@@ -118,10 +112,7 @@ pub fn answer_all<K: Sink>(
         let left = &input[place..];
         match cut(left, ended) {
             Cut::Statement { text, block, rest } => {
-                match answer_at(alloc, session, sink, left, text, block) {
-                    Err(stop) => return Err(stop),
-                    Ok(more) => refused |= more,
-                }
+                refused |= answer_at(alloc, session, sink, left, text, block)?;
                 place += rest;
             }
             Cut::Blank => return Ok(refused),

@@ -1,5 +1,10 @@
 ghost use Rattle.std.specs.Prelude.{◌≡◌};
+ghost use Rattle.command_shell.specs.declared.ending.Stop.TheVariants as stops;
+ghost use Rattle.command_shell.specs.Parts.{ending_of};
 ghost use Rattle.command_shell.specs.Top.{code_of};
+
+use cqa_io::Failed;
+use cqa_value::NoMemory;
 
 /// What the words ask for.
 #[derive(Clone, Copy, Debug, PartialEq, Eq)]
@@ -43,6 +48,33 @@ pub enum ReadEnd {
 pub enum Stop {
     WriteFault,
     OutOfMemory,
+}
+
+impl From<NoMemory> for Stop {
+    ghost from_gives = { λ _ stop. stop ≡ stops.OutOfMemory };
+
+    fn from(_: NoMemory) -> Self {
+        Stop::OutOfMemory
+    }
+}
+
+impl From<Failed> for Stop {
+    ghost from_gives = { λ _ stop. stop ≡ stops.WriteFault };
+
+    fn from(_: Failed) -> Self {
+        Stop::WriteFault
+    }
+}
+
+impl From<Stop> for Ending {
+    ghost from_gives = { λ stop ending. ending ≡ ending_of stop };
+
+    fn from(stop: Stop) -> Self {
+        match stop {
+            Stop::WriteFault => Ending::WriteFault,
+            Stop::OutOfMemory => Ending::OutOfMemory,
+        }
+    }
 }
 
 /// The status of a process that ends so.

@@ -23,11 +23,11 @@ inserted 3
 /// A formula that nothing satisfies, and the step that says so.
 const REFUTED: &str = "c two units\np cnf 1 2\n1 0 -1\n0\nlrat\n3 0 1 2 0\n";
 
-/// A call of the program: its word and input, the first call of the source and of the sink that fails (0: none), and
+/// A call of the program: its words and input, the first call of the source and of the sink that fails (0: none), and
 /// how many bytes the sink takes.
 #[derive(Drop, Clone, Copy)]
 struct Call {
-    word: &'static str,
+    words: &'static [&'static str],
     input: &'static str,
     read: u64,
     write: u64,
@@ -41,7 +41,10 @@ fn ends(alloc: Global, call: &Call) -> Result<(u8, Vec<u8>), Fail> {
 
 /// The status of a call with another input, and what it has written.
 fn ends_at(alloc: Global, call: &Call, input: &str) -> Result<(u8, Vec<u8>), Fail> {
-    let words = vec![in alloc; String::from_str(alloc, call.word)?]?;
+    let mut words = Vec::new(alloc);
+    for word in call.words {
+        words.push(String::from_str(alloc, word)?)?;
+    }
     let bytes = Vec::from_slice(alloc, input.as_bytes())?;
     let mut source = MemSource::new(bytes, 7, vec![in alloc; call.read]?);
     let mut sink = MemSink::new(alloc, call.room, vec![in alloc; call.write]?)?;
@@ -60,7 +63,7 @@ fn ends_at(alloc: Global, call: &Call, input: &str) -> Result<(u8, Vec<u8>), Fai
 /// A call whose devices never fail.
 fn whole(input: &'static str) -> Call {
     Call {
-        word: "run",
+        words: &["run"],
         input,
         read: 0,
         write: 0,
@@ -71,7 +74,7 @@ fn whole(input: &'static str) -> Call {
 #[test]
 fn each_status_has_its_cause(rt: HostRuntime) -> Result<(), Fail> {
     let alloc = rt.alloc();
-    let cases: [(Call, u8, &str); 9] = [
+    let cases: [(Call, u8, &str); 11] = [
         (whole(FIRST), 0, REPLIES),
         (whole(""), 0, ""),
         (whole(" -- nothing\n"), 0, ""),
@@ -82,7 +85,23 @@ fn each_status_has_its_cause(rt: HostRuntime) -> Result<(), Fail> {
         ),
         (
             Call {
-                word: "runs",
+                words: &["runs"],
+                ..whole(FIRST)
+            },
+            2,
+            "",
+        ),
+        (
+            Call {
+                words: &[],
+                ..whole(FIRST)
+            },
+            2,
+            "",
+        ),
+        (
+            Call {
+                words: &["run", "run"],
                 ..whole(FIRST)
             },
             2,
@@ -132,7 +151,7 @@ fn each_status_has_its_cause(rt: HostRuntime) -> Result<(), Fail> {
 /// A call of `check`.
 fn checked(input: &'static str) -> Call {
     Call {
-        word: "check",
+        words: &["check"],
         ..whole(input)
     }
 }
@@ -150,7 +169,7 @@ fn each_status_of_check_has_its_cause(rt: HostRuntime) -> Result<(), Fail> {
         (checked(""), 1, "refused line 1 BadFormula\n"),
         (
             Call {
-                word: "Check",
+                words: &["Check"],
                 ..whole(REFUTED)
             },
             2,
@@ -187,6 +206,11 @@ fn each_status_of_check_has_its_cause(rt: HostRuntime) -> Result<(), Fail> {
         assert_eq!(rt; bytes.as_slice(), written.as_bytes(), "at {written}");
     }
     Ok(())
+}
+
+/// The status of a call that writes such replies: 1 where one is a refusal.
+fn status_of(replies: &str) -> u8 {
+    replies.lines().any(|line| line.starts_with("error ")) as u8
 }
 
 #[test]
@@ -273,8 +297,9 @@ fn each_statement_has_its_reply(rt: HostRuntime) -> Result<(), Fail> {
         ),
     ];
     for (input, written) in cases {
-        let (_, bytes) = ends(alloc, &whole(input))?;
+        let (status, bytes) = ends(alloc, &whole(input))?;
         assert_eq!(rt; bytes.as_slice(), written.as_bytes(), "at {input}");
+        assert_eq!(rt; status, status_of(written), "at {input}");
     }
     Ok(())
 }
@@ -349,10 +374,11 @@ fn possible_rows_are_those_of_a_witness(rt: HostRuntime) -> Result<(), Fail> {
         input.push_str("possible ")?;
         input.push_str(query)?;
         input.push_str(";")?;
-        let (_, bytes) = ends_at(alloc, &whole(""), input.as_str())?;
+        let (status, bytes) = ends_at(alloc, &whole(""), input.as_str())?;
         let mut wanted = Vec::from_slice(alloc, WEB_REPLIES.as_bytes())?;
         wanted.extend_from_slice(written.as_bytes())?;
         assert_eq!(rt; bytes.as_slice(), wanted.as_slice(), "at {query}");
+        assert_eq!(rt; status, status_of(written), "at {query}");
     }
     Ok(())
 }
@@ -387,8 +413,9 @@ fn classify_names_the_class_and_the_attacks(rt: HostRuntime) -> Result<(), Fail>
         ),
     ];
     for (input, written) in cases {
-        let (_, bytes) = ends(alloc, &whole(input))?;
+        let (status, bytes) = ends(alloc, &whole(input))?;
         assert_eq!(rt; bytes.as_slice(), written.as_bytes(), "at {input}");
+        assert_eq!(rt; status, status_of(written), "at {input}");
     }
     Ok(())
 }

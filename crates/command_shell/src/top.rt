@@ -6,7 +6,7 @@ ghost use Rattle.command_shell.specs.Top.{code_of, command_named, command_of, li
 
 use crate::Session;
 use crate::answers::answer_all;
-use crate::ending::{Command, Ending, ReadEnd, Stop, code};
+use crate::ending::{Command, Ending, ReadEnd, code};
 use crate::input::{LIMIT, read_all};
 use crate::verdict::write_verdict;
 use cqa_io::{Sink, Source};
@@ -40,18 +40,15 @@ fn run<S: Source, K: Sink>(
         ReadEnd::End => match answer_all(alloc, session, sink, input.as_slice(), true) {
             Ok(false) => Ending::Answered,
             Ok(true) => Ending::WithRefusal,
-            Err(Stop::WriteFault) => Ending::WriteFault,
-            Err(Stop::OutOfMemory) => Ending::OutOfMemory,
+            Err(stop) => Ending::from(stop),
         },
         ReadEnd::Fault => match answer_all(alloc, session, sink, input.as_slice(), false) {
             Ok(_) => Ending::ReadFault,
-            Err(Stop::WriteFault) => Ending::WriteFault,
-            Err(Stop::OutOfMemory) => Ending::OutOfMemory,
+            Err(stop) => Ending::from(stop),
         },
         ReadEnd::TooLong => match answer_all(alloc, session, sink, front(input.as_slice()), false) {
             Ok(_) => Ending::TooLong,
-            Err(Stop::WriteFault) => Ending::WriteFault,
-            Err(Stop::OutOfMemory) => Ending::OutOfMemory,
+            Err(stop) => Ending::from(stop),
         },
     }
 }
@@ -72,8 +69,7 @@ fn check<S: Source, K: Sink>(alloc: Global, source: &mut S, sink: &mut K) -> End
         ReadEnd::End => match write_verdict(alloc, sink, input.as_slice()) {
             Ok(true) => Ending::Answered,
             Ok(false) => Ending::WithRefusal,
-            Err(Stop::WriteFault) => Ending::WriteFault,
-            Err(Stop::OutOfMemory) => Ending::OutOfMemory,
+            Err(stop) => Ending::from(stop),
         },
     }
 }
@@ -106,6 +102,8 @@ fn command(words: &[String]) -> Option<Command>
 /// is too long.
 ///
 /// For every list of words and every input, the status and the bytes written are those of a machine that holds its tables as plain lists of rows: each answered ask gives exactly the rows that every repair gives, each once and ascending, each explanation is true by its definition, and each refusal has its named cause and changes nothing, except that a spent search keeps its log.
+///
+/// Nothing is explained or searched yet: what the sentence says of these speaks of nothing until then.
 pub fn run_words<S: Source, K: Sink>(
     alloc: Global,
     words: &[String],

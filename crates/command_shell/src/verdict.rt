@@ -3,7 +3,7 @@ ghost use Rattle.cqa_io.specs.Causes.{Rose};
 ghost use Rattle.command_shell.specs.Parts.{LineRow, VerdictRow};
 
 use crate::ending::Stop;
-use cqa_io::{Failed, Sink, write_all};
+use cqa_io::{Sink, write_all};
 use proof_check::{CheckReply, check_bytes};
 use std::alloc::Global;
 
@@ -12,10 +12,8 @@ pub fn write_verdict<K: Sink>(alloc: Global, sink: &mut K, input: &[u8]) -> Resu
     ensures row { VerdictRow result (Rose (K.faults sink.old) (K.faults sink.new)) (K.held sink.old) (K.held sink.new) input.now }
     ensures later { K.faults sink.old ≤ K.faults sink.new }
 {
-    match check_bytes(alloc, input) {
-        Err(_) => Err(Stop::OutOfMemory),
-        Ok(reply) => write_line(alloc, sink, reply),
-    }
+    let reply = check_bytes(alloc, input)?;
+    write_line(alloc, sink, reply)
 }
 
 /// Writes the line of a reply, and says whether the log refutes the formula.
@@ -23,11 +21,7 @@ fn write_line<K: Sink>(alloc: Global, sink: &mut K, reply: CheckReply) -> Result
     ensures row { LineRow result (Rose (K.faults sink.old) (K.faults sink.new)) (K.held sink.old) (K.held sink.new) reply }
     ensures later { K.faults sink.old ≤ K.faults sink.new }
 {
-    match reply.line(alloc) {
-        Err(_) => Err(Stop::OutOfMemory),
-        Ok(line) => match write_all(sink, line.as_bytes()) {
-            Err(Failed) => Err(Stop::WriteFault),
-            Ok(()) => Ok(reply.is_verified()),
-        },
-    }
+    let line = reply.line(alloc)?;
+    write_all(sink, line.as_bytes())?;
+    Ok(reply.is_verified())
 }

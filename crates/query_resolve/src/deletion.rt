@@ -16,7 +16,7 @@ use table_blocks::{ColumnTest, Database};
 ///
 /// # Errors
 ///
-/// The first test's `UnknownColumn` or `TypeMismatch` with its number, from 1.
+/// The first test's `UnknownColumn` or `TypeMismatch` with its number, from 1; `NoMemory` where memory is refused.
 pub fn resolve_tests(
     alloc: Global,
     db: &Database,

@@ -43,10 +43,10 @@ fn atom_of(
         return Err(Fail::Refused(Refusal::SelfJoin { name }));
     }
     let schema = db.schema(table);
-    let key = Items::from_vec(Vec::from_slice(alloc, schema.key.as_slice())?);
+    let key = Items::from_slice(alloc, schema.key.as_slice())?;
     Ok(Atom {
         table,
-        width: schema.columns.as_slice().len() as u32,
+        width: schema.columns.len() as u32,
         key,
     })
 }

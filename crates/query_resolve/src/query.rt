@@ -24,7 +24,7 @@ const MOST_ANSWERS: usize = 192;
 ///
 /// The first that applies: `Limit` with the atoms or the answer; for each table `UnknownTable` or `SelfJoin`; for each
 /// selected column, and then for each side of each condition, `UnknownTable`, `UnknownColumn` or `AmbiguousColumn`, and
-/// behind the sides `TypeMismatch` with the condition's number, from 1.
+/// behind the sides `TypeMismatch` with the condition's number, from 1. `NoMemory` where memory is refused.
 pub fn resolve(alloc: Global, db: &Database, select: &Select) -> Result<Query, Fail<Refusal>>
     requires some_table { 1 ≤ length select.now.tables }
     requires few { length select.now.conds < 2 ^ 32 }

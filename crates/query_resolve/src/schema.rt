@@ -23,7 +23,8 @@ const MOST_COLUMNS: usize = 16;
 ///
 /// # Errors
 ///
-/// `TableExists`, `Limit` with the tables or the columns, `DuplicateColumn` or `BadKey`, the first that applies.
+/// `TableExists`, `Limit` with the tables or the columns, `DuplicateColumn` or `BadKey`, the first that applies; `NoMemory`
+/// where memory is refused.
 pub fn resolve_schema(
     alloc: Global,
     db: &Database,
@@ -85,14 +86,11 @@ fn fresh_column(alloc: Global, column: &Column, before: &[Column]) -> Result<Col
     ensures valid { OnOk result (duplicate_fault before.now column.now ≡ None) }
     ensures refused { IfErr result (λ e. IsRefusedAs e (duplicate_fault before.now column.now)) }
 {
-    let name = column.name.copy(alloc)?;
-    if place_of_column(before, &name).is_some() {
+    if place_of_column(before, &column.name).is_some() {
+        let name = column.name.copy(alloc)?;
         return Err(Fail::Refused(Refusal::DuplicateColumn { name }));
     }
-    Ok(Column {
-        name,
-        kind: column.kind,
-    })
+    Ok(column.copy(alloc)?)
 }
 
 /// The places of different columns by their names.

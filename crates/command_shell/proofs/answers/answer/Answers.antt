@@ -2,5 +2,5 @@ use Rattle.std.specs.Option.{option_copied}
 use Rattle.command_shell.proofs.Doing.{answered}
 use Rattle.command_shell.proofs.answers.answer.Goals as goal
 
-pub returns-in-Ok-clause-row : goal.returns-in-Ok-clause-row
-returns-in-Ok-clause-row g c = answered c.write_reply.result _ _ _ c.args.session.now c.run.new.self (c.args.text.now, option_copied c.args.block) c.in-Ok.reply c.in-Ok.ensures.step c.write_reply.ensures.row
+pub returns-clause-row : goal.returns-clause-row
+returns-clause-row g c = answered c.write_reply.result _ _ _ c.args.session.now c.run.new.self (c.args.text.now, option_copied c.args.block) c.in_ok-reply.reply c.in_ok-reply.ensures.step c.write_reply.ensures.row

@@ -28,9 +28,15 @@ fn certain_rows_are_those_of_every_repair(rt: HostRuntime) -> Result<(), Fail> {
         "insert into person values (1, 'Ann', 'Oslo'), (1, 'Ann', 'Bergen'), (2, 'Bo', 'Oslo')",
     ];
     let cases = [
-        ("ask select name from person where id = 1", "('Ann')\n1 rows\n"),
+        (
+            "ask select name from person where id = 1",
+            "('Ann')\n1 rows\n",
+        ),
         ("ask select city from person where id = 1", "0 rows\n"),
-        ("ask select name from person where city = 'Oslo'", "('Bo')\n1 rows\n"),
+        (
+            "ask select name from person where city = 'Oslo'",
+            "('Bo')\n1 rows\n",
+        ),
         ("ask exists from person where city = 'Oslo'", "()\n1 rows\n"),
         ("ask exists from person where city = 'Bergen'", "0 rows\n"),
         ("ask select city from person", "('Oslo')\n1 rows\n"),
@@ -46,14 +52,29 @@ fn certain_rows_meet_their_tests(rt: HostRuntime) -> Result<(), Fail> {
     ];
     let cases = [
         ("ask select id from person where id = 2", "(2)\n1 rows\n"),
-        ("ask select id from person where id <> 2", "(1)\n(3)\n2 rows\n"),
+        (
+            "ask select id from person where id <> 2",
+            "(1)\n(3)\n2 rows\n",
+        ),
         ("ask select id from person where id < 2", "(1)\n1 rows\n"),
-        ("ask select id from person where id <= 2", "(1)\n(2)\n2 rows\n"),
+        (
+            "ask select id from person where id <= 2",
+            "(1)\n(2)\n2 rows\n",
+        ),
         ("ask select id from person where id > 2", "(3)\n1 rows\n"),
-        ("ask select id from person where id >= 2", "(2)\n(3)\n2 rows\n"),
+        (
+            "ask select id from person where id >= 2",
+            "(2)\n(3)\n2 rows\n",
+        ),
         ("ask select id from person where city < 'Oslo'", "0 rows\n"),
-        ("ask select id from person where city <= 'Oslo'", "(1)\n(2)\n2 rows\n"),
-        ("ask select id from person where city <> 'Oslo'", "(3)\n1 rows\n"),
+        (
+            "ask select id from person where city <= 'Oslo'",
+            "(1)\n(2)\n2 rows\n",
+        ),
+        (
+            "ask select id from person where city <> 'Oslo'",
+            "(3)\n1 rows\n",
+        ),
     ];
     expect_replies(&rt, rt.alloc(), &done, &cases)
 }
@@ -65,20 +86,30 @@ fn certain_rows_come_once_and_ascending(rt: HostRuntime) -> Result<(), Fail> {
         "insert into person values (4, 'w', 'w'), (3, 'z', 'v'), (1, 'x', 'x'), (3, 'z', 'z'), (2, 'z', 'z'), (1, 'x', 'y')",
     ];
     let cases = [
-        ("ask select name from person", "('w')\n('x')\n('z')\n3 rows\n"),
-        ("ask select name from person where name = city", "('w')\n('z')\n2 rows\n"),
+        (
+            "ask select name from person",
+            "('w')\n('x')\n('z')\n3 rows\n",
+        ),
+        (
+            "ask select name from person where name = city",
+            "('w')\n('z')\n2 rows\n",
+        ),
         (
             "ask select city, id from person where name = city",
             "('w', 4)\n('z', 2)\n2 rows\n",
         ),
         ("ask exists from person where name = city", "()\n1 rows\n"),
-        ("ask select city from person where id = id", "('w')\n('z')\n2 rows\n"),
+        (
+            "ask select city from person where id = id",
+            "('w')\n('z')\n2 rows\n",
+        ),
     ];
     expect_replies(&rt, rt.alloc(), &done, &cases)
 }
 
 /// Four rows, in two blocks by their ids, and in three by their names and ids.
-const FOUR: &str = "insert into person values (1, 'Ann', 'Oslo'), (2, 'Ann', 'Oslo'), (1, 'Ann', 'Bergen'), (1, 'Bo', 'Oslo')";
+const FOUR: &str =
+    "insert into person values (1, 'Ann', 'Oslo'), (2, 'Ann', 'Oslo'), (1, 'Ann', 'Bergen'), (1, 'Bo', 'Oslo')";
 
 #[test]
 fn blocks_go_by_the_key(rt: HostRuntime) -> Result<(), Fail> {
@@ -129,7 +160,10 @@ fn possible_rows_come_once_and_ascending(rt: HostRuntime) -> Result<(), Fail> {
         ("possible select y from r where y = 8", "(8)\n1 rows\n"),
         // Answers that come in descending order, and out of order.
         ("possible select y from r", "(7)\n(8)\n(9)\n3 rows\n"),
-        ("possible select z from r, s where r.y = s.y", "('a')\n('b')\n2 rows\n"),
+        (
+            "possible select z from r, s where r.y = s.y",
+            "('a')\n('b')\n2 rows\n",
+        ),
         (
             "possible select z, x from r, s where r.y = s.y",
             "('a', 1)\n('a', 2)\n('a', 3)\n('b', 3)\n4 rows\n",
@@ -140,7 +174,10 @@ fn possible_rows_come_once_and_ascending(rt: HostRuntime) -> Result<(), Fail> {
             "(3, 3, 7)\n(3, 3, 8)\n2 rows\n",
         ),
         // A cross product, and one with an empty table.
-        ("possible select z from r, s where x <> 2", "('a')\n('b')\n2 rows\n"),
+        (
+            "possible select z from r, s where x <> 2",
+            "('a')\n('b')\n2 rows\n",
+        ),
         ("possible select x from r, e", "0 rows\n"),
         // No answer columns, with witnesses and without.
         ("possible exists from r, s", "()\n1 rows\n"),
