@@ -124,10 +124,8 @@ module _ {before after : Outside} {old : State} where
       by_stop stops.OutOfMemory done = record { came = took.0; written = done.0; took = took.1; put = done.1; row = (few, short done.0 done.2) }
 
 -- words that aren't accepted
-pub refused_words : (command : Option Command) (outside : Outside) (state : State) → command ≡ None → Ended command BadWords outside outside state state
-refused_words (Some Run) outside state e = absurd (cc e)
-refused_words (Some Check) outside state e = absurd (cc e)
-refused_words None outside state e = record { came = []; written = []; took = Consumes-nil outside.left; put = Appends-nil outside.held; row = ((refl, refl, refl), refl) }
+pub refused_words : (outside : Outside) (state : State) → Ended None BadWords outside outside state state
+refused_words outside state = record { came = []; written = []; took = Consumes-nil outside.left; put = Appends-nil outside.held; row = ((refl, refl, refl), refl) }
 
 -- ---- completeness
 

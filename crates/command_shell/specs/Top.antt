@@ -1,6 +1,5 @@
 -- What each status of the top call says, for each command.
-use Rattle.std.specs.Prelude.{◌≡◌, ◌⊎◌, ℕ, ◌+◌, ◌≤◌, Bool, true, false, if◌then◌else◌, nat_eq, List, [], ◌∷◌, length, take, Option, None, Some, codes, string_bytes, String}
-use Rattle.std.specs.Cmp.Lexicographic.{pointwise}
+use Rattle.std.specs.Prelude.{◌≡◌, ◌⊎◌, ℕ, ◌+◌, ◌≤◌, Bool, true, false, List, [], ◌∷◌, length, map, take, Option, None, Some, codes, string_bytes, String}
 use Rattle.std.specs.Io.KnownBytes.{Consumes, Appends, IsAtEnd}
 use Rattle.std.specs.declared.alloc.Global.{Global}
 use Rattle.cqa_io.specs.Causes.{Rose}
@@ -16,14 +15,19 @@ use Rattle.command_shell.specs.Runs.{Answers, CutShort}
 abbrev pub limit : ℕ
 limit = 268_435_456
 
--- the command that a word is
-abbrev pub command_named : List ℕ → Option Command
-command_named word = if pointwise nat_eq word (codes "run") then Some Run else (if pointwise nat_eq word (codes "check") then Some Check else None)
+-- the word for a command
+abbrev pub word_for : Command → List ℕ
+word_for Run = codes "run"
+word_for Check = codes "check"
 
--- the command that the words are; other words aren't accepted
-abbrev pub command_of : List (String Global) → Option Command
-command_of (word ∷ []) = command_named (string_bytes word)
-command_of _ = None
+-- the words are that for a command, alone
+abbrev pub AreWordsFor : List (String Global) → Command → Type 0
+AreWordsFor words command = map string_bytes words ≡ word_for command ∷ []
+
+-- the command that the words ask for; where they ask for none they aren't accepted
+abbrev pub IsAskedBy : List (String Global) → Option Command → Type 0
+IsAskedBy words (Some command) = AreWordsFor words command
+IsAskedBy words None = (command : Command) → AreWordsFor words command → ⊥
 
 -- the number that the process ends with
 abbrev pub code_of : Ending → ℕ

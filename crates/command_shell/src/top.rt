@@ -1,8 +1,8 @@
-ghost use Rattle.std.specs.Prelude.{◌≡◌, ◌≢◌, ◌≤◌, Some, None, length, take};
+ghost use Rattle.std.specs.Prelude.{◌≡◌, ◌≤◌, Option, Some, MatchOption, length, take};
 ghost use Rattle.cqa_io.specs.Causes.{Rose};
 ghost use Rattle.command_shell.specs.State.{opening, State};
 ghost use Rattle.command_shell.specs.declared.ending.Command.TheVariants.{Run as RunWord, Check as CheckWord};
-ghost use Rattle.command_shell.specs.Top.{code_of, command_named, command_of, limit, Outside, Ended, IsWithinLimit, IsCompleted};
+ghost use Rattle.command_shell.specs.Top.{code_of, word_for, AreWordsFor, IsAskedBy, limit, Outside, Ended, IsWithinLimit, IsCompleted};
 
 use crate::Session;
 use crate::answers::answer_all;
@@ -76,7 +76,7 @@ fn check<S: Source, K: Sink>(alloc: Global, source: &mut S, sink: &mut K) -> End
 
 /// The command that a word is.
 fn command_named(word: &str) -> Option<Command>
-    ensures { result ≡ command_named word.now }
+    ensures { MatchOption result ((command : Command) → word.now ≡ word_for command → ⊥) (λ command. word.now ≡ word_for command) }
 {
     if word == "run" {
         return Some(Command::Run);
@@ -89,7 +89,7 @@ fn command_named(word: &str) -> Option<Command>
 
 /// The command that the words are.
 fn command(words: &[String]) -> Option<Command>
-    ensures { result ≡ command_of words.now }
+    ensures { IsAskedBy words.now result }
 {
     match words {
         [word] => command_named(word.as_str()),
@@ -114,9 +114,9 @@ pub fn run_words<S: Source, K: Sink>(
     requires { session.old ≡ opening }
     ensures row { let before : Outside = record { left = S.left source.old; held = K.held sink.old; reads = S.faults source.old; writes = K.faults sink.old } in
         let after : Outside = record { left = S.left source.new; held = K.held sink.new; reads = S.faults source.new; writes = K.faults sink.new } in
-        (ending : Ending) × (result ≡ code_of ending) × Ended (command_of words.now) ending before after session.old session.new }
+        (command : Option Command) × IsAskedBy words.now command × ((ending : Ending) × (result ≡ code_of ending) × Ended command ending before after session.old session.new) }
     // With accepted words, where no fault is counted and the source tells that its bytes are within the limit, all is answered, or memory runs out.
-    ensures completed { command_of words.now ≢ None → (Rose (S.faults source.old) (S.faults source.new) → ⊥) → (Rose (K.faults sink.old) (K.faults sink.new) → ⊥) → IsWithinLimit (S.left source.old) → IsCompleted result }
+    ensures completed { (command : Command) → AreWordsFor words.now command → (Rose (S.faults source.old) (S.faults source.new) → ⊥) → (Rose (K.faults sink.old) (K.faults sink.new) → ⊥) → IsWithinLimit (S.left source.old) → IsCompleted result }
     ensures reads { S.faults source.old ≤ S.faults source.new }
     ensures writes { K.faults sink.old ≤ K.faults sink.new }
 {

@@ -1,15 +1,15 @@
-use Rattle.std.proofs.Common.{Some, sym}
+use Rattle.std.proofs.Common.{None, Some}
 use Rattle.command_shell.specs.declared.ending.Command.TheVariants.{Run, Check}
 use Rattle.command_shell.specs.declared.ending.Ending.TheVariants.{BadWords}
 use Rattle.command_shell.proofs.Statuses.{refused_words, completed}
 use Rattle.command_shell.proofs.top.run_words.Goals as goal
 
 pub returns-in-None-clause-row : goal.returns-in-None-clause-row
-returns-in-None-clause-row g c = (BadWords, c.code.ensures, refused_words _ _ _ (sym c.in-None.ensures))
+returns-in-None-clause-row g c = (None, c.in-None.ensures, (BadWords, c.code.ensures, refused_words _ _))
 
 pub returns-in-Some-Run-clause-completed : goal.returns-in-Some-Run-clause-completed
-returns-in-Some-Run-clause-completed g c some reads writes short = completed (Some Run) c.run.result _ _ _ _ _ c.code-in-Some-Run.ensures c.run.ensures.row (λ e. (cc)) reads writes short
+returns-in-Some-Run-clause-completed g c some words reads writes short = completed (Some Run) c.run.result _ _ _ _ _ c.code-in-Some-Run.ensures c.run.ensures.row (λ e. (cc)) reads writes short
 
 pub returns-in-Some-Check-clause-completed : goal.returns-in-Some-Check-clause-completed
-returns-in-Some-Check-clause-completed g c some reads writes short =
+returns-in-Some-Check-clause-completed g c some words reads writes short =
     completed (Some Check) c.check.result _ _ c.args.session.now c.args.session.now _ c.code-in-Some-Check.ensures (c.check.ensures.row c.args.session.now) (λ e. (cc)) reads writes short
