@@ -1,4 +1,5 @@
 ghost use Rattle.std.specs.Prelude.{◌≡◌, IfOk};
+ghost use Rattle.cnf_form.specs.Literals.{opposite};
 
 use cqa_value::{Items, NoMemory};
 use std::alloc::Global;
@@ -10,6 +11,26 @@ pub struct Lit {
     pub positive: bool,
 }
 
+impl Lit {
+    /// The literal of the same variable with the other sign.
+    pub fn opposite(self) -> Lit
+        ensures { result ≡ opposite self }
+    {
+        Lit {
+            var: self.var,
+            positive: !self.positive,
+        }
+    }
+}
+
+/// The truth value of a variable or a literal under an assignment that may leave variables open.
+#[derive(Clone, Copy, Debug, PartialEq, Eq)]
+pub enum Truth {
+    True,
+    False,
+    Open,
+}
+
 /// Literals, one of which is to be true.
 #[derive(Debug, Drop)]
 pub struct Clause {
@@ -18,13 +39,15 @@ pub struct Clause {
 
 impl Clause {
     /// A second clause with the same literals.
+    ///
+    /// # Errors
+    ///
+    /// `NoMemory` where memory is refused.
     pub fn copy(&self, alloc: Global) -> Result<Clause, NoMemory>
         ensures { IfOk result (λ c. c ≡ self.now) }
     {
-        let lits = Vec::from_slice(alloc, self.lits.as_slice())?;
-        Ok(Clause {
-            lits: Items::from_vec(lits),
-        })
+        let lits = Items::from_slice(alloc, self.lits.as_slice())?;
+        Ok(Clause { lits })
     }
 }
 
@@ -37,6 +60,10 @@ pub struct Cnf {
 
 impl Cnf {
     /// A second formula that equals this one.
+    ///
+    /// # Errors
+    ///
+    /// `NoMemory` where memory is refused.
     pub fn copy(&self, alloc: Global) -> Result<Cnf, NoMemory>
         ensures { IfOk result (λ c. c ≡ self.now) }
     {

@@ -7,6 +7,11 @@ ghost use Rattle.cnf_form.specs.Reading.{FindIs};
 
 use crate::scan::{is_lrat_line, is_skipped_line, next_token, read_unsigned, skip_line};
 
+/// The greatest number of variables that a header may tell.
+const MAX_VARS: u64 = 10_000_000;
+/// The greatest number of clauses that a header may tell.
+const MAX_CLAUSES: u64 = u32::MAX as u64;
+
 /// How many variables and clauses a formula has.
 #[derive(Clone, Copy)]
 pub struct Header {
@@ -29,8 +34,8 @@ fn header_from(p: &[u8], cnf: &[u8], vars: &[u8], count: &[u8], rest: &[u8]) -> 
     if !(p == b"p".as_slice() && cnf == b"cnf".as_slice() && rest.is_empty()) {
         return None;
     }
-    let vars = read_unsigned(vars, 10_000_000)?;
-    let count = read_unsigned(count, 4_294_967_295)?;
+    let vars = read_unsigned(vars, MAX_VARS)?;
+    let count = read_unsigned(count, MAX_CLAUSES)?;
     Some(Header {
         vars: vars as u32,
         count: count as u32,

@@ -14,7 +14,7 @@ mod tests;
 mod writing;
 
 pub use fault::{FormatFault, Part};
-pub use formula::{Clause, Cnf, Lit};
+pub use formula::{Clause, Cnf, Lit, Truth};
 pub use log::{Log, Step};
 pub use reading::read_formula;
 pub use writing::{clause_text, formula_text};

@@ -11,6 +11,7 @@ pub enum Step {
     Add {
         id: u64,
         clause: Clause,
+        /// Ids, in turn. A negative hint, as LRAT has them in RAT steps, is none, and no step passes by it.
         hints: Items<i64>,
     },
     Delete {
@@ -20,25 +21,22 @@ pub enum Step {
 
 impl Step {
     /// A second step that equals this one.
+    ///
+    /// # Errors
+    ///
+    /// `NoMemory` where memory is refused.
     pub fn copy(&self, alloc: Global) -> Result<Step, NoMemory>
         ensures { IfOk result (λ s. s ≡ self.now) }
     {
         match self {
-            Step::Add { id, clause, hints } => {
-                let clause = clause.copy(alloc)?;
-                let hints = Vec::from_slice(alloc, hints.as_slice())?;
-                Ok(Step::Add {
-                    id: *id,
-                    clause,
-                    hints: Items::from_vec(hints),
-                })
-            }
-            Step::Delete { ids } => {
-                let ids = Vec::from_slice(alloc, ids.as_slice())?;
-                Ok(Step::Delete {
-                    ids: Items::from_vec(ids),
-                })
-            }
+            Step::Add { id, clause, hints } => Ok(Step::Add {
+                id: *id,
+                clause: clause.copy(alloc)?,
+                hints: Items::from_slice(alloc, hints.as_slice())?,
+            }),
+            Step::Delete { ids } => Ok(Step::Delete {
+                ids: Items::from_slice(alloc, ids.as_slice())?,
+            }),
         }
     }
 }
@@ -51,6 +49,10 @@ pub struct Log {
 
 impl Log {
     /// A second log that equals this one.
+    ///
+    /// # Errors
+    ///
+    /// `NoMemory` where memory is refused.
     pub fn copy(&self, alloc: Global) -> Result<Log, NoMemory>
         ensures { IfOk result (λ l. l ≡ self.now) }
     {

@@ -48,7 +48,8 @@ fn read_parts(alloc: Global, bytes: &[u8]) -> Result<(Cnf, usize), Fail<FormatFa
 /// Reads the formula of a proof's text, and gives the place of the bytes after its `lrat` line.
 ///
 /// # Errors
-/// `FormatFault` with the number of the first line that breaks a rule, from 1.
+///
+/// `FormatFault` with the number of the first line that breaks a rule, from 1; `NoMemory` where memory is refused.
 pub fn read_formula(alloc: Global, bytes: &[u8]) -> Result<(Cnf, usize), Fail<FormatFault>>
     // The answer is what the lines say, or the first that breaks a rule.
     ensures exact { FormulaIs bytes.now result }

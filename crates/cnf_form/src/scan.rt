@@ -64,6 +64,9 @@ pub fn skip_line(mut text: &[u8]) -> &[u8]
     text
 }
 
+/// The greatest value that a further digit may follow: beyond it the number is past every limit.
+const LAST_BEFORE_DIGIT: u64 = i64::MAX as u64 / 10;
+
 /// The number up to a limit that digits write up to the end of a token, and the bytes from there on.
 #[tactic(auto, using(crate::proofs::Digits::too_large, crate::proofs::Digits::no_digit))]
 fn read_digits(text: &[u8], limit: u64) -> Option<(u64, &[u8])>
@@ -78,7 +81,7 @@ fn read_digits(text: &[u8], limit: u64) -> Option<(u64, &[u8])>
         if !is_digit_byte(*first) {
             return None;
         }
-        if value > 922_337_203_685_477_580 {
+        if value > LAST_BEFORE_DIGIT {
             return None;
         }
         value = 10 * value + (*first - b'0') as u64;
@@ -91,7 +94,7 @@ fn read_digits(text: &[u8], limit: u64) -> Option<(u64, &[u8])>
     }
 }
 
-/// The same for one digit or more.
+/// The number up to a limit that one digit or more write up to the end of a token, and the bytes from there on.
 fn read_number(text: &[u8], limit: u64) -> Option<(u64, &[u8])>
     requires { limit < 2 ^ 63 }
     ensures { MatchOption result (number_of limit (token_of text.now) ≡ None) (λ n. (number_of limit (token_of text.now) ≡ Some n.0) × (n.1.now ≡ after_token text.now) × (n.0 ≤ limit)) }
@@ -108,7 +111,7 @@ fn read_number(text: &[u8], limit: u64) -> Option<(u64, &[u8])>
     }
 }
 
-/// The same after an optional `-`.
+/// The number up to a limit that digits write after an optional `-`, up to the end of a token, and the bytes from there on.
 fn read_signed(text: &[u8], limit: u64) -> Option<(Signed, &[u8])>
     requires { limit < 2 ^ 63 }
     ensures { MatchOption result (signed_of limit (token_of text.now) ≡ None) (λ n. (signed_of limit (token_of text.now) ≡ Some (n.0.negative, n.0.size)) × (n.1.now ≡ after_token text.now) × (n.0.size ≤ limit)) }

@@ -68,6 +68,16 @@ fn formulas_are_read_and_written(rt: HostRuntime) -> Result<(), TestFail> {
 }
 
 #[test]
+fn opposites_have_the_other_sign(rt: HostRuntime) {
+    for positive in [true, false] {
+        let lit = Lit { var: 7, positive };
+        let other = lit.opposite();
+        assert_eq!(rt; (other.var, other.positive), (7, !positive));
+        assert!(rt; other != lit && other.opposite() == lit);
+    }
+}
+
+#[test]
 fn logs_are_copied(rt: HostRuntime) -> Result<(), TestFail> {
     let alloc = rt.alloc();
     let lits = vec![in alloc;

@@ -45,6 +45,10 @@ fn append_clause(clause: &Clause, out: &mut Vec<u8>) -> Result<(), NoMemory>
 }
 
 /// Appends a clause: its literals, each followed by a space, and `0`.
+///
+/// # Errors
+///
+/// `NoMemory` where memory is refused; nothing is appended then.
 pub fn clause_text(clause: &Clause, out: &mut Vec<u8>) -> Result<(), NoMemory>
     ensures ok { OnOk result (out.new.items ≡ out.old.items ++ clause_bytes clause.now.lits) }
     ensures err { OnErr result (out.new.items ≡ out.old.items) }
@@ -68,6 +72,10 @@ fn append_lines(clauses: &[Clause], out: &mut Vec<u8>) -> Result<(), NoMemory>
 }
 
 /// The text of a formula: the line of its header, and a line for each clause.
+///
+/// # Errors
+///
+/// `NoMemory` where memory is refused.
 pub fn formula_text(alloc: Global, cnf: &Cnf) -> Result<Vec<u8>, NoMemory>
     ensures { IfOk result (λ text. text.items ≡ formula_bytes cnf.now) }
 {
