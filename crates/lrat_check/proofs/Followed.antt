@@ -9,7 +9,7 @@ use Rattle.cnf_form.specs.Literals.{opposite, IsUnit}
 use Rattle.cnf_form.specs.Logs.{Live, HintsPass}
 use Rattle.lrat_check.specs.declared.following.Follow.{Follow}
 use Rattle.lrat_check.specs.declared.following.Follow.TheVariants as follow
-use Rattle.lrat_check.specs.declared.marks.Truth.{Truth}
+use Rattle.cnf_form.specs.declared.formula.Truth.{Truth}
 use Rattle.lrat_check.specs.Marks.{Shows, HasOne, HasTwo, HoldIs}
 use Rattle.lrat_check.specs.Following.{ClauseIs, FollowIs, Negative, Unknown, Known, EndIs}
 use Rattle.std.specs.Prelude.{Result, Ok, Err, IfOk}

@@ -5,8 +5,8 @@ use Rattle.std.proofs.lemmas.Bool.{cases_eq}
 use Rattle.std.proofs.lemmas.List.{get_or-set_same, get_or-set_other, length-set, take_all}
 use Rattle.std.proofs.lemmas.List.Elements.{Contains-push_cases, Contains-append_left, Contains-push, Contains-get_or}
 use Rattle.cnf_form.specs.declared.formula.Lit.{Lit}
-use Rattle.lrat_check.specs.declared.marks.Truth.{Truth}
-use Rattle.lrat_check.specs.declared.marks.Truth.TheVariants as truth
+use Rattle.cnf_form.specs.declared.formula.Truth.{Truth}
+use Rattle.cnf_form.specs.declared.formula.Truth.TheVariants as truth
 use Rattle.lrat_check.specs.Marks.{truth_at, IsFalse, IsValid, HasOne, HasTwo, FoundIs}
 use Rattle.lrat_check.proofs.Takes.{more_cases, more_left, more_here, take_inside}
 

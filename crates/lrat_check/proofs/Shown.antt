@@ -5,8 +5,8 @@ use Rattle.std.proofs.lemmas.Bool.{cases_eq}
 use Rattle.std.proofs.lemmas.List.{take_all}
 use Rattle.cnf_form.specs.declared.formula.Lit.{Lit}
 use Rattle.cnf_form.specs.Literals.{negated, opposite}
-use Rattle.lrat_check.specs.declared.marks.Truth.{Truth}
-use Rattle.lrat_check.specs.declared.marks.Truth.TheVariants as truth
+use Rattle.cnf_form.specs.declared.formula.Truth.{Truth}
+use Rattle.cnf_form.specs.declared.formula.Truth.TheVariants as truth
 use Rattle.lrat_check.specs.Marks.{truth_at, sign, IsMarkedTrue, IsFalse, Shows, HoldIs, Assumed}
 use Rattle.cnf_form.proofs.Lits.{cons_cases, contains_here, contains_later, negated-negated, opposite-opposite}
 use Rattle.lrat_check.proofs.Takes.{more_cases, more_left, more_here, take_inside}

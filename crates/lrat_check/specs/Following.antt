@@ -7,7 +7,7 @@ use Rattle.cnf_form.specs.Literals.{AllDenied, IsUnit}
 use Rattle.cnf_form.specs.Logs.{Live, HintsPass, AdditionPasses}
 use Rattle.lrat_check.specs.declared.following.Follow.{Follow}
 use Rattle.lrat_check.specs.declared.following.Follow.TheVariants as follow
-use Rattle.lrat_check.specs.declared.marks.Truth.{Truth}
+use Rattle.cnf_form.specs.declared.formula.Truth.{Truth}
 use Rattle.lrat_check.specs.Marks.{Shows}
 use Rattle.lrat_check.specs.Failing.{AdditionFails, HasTwoFree, HintsFail}
 

@@ -2,8 +2,8 @@
 use Rattle.std.specs.Prelude.{◌≡◌, ◌≢◌, ℕ, ◌<◌, Bool, true, false, List, Contains, length, slice_index_or, Option, Some, None, ◌∷◌, map}
 use Rattle.cnf_form.specs.declared.formula.Lit.{Lit}
 use Rattle.cnf_form.specs.Literals.{negated, opposite}
-use Rattle.lrat_check.specs.declared.marks.Truth.{Truth}
-use Rattle.lrat_check.specs.declared.marks.Truth.TheVariants as truth
+use Rattle.cnf_form.specs.declared.formula.Truth.{Truth}
+use Rattle.cnf_form.specs.declared.formula.Truth.TheVariants as truth
 use Rattle.lrat_check.specs.declared.marks.Look.{Look}
 use Rattle.lrat_check.specs.declared.marks.Look.TheVariants as look
 use Rattle.cnf_form.specs.Literals.{HasBothSigns}

@@ -22,9 +22,13 @@ use std::alloc::{AllocError, Global};
 pub struct Checker {
     pub store: Store,
     pub marks: Marks,
+    /// The greatest id so far: that of the last clause added, at first that of the formula's last clause.
     pub top: u64,
+    /// How many steps passed.
     pub passed: u64,
+    /// Whether a step that passed added the empty clause.
     pub seen: bool,
+    /// The first step that fails; none is taken after it.
     pub fault: Option<LogFault>,
 }
 

@@ -25,8 +25,9 @@ fn check_all(alloc: Global, cnf: &Cnf, log: &Log) -> Result<Option<LogFault>, Al
 /// Checks that a log refutes a formula. Then no assignment satisfies the formula.
 ///
 /// # Errors
+///
 /// `LogFault` with the first step that fails and its cause; or, where no step fails and none adds the empty clause, with
-/// the number of steps and `NoEmptyClause`.
+/// the number of steps and `NoEmptyClause`. `NoMemory` where memory is refused.
 pub fn check(alloc: Global, cnf: &Cnf, log: &Log) -> Result<(), Fail<LogFault>>
     ensures exact { Checked cnf.now log.now.steps result }
     ensures sound { OnOk result ((v : ℕ → Bool) → SatisfiesAll v (literals cnf.now.clauses) → ⊥) }

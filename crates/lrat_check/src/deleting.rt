@@ -1,4 +1,4 @@
-// Deletions.
+//! Deletions.
 
 ghost use Rattle.std.specs.Prelude.{◌≡◌, ℕ, true, false};
 ghost use Rattle.cnf_form.specs.Logs.{DeletionPasses, after_deletion};
@@ -7,6 +7,7 @@ ghost use Rattle.lrat_check.specs.Failing.{DeletionFails};
 
 use crate::store::Store;
 
+/// Takes the clauses of the ids away, up to the first id that isn't live, and tells whether all are.
 pub fn delete_all(store: &mut Store, ids: &[u64]) -> bool
     requires { IsStore store.old.pool.items store.old.places }
     ensures store { IsStore store.new.pool.items store.new.places }
@@ -15,9 +16,8 @@ pub fn delete_all(store: &mut Store, ids: &[u64]) -> bool
     ensures live { result ≡ true → live_of store.new.pool.items store.new.places ≡ after_deletion (live_of store.old.pool.items store.old.places) ids.now }
 {
     for id in ids {
-        match store.remove(*id) {
-            true => {}
-            false => return false,
+        if !store.remove(*id) {
+            return false;
         }
     }
     true

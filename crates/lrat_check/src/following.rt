@@ -1,4 +1,4 @@
-// Hints, and additions.
+//! Hints, and additions.
 
 ghost use Rattle.std.specs.Prelude.{◌≡◌, ℕ, ℤ, pos, negsuc, OnOk, IfOk, List, MatchOption, Some, None};
 ghost use Rattle.cnf_form.specs.declared.formula.Lit.{Lit as Literal};

@@ -1,20 +1,12 @@
-// Which literals are true, by variable.
+//! Which literals are true, by variable.
 
-ghost use Rattle.std.specs.Prelude.{◌≡◌, ◌≢◌, ℕ, ◌<◌, ◌≤◌, ◌↔◌, IsTrue, Contains, OnOk, IfOk, map, [], true, false, if◌then◌else◌, ◌==◌, length};
+ghost use Rattle.std.specs.Prelude.{◌≡◌, ◌≢◌, ℕ, ◌<◌, ◌≤◌, OnOk, IfOk, [], true, false, length};
 ghost use Rattle.lrat_check.specs.Marks.{truth_at, sign, IsFalse, AllOpen, IsValid, Looked, Shows, HoldIs, Assumed};
-ghost use Rattle.cnf_form.specs.Literals.{opposite};
-ghost use Rattle.cnf_form.specs.Literals.{HasBothSigns};
 
-use cnf_form::Lit;
+use cnf_form::{Lit, Truth};
 use std::alloc::{AllocError, Global};
 
-#[derive(Clone, Copy, PartialEq, Eq)]
-pub enum Truth {
-    Open,
-    True,
-    False,
-}
-
+/// The truth values of variables, by their numbers, and the variables that have one in the order in which they came.
 #[derive(Drop)]
 pub struct Marks {
     pub truths: Vec<Truth>,
@@ -35,29 +27,6 @@ fn sign_of(positive: bool) -> Truth
     if positive { Truth::True } else { Truth::False }
 }
 
-fn negate(lit: Lit) -> Lit
-    ensures { result ≡ opposite lit }
-{
-    Lit {
-        var: lit.var,
-        positive: !lit.positive,
-    }
-}
-
-fn same_lit(a: Lit, b: Lit) -> bool
-    ensures yes { result ≡ true → a ≡ b }
-    ensures no { result ≡ false → a ≢ b }
-{
-    a.var == b.var && a.positive == b.positive
-}
-
-fn same_truth(a: Truth, b: Truth) -> bool
-    ensures yes { result ≡ true → a ≡ b }
-    ensures no { result ≡ false → a ≢ b }
-{
-    a == b
-}
-
 impl Marks {
     pub fn new(alloc: Global) -> Marks
         ensures open { AllOpen result.truths.items }
@@ -72,10 +41,10 @@ impl Marks {
     pub fn truth(&self, var: u32) -> Truth
         ensures { result ≡ truth_at self.now.truths.items var }
     {
-        match self.truths.get(var as usize) {
-            Some(truth) => *truth,
-            None => Truth::Open,
-        }
+        self.truths
+            .get(var as usize)
+            .copied()
+            .unwrap_or(Truth::Open)
     }
 
     pub fn is_false(&self, lit: Lit) -> bool
@@ -114,7 +83,7 @@ impl Marks {
         Ok(())
     }
 
-    // Makes the literal true, and answers false where it is false.
+    /// Makes the literal true, and answers false where it is false.
     pub fn hold(&mut self, lit: Lit) -> Result<bool, AllocError>
         requires { IsValid self.old.truths.items self.old.trail.items }
         ensures valid { OnOk result (IsValid self.new.truths.items self.new.trail.items) }
@@ -125,11 +94,11 @@ impl Marks {
                 self.make_true(lit)?;
                 Ok(true)
             }
-            truth => Ok(same_truth(truth, sign_of(lit.positive))),
+            truth => Ok(truth == sign_of(lit.positive)),
         }
     }
 
-    // Makes each literal false, and answers true where a variable has both signs.
+    /// Makes each literal false, and answers true where a variable has both signs.
     pub fn assume(&mut self, clause: &[Lit]) -> Result<bool, AllocError>
         requires valid { IsValid self.old.truths.items self.old.trail.items }
         requires open { AllOpen self.old.truths.items }
@@ -137,9 +106,8 @@ impl Marks {
         ensures assumed { IfOk result (λ both. Assumed self.new.truths.items clause.now both) }
     {
         for lit in clause {
-            match self.hold(negate(*lit))? {
-                true => {}
-                false => return Ok(true),
+            if !self.hold(lit.opposite())? {
+                return Ok(true);
             }
         }
         Ok(false)
@@ -169,7 +137,7 @@ impl Marks {
                     continue;
                 }
                 Some(other) => {
-                    if !same_lit(other, *lit) {
+                    if other != *lit {
                         return Look::Many;
                     }
                 }

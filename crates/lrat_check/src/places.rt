@@ -1,4 +1,4 @@
-// Where the clause of each id stands.
+//! Where the clause of each id stands.
 
 ghost use Rattle.std.specs.Prelude.{◌≡◌, ◌≢◌, ℕ, ◌≤◌, ◌<◌, OnOk, Some, None, true, false, length};
 ghost use Rattle.std.specs.Ordering.{nat_cmp};
@@ -41,10 +41,7 @@ impl Places {
     fn near_at(&self, id: u64) -> Option<Place>
         ensures { result ≡ near_at self.now.near.items id }
     {
-        match self.near.get(id as usize) {
-            Some(place) => *place,
-            None => None,
-        }
+        *self.near.get(id as usize)?
     }
 
     pub fn get(&self, id: u64) -> Option<Place>

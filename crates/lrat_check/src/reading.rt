@@ -14,10 +14,11 @@ ghost use Rattle.lrat_check.specs.LogParts.{IdIsNext, NoIdNext};
 
 use cnf_form::scan::{Next, Signed, is_comment_line, next_number, next_token, skip_line, unsigned};
 use cnf_form::{Clause, FormatFault, Lit, Log, Part, Step};
-use cqa_value::{Fail, Items};
-use std::alloc::{AllocError, Global};
+use cqa_value::{Fail, Items, NoMemory};
+use std::alloc::Global;
 
-const GREATEST: u64 = 9_223_372_036_854_775_807;
+/// The greatest id, and the greatest size of a hint.
+const GREATEST: u64 = i64::MAX as u64;
 
 fn lit_of(number: Signed) -> Lit
     requires { number.size < 2 ^ 32 }
@@ -62,7 +63,7 @@ fn read_lits<'a>(
     lits: &mut Vec<Lit>,
     text: &'a [u8],
     vars: u32,
-) -> Result<Option<&'a [u8]>, AllocError>
+) -> Result<Option<&'a [u8]>, NoMemory>
     ensures { IfOk result (λ r. MatchOption r
         (addition_of vars (tokens (line_of text.now)) ≡ None)
         (λ rest. (addition_of vars (tokens (line_of text.now)) ≡ option_map (λ hs. (lits.new.items, hs)) (hints_of (tokens (line_of rest.now)))) × (after_line text.now ≡ after_line rest.now))) }
@@ -94,7 +95,7 @@ fn line_end(text: &[u8]) -> Option<&[u8]>
 }
 
 /// Gathers hints up to a zero that ends the line, and gives the bytes after the line.
-fn read_hints<'a>(hints: &mut Vec<i64>, text: &'a [u8]) -> Result<Option<&'a [u8]>, AllocError>
+fn read_hints<'a>(hints: &mut Vec<i64>, text: &'a [u8]) -> Result<Option<&'a [u8]>, NoMemory>
     ensures { IfOk result (λ r. MatchOption r
         (hints_of (tokens (line_of text.now)) ≡ None)
         (λ rest. (hints_of (tokens (line_of text.now)) ≡ Some hints.new.items) × (rest.now ≡ after_line text.now))) }
@@ -116,7 +117,7 @@ fn read_hints<'a>(hints: &mut Vec<i64>, text: &'a [u8]) -> Result<Option<&'a [u8
 }
 
 /// Reads ids up to a zero that ends the line, and gives the bytes after the line.
-fn read_ids<'a>(alloc: Global, text: &'a [u8]) -> Result<Option<(Vec<u64>, &'a [u8])>, AllocError>
+fn read_ids<'a>(alloc: Global, text: &'a [u8]) -> Result<Option<(Vec<u64>, &'a [u8])>, NoMemory>
     ensures { IfOk result (λ r. MatchOption r
         (ids_of (tokens (line_of text.now)) ≡ None)
         (λ p. (ids_of (tokens (line_of text.now)) ≡ Some p.0.items) × (p.1.now ≡ after_line text.now))) }
@@ -154,7 +155,7 @@ fn next_id(text: &[u8]) -> Option<(u64, &[u8])>
 }
 
 /// Reads a deletion after its `d`.
-fn read_deletion<'a>(alloc: Global, text: &'a [u8]) -> Result<Option<(Step, &'a [u8])>, AllocError>
+fn read_deletion<'a>(alloc: Global, text: &'a [u8]) -> Result<Option<(Step, &'a [u8])>, NoMemory>
     ensures { IfOk result (λ r. MatchOption r
         (ids_of (tokens (line_of text.now)) ≡ None)
         (λ p. (option_map delete_step (ids_of (tokens (line_of text.now))) ≡ Some p.0) × (p.1.now ≡ after_line text.now))) }
@@ -175,7 +176,7 @@ fn read_addition<'a>(
     id: u64,
     text: &'a [u8],
     vars: u32,
-) -> Result<Option<(Step, &'a [u8])>, AllocError>
+) -> Result<Option<(Step, &'a [u8])>, NoMemory>
     ensures { IfOk result (λ r. MatchOption r
         (addition_of vars (tokens (line_of text.now)) ≡ None)
         (λ p. (option_map (add_step id) (addition_of vars (tokens (line_of text.now))) ≡ Some p.0) × (p.1.now ≡ after_line text.now))) }
@@ -186,14 +187,12 @@ fn read_addition<'a>(
     let Some(rest) = read_hints(&mut gathered.hints, rest)? else {
         return Ok(None);
     };
-    let lits = Vec::from_slice(alloc, gathered.lits.as_slice())?;
-    let hints = Vec::from_slice(alloc, gathered.hints.as_slice())?;
+    let lits = Items::from_slice(alloc, gathered.lits.as_slice())?;
+    let hints = Items::from_slice(alloc, gathered.hints.as_slice())?;
     let step = Step::Add {
         id,
-        clause: Clause {
-            lits: Items::from_vec(lits),
-        },
-        hints: Items::from_vec(hints),
+        clause: Clause { lits },
+        hints,
     };
     Ok(Some((step, rest)))
 }
@@ -205,7 +204,7 @@ fn read_step<'a>(
     id: u64,
     text: &'a [u8],
     vars: u32,
-) -> Result<Option<(Step, &'a [u8])>, AllocError>
+) -> Result<Option<(Step, &'a [u8])>, NoMemory>
     ensures { IfOk result (λ r. MatchOption r
         (step_after vars id (tokens (line_of text.now)) ≡ None)
         (λ p. (step_after vars id (tokens (line_of text.now)) ≡ Some p.0) × (p.1.now ≡ after_line text.now))) }
@@ -225,7 +224,7 @@ fn read_numbered<'a>(
     vars: u32,
     first: Signed,
     text: &'a [u8],
-) -> Result<Option<(Step, &'a [u8])>, AllocError>
+) -> Result<Option<(Step, &'a [u8])>, NoMemory>
     ensures { IfOk result (λ r. MatchOption r
         (by_first vars (without_sign first.negative first.size) (tokens (line_of text.now)) ≡ None)
         (λ p. (by_first vars (without_sign first.negative first.size) (tokens (line_of text.now)) ≡ Some p.0) × (p.1.now ≡ after_line text.now))) }
@@ -239,25 +238,35 @@ fn read_numbered<'a>(
     read_step(alloc, gathered, id, text, vars)
 }
 
-/// Reads the step that the first line is, or none where it is skipped, and gives the bytes after the line; `None` where it
-/// breaks a rule.
+/// A line of a log: its step, none where the line is skipped, and the bytes after it.
+#[derive(Drop)]
+pub struct Line<'a> {
+    pub step: Option<Step>,
+    pub rest: &'a [u8],
+}
+
+/// Reads the first line; `None` where it breaks a rule.
 pub fn read_line<'a>(
     alloc: Global,
     gathered: &mut Gathered,
     vars: u32,
     text: &'a [u8],
-) -> Result<Option<(Option<Step>, &'a [u8])>, AllocError>
+) -> Result<Option<Line<'a>>, NoMemory>
     ensures { IfOk result (λ r. MatchOption r
         (line_steps vars (line_of text.now) ≡ None)
-        (λ p. (line_steps vars (line_of text.now) ≡ Some (said_steps p.0)) × (p.1.now ≡ after_line text.now))) }
+        (λ line. (line_steps vars (line_of text.now) ≡ Some (said_steps line.step)) × (line.rest.now ≡ after_line text.now))) }
 {
     if is_comment_line(text) {
-        return Ok(Some((None, skip_line(text))));
+        let rest = skip_line(text);
+        return Ok(Some(Line { step: None, rest }));
     }
     match next_number(text, GREATEST) {
-        Next::End(rest) => Ok(Some((None, rest))),
+        Next::End(rest) => Ok(Some(Line { step: None, rest })),
         Next::Number(first, rest) => match read_numbered(alloc, gathered, vars, first, rest)? {
-            Some((step, rest)) => Ok(Some((Some(step), rest))),
+            Some((step, rest)) => Ok(Some(Line {
+                step: Some(step),
+                rest,
+            })),
             None => Ok(None),
         },
         Next::Other => Ok(None),
@@ -265,7 +274,7 @@ pub fn read_line<'a>(
 }
 
 /// Appends the step of a line, if it has one.
-fn append(steps: &mut Vec<Step>, step: Option<Step>) -> Result<(), AllocError>
+fn append(steps: &mut Vec<Step>, step: Option<Step>) -> Result<(), NoMemory>
     ensures { OnOk result (steps.new.items ≡ steps.old.items ++ said_steps step) }
 {
     if let Some(step) = step {
@@ -292,12 +301,12 @@ fn read_steps(alloc: Global, bytes: &[u8], vars: u32) -> Result<Log, Fail<Format
     let mut rest = bytes;
     let mut number = 1u64;
     while !rest.is_empty() {
-        let Some((step, after)) = read_line(alloc, &mut gathered, vars, rest)? else {
+        let Some(line) = read_line(alloc, &mut gathered, vars, rest)? else {
             return Err(line_fault(number));
         };
-        append(&mut steps, step)?;
+        append(&mut steps, line.step)?;
         number += 1;
-        rest = after;
+        rest = line.rest;
     }
     Ok(Log {
         steps: Items::from_vec(steps),
@@ -307,7 +316,8 @@ fn read_steps(alloc: Global, bytes: &[u8], vars: u32) -> Result<Log, Fail<Format
 /// Reads a log, the text after the `lrat` line, over a formula of so many variables.
 ///
 /// # Errors
-/// `FormatFault` with the number of the first line that breaks a rule, from 1.
+///
+/// `FormatFault` with the number of the first line that breaks a rule, from 1; `NoMemory` where memory is refused.
 pub fn read_log(alloc: Global, bytes: &[u8], vars: u32) -> Result<Log, Fail<FormatFault>>
     // The answer is what the lines say, or the first that breaks a rule.
     ensures exact { LogIs vars bytes.now result }

@@ -1,4 +1,4 @@
-// Steps, one by one.
+//! Steps, one by one.
 
 ghost use Rattle.std.specs.Prelude.{◌≡◌, ℕ, OnOk, IfOk, true, false, Contains, [], ◌∷◌};
 ghost use Rattle.cnf_form.specs.Logs.{top_after, added};
@@ -67,10 +67,13 @@ pub fn take_step(
                 hints.as_slice(),
             )
         }
-        Step::Delete { ids } => match delete_all(store, ids.as_slice()) {
-            true => Ok(None),
-            false => Ok(Some(LogCause::UnknownId)),
-        },
+        Step::Delete { ids } => {
+            if delete_all(store, ids.as_slice()) {
+                Ok(None)
+            } else {
+                Ok(Some(LogCause::UnknownId))
+            }
+        }
     }
 }
 

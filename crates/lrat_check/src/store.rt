@@ -1,4 +1,4 @@
-// The live clauses: one pool of literals, and the place of each clause by its id.
+//! The live clauses: one pool of literals, and the place of each clause by its id.
 
 ghost use Rattle.std.specs.Prelude.{◌≡◌, ℕ, ◌≤◌, OnOk, IfOk, MatchOption, IsTrue, ◌↔◌, ◌≢◌, Some, None, length, true, false};
 ghost use Rattle.lrat_check.specs.Store.{live_of, IsStore};
@@ -29,10 +29,8 @@ impl Store {
         requires { IsStore self.now.pool.items self.now.places }
         ensures { MatchOption result (live_of self.now.pool.items self.now.places id ≡ None) (λ c. live_of self.now.pool.items self.now.places id ≡ Some c.now) }
     {
-        match self.places.get(id) {
-            Some(place) => Some(&self.pool[place.from..place.to]),
-            None => None,
-        }
+        let place = self.places.get(id)?;
+        Some(&self.pool[place.from..place.to])
     }
 
     pub fn add(&mut self, id: u64, clause: &[Lit]) -> Result<(), AllocError>

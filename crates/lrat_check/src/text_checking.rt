@@ -12,8 +12,8 @@ use crate::LogFault;
 use crate::checker::Checker;
 use crate::reading::{Gathered, line_fault, read_line};
 use cnf_form::{Cnf, FormatFault};
-use cqa_value::Fail;
-use std::alloc::{AllocError, Global};
+use cqa_value::{Fail, NoMemory};
+use std::alloc::Global;
 
 /// Takes the step that the first line is, or none where it is skipped, and gives the bytes after the line; `None` where it
 /// breaks a rule.
@@ -23,7 +23,7 @@ fn take_line<'a>(
     checker: &mut Checker,
     vars: u32,
     text: &'a [u8],
-) -> Result<Option<&'a [u8]>, AllocError>
+) -> Result<Option<&'a [u8]>, NoMemory>
     requires ready { IsReady checker.old }
     requires room { checker.old.passed < 2 ^ 64 - 1 }
     ensures { IfOk result (λ r. MatchOption r
@@ -32,18 +32,20 @@ fn take_line<'a>(
         × ((said : List LogStep) × (line_steps vars (line_of text.now) ≡ Some said)
         × ((live : Live) (top : ℕ) (before : List LogStep) → Reached live top before checker.old → Reached live top (before ++ said) checker.new)))) }
 {
-    let Some((step, rest)) = read_line(alloc, gathered, vars, text)? else {
+    let Some(line) = read_line(alloc, gathered, vars, text)? else {
         return Ok(None);
     };
-    checker.take_said(&step)?;
-    Ok(Some(rest))
+    checker.take_said(&line.step)?;
+    Ok(Some(line.rest))
 }
 
 /// Reads a log, the text after the `lrat` line, and checks each step as it is read, so that none is kept. The answer is the
 /// fault of the log, and none where it refutes the formula.
 ///
 /// # Errors
+///
 /// `FormatFault` with the number of the first line that breaks a rule, from 1. It comes before any fault of a step.
+/// `NoMemory` where memory is refused.
 pub fn check_text(
     alloc: Global,
     cnf: &Cnf,

@@ -109,6 +109,10 @@ fn append_step(top: Option<u64>, step: &Step, out: &mut Vec<u8>) -> Result<Optio
 }
 
 /// The text of a log: a line for each step.
+///
+/// # Errors
+///
+/// `NoMemory` where memory is refused.
 pub fn log_text(alloc: Global, log: &Log) -> Result<Vec<u8>, NoMemory>
     ensures { IfOk result (λ text. text.items ≡ log_bytes log.now.steps) }
 {

@@ -1,4 +1,4 @@
-use Rattle.std.proofs.Common.{take, subst, Option, None}
+use Rattle.std.proofs.Common.{◌≡◌, false, get_or, take, subst, Option, None, rules}
 use Rattle.cnf_form.specs.declared.formula.Lit.{Lit}
 use Rattle.lrat_check.specs.Marks.{FoundIs}
 use Rattle.lrat_check.proofs.MarkLemmas.{found_false, found_first, found_same, found_two, found_end}
@@ -12,16 +12,18 @@ loop-lit-preserved-in-None c = found_first _ _ _ _ c.loop-lit-test.true
     (subst (λ (o : Option Lit). FoundIs c.args.self.now.truths.items (take c.loop-lit.lit-index c.args.clause.now) o) c.in-None.is c.loop-lit.invariant)
     (c.is_false.ensures.no c.if-is_false.false)
 
-pub returns-then-not-same_lit : goal.returns-then-not-same_lit
-returns-then-not-same_lit c = found_two _ _ _ _ _ c.loop-lit-test.true
+pub returns-then-ne : goal.returns-then-ne
+returns-then-ne c = found_two _ _ _ _ _ c.loop-lit-test.true
     (subst (λ (o : Option Lit). FoundIs c.args.self.now.truths.items (take c.loop-lit.lit-index c.args.clause.now) o) c.in-Some.is c.loop-lit.invariant)
-    (c.same_lit.ensures.no c.if-not-same_lit.true)
+    (search rules)
     (c.is_false.ensures.no c.if-is_false.false)
 
 pub loop-lit-preserved : goal.loop-lit-preserved
-loop-lit-preserved c = found_same _ _ _ _ _ c.loop-lit-test.true
+loop-lit-preserved c =
+    let same : c.in-Some.other ≡ get_or c.args.clause.now c.loop-lit.lit-index (record { var = 0; positive = false }) = search rules in
+    found_same _ _ _ _ _ c.loop-lit-test.true
     (subst (λ (o : Option Lit). FoundIs c.args.self.now.truths.items (take c.loop-lit.lit-index c.args.clause.now) o) c.in-Some.is c.loop-lit.invariant)
-    (c.same_lit.ensures.yes c.if-not-same_lit.false)
+    same
 
 pub returns-in-None-found : goal.returns-in-None-found
 returns-in-None-found c = found_end _ _ c.loop-lit.lit-index None c.loop-lit-test.false
