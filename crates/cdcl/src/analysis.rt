@@ -10,7 +10,7 @@ ghost use Rattle.cdcl.specs.Marks.{IsSeen, AllClear, AllMet};
 
 use crate::look::literals_at;
 use crate::slate::clear_slate;
-use crate::trail::{Entry, end_of, lit_at, negate};
+use crate::trail::{Entry, end_of, lit_at};
 use cnf_form::{Clause, Lit};
 use cqa_value::NoMemory;
 use std::alloc::Global;
@@ -41,7 +41,7 @@ pub struct Marks {
     pub left: usize,
 }
 
-// No marks, on a slate that is clear.
+/// No marks, on a slate that is clear.
 fn no_marks(alloc: Global, seen: Vec<bool>) -> Marks
     requires clear { AllClear seen.items }
     ensures marks { (t : List Lit) (start : ℕ) → AreMarksOf t start result }
@@ -79,7 +79,7 @@ pub(crate) fn mark_var(
     marks.met.push(var)?;
     if let Some(place) = places[var as usize] {
         if place < start {
-            marks.lower.push(negate(trail[place].lit))?;
+            marks.lower.push(trail[place].lit.opposite())?;
         } else {
             marks.left += 1;
         }
@@ -109,7 +109,7 @@ pub(crate) fn mark_all(
     Ok(())
 }
 
-// Whether the literal at a place is marked, and no other from `start` up to it is.
+/// Whether the literal at a place is marked, and no other from `start` up to it is.
 pub(crate) fn is_last(trail: &[Entry], marks: &Marks, at: usize) -> bool
     requires at { at < length trail.now }
     requires range { AllInRange (held trail.now) (length marks.now.seen.items) }
@@ -118,7 +118,7 @@ pub(crate) fn is_last(trail: &[Entry], marks: &Marks, at: usize) -> bool
     marks.left <= 1 && marks.seen[trail[at].lit.var as usize]
 }
 
-// Appends the id of the clause at an index.
+/// Appends the id of the clause at an index.
 fn push_hint(clauses: &[Clause], hints: &mut Vec<i64>, index: usize) -> Result<(), NoMemory>
     requires { index < length clauses.now }
     ensures { OnOk result (hints.new.items ≡ hints.old.items ++ pos (index + 1) ∷ []) }
@@ -134,7 +134,7 @@ fn push_lit(lits: &mut Vec<Lit>, lit: Lit) -> Result<(), NoMemory>
     Ok(())
 }
 
-// Takes the entry at a place for its reason, if it is marked.
+/// Takes the entry at a place for its reason, if it is marked.
 pub(crate) fn resolve(
     clauses: &[Clause],
     trail: &[Entry],
@@ -207,7 +207,7 @@ pub(crate) fn analyze(
         at -= 1;
     }
     let end = end_of(trail, places, marks.lower.as_slice());
-    let asserted = negate(lit_at(trail, at));
+    let asserted = lit_at(trail, at).opposite();
     push_lit(&mut marks.lower, asserted)?;
     hints.reverse();
     Ok(Lesson {

@@ -6,8 +6,8 @@ ghost use Rattle.cdcl.specs.Settled.{IsConsistent};
 ghost use Rattle.cdcl.specs.Trail.{At, held, ArePlaces, AllInRange};
 ghost use Rattle.cdcl.specs.Looks.{FoundIs, IsFree, TwoIs};
 
-use crate::trail::{Entry, Truth, same_lit, truth_of};
-use cnf_form::{Clause, Lit};
+use crate::trail::{Entry, truth_of};
+use cnf_form::{Clause, Lit, Truth};
 
 /// What a clause comes to that watches a false literal and another one.
 #[derive(Clone, Copy)]
@@ -39,7 +39,7 @@ fn free_lit(trail: &[Entry], places: &[Option<usize>], clause: &[Lit], other: Li
     ensures { MatchOption result (OthersDenied (held trail.now) clause.now other) (λ lit. IsFree (held trail.now) clause.now other lit) }
 {
     for lit in clause {
-        if !same_lit(*lit, other) && !is_false(trail, places, *lit) {
+        if *lit != other && !is_false(trail, places, *lit) {
             return Some(*lit);
         }
     }
@@ -80,7 +80,7 @@ fn other_lit(clause: &[Lit], first: Lit) -> Option<Lit>
     ensures { MatchOption result ((m : Lit) → Contains clause.now m → m ≡ first) (λ lit. Contains clause.now lit × (first ≢ lit)) }
 {
     for lit in clause {
-        if !same_lit(first, *lit) {
+        if first != *lit {
             return Some(*lit);
         }
     }

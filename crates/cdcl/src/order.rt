@@ -36,7 +36,7 @@ pub struct Order {
     step: u64,
 }
 
-// Whether a variable has no value.
+/// Whether a variable has no value.
 fn is_open(places: &[Option<usize>], var: u32) -> bool
     ensures { result ≡ true → IsUnplaced places.now var }
 {
@@ -49,10 +49,9 @@ pub(crate) fn first_open(places: &[Option<usize>]) -> Option<u32>
     ensures { NextIs places.now result }
 {
     for var in 1..places.len() {
-        match places[var] {
-            None => return Some(var as u32),
-            Some(_) => {}
-        }
+        let Some(_place) = places[var] else {
+            return Some(var as u32);
+        };
     }
     None
 }
@@ -85,10 +84,9 @@ impl Order {
 
     /// The value that a variable last had; false at first.
     pub(crate) fn value(&self, var: u32) -> bool {
-        match self.standings.get(var as usize) {
-            Some(standing) => standing.positive,
-            None => false,
-        }
+        self.standings
+            .get(var as usize)
+            .is_some_and(|standing| standing.positive)
     }
 
     /// An open variable, the most active one of the heap; none where all variables have values.
@@ -97,13 +95,10 @@ impl Order {
         ensures { NextIs places.now result }
     {
         for _entry in 0..self.count {
-            match self.pop() {
-                Some(var) => {
-                    if is_open(places, var) {
-                        return Some(var);
-                    }
-                }
-                None => {}
+            if let Some(var) = self.pop()
+                && is_open(places, var)
+            {
+                return Some(var);
             }
         }
         first_open(places)
@@ -140,15 +135,13 @@ impl Order {
     }
 
     fn scale_down(&mut self) {
-        for at in 0..self.standings.len() {
-            if let Some(standing) = self.standings.get_mut(at) {
-                standing.activity /= SCALE;
-            }
+        for standing in self.standings.iter_mut() {
+            standing.activity /= SCALE;
         }
         self.step /= SCALE;
     }
 
-    // Adds a variable to the heap.
+    /// Adds a variable to the heap.
     fn push(&mut self, var: u32) {
         if self.count < self.heap.len() {
             let place = self.count;
@@ -158,7 +151,7 @@ impl Order {
         }
     }
 
-    // Takes the most active variable out of the heap.
+    /// Takes the most active variable out of the heap.
     fn pop(&mut self) -> Option<u32> {
         if self.count == 0 {
             return None;
@@ -173,7 +166,7 @@ impl Order {
         Some(var)
     }
 
-    // Moves a variable up the heap, past those that are less active.
+    /// Moves a variable up the heap, past those that are less active.
     fn sift_up(&mut self, from: usize) {
         let mut place = from;
         while place > 0 {
@@ -186,7 +179,7 @@ impl Order {
         }
     }
 
-    // Moves the first variable down the heap, past those that are more active.
+    /// Moves the first variable down the heap, past those that are more active.
     fn sift_down(&mut self) {
         let len = self.count.min(self.heap.len());
         let mut place = 0usize;
@@ -202,7 +195,7 @@ impl Order {
         }
     }
 
-    // The more active of the places from `left` on that have one parent.
+    /// The more active of the places from `left` on that have one parent.
     fn better_child(&self, left: usize, len: usize) -> usize
         requires { left < len }
         ensures from { left ≤ result }
@@ -233,18 +226,17 @@ impl Order {
         }
     }
 
-    // Whether the variable at one place of the heap is more active than that at another.
+    /// Whether the variable at one place of the heap is more active than that at another.
     fn is_before(&self, a: usize, b: usize) -> bool {
         self.activity_at(a) > self.activity_at(b)
     }
 
     fn activity_at(&self, place: usize) -> u64 {
-        match self.heap.get(place) {
-            Some(var) => match self.standings.get(*var as usize) {
-                Some(standing) => standing.activity,
-                None => 0,
-            },
-            None => 0,
-        }
+        self.standing_at(place)
+            .map_or(0, |standing| standing.activity)
+    }
+
+    fn standing_at(&self, place: usize) -> Option<&Standing> {
+        self.standings.get(*self.heap.get(place)? as usize)
     }
 }

@@ -42,6 +42,7 @@ fn outcome_of(alloc: Global, cnf: &Cnf, budget: u32) -> Result<Outcome, NoMemory
 /// A budget of 0 asks for unit propagation alone, without search.
 ///
 /// # Errors
+///
 /// `NoMemory` where memory is refused.
 pub fn solve(alloc: Global, cnf: &Cnf, budget: u32) -> Result<Outcome, NoMemory>
     requires range { IsInRange cnf.now }

@@ -33,7 +33,7 @@ pub(crate) fn clear_slate(alloc: Global, len: usize) -> Result<Vec<bool>, NoMemo
     Ok(vec![in alloc; false; len]?)
 }
 
-// Clears the mark of a variable.
+/// Clears the mark of a variable.
 fn wipe_one(slate: &mut Vec<bool>, var: u32)
     ensures { (v : ℕ) → IsSeen slate.new.items v → IsSeen slate.old.items v × (v ≢ var) }
 {
@@ -42,7 +42,7 @@ fn wipe_one(slate: &mut Vec<bool>, var: u32)
     }
 }
 
-// Clears the marks of the variables.
+/// Clears the marks of the variables.
 fn wipe(slate: &mut Vec<bool>, met: &[u32])
     requires { AllMet slate.old.items met.now }
     ensures { AllClear slate.new.items }

@@ -18,9 +18,9 @@ use crate::look::{Found, Two, literals_at, seek, two_of};
 use crate::order::{Order, first_open};
 use crate::restart::Restarts;
 use crate::slate::Slate;
-use crate::trail::{Entry, Truth, cut, lit_at, negate, put, truth_of, value_at};
+use crate::trail::{Entry, cut, lit_at, put, truth_of, value_at};
 use crate::watch::{Pair, close_gap, code, other_of, push_index, put_list, take_list};
-use cnf_form::{Clause, Cnf, Lit, Step};
+use cnf_form::{Clause, Cnf, Lit, Step, Truth};
 use cqa_value::{Items, NoMemory};
 use std::alloc::Global;
 
@@ -35,38 +35,14 @@ pub enum Visit {
     Conflict,
 }
 
-// A copy of literals.
-fn copy_lits(alloc: Global, lits: &Vec<Lit>) -> Result<Vec<Lit>, NoMemory>
-    ensures { IfOk result (λ v. v.items ≡ lits.now.items) }
-{
-    let mut copy = Vec::new(alloc);
-    copy.extend_from_slice(lits.as_slice())?;
-    Ok(copy)
-}
-
-// A copy of clauses.
-fn copy_clauses(alloc: Global, clauses: &[Clause]) -> Result<Vec<Clause>, NoMemory>
-    ensures { IfOk result (λ v. literals v.items ≡ literals clauses.now) }
-{
-    let mut copy = Vec::new(alloc);
-    for clause in clauses {
-        copy.push(clause.copy(alloc)?)?;
-    }
-    Ok(copy)
-}
-
-// Places of variables, none of which has a value.
+/// Places of variables, none of which has a value.
 fn no_places(alloc: Global, len: usize) -> Result<Vec<Option<usize>>, NoMemory>
     ensures { IfOk result (λ v. v.items ≡ replicate len None) }
 {
-    let mut places = Vec::new(alloc);
-    for _var in 0..len {
-        places.push(None)?;
-    }
-    Ok(places)
+    Ok(vec![in alloc; None; len]?)
 }
 
-// Lists of clauses for the literals of so many variables, all empty.
+/// Lists of clauses for the literals of so many variables, all empty.
 fn no_lists(alloc: Global, vars: usize) -> Result<Vec<Items<usize>>, NoMemory>
     ensures { IfOk result (λ v. AreLists v.items vars 0) }
 {
@@ -78,7 +54,7 @@ fn no_lists(alloc: Global, vars: usize) -> Result<Vec<Items<usize>>, NoMemory>
     Ok(lists)
 }
 
-// The step that adds a clause.
+/// The step that adds a clause.
 fn step_of(id: u64, lits: Vec<Lit>, hints: Vec<i64>) -> Step
     ensures { Adds result id lits.items hints.items }
 {
@@ -109,7 +85,7 @@ pub(crate) struct Solver {
 }
 
 impl Solver {
-    // A solver of a formula's clauses, before any literal is true.
+    /// A solver of a formula's clauses, before any literal is true.
     pub(crate) fn new(alloc: Global, cnf: &Cnf) -> Result<Solver, NoMemory>
         requires range { AreAllInRange (literals cnf.now.clauses) (cnf.now.vars + 1) }
         requires low { (c : List Lit) → Contains (literals cnf.now.clauses) c → AllLow c }
@@ -119,7 +95,7 @@ impl Solver {
         ensures small { IfOk result (λ s. length s.places.items ≤ 2 ^ 32) }
     {
         Ok(Solver {
-            clauses: copy_clauses(alloc, cnf.clauses.as_slice())?,
+            clauses: cnf.copy(alloc)?.clauses.into_vec(),
             trail: Vec::new(alloc),
             places: no_places(alloc, cnf.vars as usize + 1)?,
             starts: Vec::new(alloc),
@@ -132,7 +108,7 @@ impl Solver {
         })
     }
 
-    // The value of a variable on the trail.
+    /// The value of a variable on the trail.
     fn value_of(&self, var: u32) -> bool
         requires sound { IsSound self.now }
         requires range { var < length self.now.places.items }
@@ -141,7 +117,7 @@ impl Solver {
         value_at(self.trail.as_slice(), self.places.as_slice(), var)
     }
 
-    // The values of the variables from 1 on.
+    /// The values of the variables from 1 on.
     pub(crate) fn values(&self, alloc: Global) -> Result<Vec<bool>, NoMemory>
         requires sound { IsSound self.now }
         requires some { 1 ≤ length self.now.places.items }
@@ -156,7 +132,7 @@ impl Solver {
         Ok(values)
     }
 
-    // Puts on the trail what a clause forces.
+    /// Puts on the trail what a clause forces.
     fn force(&mut self, index: usize, lit: Lit) -> Result<(), NoMemory>
         requires sound { IsSound self.old }
         requires forced { IsForcedIn (literals self.old.clauses.items) (held self.old.trail.items) index lit }
@@ -172,7 +148,7 @@ impl Solver {
         Ok(())
     }
 
-    // What the clause at an index comes to that watches a false literal and another one.
+    /// What the clause at an index comes to that watches a false literal and another one.
     fn seek(&self, index: usize, other: Lit) -> Found
         requires sound { IsSound self.now }
         requires inside { (c : List Lit) × At (literals self.now.clauses.items) index c × Contains c other }
@@ -186,7 +162,7 @@ impl Solver {
         )
     }
 
-    // Visits a clause of the list of a literal that has become false.
+    /// Visits a clause of the list of a literal that has become false.
     fn visit(&mut self, index: usize, lit: Lit) -> Result<Visit, NoMemory>
         requires { (kept : List ℕ) × (rest : List ℕ) × IsLookingAt self.old lit kept (index ∷ rest) }
         ensures stays { Stays self.old self.new }
@@ -214,7 +190,7 @@ impl Solver {
         }
     }
 
-    // Visits the clauses that watch a literal which has become false, up to one whose literals all are.
+    /// Visits the clauses that watch a literal which has become false, up to one whose literals all are.
     fn look_through(&mut self, alloc: Global, lit: Lit) -> Result<Option<usize>, NoMemory>
         requires ready { IsReady self.old }
         requires next { At (held self.old.trail.items) self.old.head (opposite lit) }
@@ -245,7 +221,7 @@ impl Solver {
         Ok(None)
     }
 
-    // Puts on the trail what the clauses force, until nothing more is forced or a clause is false.
+    /// Puts on the trail what the clauses force, until nothing more is forced or a clause is false.
     fn propagate(&mut self, alloc: Global) -> Result<Option<usize>, NoMemory>
         requires { IsReady self.old }
         ensures ready { OnOk result (IsReady self.new) }
@@ -256,7 +232,7 @@ impl Solver {
         ensures conflict { IfOk result (λ r. ConflictIs self.new r) }
     {
         while self.head < self.trail.len() {
-            let lit = negate(lit_at(self.trail.as_slice(), self.head));
+            let lit = lit_at(self.trail.as_slice(), self.head).opposite();
             match self.look_through(alloc, lit)? {
                 None => self.head += 1,
                 Some(conflict) => return Ok(Some(conflict)),
@@ -265,7 +241,7 @@ impl Solver {
         Ok(None)
     }
 
-    // Has the next clause watch two of its literals.
+    /// Has the next clause watch two of its literals.
     fn attach(&mut self, first: Lit, second: Lit) -> Result<(), NoMemory>
         requires watchful { IsWatchful self.old }
         requires pair { CanWatch self.old (IsPairFor self.old first second) first second }
@@ -280,7 +256,7 @@ impl Solver {
         Ok(())
     }
 
-    // Passes over the next clause, which has a literal that is true below all levels.
+    /// Passes over the next clause, which has a literal that is true below all levels.
     fn attach_none(&mut self, lit: Lit) -> Result<(), NoMemory>
         requires watchful { IsWatchful self.old }
         requires base { CanWatch self.old (IsBase (held self.old.trail.items) self.old.starts.items) lit lit }
@@ -295,7 +271,7 @@ impl Solver {
         Ok(())
     }
 
-    // A variable with no value.
+    /// A variable with no value.
     fn open_var(&self) -> Option<u32>
         requires sound { IsSound self.now }
         requires small { length self.now.places.items ≤ 2 ^ 32 }
@@ -304,7 +280,7 @@ impl Solver {
         first_open(self.places.as_slice())
     }
 
-    // Starts a level by a decision.
+    /// Starts a level by a decision.
     fn decide(&mut self, var: u32) -> Result<(), NoMemory>
         requires ready { IsReady self.old }
         requires still { IsStill self.old }
@@ -331,7 +307,7 @@ impl Solver {
         Ok(())
     }
 
-    // Leaves all levels, where a restart is due.
+    /// Leaves all levels, where a restart is due.
     fn restart(&mut self)
         requires { IsReady self.old }
         ensures ready { IsReady self.new }
@@ -343,7 +319,7 @@ impl Solver {
         }
     }
 
-    // Decides until a clause is false, or every variable has a value.
+    /// Decides until a clause is false, or every variable has a value.
     fn search(&mut self, alloc: Global) -> Result<Option<usize>, NoMemory>
         requires ready { IsReady self.old }
         requires small { length self.old.places.items ≤ 2 ^ 32 }
@@ -364,7 +340,7 @@ impl Solver {
         }
     }
 
-    // Leaves the last level.
+    /// Leaves the last level.
     fn leave(&mut self)
         requires ready { IsReady self.old }
         requires level { 0 < length self.old.starts.items }
@@ -379,7 +355,7 @@ impl Solver {
         }
     }
 
-    // Leaves the levels that start at `end` or later.
+    /// Leaves the levels that start at `end` or later.
     fn back_to(&mut self, end: usize)
         requires ready { IsReady self.old }
         ensures ready { IsReady self.new }
@@ -394,7 +370,7 @@ impl Solver {
         }
     }
 
-    // Adds a learnt clause, and puts on the trail what it forces.
+    /// Adds a learnt clause, and puts on the trail what it forces.
     fn add_learnt(&mut self, lits: Vec<Lit>, asserted: Lit, end: usize) -> Result<(), NoMemory>
         requires ready { IsReady self.old }
         requires range { AllInRange lits.items (length self.old.places.items) }
@@ -415,13 +391,13 @@ impl Solver {
         if end == 0 {
             self.attach_none(asserted)?;
         } else {
-            let deepest = negate(lit_at(self.trail.as_slice(), end - 1));
+            let deepest = lit_at(self.trail.as_slice(), end - 1).opposite();
             self.attach(asserted, deepest)?;
         }
         Ok(())
     }
 
-    // What is learnt from a conflict above level 0, by marks on a clear slate.
+    /// What is learnt from a conflict above level 0, by marks on a clear slate.
     fn study(&self, alloc: Global, conflict: usize, slate: Vec<bool>) -> Result<Lesson, NoMemory>
         requires sound { IsSound self.now }
         requires conflict { IsConflict self.now conflict }
@@ -443,7 +419,7 @@ impl Solver {
         )
     }
 
-    // Learns from a conflict above level 0, and jumps back.
+    /// Learns from a conflict above level 0, and jumps back.
     fn learn(&mut self, alloc: Global, conflict: usize) -> Result<Step, NoMemory>
         requires ready { IsReady self.old }
         requires conflict { IsConflict self.old conflict }
@@ -458,14 +434,14 @@ impl Solver {
         self.order.raise(lesson.met.as_slice());
         self.slate.put_back(lesson.seen, lesson.met.as_slice());
         let id = self.clauses.len() as u64 + 1;
-        let lits = copy_lits(alloc, &lesson.lits)?;
+        let lits = Vec::from_slice(alloc, lesson.lits.as_slice())?;
         self.leave();
         self.back_to(lesson.end);
         self.add_learnt(lits, lesson.asserted, lesson.end)?;
         Ok(step_of(id, lesson.lits, lesson.hints))
     }
 
-    // The step that adds the empty clause.
+    /// The step that adds the empty clause.
     fn end(&self, alloc: Global, conflict: usize) -> Result<Step, NoMemory>
         requires sound { IsSound self.now }
         requires conflict { IsConflict self.now conflict }
@@ -483,7 +459,7 @@ impl Solver {
         Ok(step_of(id, Vec::new(alloc), hints))
     }
 
-    // Has the next clause watch two of its literals; one of one literal forces it. Gives the clause where it is false.
+    /// Has the next clause watch two of its literals; one of one literal forces it. Gives the clause where it is false.
     fn attach_next(&mut self) -> Result<Option<usize>, NoMemory>
         requires watchful { IsWatchful self.old }
         requires some { length self.old.pairs.items < length self.old.clauses.items }
@@ -513,7 +489,7 @@ impl Solver {
         }
     }
 
-    // The same for all clauses.
+    /// Has all clauses watch their literals, up to one that is false. Gives that clause.
     fn attach_all(&mut self) -> Result<Option<usize>, NoMemory>
         requires { IsUnattached self.old }
         ensures watchful { OnOk result (IsWatchful self.new) }
@@ -523,15 +499,14 @@ impl Solver {
         ensures conflict { IfOk result (λ r. MatchOption r (length self.new.pairs.items ≡ length self.new.clauses.items) (λ k. IsConflict self.new k)) }
     {
         for _index in 0..self.clauses.len() {
-            match self.attach_next()? {
-                None => {}
-                Some(conflict) => return Ok(Some(conflict)),
+            if let Some(conflict) = self.attach_next()? {
+                return Ok(Some(conflict));
             }
         }
         Ok(None)
     }
 
-    // Searches, and learns from each conflict, until the answer is known or the budget is used up.
+    /// Searches, and learns from each conflict, until the answer is known or the budget is used up.
     fn search_and_learn(
         &mut self,
         alloc: Global,
@@ -568,7 +543,7 @@ impl Solver {
         }
     }
 
-    // Has all clauses watch their literals, and searches.
+    /// Has all clauses watch their literals, and searches.
     pub(crate) fn run(
         &mut self,
         alloc: Global,

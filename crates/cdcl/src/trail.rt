@@ -2,13 +2,13 @@
 
 ghost use Rattle.cnf_form.specs.Literals.{HasVar};
 ghost use Rattle.std.specs.Prelude.{◌≡◌, ◌<◌, ◌≤◌, ◌+◌, ◌≢◌, length, Contains, OnOk, true, false, take, ◌++◌, ◌∷◌, [], ◌-◌};
-ghost use Rattle.cnf_form.specs.Literals.{Denied, AllDenied, literals, opposite};
+ghost use Rattle.cnf_form.specs.Literals.{Denied, AllDenied};
 ghost use Rattle.cdcl.specs.Settled.{IsOpen};
 ghost use Rattle.cdcl.specs.Trail.{At, held, ArePlaces, ValueIs, AllInRange};
 ghost use Rattle.cdcl.specs.Analysis.{EndIs, AfterIs};
 
 use crate::order::Order;
-use cnf_form::Lit;
+use cnf_form::{Lit, Truth};
 use cqa_value::NoMemory;
 
 /// A literal on the trail, with the clause that forced it.
@@ -19,13 +19,6 @@ pub struct Entry {
 }
 
 /// What the trail says of a literal.
-#[derive(Clone, Copy, PartialEq, Eq)]
-pub enum Truth {
-    True,
-    False,
-    Open,
-}
-
 pub(crate) fn truth_of(trail: &[Entry], places: &[Option<usize>], lit: Lit) -> Truth
     requires places { ArePlaces (held trail.now) places.now }
     requires range { lit.var < length places.now }
@@ -57,13 +50,6 @@ pub(crate) fn value_at(trail: &[Entry], places: &[Option<usize>], var: u32) -> b
     }
 }
 
-pub(crate) fn same_lit(a: Lit, b: Lit) -> bool
-    ensures yes { result ≡ true → a ≡ b }
-    ensures no { result ≡ false → a ≢ b }
-{
-    a.var == b.var && a.positive == b.positive
-}
-
 pub(crate) fn lit_at(trail: &[Entry], at: usize) -> Lit
     requires { at < length trail.now }
     ensures { At (held trail.now) at result }
@@ -71,16 +57,7 @@ pub(crate) fn lit_at(trail: &[Entry], at: usize) -> Lit
     trail[at].lit
 }
 
-pub(crate) fn negate(lit: Lit) -> Lit
-    ensures { result ≡ opposite lit }
-{
-    Lit {
-        var: lit.var,
-        positive: !lit.positive,
-    }
-}
-
-// How much of the trail denies the literals.
+/// How much of the trail denies the literals.
 pub(crate) fn end_of(trail: &[Entry], places: &[Option<usize>], lits: &[Lit]) -> usize
     requires places { ArePlaces (held trail.now) places.now }
     requires range { AllInRange lits.now (length places.now) }
@@ -94,7 +71,7 @@ pub(crate) fn end_of(trail: &[Entry], places: &[Option<usize>], lits: &[Lit]) ->
     end
 }
 
-// One more than the place of a variable that is on the trail.
+/// One more than the place of a variable that is on the trail.
 pub(crate) fn place_after(trail: &[Entry], places: &[Option<usize>], var: u32) -> usize
     requires places { ArePlaces (held trail.now) places.now }
     requires range { var < length places.now }
@@ -107,7 +84,7 @@ pub(crate) fn place_after(trail: &[Entry], places: &[Option<usize>], var: u32) -
     }
 }
 
-// Puts an open literal on the trail.
+/// Puts an open literal on the trail.
 pub(crate) fn put(
     trail: &mut Vec<Entry>,
     places: &mut Vec<Option<usize>>,
@@ -126,7 +103,7 @@ pub(crate) fn put(
     Ok(())
 }
 
-// Takes the last literal off the trail; its variable may be decided again.
+/// Takes the last literal off the trail; its variable may be decided again.
 pub(crate) fn take_off(trail: &mut Vec<Entry>, places: &mut Vec<Option<usize>>, order: &mut Order)
     requires places { ArePlaces (held trail.old.items) places.old.items }
     requires range { AllInRange (held trail.old.items) (length places.old.items) }
@@ -141,7 +118,7 @@ pub(crate) fn take_off(trail: &mut Vec<Entry>, places: &mut Vec<Option<usize>>, 
     }
 }
 
-// Cuts the trail down to a length.
+/// Cuts the trail down to a length.
 pub(crate) fn cut(
     trail: &mut Vec<Entry>,
     places: &mut Vec<Option<usize>>,

@@ -3,7 +3,6 @@
 ghost use Rattle.std.specs.Prelude.{◌≡◌, ◌<◌, [], length, MatchOption, OnOk, slice_index_or, slice_set, take, drop, ◌≤◌, ◌++◌};
 ghost use Rattle.cdcl.specs.Watching.{HasWatch, IsPairOf, code_of, listed_at};
 
-use crate::trail::same_lit;
 use cnf_form::Lit;
 use cqa_value::{Items, NoMemory};
 use std::alloc::Global;
@@ -28,9 +27,9 @@ pub(crate) fn code(lit: Lit) -> usize
 pub(crate) fn other_of(pair: Pair, lit: Lit) -> Option<Lit>
     ensures { MatchOption result (HasWatch pair lit → ⊥) (λ other. IsPairOf pair lit other) }
 {
-    if same_lit(pair.first, lit) {
+    if pair.first == lit {
         Some(pair.second)
-    } else if same_lit(pair.second, lit) {
+    } else if pair.second == lit {
         Some(pair.first)
     } else {
         None

@@ -45,7 +45,7 @@ returns-clause-lesson c =
       | then-loop-at-test+else-not-is_last w ↦ w.is_last.ensures w.if-not-is_last.false c.args.start c.loop-at.invariant.after c.loop-at.invariant.few
       | else-loop-at-test w ↦ λ p l g h b s. omega (arith, w.loop-at-test.false)
     ] in
-    rw (c.in_ok-push_lit.ensures, c.negate-asserted.ensures, c.reverse.ensures.items)
+    rw (c.in_ok-push_lit.ensures, c.opposite-asserted.ensures, c.reverse.ensures.items)
     (lesson db t c.args.places.now c.args.start c.loop-at.marks.seen.items c.loop-at.marks.lower.items c.loop-at.at (reverse c.loop-at.hints.items) c.lit_at.result c.end_of-end.result
     c.requires.places c.loop-at.invariant.after c.lit_at.ensures c.loop-at.invariant.marks.marks none (subst (λ (xs : List Lit). EndIs t xs c.end_of-end.result) c.as_slice.ensures.value c.end_of-end.ensures) c.loop-at.invariant.works)
 

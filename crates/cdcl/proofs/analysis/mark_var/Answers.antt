@@ -14,7 +14,7 @@ returns-in_ok-push-2-clause-marks c =
     let v = c.args.var in
     let range : v < length m.seen.items = omega (arith, c.requires.len, c.requires.range) in
     record {
-      marks = rw (c.in_ok-push-2.ensures.items, c.negate.ensures)
+      marks = rw (c.in_ok-push-2.ensures.items, c.opposite.ensures)
           (marks_push (held c.args.trail.now) c.args.places.now c.args.start m.seen.items m.lower.items v c.in-Some.place _
           c.requires.places c.in-Some.is (held_at c.args.trail.now c.in-Some.place none (held_length c.args.trail.now _ (c.requires.places.right v c.in-Some.place c.in-Some.is).0))
           c.if-place-start.true range (read_false m.seen.items v _ c.index.ensures c.if-index.false) c.requires.marks.marks);

@@ -1,4 +1,4 @@
-use Rattle.std.proofs.Common.{take, List, get_or, sym, ◌∙◌, subst, refl, inl, inr, arith, false}
+use Rattle.std.proofs.Common.{◌≡◌, take, List, get_or, sym, ◌∙◌, subst, inl, inr, arith, false, rules}
 use Rattle.std.specs.Prelude.{Contains}
 use Rattle.std.proofs.lemmas.Grind.{take_at_read}
 use Rattle.std.proofs.lemmas.List.{take_all}
@@ -13,9 +13,10 @@ pub loop-lit-preserved : goal.loop-lit-preserved
 loop-lit-preserved c m i =
     let xs = c.args.clause.now in
     let k = c.loop-lit.lit-index in
+    let same : c.args.first ≡ get_or xs k none = search rules in
     elim (Contains-push_cases (take k xs) (get_or xs k none) m (subst (λ (ys : List Lit). Contains ys m) ((take_at_read xs k none c.loop-lit-test.true).1) i)) [
       | inl j ↦ c.loop-lit.invariant m j
-      | inr e ↦ sym e ∙ sym (c.if-not-same_lit.ensures.yes refl)
+      | inr e ↦ sym e ∙ sym same
     ]
 
 pub returns : goal.returns

@@ -71,6 +71,6 @@ attach-requires-clause-pair c =
     let s' = c.force.new.self in
     let x = c.lit_at.result in
     let at : At (held s'.trail.items) (c.args.end - 1) x = subst (λ (es : List Entry). At (held es) (c.args.end - 1) x) c.as_slice.ensures.value c.lit_at.ensures in
-    subst (λ (y : Lit). CanWatch s' (IsPairFor s' c.args.asserted y) c.args.asserted y) (sym c.negate-deepest.ensures)
+    subst (λ (y : Lit). CanWatch s' (IsPairFor s' c.args.asserted y) c.args.asserted y) (sym c.opposite-deepest.ensures)
     (learnt_pair c.args.self.now s' c.push.new.self lits c.args.asserted x c.args.end c.requires.ready.all more c.force.ensures.same c.in_ok-force.ensures.trail
     c.in_ok-force.ensures.sound c.requires.forced c.requires.below c.requires.last (λ e. absurd (omega (arith, e, c.if-end-eq0.false))) at)

@@ -1,4 +1,4 @@
-use Rattle.std.proofs.Common.{◌≡◌, ◌+◌, List, sym, subst, length, arith}
+use Rattle.std.proofs.Common.{◌≡◌, ◌+◌, ◌∙◌, List, sym, subst, length, arith}
 use Rattle.std.specs.Prelude.{Contains, take}
 use Rattle.cnf_form.specs.declared.formula.Lit.{Lit}
 use Rattle.cnf_form.specs.Literals.{literals}
@@ -13,23 +13,23 @@ use Rattle.cdcl.proofs.solver.Solver.learn.Goals as goal
 pub add_learnt-requires-clause-range : goal.add_learnt-requires-clause-range
 add_learnt-requires-clause-range c x i =
     let f = learn_facts c.args.self.now c.leave.new.self c.back_to.new.self c.in_ok-lesson.lesson c.requires.ready.watchful.sound c.in_ok-lesson.ensures.lesson c.leave.ensures.leave c.back_to.ensures.fewer c.back_to.ensures.kept in
-    let r = f.line.range x (subst (λ (xs : List Lit). Contains xs x) c.in_ok-lits.ensures i) in
+    let r = f.line.range x (subst (λ (xs : List Lit). Contains xs x) (c.in_ok-lits.ensures.items ∙ c.as_slice-3.ensures.value) i) in
     omega (arith, r, c.leave.ensures.len, c.back_to.ensures.len)
 
 pub add_learnt-requires-clause-low : goal.add_learnt-requires-clause-low
 add_learnt-requires-clause-low c =
     let f = learn_facts c.args.self.now c.leave.new.self c.back_to.new.self c.in_ok-lesson.lesson c.requires.ready.watchful.sound c.in_ok-lesson.ensures.lesson c.leave.ensures.leave c.back_to.ensures.fewer c.back_to.ensures.kept in
-    subst AllLow (sym c.in_ok-lits.ensures) f.line.low
+    subst AllLow (sym (c.in_ok-lits.ensures.items ∙ c.as_slice-3.ensures.value)) f.line.low
 
 pub add_learnt-requires-clause-forced : goal.add_learnt-requires-clause-forced
 add_learnt-requires-clause-forced c =
     let f = learn_facts c.args.self.now c.leave.new.self c.back_to.new.self c.in_ok-lesson.lesson c.requires.ready.watchful.sound c.in_ok-lesson.ensures.lesson c.leave.ensures.leave c.back_to.ensures.fewer c.back_to.ensures.kept in
-    subst (λ (xs : List Lit). IsForced (held c.back_to.new.self.trail.items) xs c.in_ok-lesson.lesson.asserted) (sym c.in_ok-lits.ensures) f.forced
+    subst (λ (xs : List Lit). IsForced (held c.back_to.new.self.trail.items) xs c.in_ok-lesson.lesson.asserted) (sym (c.in_ok-lits.ensures.items ∙ c.as_slice-3.ensures.value)) f.forced
 
 pub add_learnt-requires-clause-settled : goal.add_learnt-requires-clause-settled
 add_learnt-requires-clause-settled c s i =
     let f = learn_facts c.args.self.now c.leave.new.self c.back_to.new.self c.in_ok-lesson.lesson c.requires.ready.watchful.sound c.in_ok-lesson.ensures.lesson c.leave.ensures.leave c.back_to.ensures.fewer c.back_to.ensures.kept in
-    subst (λ (xs : List Lit). IsSettled (take s (held c.back_to.new.self.trail.items)) xs) (sym c.in_ok-lits.ensures) (f.settled s (c.back_to.ensures.below s i))
+    subst (λ (xs : List Lit). IsSettled (take s (held c.back_to.new.self.trail.items)) xs) (sym (c.in_ok-lits.ensures.items ∙ c.as_slice-3.ensures.value)) (f.settled s (c.back_to.ensures.below s i))
 
 pub returns-clause-line : goal.returns-clause-line
 returns-clause-line c =
@@ -42,4 +42,4 @@ pub add_learnt-requires-clause-last : goal.add_learnt-requires-clause-last
 add_learnt-requires-clause-last c k e =
     let made = c.in_ok-lesson.lesson in
     let m = lesson_last c.args.self.now c.leave.new.self c.back_to.new.self made c.requires.ready.watchful.sound c.in_ok-lesson.ensures.lesson c.leave.ensures.leave c.back_to.ensures.fewer c.back_to.ensures.kept k e in
-    (m.0, subst (λ (xs : List Lit). Contains xs m.0) (sym c.in_ok-lits.ensures) m.1, m.2)
+    (m.0, subst (λ (xs : List Lit). Contains xs m.0) (sym (c.in_ok-lits.ensures.items ∙ c.as_slice-3.ensures.value)) m.1, m.2)

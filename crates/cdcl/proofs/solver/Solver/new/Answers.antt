@@ -1,6 +1,7 @@
 use Rattle.std.proofs.Common.{◌≡◌, ◌+◌, ℕ, List, Option, None, length, subst, sym, ap, ◌∙◌, refl}
 use Rattle.std.specs.Prelude.{Contains}
 use Rattle.std.proofs.lemmas.List.{length-replicate}
+use Rattle.cnf_form.specs.declared.formula.Cnf.{Cnf}
 use Rattle.cnf_form.specs.declared.formula.Lit.{Lit}
 use Rattle.cnf_form.specs.Literals.{literals}
 use Rattle.cdcl.specs.Trail.{AllLow}
@@ -12,8 +13,8 @@ use Rattle.cdcl.proofs.solver.Solver.new.Goals as goal
 pub returns-clause-new : goal.returns-clause-new
 returns-clause-new c =
     let n = c.args.cnf.now.vars + 1 in
-    let db = literals c.in_ok-copy_clauses.field-0.items in
-    let same : literals c.args.cnf.now.clauses ≡ db = ap literals (sym c.as_slice.ensures) ∙ sym c.in_ok-copy_clauses.ensures in
+    let db = literals c.into_vec.result.items in
+    let same : literals c.args.cnf.now.clauses ≡ db = sym (ap literals (c.into_vec.ensures ∙ ap (λ (cnf : Cnf). cnf.clauses) c.in_ok-copy.ensures)) in
     let lists = c.in_ok-no_lists.field-0.items in
     let len : n ≡ length c.in_ok-no_places.field-0.items =
     sym (length-replicate n (let o : Option ℕ = None in o)) ∙ ap (λ (ps : List (Option ℕ)). length ps) (sym c.in_ok-no_places.ensures) in

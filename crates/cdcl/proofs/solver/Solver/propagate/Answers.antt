@@ -13,17 +13,17 @@ look_through-requires-clause-next c =
     let s = c.loop-self.self in
     let x = c.lit_at.result in
     let at : At (held s.trail.items) s.head x = subst (λ (es : List Entry). At (held es) s.head x) c.as_slice.ensures.value c.lit_at.ensures in
-    subst (λ (y : Lit). At (held s.trail.items) s.head y) (sym (opposite-opposite x) ∙ ap opposite (sym c.negate-lit.ensures)) at
+    subst (λ (y : Lit). At (held s.trail.items) s.head y) (sym (opposite-opposite x) ∙ ap opposite (sym c.opposite-lit.ensures)) at
 
 pub loop-self-preserved : goal.loop-self-preserved
 loop-self-preserved c =
     let s = c.loop-self.self in
     let s' = c.look_through.new.self in
     let x = c.lit_at.result in
-    let lit = c.negate-lit.result in
+    let lit = c.opposite-lit.result in
     let at : At (held s.trail.items) s.head x = subst (λ (es : List Entry). At (held es) s.head x) c.as_slice.ensures.value c.lit_at.ensures in
     let next : At (held s.trail.items) s.head (opposite lit) =
-    subst (λ (y : Lit). At (held s.trail.items) s.head y) (sym (opposite-opposite x) ∙ ap opposite (sym c.negate-lit.ensures)) at in
+    subst (λ (y : Lit). At (held s.trail.items) s.head y) (sym (opposite-opposite x) ∙ ap opposite (sym c.opposite-lit.ensures)) at in
     let stays = c.look_through.ensures.stays in
     let done = c.in_ok-look_through.ensures in
     let grows = done.grows in
