@@ -10,12 +10,12 @@ use Rattle.cdcl.proofs.SettledLemmas.{new_by_settled}
 use Rattle.cdcl.specs.declared.trail.Entry.{Entry}
 use Rattle.cdcl.specs.Trail.{held, AllInRange, AllLow}
 use Rattle.cdcl.specs.Looks.{IsForced}
-use Rattle.cdcl.specs.Analysis.{IsLesson}
+use Rattle.cdcl.specs.Analysis.{IsLearntClause}
 use Rattle.cnf_form.specs.Spent.{IsNew}
 use Rattle.cdcl.specs.State.{IsState, IsSound}
 use Rattle.cdcl.specs.declared.solver.Solver.{Solver}
-use Rattle.cdcl.specs.declared.analysis.Lesson.{Lesson}
-use Rattle.cdcl.specs.Visits.{IsPrefix, IsStudied, LeavesLevel}
+use Rattle.cdcl.specs.declared.analysis.LearntClause.{LearntClause}
+use Rattle.cdcl.specs.Visits.{IsPrefix, IsLearnt, LeavesLevel}
 use Rattle.cdcl.specs.Lines.{IsLine}
 use Rattle.cdcl.proofs.TrailLemmas.{settled_by_open}
 use Rattle.cdcl.proofs.Works.{At-get_or, At-same, At-take, At-in_take, At-contains, contains_taken}
@@ -23,18 +23,18 @@ use Rattle.cdcl.proofs.Places.{IsApart, apart_by_places, consistent}
 use Rattle.cdcl.proofs.States.{held_take, take_of_take, last_is}
 
 pub end_within : (db : List (List Lit)) (t : List Lit) (start : ℕ) (lits : List Lit) (hints : List ℤ) (a : Lit) (end : ℕ)
-    → IsApart t → IsLesson db t start lits hints a end → end ≤ start
-end_within db t start lits hints a zero apart lesson = omega arith
-end_within db t start lits hints a (suc k) apart lesson =
-    let m = lesson.ends.last k (omega arith) in
-    let d = lesson.below m.0 m.1 in
+    → IsApart t → IsLearntClause db t start lits hints a end → end ≤ start
+end_within db t start lits hints a zero apart learnt = omega arith
+end_within db t start lits hints a (suc k) apart learnt =
+    let m = learnt.ends.last k (omega arith) in
+    let d = learnt.below m.0 m.1 in
     let b : (d.0 < start) × At t d.0 (opposite m.0) = At-take start t d.0 (opposite m.0) (d.1, d.2) in
     let e : d.0 ≡ k = apart d.0 k (opposite m.0) (opposite m.0) b.1 m.2 refl in
     omega (arith, b.0, e)
 
 -- the cases of a literal of the clause
 lits_cases : (db : List (List Lit)) (t : List Lit) (start : ℕ) (lits : List Lit) (hints : List ℤ) (a : Lit) (end : ℕ)
-    → (w : IsLesson db t start lits hints a end) → (m : Lit) → Contains lits m → Contains w.lower m ⊎ (a ≡ m)
+    → (w : IsLearntClause db t start lits hints a end) → (m : Lit) → Contains lits m → Contains w.lower m ⊎ (a ≡ m)
 lits_cases db t start lits hints a end w m i =
     elim (Contains-push_cases w.lower (opposite w.uip) m (subst (λ (xs : List Lit). Contains xs m) w.shape i)) [
       | inl j ↦ inl j
@@ -42,35 +42,35 @@ lits_cases db t start lits hints a end w m i =
     ]
 
 lits_lower : (db : List (List Lit)) (t : List Lit) (start : ℕ) (lits : List Lit) (hints : List ℤ) (a : Lit) (end : ℕ)
-    → (w : IsLesson db t start lits hints a end) → (m : Lit) → Contains w.lower m → Contains lits m
+    → (w : IsLearntClause db t start lits hints a end) → (m : Lit) → Contains w.lower m → Contains lits m
 lits_lower db t start lits hints a end w m i =
     subst (λ (xs : List Lit). Contains xs m) (sym w.shape) (Contains-append_left w.lower (opposite w.uip ∷ []) m i)
 
 pub asserted_inside : (db : List (List Lit)) (t : List Lit) (start : ℕ) (lits : List Lit) (hints : List ℤ) (a : Lit) (end : ℕ)
-    → IsLesson db t start lits hints a end → Contains lits a
+    → IsLearntClause db t start lits hints a end → Contains lits a
 asserted_inside db t start lits hints a end w =
     subst (λ (x : Lit). Contains lits x) (sym w.asserts) (subst (λ (xs : List Lit). Contains xs (opposite w.uip)) (sym w.shape) (Contains-push w.lower (opposite w.uip)))
 
 -- a learnt clause is new
-pub lesson_new : (db : List (List Lit)) (t : List Lit) (start : ℕ) (lits : List Lit) (hints : List ℤ) (a : Lit) (end : ℕ)
-    → IsConsistent t → AllSettled (take start t) db → IsLesson db t start lits hints a end → IsNew db lits
-lesson_new db t start lits hints a end k settled w d i sub =
+pub learnt_new : (db : List (List Lit)) (t : List Lit) (start : ℕ) (lits : List Lit) (hints : List ℤ) (a : Lit) (end : ℕ)
+    → IsConsistent t → AllSettled (take start t) db → IsLearntClause db t start lits hints a end → IsNew db lits
+learnt_new db t start lits hints a end k settled w d i sub =
     new_by_settled (take start t) d lits a (settled d i) sub
     (λ m j n. elim (lits_cases db t start lits hints a end w m j) [ inl l ↦ w.below m l | inr e ↦ absurd (n (sym e)) ])
     (λ c. k w.uip (At-contains t w.place w.uip w.there) (contains_taken start t (opposite w.uip) (subst (λ (x : Lit). Contains (take start t) x) w.asserts c)))
 
 -- the literals are of the trail's variables
-pub lesson_range : (db : List (List Lit)) (t : List Lit) (start : ℕ) (lits : List Lit) (hints : List ℤ) (a : Lit) (end n : ℕ)
-    → AllInRange t n → IsLesson db t start lits hints a end → AllInRange lits n
-lesson_range db t start lits hints a end n range w m i = elim (lits_cases db t start lits hints a end w m i) [
+pub learnt_range : (db : List (List Lit)) (t : List Lit) (start : ℕ) (lits : List Lit) (hints : List ℤ) (a : Lit) (end n : ℕ)
+    → AllInRange t n → IsLearntClause db t start lits hints a end → AllInRange lits n
+learnt_range db t start lits hints a end n range w m i = elim (lits_cases db t start lits hints a end w m i) [
   | inl l ↦ range (opposite m) (contains_taken start t (opposite m) (w.below m l))
   | inr e ↦ let r = range w.uip (At-contains t w.place w.uip w.there) in
       let v : m.var ≡ w.uip.var = ap (λ (x : Lit). x.var) (sym e ∙ w.asserts) in omega (arith, r, v)
 ]
 
-pub lesson_low : (db : List (List Lit)) (t : List Lit) (start : ℕ) (lits : List Lit) (hints : List ℤ) (a : Lit) (end : ℕ)
-    → AllLow t → IsLesson db t start lits hints a end → AllLow lits
-lesson_low db t start lits hints a end low w m i = elim (lits_cases db t start lits hints a end w m i) [
+pub learnt_low : (db : List (List Lit)) (t : List Lit) (start : ℕ) (lits : List Lit) (hints : List ℤ) (a : Lit) (end : ℕ)
+    → AllLow t → IsLearntClause db t start lits hints a end → AllLow lits
+learnt_low db t start lits hints a end low w m i = elim (lits_cases db t start lits hints a end w m i) [
   | inl l ↦ low (opposite m) (contains_taken start t (opposite m) (w.below m l))
   | inr e ↦ let r = low w.uip (At-contains t w.place w.uip w.there) in
       let v : m.var ≡ w.uip.var = ap (λ (x : Lit). x.var) (sym e ∙ w.asserts) in omega (arith, r, v)
@@ -82,7 +82,7 @@ pub record IsLeft (t u : List Lit) (start end : ℕ) : Type 0 where
   pub kept : take end u ≡ take end t
 
 free_after : (db : List (List Lit)) (t u : List Lit) (start : ℕ) (lits : List Lit) (hints : List ℤ) (a : Lit) (end : ℕ)
-    → IsApart t → IsLeft t u start end → IsLesson db t start lits hints a end → IsOpen u a.var
+    → IsApart t → IsLeft t u start end → IsLearntClause db t start lits hints a end → IsOpen u a.var
 free_after db t u start lits hints a end apart left w h =
     let b = left.within h.1.0 h.0 (h.1.1, h.1.2) in
     let v : h.0.var ≡ w.uip.var = h.2 ∙ ap (λ (x : Lit). x.var) w.asserts in
@@ -90,7 +90,7 @@ free_after db t u start lits hints a end apart left w h =
     omega (arith, b.0, e, w.after)
 
 pub forced_after : (db : List (List Lit)) (t u : List Lit) (start : ℕ) (lits : List Lit) (hints : List ℤ) (a : Lit) (end : ℕ)
-    → IsApart t → IsLeft t u start end → IsLesson db t start lits hints a end → IsForced u lits a
+    → IsApart t → IsLeft t u start end → IsLearntClause db t start lits hints a end → IsForced u lits a
 forced_after db t u start lits hints a end apart left w = record {
   inside = asserted_inside db t start lits hints a end w;
   free = free_after db t u start lits hints a end apart left w;
@@ -104,7 +104,7 @@ open_taken : (s : ℕ) (u : List Lit) (v : ℕ) → IsOpen u v → IsOpen (take 
 open_taken s u v o h = o (h.0, contains_taken s u h.0 h.1, h.2)
 
 pub settled_after : (db : List (List Lit)) (t u : List Lit) (start : ℕ) (lits : List Lit) (hints : List ℤ) (a : Lit) (end s : ℕ)
-    → IsApart t → IsLeft t u start end → IsLesson db t start lits hints a end → s < end → IsSettled (take s u) lits
+    → IsApart t → IsLeft t u start end → IsLearntClause db t start lits hints a end → s < end → IsSettled (take s u) lits
 settled_after db t u start lits hints a zero s apart left w h = absurd (omega arith)
 settled_after db t u start lits hints a (suc k) s apart left w h =
     let m = w.ends.last k (omega arith) in
@@ -146,7 +146,7 @@ pub facts : (db : List (List Lit)) (trail0 trail1 trail2 : List Entry) (places :
     (lits : List Lit) (hints : List ℤ) (a : Lit)
     → IsState db trail0 places starts0 → starts0 ≡ starts1 ++ s ∷ [] → n ≡ length starts0 → start ≡ get_or starts0 (n - 1) start
     → trail1 ≡ take s trail0 → IsPrefix trail2 trail1 → take end (held trail2) ≡ take end (held trail1)
-    → IsLesson db (held trail0) start lits hints a end → Facts db (length places) (held trail2) end lits hints a
+    → IsLearntClause db (held trail0) start lits hints a end → Facts db (length places) (held trail2) end lits hints a
 facts db trail0 trail1 trail2 places starts0 starts1 start s end n lits hints a st split len at cut p kept w =
     let same : start ≡ s = last_is starts0 starts1 s n start split len at in
     let apart = apart_by_places (held trail0) places st.places_are in
@@ -159,45 +159,45 @@ facts db trail0 trail1 trail2 places starts0 starts1 start s end n lits hints a 
       settled = λ x h. settled_after db (held trail0) (held trail2) start lits hints a end x apart left w h;
       line = record {
         passes = w.passes;
-        fresh = lesson_new db (held trail0) start lits hints a end (consistent (held trail0) places st.places_are) (st.ended start last) w;
+        fresh = learnt_new db (held trail0) start lits hints a end (consistent (held trail0) places st.places_are) (st.ended start last) w;
         once = w.once;
         some = (a, asserted_inside db (held trail0) start lits hints a end w);
-        range = lesson_range db (held trail0) start lits hints a end (length places) st.held_in w;
-        low = lesson_low db (held trail0) start lits hints a end st.held_low w;
+        range = learnt_range db (held trail0) start lits hints a end (length places) st.held_in w;
+        low = learnt_low db (held trail0) start lits hints a end st.held_low w;
       };
     }
 
-pub learn_facts : (s0 s1 s2 : Solver) (lesson : Lesson) → IsSound s0 → IsStudied s0 lesson → LeavesLevel s0 s1 → IsPrefix s2.trail.items s1.trail.items
-    → take lesson.end (held s2.trail.items) ≡ take lesson.end (held s1.trail.items)
-    → Facts (literals s0.clauses.items) (length s0.places.items) (held s2.trail.items) lesson.end lesson.lits.items lesson.hints.items lesson.asserted
-learn_facts s0 s1 s2 lesson sound studied left p kept =
+pub learn_facts : (s0 s1 s2 : Solver) (learnt : LearntClause) → IsSound s0 → IsLearnt s0 learnt → LeavesLevel s0 s1 → IsPrefix s2.trail.items s1.trail.items
+    → take learnt.end (held s2.trail.items) ≡ take learnt.end (held s1.trail.items)
+    → Facts (literals s0.clauses.items) (length s0.places.items) (held s2.trail.items) learnt.end learnt.lits.items learnt.hints.items learnt.asserted
+learn_facts s0 s1 s2 learnt sound analyzed left p kept =
     facts (literals s0.clauses.items) s0.trail.items s1.trail.items s2.trail.items s0.places.items s0.starts.items s1.starts.items
-    studied.0 left.0 lesson.end (length s0.starts.items) lesson.lits.items lesson.hints.items lesson.asserted
-    sound left.1 refl (At-read s0.starts.items (length s0.starts.items - 1) studied.0 studied.1) left.2 p kept studied.2
+    analyzed.0 left.0 learnt.end (length s0.starts.items) learnt.lits.items learnt.hints.items learnt.asserted
+    sound left.1 refl (At-read s0.starts.items (length s0.starts.items - 1) analyzed.0 analyzed.1) left.2 p kept analyzed.2
   where
     At-read : (xs : List ℕ) (k x : ℕ) → At xs k x → x ≡ get_or xs k x
     At-read xs k x a = At-same xs k x (get_or xs k x) a (At-get_or xs k x a.0)
 
 -- the deepest of the other literals stays denied at its place
-pub lesson_last : (s0 s1 s2 : Solver) (lesson : Lesson) → IsSound s0 → IsStudied s0 lesson → LeavesLevel s0 s1 → IsPrefix s2.trail.items s1.trail.items
-    → take lesson.end (held s2.trail.items) ≡ take lesson.end (held s1.trail.items)
-    → (k : ℕ) → lesson.end ≡ k + 1 → (m : Lit) × Contains lesson.lits.items m × At (held s2.trail.items) k (opposite m)
-lesson_last s0 s1 s2 lesson sound studied left p kept k e =
-    let w = studied.2 in
+pub learnt_last : (s0 s1 s2 : Solver) (learnt : LearntClause) → IsSound s0 → IsLearnt s0 learnt → LeavesLevel s0 s1 → IsPrefix s2.trail.items s1.trail.items
+    → take learnt.end (held s2.trail.items) ≡ take learnt.end (held s1.trail.items)
+    → (k : ℕ) → learnt.end ≡ k + 1 → (m : Lit) × Contains learnt.lits.items m × At (held s2.trail.items) k (opposite m)
+learnt_last s0 s1 s2 learnt sound analyzed left p kept k e =
+    let w = analyzed.2 in
     let t = held s0.trail.items in
     let m = w.ends.last k e in
-    let inside = lits_lower (literals s0.clauses.items) t studied.0 lesson.lits.items lesson.hints.items lesson.asserted lesson.end w m.0 m.1 in
+    let inside = lits_lower (literals s0.clauses.items) t analyzed.0 learnt.lits.items learnt.hints.items learnt.asserted learnt.end w m.0 m.1 in
     let apart = apart_by_places t s0.places.items sound.places_are in
     let d = w.below m.0 m.1 in
-    let b : (d.0 < studied.0) × At t d.0 (opposite m.0) = At-take studied.0 t d.0 (opposite m.0) (d.1, d.2) in
+    let b : (d.0 < analyzed.0) × At t d.0 (opposite m.0) = At-take analyzed.0 t d.0 (opposite m.0) (d.1, d.2) in
     let q : d.0 ≡ k = apart d.0 k (opposite m.0) (opposite m.0) b.1 m.2 refl in
-    let f = last_is s0.starts.items s1.starts.items left.0 (length s0.starts.items) studied.0 left.1 refl (At-read s0.starts.items (length s0.starts.items - 1) studied.0 studied.1) in
+    let f = last_is s0.starts.items s1.starts.items left.0 (length s0.starts.items) analyzed.0 left.1 refl (At-read s0.starts.items (length s0.starts.items - 1) analyzed.0 analyzed.1) in
     let cut : held s1.trail.items ≡ take left.0 t = ap held left.2 ∙ held_take left.0 s0.trail.items in
     let in_one : At (held s1.trail.items) k (opposite m.0) =
     subst (λ (xs : List Lit). At xs k (opposite m.0)) (sym cut) (At-in_take left.0 t k (opposite m.0) (omega (arith, b.0, q, f)) m.2) in
-    let in_kept : At (take lesson.end (held s2.trail.items)) k (opposite m.0) =
-    subst (λ (xs : List Lit). At xs k (opposite m.0)) (sym kept) (At-in_take lesson.end (held s1.trail.items) k (opposite m.0) (omega (arith, e)) in_one) in
-    (m.0, inside, (At-take lesson.end (held s2.trail.items) k (opposite m.0) in_kept).1)
+    let in_kept : At (take learnt.end (held s2.trail.items)) k (opposite m.0) =
+    subst (λ (xs : List Lit). At xs k (opposite m.0)) (sym kept) (At-in_take learnt.end (held s1.trail.items) k (opposite m.0) (omega (arith, e)) in_one) in
+    (m.0, inside, (At-take learnt.end (held s2.trail.items) k (opposite m.0) in_kept).1)
   where
     At-read : (xs : List ℕ) (k x : ℕ) → At xs k x → x ≡ get_or xs k x
     At-read xs k x a = At-same xs k x (get_or xs k x) a (At-get_or xs k x a.0)

@@ -84,14 +84,14 @@ drop_cases (m ∷ ms) zero d w h j = cons_cases m ms w j
 drop_cases (m ∷ ms) (suc i) d w h j = drop_cases ms i d w (omega arith) j
 
 -- the marks of a list's variables are cleared, one after the other
-pub wiped_next : (seen seen' : List Bool) (met : List ℕ) (i d : ℕ) → i < length met → ((w : ℕ) → IsSeen seen' w → IsSeen seen w × (w ≢ get_or met i d))
+pub cleared_next : (seen seen' : List Bool) (met : List ℕ) (i d : ℕ) → i < length met → ((w : ℕ) → IsSeen seen' w → IsSeen seen w × (w ≢ get_or met i d))
     → AllMet seen (drop i met) → AllMet seen' (drop (i + 1) met)
-wiped_next seen seen' met i d h wipe m w s =
-    let r = wipe w s in
+cleared_next seen seen' met i d h clear m w s =
+    let r = clear w s in
     elim (drop_cases met i d w h (m w r.0)) [
       | inl e ↦ absurd (r.1 (sym e))
       | inr j ↦ subst (λ (n : ℕ). Contains (drop n met) w) (let e : suc i ≡ i + 1 = omega arith in e) j
     ]
 
-pub wiped_all : (seen : List Bool) (met : List ℕ) (i : ℕ) → length met ≤ i → AllMet seen (drop i met) → AllClear seen
-wiped_all seen met i h m v s = let j = m v s in let l = length-drop i met in omega (arith, j.1, l, h)
+pub cleared_all : (seen : List Bool) (met : List ℕ) (i : ℕ) → length met ≤ i → AllMet seen (drop i met) → AllClear seen
+cleared_all seen met i h m v s = let j = m v s in let l = length-drop i met in omega (arith, j.1, l, h)

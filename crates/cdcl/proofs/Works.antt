@@ -15,7 +15,7 @@ use Rattle.cnf_form.proofs.Lits.{nat_cases, opposite-opposite, cons_cases, conta
 use Rattle.cdcl.specs.declared.trail.Entry.{Entry}
 use Rattle.cdcl.specs.Trail.{held, ArePlaces}
 use Rattle.cnf_form.specs.Spent.{NoVarTwice}
-use Rattle.cdcl.specs.Analysis.{ChainPasses, AreMarks, Grow, IsLesson, AllSeen, NoneSeen, Works, EndIs, AfterIs}
+use Rattle.cdcl.specs.Analysis.{ChainPasses, AreMarks, Grow, IsLearntClause, AllSeen, NoneSeen, Works, EndIs, AfterIs}
 use Rattle.cdcl.specs.Marks.{IsSeen}
 use Rattle.cdcl.proofs.TrailLemmas.{At-map}
 use Rattle.std.proofs.Common.{set, get_or-set_other, get_or-set_same}
@@ -252,10 +252,10 @@ below_apart t places start place u lower are after at below h =
     let e : d.0 ≡ place = some_same _ _ (sym p ∙ q) in
     omega (arith, a.0)
 
-pub lesson : (db : List (List Lit)) (t : List Lit) (places : List (Option ℕ)) (start : ℕ) (seen : List Bool) (lower : List Lit) (place : ℕ) (hints : List ℤ) (u : Lit) (end : ℕ)
+pub learnt_clause : (db : List (List Lit)) (t : List Lit) (places : List (Option ℕ)) (start : ℕ) (seen : List Bool) (lower : List Lit) (place : ℕ) (hints : List ℤ) (u : Lit) (end : ℕ)
     → ArePlaces t places → start ≤ place → At t place u → AreMarks t start seen lower → NoneSeen t start place seen → EndIs t lower end
-    → Works db t start seen lower (place + 1) hints → IsLesson db t start (lower ++ opposite u ∷ []) hints (opposite u) end
-lesson db t places start seen lower place hints u end are after at marks none ends w = record {
+    → Works db t start seen lower (place + 1) hints → IsLearntClause db t start (lower ++ opposite u ∷ []) hints (opposite u) end
+learnt_clause db t places start seen lower place hints u end are after at marks none ends w = record {
   asserts = refl;
   ends = ends;
   place = place;

@@ -5,7 +5,7 @@ use Rattle.cnf_form.specs.declared.formula.Lit.{Lit}
 use Rattle.cnf_form.specs.Literals.{Denied, AllDenied, OthersDenied, IsUnit, opposite}
 use Rattle.cnf_form.specs.Spent.{NoVarTwice}
 use Rattle.cdcl.specs.declared.trail.Entry.{Entry}
-use Rattle.cdcl.specs.declared.analysis.Marks.{Marks}
+use Rattle.cdcl.specs.declared.analysis.SeenMarks.{SeenMarks}
 use Rattle.cdcl.specs.Trail.{held, AllInRange}
 use Rattle.cdcl.specs.Marks.{IsSeen, AllMet}
 
@@ -30,7 +30,7 @@ pub record AtMostSeen (t : List Lit) (start end : ℕ) (seen : List Bool) (count
   pub all : (p : ℕ) (l : Lit) → start ≤ p → p < end → At t p l → IsSeen seen l.var → Contains places p
 
 -- the marks of an analysis: all that are made are among those met
-pub record AreMarksOf (t : List Lit) (start : ℕ) (m : Marks) : Type 0 where
+pub record AreMarksOf (t : List Lit) (start : ℕ) (m : SeenMarks) : Type 0 where
   pub marks : AreMarks t start m.seen.items m.lower.items
   pub met : AllMet m.seen.items m.met.items
   pub few : m.left ≤ length m.met.items
@@ -80,7 +80,7 @@ ChainPasses db have' (hint ∷ hints) =
     (i : ℕ) × (hint ≡ pos (i + 1)) × (c : List Lit) × At db i c × (AllDenied have' c ⊎ ((l : Lit) × IsUnit have' c l × ChainPasses db (l ∷ have') hints))
 
 -- the clause that is learnt: one literal of the conflict's level, and the others denied before it
-pub record IsLesson (db : List (List Lit)) (t : List Lit) (start : ℕ) (lits : List Lit) (hints : List ℤ) (asserted : Lit) (end : ℕ) : Type 0 where
+pub record IsLearntClause (db : List (List Lit)) (t : List Lit) (start : ℕ) (lits : List Lit) (hints : List ℤ) (asserted : Lit) (end : ℕ) : Type 0 where
   pub place : ℕ
   pub uip : Lit
   pub lower : List Lit

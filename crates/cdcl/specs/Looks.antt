@@ -3,8 +3,8 @@ use Rattle.std.specs.Prelude.{◌≡◌, ◌≢◌, List, Contains}
 use Rattle.cnf_form.specs.declared.formula.Lit.{Lit}
 use Rattle.cnf_form.specs.Literals.{Denied, AllDenied, OthersDenied}
 use Rattle.cdcl.specs.Settled.{IsOpen}
-use Rattle.cdcl.specs.declared.look.Two.{Two}
-use Rattle.cdcl.specs.declared.look.Two.TheVariants.{None as NoLit, One, Both}
+use Rattle.cdcl.specs.declared.look.Watches.{Watches}
+use Rattle.cdcl.specs.declared.look.Watches.TheVariants.{None as NoLit, One, Two}
 use Rattle.cdcl.specs.declared.look.Found.{Found}
 use Rattle.cdcl.specs.declared.look.Found.TheVariants.{Holds, Free, Forces, AllFalse}
 
@@ -25,7 +25,7 @@ FoundIs t c other Forces = IsForced t c other
 FoundIs t c other AllFalse = AllDenied t c
 
 -- no literal, one, or two different ones
-abbrev pub TwoIs : List Lit → Two → Type 0
-TwoIs c NoLit = (m : Lit) → Contains c m → ⊥
-TwoIs c (One l) = Contains c l × ((m : Lit) → Contains c m → m ≡ l)
-TwoIs c (Both a b) = Contains c a × Contains c b × (a ≢ b)
+abbrev pub WatchesAre : List Lit → Watches → Type 0
+WatchesAre c NoLit = (m : Lit) → Contains c m → ⊥
+WatchesAre c (One l) = Contains c l × ((m : Lit) → Contains c m → m ≡ l)
+WatchesAre c (Two a b) = Contains c a × Contains c b × (a ≢ b)

@@ -5,11 +5,11 @@ use Rattle.std.specs.Prelude.{◌≡◌, ◌<◌, ◌≤◌, ◌-◌, ℕ, Bool,
 use Rattle.cnf_form.specs.declared.formula.Lit.{Lit}
 use Rattle.cnf_form.specs.Literals.{literals}
 use Rattle.cdcl.specs.Settled.{AllSettled, IsOpen}
-use Rattle.cdcl.specs.declared.analysis.Lesson.{Lesson}
+use Rattle.cdcl.specs.declared.analysis.LearntClause.{LearntClause}
 use Rattle.cdcl.specs.declared.solver.Solver.{Solver}
 use Rattle.cdcl.specs.declared.trail.Entry.{Entry}
 use Rattle.cdcl.specs.Trail.{held}
-use Rattle.cdcl.specs.Analysis.{IsFalse, IsLesson}
+use Rattle.cdcl.specs.Analysis.{IsFalse, IsLearntClause}
 
 abbrev pub IsConflict : Solver → ℕ → Type 0
 IsConflict s k = (k < length s.clauses.items) × IsFalse (held s.trail.items) (literals s.clauses.items) k
@@ -47,9 +47,9 @@ pub record IsModelled (db : List (List Lit)) (s : Solver) : Type 0 where
   pub holds : (c : List Lit) → Contains db c → (l : Lit) × Contains c l × Contains (held s.trail.items) l
 
 -- what is learnt from a conflict on the last level
-abbrev pub IsStudied : Solver → Lesson → Type 0
-IsStudied s lesson = (start : ℕ) × At s.starts.items (length s.starts.items - 1) start
-    × IsLesson (literals s.clauses.items) (held s.trail.items) start lesson.lits.items lesson.hints.items lesson.asserted lesson.end
+abbrev pub IsLearnt : Solver → LearntClause → Type 0
+IsLearnt s learnt = (start : ℕ) × At s.starts.items (length s.starts.items - 1) start
+    × IsLearntClause (literals s.clauses.items) (held s.trail.items) start learnt.lits.items learnt.hints.items learnt.asserted learnt.end
 
 -- the values of variables, from 1 on, make the literals true: those of variables below a number, and all
 abbrev pub AgreesBelow : ℕ → List Bool → List Lit → Type 0

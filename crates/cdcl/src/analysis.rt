@@ -5,11 +5,11 @@ ghost use Rattle.std.specs.Prelude.{◌≡◌, ◌<◌, ◌≤◌, ◌+◌, ◌�
 ghost use Rattle.cnf_form.specs.Literals.{literals};
 ghost use Rattle.cdcl.specs.Settled.{IsConsistent};
 ghost use Rattle.cdcl.specs.Trail.{held, ArePlaces, AllInRange};
-ghost use Rattle.cdcl.specs.Analysis.{AreMarksOf, AtMostSeen, Grow, IsLesson, AllSeen, NoneSeen, AreForcedAfter, AreAllInRange, Works, IsFalse, IsForcedAt, ChainPasses};
+ghost use Rattle.cdcl.specs.Analysis.{AreMarksOf, AtMostSeen, Grow, IsLearntClause, AllSeen, NoneSeen, AreForcedAfter, AreAllInRange, Works, IsFalse, IsForcedAt, ChainPasses};
 ghost use Rattle.cdcl.specs.Marks.{IsSeen, AllClear, AllMet};
 
 use crate::look::literals_at;
-use crate::slate::clear_slate;
+use crate::seen::all_clear;
 use crate::trail::{Entry, end_of, lit_at};
 use cnf_form::{Clause, Lit};
 use cqa_value::NoMemory;
@@ -17,7 +17,7 @@ use std::alloc::Global;
 
 /// What is learnt from a conflict: the literals of a clause, and its hints.
 #[derive(Drop)]
-pub struct Lesson {
+pub struct LearntClause {
     pub lits: Vec<Lit>,
     pub hints: Vec<i64>,
     /// The literal that the clause forces after the jump back.
@@ -31,7 +31,7 @@ pub struct Lesson {
 
 /// The variables that an analysis marks.
 #[derive(Drop)]
-pub struct Marks {
+pub struct SeenMarks {
     pub seen: Vec<bool>,
     /// Those that are marked.
     pub met: Vec<u32>,
@@ -41,14 +41,14 @@ pub struct Marks {
     pub left: usize,
 }
 
-/// No marks, on a slate that is clear.
-fn no_marks(alloc: Global, seen: Vec<bool>) -> Marks
+/// No variable is marked yet.
+fn no_marks(alloc: Global, seen: Vec<bool>) -> SeenMarks
     requires clear { AllClear seen.items }
     ensures marks { (t : List Lit) (start : ℕ) → AreMarksOf t start result }
     ensures open { (t : List Lit) (start end : ℕ) → AtMostSeen t start end result.seen.items result.left }
     ensures len { length result.seen.items ≡ length seen.items }
 {
-    Marks {
+    SeenMarks {
         seen,
         met: Vec::new(alloc),
         lower: Vec::new(alloc),
@@ -56,11 +56,12 @@ fn no_marks(alloc: Global, seen: Vec<bool>) -> Marks
     }
 }
 
+/// Marks a variable: one below the level gives its denied literal to `lower`, and another is counted.
 pub(crate) fn mark_var(
     trail: &[Entry],
     places: &[Option<usize>],
     start: usize,
-    marks: &mut Marks,
+    marks: &mut SeenMarks,
     var: u32,
 ) -> Result<(), NoMemory>
     requires places { ArePlaces (held trail.now) places.now }
@@ -87,11 +88,12 @@ pub(crate) fn mark_var(
     Ok(())
 }
 
+/// Marks the variables of a clause.
 pub(crate) fn mark_all(
     trail: &[Entry],
     places: &[Option<usize>],
     start: usize,
-    marks: &mut Marks,
+    marks: &mut SeenMarks,
     clause: &[Lit],
 ) -> Result<(), NoMemory>
     requires places { ArePlaces (held trail.now) places.now }
@@ -110,7 +112,7 @@ pub(crate) fn mark_all(
 }
 
 /// Whether the literal at a place is marked, and no other from `start` up to it is.
-pub(crate) fn is_last(trail: &[Entry], marks: &Marks, at: usize) -> bool
+pub(crate) fn is_last(trail: &[Entry], marks: &SeenMarks, at: usize) -> bool
     requires at { at < length trail.now }
     requires range { AllInRange (held trail.now) (length marks.now.seen.items) }
     ensures { result ≡ true → (start : ℕ) → start ≤ at → AtMostSeen (held trail.now) start (at + 1) marks.now.seen.items marks.now.left → NoneSeen (held trail.now) start at marks.now.seen.items }
@@ -141,7 +143,7 @@ pub(crate) fn resolve(
     places: &[Option<usize>],
     start: usize,
     at: usize,
-    marks: &mut Marks,
+    marks: &mut SeenMarks,
     hints: &mut Vec<i64>,
 ) -> Result<(), NoMemory>
     requires consistent { IsConsistent (held trail.now) }
@@ -173,7 +175,7 @@ pub(crate) fn resolve(
     Ok(())
 }
 
-/// Learns a clause from a conflict, a clause that the trail makes false. The slate is to be clear.
+/// Learns a clause from a conflict, a clause that the trail makes false. The marks are to be clear.
 pub(crate) fn analyze(
     alloc: Global,
     clauses: &[Clause],
@@ -181,8 +183,8 @@ pub(crate) fn analyze(
     places: &[Option<usize>],
     start: usize,
     conflict: usize,
-    slate: Vec<bool>,
-) -> Result<Lesson, NoMemory>
+    seen: Vec<bool>,
+) -> Result<LearntClause, NoMemory>
     requires consistent { IsConsistent (held trail.now) }
     requires places { ArePlaces (held trail.now) places.now }
     requires reasons { AreForcedAfter (literals clauses.now) trail.now start }
@@ -191,12 +193,12 @@ pub(crate) fn analyze(
     requires start { start < length trail.now }
     requires conflict { conflict < length clauses.now }
     requires empty { IsFalse (held trail.now) (literals clauses.now) conflict }
-    requires clear { AllClear slate.items }
-    requires len { length slate.items ≡ length places.now }
-    ensures lesson { IfOk result (λ lesson. IsLesson (literals clauses.now) (held trail.now) start lesson.lits.items lesson.hints.items lesson.asserted lesson.end) }
-    ensures met { IfOk result (λ lesson. AllMet lesson.seen.items lesson.met.items) }
+    requires clear { AllClear seen.items }
+    requires len { length seen.items ≡ length places.now }
+    ensures learnt { IfOk result (λ learnt. IsLearntClause (literals clauses.now) (held trail.now) start learnt.lits.items learnt.hints.items learnt.asserted learnt.end) }
+    ensures met { IfOk result (λ learnt. AllMet learnt.seen.items learnt.met.items) }
 {
-    let mut marks = no_marks(alloc, slate);
+    let mut marks = no_marks(alloc, seen);
     let mut hints = Vec::new(alloc);
     let clause = literals_at(clauses, conflict);
     mark_all(trail, places, start, &mut marks, clause)?;
@@ -210,7 +212,7 @@ pub(crate) fn analyze(
     let asserted = lit_at(trail, at).opposite();
     push_lit(&mut marks.lower, asserted)?;
     hints.reverse();
-    Ok(Lesson {
+    Ok(LearntClause {
         lits: marks.lower,
         hints,
         asserted,
@@ -237,7 +239,7 @@ pub(crate) fn refute(
     requires empty { IsFalse (held trail.now) (literals clauses.now) conflict }
     ensures { IfOk result (λ hints. ChainPasses (literals clauses.now) [] hints.items) }
 {
-    let mut marks = no_marks(alloc, clear_slate(alloc, places.len())?);
+    let mut marks = no_marks(alloc, all_clear(alloc, places.len())?);
     let mut hints = Vec::new(alloc);
     let clause = literals_at(clauses, conflict);
     mark_all(trail, places, 0, &mut marks, clause)?;

@@ -6,7 +6,7 @@ mod look;
 mod order;
 mod outcome;
 mod restart;
-mod slate;
+mod seen;
 mod solver;
 #[cfg(test)]
 mod tests;

@@ -4,7 +4,7 @@ ghost use Rattle.std.specs.Prelude.{◌≡◌, ◌<◌, ◌≤◌, ◌+◌, ◌�
 ghost use Rattle.cnf_form.specs.Literals.{Denied, OthersDenied, literals};
 ghost use Rattle.cdcl.specs.Settled.{IsConsistent};
 ghost use Rattle.cdcl.specs.Trail.{At, held, ArePlaces, AllInRange};
-ghost use Rattle.cdcl.specs.Looks.{FoundIs, IsFree, TwoIs};
+ghost use Rattle.cdcl.specs.Looks.{FoundIs, IsFree, WatchesAre};
 
 use crate::trail::{Entry, truth_of};
 use cnf_form::{Clause, Lit, Truth};
@@ -46,6 +46,7 @@ fn free_lit(trail: &[Entry], places: &[Option<usize>], clause: &[Lit], other: Li
     None
 }
 
+/// What the trail makes of a clause that watches a false literal and another one.
 #[tactic(auto, using(crate::proofs::TrailLemmas::all_denied))]
 pub(crate) fn seek(trail: &[Entry], places: &[Option<usize>], clause: &[Lit], other: Lit) -> Found
     requires consistent { IsConsistent (held trail.now) }
@@ -67,15 +68,15 @@ pub(crate) fn seek(trail: &[Entry], places: &[Option<usize>], clause: &[Lit], ot
     }
 }
 
-/// Up to two different literals of a clause.
+/// What a clause can watch: two different literals, or as many as it has.
 #[derive(Clone, Copy)]
-pub enum Two {
+pub enum Watches {
     None,
     One(Lit),
-    Both(Lit, Lit),
+    Two(Lit, Lit),
 }
 
-/// A literal of the clause that is another one.
+/// A literal of the clause that isn't the first.
 fn other_lit(clause: &[Lit], first: Lit) -> Option<Lit>
     ensures { MatchOption result ((m : Lit) → Contains clause.now m → m ≡ first) (λ lit. Contains clause.now lit × (first ≢ lit)) }
 {
@@ -87,19 +88,21 @@ fn other_lit(clause: &[Lit], first: Lit) -> Option<Lit>
     None
 }
 
-pub(crate) fn two_of(clause: &[Lit]) -> Two
-    ensures { TwoIs clause.now result }
+/// The literals that a clause can watch.
+pub(crate) fn watches_of(clause: &[Lit]) -> Watches
+    ensures { WatchesAre clause.now result }
 {
     if clause.is_empty() {
-        return Two::None;
+        return Watches::None;
     }
     let first = clause[0];
     match other_lit(clause, first) {
-        None => Two::One(first),
-        Some(second) => Two::Both(first, second),
+        None => Watches::One(first),
+        Some(second) => Watches::Two(first, second),
     }
 }
 
+/// The literals of the clause at an index.
 pub(crate) fn literals_at(clauses: &[Clause], index: usize) -> &[Lit]
     requires { index < length clauses.now }
     ensures { At (literals clauses.now) index result.now }

@@ -49,9 +49,9 @@ pub(crate) fn first_open(places: &[Option<usize>]) -> Option<u32>
     ensures { NextIs places.now result }
 {
     for var in 1..places.len() {
-        let Some(_place) = places[var] else {
+        if places[var].is_none() {
             return Some(var as u32);
-        };
+        }
     }
     None
 }

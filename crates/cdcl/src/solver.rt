@@ -10,14 +10,14 @@ ghost use Rattle.cdcl.specs.State.{IsSound};
 ghost use Rattle.cdcl.specs.Marks.{AllClear, AllMet};
 ghost use Rattle.cdcl.specs.Watching.{AreLists, IsBase};
 ghost use Rattle.cdcl.specs.Looking.{IsForcedIn, IsPut, IsSameBeside, IsSameAttached, Stays, IsGrown, FoundIsAt, IsLookingAt, VisitIs, LookedIs, IsReady, IsWatchful, IsUnattached, IsFirst, CanWatch, IsPairFor};
-ghost use Rattle.cdcl.specs.Visits.{ConflictIs, OpenVarIs, SearchIs, IsStill, LeavesLevel, IsPrefix, IsConflict, IsStudied, AgreesWith};
+ghost use Rattle.cdcl.specs.Visits.{ConflictIs, OpenVarIs, SearchIs, IsStill, LeavesLevel, IsPrefix, IsConflict, IsLearnt, AgreesWith};
 ghost use Rattle.cdcl.specs.Lines.{Adds, IsLineStep, IsLastStep, VerdictIs, added_lits};
 
-use crate::analysis::{Lesson, analyze, refute};
-use crate::look::{Found, Two, literals_at, seek, two_of};
+use crate::analysis::{LearntClause, analyze, refute};
+use crate::look::{Found, Watches, literals_at, seek, watches_of};
 use crate::order::{Order, first_open};
 use crate::restart::Restarts;
-use crate::slate::Slate;
+use crate::seen::SeenBuffer;
 use crate::trail::{Entry, cut, lit_at, put, truth_of, value_at};
 use crate::watch::{Pair, close_gap, code, other_of, push_index, put_list, take_list};
 use cnf_form::{Clause, Cnf, Lit, Step, Truth};
@@ -79,7 +79,7 @@ pub(crate) struct Solver {
     pairs: Vec<Pair>,
     /// The clauses that watch each literal.
     lists: Vec<Items<usize>>,
-    slate: Slate,
+    seen: SeenBuffer,
     order: Order,
     restarts: Restarts,
 }
@@ -102,7 +102,7 @@ impl Solver {
             head: 0,
             pairs: Vec::new(alloc),
             lists: no_lists(alloc, cnf.vars as usize + 1)?,
-            slate: Slate::new(alloc),
+            seen: SeenBuffer::new(alloc),
             order: Order::new(alloc, cnf.vars)?,
             restarts: Restarts::new(),
         })
@@ -397,15 +397,20 @@ impl Solver {
         Ok(())
     }
 
-    /// What is learnt from a conflict above level 0, by marks on a clear slate.
-    fn study(&self, alloc: Global, conflict: usize, slate: Vec<bool>) -> Result<Lesson, NoMemory>
+    /// What is learnt from a conflict above level 0, by marks that are clear.
+    fn analyze(
+        &self,
+        alloc: Global,
+        conflict: usize,
+        seen: Vec<bool>,
+    ) -> Result<LearntClause, NoMemory>
         requires sound { IsSound self.now }
         requires conflict { IsConflict self.now conflict }
         requires level { 0 < length self.now.starts.items }
-        requires clear { AllClear slate.items }
-        requires len { length slate.items ≡ length self.now.places.items }
-        ensures lesson { IfOk result (λ lesson. IsStudied self.now lesson) }
-        ensures met { IfOk result (λ lesson. AllMet lesson.seen.items lesson.met.items) }
+        requires clear { AllClear seen.items }
+        requires len { length seen.items ≡ length self.now.places.items }
+        ensures learnt { IfOk result (λ learnt. IsLearnt self.now learnt) }
+        ensures met { IfOk result (λ learnt. AllMet learnt.seen.items learnt.met.items) }
     {
         let start = self.starts[self.starts.len() - 1];
         analyze(
@@ -415,7 +420,7 @@ impl Solver {
             self.places.as_slice(),
             start,
             conflict,
-            slate,
+            seen,
         )
     }
 
@@ -429,16 +434,16 @@ impl Solver {
         ensures added { IfOk result (λ step. literals self.new.clauses.items ≡ literals self.old.clauses.items ++ added_lits step ∷ []) }
         ensures line { IfOk result (λ step. IsLineStep (literals self.old.clauses.items) (length self.old.places.items) step) }
     {
-        let slate = self.slate.take(alloc, self.places.len())?;
-        let lesson = self.study(alloc, conflict, slate)?;
-        self.order.raise(lesson.met.as_slice());
-        self.slate.put_back(lesson.seen, lesson.met.as_slice());
+        let seen = self.seen.take(alloc, self.places.len())?;
+        let learnt = self.analyze(alloc, conflict, seen)?;
+        self.order.raise(learnt.met.as_slice());
+        self.seen.put_back(learnt.seen, learnt.met.as_slice());
         let id = self.clauses.len() as u64 + 1;
-        let lits = Vec::from_slice(alloc, lesson.lits.as_slice())?;
+        let lits = Vec::from_slice(alloc, learnt.lits.as_slice())?;
         self.leave();
-        self.back_to(lesson.end);
-        self.add_learnt(lits, lesson.asserted, lesson.end)?;
-        Ok(step_of(id, lesson.lits, lesson.hints))
+        self.back_to(learnt.end);
+        self.add_learnt(lits, learnt.asserted, learnt.end)?;
+        Ok(step_of(id, learnt.lits, learnt.hints))
     }
 
     /// The step that adds the empty clause.
@@ -471,9 +476,9 @@ impl Solver {
         ensures conflict { IfOk result (λ r. MatchOption r (length self.new.pairs.items ≡ length self.old.pairs.items + 1) (λ k. IsConflict self.new k)) }
     {
         let index = self.pairs.len();
-        match two_of(literals_at(self.clauses.as_slice(), index)) {
-            Two::None => Ok(Some(index)),
-            Two::One(lit) => {
+        match watches_of(literals_at(self.clauses.as_slice(), index)) {
+            Watches::None => Ok(Some(index)),
+            Watches::One(lit) => {
                 match truth_of(self.trail.as_slice(), self.places.as_slice(), lit) {
                     Truth::True => {}
                     Truth::False => return Ok(Some(index)),
@@ -482,7 +487,7 @@ impl Solver {
                 self.attach_none(lit)?;
                 Ok(None)
             }
-            Two::Both(first, second) => {
+            Watches::Two(first, second) => {
                 self.attach(first, second)?;
                 Ok(None)
             }

@@ -50,6 +50,7 @@ pub(crate) fn value_at(trail: &[Entry], places: &[Option<usize>], var: u32) -> b
     }
 }
 
+/// The literal at a place of the trail.
 pub(crate) fn lit_at(trail: &[Entry], at: usize) -> Lit
     requires { at < length trail.now }
     ensures { At (held trail.now) at result }

@@ -6,7 +6,7 @@ use Rattle.cnf_form.specs.declared.formula.Lit.{Lit}
 use Rattle.cdcl.specs.declared.trail.Entry.{Entry}
 use Rattle.cdcl.specs.Trail.{held}
 use Rattle.cdcl.specs.Analysis.{Works, NoneSeen, EndIs}
-use Rattle.cdcl.proofs.Works.{At-contains, works_first, lesson, contains_taken}
+use Rattle.cdcl.proofs.Works.{At-contains, works_first, learnt_clause, contains_taken}
 use Rattle.cdcl.proofs.analysis.analyze.Goals as goal
 use Rattle.cdcl.proofs.analysis.analyze.Goals.{then-loop-at-test+else-not-is_last, else-loop-at-test}
 
@@ -36,8 +36,8 @@ loop-at-init c =
           (c.requires.empty _ c.literals_at-clause.ensures) c.in_ok-mark_all.ensures.marks.marks c.in_ok-mark_all.ensures.seen));
     }
 
-pub returns-clause-lesson : goal.returns-clause-lesson
-returns-clause-lesson c =
+pub returns-clause-learnt : goal.returns-clause-learnt
+returns-clause-learnt c =
     let db = literals c.args.clauses.now in
     let t = held c.args.trail.now in
     let none : NoneSeen t c.args.start c.loop-at.at c.loop-at.marks.seen.items =
@@ -46,7 +46,7 @@ returns-clause-lesson c =
       | else-loop-at-test w ↦ λ p l g h b s. omega (arith, w.loop-at-test.false)
     ] in
     rw (c.in_ok-push_lit.ensures, c.opposite-asserted.ensures, c.reverse.ensures.items)
-    (lesson db t c.args.places.now c.args.start c.loop-at.marks.seen.items c.loop-at.marks.lower.items c.loop-at.at (reverse c.loop-at.hints.items) c.lit_at.result c.end_of-end.result
+    (learnt_clause db t c.args.places.now c.args.start c.loop-at.marks.seen.items c.loop-at.marks.lower.items c.loop-at.at (reverse c.loop-at.hints.items) c.lit_at.result c.end_of-end.result
     c.requires.places c.loop-at.invariant.after c.lit_at.ensures c.loop-at.invariant.marks.marks none (subst (λ (xs : List Lit). EndIs t xs c.end_of-end.result) c.as_slice.ensures.value c.end_of-end.ensures) c.loop-at.invariant.works)
 
 pub end_of-end-requires-clause-range : goal.end_of-end-requires-clause-range

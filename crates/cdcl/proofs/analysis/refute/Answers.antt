@@ -20,7 +20,7 @@ loop-at-init c =
     let new = c.mark_all.new.marks.seen.items in
     record {
       within = omega arith;
-      same = c.in_ok-mark_all.ensures.grow.same ∙ c.no_marks-marks.ensures.len ∙ c.in_ok-clear_slate.ensures.len;
+      same = c.in_ok-mark_all.ensures.grow.same ∙ c.no_marks-marks.ensures.len ∙ c.in_ok-all_clear.ensures.len;
       marks = c.in_ok-mark_all.ensures.marks;
       few = c.in_ok-mark_all.ensures.open _ (c.no_marks-marks.ensures.open t 0 _);
       works =

@@ -1,9 +1,16 @@
-use Rattle.std.proofs.Common.{◌≡◌, ℕ, Some, None, inl, inr, sym, subst, arith, get_or}
+use Rattle.std.proofs.Common.{◌≡◌, ℕ, Option, Some, None, true, inl, inr, refl, sym, subst, arith, rules, get_or}
+use Rattle.std.specs.Option.{is_some}
 use Rattle.cnf_form.proofs.Lits.{nat_cases}
 use Rattle.cdcl.proofs.order.first_open.Goals as goal
 
+placed : (o : Option ℕ) → is_some o ≡ true → (p : ℕ) × (o ≡ Some p)
+placed (Some p) e = (p, refl)
+placed None e = search rules
+
 pub loop-var-preserved : goal.loop-var-preserved
-loop-var-preserved c v low k = elim (nat_cases v c.loop-var.var) [
-  | inl e ↦ (c.in-Some._place, subst (λ (n : ℕ). get_or c.args.places.now n None ≡ Some c.in-Some._place) (sym e) c.in-Some.is)
-  | inr ne ↦ c.loop-var.invariant v low (omega (arith, k, ne))
-]
+loop-var-preserved c v low k =
+    let here = placed (get_or c.args.places.now c.loop-var.var None) c.if-is_none.ensures in
+    elim (nat_cases v c.loop-var.var) [
+      | inl e ↦ (here.0, subst (λ (n : ℕ). get_or c.args.places.now n None ≡ Some here.0) (sym e) here.1)
+      | inr ne ↦ c.loop-var.invariant v low (omega (arith, k, ne))
+    ]

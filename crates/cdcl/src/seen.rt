@@ -1,4 +1,4 @@
-//! Marks for variables, which stay clear between analyses.
+//! The marks of the variables that an analysis has seen; they are clear between analyses.
 
 ghost use Rattle.std.specs.Prelude.{◌≡◌, ◌≢◌, ℕ, length, IfOk};
 ghost use Rattle.cdcl.specs.Marks.{IsSeen, AllClear, AllMet};
@@ -8,13 +8,13 @@ use std::alloc::Global;
 use std::marker::Model;
 use std::mem;
 
-/// A slate, taken out for each analysis, so that none costs the time or the memory to make one.
+/// Marks that are taken out for each analysis, so that none costs the time or the memory to make them.
 #[derive(Drop)]
-pub struct Slate {
+pub struct SeenBuffer {
     marks: Vec<bool>,
 }
 
-impl Model for Slate {
+impl Model for SeenBuffer {
     ghost use Rattle.std.specs.Prelude.{List, Bool};
     ghost use Rattle.cdcl.specs.Marks.{AllClear};
 
@@ -25,8 +25,8 @@ impl Model for Slate {
     ghost invariant = { λ s. AllClear s.marks.items };
 }
 
-/// A slate for so many variables.
-pub(crate) fn clear_slate(alloc: Global, len: usize) -> Result<Vec<bool>, NoMemory>
+/// Clear marks for so many variables.
+pub(crate) fn all_clear(alloc: Global, len: usize) -> Result<Vec<bool>, NoMemory>
     ensures clear { IfOk result (λ v. AllClear v.items) }
     ensures len { IfOk result (λ v. length v.items ≡ len) }
 {
@@ -34,27 +34,27 @@ pub(crate) fn clear_slate(alloc: Global, len: usize) -> Result<Vec<bool>, NoMemo
 }
 
 /// Clears the mark of a variable.
-fn wipe_one(slate: &mut Vec<bool>, var: u32)
-    ensures { (v : ℕ) → IsSeen slate.new.items v → IsSeen slate.old.items v × (v ≢ var) }
+fn clear_mark(seen: &mut Vec<bool>, var: u32)
+    ensures { (v : ℕ) → IsSeen seen.new.items v → IsSeen seen.old.items v × (v ≢ var) }
 {
-    if (var as usize) < slate.len() {
-        slate[var as usize] = false;
+    if (var as usize) < seen.len() {
+        seen[var as usize] = false;
     }
 }
 
 /// Clears the marks of the variables.
-fn wipe(slate: &mut Vec<bool>, met: &[u32])
-    requires { AllMet slate.old.items met.now }
-    ensures { AllClear slate.new.items }
+fn clear_marks(seen: &mut Vec<bool>, met: &[u32])
+    requires { AllMet seen.old.items met.now }
+    ensures { AllClear seen.new.items }
 {
     for var in met {
-        wipe_one(slate, *var);
+        clear_mark(seen, *var);
     }
 }
 
-impl Slate {
-    pub(crate) fn new(alloc: Global) -> Slate {
-        Slate {
+impl SeenBuffer {
+    pub(crate) fn new(alloc: Global) -> SeenBuffer {
+        SeenBuffer {
             marks: Vec::new(alloc),
         }
     }
@@ -68,7 +68,7 @@ impl Slate {
         if marks.len() == len {
             return Ok(marks);
         }
-        clear_slate(alloc, len)
+        all_clear(alloc, len)
     }
 
     /// Puts back what was taken out, cleared of the marks of the variables that have them.
@@ -76,7 +76,7 @@ impl Slate {
         requires { AllMet marks.items met.now }
     {
         let mut marks = marks;
-        wipe(&mut marks, met);
+        clear_marks(&mut marks, met);
         self.marks = marks;
     }
 }

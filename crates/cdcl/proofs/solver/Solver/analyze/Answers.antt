@@ -5,7 +5,7 @@ use Rattle.cnf_form.specs.declared.formula.Clause.{Clause}
 use Rattle.cnf_form.specs.Literals.{literals, Denied}
 use Rattle.cdcl.specs.declared.trail.Entry.{Entry}
 use Rattle.cdcl.specs.Trail.{held}
-use Rattle.cdcl.proofs.solver.Solver.study.Goals as goal
+use Rattle.cdcl.proofs.solver.Solver.analyze.Goals as goal
 
 pub analyze-requires-clause-range : goal.analyze-requires-clause-range
 analyze-requires-clause-range c d i l j =
