@@ -1,5 +1,5 @@
 -- The longest piece that stands first.
-use Rattle.std.proofs.Common.{◌≡◌, inl, inr, ◌+◌, ◌<◌, ◌≤◌, ℕ, zero, suc, true, false, List, [], ◌∷◌, length, take, drop, get_or, refl, sym, ◌∙◌, subst, arith}
+use Rattle.std.proofs.Common.{◌≡◌, inl, inr, ◌+◌, ◌<◌, ◌≤◌, ◌==◌, ℕ, zero, suc, true, false, List, [], ◌∷◌, length, take, drop, get_or, refl, sym, ◌∙◌, subst, arith}
 use Rattle.std.proofs.lemmas.Bool.Decides.{nat_tests}
 use Rattle.std.proofs.lemmas.Bool.{cases_lt}
 use Rattle.std.proofs.lemmas.List.{take_all}
@@ -15,6 +15,11 @@ use Rattle.script_lex.specs.Tokens.{symbol_bytes, IsQuoted, IsPiece, IsLongest, 
 use Rattle.script_lex.proofs.Runs.{clash}
 use Rattle.script_lex.proofs.FirstBytes.{begins, first_of, none_empty, word_longer, digit_longer, blank_longer, single_longer}
 use Rattle.script_lex.proofs.Quotes.{no_quoted}
+
+-- a list that was tested to be not empty
+pub not_empty : (bytes : List ℕ) → false ≡ (length bytes == 0) → 0 < length bytes
+not_empty [] e = absurd (cc)
+not_empty (b ∷ bytes) e = omega arith
 
 take_none : (m : ℕ) (bs : List ℕ) → suc m ≤ length bs → take (suc m) bs ≡ [] → ⊥
 take_none m [] le e = absurd (omega arith)

@@ -1,6 +1,6 @@
 use crate::Span;
 
-/// What stands first in a script.
+/// What stands first in a script, as [`cut`](crate::cut) finds it.
 #[derive(Clone, Copy, Debug, PartialEq, Eq)]
 pub enum Cut {
     /// A complete statement: its text, its block if it has one, and the place of the first byte after it.

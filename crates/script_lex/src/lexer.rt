@@ -18,10 +18,8 @@ pub const LONGEST_TEXT: usize = 1_048_576;
 fn utf8_fault(bytes: &[u8]) -> Option<usize>
     ensures { MatchOption result (IsUtf8 bytes.now) (λ n. (IsUtf8 bytes.now → ⊥) × IsValidUpTo bytes.now n) }
 {
-    match std::str::from_utf8(bytes) {
-        Ok(_) => None,
-        Err(e) => Some(e.valid_up_to()),
-    }
+    let fault = std::str::from_utf8(bytes).err()?;
+    Some(fault.valid_up_to())
 }
 
 /// Where a text isn't UTF-8.
@@ -33,10 +31,8 @@ fn unclean(text: &[u8], piece: Piece) -> Option<usize>
         return None;
     };
     let quoted = &text[piece.span.from..piece.span.to];
-    match utf8_fault(&quoted[1..quoted.len() - 1]) {
-        Some(count) => Some(piece.span.from + 1 + count),
-        None => None,
-    }
+    let count = utf8_fault(&quoted[1..quoted.len() - 1])?;
+    Some(piece.span.from + 1 + count)
 }
 
 /// The tokens of a text of any length.
@@ -69,6 +65,7 @@ fn tokens_of_any(alloc: Global, text: &[u8]) -> Result<Items<Token>, Fail<LexFau
 /// # Errors
 /// `TooLong` with the length of a text longer than `LONGEST_TEXT`; else `BadByte` with the place of the first byte that begins no token,
 /// blank or comment, or that isn't UTF-8 in a text between quotes. A quote that no later one closes is such a byte.
+/// `NoMemory` where memory is refused.
 pub fn tokens(alloc: Global, text: &[u8]) -> Result<Items<Token>, Fail<LexFault>>
     // The tokens spell a text that isn't too long, and a refusal has its cause.
     ensures exact { MatchResult result (λ tokens. (length text.now ≤ longest_text) × Spells text.now tokens) (Refuses text.now) }

@@ -75,10 +75,8 @@ fn belongs(region: Region, mode: Mode, byte: u8) -> bool
             Mode::Comment => true,
         },
         Region::Statement => match mode {
-            Mode::Outside => byte != b';',
-            Mode::Dash => byte != b';',
-            Mode::Text => true,
-            Mode::Comment => true,
+            Mode::Outside | Mode::Dash => byte != b';',
+            Mode::Text | Mode::Comment => true,
         },
     }
 }

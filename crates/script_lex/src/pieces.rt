@@ -41,7 +41,7 @@ fn dash(bytes: &[u8]) -> Option<(PieceKind, usize)>
     None
 }
 
-/// What begins with <.
+/// What begins with `<`.
 fn less(bytes: &[u8]) -> Option<(PieceKind, usize)>
     requires some { 0 < length bytes.now }
     requires first { slice_index bytes.now 0 ≡ 60 }
@@ -58,7 +58,7 @@ fn less(bytes: &[u8]) -> Option<(PieceKind, usize)>
     Some((PieceKind::Token(TokenKind::Sym(Symbol::Lt)), 1))
 }
 
-/// What begins with >.
+/// What begins with `>`.
 fn greater(bytes: &[u8]) -> Option<(PieceKind, usize)>
     requires some { 0 < length bytes.now }
     requires first { slice_index bytes.now 0 ≡ 62 }
@@ -108,15 +108,11 @@ fn quoted_length(bytes: &[u8]) -> usize
     let mut inside = true;
     let mut last = 0;
     for (i, byte) in bytes.iter().enumerate() {
-        match still_open(inside, *byte) {
-            None => {
-                return last;
-            }
-            Some(now) => {
-                last = end_so_far(now, last, i + 1);
-                inside = now;
-            }
-        }
+        let Some(now) = still_open(inside, *byte) else {
+            return last;
+        };
+        last = end_so_far(now, last, i + 1);
+        inside = now;
     }
     last
 }
@@ -125,7 +121,7 @@ fn quoted_length(bytes: &[u8]) -> usize
 pub fn first_piece(bytes: &[u8]) -> Option<(PieceKind, usize)>
     ensures { Found bytes.now result }
 {
-    if bytes.len() == 0 {
+    if bytes.is_empty() {
         return None;
     }
     let first = bytes[0];
@@ -156,8 +152,6 @@ pub fn first_piece(bytes: &[u8]) -> Option<(PieceKind, usize)>
         }
         return Some((PieceKind::Token(TokenKind::Text), count + 1));
     }
-    match single(first) {
-        Some(symbol) => Some((PieceKind::Token(TokenKind::Sym(symbol)), 1)),
-        None => None,
-    }
+    let symbol = single(first)?;
+    Some((PieceKind::Token(TokenKind::Sym(symbol)), 1))
 }

@@ -1,8 +1,6 @@
 use crate::Symbol::{Close, Comma, Dot, Eq, Ge, Gt, Le, Lt, Ne, Open};
 use crate::TokenKind::{Int, Sym, Text, Word};
-use crate::{
-    Cut, LONGEST_TEXT, LexFault, Span, TokenKind, cut, cut_goes_on, cut_is_unique, tokens,
-};
+use crate::{Cut, LONGEST_TEXT, LexFault, Span, TokenKind, cut, tokens};
 use cqa_value::Fail as CallFail;
 use std::alloc::{AllocError, Global};
 use std::test::Fail;
@@ -26,73 +24,67 @@ fn copy(to: usize, block_from: usize, block_to: usize, rest: usize) -> Cut {
     }
 }
 
-/// An input, its cut where it goes on, and its cut where it has ended.
-fn cut_cases() -> [(&'static [u8], Cut, Cut); 40] {
+/// An input, and its cut, whether it goes on or has ended.
+fn cut_cases() -> [(&'static [u8], Cut); 37] {
     [
-        (b"", Cut::Blank, Cut::Blank),
-        (b" \t\r\n", Cut::Blank, Cut::Blank),
-        (b"--", Cut::Blank, Cut::Blank),
-        (b"-- a; b", Cut::Blank, Cut::Blank),
-        (b"-- it's\n  -- b\r\n", Cut::Blank, Cut::Blank),
-        (b"-", Cut::Part, Cut::Part),
-        (b" - ", Cut::Part, Cut::Part),
-        (b"\n-", Cut::Part, Cut::Part),
-        (b"a", Cut::Part, Cut::Part),
-        (b"a --;", Cut::Part, Cut::Part),
-        (b"'a;", Cut::Part, Cut::Part),
-        (b"'a'';", Cut::Part, Cut::Part),
-        (b";", statement(0, 0, 1), statement(0, 0, 1)),
-        (b"a;", statement(0, 1, 2), statement(0, 1, 2)),
-        (b"a;b;", statement(0, 1, 2), statement(0, 1, 2)),
-        (b" a ;b", statement(1, 3, 4), statement(1, 3, 4)),
-        (b"-- x;\n a;", statement(7, 8, 9), statement(7, 8, 9)),
-        (b"--\n--\n;", statement(6, 6, 7), statement(6, 6, 7)),
-        (b"-;", statement(0, 1, 2), statement(0, 1, 2)),
-        (b"- -;", statement(0, 3, 4), statement(0, 3, 4)),
-        (b"-a--;\n;", statement(0, 6, 7), statement(0, 6, 7)),
-        (b"---;\n;", statement(5, 5, 6), statement(5, 5, 6)),
-        (b"a -';';", statement(0, 6, 7), statement(0, 6, 7)),
-        (b"a ';' ;", statement(0, 6, 7), statement(0, 6, 7)),
-        (b"';'';';", statement(0, 6, 7), statement(0, 6, 7)),
-        (b"'--';", statement(0, 4, 5), statement(0, 4, 5)),
-        (b"a -- ';\n;", statement(0, 8, 9), statement(0, 8, 9)),
-        (b"copyx;\n\\.\n", statement(0, 5, 6), statement(0, 5, 6)),
-        (b"cop;\\.", statement(0, 3, 4), statement(0, 3, 4)),
-        (b"Copy r;\n", statement(0, 6, 7), statement(0, 6, 7)),
-        (b"copy;", Cut::Part, Cut::Part),
-        (b"copy r;\n1\n", Cut::Part, Cut::Part),
-        (b"copy;\\.", Cut::Part, copy(4, 5, 5, 7)),
-        (b"copy;\\.\r", Cut::Part, copy(4, 5, 5, 8)),
-        (b"copy;\\.\r\r\n", Cut::Part, Cut::Part),
-        (
-            b"copy r; \t\r\n1\n\\.\nb",
-            copy(6, 11, 13, 16),
-            copy(6, 11, 13, 16),
-        ),
-        (
-            b"copy r;  1\n\\.\r\n",
-            copy(6, 7, 11, 15),
-            copy(6, 7, 11, 15),
-        ),
-        (
-            b"copy-;\n\n\\.x\n;'\n\\.\n",
-            copy(5, 7, 15, 18),
-            copy(5, 7, 15, 18),
-        ),
-        (
-            b"copy r;\n'\n\\.\n'\n\\.\n",
-            copy(6, 8, 10, 13),
-            copy(6, 8, 10, 13),
-        ),
-        (b"copy r;\n \\.\n\\.", Cut::Part, copy(6, 8, 12, 14)),
+        (b"", Cut::Blank),
+        (b" \t\r\n", Cut::Blank),
+        (b"--", Cut::Blank),
+        (b"-- a; b", Cut::Blank),
+        (b"-- it's\n  -- b\r\n", Cut::Blank),
+        (b"-", Cut::Part),
+        (b" - ", Cut::Part),
+        (b"\n-", Cut::Part),
+        (b"a", Cut::Part),
+        (b"a --;", Cut::Part),
+        (b"'a;", Cut::Part),
+        (b"'a'';", Cut::Part),
+        (b";", statement(0, 0, 1)),
+        (b"a;", statement(0, 1, 2)),
+        (b"a;b;", statement(0, 1, 2)),
+        (b" a ;b", statement(1, 3, 4)),
+        (b"-- x;\n a;", statement(7, 8, 9)),
+        (b"--\n--\n;", statement(6, 6, 7)),
+        (b"-;", statement(0, 1, 2)),
+        (b"- -;", statement(0, 3, 4)),
+        (b"-a--;\n;", statement(0, 6, 7)),
+        (b"---;\n;", statement(5, 5, 6)),
+        (b"a -';';", statement(0, 6, 7)),
+        (b"a ';' ;", statement(0, 6, 7)),
+        (b"';'';';", statement(0, 6, 7)),
+        (b"'--';", statement(0, 4, 5)),
+        (b"a -- ';\n;", statement(0, 8, 9)),
+        (b"copyx;\n\\.\n", statement(0, 5, 6)),
+        (b"cop;\\.", statement(0, 3, 4)),
+        (b"Copy r;\n", statement(0, 6, 7)),
+        (b"copy;", Cut::Part),
+        (b"copy r;\n1\n", Cut::Part),
+        (b"copy;\\.\r\r\n", Cut::Part),
+        (b"copy r; \t\r\n1\n\\.\nb", copy(6, 11, 13, 16)),
+        (b"copy r;  1\n\\.\r\n", copy(6, 7, 11, 15)),
+        (b"copy-;\n\n\\.x\n;'\n\\.\n", copy(5, 7, 15, 18)),
+        (b"copy r;\n'\n\\.\n'\n\\.\n", copy(6, 8, 10, 13)),
+    ]
+}
+
+/// An input that is a part of a statement where it goes on, and its cut where it has ended.
+fn ended_cases() -> [(&'static [u8], Cut); 3] {
+    [
+        (b"copy;\\.", copy(4, 5, 5, 7)),
+        (b"copy;\\.\r", copy(4, 5, 5, 8)),
+        (b"copy r;\n \\.\n\\.", copy(6, 8, 12, 14)),
     ]
 }
 
 #[test]
 fn inputs_are_cut(rt: HostRuntime) -> Result<(), Fail> {
-    for (input, unended, ended) in cut_cases() {
-        assert_eq!(rt; cut(input, false), unended, "{input:?}");
-        assert_eq!(rt; cut(input, true), ended, "{input:?}, ended");
+    for (input, expected) in cut_cases() {
+        assert_eq!(rt; cut(input, false), expected, "{input:?}");
+        assert_eq!(rt; cut(input, true), expected, "{input:?}, ended");
+    }
+    for (input, expected) in ended_cases() {
+        assert_eq!(rt; cut(input, false), Cut::Part, "{input:?}");
+        assert_eq!(rt; cut(input, true), expected, "{input:?}, ended");
     }
     Ok(())
 }
@@ -212,10 +204,4 @@ fn faults_are_told(rt: HostRuntime) -> Result<(), Fail> {
         Some(LexFault::TooLong(1_048_577))
     );
     Ok(())
-}
-
-#[test]
-fn laws_are_called() {
-    cut_is_unique();
-    cut_goes_on();
 }
