@@ -107,8 +107,5 @@ pub fn int_value(bytes: &[u8]) -> Value
     requires { IsTrue (are_digits (without_minus bytes.now)) }
     ensures { IsTrue (is_in_range (integer_of bytes.now)) → result ≡ Value.Int (integer_of bytes.now) }
 {
-    match read_int(bytes) {
-        Some(number) => Value::Int(number),
-        None => Value::Int(0),
-    }
+    Value::Int(read_int(bytes).unwrap_or(0))
 }

@@ -149,9 +149,9 @@ impl Piece for Row {
     ghost kept = { λ row. IsSome row };
 
     fn piece(alloc: Global, reader: &mut Reader<'_>) -> Result<Self, Stop> {
-        let _ = reader.mark(Symbol::Open)?;
+        reader.mark(Symbol::Open)?;
         let values = literals(alloc, reader)?;
-        let _ = reader.mark(Symbol::Close)?;
+        reader.mark(Symbol::Close)?;
         Ok(values)
     }
 }

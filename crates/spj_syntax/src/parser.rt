@@ -62,11 +62,8 @@ fn first_unfit(text: &[u8], tokens: &[Token]) -> Option<SyntaxFault>
     ensures { MatchOption result (PlainFit (lexemes text.now tokens.now)) (λ fault. IsFirstUnfit false text.now tokens.now fault) }
 {
     for token in tokens {
-        match unfit(text, *token) {
-            Some(fault) => {
-                return Some(fault);
-            }
-            None => {}
+        if let Some(fault) = unfit(text, *token) {
+            return Some(fault);
         }
     }
     None
@@ -106,10 +103,8 @@ fn conflicts(digits: &[u8]) -> Option<u32>
     requires { IsTrue (are_digits (without_minus digits.now)) }
     ensures { MatchOption result (¬ IsInRange true (integer_of digits.now)) (λ number. integer_of digits.now ≡ pos number) }
 {
-    match read_int(digits) {
-        Some(number) => u32::try_from(number).ok(),
-        None => None,
-    }
+    let number = read_int(digits)?;
+    u32::try_from(number).ok()
 }
 
 /// A `set`.
@@ -162,7 +157,7 @@ fn parse_readable(
 ///
 /// # Errors
 /// `At` where the tokens are no statement, else a literal or a name that is out of its limits: the
-/// first such token.
+/// first such token. `NoMemory` where memory is refused.
 pub fn parse(alloc: Global, text: &[u8], tokens: &[Token]) -> Result<Statement, Fail<SyntaxFault>>
     requires spelled { Spells text.now tokens.now }
     requires short { length text.now ≤ longest_text }

@@ -32,7 +32,7 @@ fn query(alloc: Global, reader: &mut Reader<'_>) -> Result<Select, Stop>
     ensures some { IfOk result (λ q. 0 < length q.tables) }
 {
     let columns = head(alloc, reader)?;
-    let _ = reader.word(b"from")?;
+    reader.word(b"from")?;
     let tables = listed(alloc, reader)?;
     let conds = filtered(alloc, reader)?;
     Ok(Select {
@@ -73,11 +73,11 @@ fn key(alloc: Global, reader: &mut Reader<'_>) -> Result<Items<Name>, Stop>
     ensures some { IfOk result (λ v. 0 < length v) }
     ensures named { IfOk result (λ v. All IsName v) }
 {
-    let _ = reader.word(b"primary")?;
-    let _ = reader.word(b"key")?;
-    let _ = reader.mark(Symbol::Open)?;
+    reader.word(b"primary")?;
+    reader.word(b"key")?;
+    reader.mark(Symbol::Open)?;
     let names = listed(alloc, reader)?;
-    let _ = reader.mark(Symbol::Close)?;
+    reader.mark(Symbol::Close)?;
     Ok(names)
 }
 
@@ -86,13 +86,13 @@ fn create(alloc: Global, reader: &mut Reader<'_>) -> Result<Statement, Stop>
     ensures proper { IfOk result (λ s. IsProper s) }
     ensures named { IfOk result (λ s. IsNamed s) }
 {
-    let _ = reader.word(b"create")?;
-    let _ = reader.word(b"table")?;
+    reader.word(b"create")?;
+    reader.word(b"table")?;
     let name = reader.name(alloc)?;
-    let _ = reader.mark(Symbol::Open)?;
+    reader.mark(Symbol::Open)?;
     let columns = columns(alloc, reader)?;
     let key = key(alloc, reader)?;
-    let _ = reader.mark(Symbol::Close)?;
+    reader.mark(Symbol::Close)?;
     let schema = RawSchema { name, columns, key };
     Ok(Statement::Create { schema })
 }
@@ -102,10 +102,10 @@ fn insert(alloc: Global, reader: &mut Reader<'_>) -> Result<Statement, Stop>
     ensures proper { IfOk result (λ s. IsProper s) }
     ensures named { IfOk result (λ s. IsNamed s) }
 {
-    let _ = reader.word(b"insert")?;
-    let _ = reader.word(b"into")?;
+    reader.word(b"insert")?;
+    reader.word(b"into")?;
     let table = reader.name(alloc)?;
-    let _ = reader.word(b"values")?;
+    reader.word(b"values")?;
     let rows = listed(alloc, reader)?;
     Ok(Statement::Insert { table, rows })
 }
@@ -115,8 +115,8 @@ fn delete(alloc: Global, reader: &mut Reader<'_>) -> Result<Statement, Stop>
     ensures proper { IfOk result (λ s. IsProper s) }
     ensures named { IfOk result (λ s. IsNamed s) }
 {
-    let _ = reader.word(b"delete")?;
-    let _ = reader.word(b"from")?;
+    reader.word(b"delete")?;
+    reader.word(b"from")?;
     let table = reader.name(alloc)?;
     let tests = filtered(alloc, reader)?;
     Ok(Statement::Delete { table, tests })
@@ -138,12 +138,12 @@ fn explain(alloc: Global, reader: &mut Reader<'_>) -> Result<Statement, Stop>
     ensures proper { IfOk result (λ s. IsProper s) }
     ensures named { IfOk result (λ s. IsNamed s) }
 {
-    let _ = reader.word(b"explain")?;
-    let _ = reader.word(b"row")?;
-    let _ = reader.mark(Symbol::Open)?;
+    reader.word(b"explain")?;
+    reader.word(b"row")?;
+    reader.mark(Symbol::Open)?;
     let row = optional_literals(alloc, reader)?;
-    let _ = reader.mark(Symbol::Close)?;
-    let _ = reader.word(b"for")?;
+    reader.mark(Symbol::Close)?;
+    reader.word(b"for")?;
     let select = query(alloc, reader)?;
     Ok(Statement::Explain { row, select })
 }
@@ -153,7 +153,7 @@ fn copy(alloc: Global, reader: &mut Reader<'_>) -> Result<Statement, Stop>
     ensures proper { IfOk result (λ s. IsProper s) }
     ensures named { IfOk result (λ s. IsNamed s) }
 {
-    let _ = reader.word(b"copy")?;
+    reader.word(b"copy")?;
     let table = reader.name(alloc)?;
     Ok(Statement::Copy { table })
 }
@@ -168,7 +168,7 @@ fn show(reader: &mut Reader<'_>) -> Result<Statement, Stop>
         reader.advance();
         return Ok(Statement::ShowTables);
     }
-    let _ = reader.word(b"log")?;
+    reader.word(b"log")?;
     Ok(Statement::ShowLog)
 }
 
@@ -178,8 +178,8 @@ pub fn set<'a>(reader: &mut Reader<'a>) -> Result<&'a [u8], Stop>
     ensures digits { IfOk result (λ digits. IsTrue (are_digits (without_minus digits.now))) }
     ensures whole { IfOk result (λ digits. reader.old ≡ Word (codes "set") ∷ Word (codes "conflicts") ∷ Number (integer_of digits.now) ∷ reader.new) }
 {
-    let _ = reader.word(b"set")?;
-    let _ = reader.word(b"conflicts")?;
+    reader.word(b"set")?;
+    reader.word(b"conflicts")?;
     let digits = reader.int()?;
     Ok(digits)
 }
