@@ -1,5 +1,5 @@
 -- From what is read to what the parser answers.
-use Rattle.std.proofs.Common.{◌≡◌, ◌≤◌, ◌<◌, ◌-◌, ◌+◌, ◌^◌, lit≤, ℕ, ℤ, Bool, true, false, List, [], ◌∷◌, ◌++◌, length, drop, take, get_or, zero, suc, length-append, arith, sym, ◌∙◌, ap, subst, refl, codes, pos, nat_eq, Ok}
+use Rattle.std.proofs.Common.{◌≡◌, ◌≤◌, ◌<◌, ◌-◌, ◌+◌, ◌^◌, lit≤, ℕ, ℤ, Bool, true, false, List, [], ◌∷◌, ◌++◌, length, drop, take, get_or, zero, suc, length-append, arith, sym, ◌∙◌, ap, subst, refl, codes, pos, nat_eq, Ok, Err}
 use Rattle.std.proofs.Common.{Some}
 use Rattle.std.proofs.lemmas.Int.{ints}
 use Rattle.std.proofs.lemmas.List.{drop_at, length-map, append-nil}
@@ -10,14 +10,15 @@ use Rattle.spj_syntax.specs.declared.tree.Statement.{Statement}
 use Rattle.spj_syntax.specs.declared.tree.Statement.TheVariants.{SetConflicts}
 use Rattle.spj_syntax.specs.declared.fault.SyntaxFault.{SyntaxFault}
 use Rattle.spj_syntax.specs.declared.fault.SyntaxFault.TheVariants.{At, OutOfRange, TextTooLong, LongName}
-use Rattle.spj_syntax.specs.declared.reader.Stop.TheVariants.{Syntax}
+use Rattle.spj_syntax.specs.declared.reader.Stop.{Stop}
+use Rattle.spj_syntax.specs.declared.reader.Stop.TheVariants.{NoMemory, Syntax}
 use Rattle.spj_syntax.specs.Lexemes.{Lexeme, Word, Number, Quoted, Mark, lexeme}
 use Rattle.spj_syntax.specs.Shapes.{one, word, FirstFault}
 use Rattle.spj_syntax.specs.Grammar as grammar
 use Rattle.spj_syntax.specs.Factored.{statement, plain}
 use Rattle.spj_syntax.specs.Walk.{Past, read, Opens, opens, has, only_if}
 use Rattle.spj_syntax.specs.Parsed.{IsStatement, IsSyntaxFault, IsInRange, Fits, AllFit, IsFirstUnfit, Refuses, fault_of, is_set, lexemes, place_of}
-use Rattle.spj_syntax.specs.Reading.{PlainFit, Took, Failed, IsUnfit, Parses}
+use Rattle.spj_syntax.specs.Reading.{PlainFit, Took, Failed, IsUnfit, Parses, failure_of}
 use Rattle.spj_syntax.specs.Written.{statement_tokens, IsProper}
 use Rattle.spj_syntax.proofs.Steps.{opens_then, took_left, took_right, fails_left, fails_right}
 use Rattle.spj_syntax.proofs.Exact.{whole, too_many, stopped}
@@ -89,6 +90,12 @@ stop_is_fault {s = s} {z = z} h = stopped statement s z statement_decided h.way
 
 pub fault_shorter : {s z : List Lexeme} → FirstFault statement s z → length z ≤ length s
 fault_shorter {s = s} {z = z} f = let m : length s ≡ length f.front + length z = ap length f.split ∙ length-append f.front z in omega arith
+
+-- A parse that stopped has failed as it should, where a want of syntax stands at the tokens left.
+pub stop_refused : (text : List ℕ) (tokens : List Token) (stop : Stop) (rest : List Lexeme) (left : ℕ) → (stop ≡ Syntax → FirstFault statement (lexemes text tokens) rest) → left ≡ length rest
+    → Parses text tokens (Err (failure_of stop text (drop (length tokens - left) tokens)))
+stop_refused text tokens Syntax rest left f e = fault_at text tokens rest left _ (f refl) e refl
+stop_refused text tokens NoMemory rest left f e = tt
 
 -- A symbol always fits.
 unfit_not : (set : Bool) (l : Lexeme) (at k : ℕ) → ¬ Fits set l → At k ≡ fault_of l at → ⊥

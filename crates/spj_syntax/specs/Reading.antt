@@ -13,10 +13,11 @@ use Rattle.spj_syntax.specs.declared.reader.Seen.{Seen}
 use Rattle.spj_syntax.specs.declared.reader.Seen.TheVariants as sights
 use Rattle.spj_syntax.specs.Lexemes.{Lexeme, Word, Number, Quoted, Mark, undoubled, lexeme}
 use Rattle.spj_syntax.specs.Shapes.{Shape}
-use Rattle.spj_syntax.specs.Parsed.{Fits, AllFit, IsStatement, Refuses, fault_of, lexemes}
+use Rattle.spj_syntax.specs.Parsed.{Fits, AllFit, IsStatement, Refuses, fault_of, lexemes, place_of}
 use Rattle.spj_syntax.specs.Written.{IsWrittenAs}
 use Rattle.spj_syntax.specs.declared.tree.Statement.{Statement}
 use Rattle.spj_syntax.specs.declared.fault.SyntaxFault.{SyntaxFault}
+use Rattle.spj_syntax.specs.declared.fault.SyntaxFault.TheVariants.{At}
 use Rattle.cqa_value.specs.declared.memory.Fail.{Fail}
 use Rattle.cqa_value.specs.declared.memory.Fail.TheVariants.{Refused, NoMemory as FailNoMemory}
 use Rattle.spj_syntax.specs.Walk.{read, Past, Stopped}
@@ -87,6 +88,11 @@ SeenSound sights.End = Unit {0}
 pub record IsUnfit (text : List ℕ) (token : Token) (fault : SyntaxFault) : Type 0 where
   pub unfit : ¬ Fits false (lexeme text token)
   pub fault_is : fault ≡ fault_of (lexeme text token) token.span.from
+
+-- the failure of a parse that stopped before these tokens
+abbrev pub failure_of : Stop → List ℕ → List Token → Fail SyntaxFault
+failure_of Syntax text rest = Refused (At (place_of text rest))
+failure_of NoMemory text rest = FailNoMemory
 
 -- the answer of the parser
 abbrev pub Parses : List ℕ → List Token → Result Statement (Fail SyntaxFault) → Type 0

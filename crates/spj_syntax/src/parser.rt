@@ -4,7 +4,7 @@ ghost use Rattle.cqa_value.specs.declared.memory.Fail.TheVariants.{NoMemory, Ref
 ghost use Rattle.script_lex.specs.Tokens.{Spells, longest_text};
 ghost use Rattle.spj_syntax.specs.Lexemes.{lexeme, undoubled};
 ghost use Rattle.spj_syntax.specs.Parsed.{AllFit, Fits, IsStatement, IsFirstUnfit, IsInRange, Refuses, is_set, lexemes, place_of};
-ghost use Rattle.spj_syntax.specs.Reading.{IsReadable, IsUnfit, Parses, PlainFit};
+ghost use Rattle.spj_syntax.specs.Reading.{IsReadable, IsUnfit, Parses, PlainFit, failure_of};
 ghost use Rattle.spj_syntax.specs.Written.{IsWrittenAs, IsNamed, HasAtMost};
 ghost use Rattle.spj_syntax.specs.declared.tree.Statement.{Statement};
 ghost use Rattle.spj_syntax.specs.declared.fault.SyntaxFault.{SyntaxFault};
@@ -26,6 +26,17 @@ fn place(text: &[u8], tokens: &[Token], left: usize) -> usize
         return text.len();
     }
     tokens[tokens.len() - left].span.from
+}
+
+/// The failure of a parse whose reading stopped with so many tokens left.
+fn stopped(stop: Stop, text: &[u8], tokens: &[Token], left: usize) -> Fail<SyntaxFault>
+    requires { stop ≡ Stop.Syntax → left ≤ length tokens.now }
+    ensures { result ≡ failure_of stop text.now (drop (length tokens.now - left) tokens.now) }
+{
+    match stop {
+        Stop::Syntax => Fail::Refused(SyntaxFault::At(place(text, tokens, left))),
+        Stop::NoMemory => Fail::NoMemory,
+    }
 }
 
 /// What is wrong with a token alone, where the statement is no `set`.
@@ -78,23 +89,17 @@ fn parse_plain(alloc: Global, text: &[u8], tokens: &[Token]) -> Result<Statement
     ensures named { IfOk result (λ statement. IsNamed statement) }
 {
     let mut reader = Reader::new(text, tokens);
-    match plain(alloc, &mut reader) {
-        Ok(found) => {
-            let left = reader.count();
-            if left > 0 {
-                return Err(Fail::Refused(SyntaxFault::At(place(text, tokens, left))));
-            }
-            match first_unfit(text, tokens) {
-                Some(fault) => Err(Fail::Refused(fault)),
-                None => Ok(found),
-            }
-        }
-        Err(Stop::Syntax) => Err(Fail::Refused(SyntaxFault::At(place(
-            text,
-            tokens,
-            reader.count(),
-        )))),
-        Err(Stop::NoMemory) => Err(Fail::NoMemory),
+    let found = match plain(alloc, &mut reader) {
+        Ok(found) => found,
+        Err(stop) => return Err(stopped(stop, text, tokens, reader.count())),
+    };
+    let left = reader.count();
+    if left > 0 {
+        return Err(stopped(Stop::Syntax, text, tokens, left));
+    }
+    match first_unfit(text, tokens) {
+        Some(fault) => Err(Fail::Refused(fault)),
+        None => Ok(found),
     }
 }
 
@@ -116,23 +121,17 @@ fn parse_set(text: &[u8], tokens: &[Token]) -> Result<Statement, Fail<SyntaxFaul
     ensures named { IfOk result (λ statement. IsNamed statement) }
 {
     let mut reader = Reader::new(text, tokens);
-    match set(&mut reader) {
-        Ok(digits) => {
-            let behind = reader.count();
-            if behind > 0 {
-                return Err(Fail::Refused(SyntaxFault::At(place(text, tokens, behind))));
-            }
-            match conflicts(digits) {
-                Some(number) => Ok(Statement::SetConflicts(number)),
-                None => Err(Fail::Refused(SyntaxFault::OutOfRange(tokens[2].span.from))),
-            }
-        }
-        Err(Stop::Syntax) => Err(Fail::Refused(SyntaxFault::At(place(
-            text,
-            tokens,
-            reader.count(),
-        )))),
-        Err(Stop::NoMemory) => Err(Fail::NoMemory),
+    let digits = match set(&mut reader) {
+        Ok(digits) => digits,
+        Err(stop) => return Err(stopped(stop, text, tokens, reader.count())),
+    };
+    let behind = reader.count();
+    if behind > 0 {
+        return Err(stopped(Stop::Syntax, text, tokens, behind));
+    }
+    match conflicts(digits) {
+        Some(number) => Ok(Statement::SetConflicts(number)),
+        None => Err(Fail::Refused(SyntaxFault::OutOfRange(tokens[2].span.from))),
     }
 }
 
