@@ -40,6 +40,7 @@ fn append_attacks(lines: &[AttackLine], out: &mut Vec<u8>) -> Result<(), NoMemor
     Ok(())
 }
 
+/// Appends an attack on a new line.
 fn append_attack(line: &AttackLine, out: &mut Vec<u8>) -> Result<(), NoMemory>
     ensures { OnOk result (out.new.items ≡ out.old.items ++ (codes "\n" ++ attack_text line.now)) }
 {

@@ -189,50 +189,28 @@ fn refusals_with_names(alloc: Global) -> Result<Vec<Case>, Fail<NameFault>> {
     ]?)
 }
 
+fn limit(what: LimitKind, text: &'static str) -> Case {
+    refused(Refusal::Limit { what }, text)
+}
+
 fn refusals_with_limits(alloc: Global) -> Result<Vec<Case>, Fail<NameFault>> {
+    Ok(vec![in alloc;
+        limit(LimitKind::Name, "error 16 Limit name 64\n"),
+        limit(LimitKind::Tables, "error 16 Limit tables 64\n"),
+        limit(LimitKind::Columns, "error 16 Limit columns 16\n"),
+        limit(LimitKind::Atoms, "error 16 Limit atoms 12\n"),
+        limit(LimitKind::Answer, "error 16 Limit answer 192\n"),
+        limit(LimitKind::Rows, "error 16 Limit rows 1000000\n"),
+    ]?)
+}
+
+fn refusals_with_rows(alloc: Global) -> Result<Vec<Case>, Fail<NameFault>> {
+    let empty = Row::new(alloc);
     let row = pair(alloc, 5, "b")?;
     let conflicts = 200_000;
     Ok(vec![in alloc;
         refused(
-            Refusal::Limit {
-                what: LimitKind::Name
-            },
-            "error 16 Limit name 64\n"
-        ),
-        refused(
-            Refusal::Limit {
-                what: LimitKind::Tables
-            },
-            "error 16 Limit tables 64\n"
-        ),
-        refused(
-            Refusal::Limit {
-                what: LimitKind::Columns
-            },
-            "error 16 Limit columns 16\n"
-        ),
-        refused(
-            Refusal::Limit {
-                what: LimitKind::Atoms
-            },
-            "error 16 Limit atoms 12\n"
-        ),
-        refused(
-            Refusal::Limit {
-                what: LimitKind::Answer
-            },
-            "error 16 Limit answer 192\n"
-        ),
-        refused(
-            Refusal::Limit {
-                what: LimitKind::Rows
-            },
-            "error 16 Limit rows 1000000\n"
-        ),
-        refused(
-            Refusal::WitnessLimit {
-                row: Row::new(alloc)
-            },
+            Refusal::WitnessLimit { row: empty },
             "error 17 WitnessLimit ()\n"
         ),
         refused(
@@ -252,6 +230,7 @@ fn each_reply_is_written(rt: HostRuntime) -> Result<(), TestFail> {
         refusals_with_numbers(alloc)?,
         refusals_with_names(alloc)?,
         refusals_with_limits(alloc)?,
+        refusals_with_rows(alloc)?,
     ];
     for (reply, text) in tables.iter().flatten() {
         let bytes = reply_bytes(alloc, reply)?;

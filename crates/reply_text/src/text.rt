@@ -22,6 +22,7 @@ pub fn reply_bytes(alloc: Global, reply: &Reply) -> Result<Vec<u8>, NoMemory>
     Ok(out)
 }
 
+/// Appends the lines of a reply, each with a line feed at its end.
 fn append_reply(reply: &Reply, out: &mut Vec<u8>) -> Result<(), NoMemory>
     ensures { OnOk result (out.new.items ≡ out.old.items ++ reply_text reply.now) }
 {
@@ -37,6 +38,7 @@ fn append_reply(reply: &Reply, out: &mut Vec<u8>) -> Result<(), NoMemory>
     append_words("\n", out)
 }
 
+/// Appends each row on a line of its own, and how many they are.
 fn append_rows(rows: &[Row], out: &mut Vec<u8>) -> Result<(), NoMemory>
     ensures { OnOk result (out.new.items ≡ out.old.items ++ rows_text rows.now) }
 {
@@ -48,6 +50,7 @@ fn append_rows(rows: &[Row], out: &mut Vec<u8>) -> Result<(), NoMemory>
     append_words(" rows", out)
 }
 
+/// Appends each table on a line of its own, and how many they are.
 fn append_tables(lines: &[TableLine], out: &mut Vec<u8>) -> Result<(), NoMemory>
     ensures { OnOk result (out.new.items ≡ out.old.items ++ tables_text lines.now) }
 {
@@ -58,6 +61,7 @@ fn append_tables(lines: &[TableLine], out: &mut Vec<u8>) -> Result<(), NoMemory>
     append_words(" tables", out)
 }
 
+/// Appends the line of a table with its line feed.
 fn append_table(line: &TableLine, out: &mut Vec<u8>) -> Result<(), NoMemory>
     ensures { OnOk result (out.new.items ≡ out.old.items ++ (table_text line.now ++ codes "\n")) }
 {
