@@ -21,7 +21,7 @@ use Rattle.std.proofs.Common.{codes}
 use Rattle.std.proofs.Common.{◌<◌}
 use Rattle.std.proofs.lemmas.List.{append-nil}
 use Rattle.spj_syntax.specs.Walk.{nullable, followed_by, or_else, only_if, after, starts, has, opens, Opens, Outcome, Past, Stopped, ended, on, read}
-use Rattle.std.specs.Result.{IsErrAnd}
+use Rattle.std.specs.Result.{IsErrAnd, IfOk}
 use Rattle.std.proofs.Common.{Result, Ok, Err}
 use Rattle.std.proofs.lemmas.Result.{err_from_is_err_and}
 use Rattle.spj_syntax.specs.declared.reader.Stop.{Stop}
@@ -379,5 +379,10 @@ reads_left q w (Err e) z o h = fails_left o h
 pub reads_right : {A : Type 0} {p : Shape} {s : List Lexeme} (q : Shape) (w : A → List Lexeme) (r : Result A Stop) (z : List Lexeme) → nullable p ≡ false → Opens false p s → Reads q w r s z → Reads (p ∣ q) w r s z
 reads_right q w (Ok v) z n o h = took_right n o h
 reads_right q w (Err e) z n o h = fails_right n o h
+
+pub reads_then : {A : Type 0} {p : Shape} {u s m : List Lexeme} (q : Shape) (v w : A → List Lexeme) (r : Result A Stop) (z : List Lexeme) → Took p u s m → Reads q v r m z → IfOk r (λ x. w x ≡ u ++ v x)
+    → Reads (p ⨾ q) w r s z
+reads_then q v w (Ok x) z h k e = took_both h k e
+reads_then q v w (Err x) z h k e = fails_then h k
 
 pub ruleset steps = (word_took, mark_took, one_fails, took_both, took_left, took_right, took_nothing, opens_then, opens_either, fails_first, fails_then, fails_left, fails_right, exit)

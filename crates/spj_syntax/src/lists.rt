@@ -69,8 +69,7 @@ pub fn filtered<P: Piece>(alloc: Global, reader: &mut Reader<'_>) -> Result<Item
 {
     if reader.sees_word(b"where") {
         reader.advance();
-        let items = anded(alloc, reader)?;
-        return Ok(items);
+        return anded(alloc, reader);
     }
     Ok(Items::new(alloc))
 }

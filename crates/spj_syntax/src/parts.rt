@@ -46,9 +46,7 @@ pub fn literal(alloc: Global, reader: &mut Reader<'_>) -> Result<Value, Stop>
             reader.advance();
             Ok(Value::Text(text))
         }
-        Seen::Word(_) => Err(Stop::Syntax),
-        Seen::Sym(_) => Err(Stop::Syntax),
-        Seen::End => Err(Stop::Syntax),
+        Seen::Word(_) | Seen::Sym(_) | Seen::End => Err(Stop::Syntax),
     }
 }
 
@@ -98,6 +96,5 @@ pub fn op(reader: &mut Reader<'_>) -> Result<Op, Stop>
         reader.advance();
         return Ok(Op::Eq);
     }
-    let op = op_but_equal(reader)?;
-    Ok(op)
+    op_but_equal(reader)
 }

@@ -20,8 +20,7 @@ fn head(alloc: Global, reader: &mut Reader<'_>) -> Result<Items<RawCol>, Stop>
 {
     if reader.sees_word(b"select") {
         reader.advance();
-        let columns = listed(alloc, reader)?;
-        return Ok(columns);
+        return listed(alloc, reader);
     }
     reader.word(b"exists")?;
     Ok(Items::new(alloc))
@@ -127,8 +126,7 @@ fn optional_literals(alloc: Global, reader: &mut Reader<'_>) -> Result<Row, Stop
     ensures { Reads (grammar.optional (grammar.listed grammar.literal)) (listed_tokens literal_tokens) result reader.old reader.new }
 {
     if reader.sees_literal() {
-        let values = literals(alloc, reader)?;
-        return Ok(values);
+        return literals(alloc, reader);
     }
     Ok(Row::new(alloc))
 }

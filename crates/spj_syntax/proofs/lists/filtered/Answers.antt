@@ -1,12 +1,14 @@
 use Rattle.std.proofs.Common.{refl}
-use Rattle.spj_syntax.proofs.Steps.{took_both, took_left, took_right, took_nothing, word_took, opens_then, fails_then, fails_left, exit, filtered_some}
+use Rattle.std.proofs.lemmas.Result.{IfOk-weaker}
+use Rattle.spj_syntax.specs.Written.{anded_tokens, filtered_tokens}
+use Rattle.spj_syntax.proofs.Steps.{took_right, took_nothing, word_took, opens_then, filtered_some, reads_left, reads_then}
 use Rattle.spj_syntax.proofs.lists.filtered.Goals as goal
 
-pub returns-in_err-items : goal.returns-in_err-items
-returns-in_err-items g c = exit _ _ c.from_residual.ensures.1 (fails_left (opens_then refl c.if-sees_word.ensures) (fails_then (word_took c.if-sees_word.ensures c.advance.ensures) c.in_err-items.ensures.reads))
-
 pub returns-then-sees_word : goal.returns-then-sees_word
-returns-then-sees_word g c = took_left (opens_then refl c.if-sees_word.ensures) (took_both (word_took c.if-sees_word.ensures c.advance.ensures) c.in_ok-items.ensures.reads (filtered_some _ _ c.in_ok-items.ensures.some))
+returns-then-sees_word g c =
+    reads_left _ (filtered_tokens g.P.Piece.tokens) c.anded.result _ (opens_then refl c.if-sees_word.ensures)
+    (reads_then _ (anded_tokens g.P.Piece.tokens) (filtered_tokens g.P.Piece.tokens) c.anded.result _ (word_took c.if-sees_word.ensures c.advance.ensures) c.anded.ensures.reads
+    (IfOk-weaker c.anded.result _ _ (filtered_some g.P.Piece.tokens) c.anded.ensures.some))
 
 pub returns : goal.returns
 returns g c = rw c.new.ensures (took_right refl (opens_then refl c.if-sees_word.ensures) took_nothing)
