@@ -178,8 +178,7 @@ pub fn set<'a>(reader: &mut Reader<'a>) -> Result<&'a [u8], Stop>
 {
     reader.word(b"set")?;
     reader.word(b"conflicts")?;
-    let digits = reader.int()?;
-    Ok(digits)
+    reader.int()
 }
 
 /// Any statement but a `set`.
