@@ -13,6 +13,7 @@ use cqa_value::{Kind, Value};
 use script_lex::Symbol;
 use std::alloc::Global;
 
+/// `int` or `text`.
 pub fn kind(reader: &mut Reader<'_>) -> Result<Kind, Stop>
     ensures { Reads grammar.kind (λ k. Word (kind_word k) ∷ []) result reader.old reader.new }
 {
@@ -24,6 +25,7 @@ pub fn kind(reader: &mut Reader<'_>) -> Result<Kind, Stop>
     Ok(Kind::Text)
 }
 
+/// `NAME KIND`.
 pub fn column(alloc: Global, reader: &mut Reader<'_>) -> Result<Column, Stop>
     ensures reads { Reads grammar.column column_tokens result reader.old reader.new }
     ensures named { IfOk result (λ c. IsName c.name) }
@@ -33,6 +35,7 @@ pub fn column(alloc: Global, reader: &mut Reader<'_>) -> Result<Column, Stop>
     Ok(Column { name, kind })
 }
 
+/// An integer or a text.
 pub fn literal(alloc: Global, reader: &mut Reader<'_>) -> Result<Value, Stop>
     ensures { Reads grammar.literal literal_tokens result reader.old reader.new }
 {
@@ -50,6 +53,7 @@ pub fn literal(alloc: Global, reader: &mut Reader<'_>) -> Result<Value, Stop>
     }
 }
 
+/// `NAME` or `TABLE.NAME`.
 pub fn col(alloc: Global, reader: &mut Reader<'_>) -> Result<RawCol, Stop>
     ensures { Reads grammar.col col_tokens result reader.old reader.new }
 {
@@ -65,7 +69,7 @@ pub fn col(alloc: Global, reader: &mut Reader<'_>) -> Result<RawCol, Stop>
     Ok(RawCol { table: None, name })
 }
 
-/// An operator but `=`.
+/// `<>`, `<`, `<=`, `>` or `>=`.
 pub fn op_but_equal(reader: &mut Reader<'_>) -> Result<Op, Stop>
     ensures { Reads grammar.op_but_equal (λ op. Mark (op_symbol op) ∷ []) result reader.old reader.new }
 {
@@ -89,6 +93,7 @@ pub fn op_but_equal(reader: &mut Reader<'_>) -> Result<Op, Stop>
     Ok(Op::Ge)
 }
 
+/// `=`, `<>`, `<`, `<=`, `>` or `>=`.
 pub fn op(reader: &mut Reader<'_>) -> Result<Op, Stop>
     ensures { Reads grammar.op (λ op. Mark (op_symbol op) ∷ []) result reader.old reader.new }
 {

@@ -26,6 +26,7 @@ fn head(alloc: Global, reader: &mut Reader<'_>) -> Result<Items<RawCol>, Stop>
     Ok(Items::new(alloc))
 }
 
+/// `HEAD from NAME, .. [where COND and ..]`.
 fn query(alloc: Global, reader: &mut Reader<'_>) -> Result<Select, Stop>
     ensures reads { Reads factored.query select_tokens result reader.old reader.new }
     ensures some { IfOk result (λ q. 0 < length q.tables) }
@@ -41,6 +42,7 @@ fn query(alloc: Global, reader: &mut Reader<'_>) -> Result<Select, Stop>
     })
 }
 
+/// `ask`, `possible`, `classify` or `plan`, and a query.
 fn asking(alloc: Global, reader: &mut Reader<'_>) -> Result<Statement, Stop>
     ensures reads { Reads factored.asking_query statement_tokens result reader.old reader.new }
     ensures proper { IfOk result (λ s. IsProper s) }
@@ -66,7 +68,7 @@ fn asking(alloc: Global, reader: &mut Reader<'_>) -> Result<Statement, Stop>
     Ok(Statement::Plan(planned))
 }
 
-/// The names of a key.
+/// `primary key (NAME, ..)`.
 fn key(alloc: Global, reader: &mut Reader<'_>) -> Result<Items<Name>, Stop>
     ensures reads { Reads grammar.key (λ names. Word (codes "primary") ∷ Word (codes "key") ∷ Mark Symbol.Open ∷ (listed_tokens name_tokens names ++ Mark Symbol.Close ∷ [])) result reader.old reader.new }
     ensures some { IfOk result (λ v. 0 < length v) }
@@ -80,6 +82,7 @@ fn key(alloc: Global, reader: &mut Reader<'_>) -> Result<Items<Name>, Stop>
     Ok(names)
 }
 
+/// `create table NAME (NAME KIND, .., KEY)`.
 fn create(alloc: Global, reader: &mut Reader<'_>) -> Result<Statement, Stop>
     ensures reads { Reads factored.create statement_tokens result reader.old reader.new }
     ensures proper { IfOk result (λ s. IsProper s) }
@@ -96,6 +99,7 @@ fn create(alloc: Global, reader: &mut Reader<'_>) -> Result<Statement, Stop>
     Ok(Statement::Create { schema })
 }
 
+/// `insert into NAME values ROW, ..`.
 fn insert(alloc: Global, reader: &mut Reader<'_>) -> Result<Statement, Stop>
     ensures reads { Reads grammar.insert statement_tokens result reader.old reader.new }
     ensures proper { IfOk result (λ s. IsProper s) }
@@ -109,6 +113,7 @@ fn insert(alloc: Global, reader: &mut Reader<'_>) -> Result<Statement, Stop>
     Ok(Statement::Insert { table, rows })
 }
 
+/// `delete from NAME [where TEST and ..]`.
 fn delete(alloc: Global, reader: &mut Reader<'_>) -> Result<Statement, Stop>
     ensures reads { Reads grammar.delete statement_tokens result reader.old reader.new }
     ensures proper { IfOk result (λ s. IsProper s) }
@@ -131,6 +136,7 @@ fn optional_literals(alloc: Global, reader: &mut Reader<'_>) -> Result<Row, Stop
     Ok(Row::new(alloc))
 }
 
+/// `explain row (LITERAL, ..) for QUERY`; the row may be empty.
 fn explain(alloc: Global, reader: &mut Reader<'_>) -> Result<Statement, Stop>
     ensures reads { Reads factored.explain statement_tokens result reader.old reader.new }
     ensures proper { IfOk result (λ s. IsProper s) }
@@ -146,6 +152,7 @@ fn explain(alloc: Global, reader: &mut Reader<'_>) -> Result<Statement, Stop>
     Ok(Statement::Explain { row, select })
 }
 
+/// `copy NAME`.
 fn copy(alloc: Global, reader: &mut Reader<'_>) -> Result<Statement, Stop>
     ensures reads { Reads grammar.copy statement_tokens result reader.old reader.new }
     ensures proper { IfOk result (λ s. IsProper s) }
@@ -156,6 +163,7 @@ fn copy(alloc: Global, reader: &mut Reader<'_>) -> Result<Statement, Stop>
     Ok(Statement::Copy { table })
 }
 
+/// `show tables` or `show log`.
 fn show(reader: &mut Reader<'_>) -> Result<Statement, Stop>
     ensures reads { Reads factored.show statement_tokens result reader.old reader.new }
     ensures proper { IfOk result (λ s. IsProper s) }
@@ -170,7 +178,7 @@ fn show(reader: &mut Reader<'_>) -> Result<Statement, Stop>
     Ok(Statement::ShowLog)
 }
 
-/// The digits of the number of a `set`.
+/// `set conflicts NUMBER`: the digits of its number.
 pub fn set<'a>(reader: &mut Reader<'a>) -> Result<&'a [u8], Stop>
     ensures reads { Reads grammar.set (λ digits. Word (codes "set") ∷ Word (codes "conflicts") ∷ Number (integer_of digits.now) ∷ []) result reader.old reader.new }
     ensures digits { IfOk result (λ digits. IsTrue (are_digits (without_minus digits.now))) }
