@@ -13,20 +13,20 @@ use Rattle.cqa_model.proofs.Reification.{remove}
 use Rattle.cqa_model.proofs.Attacks.{IsClosed, after-closed, rest, kept}
 
 module _ (q : Query) (view : View) where
-  walk-start : (A : ℕ) (Hs : List ℕ) (B : ℕ) → IsWalk q view A Hs B → view.has A
+  walk-start : (A : ℕ) (Hs : List ℕ) (B : ℕ) → IsWalk (Attacks q view) A Hs B → view.has A
   walk-start A [] B w = w.0
   walk-start A (H ∷ Hs) B w = w.0.0
 
-  walk-end : (A : ℕ) (Hs : List ℕ) (B : ℕ) → IsWalk q view A Hs B → (C : ℕ) × Attacks q view C B
+  walk-end : (A : ℕ) (Hs : List ℕ) (B : ℕ) → IsWalk (Attacks q view) A Hs B → (C : ℕ) × Attacks q view C B
   walk-end A [] B w = (A, w)
   walk-end A (H ∷ Hs) B w = walk-end H Hs B w.1
 
-  walk-append : (A : ℕ) (Hs : List ℕ) (B : ℕ) (Is : List ℕ) (C : ℕ) → IsWalk q view A Hs B → IsWalk q view B Is C → (Js : List ℕ) × IsWalk q view A Js C
+  walk-append : (A : ℕ) (Hs : List ℕ) (B : ℕ) (Is : List ℕ) (C : ℕ) → IsWalk (Attacks q view) A Hs B → IsWalk (Attacks q view) B Is C → (Js : List ℕ) × IsWalk (Attacks q view) A Js C
   walk-append A [] B Is C v w = (B ∷ Is, (v, w))
   walk-append A (H ∷ Hs) B Is C v w = let r = walk-append H Hs B Is C v.1 w in (H ∷ r.0, (v.0, r.1))
 
 module _ (q : Query) where
-  cycle-before : (view : View) → IsClosed q view → (F : ℕ) (A : ℕ) (Hs : List ℕ) (B : ℕ) → IsWalk q (after q view F) A Hs B → IsWalk q view A Hs B
+  cycle-before : (view : View) → IsClosed q view → (F : ℕ) (A : ℕ) (Hs : List ℕ) (B : ℕ) → IsWalk (Attacks q (after q view F)) A Hs B → IsWalk (Attacks q view) A Hs B
   cycle-before view closed F A [] B w = rest q view closed F A B w
   cycle-before view closed F A (H ∷ Hs) B w = (rest q view closed F A H w.0, cycle-before view closed F H Hs B w.1)
 
@@ -36,7 +36,7 @@ module _ (q : Query) where
   abbrev pub IsNarrow : View → Type 0
   IsNarrow view = (K : ℕ) → view.has K → (p : ℕ) → Contains (atom_key q K) p → p < (atom_at q K).width
 
-  walk-after : (view : View) → IsClosed q view → IsNarrow view → (F : ℕ) → view.has F → IsUnattacked q view F → (A : ℕ) → A ≢ F → (Hs : List ℕ) (B : ℕ) → IsWalk q view A Hs B → IsWalk q (after q view F) A Hs B
+  walk-after : (view : View) → IsClosed q view → IsNarrow view → (F : ℕ) → view.has F → IsUnattacked q view F → (A : ℕ) → A ≢ F → (Hs : List ℕ) (B : ℕ) → IsWalk (Attacks q view) A Hs B → IsWalk (Attacks q (after q view F)) A Hs B
   walk-after view closed narrow F hF free A ne [] B w = kept q view closed F narrow hF free A w.0 ne B (λ e. free A (subst (λ z. Attacks q view A z) e w)) w
   walk-after view closed narrow F hF free A ne (H ∷ Hs) B w =
       let ne_H : H ≢ F = λ e. free A (subst (λ z. Attacks q view A z) e w.0) in
@@ -53,7 +53,7 @@ module _ (q : Query) where
   module _ (view : View) (attacker : (F : ℕ) → view.has F → (G : ℕ) × Attacks q view G F) where
     -- from x one comes to each atom that is not in the list
     abbrev IsSeen : List ℕ → ℕ → Type 0
-    IsSeen unseen x = (y : ℕ) → view.has y → Contains unseen y ⊎ ((x ≡ y) ⊎ ((Hs : List ℕ) × IsWalk q view x Hs y))
+    IsSeen unseen x = (y : ℕ) → view.has y → Contains unseen y ⊎ ((x ≡ y) ⊎ ((Hs : List ℕ) × IsWalk (Attacks q view) x Hs y))
 
     come_round_step : (unseen : List ℕ) (x : ℕ) → view.has x → IsSeen unseen x →
         ((others : List ℕ) (G : ℕ) → length unseen ≡ suc (length others) → view.has G → IsSeen others G → HasCycle q view) → HasCycle q view
@@ -68,7 +68,7 @@ module _ (q : Query) where
           ]
         ]
           where
-            onwards : (y : ℕ) → (x ≡ y) ⊎ ((Hs : List ℕ) × IsWalk q view x Hs y) → (Hs : List ℕ) × IsWalk q view G Hs y
+            onwards : (y : ℕ) → (x ≡ y) ⊎ ((Hs : List ℕ) × IsWalk (Attacks q view) x Hs y) → (Hs : List ℕ) × IsWalk (Attacks q view) G Hs y
             onwards y (inl e) = ([], subst (λ z. Attacks q view G z) e a)
             onwards y (inr w) = (x ∷ w.0, (a, w.1))
 

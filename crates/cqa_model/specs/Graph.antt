@@ -14,6 +14,7 @@ abbrev pub IsSequence : Query → View → ℕ → ColRef → List ColRef → Ty
 IsSequence q view F v [] = (InPlus q view F v → ⊥) × IsVar q view F v
 IsSequence q view F v (u ∷ us) = (InPlus q view F v → ⊥) × AreTogether q view u v × IsSequence q view F u us
 
+-- F reaches v: the sequences by which an attack of F is witnessed lead to v (Koutris and Wijsen, ACM TODS 2017)
 abbrev pub IsReached : Query → View → ℕ → ColRef → Type 0
 IsReached q view F v = (us : List ColRef) × IsSequence q view F v us
 
@@ -25,19 +26,28 @@ Attacks q view F G = view.has F × view.has G × (F ≢ G) × ((v : ColRef) × I
 abbrev pub IsWeak : Query → View → ℕ → ℕ → Type 0
 IsWeak q view F G = (v : ColRef) → IsKeyVar q view G v → InClosure q view view.has (IsKeyVar q view F) v
 
--- F attacks the first of these atoms, each the next, and the last G
-abbrev pub IsWalk : Query → View → ℕ → List ℕ → ℕ → Type 0
-IsWalk q view F [] G = Attacks q view F G
-IsWalk q view F (H ∷ Hs) G = Attacks q view F H × IsWalk q view H Hs G
+-- along attacks, given as a relation: F attacks the first of these atoms, each the next, and the last G
+abbrev pub IsWalk : (ℕ → ℕ → Type 0) → ℕ → List ℕ → ℕ → Type 0
+IsWalk attacks F [] G = attacks F G
+IsWalk attacks F (H ∷ Hs) G = attacks F H × IsWalk attacks H Hs G
 
--- one of the attacks of such a walk is strong
-abbrev pub HasStrongStep : Query → View → ℕ → List ℕ → ℕ → Type 0
-HasStrongStep q view F [] G = IsWeak q view F G → ⊥
-HasStrongStep q view F (H ∷ Hs) G = (IsWeak q view F H → ⊥) ⊎ HasStrongStep q view H Hs G
+-- one of the attacks of such a walk is strong, which is to say not weak
+abbrev pub HasStrongStep : (ℕ → ℕ → Type 0) → ℕ → List ℕ → ℕ → Type 0
+HasStrongStep weak F [] G = weak F G → ⊥
+HasStrongStep weak F (H ∷ Hs) G = (weak F H → ⊥) ⊎ HasStrongStep weak H Hs G
 
--- a walk that comes back. No atom attacks itself, so it has at least two atoms
+-- a walk comes back to its first atom
+abbrev pub IsCyclic : (ℕ → ℕ → Type 0) → Type 0
+IsCyclic attacks = (F : ℕ) × (Hs : List ℕ) × IsWalk attacks F Hs F
+
+-- a walk with a strong attack comes back to its first atom
+abbrev pub IsStronglyCyclic : (ℕ → ℕ → Type 0) → (ℕ → ℕ → Type 0) → Type 0
+IsStronglyCyclic attacks weak = (F : ℕ) × (Hs : List ℕ) × IsWalk attacks F Hs F × HasStrongStep weak F Hs F
+
+-- the attack graph has a cycle. No atom attacks itself, so it has at least two atoms
 abbrev pub HasCycle : Query → View → Type 0
-HasCycle q view = (F : ℕ) × (Hs : List ℕ) × IsWalk q view F Hs F
+HasCycle q view = IsCyclic (Attacks q view)
 
+-- the attack graph has a strong cycle: at least one of its attacks is strong (Koutris and Wijsen, ACM TODS 2017)
 abbrev pub HasStrongCycle : Query → View → Type 0
-HasStrongCycle q view = (F : ℕ) × (Hs : List ℕ) × IsWalk q view F Hs F × HasStrongStep q view F Hs F
+HasStrongCycle q view = IsStronglyCyclic (Attacks q view) (IsWeak q view)

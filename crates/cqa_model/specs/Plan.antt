@@ -48,6 +48,7 @@ PlanHolds q tables row taken (F ∷ plan) =
 abbrev pub HoldsOver : List Table → Query → List Value → List ℕ → Type 0
 HoldsOver db q row plan = PlanHolds q (stored db) row [] plan
 
+-- no atom of the view attacks F: its in-degree in the attack graph is zero (Koutris and Wijsen, ACM TODS 2017)
 abbrev pub IsUnattacked : Query → View → ℕ → Type 0
 IsUnattacked q view F = (G : ℕ) → Attacks q view G F → ⊥
 

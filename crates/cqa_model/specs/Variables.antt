@@ -19,10 +19,11 @@ abbrev pub IsChain : List Cond → ColRef → List ColRef → ColRef → Type 0
 IsChain conds c [] d = c ≡ d
 IsChain conds c (e ∷ es) d = IsJoined conds c e × IsChain conds e es d
 
+-- a chain of joins leads from c to d
 abbrev pub IsLinked : List Cond → ColRef → ColRef → Type 0
 IsLinked conds c d = (es : List ColRef) × IsChain conds c es d
 
--- two columns are of one variable: a chain of joins leads from one to the other
+-- two columns are of one variable: they are linked by the query's joins
 abbrev pub AreLinked : Query → ColRef → ColRef → Type 0
 AreLinked q c d = IsLinked q.conds c d
 
