@@ -4,7 +4,7 @@ use native.Mathlib.Decide.{ℕ_discrete}
 use Rattle.cqa_model.specs.declared.query.Query.{Query}
 use Rattle.cqa_model.specs.Graph.{Attacks as IsAttack}
 use Rattle.key_closure.specs.declared.atom_set.AtomSet.{AtomSet}
-use Rattle.key_closure.specs.declared.rest.View.{View}
+use Rattle.key_closure.specs.declared.view.View.{View}
 use Rattle.key_closure.specs.Sets.{HasAtom}
 use Rattle.key_closure.specs.Members.{seen}
 use Rattle.attack_graph.specs.Pairs.{HasPair}

@@ -10,19 +10,19 @@ use Rattle.cqa_model.proofs.Columns.{label-of_least}
 use Rattle.cqa_model.proofs.Interface.{reached-within}
 use Rattle.key_closure.specs.declared.variable_set.VarSet.{VarSet}
 use Rattle.key_closure.specs.declared.atom_set.AtomSet.{AtomSet}
-use Rattle.key_closure.specs.declared.rest.View.{View}
+use Rattle.key_closure.specs.declared.view.View.{View}
 use Rattle.key_closure.specs.Sets.{Has, HasAtom}
-use Rattle.key_closure.specs.Members.{IsIn, IsSetOf, seen, uses}
+use Rattle.key_closure.specs.Members.{IsIn, IsSetOf, seen, IsAmong}
 use Rattle.key_closure.proofs.Growing.{in_union, union_left, union_right, closure-map}
 use Rattle.attack_graph.specs.Attacking.{IsTouched}
 
 pub plus-set : (q : Query) (view : View) (F : ℕ) (start s : VarSet) (all atoms : AtomSet) → IsSetOf q start (IsKeyVar q (seen q view) F) →
     ((K : ℕ) → HasAtom all K ↔ (seen q view).has K) → ((K : ℕ) → HasAtom atoms K ↔ (HasAtom all K × (K ≢ F))) →
-    IsSetOf q s (InClosure q (seen q view) (uses q atoms) (IsIn q start)) → IsSetOf q s (InPlus q (seen q view) F)
+    IsSetOf q s (InClosure q (seen q view) (IsAmong q atoms) (IsIn q start)) → IsSetOf q s (InPlus q (seen q view) F)
 plus-set q view F start s all atoms hs ha ht hc c = (
-  (λ m. closure-map q (seen q view) (uses q atoms) (λ K. (seen q view).has K × (K ≢ F)) (IsIn q start) (IsKeyVar q (seen q view) F)
+  (λ m. closure-map q (seen q view) (IsAmong q atoms) (λ K. (seen q view).has K × (K ≢ F)) (IsIn q start) (IsKeyVar q (seen q view) F)
       (λ K u. let a = (ht K).0 u.1 in ((ha K).0 a.0, a.1)) (λ v i. (hs v).0 i) c ((hc c).0 m)),
-  (λ p. (hc c).1 (closure-map q (seen q view) (λ K. (seen q view).has K × (K ≢ F)) (uses q atoms) (IsKeyVar q (seen q view) F) (IsIn q start)
+  (λ p. (hc c).1 (closure-map q (seen q view) (λ K. (seen q view).has K × (K ≢ F)) (IsAmong q atoms) (IsKeyVar q (seen q view) F) (IsIn q start)
       (λ K u. (u.0.0, (ht K).1 ((ha K).1 u.0, u.1))) (λ v i. (hs v).1 i) c p)),
 )
 
@@ -59,7 +59,7 @@ module _ (q : Query) (view : View) (F : ℕ) where
   }
 
   pub spread-more : (set : VarSet) (waiting : AtomSet) (K : ℕ) (out new : VarSet) (rest : AtomSet) → Spread q view F set waiting →
-      uses q waiting K → IsTouched q view set K → IsSetOf q out (λ c. IsVar q (seen q view) K c × (InPlus q (seen q view) F c → ⊥)) →
+      IsAmong q waiting K → IsTouched q view set K → IsSetOf q out (λ c. IsVar q (seen q view) K c × (InPlus q (seen q view) F c → ⊥)) →
       ((k : ℕ) → Has new k ↔ (Has set k ⊎ Has out k)) →
       ((k : ℕ) → HasAtom rest k ↔ (HasAtom waiting k × (k ≢ K))) → Spread q view F new rest
   spread-more set waiting K out new rest g u touch is union taken = record {
@@ -78,7 +78,7 @@ module _ (q : Query) (view : View) (F : ℕ) where
       go L (no n) (inl w) = inl ((taken L).1 (w, n))
       go L (no n) (inr f) = inr (λ c m o. union_left q set out new union c (f c m o))
 
-  pub spread-end : (set : VarSet) (waiting : AtomSet) → Spread q view F set waiting → ((K : ℕ) → uses q waiting K → IsTouched q view set K → ⊥) →
+  pub spread-end : (set : VarSet) (waiting : AtomSet) → Spread q view F set waiting → ((K : ℕ) → IsAmong q waiting K → IsTouched q view set K → ⊥) →
       IsSetOf q set (IsReached q (seen q view) F)
   spread-end set waiting g none c = (
     g.sound c,
@@ -90,8 +90,8 @@ module _ (q : Query) (view : View) (F : ℕ) where
 
 pub weak-set : (q : Query) (view : View) (F : ℕ) (start s : VarSet) (all : AtomSet) → IsSetOf q start (IsKeyVar q (seen q view) F) →
     ((K : ℕ) → HasAtom all K ↔ (seen q view).has K) →
-    IsSetOf q s (InClosure q (seen q view) (uses q all) (IsIn q start)) → IsSetOf q s (InClosure q (seen q view) (seen q view).has (IsKeyVar q (seen q view) F))
+    IsSetOf q s (InClosure q (seen q view) (IsAmong q all) (IsIn q start)) → IsSetOf q s (InClosure q (seen q view) (seen q view).has (IsKeyVar q (seen q view) F))
 weak-set q view F start s all hs ha hc c = (
-  (λ m. closure-map q (seen q view) (uses q all) (seen q view).has (IsIn q start) (IsKeyVar q (seen q view) F) (λ K u. (ha K).0 u.1) (λ v i. (hs v).0 i) c ((hc c).0 m)),
-  (λ p. (hc c).1 (closure-map q (seen q view) (seen q view).has (uses q all) (IsKeyVar q (seen q view) F) (IsIn q start) (λ K u. (u.0, (ha K).1 u)) (λ v i. (hs v).1 i) c p)),
+  (λ m. closure-map q (seen q view) (IsAmong q all) (seen q view).has (IsIn q start) (IsKeyVar q (seen q view) F) (λ K u. (ha K).0 u.1) (λ v i. (hs v).0 i) c ((hc c).0 m)),
+  (λ p. (hc c).1 (closure-map q (seen q view) (seen q view).has (IsAmong q all) (IsKeyVar q (seen q view) F) (IsIn q start) (λ K u. (u.0, (ha K).1 u)) (λ v i. (hs v).1 i) c p)),
 )

@@ -5,7 +5,7 @@ use Rattle.cqa_model.specs.declared.query.Query.{Query}
 use Rattle.cqa_model.specs.Variables.{View as Rest, IsVar}
 use Rattle.cqa_model.specs.Graph.{Attacks as IsAttack, IsWeak}
 use Rattle.key_closure.specs.declared.variable_set.VarSet.{VarSet}
-use Rattle.key_closure.specs.declared.rest.View.{View}
+use Rattle.key_closure.specs.declared.view.View.{View}
 use Rattle.key_closure.specs.Members.{IsIn, seen}
 use Rattle.attack_graph.specs.declared.graph.Attacks.{Attacks}
 use Rattle.attack_graph.specs.Pairs.{HasPair}

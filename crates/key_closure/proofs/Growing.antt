@@ -12,9 +12,9 @@ use Rattle.cqa_model.proofs.Views.{linked-self}
 use Rattle.cqa_model.proofs.Interface.{closure-within, closure-keeps, dec_free}
 use Rattle.key_closure.specs.declared.variable_set.VarSet.{VarSet}
 use Rattle.key_closure.specs.declared.atom_set.AtomSet.{AtomSet}
-use Rattle.key_closure.specs.declared.rest.View.{View}
+use Rattle.key_closure.specs.declared.view.View.{View}
 use Rattle.key_closure.specs.Sets.{Has, HasAtom}
-use Rattle.key_closure.specs.Members.{IsIn, IsSetOf, seen, IsReady, uses}
+use Rattle.key_closure.specs.Members.{IsIn, IsSetOf, IsProper, seen, IsReady, IsAmong}
 use Rattle.key_closure.proofs.Members.{is_in-linked, dec_in}
 
 -- what is in a union
@@ -27,17 +27,21 @@ union_left q a b s h c (d, r, l, least, m) = (d, r, l, least, (h (number d)).1 (
 pub union_right : (q : Query) (a b s : VarSet) → ((k : ℕ) → Has s k ↔ (Has a k ⊎ Has b k)) → (c : ColRef) → IsIn q b c → IsIn q s c
 union_right q a b s h c (d, r, l, least, m) = (d, r, l, least, (h (number d)).1 (inr m))
 
+pub union-proper : (q : Query) (a b s : VarSet) → ((k : ℕ) → Has s k ↔ (Has a k ⊎ Has b k)) → IsProper q a → IsProper q b → IsProper q s
+union-proper q a b s h pa pb k m = elim ((h k).0 m) [ inl x ↦ pa k x | inr y ↦ pb k y ]
+
 -- the closure so far: each atom waits, or its variables are in the set
 pub record Grown (q : Query) (view : View) (start : VarSet) (atoms : AtomSet) (set : VarSet) (waiting : AtomSet) : Type 0 where
-  pub sound : (c : ColRef) → IsIn q set c → InClosure q (seen q view) (uses q atoms) (IsIn q start) c
+  pub sound : (c : ColRef) → IsIn q set c → InClosure q (seen q view) (IsAmong q atoms) (IsIn q start) c
   pub starts : (c : ColRef) → IsIn q start c → IsIn q set c
   pub waits : (K : ℕ) → HasAtom waiting K → HasAtom atoms K
-  pub fired : (K : ℕ) → uses q atoms K → HasAtom waiting K ⊎ ((c : ColRef) → IsVar q (seen q view) K c → IsIn q set c)
+  pub fired : (K : ℕ) → IsAmong q atoms K → HasAtom waiting K ⊎ ((c : ColRef) → IsVar q (seen q view) K c → IsIn q set c)
+  pub proper : IsProper q start → IsProper q set
 
 module _ (q : Query) (view : View) (start : VarSet) (atoms : AtomSet) where
-  keeps : (K : ℕ) → uses q atoms K → ((u : ColRef) → IsKeyVar q (seen q view) K u → InClosure q (seen q view) (uses q atoms) (IsIn q start) u) →
-      (v : ColRef) → IsVar q (seen q view) K v → InClosure q (seen q view) (uses q atoms) (IsIn q start) v
-  keeps = closure-keeps q (seen q view) (λ u v l h. is_in-linked q view.fixed u v l h) (uses q atoms) (IsIn q start) (dec_free q (seen q view) (dec_in q view.fixed))
+  keeps : (K : ℕ) → IsAmong q atoms K → ((u : ColRef) → IsKeyVar q (seen q view) K u → InClosure q (seen q view) (IsAmong q atoms) (IsIn q start) u) →
+      (v : ColRef) → IsVar q (seen q view) K v → InClosure q (seen q view) (IsAmong q atoms) (IsIn q start) v
+  keeps = closure-keeps q (seen q view) (λ u v l h. is_in-linked q view.fixed u v l h) (IsAmong q atoms) (IsIn q start) (dec_free q (seen q view) (dec_in q view.fixed))
 
   pub grown-start : Grown q view start atoms start atoms
   grown-start = record {
@@ -45,12 +49,13 @@ module _ (q : Query) (view : View) (start : VarSet) (atoms : AtomSet) where
     starts = λ c h. h;
     waits = λ K h. h;
     fired = λ K h. inl h.1;
+    proper = λ h. h;
   }
 
   pub grown-more : (set : VarSet) (waiting : AtomSet) (K : ℕ) (vars new : VarSet) (rest : AtomSet) → Grown q view start atoms set waiting →
-      uses q waiting K → IsReady q view set K → IsSetOf q vars (IsVar q (seen q view) K) → ((k : ℕ) → Has new k ↔ (Has set k ⊎ Has vars k)) →
+      IsAmong q waiting K → IsReady q view set K → IsSetOf q vars (IsVar q (seen q view) K) → IsProper q vars → ((k : ℕ) → Has new k ↔ (Has set k ⊎ Has vars k)) →
       ((k : ℕ) → HasAtom rest k ↔ (HasAtom waiting k × (k ≢ K))) → Grown q view start atoms new rest
-  grown-more set waiting K vars new rest g u ready is union taken = record {
+  grown-more set waiting K vars new rest g u ready is named union taken = record {
     sound = λ c h. elim (in_union q set vars new union c h) [
       | inl m ↦ g.sound c m
       | inr m ↦ keeps K (u.0, g.waits K u.1) (λ v kv. g.sound v (ready v kv)) c ((is c).0 m)
@@ -58,6 +63,7 @@ module _ (q : Query) (view : View) (start : VarSet) (atoms : AtomSet) where
     starts = λ c h. union_left q set vars new union c (g.starts c h);
     waits = λ L h. g.waits L ((taken L).0 h).0;
     fired = λ L h. go L (ℕ_discrete L K) (g.fired L h);
+    proper = λ h. union-proper q set vars new union (g.proper h) named;
   }
     where
       go : (L : ℕ) → Dec (L ≡ K) → HasAtom waiting L ⊎ ((c : ColRef) → IsVar q (seen q view) L c → IsIn q set c) → HasAtom rest L ⊎ ((c : ColRef) → IsVar q (seen q view) L c → IsIn q new c)
@@ -65,11 +71,11 @@ module _ (q : Query) (view : View) (start : VarSet) (atoms : AtomSet) where
       go L (no n) (inl w) = inl ((taken L).1 (w, n))
       go L (no n) (inr f) = inr (λ c m. union_left q set vars new union c (f c m))
 
-  pub grown-end : (set : VarSet) (waiting : AtomSet) → Grown q view start atoms set waiting → ((K : ℕ) → uses q waiting K → IsReady q view set K → ⊥) →
-      IsSetOf q set (InClosure q (seen q view) (uses q atoms) (IsIn q start))
+  pub grown-end : (set : VarSet) (waiting : AtomSet) → Grown q view start atoms set waiting → ((K : ℕ) → IsAmong q waiting K → IsReady q view set K → ⊥) →
+      IsSetOf q set (InClosure q (seen q view) (IsAmong q atoms) (IsIn q start))
   grown-end set waiting g none c = (
     g.sound c,
-    closure-within q (seen q view) (λ u v l h. is_in-linked q view.fixed u v l h) (uses q atoms) (IsIn q start) (IsIn q set) (is_in-linked q set) g.starts
+    closure-within q (seen q view) (λ u v l h. is_in-linked q view.fixed u v l h) (IsAmong q atoms) (IsIn q start) (IsIn q set) (is_in-linked q set) g.starts
         (λ K uK ready v m. elim (g.fired K uK) [ inl w ↦ absurd (none K (uK.0, w) ready) | inr f ↦ f v m ]) c,
   )
 

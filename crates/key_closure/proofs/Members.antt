@@ -21,7 +21,7 @@ use Rattle.cqa_model.proofs.Attacks.{IsClosed}
 use Rattle.cqa_model.proofs.Labels.{label-linked}
 use Rattle.cqa_model.proofs.Columns.{range-small, linked-in_range, label-of_least, least-of, name-label, label-same, class-label}
 use Rattle.key_closure.specs.declared.variable_set.VarSet.{VarSet}
-use Rattle.key_closure.specs.declared.rest.View.{View}
+use Rattle.key_closure.specs.declared.view.View.{View}
 use Rattle.key_closure.specs.Sets.{Has}
 use Rattle.key_closure.specs.Members.{IsIn, IsSetOf, seen, IsProper, IsFreeClass, IsVarClass, IsKeyClass}
 

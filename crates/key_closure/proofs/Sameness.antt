@@ -3,7 +3,7 @@ use Rattle.std.proofs.Common.{◌≡◌, ℕ, ◌↔◌, ◌⊎◌, inl, inr, tr
 use Rattle.cqa_model.specs.declared.query.Query.{Query}
 use Rattle.cqa_model.specs.Variables.{IsVar, after}
 use Rattle.key_closure.specs.declared.variable_set.VarSet.{VarSet}
-use Rattle.key_closure.specs.declared.rest.View.{View}
+use Rattle.key_closure.specs.declared.view.View.{View}
 use Rattle.key_closure.specs.Sets.{Has, HasAtom}
 use Rattle.key_closure.specs.Members.{IsSetOf, seen, AreSame}
 use Rattle.key_closure.proofs.Growing.{in_union, union_left, union_right}

@@ -9,7 +9,7 @@ use Rattle.cqa_model.specs.Variables.{View as Rest}
 use Rattle.cqa_model.specs.Naming.{class_at, IsConstantClass}
 use Rattle.key_closure.specs.declared.variable_set.VarSet.{VarSet}
 use Rattle.key_closure.specs.declared.atom_set.AtomSet.{AtomSet}
-use Rattle.key_closure.specs.declared.rest.View.{View}
+use Rattle.key_closure.specs.declared.view.View.{View}
 use Rattle.key_closure.specs.Sets.{Has, HasAtom}
 
 -- the variable of c is in the set, by the number of its least column
@@ -37,9 +37,9 @@ pub record AreSame (a b : Rest) : Type 0 where
   pub has : (F : ℕ) → a.has F ↔ b.has F
   pub fixed : (c : ColRef) → a.fixed c ↔ b.fixed c
 
--- these of the query's atoms
-abbrev pub uses : Query → AtomSet → ℕ → Type 0
-uses q s K = (K < length q.atoms) × HasAtom s K
+-- one of the query's atoms, and in the set
+abbrev pub IsAmong : Query → AtomSet → ℕ → Type 0
+IsAmong q s K = (K < length q.atoms) × HasAtom s K
 
 -- another atom than this one, if one is given
 abbrev pub IsOther : Option ℕ → ℕ → Type 0

@@ -53,7 +53,8 @@ impl AtomSet {
 
     /// The first atom that is in both sets.
     pub fn first_shared(&self, other: &AtomSet) -> Option<u32>
-        ensures { MatchOption result ((k : ℕ) → HasAtom self.now k → HasAtom other.now k → ⊥) (λ k. (k < 12) × HasAtom self.now k × HasAtom other.now k) }
+        ensures { MatchOption result ((k : ℕ) → HasAtom self.now k → HasAtom other.now k → ⊥)
+            (λ k. (k < 12) × HasAtom self.now k × HasAtom other.now k × ((j : ℕ) → j < k → HasAtom self.now j → HasAtom other.now j → ⊥)) }
     {
         for atom in 0..12u32 {
             if self.has(atom) && other.has(atom) {

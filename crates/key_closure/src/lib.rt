@@ -6,11 +6,11 @@
 
 mod atom_set;
 pub mod named;
-mod rest;
 mod set_by_query;
 mod variable_set;
+mod view;
 
 pub use atom_set::AtomSet;
-pub use rest::View;
 pub use set_by_query::{closure, key_set, var_set};
 pub use variable_set::VarSet;
+pub use view::View;

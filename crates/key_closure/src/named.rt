@@ -17,7 +17,7 @@ ghost use Rattle.key_closure.specs.Members.{
   IsSetOf,
   IsVarClass,
   seen,
-  uses,
+  IsAmong,
 };
 
 use crate::{AtomSet, VarSet, View};
@@ -47,7 +47,8 @@ pub fn var_set(query: &Query, variables: &Variables, view: &View, atom: u32) -> 
 pub fn after(query: &Query, variables: &Variables, view: &View, atom: u32) -> View
     requires variables { AreVariables query.now variables.now }
     requires atom { atom < length query.now.atoms }
-    ensures { AreSame (view_after query.now (seen query.now view.now) atom) (seen query.now result) }
+    ensures is { AreSame (view_after query.now (seen query.now view.now) atom) (seen query.now result) }
+    ensures proper { IsProper query.now view.now.fixed → IsProper query.now result.fixed }
 {
     let mut gone = view.gone;
     gone.insert_if(atom, true);
@@ -78,7 +79,8 @@ pub fn closure(
     atoms: &AtomSet,
 ) -> VarSet
     requires { AreVariables query.now variables.now }
-    ensures { IsSetOf query.now result (InClosure query.now (seen query.now view.now) (uses query.now atoms.now) (IsIn query.now start.now)) }
+    ensures is { IsSetOf query.now result (InClosure query.now (seen query.now view.now) (IsAmong query.now atoms.now) (IsIn query.now start.now)) }
+    ensures proper { IsProper query.now start.now → IsProper query.now result }
 {
     let mut set = *start;
     let mut waiting = *atoms;
@@ -109,8 +111,8 @@ fn first_ready(
     waiting: &AtomSet,
 ) -> Option<u32>
     requires { AreVariables query.now variables.now }
-    ensures { MatchOption result ((K : ℕ) → uses query.now waiting.now K → IsReady query.now view.now set.now K → ⊥)
-        (λ K. uses query.now waiting.now K × IsReady query.now view.now set.now K) }
+    ensures { MatchOption result ((K : ℕ) → IsAmong query.now waiting.now K → IsReady query.now view.now set.now K → ⊥)
+        (λ K. IsAmong query.now waiting.now K × IsReady query.now view.now set.now K) }
 {
     for atom in 0..query.atoms.as_slice().len() as u32 {
         if waiting.has(atom) && is_ready(query, variables, view, set, atom) {

@@ -1,7 +1,7 @@
 ghost use Rattle.std.specs.Prelude.{ℕ, ◌<◌, ◌↔◌, length};
 ghost use Rattle.cqa_model.specs.Variables.{IsKeyVar, IsVar};
 ghost use Rattle.cqa_model.specs.Closures.{InClosure};
-ghost use Rattle.key_closure.specs.Members.{IsIn, IsProper, IsSetOf, IsUsed, seen, uses};
+ghost use Rattle.key_closure.specs.Members.{IsIn, IsProper, IsSetOf, IsUsed, seen, IsAmong};
 
 use crate::{AtomSet, VarSet, View, named};
 use cqa_model::{Query, variables};
@@ -26,7 +26,8 @@ pub fn var_set(query: &Query, view: &View, atom: u32) -> VarSet
 
 /// The closure of a set under the dependencies key(K) → vars(K) of the view's atoms K, but for one where it is given.
 pub fn closure(query: &Query, view: &View, start: &VarSet, without: Option<u32>) -> VarSet
-    ensures { IsSetOf query.now result (InClosure query.now (seen query.now view.now) (IsUsed query.now view.now without) (IsIn query.now start.now)) }
+    ensures is { IsSetOf query.now result (InClosure query.now (seen query.now view.now) (IsUsed query.now view.now without) (IsIn query.now start.now)) }
+    ensures proper { IsProper query.now start.now → IsProper query.now result }
 {
     let atoms = used(query, view, without);
     named::closure(query, &variables(query), view, start, &atoms)
@@ -34,7 +35,7 @@ pub fn closure(query: &Query, view: &View, start: &VarSet, without: Option<u32>)
 
 /// The atoms that are left, but one.
 fn used(query: &Query, view: &View, without: Option<u32>) -> AtomSet
-    ensures { (K : ℕ) → uses query.now result K ↔ IsUsed query.now view.now without K }
+    ensures { (K : ℕ) → IsAmong query.now result K ↔ IsUsed query.now view.now without K }
 {
     let mut atoms = named::left(query, view);
     if let Some(atom) = without {

@@ -11,11 +11,12 @@ pub struct View {
 impl View {
     ghost use Rattle.std.specs.Prelude.{◌<◌, length};
     ghost use Rattle.cqa_model.specs.Variables.{after, whole};
-    ghost use Rattle.key_closure.specs.Members.{AreSame, seen};
+    ghost use Rattle.key_closure.specs.Members.{AreSame, IsProper, seen};
 
     /// The whole query.
     pub fn whole(query: &Query) -> View
-        ensures { AreSame (whole query.now) (seen query.now result) }
+        ensures is { AreSame (whole query.now) (seen query.now result) }
+        ensures proper { IsProper query.now result.fixed }
     {
         View {
             gone: AtomSet::new(),
@@ -26,7 +27,8 @@ impl View {
     /// The view once an atom is taken out and its variables are fixed.
     pub fn after(&self, query: &Query, atom: u32) -> View
         requires { atom < length query.now.atoms }
-        ensures { AreSame (after query.now (seen query.now self.now) atom) (seen query.now result) }
+        ensures is { AreSame (after query.now (seen query.now self.now) atom) (seen query.now result) }
+        ensures proper { IsProper query.now self.now.fixed → IsProper query.now result.fixed }
     {
         named::after(query, &variables(query), self, atom)
     }
