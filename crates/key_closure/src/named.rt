@@ -8,6 +8,7 @@ ghost use Rattle.cqa_model.specs.Naming.{AreVariables};
 ghost use Rattle.key_closure.specs.Sets.{Has, HasAtom};
 ghost use Rattle.key_closure.specs.Members.{
   AreSame,
+  IsAmong,
   IsFreeClass,
   IsIn,
   IsKeyClass,
@@ -17,7 +18,6 @@ ghost use Rattle.key_closure.specs.Members.{
   IsSetOf,
   IsVarClass,
   seen,
-  IsAmong,
 };
 
 use crate::{AtomSet, VarSet, View};
@@ -64,7 +64,7 @@ pub fn left(query: &Query, view: &View) -> AtomSet
     ensures { (K : ℕ) → HasAtom result K ↔ IsLeft query.now view.now K }
 {
     let mut atoms = AtomSet::new();
-    for atom in 0..query.atoms.as_slice().len() as u32 {
+    for atom in 0..query.atoms.len() as u32 {
         atoms.insert_if(atom, !view.gone.has(atom));
     }
     atoms
@@ -114,7 +114,7 @@ fn first_ready(
     ensures { MatchOption result ((K : ℕ) → IsAmong query.now waiting.now K → IsReady query.now view.now set.now K → ⊥)
         (λ K. IsAmong query.now waiting.now K × IsReady query.now view.now set.now K) }
 {
-    for atom in 0..query.atoms.as_slice().len() as u32 {
+    for atom in 0..query.atoms.len() as u32 {
         if waiting.has(atom) && is_ready(query, variables, view, set, atom) {
             return Some(atom);
         }

@@ -1,7 +1,7 @@
 ghost use Rattle.std.specs.Prelude.{ℕ, ◌<◌, ◌↔◌, length};
 ghost use Rattle.cqa_model.specs.Variables.{IsKeyVar, IsVar};
 ghost use Rattle.cqa_model.specs.Closures.{InClosure};
-ghost use Rattle.key_closure.specs.Members.{IsIn, IsProper, IsSetOf, IsUsed, seen, IsAmong};
+ghost use Rattle.key_closure.specs.Members.{IsAmong, IsIn, IsProper, IsSetOf, IsUsed, seen};
 
 use crate::{AtomSet, VarSet, View, named};
 use cqa_model::{Query, variables};
