@@ -11,17 +11,17 @@ use Rattle.attack_graph.specs.declared.graph.Attacks.{Attacks}
 use Rattle.attack_graph.specs.Pairs.{HasPair}
 
 -- in the graph, F attacks G
-abbrev pub AttackBy : Attacks → ℕ → ℕ → Type 0
-AttackBy a F G = HasPair a.by F G
+abbrev pub HasAttack : Attacks → ℕ → ℕ → Type 0
+HasAttack a F G = HasPair a.by F G
 
--- and this attack is weak
-abbrev pub WeakBy : Attacks → ℕ → ℕ → Type 0
-WeakBy a F G = HasPair a.weak F G
+-- in the graph, F attacks G weakly
+abbrev pub HasWeakAttack : Attacks → ℕ → ℕ → Type 0
+HasWeakAttack a F G = HasPair a.weak F G
 
 -- the graph has exactly the attacks of a view of a query, and those of them are weak in it that are weak
 pub record AreAttacks (q : Query) (view : Rest) (a : Attacks) : Type 0 where
-  pub by : (F G : ℕ) → AttackBy a F G ↔ IsAttack q view F G
-  pub weak : (F G : ℕ) → IsAttack q view F G → WeakBy a F G ↔ IsWeak q view F G
+  pub by : (F G : ℕ) → HasAttack a F G ↔ IsAttack q view F G
+  pub weak : (F G : ℕ) → IsAttack q view F G → HasWeakAttack a F G ↔ IsWeak q view F G
 
 -- a variable of K is in the set
 abbrev pub IsTouched : Query → View → VarSet → ℕ → Type 0

@@ -30,7 +30,7 @@ fn attack_rows(query: &Query, variables: &Variables, view: &View) -> [AtomSet; 1
     ensures { (F G : ℕ) → HasPair result F G ↔ IsAttack query.now (seen query.now view.now) F G }
 {
     let mut rows = [AtomSet::new(); 12];
-    for atom in 0..query.atoms.as_slice().len() as u32 {
+    for atom in 0..query.atoms.len() as u32 {
         rows[atom as usize] = attack_row(query, variables, view, atom);
     }
     rows
@@ -56,7 +56,7 @@ fn attacked_by(query: &Query, variables: &Variables, view: &View, from: u32) -> 
 {
     let reached = reached_from(query, variables, view, from);
     let mut atoms = AtomSet::new();
-    for atom in 0..query.atoms.as_slice().len() as u32 {
+    for atom in 0..query.atoms.len() as u32 {
         let wanted = is_attacked(query, variables, view, from, &reached, atom);
         atoms.insert_if(atom, wanted);
     }
@@ -95,7 +95,7 @@ fn weak_rows(query: &Query, variables: &Variables, view: &View) -> [AtomSet; 12]
     ensures { (F G : ℕ) → HasPair result F G ↔ ((F < length query.now.atoms) × (G < length query.now.atoms) × IsWeak query.now (seen query.now view.now) F G) }
 {
     let mut rows = [AtomSet::new(); 12];
-    for atom in 0..query.atoms.as_slice().len() as u32 {
+    for atom in 0..query.atoms.len() as u32 {
         rows[atom as usize] = weak_row(query, variables, view, atom);
     }
     rows
@@ -109,7 +109,7 @@ fn weak_row(query: &Query, variables: &Variables, view: &View, from: u32) -> Ato
 {
     let derived = derived_from(query, variables, view, from);
     let mut atoms = AtomSet::new();
-    for atom in 0..query.atoms.as_slice().len() as u32 {
+    for atom in 0..query.atoms.len() as u32 {
         let wanted = is_weak(query, variables, view, from, &derived, atom);
         atoms.insert_if(atom, wanted);
     }

@@ -14,32 +14,32 @@ pub struct Attacks {
 impl Attacks {
     ghost use Rattle.std.specs.Prelude.{◌↔◌, IsTrue};
     ghost use Rattle.key_closure.specs.Sets.{HasAtom};
-    ghost use Rattle.attack_graph.specs.Attacking.{AttackBy, WeakBy};
+    ghost use Rattle.attack_graph.specs.Attacking.{HasAttack, HasWeakAttack};
 
     /// Does an atom attack another?
-    pub fn has(&self, f: u32, g: u32) -> bool
-        requires attacker { f < 12 }
-        requires attacked { g < 12 }
-        ensures { IsTrue result ↔ AttackBy self.now f g }
+    pub fn has(&self, attacker: u32, attacked: u32) -> bool
+        requires attacker { attacker < 12 }
+        requires attacked { attacked < 12 }
+        ensures { IsTrue result ↔ HasAttack self.now attacker attacked }
     {
-        self.by[f as usize].has(g)
+        self.by[attacker as usize].has(attacked)
     }
 
     /// Is this attack of an atom on another weak?
-    pub fn weak(&self, f: u32, g: u32) -> bool
-        requires attacker { f < 12 }
-        requires attacked { g < 12 }
-        requires attack { AttackBy self.now f g }
-        ensures { IsTrue result ↔ WeakBy self.now f g }
+    pub fn weak(&self, attacker: u32, attacked: u32) -> bool
+        requires attacker { attacker < 12 }
+        requires attacked { attacked < 12 }
+        requires attack { HasAttack self.now attacker attacked }
+        ensures { IsTrue result ↔ HasWeakAttack self.now attacker attacked }
     {
-        self.weak[f as usize].has(g)
+        self.weak[attacker as usize].has(attacked)
     }
 
     /// The atoms that an atom attacks.
-    pub fn attacked_by(&self, f: u32) -> AtomSet
-        requires { f < 12 }
-        ensures { (G : ℕ) → HasAtom result G ↔ AttackBy self.now f G }
+    pub fn attacked_by(&self, attacker: u32) -> AtomSet
+        requires { attacker < 12 }
+        ensures { (G : ℕ) → HasAtom result G ↔ HasAttack self.now attacker G }
     {
-        self.by[f as usize]
+        self.by[attacker as usize]
     }
 }

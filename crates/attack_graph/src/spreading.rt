@@ -5,7 +5,7 @@ ghost use Rattle.cqa_model.specs.Variables.{IsVar};
 ghost use Rattle.cqa_model.specs.Closures.{InPlus};
 ghost use Rattle.cqa_model.specs.Graph.{IsReached};
 ghost use Rattle.cqa_model.specs.Naming.{AreVariables};
-ghost use Rattle.key_closure.specs.Members.{IsLeft, IsSetOf, seen, IsAmong};
+ghost use Rattle.key_closure.specs.Members.{IsAmong, IsLeft, IsSetOf, seen};
 ghost use Rattle.attack_graph.specs.Attacking.{IsTouched};
 
 use cqa_model::{Query, Variables};
@@ -86,7 +86,7 @@ fn first_touched(
     ensures { MatchOption result ((K : ℕ) → IsAmong query.now waiting.now K → IsTouched query.now view.now set.now K → ⊥)
         (λ K. IsAmong query.now waiting.now K × IsTouched query.now view.now set.now K) }
 {
-    for atom in 0..query.atoms.as_slice().len() as u32 {
+    for atom in 0..query.atoms.len() as u32 {
         if waiting.has(atom) && is_touched(query, variables, view, set, atom) {
             return Some(atom);
         }

@@ -11,7 +11,7 @@ use Rattle.cqa_model.specs.Database.{Table}
 use Rattle.cqa_model.specs.Variables.{whole}
 use Rattle.cqa_model.proofs.Classic.{mem-head, mem-tail, mem-nil}
 use Rattle.attack_graph.specs.declared.graph.Attacks.{Attacks as Graph}
-use Rattle.attack_graph.specs.Attacking.{AttackBy, AreAttacks}
+use Rattle.attack_graph.specs.Attacking.{HasAttack, AreAttacks}
 use Rattle.query_class.specs.declared.classes.Class.{Class}
 use Rattle.query_class.specs.Cycles.{IsClass}
 use Rattle.query_resolve.specs.Checks.{query_fault}
@@ -28,7 +28,7 @@ use Rattle.command_shell.specs.Machine.{RefusedOr, Executes, Replies}
 pub record AreLines (g : Graph) (names : List (List ℕ)) (n : ℕ) (lines : List AttackLine) : Type 0 where
   pub attacks : List Attack
   pub in_order : AllPairs IsBefore attacks
-  pub exactly : (a : Attack) → Contains attacks a ↔ (AttackBy g a.from a.to × (12 * a.from + a.to < n))
+  pub exactly : (a : Attack) → Contains attacks a ↔ (HasAttack g a.from a.to × (12 * a.from + a.to < n))
   pub each : AllZip (IsGraphLine g names) attacks lines
 
 at_in : {A : Type 0} (xs : List A) (d : A) (j : ℕ) → j < length xs → Contains xs (get_or xs j d)
@@ -63,7 +63,7 @@ module _ (g : Graph) (names : List (List ℕ)) where
         go (yes f) = inl f
         go (no f) = inr (omega (arith, small, at, l, h, f), omega (arith, small, at, l, h, f))
 
-    pub lines-skip : (lines : List AttackLine) → AreLines g names n lines → (AttackBy g a.from a.to → ⊥) → AreLines g names (n + 1) lines
+    pub lines-skip : (lines : List AttackLine) → AreLines g names n lines → (HasAttack g a.from a.to → ⊥) → AreLines g names (n + 1) lines
     lines-skip lines old none = record {
       attacks = old.attacks;
       in_order = old.in_order;
@@ -74,25 +74,25 @@ module _ (g : Graph) (names : List (List ℕ)) where
       each = old.each;
     }
       where
-        go : (b : Attack) → AttackBy g b.from b.to × (12 * b.from + b.to < n + 1) → Dec (12 * b.from + b.to ≡ n) → Contains old.attacks b
-        go b p (yes e) = absurd (none (subst (λ z. AttackBy g z.from z.to) (same b (g.small b.from b.to p.0).1 e) p.0))
+        go : (b : Attack) → HasAttack g b.from b.to × (12 * b.from + b.to < n + 1) → Dec (12 * b.from + b.to ≡ n) → Contains old.attacks b
+        go b p (yes e) = absurd (none (subst (λ z. HasAttack g z.from z.to) (same b (g.small b.from b.to p.0).1 e) p.0))
         go b p (no f) = (old.exactly b).1 (p.0, omega (arith, p.1, f))
 
-    pub lines-more : (lines new : List AttackLine) (line : AttackLine) → AreLines g names n lines → AttackBy g a.from a.to → IsGraphLine g names a line → new ≡ lines ++ line ∷ [] → AreLines g names (n + 1) new
+    pub lines-more : (lines new : List AttackLine) (line : AttackLine) → AreLines g names n lines → HasAttack g a.from a.to → IsGraphLine g names a line → new ≡ lines ++ line ∷ [] → AreLines g names (n + 1) new
     lines-more lines new line old attack is e = rw e (record {
       attacks = old.attacks ++ a ∷ [];
       in_order = all_pairs_push IsBefore old.attacks a old.in_order (λ k d l. let m = (old.exactly (get_or old.attacks k d)).0 (at_in old.attacks d k l) in before (get_or old.attacks k d) (g.small (get_or old.attacks k d).from (get_or old.attacks k d).to m.0).1 m.1);
       exactly = λ b. (
         (λ m. elim (Contains-push_cases old.attacks a b m) [
           | inl o ↦ let w = (old.exactly b).0 o in (w.0, omega (arith, w.1))
-          | inr f ↦ subst (λ z. AttackBy g z.from z.to × (12 * z.from + z.to < n + 1)) f (attack, omega (arith, at))
+          | inr f ↦ subst (λ z. HasAttack g z.from z.to × (12 * z.from + z.to < n + 1)) f (attack, omega (arith, at))
         ]),
         (λ p. go b p (ℕ_discrete (12 * b.from + b.to) n)),
       );
       each = all_zip_next (IsGraphLine g names) old.attacks lines a line old.each is;
     })
       where
-        go : (b : Attack) → AttackBy g b.from b.to × (12 * b.from + b.to < n + 1) → Dec (12 * b.from + b.to ≡ n) → Contains (old.attacks ++ a ∷ []) b
+        go : (b : Attack) → HasAttack g b.from b.to × (12 * b.from + b.to < n + 1) → Dec (12 * b.from + b.to ≡ n) → Contains (old.attacks ++ a ∷ []) b
         go b p (yes f) = subst (λ z. Contains (old.attacks ++ a ∷ []) z) (sym (same b (g.small b.from b.to p.0).1 f)) (Contains-push old.attacks a)
         go b p (no f) = Contains-append_left old.attacks (a ∷ []) b ((old.exactly b).1 (p.0, omega (arith, p.1, f)))
 
@@ -120,7 +120,7 @@ classified db select query class lines valid is of_class are =
 
 -- a graph of a query attacks only atoms that have a name
 pub named-attacks : (db : List Table) (select : Select) (query : Query) (g : Graph) (names : List (List ℕ)) → names ≡ select.tables → IsQueryOf db select query → AreAttacks query (whole query) g →
-    (F G : ℕ) → AttackBy g F G → (F < length names) × (G < length names)
+    (F G : ℕ) → HasAttack g F G → (F < length names) × (G < length names)
 named-attacks db select query g names e is are F G h =
     let a = (are.by F G).0 h in
     let n : length query.atoms ≡ length select.tables = AllZip-long (IsAtomOf db) select.tables query.atoms is.atoms in

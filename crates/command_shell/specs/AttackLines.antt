@@ -5,7 +5,7 @@ use Rattle.cqa_model.specs.declared.query.Query.{Query}
 use Rattle.cqa_model.specs.Variables.{whole}
 use Rattle.cqa_model.specs.Graph.{Attacks, IsWeak}
 use Rattle.attack_graph.specs.declared.graph.Attacks.{Attacks as Graph}
-use Rattle.attack_graph.specs.Attacking.{WeakBy}
+use Rattle.attack_graph.specs.Attacking.{HasWeakAttack}
 use Rattle.reply_text.specs.declared.reply.AttackLine.{AttackLine}
 
 -- an attack of one of a query's atoms on another
@@ -36,4 +36,4 @@ AreAttackLines q names lines = (attacks : List Attack) × AreAttacksOf q attacks
 pub record IsGraphLine (g : Graph) (names : List (List ℕ)) (a : Attack) (line : AttackLine) : Type 0 where
   pub from : line.from ≡ slice_index_or names a.from []
   pub to : line.to ≡ slice_index_or names a.to []
-  pub weak : IsTrue line.weak ↔ WeakBy g a.from a.to
+  pub weak : IsTrue line.weak ↔ HasWeakAttack g a.from a.to

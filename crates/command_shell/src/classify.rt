@@ -4,7 +4,7 @@ ghost use Rattle.std.specs.Prelude.{◌≡◌, ◌<◌, ◌≤◌, ◌^◌, ℕ,
 ghost use Rattle.spj_syntax.specs.declared.tree.Statement.TheVariants as statements;
 ghost use Rattle.cqa_model.specs.declared.query.Query.{Query as QueryValue};
 ghost use Rattle.cqa_model.specs.Variables.{whole};
-ghost use Rattle.attack_graph.specs.Attacking.{AreAttacks, AttackBy};
+ghost use Rattle.attack_graph.specs.Attacking.{AreAttacks, HasAttack};
 ghost use Rattle.command_shell.specs.AttackLines.{AreAttackLines, IsGraphLine};
 ghost use Rattle.command_shell.specs.Machine.{Replies};
 
@@ -42,7 +42,7 @@ fn attack_lines(
     names: &[Name],
     graph: &Attacks,
 ) -> Result<Items<AttackLine>, NoMemory>
-    requires { (F G : ℕ) → AttackBy graph.now F G → (F < length names.now) × (G < length names.now) }
+    requires { (F G : ℕ) → HasAttack graph.now F G → (F < length names.now) × (G < length names.now) }
     ensures { IfOk result (λ lines. (q : QueryValue) → AreAttacks q (whole q) graph.now → AreAttackLines q names.now lines) }
 {
     let mut lines = Items::new(alloc);
@@ -66,7 +66,7 @@ fn attack_line(
 ) -> Result<AttackLine, NoMemory>
     requires from { from < 12 }
     requires to { to < 12 }
-    requires attack { AttackBy graph.now from to }
+    requires attack { HasAttack graph.now from to }
     requires names { (from < length names.now) × (to < length names.now) }
     ensures { IfOk result (IsGraphLine graph.now names.now (record { from = from; to = to })) }
 {

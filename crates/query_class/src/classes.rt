@@ -1,13 +1,12 @@
 ghost use Rattle.std.specs.Prelude.{ℕ, ◌<◌, ◌↔◌, IsTrue};
 ghost use Rattle.cqa_model.specs.declared.query.Query.{Query};
 ghost use Rattle.cqa_model.specs.Variables.{whole};
-ghost use Rattle.attack_graph.specs.Attacking.{AreAttacks};
+ghost use Rattle.cqa_model.specs.Graph.{IsCyclic, IsStronglyCyclic};
+ghost use Rattle.attack_graph.specs.Attacking.{AreAttacks, HasAttack, HasWeakAttack};
 ghost use Rattle.query_class.specs.Cycles.{
   IsClass,
   IsClassOf,
-  IsCyclic,
   IsStrong,
-  IsStronglyCyclic,
   Reaches,
 };
 
@@ -42,7 +41,7 @@ pub fn class_of(graph: &Attacks) -> Class
 
 /// Is there a cycle?
 fn has_cycle(graph: &Attacks) -> bool
-    ensures { IsTrue result ↔ IsCyclic graph.now }
+    ensures { IsTrue result ↔ IsCyclic (HasAttack graph.now) }
 {
     for atom in 0..12u32 {
         if reach(graph, atom).has(atom) {
@@ -54,7 +53,7 @@ fn has_cycle(graph: &Attacks) -> bool
 
 /// Is there a cycle with a strong attack?
 fn has_strong_cycle(graph: &Attacks) -> bool
-    ensures { IsTrue result ↔ IsStronglyCyclic graph.now }
+    ensures { IsTrue result ↔ IsStronglyCyclic (HasAttack graph.now) (HasWeakAttack graph.now) }
 {
     for atom in 0..12u32 {
         if is_on_strong_cycle(graph, atom) {

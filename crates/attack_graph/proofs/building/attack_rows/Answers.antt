@@ -1,4 +1,4 @@
-use Rattle.std.proofs.Common.{length, arith, ap, length-set}
+use Rattle.std.proofs.Common.{arith, length-set}
 use Rattle.cqa_model.specs.Graph.{Attacks}
 use Rattle.key_closure.specs.Members.{seen}
 use Rattle.attack_graph.proofs.Rows.{rows-more}
@@ -7,6 +7,6 @@ use Rattle.attack_graph.proofs.building.attack_rows.Goals as goal
 pub loop-atom-preserved : goal.loop-atom-preserved
 loop-atom-preserved c = record {
   size = simp length-set c.loop-atom.invariant.size;
-  rows = rows-more (Attacks c.args.query.now (seen c.args.query.now c.args.view.now)) c.loop-atom.rows c.loop-atom.atom c.attack_row.result c.loop-atom.invariant.size (omega (arith, ap (λ z. length z) c.as_slice.ensures, c.args.query.now.kept.size.1))
+  rows = rows-more (Attacks c.args.query.now (seen c.args.query.now c.args.view.now)) c.loop-atom.rows c.loop-atom.atom c.attack_row.result c.loop-atom.invariant.size (omega (arith, c.args.query.now.kept.size.1))
       c.loop-atom.invariant.rows c.attack_row.ensures;
 }

@@ -1,4 +1,4 @@
-use Rattle.std.proofs.Common.{◌<◌, length, arith, ap, length-set}
+use Rattle.std.proofs.Common.{◌<◌, length, arith, length-set}
 use Rattle.cqa_model.specs.Graph.{IsWeak}
 use Rattle.key_closure.specs.Members.{seen}
 use Rattle.attack_graph.proofs.Rows.{rows-more}
@@ -7,6 +7,6 @@ use Rattle.attack_graph.proofs.building.weak_rows.Goals as goal
 pub loop-atom-preserved : goal.loop-atom-preserved
 loop-atom-preserved c = record {
   size = simp length-set c.loop-atom.invariant.size;
-  rows = rows-more (λ F G. (G < length c.args.query.now.atoms) × IsWeak c.args.query.now (seen c.args.query.now c.args.view.now) F G) c.loop-atom.rows c.loop-atom.atom c.weak_row.result c.loop-atom.invariant.size (omega (arith, ap (λ z. length z) c.as_slice.ensures, c.args.query.now.kept.size.1))
+  rows = rows-more (λ F G. (G < length c.args.query.now.atoms) × IsWeak c.args.query.now (seen c.args.query.now c.args.view.now) F G) c.loop-atom.rows c.loop-atom.atom c.weak_row.result c.loop-atom.invariant.size (omega (arith, c.args.query.now.kept.size.1))
       c.loop-atom.invariant.rows c.weak_row.ensures;
 }

@@ -3,4 +3,4 @@ use Rattle.attack_graph.proofs.spreading.plus_of.Goals as goal
 
 pub returns : goal.returns
 returns c = plus-set c.args.query.now c.args.view.now c.args.from c.key_set-start.result c.closure.result c.left-atoms.result c.remove.new.self c.key_set-start.ensures.is
-    c.left-atoms.ensures c.remove.ensures.is c.closure.ensures
+    c.left-atoms.ensures c.remove.ensures.is c.closure.ensures.is

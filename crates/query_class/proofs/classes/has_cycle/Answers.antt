@@ -7,4 +7,4 @@ pub loop-atom-preserved : goal.loop-atom-preserved
 loop-atom-preserved c = below_more _ _ c.loop-atom.invariant (λ r. let e : c.has.result ≡ true = c.has.ensures.1 ((c.reach.ensures c.loop-atom.atom).1 r) in cc)
 
 pub returns : goal.returns
-returns c = ((λ e. absurd (false≢true e)), (λ (F, r). absurd (c.loop-atom.invariant F (omega (arith, reach-small c.args.graph.now F F r)) r)))
+returns c = ((λ e. absurd (false≢true e)), (λ (F, Hs, w). absurd (c.loop-atom.invariant F (omega (arith, reach-small c.args.graph.now F F (Hs, w))) (Hs, w))))
