@@ -9,9 +9,10 @@ use Rattle.std.proofs.lemmas.List.Quantifiers.{all_pairs_push}
 use Rattle.cqa_model.specs.declared.query.Query.{Query}
 use Rattle.cqa_model.specs.Database.{Table}
 use Rattle.cqa_model.specs.Variables.{whole}
+use Rattle.cqa_model.specs.Graph.{IsWeak}
 use Rattle.cqa_model.proofs.Classic.{mem-head, mem-tail, mem-nil}
 use Rattle.attack_graph.specs.declared.graph.Attacks.{Attacks as Graph}
-use Rattle.attack_graph.specs.Attacking.{HasAttack, AreAttacks}
+use Rattle.attack_graph.specs.Attacking.{HasAttack, HasWeakAttack, AreAttacks}
 use Rattle.query_class.specs.declared.classes.Class.{Class}
 use Rattle.query_class.specs.Cycles.{IsClass}
 use Rattle.query_resolve.specs.Checks.{query_fault}
@@ -21,7 +22,7 @@ use Rattle.spj_syntax.specs.declared.tree.Select.{Select}
 use Rattle.spj_syntax.specs.declared.tree.Statement.TheVariants as statements
 use Rattle.reply_text.specs.declared.reply.AttackLine.{AttackLine}
 use Rattle.reply_text.specs.declared.reply.Reply.TheVariants.{Classified}
-use Rattle.command_shell.specs.AttackLines.{Attack, IsBefore, IsLineOf, AreAttackLines, IsGraphLine}
+use Rattle.command_shell.specs.AttackLines.{Attack, IsBefore, IsLineOf, AreAttackLines}
 use Rattle.command_shell.specs.Machine.{RefusedOr, Executes, Replies}
 
 -- the attacks of a graph with a number below this one have their lines
@@ -29,7 +30,7 @@ pub record AreLines (g : Graph) (names : List (List ℕ)) (n : ℕ) (lines : Lis
   pub attacks : List Attack
   pub in_order : AllPairs IsBefore attacks
   pub exactly : (a : Attack) → Contains attacks a ↔ (HasAttack g a.from a.to × (12 * a.from + a.to < n))
-  pub each : AllZip (IsGraphLine g names) attacks lines
+  pub each : AllZip (IsLineOf (HasWeakAttack g) names) attacks lines
 
 at_in : {A : Type 0} (xs : List A) (d : A) (j : ℕ) → j < length xs → Contains xs (get_or xs j d)
 at_in xs d j l = (j, l, get_or_default xs j (get_or xs j d) d l)
@@ -78,7 +79,7 @@ module _ (g : Graph) (names : List (List ℕ)) where
         go b p (yes e) = absurd (none (subst (λ z. HasAttack g z.from z.to) (same b (g.small b.from b.to p.0).1 e) p.0))
         go b p (no f) = (old.exactly b).1 (p.0, omega (arith, p.1, f))
 
-    pub lines-more : (lines new : List AttackLine) (line : AttackLine) → AreLines g names n lines → HasAttack g a.from a.to → IsGraphLine g names a line → new ≡ lines ++ line ∷ [] → AreLines g names (n + 1) new
+    pub lines-more : (lines new : List AttackLine) (line : AttackLine) → AreLines g names n lines → HasAttack g a.from a.to → IsLineOf (HasWeakAttack g) names a line → new ≡ lines ++ line ∷ [] → AreLines g names (n + 1) new
     lines-more lines new line old attack is e = rw e (record {
       attacks = old.attacks ++ a ∷ [];
       in_order = all_pairs_push IsBefore old.attacks a old.in_order (λ k d l. let m = (old.exactly (get_or old.attacks k d)).0 (at_in old.attacks d k l) in before (get_or old.attacks k d) (g.small (get_or old.attacks k d).from (get_or old.attacks k d).to m.0).1 m.1);
@@ -89,7 +90,7 @@ module _ (g : Graph) (names : List (List ℕ)) where
         ]),
         (λ p. go b p (ℕ_discrete (12 * b.from + b.to) n)),
       );
-      each = all_zip_next (IsGraphLine g names) old.attacks lines a line old.each is;
+      each = all_zip_next (IsLineOf (HasWeakAttack g) names) old.attacks lines a line old.each is;
     })
       where
         go : (b : Attack) → HasAttack g b.from b.to × (12 * b.from + b.to < n + 1) → Dec (12 * b.from + b.to ≡ n) → Contains (old.attacks ++ a ∷ []) b
@@ -106,7 +107,7 @@ module _ (g : Graph) (names : List (List ℕ)) where
         (λ k. let b = (are.by a.from a.to).1 k in let s = g.small a.from a.to b in (l.exactly a).1 (b, omega (arith, s.0, s.1))),
       );
     },
-    zip_map (IsGraphLine g names) (IsLineOf q names) l.attacks lines (λ a line m h. record {
+    zip_map (IsLineOf (HasWeakAttack g) names) (IsLineOf (IsWeak q (whole q)) names) l.attacks lines (λ a line m h. record {
       from = h.from;
       to = h.to;
       weak = (let k = (are.by a.from a.to).0 ((l.exactly a).0 m).0 in ((λ t. (are.weak a.from a.to k).0 (h.weak.0 t)), (λ w. h.weak.1 ((are.weak a.from a.to k).1 w))));

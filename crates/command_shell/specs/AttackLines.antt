@@ -4,8 +4,6 @@ use Rattle.std.specs.List.{AllZip}
 use Rattle.cqa_model.specs.declared.query.Query.{Query}
 use Rattle.cqa_model.specs.Variables.{whole}
 use Rattle.cqa_model.specs.Graph.{Attacks, IsWeak}
-use Rattle.attack_graph.specs.declared.graph.Attacks.{Attacks as Graph}
-use Rattle.attack_graph.specs.Attacking.{HasWeakAttack}
 use Rattle.reply_text.specs.declared.reply.AttackLine.{AttackLine}
 
 -- an attack of one of a query's atoms on another
@@ -22,18 +20,12 @@ pub record AreAttacksOf (q : Query) (attacks : List Attack) : Type 0 where
   pub in_order : AllPairs IsBefore attacks
   pub exactly : (a : Attack) → Contains attacks a ↔ Attacks q (whole q) a.from a.to
 
--- the line of an attack: the names of its two tables, and whether it is weak
-pub record IsLineOf (q : Query) (names : List (List ℕ)) (a : Attack) (line : AttackLine) : Type 0 where
+-- the line of an attack: the names of its two tables, and whether it is among the weak ones
+pub record IsLineOf (Weak : ℕ → ℕ → Type 0) (names : List (List ℕ)) (a : Attack) (line : AttackLine) : Type 0 where
   pub from : line.from ≡ slice_index_or names a.from []
   pub to : line.to ≡ slice_index_or names a.to []
-  pub weak : IsTrue line.weak ↔ IsWeak q (whole q) a.from a.to
+  pub weak : IsTrue line.weak ↔ Weak a.from a.to
 
 -- a line for each attack of the query, in order
 abbrev pub AreAttackLines : Query → List (List ℕ) → List AttackLine → Type 0
-AreAttackLines q names lines = (attacks : List Attack) × AreAttacksOf q attacks × AllZip (IsLineOf q names) attacks lines
-
--- the line of an attack of a graph
-pub record IsGraphLine (g : Graph) (names : List (List ℕ)) (a : Attack) (line : AttackLine) : Type 0 where
-  pub from : line.from ≡ slice_index_or names a.from []
-  pub to : line.to ≡ slice_index_or names a.to []
-  pub weak : IsTrue line.weak ↔ HasWeakAttack g a.from a.to
+AreAttackLines q names lines = (attacks : List Attack) × AreAttacksOf q attacks × AllZip (IsLineOf (IsWeak q (whole q)) names) attacks lines

@@ -4,8 +4,8 @@ ghost use Rattle.std.specs.Prelude.{◌≡◌, ◌<◌, ◌≤◌, ◌^◌, ℕ,
 ghost use Rattle.spj_syntax.specs.declared.tree.Statement.TheVariants as statements;
 ghost use Rattle.cqa_model.specs.declared.query.Query.{Query as QueryValue};
 ghost use Rattle.cqa_model.specs.Variables.{whole};
-ghost use Rattle.attack_graph.specs.Attacking.{AreAttacks, HasAttack};
-ghost use Rattle.command_shell.specs.AttackLines.{AreAttackLines, IsGraphLine};
+ghost use Rattle.attack_graph.specs.Attacking.{AreAttacks, HasAttack, HasWeakAttack};
+ghost use Rattle.command_shell.specs.AttackLines.{AreAttackLines, IsLineOf};
 ghost use Rattle.command_shell.specs.Machine.{Replies};
 
 use crate::execute::refused;
@@ -18,6 +18,9 @@ use reply_text::{AttackLine, Reply};
 use spj_syntax::Select;
 use std::alloc::Global;
 use table_blocks::Database;
+
+/// The most atoms of a query.
+const MOST_ATOMS: u32 = 12;
 
 /// The reply to a `classify`.
 pub fn classify(alloc: Global, database: &Database, select: &Select) -> Result<Reply, NoMemory>
@@ -46,9 +49,9 @@ fn attack_lines(
     ensures { IfOk result (λ lines. (q : QueryValue) → AreAttacks q (whole q) graph.now → AreAttackLines q names.now lines) }
 {
     let mut lines = Items::new(alloc);
-    for pair in 0..144u32 {
-        let from = pair / 12;
-        let to = pair % 12;
+    for pair in 0..MOST_ATOMS * MOST_ATOMS {
+        let from = pair / MOST_ATOMS;
+        let to = pair % MOST_ATOMS;
         if graph.has(from, to) {
             lines.push(attack_line(alloc, names, graph, from, to)?)?;
         }
@@ -68,7 +71,7 @@ fn attack_line(
     requires to { to < 12 }
     requires attack { HasAttack graph.now from to }
     requires names { (from < length names.now) × (to < length names.now) }
-    ensures { IfOk result (IsGraphLine graph.now names.now (record { from = from; to = to })) }
+    ensures { IfOk result (IsLineOf (HasWeakAttack graph.now) names.now (record { from = from; to = to })) }
 {
     let attacker = names[from as usize].copy(alloc)?;
     let attacked = names[to as usize].copy(alloc)?;

@@ -13,6 +13,9 @@ ghost use Rattle.query_class.specs.Cycles.{
 use crate::walking::reach;
 use attack_graph::Attacks;
 
+/// The most atoms of a query, and so of its graph of attacks.
+const MOST_ATOMS: u32 = 12;
+
 /// How hard it is to decide the certain rows of a query.
 #[derive(Clone, Copy, Debug, PartialEq, Eq)]
 pub enum Class {
@@ -43,7 +46,7 @@ pub fn class_of(graph: &Attacks) -> Class
 fn has_cycle(graph: &Attacks) -> bool
     ensures { IsTrue result ↔ IsCyclic (HasAttack graph.now) }
 {
-    for atom in 0..12u32 {
+    for atom in 0..MOST_ATOMS {
         if reach(graph, atom).has(atom) {
             return true;
         }
@@ -55,7 +58,7 @@ fn has_cycle(graph: &Attacks) -> bool
 fn has_strong_cycle(graph: &Attacks) -> bool
     ensures { IsTrue result ↔ IsStronglyCyclic (HasAttack graph.now) (HasWeakAttack graph.now) }
 {
-    for atom in 0..12u32 {
+    for atom in 0..MOST_ATOMS {
         if is_on_strong_cycle(graph, atom) {
             return true;
         }
@@ -69,7 +72,7 @@ fn is_on_strong_cycle(graph: &Attacks, to: u32) -> bool
     ensures { IsTrue result ↔ ((F : ℕ) × IsStrong graph.now F to × Reaches graph.now to F) }
 {
     let reached = reach(graph, to);
-    for atom in 0..12u32 {
+    for atom in 0..MOST_ATOMS {
         if reached.has(atom) && is_strong(graph, atom, to) {
             return true;
         }
