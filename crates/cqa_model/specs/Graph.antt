@@ -14,7 +14,8 @@ abbrev pub IsSequence : Query → View → ℕ → ColRef → List ColRef → Ty
 IsSequence q view F v [] = (InPlus q view F v → ⊥) × IsVar q view F v
 IsSequence q view F v (u ∷ us) = (InPlus q view F v → ⊥) × AreTogether q view u v × IsSequence q view F u us
 
--- F reaches v: the sequences by which an attack of F is witnessed lead to v (Koutris and Wijsen, ACM TODS 2017)
+-- v is reached from F: such a sequence ends in v, which witnesses an attack of F on each other atom that has v (Koutris and
+-- Wijsen, ACM TODS 2017)
 abbrev pub IsReached : Query → View → ℕ → ColRef → Type 0
 IsReached q view F v = (us : List ColRef) × IsSequence q view F v us
 

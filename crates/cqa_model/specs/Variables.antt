@@ -19,7 +19,7 @@ abbrev pub IsChain : List Cond → ColRef → List ColRef → ColRef → Type 0
 IsChain conds c [] d = c ≡ d
 IsChain conds c (e ∷ es) d = IsJoined conds c e × IsChain conds e es d
 
--- a chain of joins leads from c to d
+-- a chain of joins leads from c to d: the equivalence of columns that the joins generate
 abbrev pub IsLinked : List Cond → ColRef → ColRef → Type 0
 IsLinked conds c d = (es : List ColRef) × IsChain conds c es d
 

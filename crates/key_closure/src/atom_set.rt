@@ -1,4 +1,4 @@
-/// A set of a query's atoms, each by its place.
+/// A set of a query's atoms, each by its place, 0 to 11.
 #[derive(Clone, Copy)]
 pub struct AtomSet {
     bits: [bool; 12],

@@ -1,4 +1,4 @@
-/// A set of variables, each by its class.
+/// A set of variables, each by its class, 0 to 191.
 #[derive(Clone, Copy)]
 pub struct VarSet {
     bits: [bool; 192],

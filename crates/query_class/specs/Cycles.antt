@@ -8,7 +8,8 @@ use Rattle.attack_graph.specs.Attacking.{HasAttack, HasWeakAttack}
 use Rattle.query_class.specs.declared.classes.Class.{Class}
 use Rattle.query_class.specs.declared.classes.Class.TheVariants.{FirstOrder, Polynomial, CoNp}
 
--- the class by attacks and weak attacks, each given as a relation
+-- the class by attacks and weak attacks, each given as a relation: first-order without a cycle, polynomial where no cycle is
+-- strong, conp-complete otherwise (Koutris and Wijsen, ACM TODS 2017)
 abbrev pub IsClassBy : (ℕ → ℕ → Type 0) → (ℕ → ℕ → Type 0) → Class → Type 0
 IsClassBy attacks weak FirstOrder = IsCyclic attacks → ⊥
 IsClassBy attacks weak Polynomial = IsCyclic attacks × (IsStronglyCyclic attacks weak → ⊥)
