@@ -1,6 +1,6 @@
 -- Block order: it is a total order of rows, and rows of one key stand side by side.
-use Rattle.std.proofs.Common.{◌≡◌, ℕ, zero, suc, ◌<◌, ◌≤◌, List, [], ◌∷◌, length, get_or, refl, ap, sym, ◌∙◌, subst, arith, Contains}
-use native.Mathlib.Decide.{ℕ_discrete, dec_lt}
+use Rattle.std.proofs.Common.{◌≡◌, ℕ, zero, suc, ◌<◌, ◌≤◌, List, [], ◌∷◌, length, get_or, refl, ap, sym, ◌∙◌, subst, arith}
+use native.Mathlib.Decide.{ℕ_discrete}
 use Rattle.std.specs.List.{AllByRecursion}
 use Rattle.std.specs.List.Sorted.{IsStrictlySortedBy}
 use Rattle.std.specs.Cmp.{IsTotalOrder}
@@ -8,16 +8,12 @@ use Rattle.std.specs.Ordering.{ordering_reverse, ordering_then, is_eq}
 use Rattle.std.specs.declared.cmp.Ordering.{Ordering}
 use Rattle.std.specs.declared.cmp.Ordering.TheVariants.{Less, Equal, Greater}
 use Rattle.std.proofs.lemmas.Cmp.{on_total, then_total}
-use Rattle.std.proofs.lemmas.List.{get_or_default}
-use Rattle.std.proofs.lemmas.List.Elements.{Contains-get_or}
 use Rattle.cqa_value.specs.declared.value.Value.{Value}
 use Rattle.cqa_value.specs.Values.{row_cmp, row_total, row_ties, row_decides}
 use Rattle.cqa_model.specs.Database.{key_of, block_cmp}
 use Rattle.cqa_model.specs.Repairs.{SharesKey}
-use Rattle.cqa_model.specs.Blocks.{AreGrouped, IsBlock}
-use Rattle.cqa_model.specs.OneTable.{SomeBlockFits}
 use Rattle.cqa_model.proofs.Classic.{mem-head, mem-tail, map_agree}
-use Rattle.cqa_model.proofs.Repairs.{shares-sym, shares-trans, shares-eq}
+use Rattle.cqa_model.proofs.Repairs.{shares-eq}
 
 -- two rows share a key exactly where their key's values are the same
 pub shares-from_key : (key : List ℕ) (x y : List Value) → key_of key x ≡ key_of key y → SharesKey key x y
@@ -70,7 +66,9 @@ key-between key x y z xy yz s = go (row_cmp (key_of key x) (key_of key y)) refl
     go Greater e = let h : ordering_then Greater (row_cmp x y) ≡ Less = subst (λ o. ordering_then o (row_cmp x y) ≡ Less) e xy in cc
     go Less e = let h : ordering_then Greater (row_cmp y z) ≡ Less = subst (λ o. ordering_then o (row_cmp y z) ≡ Less) (back ∙ ap ordering_reverse e) yz in cc
 
-pub grouped : (key : List ℕ) (rows : List (List Value)) → IsStrictlySortedBy (block_cmp key) rows → AreGrouped key rows
+-- rows of one key stand side by side
+pub grouped : (key : List ℕ) (rows : List (List Value)) → IsStrictlySortedBy (block_cmp key) rows → (i j k : ℕ) → i ≤ j → j ≤ k → k < length rows →
+    SharesKey key (get_or rows i []) (get_or rows k []) → SharesKey key (get_or rows i []) (get_or rows j [])
 grouped key rows sorted i j k ij jk l s = go (ℕ_discrete i j) (ℕ_discrete j k)
   where
     go : Dec (i ≡ j) → Dec (j ≡ k) → SharesKey key (get_or rows i []) (get_or rows j [])
@@ -78,50 +76,3 @@ grouped key rows sorted i j k ij jk l s = go (ℕ_discrete i j) (ℕ_discrete j 
     go (no f) (yes e) = subst (λ n. SharesKey key (get_or rows i []) (get_or rows n [])) (sym e) s
     go (no f) (no g) = key-between key (get_or rows i []) (get_or rows j []) (get_or rows k [])
         (sorted-less (block_cmp key) rows i j [] sorted (omega arith) (omega arith)) (sorted-less (block_cmp key) rows j k [] sorted (omega arith) l) s
-
-module _ (key : List ℕ) (rows : List (List Value)) (is_grouped : AreGrouped key rows) where
-  -- rows of one key, after a row of another and before one, are a block
-  pub block-done : (start end : ℕ) → start < end → end ≤ length rows →
-      ((i : ℕ) → start ≤ i → i < end → SharesKey key (get_or rows start []) (get_or rows i [])) →
-      ((i : ℕ) → i < start → SharesKey key (get_or rows start []) (get_or rows i []) → ⊥) →
-      (end < length rows → SharesKey key (get_or rows start []) (get_or rows end []) → ⊥) → IsBlock key rows start end
-  block-done start end some within shares before next = record {
-    some = some;
-    within = within;
-    exactly = λ i l. ((λ s. (low i s (dec_lt i start), high i l s (dec_lt i end))), λ r. shares i r.0 r.1);
-  }
-    where
-      low : (i : ℕ) → SharesKey key (get_or rows start []) (get_or rows i []) → Dec (i < start) → start ≤ i
-      low i s (yes h) = absurd (before i h s)
-      low i s (no f) = omega arith
-
-      high : (i : ℕ) → i < length rows → SharesKey key (get_or rows start []) (get_or rows i []) → Dec (i < end) → i < end
-      high i l s (yes h) = h
-      high i l s (no f) = absurd (next (omega arith) (is_grouped start end i (omega arith) (omega arith) l s))
-
-  -- what comes after a block shares no key with what stands before
-  pub block-after : (start end : ℕ) → IsBlock key rows start end → end < length rows → (i : ℕ) → i < end → SharesKey key (get_or rows end []) (get_or rows i []) → ⊥
-  block-after start end b l i ie s = go (dec_lt i start)
-    where
-      ei : SharesKey key (get_or rows i []) (get_or rows end [])
-      ei = shares-sym key (get_or rows end []) (get_or rows i []) s
-
-      go : Dec (i < start) → ⊥
-      go (yes h) = let r = (b.exactly i (omega arith)).0 (shares-sym key (get_or rows i []) (get_or rows start []) (is_grouped i start end (omega arith) (let m : start < end = b.some in omega arith) l ei)) in
-          let ge : start ≤ i = r.0 in omega arith
-      go (no f) = let r = (b.exactly end l).0 (shares-trans key (get_or rows start []) (get_or rows i []) (get_or rows end []) ((b.exactly i (omega arith)).1 (omega arith, ie)) ei) in
-          let lt : end < end = r.1 in omega arith
-
--- a block all of whose rows have the property
-pub fits-from_block : (key : List ℕ) (rows : List (List Value)) (P : List Value → Type 0) (start end : ℕ) → IsBlock key rows start end →
-    ((i : ℕ) → start ≤ i → i < end → P (get_or rows i [])) → SomeBlockFits key rows P
-fits-from_block key rows P start end b h = (get_or rows start [], Contains-get_or rows start [] first, of_row)
-  where
-    first : start < length rows
-    first = let l : start < end = b.some in let w : end ≤ length rows = b.within in omega arith
-
-    of_row : (y : List Value) → Contains rows y → SharesKey key (get_or rows start []) y → P y
-    of_row y (i, l, e) s =
-        let at : get_or rows i [] ≡ y = get_or_default rows i [] y l ∙ e in
-        let r = (b.exactly i l).0 (subst (λ z. SharesKey key (get_or rows start []) z) (sym at) s) in
-        subst P at (h i r.0 r.1)

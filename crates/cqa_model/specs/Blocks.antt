@@ -1,15 +1,11 @@
--- The blocks of a table in block order.
-use Rattle.std.specs.Prelude.{ℕ, ◌<◌, ◌≤◌, ◌↔◌, List, [], length, slice_index_or}
+-- The blocks of a table.
+use Rattle.std.specs.Prelude.{◌≡◌, ℕ, ◌<◌, List, [], length, flat_map, Contains, slice_index_or}
 use Rattle.cqa_value.specs.declared.value.Value.{Value}
 use Rattle.cqa_model.specs.Repairs.{SharesKey}
 
--- rows of one key stand side by side
-abbrev pub AreGrouped : List ℕ → List (List Value) → Type 0
-AreGrouped key rows = (i j k : ℕ) → i ≤ j → j ≤ k → k < length rows →
-    SharesKey key (slice_index_or rows i []) (slice_index_or rows k []) → SharesKey key (slice_index_or rows i []) (slice_index_or rows j [])
-
--- the rows from start to before end are a block: of all rows, exactly these share the first one's key
-pub record IsBlock (key : List ℕ) (rows : List (List Value)) (start end : ℕ) : Type 0 where
-  pub some : start < end
-  pub within : end ≤ length rows
-  pub exactly : (i : ℕ) → i < length rows → SharesKey key (slice_index_or rows start []) (slice_index_or rows i []) ↔ ((start ≤ i) × (i < end))
+-- one behind the other they are all rows; the rows of each block share a key, and rows of two blocks don't
+pub record AreBlocks (key : List ℕ) (rows : List (List Value)) (blocks : List (List (List Value))) : Type 0 where
+  pub joined : flat_map (λ block. block) blocks ≡ rows
+  pub some : (block : List (List Value)) → Contains blocks block → 0 < length block
+  pub alike : (block : List (List Value)) → Contains blocks block → (x y : List Value) → Contains block x → Contains block y → SharesKey key x y
+  pub apart : (i j : ℕ) → i < j → j < length blocks → (x y : List Value) → Contains (slice_index_or blocks i []) x → Contains (slice_index_or blocks j []) y → SharesKey key x y → ⊥

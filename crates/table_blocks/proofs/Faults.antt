@@ -73,6 +73,10 @@ slice_get-map f (y ∷ xs) (suc i) x e = slice_get-map f xs i x e
 pub kind_read : (columns seen : List Column) (at : ℕ) (column : Column) → seen ≡ columns → at < length columns → column ≡ get_or seen at column → slice_get (map (λ c. c.kind) columns) at ≡ Some column.kind
 kind_read columns seen at column same inside read = slice_get-map (λ c. c.kind) columns at column (slice_get_read columns (length columns) at column refl inside (read ∙ ap (λ l. get_or l at column) same))
 
+-- a value that was read
+pub value_read : (values seen : List Value) (at : ℕ) (value : Value) → seen ≡ values → at < length values → value ≡ get_or seen at value → slice_get values at ≡ Some value
+value_read values seen at value same inside read = slice_get_read values (length values) at value refl inside (read ∙ ap (λ l. get_or l at value) same)
+
 none_some : {A : Type 0} (x : A) → None ≡ Some x → ⊥
 none_some x e = (cc)
 

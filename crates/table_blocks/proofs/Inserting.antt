@@ -7,17 +7,17 @@ use Rattle.cqa_model.specs.declared.refusal.Refusal.{Refusal}
 use Rattle.cqa_model.specs.declared.refusal.Refusal.TheVariants.{Limit}
 use Rattle.cqa_model.specs.declared.refusal.LimitKind.TheVariants.{Rows}
 use Rattle.cqa_model.specs.Database.{Table, row_total}
-use Rattle.table_blocks.specs.Tables.{IsJoined, is_among, first_of, rows_fault, limit_fault, insert_fault, rows_at, kinds_at, count_new}
+use Rattle.table_blocks.specs.Tables.{IsMerged, is_among, first_of, rows_fault, limit_fault, insert_fault, rows_at, kinds_at, count_new}
 use Rattle.table_blocks.proofs.Membership.{among}
 
 -- the stored rows with the new ones are the stored rows with the given ones
-pub joined_given : (key : List ℕ) (stored given fresh rows : List (List Value)) → IsJoined key stored fresh rows
-    → ((row : List Value) → Contains fresh row ↔ (Contains given row × (Contains stored row → ⊥))) → IsJoined key stored given rows
-joined_given key stored given fresh rows joined new = record {
-  in_order = joined.in_order;
+pub merged_given : (key : List ℕ) (stored given fresh rows : List (List Value)) → IsMerged key stored fresh rows
+    → ((row : List Value) → Contains fresh row ↔ (Contains given row × (Contains stored row → ⊥))) → IsMerged key stored given rows
+merged_given key stored given fresh rows merged new = record {
+  in_order = merged.in_order;
   members = λ row. (
-    λ h. elim ((joined.members row).0 h) [ inl m ↦ inl m | inr f ↦ inr ((new row).0 f).0 ],
-    λ h. (joined.members row).1 (elim h [ inl m ↦ inl m | inr g ↦ known row g (is_among stored row) refl ]),
+    λ h. elim ((merged.members row).0 h) [ inl m ↦ inl m | inr f ↦ inr ((new row).0 f).0 ],
+    λ h. (merged.members row).1 (elim h [ inl m ↦ inl m | inr g ↦ known row g (is_among stored row) refl ]),
   );
 }
   where

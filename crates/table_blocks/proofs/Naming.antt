@@ -13,7 +13,7 @@ use Rattle.cqa_model.proofs.Places.{key-at, rows-at}
 use Rattle.cqa_value.specs.declared.value.Value.{Value}
 use Rattle.std.specs.List.Sorted.{IsStrictlySortedBy}
 use Rattle.table_blocks.specs.declared.test.ColumnTest.{ColumnTest}
-use Rattle.table_blocks.specs.Tables.{IsJoined, IsSpared, TestsHold, key_at, rows_at}
+use Rattle.table_blocks.specs.Tables.{IsMerged, IsSpared, TestsHold, key_at, rows_at}
 use Rattle.table_blocks.proofs.Changing.{names_set, database_set, database_push, total_set}
 
 lookup_none : {K X : Type 0} (test : K → Bool) (es : List (K × X)) → list_any test (keys_of es) ≡ false → lookup test es ≡ None
@@ -79,7 +79,7 @@ named_more es i t w more named here same table count room =
 
 -- it has the rows that it had, and those that came
 pub joined_by : (db : List Table) (i : ℕ) (t w : Table) (given : List (List Value)) → slice_get db i ≡ Some t → w.schema ≡ t.schema → IsTable w
-    → ((row : List Value) → Contains w.rows row ↔ (Contains t.rows row ⊎ Contains given row)) → IsJoined (key_at db i) (rows_at db i) given w.rows
+    → ((row : List Value) → Contains w.rows row ↔ (Contains t.rows row ⊎ Contains given row)) → IsMerged (key_at db i) (rows_at db i) given w.rows
 joined_by db i t w given here same table members = record {
   in_order = subst (λ key. IsStrictlySortedBy (block_cmp key) w.rows) (ap (λ s. s.key) same ∙ sym (key-at db i t here)) table.in_order;
   members = subst (λ rows. (row : List Value) → Contains w.rows row ↔ (Contains rows row ⊎ Contains given row)) (sym (rows-at db i t here)) members;

@@ -91,14 +91,14 @@ IsRefusedAs NoMemory fault = Unit {0}
 IsRefusedAs (Refused refusal) fault = fault ≡ Some refusal
 
 -- the stored rows and the given ones, in block order
-pub record IsJoined (key : List ℕ) (stored given rows : List (List Value)) : Type 0 where
+pub record IsMerged (key : List ℕ) (stored given rows : List (List Value)) : Type 0 where
   pub in_order : IsStrictlySortedBy (block_cmp key) rows
   pub members : (row : List Value) → Contains rows row ↔ (Contains stored row ⊎ Contains given row)
 
 -- rows are put into a table: it has its old rows and the given ones, and so many of these are new
 pub record Inserts (old : List Table) (table : ℕ) (given : List (List Value)) (new : List Table) (count : ℕ) : Type 0 where
   pub rows : List (List Value)
-  pub joined : IsJoined (key_at old table) (rows_at old table) given rows
+  pub merged : IsMerged (key_at old table) (rows_at old table) given rows
   pub changed : new ≡ with_rows old table rows
   pub count_is : count ≡ count_new (rows_at old table) given
 

@@ -25,12 +25,10 @@ fn kind_fault_of(schema: &Schema, row: &Row, number: u32) -> Option<Refusal>
     ensures { result ≡ kind_fault number 1 (kinds_of schema.now) row.now }
 {
     let columns = schema.columns.as_slice();
-    let mut at = 0;
-    while at < row.len() {
-        if let Some(fault) = cell_fault_of(&columns[at as usize], row.get(at), number, at + 1) {
+    for (at, value) in row.as_slice().iter().enumerate() {
+        if let Some(fault) = cell_fault_of(&columns[at], value, number, at as u32 + 1) {
             return Some(fault);
         }
-        at += 1;
     }
     None
 }

@@ -4,7 +4,7 @@ ghost use Rattle.std.specs.List.Sorted.{IsStrictlySortedBy};
 ghost use Rattle.cqa_value.specs.declared.value.Value.{Value};
 ghost use Rattle.cqa_value.specs.Values.{kind_of};
 ghost use Rattle.table_blocks.specs.Spans.{IsSpan};
-ghost use Rattle.table_blocks.specs.Tables.{table_named, rows_at, key_at, kinds_at, with_rows, insert_fault, Inserts, Deletes, IsJoined, IsSpared, IsRefusedAs};
+ghost use Rattle.table_blocks.specs.Tables.{table_named, rows_at, key_at, kinds_at, with_rows, insert_fault, Inserts, Deletes, IsMerged, IsSpared, IsRefusedAs};
 
 use crate::check::rows_fault_of;
 use crate::probe::Probe;
@@ -63,10 +63,8 @@ impl Database {
     pub fn find(&self, name: &Name) -> Option<u32>
         ensures { result ≡ table_named self.now name.now }
     {
-        match self.tables.get_index_of(name) {
-            Some(at) => Some(at as u32),
-            None => None,
-        }
+        let at = self.tables.get_index_of(name)?;
+        Some(at as u32)
     }
 
     fn table(&self, table: u32) -> &Table
@@ -125,10 +123,8 @@ impl Database {
         requires { table < length self.now }
         ensures { MatchOption result (Contains (rows_at self.now table) row.now → ⊥) (λ at. slice_get (rows_at self.now table) at ≡ Some row.now) }
     {
-        match find_in(self.rows(table), self.key(table), row) {
-            Some(at) => Some(at as u32),
-            None => None,
-        }
+        let at = find_in(self.rows(table), self.key(table), row)?;
+        Some(at as u32)
     }
 
     /// The rows of a table whose first key values are a probe's, and the place of the first of them.
@@ -176,7 +172,8 @@ impl Database {
         self.span(table, probe, &mut steps)
     }
 
-    /// The same rows and place as `span`, with no count.
+    /// The rows of a table whose first key values are a probe's, and the place of the first of them, found as `span` finds
+    /// them, without a count of the comparisons.
     pub fn rows_with(&self, table: u32, probe: &Probe<'_>) -> (u32, &[Row])
         requires there { table < length self.now }
         requires few { length probe.now ≤ length (key_at self.now table) }
@@ -209,7 +206,7 @@ impl Database {
         requires fits { (row : List Value) → Contains fresh.items row → map kind_of row ≡ kinds_at self.old table }
         requires new { (row : List Value) → Contains (rows_at self.old table) row → Contains fresh.items row → ⊥ }
         requires room { row_total self.old + length fresh.items ≤ 1_000_000 }
-        ensures changed { OnOk result ((rows : List (List Value)) × IsJoined (key_at self.old table) (rows_at self.old table) fresh.items rows × (self.new ≡ with_rows self.old table rows)) }
+        ensures changed { OnOk result ((rows : List (List Value)) × IsMerged (key_at self.old table) (rows_at self.old table) fresh.items rows × (self.new ≡ with_rows self.old table rows)) }
         ensures err { OnErr result (self.new ≡ self.old) }
     {
         match self.tables.get_index_mut(table as usize) {
@@ -225,7 +222,8 @@ impl Database {
     ///
     /// # Errors
     ///
-    /// The first fault of a row, or `Limit` where there would be too many rows; nothing has changed then.
+    /// `NoMemory` where memory is refused; else the first fault of a row, or `Limit` where all tables together would have
+    /// more than 1,000,000 rows. Nothing has changed then.
     pub fn insert(&mut self, table: u32, rows: Items<Row>) -> Result<u32, Fail<Refusal>>
         requires there { table < length self.old }
         requires few { length rows < 2 ^ 32 }

@@ -1,5 +1,5 @@
 ghost use Rattle.std.specs.Prelude.{◌≡◌, ◌<◌, ◌≤◌, length, [], ◌∷◌, ◌++◌, slice_get, Some};
-ghost use Rattle.table_blocks.specs.Lists.{borrowed, AllTaken};
+ghost use Rattle.table_blocks.specs.Lists.{borrowed_values, AllTaken};
 
 use cqa_value::Value;
 use smallvec::SmallVec;
@@ -15,11 +15,11 @@ pub struct Probe<'a> {
 impl<'a> Model for Probe<'a> {
     ghost use Rattle.std.specs.Prelude.{◌≡◌, ◌≤◌, List, length};
     ghost use Rattle.cqa_value.specs.declared.value.Value.{Value as Cell};
-    ghost use Rattle.table_blocks.specs.Lists.{borrowed, AllTaken};
+    ghost use Rattle.table_blocks.specs.Lists.{borrowed_values, AllTaken};
 
     ghost Value = { List Cell };
 
-    ghost view = { λ p. borrowed p.slots.items };
+    ghost view = { λ p. borrowed_values p.slots.items };
 
     ghost invariant = { λ p. (p.slots.capacity ≡ 16) × (length p.slots.items ≤ 16) × AllTaken p.slots.items };
 }
@@ -28,7 +28,7 @@ impl<'a> Model for Probe<'a> {
 fn value_at<'a>(slots: &[Option<&'a Value>], at: usize) -> &'a Value
     requires taken { AllTaken slots.now }
     requires within { at < length slots.now }
-    ensures { slice_get (borrowed slots.now) at ≡ Some result.now }
+    ensures { slice_get (borrowed_values slots.now) at ≡ Some result.now }
 {
     match slots[at] {
         Some(value) => value,
@@ -54,6 +54,7 @@ impl<'a> Probe<'a> {
         self.slots.push_reserved(Some(value));
     }
 
+    /// The number of values, at most 16.
     pub fn len(&self) -> usize
         ensures value { result ≡ length self.now }
         ensures small { result ≤ 16 }

@@ -65,10 +65,7 @@ fn is_new(rows: &[Row], key: &[u32], row: &Row) -> bool
     requires { IsStrictlySortedBy (block_cmp key.now) rows.now }
     ensures { result ≡ not (is_among rows.now row.now) }
 {
-    match find_in(rows, key, row) {
-        Some(_) => false,
-        None => true,
-    }
+    find_in(rows, key, row).is_none()
 }
 
 /// Those of some rows that aren't stored.

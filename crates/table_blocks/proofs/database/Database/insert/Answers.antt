@@ -3,7 +3,7 @@ use Rattle.cqa_value.specs.declared.value.Value.{Value}
 use Rattle.cqa_model.specs.Database.{row_total}
 use Rattle.table_blocks.specs.Tables.{rows_at, kinds_at, key_at, count_new}
 use Rattle.table_blocks.proofs.Faults.{rows_fit}
-use Rattle.table_blocks.proofs.Inserting.{joined_given, valid_insert, fault_seen, count_seen}
+use Rattle.table_blocks.proofs.Inserting.{merged_given, valid_insert, fault_seen, count_seen}
 use Rattle.table_blocks.proofs.database.Database.insert.Goals as goal
 
 pub add-requires-clause-fits : goal.add-requires-clause-fits
@@ -29,7 +29,7 @@ returns-clause-inserted c =
     (subst (λ given. (row : List Value) → Contains c.fresh_rows-fresh.result.items row ↔ (Contains given row × (Contains c.rows-2.result.now row → ⊥))) c.into_vec.ensures c.fresh_rows-fresh.ensures.new) in
     record {
       rows = c.in_ok-add.ensures.changed.0;
-      joined = joined_given (key_at c.args.self.now c.args.table) (rows_at c.args.self.now c.args.table) c.args.rows c.fresh_rows-fresh.result.items c.in_ok-add.ensures.changed.0 c.in_ok-add.ensures.changed.1 new;
+      merged = merged_given (key_at c.args.self.now c.args.table) (rows_at c.args.self.now c.args.table) c.args.rows c.fresh_rows-fresh.result.items c.in_ok-add.ensures.changed.0 c.in_ok-add.ensures.changed.1 new;
       changed = c.in_ok-add.ensures.changed.2;
       count_is = count_is c;
     }
