@@ -1,6 +1,7 @@
 pub mod Joins
 pub mod Spots
 pub mod Fits
+pub mod Deciding
 pub mod Witnesses
 pub mod Walks
 pub mod Cursor
