@@ -17,11 +17,14 @@ use std::alloc::AllocError;
 /// What following a hint comes to.
 #[derive(Clone, Copy)]
 pub enum Follow {
+    /// All literals of the clause are false.
     Pass,
+    /// The one literal that is left is true from now on.
     On,
     Fail(LogCause),
 }
 
+/// The id of a hint; none where it is negative.
 fn id_of(hint: &i64) -> Option<u64>
     ensures { MatchOption result ((n : ℕ) × (hint.now ≡ negsuc n)) (λ id. hint.now ≡ pos id) }
 {
@@ -78,6 +81,7 @@ fn follow_all(
     Ok(Some(LogCause::NoConflict))
 }
 
+/// Tries whether a clause follows by its hints, and gives the cause where it doesn't. The marks are clear before and after.
 pub fn try_addition(
     store: &Store,
     marks: &mut Marks,

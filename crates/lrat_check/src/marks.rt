@@ -28,6 +28,7 @@ fn sign_of(positive: bool) -> Truth
 }
 
 impl Marks {
+    /// Every variable is open.
     pub fn new(alloc: Global) -> Marks
         ensures open { AllOpen result.truths.items }
         ensures valid { IsValid result.truths.items result.trail.items }
@@ -38,6 +39,7 @@ impl Marks {
         }
     }
 
+    /// The truth value of a variable.
     pub fn truth(&self, var: u32) -> Truth
         ensures { result ≡ truth_at self.now.truths.items var }
     {
@@ -47,6 +49,7 @@ impl Marks {
             .unwrap_or(Truth::Open)
     }
 
+    /// Whether a literal is false.
     pub fn is_false(&self, lit: Lit) -> bool
         ensures yes { result ≡ true → IsFalse self.now.truths.items lit }
         ensures no { result ≡ false → IsFalse self.now.truths.items lit → ⊥ }
@@ -71,6 +74,7 @@ impl Marks {
         Ok(())
     }
 
+    /// Makes a literal true, whatever the value of its variable.
     pub fn make_true(&mut self, lit: Lit) -> Result<(), AllocError>
         requires { IsValid self.old.truths.items self.old.trail.items }
         ensures valid { OnOk result (IsValid self.new.truths.items self.new.trail.items) }
@@ -113,6 +117,7 @@ impl Marks {
         Ok(false)
     }
 
+    /// Makes every variable open again.
     pub fn clear(&mut self)
         requires { IsValid self.old.truths.items self.old.trail.items }
         ensures open { AllOpen self.new.truths.items }
@@ -123,6 +128,7 @@ impl Marks {
         }
     }
 
+    /// What is left of a clause: no literal that isn't false, one, or more.
     pub fn look(&self, clause: &[Lit]) -> Look
         ensures { Looked self.now.truths.items clause.now result }
     {

@@ -24,10 +24,12 @@ const SPREAD: usize = 4;
 pub struct Places {
     pub near: Vec<Option<Place>>,
     pub far: BTreeMap<u64, Place>,
+    /// How many clauses were added.
     pub added: usize,
 }
 
 impl Places {
+    /// No place.
     pub fn new(alloc: Global) -> Places
         ensures { (k : ℕ) → place_of result k ≡ None }
     {
@@ -44,6 +46,7 @@ impl Places {
         *self.near.get(id as usize)?
     }
 
+    /// The place of an id.
     pub fn get(&self, id: u64) -> Option<Place>
         ensures { result ≡ place_of self.now id }
     {
@@ -77,6 +80,7 @@ impl Places {
         Ok(())
     }
 
+    /// Gives an id its place.
     pub fn insert(&mut self, id: u64, place: Place) -> Result<(), AllocError>
         ensures { OnOk result ((k : ℕ) → place_of self.new k ≡ with_place (place_of self.old) id place k) }
     {
@@ -94,6 +98,7 @@ impl Places {
         }
     }
 
+    /// Takes the place of an id away, and tells whether there was one.
     pub fn remove(&mut self, id: u64) -> bool
         ensures yes { result ≡ true → place_of self.old id ≢ None }
         ensures no { result ≡ false → place_of self.old id ≡ None }

@@ -42,6 +42,7 @@ fn take_addition(
     }
 }
 
+/// Takes a step over the live clauses and the greatest id so far, and gives the cause where it fails.
 pub fn take_step(
     store: &mut Store,
     marks: &mut Marks,
@@ -77,6 +78,7 @@ pub fn take_step(
     }
 }
 
+/// The greatest id after a step that passed.
 pub fn top_of(top: u64, step: &Step) -> u64
     ensures { result ≡ top_after top step.now }
 {
@@ -96,6 +98,7 @@ fn adds_empty(step: &Step) -> bool
     }
 }
 
+/// Whether the empty clause was added before a step or by it.
 pub fn saw_empty(seen: bool, step: &Step) -> bool
     ensures kept { seen ≡ true → result ≡ true }
     ensures before { result ≡ false → seen ≡ false }

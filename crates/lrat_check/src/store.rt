@@ -8,6 +8,7 @@ use crate::places::{Place, Places};
 use cnf_form::Lit;
 use std::alloc::{AllocError, Global};
 
+/// The literals of the clauses that were added, and where those of each live clause stand.
 #[derive(Drop)]
 pub struct Store {
     pub pool: Vec<Lit>,
@@ -15,6 +16,7 @@ pub struct Store {
 }
 
 impl Store {
+    /// No clause.
     pub fn new(alloc: Global) -> Store
         ensures store { IsStore result.pool.items result.places }
         ensures live { (k : ℕ) → live_of result.pool.items result.places k ≡ None }
@@ -25,6 +27,7 @@ impl Store {
         }
     }
 
+    /// The live clause of an id.
     pub fn clause(&self, id: u64) -> Option<&[Lit]>
         requires { IsStore self.now.pool.items self.now.places }
         ensures { MatchOption result (live_of self.now.pool.items self.now.places id ≡ None) (λ c. live_of self.now.pool.items self.now.places id ≡ Some c.now) }
@@ -33,6 +36,7 @@ impl Store {
         Some(&self.pool[place.from..place.to])
     }
 
+    /// Makes a clause live under an id.
     pub fn add(&mut self, id: u64, clause: &[Lit]) -> Result<(), AllocError>
         requires { IsStore self.old.pool.items self.old.places }
         ensures store { OnOk result (IsStore self.new.pool.items self.new.places) }
@@ -45,6 +49,7 @@ impl Store {
         Ok(())
     }
 
+    /// Takes the clause of an id away, and tells whether there was one.
     pub fn remove(&mut self, id: u64) -> bool
         requires { IsStore self.old.pool.items self.old.places }
         ensures store { IsStore self.new.pool.items self.new.places }
