@@ -1,4 +1,4 @@
--- What is learnt from a conflict.
+-- What is learnt from a conflict: the first unique implication point (Marques-Silva and Sakallah, 1996; Moskewicz and others, 2001).
 use Rattle.cdcl.specs.Trail.{At}
 use Rattle.std.specs.Prelude.{◌≡◌, ◌<◌, ◌≤◌, ◌+◌, ℕ, Bool, ℤ, pos, ◌⊎◌, List, [], ◌∷◌, ◌++◌, Some, length, map, Contains, take}
 use Rattle.cnf_form.specs.declared.formula.Lit.{Lit}

@@ -11,6 +11,7 @@ use Rattle.cdcl.specs.declared.trail.Entry.{Entry}
 use Rattle.cdcl.specs.Trail.{held}
 use Rattle.cdcl.specs.Analysis.{IsFalse, IsLearntClause}
 
+-- the clause at a place has all its literals denied by the trail
 abbrev pub IsConflict : Solver → ℕ → Type 0
 IsConflict s k = (k < length s.clauses.items) × IsFalse (held s.trail.items) (literals s.clauses.items) k
 

@@ -1,4 +1,4 @@
--- Watched literals: each clause watches two, and one that is false excuses it by a true one, or is still to be looked at.
+-- Watched literals (Moskewicz and others, 2001): each clause watches two, and one that is false excuses it by a true one, or is still to be looked at.
 use Rattle.std.specs.Prelude.{◌≡◌, ◌≢◌, ◌<◌, ◌≤◌, ◌+◌, ◌⊎◌, ℕ, Bool, true, false, List, [], ◌∷◌, ◌++◌, length, slice_index_or, slice_set, Contains}
 use Rattle.cnf_form.specs.declared.formula.Lit.{Lit}
 use Rattle.cnf_form.specs.Literals.{opposite}

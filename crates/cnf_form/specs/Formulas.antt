@@ -1,4 +1,4 @@
--- The text of a formula (DIMACS), and what it says.
+-- The text of a formula, and what it says (the DIMACS format of the second implementation challenge, 1993).
 use Rattle.std.specs.Prelude.{◌≡◌, ℕ, zero, suc, ◌≤◌, Bool, true, false, cond, ◌==◌, ◌&&◌, ◌||◌, nat_eq, List, [], ◌∷◌, ◌++◌, ◌+◌, length, drop, map, Option, Some, None, Result, Ok, Err}
 use Rattle.std.specs.Cmp.Lexicographic.{pointwise}
 use Rattle.cqa_value.specs.declared.memory.Fail.{Fail}

@@ -1,4 +1,4 @@
--- Unit propagation, as lists of literals.
+-- Unit propagation, as lists of literals (Davis and Putnam, 1960).
 use Rattle.std.specs.Prelude.{ℕ, List, [], ◌∷◌, Contains}
 use Rattle.cnf_form.specs.declared.formula.Lit.{Lit}
 use Rattle.cnf_form.specs.Literals.{OthersDenied, AllDenied, HasVar}

@@ -9,7 +9,7 @@ use Rattle.std.specs.declared.cmp.Ordering.{Ordering}
 use Rattle.std.specs.declared.cmp.Ordering.TheVariants.{Less, Equal, Greater}
 use Rattle.std.proofs.lemmas.Cmp.{on_total, then_total}
 use Rattle.cqa_value.specs.declared.value.Value.{Value}
-use Rattle.cqa_value.specs.Values.{row_cmp, row_total, row_ties, row_decides}
+use Rattle.cqa_value.specs.Values.{row_cmp, row_cmp_total, row_ties, row_decides}
 use Rattle.cqa_model.specs.Database.{key_of, block_cmp}
 use Rattle.cqa_model.specs.Repairs.{SharesKey}
 use Rattle.cqa_model.proofs.Classic.{mem-head, mem-tail, map_agree}
@@ -27,7 +27,7 @@ key-from_shares (p ∷ key) x y s =
     cc
 
 pub block_total : (key : List ℕ) → IsTotalOrder (block_cmp key)
-block_total key = then_total (on_total (key_of key) row_total) row_total
+block_total key = then_total (on_total (key_of key) row_cmp_total) row_cmp_total
 
 pub row_exact : (x y : List Value) → row_cmp x y ≡ Equal → x ≡ y
 row_exact x y e = (row_decides x y).0 (row_ties x y ∙ ap is_eq e)
@@ -59,7 +59,7 @@ key-between : (key : List ℕ) (x y z : List Value) → block_cmp key x y ≡ Le
 key-between key x y z xy yz s = go (row_cmp (key_of key x) (key_of key y)) refl
   where
     back : row_cmp (key_of key y) (key_of key z) ≡ ordering_reverse (row_cmp (key_of key x) (key_of key y))
-    back = ap (row_cmp (key_of key y)) (sym (key-from_shares key x z s)) ∙ row_total.antisymm (key_of key y) (key_of key x)
+    back = ap (row_cmp (key_of key y)) (sym (key-from_shares key x z s)) ∙ row_cmp_total.antisymm (key_of key y) (key_of key x)
 
     go : (o : Ordering) → row_cmp (key_of key x) (key_of key y) ≡ o → SharesKey key x y
     go Equal e = shares-from_key key x y (row_exact (key_of key x) (key_of key y) e)

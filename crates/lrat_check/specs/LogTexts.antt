@@ -1,4 +1,4 @@
--- The text of a log (LRAT), and what it says.
+-- The text of a log, and what it says (LRAT: Cruz-Filipe and others, 2017).
 use Rattle.std.specs.Prelude.{◌≡◌, ℕ, ◌-◌, ◌+◌, ℤ, pos, negsuc, Bool, true, false, cond, ◌==◌, nat_eq, List, [], ◌∷◌, ◌++◌, Option, Some, None, option_map, Result, Ok, Err}
 use Rattle.std.specs.Cmp.Lexicographic.{pointwise}
 use Rattle.cqa_value.specs.declared.memory.Fail.{Fail}

@@ -8,19 +8,23 @@ use Rattle.lrat_check.specs.declared.marks.Look.{Look}
 use Rattle.lrat_check.specs.declared.marks.Look.TheVariants as look
 use Rattle.cnf_form.specs.Literals.{HasBothSigns}
 
+-- the mark of a variable; those behind the last are open
 abbrev pub truth_at : List Truth → ℕ → Truth
 truth_at ts v = slice_index_or ts v truth.Open
 
+-- the mark that makes a literal of a sign true
 abbrev pub sign : Bool → Truth
 sign true = truth.True
 sign false = truth.False
 
+-- the marks make a literal true, or false
 abbrev pub IsMarkedTrue : List Truth → Lit → Type 0
 IsMarkedTrue ts l = truth_at ts l.var ≡ sign l.positive
 
 abbrev pub IsFalse : List Truth → Lit → Type 0
 IsFalse ts l = truth_at ts l.var ≡ sign (negated l.positive)
 
+-- nothing is marked
 abbrev pub AllOpen : List Truth → Type 0
 AllOpen ts = (v : ℕ) → truth_at ts v ≡ truth.Open
 
@@ -34,6 +38,7 @@ pub record Shows (ts : List Truth) (held : List Lit) : Type 0 where
   pub marked : (l : Lit) → Contains held l → IsMarkedTrue ts l
   pub present : (l : Lit) → IsMarkedTrue ts l → Contains held l
 
+-- two literals of a clause aren't false
 pub record HasTwo (ts : List Truth) (c : List Lit) : Type 0 where
   pub one : Lit
   pub other : Lit
@@ -43,16 +48,19 @@ pub record HasTwo (ts : List Truth) (c : List Lit) : Type 0 where
   pub one_free : IsFalse ts one → ⊥
   pub other_free : IsFalse ts other → ⊥
 
+-- one literal of a clause isn't false, and all others are
 pub record HasOne (ts : List Truth) (c : List Lit) (l : Lit) : Type 0 where
   pub inside : Contains c l
   pub free : IsFalse ts l → ⊥
   pub others : (m : Lit) → Contains c m → m ≢ l → IsFalse ts m
 
+-- what a look at a clause tells: all its literals are false, all but one, or not even so many
 abbrev pub Looked : List Truth → List Lit → Look → Type 0
 Looked ts c look.Conflict = (m : Lit) → Contains c m → IsFalse ts m
 Looked ts c (look.Unit l) = HasOne ts c l
 Looked ts c look.Many = HasTwo ts c
 
+-- the one literal of a clause that isn't false, or none where all are
 abbrev pub FoundIs : List Truth → List Lit → Option Lit → Type 0
 FoundIs ts c None = (m : Lit) → Contains c m → IsFalse ts m
 FoundIs ts c (Some l) = HasOne ts c l
@@ -62,6 +70,7 @@ abbrev pub HoldIs : List Truth → List Truth → Lit → Bool → Type 0
 HoldIs ts us l true = (held : List Lit) → Shows ts held → Shows us (l ∷ held)
 HoldIs ts us l false = IsFalse ts l
 
+-- the literals of a clause were assumed to be false; or it has one in both signs
 abbrev pub Assumed : List Truth → List Lit → Bool → Type 0
 Assumed ts c true = HasBothSigns c
 Assumed ts c false = (HasBothSigns c → ⊥) × Shows ts (map opposite c)

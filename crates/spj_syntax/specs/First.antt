@@ -1,4 +1,4 @@
--- Whether one token ahead decides each step.
+-- Whether one token ahead decides each step (Lewis and Stearns, 1968).
 use Rattle.std.specs.Prelude.{Bool, true, false, not, ◌&&◌, ◌||◌, nat_eq, List, [], ◌∷◌, ◌++◌}
 use Rattle.std.specs.Cmp.Lexicographic.{pointwise}
 use Rattle.spj_syntax.specs.Shapes.{Terminal, word, name, int, text, mark, primary, code, Shape, one, ◌⨾◌, ◌∣◌, many, nothing}

@@ -22,7 +22,7 @@ abbrev pub only_if : Bool → Option (List Shape) → Option (List Shape)
 only_if true o = o
 only_if false o = None
 
--- what is still wanted after a first token, if the shape may begin with it
+-- what is still wanted after a first token, if the shape may begin with it: the shape's derivative (Brzozowski, 1964)
 abbrev pub after : Shape → Lexeme → Option (List Shape)
 after (one x) t = only_if (matches x t) (Some [])
 after (p ⨾ q) t = or_else (followed_by (after p t) (q ∷ [])) (only_if (nullable p) (after q t))

@@ -9,7 +9,7 @@ use Rattle.std.proofs.lemmas.Option.{get_or_from_slice_get}
 use Rattle.std.proofs.lemmas.List.Elements.{All-from_get_or}
 use native.Mathlib.Decide.{dec_lt}
 use Rattle.cqa_value.specs.declared.value.Value.{Value}
-use Rattle.cqa_value.specs.Values.{value_cmp, row_cmp, row_total, row_ties, row_equiv}
+use Rattle.cqa_value.specs.Values.{value_cmp, row_cmp, row_cmp_total, row_ties, row_equiv}
 use Rattle.cqa_model.specs.Database.{nothing, key_of, block_cmp}
 use Rattle.cqa_model.proofs.BlockOrder.{row_exact, sorted-less}
 use Rattle.table_blocks.proofs.BlockOrder.{block_total, block_exact, block_alike}
@@ -51,8 +51,8 @@ below_too ties a b p h t = go (row_cmp a b) refl (row_cmp b p) refl
   where
     go : (o : Ordering) → row_cmp a b ≡ o → (q : Ordering) → row_cmp b p ≡ q → comes_before ties (row_cmp a p) ≡ true
     go Greater e q f = absurd (h e)
-    go Equal e q f = ap (comes_before ties) (row_total.congr a b p e) ∙ t
-    go Less e Less f = ap (comes_before ties) (row_total.trans a b p e f)
+    go Equal e q f = ap (comes_before ties) (row_cmp_total.congr a b p e) ∙ t
+    go Less e Less f = ap (comes_before ties) (row_cmp_total.trans a b p e f)
     go Less e Equal f = subst (λ q. comes_before ties (row_cmp a q) ≡ true) (row_exact b p f) (ap (comes_before ties) e)
     go Less e Greater f = absurd (true≢false (sym t ∙ ap (comes_before ties) f))
 
