@@ -1,9 +1,9 @@
 -- A walk over the blocks of a table: the answers so far are those of the blocks so far.
-use Rattle.std.proofs.Common.{◌≡◌, ℕ, ◌<◌, ◌↔◌, ◌⊎◌, inl, inr, List, [], ◌∷◌, ◌++◌, length, get_or, map, refl, sym, ap, ◌∙◌, subst, arith, Contains}
+use Rattle.std.proofs.Common.{◌≡◌, ℕ, ◌<◌, ◌↔◌, ◌⊎◌, inl, inr, List, [], ◌∷◌, length, get_or, map, refl, sym, ap, ◌∙◌, subst, arith, Contains}
 use Rattle.std.specs.List.{All}
 use Rattle.std.specs.List.Sorted.{IsStrictlySortedBy}
 use Rattle.std.proofs.lemmas.List.{get_or_default}
-use Rattle.std.proofs.lemmas.List.Elements.{All-head, All-tail, All-contains, Contains-get_or, Contains-append_left, Contains-push, Contains-push_cases}
+use Rattle.std.proofs.lemmas.List.Elements.{All-head, All-tail, All-contains, Contains-get_or}
 use Rattle.cqa_value.specs.declared.value.Value.{Value}
 use Rattle.cqa_value.specs.Values.{row_cmp}
 use Rattle.cqa_model.specs.declared.query.Atom.{Atom}
@@ -15,7 +15,7 @@ use Rattle.cqa_model.specs.OneTable.{value_in, RowMeets, answer_of, FitsRow, Som
 use Rattle.cqa_model.proofs.Classic.{map_agree, mem-head, mem-tail, mem-nil, mem-cases}
 use Rattle.cqa_model.proofs.Databases.{certain_over_one}
 use Rattle.table_blocks.specs.Tables.{rows_at, key_at}
-use Rattle.row_cursor.specs.Blocks.{AreBlocks}
+use Rattle.cqa_model.specs.Blocks.{AreBlocks}
 use Rattle.command_shell.proofs.BlockLists.{some-fits, fits-some}
 
 -- each answer so far is that of a block all of whose rows fit it, and such a block's answer is there or the block is left
@@ -47,17 +47,17 @@ module _ (q : Query) (all left later : List (List (List Value))) (answers : List
   gives : (answer : List Value) → All (FitsRow q answer) block → answer_of q first ≡ answer
   gives answer f = (All-contains (FitsRow q answer) block first f is).gives
 
-  pub goes-with : (answer : List Value) → answer ≡ answer_of q first → All (FitsRow q (answer_of q first)) block → AreSoFar q all later (answers ++ answer ∷ [])
-  goes-with answer same f = record {
-    given = λ other m. elim (Contains-push_cases answers answer other m) [
+  pub goes-with : (answer : List Value) (more : List (List Value)) → answer ≡ answer_of q first → All (FitsRow q (answer_of q first)) block → ((other : List Value) → Contains more other ↔ (Contains answers other ⊎ (answer ≡ other))) → AreSoFar q all later more
+  goes-with answer more same f put = record {
+    given = λ other m. elim ((put other).0 m) [
       | inl old ↦ h.given other old
       | inr new ↦ (block, (h.rest block here, subst (λ a. All (FitsRow q a) block) (sym same ∙ new) f))
     ];
     rest = on;
     none_lost = λ other c m g. elim (h.none_lost other c m g) [
-      | inl old ↦ inl (Contains-append_left answers (answer ∷ []) other old)
+      | inl old ↦ inl ((put other).1 (inl old))
       | inr l ↦ elim (mem-cases c block later (subst (λ bs. Contains bs c) e l)) [
-        | inl it ↦ inl (subst (λ a. Contains (answers ++ answer ∷ []) a) (same ∙ gives other (subst (All (FitsRow q other)) (sym it) g)) (Contains-push answers answer))
+        | inl it ↦ inl ((put other).1 (inr (same ∙ gives other (subst (All (FitsRow q other)) (sym it) g))))
         | inr k ↦ inr k
       ]
     ];
@@ -114,10 +114,10 @@ first_there db q fits one atom at = subst (λ (a : Atom). a.table < length db) (
 
 -- the answers of the blocks of the one atom's table, ascending, are the certain answer
 pub certain-answer : (db : List Table) (q : Query) → FitsDatabase q db → length q.atoms ≡ 1 →
-    (atom : Atom) (found answers : List (List Value)) → atom ≡ get_or q.atoms 0 atom →
-    ((row : List Value) → Contains found row ↔ SomeBlockFits (key_at db atom.table) (rows_at db atom.table) (FitsRow q row)) →
-    IsStrictlySortedBy row_cmp answers → ((row : List Value) → Contains answers row ↔ Contains found row) → IsCertainAnswer db q answers
-certain-answer db q fits one atom found answers at blocks ascending same = record { ascending = ascending; exactly = exact }
+    (atom : Atom) (answers : List (List Value)) → atom ≡ get_or q.atoms 0 atom →
+    ((row : List Value) → Contains answers row ↔ SomeBlockFits (key_at db atom.table) (rows_at db atom.table) (FitsRow q row)) →
+    IsStrictlySortedBy row_cmp answers → IsCertainAnswer db q answers
+certain-answer db q fits one atom answers at blocks ascending = record { ascending = ascending; exactly = exact }
   where
     is : atom ≡ atom_at q 0
     is = first_atom q one atom at
@@ -130,5 +130,5 @@ certain-answer db q fits one atom found answers at blocks ascending same = recor
     exact : (row : List Value) → Contains answers row ↔ IsCertain db q row
     exact row =
         let law = certain_over_one db q row fits one in
-        let here : Contains found row ↔ SomeBlockFits (atom_key q 0) (rows_of q (stored db) 0) (FitsRow q row) = subst (λ P. Contains found row ↔ P) (there row) (blocks row) in
-        (λ m. law.1 (here.0 ((same row).0 m)), λ h. (same row).1 (here.1 (law.0 h)))
+        let here : Contains answers row ↔ SomeBlockFits (atom_key q 0) (rows_of q (stored db) 0) (FitsRow q row) = subst (λ P. Contains answers row ↔ P) (there row) (blocks row) in
+        (λ m. law.1 (here.0 m), λ h. here.1 (law.0 h))

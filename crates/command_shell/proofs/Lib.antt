@@ -7,3 +7,4 @@ pub mod FaultPlaces
 pub mod Progress
 pub mod Sayings
 pub mod Statuses
+pub mod TableLines

@@ -1,5 +1,4 @@
 pub mod State
-pub mod Counts
 pub mod Offsets
 pub mod AttackLines
 pub mod Machine

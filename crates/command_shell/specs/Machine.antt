@@ -1,5 +1,6 @@
 -- One step of the machine: what it replies to a statement, and the state after it.
-use Rattle.std.specs.Prelude.{◌≡◌, ◌⊎◌, ◌≤◌, ◌==◌, ◌++◌, ◌∷◌, [], ℕ, Bool, if◌then◌else◌, List, map, Option, Some, None, Result, Ok, Err, length}
+use Rattle.std.specs.Prelude.{◌≡◌, ◌⊎◌, ◌≤◌, ◌==◌, ◌++◌, ◌∷◌, [], ℕ, Bool, if◌then◌else◌, List, Option, Some, None, Result, Ok, Err, length}
+use Rattle.std.specs.List.{AllZip}
 use Rattle.script_lex.specs.declared.kinds.Token.{Token}
 use Rattle.script_lex.specs.declared.kinds.LexFault.{LexFault}
 use Rattle.script_lex.specs.declared.kinds.LexFault.TheVariants as lexing
@@ -14,6 +15,7 @@ use Rattle.spj_syntax.specs.declared.tree.Select.{Select}
 use Rattle.cqa_model.specs.declared.schema.Schema.{Schema}
 use Rattle.cqa_model.specs.declared.query.Query.{Query}
 use Rattle.cqa_model.specs.Database.{Table}
+use Rattle.cqa_model.specs.Blocks.{HasBlocks}
 use Rattle.cqa_model.specs.Certain.{IsCertainAnswer, IsPossibleAnswer}
 use Rattle.cqa_model.specs.Variables.{whole}
 use Rattle.query_class.specs.Cycles.{IsClass}
@@ -22,7 +24,6 @@ use Rattle.table_blocks.specs.Tables.{table_named, insert_fault, Inserts, Delete
 use Rattle.query_resolve.specs.Checks.{schema_fault, tests_fault, query_fault}
 use Rattle.query_resolve.specs.Resolved.{IsSchemaOf, AreTestsOf, IsQueryOf}
 use Rattle.reply_text.specs.declared.reply.TableLine.{TableLine}
-use Rattle.command_shell.specs.Counts.{count_blocks}
 use Rattle.cqa_model.specs.declared.refusal.Refusal.{Refusal}
 use Rattle.cqa_model.specs.declared.refusal.Refusal.TheVariants.{BadByte, Syntax, StatementTooLong, UnknownTable, OutOfRange, TextTooLong, Limit}
 use Rattle.cqa_model.specs.declared.refusal.LimitKind.TheVariants.{Name}
@@ -103,9 +104,11 @@ fault_in db _ = Some (Syntax 0)
 
 -- ---- what a statement does where no check fails
 
--- a table's schema with its numbers of rows and blocks
-abbrev pub line_of : Table → TableLine
-line_of table = record { schema = table.schema; rows = length table.rows; blocks = count_blocks table.schema.key table.rows }
+-- the line of a table: its schema with its numbers of rows and blocks
+pub record IsLineOf (table : Table) (line : TableLine) : Type 0 where
+  pub schema : line.schema ≡ table.schema
+  pub rows : line.rows ≡ length table.rows
+  pub blocks : HasBlocks table.schema.key table.rows line.blocks
 
 -- the reply to each statement, and the tables after it
 abbrev pub Executes : List Table → Statement → Reply → List Table → Type 0
@@ -115,7 +118,7 @@ Executes old (statements.Delete name raw) (Deleted count) new = (table : ℕ) ×
 Executes old (statements.Ask select) (Rows rows) new = (query : Query) × IsQueryOf old select query × IsCertainAnswer old query rows × (new ≡ old)
 Executes old (statements.Possible select) (Rows rows) new = (query : Query) × IsQueryOf old select query × IsPossibleAnswer old query rows × (new ≡ old)
 Executes old (statements.Classify select) (Classified class lines) new = (query : Query) × IsQueryOf old select query × IsClass query (whole query) class × AreAttackLines query select.tables lines × (new ≡ old)
-Executes old statements.ShowTables (Tables lines) new = (lines ≡ map line_of old) × (new ≡ old)
+Executes old statements.ShowTables (Tables lines) new = AllZip IsLineOf old lines × (new ≡ old)
 Executes old statement reply new = ⊥
 
 -- a refusal by the check that fails, after which nothing has changed, or else what the statement does

@@ -1,11 +1,11 @@
-ghost use Rattle.std.specs.Prelude.{◌≡◌, ◌≤◌, ◌<◌, ◌^◌, IfOk, OnErr, Option, Some, length, map, slice_get};
+ghost use Rattle.std.specs.Prelude.{◌≡◌, ◌≤◌, ◌<◌, ◌^◌, IfOk, OnErr, Option, Some, IfSome, length, slice_get};
 ghost use Rattle.table_blocks.specs.Tables.{IsRefusedAs};
 ghost use Rattle.spj_syntax.specs.declared.tree.Statement.TheVariants as statements;
 ghost use Rattle.spj_syntax.specs.Written.{HasAtMost, IsProper};
 ghost use Rattle.cqa_model.specs.declared.refusal.Refusal.{Refusal as RefusalValue};
 ghost use Rattle.cqa_model.specs.declared.refusal.Refusal.TheVariants.{UnknownTable};
 ghost use Rattle.reply_text.specs.declared.reply.Reply.TheVariants.{Refused as RefusedReply};
-ghost use Rattle.command_shell.specs.Machine.{is_single, line_of, Replies};
+ghost use Rattle.command_shell.specs.Machine.{is_single, IsLineOf, Replies};
 
 use crate::blocks::block_count;
 use crate::certain::certain_rows;
@@ -123,7 +123,7 @@ fn possible(alloc: Global, database: &Database, select: &Select) -> Result<Reply
 
 fn table_line(alloc: Global, database: &Database, table: u32) -> Result<TableLine, NoMemory>
     requires { table < length database.now }
-    ensures { IfOk result (λ line. slice_get (map line_of database.now) table ≡ Some line) }
+    ensures { IfOk result (λ line. IfSome (slice_get database.now table) (λ t. IsLineOf t line)) }
 {
     let schema = database.schema(table).copy(alloc)?;
     let rows = database.rows(table).len() as u32;

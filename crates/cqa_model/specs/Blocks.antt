@@ -9,3 +9,7 @@ pub record AreBlocks (key : List ℕ) (rows : List (List Value)) (blocks : List 
   pub some : (block : List (List Value)) → Contains blocks block → 0 < length block
   pub alike : (block : List (List Value)) → Contains blocks block → (x y : List Value) → Contains block x → Contains block y → SharesKey key x y
   pub apart : (i j : ℕ) → i < j → j < length blocks → (x y : List Value) → Contains (slice_index_or blocks i []) x → Contains (slice_index_or blocks j []) y → SharesKey key x y → ⊥
+
+-- rows have so many blocks
+abbrev pub HasBlocks : List ℕ → List (List Value) → ℕ → Type 0
+HasBlocks key rows count = (blocks : List (List (List Value))) × AreBlocks key rows blocks × (length blocks ≡ count)

@@ -1,7 +1,5 @@
 use Rattle.std.proofs.Common.{length, ap, arith}
 use Rattle.row_cursor.specs.Blocks.{blocks_left}
-use Rattle.table_blocks.specs.Tables.{rows_at, key_at}
-use Rattle.command_shell.proofs.BlockLists.{count-is}
 use Rattle.command_shell.proofs.blocks.block_count.Goals as goal
 
 pub overflow_add-count : goal.overflow_add-count
@@ -20,5 +18,4 @@ pub returns : goal.returns
 returns c =
     let counted = c.loop-count.invariant in
     let none = ap length c.in_default.ensures.steps.0 in
-    let all = count-is (key_at c.args.db.now c.args.table) (blocks_left c.new-cursor.result) (rows_at c.args.db.now c.args.table) c.new-cursor.ensures.blocks in
-    omega (arith, counted, none, all)
+    (blocks_left c.new-cursor.result, c.new-cursor.ensures.blocks, omega (arith, counted, none))
