@@ -10,6 +10,7 @@ ghost use Rattle.command_shell.specs.Machine.{Replies};
 
 use crate::execute::refused;
 use attack_graph::{Attacks, attacks};
+use cqa_model::MOST_ATOMS;
 use cqa_value::{Items, Name, NoMemory};
 use key_closure::View;
 use query_class::class_of;
@@ -18,9 +19,6 @@ use reply_text::{AttackLine, Reply};
 use spj_syntax::Select;
 use std::alloc::Global;
 use table_blocks::Database;
-
-/// The most atoms of a query.
-const MOST_ATOMS: u32 = 12;
 
 /// The reply to a `classify`.
 pub fn classify(alloc: Global, database: &Database, select: &Select) -> Result<Reply, NoMemory>

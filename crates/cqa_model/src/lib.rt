@@ -10,7 +10,7 @@ mod text;
 mod variable_class;
 
 pub use naming::variables;
-pub use query::{Atom, ColRef, Cond, Op, Plan, Query, RowId};
+pub use query::{Atom, ColRef, Cond, MOST_ATOMS, Op, Plan, Query, RowId};
 pub use refusal::{LimitKind, Place, Refusal};
 pub use schema::{Column, Schema};
 pub use text::schema_text;

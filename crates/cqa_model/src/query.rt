@@ -35,6 +35,9 @@ pub struct Atom {
     pub key: Items<u32>,
 }
 
+/// The most atoms of a query.
+pub const MOST_ATOMS: u32 = 12;
+
 /// A select-project-join query without self-joins.
 ///
 /// It has 1 to 12 atoms of different tables, each with 1 to 16 columns and a key of different columns, at most 192

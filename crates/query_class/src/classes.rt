@@ -12,9 +12,7 @@ ghost use Rattle.query_class.specs.Cycles.{
 
 use crate::walking::reach;
 use attack_graph::Attacks;
-
-/// The most atoms of a query, and so of its graph of attacks.
-const MOST_ATOMS: u32 = 12;
+use cqa_model::MOST_ATOMS;
 
 /// How hard it is to decide the certain rows of a query.
 #[derive(Clone, Copy, Debug, PartialEq, Eq)]

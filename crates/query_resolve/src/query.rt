@@ -6,14 +6,11 @@ ghost use Rattle.query_resolve.specs.Resolved.{IsQueryOf};
 use crate::column::columns_of;
 use crate::condition::conds_of;
 use crate::from::atoms_of;
-use cqa_model::{LimitKind, Query, Refusal};
+use cqa_model::{LimitKind, MOST_ATOMS, Query, Refusal};
 use cqa_value::Fail;
 use spj_syntax::Select;
 use std::alloc::Global;
 use table_blocks::Database;
-
-/// The most tables that a query names.
-const MOST_ATOMS: usize = 12;
 
 /// The most columns that a query selects.
 const MOST_ANSWERS: usize = 192;
@@ -55,7 +52,7 @@ fn check_sizes(select: &Select) -> Result<(), Fail<Refusal>>
     ensures valid { OnOk result (size_fault select.now ≡ None) }
     ensures refused { IfErr result (λ e. IsRefusedAs e (size_fault select.now)) }
 {
-    if select.tables.as_slice().len() > MOST_ATOMS {
+    if select.tables.as_slice().len() > MOST_ATOMS as usize {
         let what = LimitKind::Atoms;
         return Err(Fail::Refused(Refusal::Limit { what }));
     }
