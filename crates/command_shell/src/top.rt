@@ -103,7 +103,7 @@ fn command(words: &[String]) -> Option<Command>
 ///
 /// For every list of words and every input, the status and the bytes written are those of a machine that holds its tables as plain lists of rows: each answered ask gives exactly the rows that every repair gives, each once and ascending, each explanation is true by its definition, and each refusal has its named cause and changes nothing, except that a spent search keeps its log.
 ///
-/// Nothing is explained or searched yet: what the sentence says of these speaks of nothing until then.
+/// Nothing is explained or searched yet; until then the sentence has none of these to speak of.
 pub fn run_words<S: Source, K: Sink>(
     alloc: Global,
     words: &[String],
