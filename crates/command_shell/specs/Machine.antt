@@ -105,7 +105,7 @@ fault_in db _ = Some (Syntax 0)
 -- ---- what a statement does where no check fails
 
 -- the line of a table: its schema with its numbers of rows and blocks
-pub record IsLineOf (table : Table) (line : TableLine) : Type 0 where
+pub record IsTableLine (table : Table) (line : TableLine) : Type 0 where
   pub schema : line.schema ≡ table.schema
   pub rows : line.rows ≡ length table.rows
   pub blocks : HasBlocks table.schema.key table.rows line.blocks
@@ -118,7 +118,7 @@ Executes old (statements.Delete name raw) (Deleted count) new = (table : ℕ) ×
 Executes old (statements.Ask select) (Rows rows) new = (query : Query) × IsQueryOf old select query × IsCertainAnswer old query rows × (new ≡ old)
 Executes old (statements.Possible select) (Rows rows) new = (query : Query) × IsQueryOf old select query × IsPossibleAnswer old query rows × (new ≡ old)
 Executes old (statements.Classify select) (Classified class lines) new = (query : Query) × IsQueryOf old select query × IsClass query (whole query) class × AreAttackLines query select.tables lines × (new ≡ old)
-Executes old statements.ShowTables (Tables lines) new = AllZip IsLineOf old lines × (new ≡ old)
+Executes old statements.ShowTables (Tables lines) new = AllZip IsTableLine old lines × (new ≡ old)
 Executes old statement reply new = ⊥
 
 -- a refusal by the check that fails, after which nothing has changed, or else what the statement does

@@ -5,7 +5,7 @@ ghost use Rattle.spj_syntax.specs.Written.{HasAtMost, IsProper};
 ghost use Rattle.cqa_model.specs.declared.refusal.Refusal.{Refusal as RefusalValue};
 ghost use Rattle.cqa_model.specs.declared.refusal.Refusal.TheVariants.{UnknownTable};
 ghost use Rattle.reply_text.specs.declared.reply.Reply.TheVariants.{Refused as RefusedReply};
-ghost use Rattle.command_shell.specs.Machine.{is_single, IsLineOf, Replies};
+ghost use Rattle.command_shell.specs.Machine.{is_single, IsTableLine, Replies};
 
 use crate::blocks::block_count;
 use crate::certain::certain_rows;
@@ -123,7 +123,7 @@ fn possible(alloc: Global, database: &Database, select: &Select) -> Result<Reply
 
 fn table_line(alloc: Global, database: &Database, table: u32) -> Result<TableLine, NoMemory>
     requires { table < length database.now }
-    ensures { IfOk result (λ line. IfSome (slice_get database.now table) (λ t. IsLineOf t line)) }
+    ensures { IfOk result (λ line. IfSome (slice_get database.now table) (λ t. IsTableLine t line)) }
 {
     let schema = database.schema(table).copy(alloc)?;
     let rows = database.rows(table).len() as u32;
