@@ -1,7 +1,11 @@
+//! The class of a graph of attacks: whether there is a cycle, and whether one has a strong attack.
+
 ghost use Rattle.std.specs.Prelude.{ℕ, ◌<◌, ◌↔◌, IsTrue};
 ghost use Rattle.cqa_model.specs.declared.query.Query.{Query};
 ghost use Rattle.cqa_model.specs.Variables.{whole};
 ghost use Rattle.cqa_model.specs.Graph.{IsCyclic, IsStronglyCyclic};
+ghost use Rattle.key_closure.specs.declared.view.View.{View};
+ghost use Rattle.key_closure.specs.Members.{seen};
 ghost use Rattle.attack_graph.specs.Attacking.{AreAttacks, HasAttack, HasWeakAttack};
 ghost use Rattle.query_class.specs.Cycles.{
   IsClass,
@@ -25,10 +29,11 @@ pub enum Class {
     CoNp,
 }
 
-/// The class of a graph of attacks, and so of the query whose attacks they are.
+/// The class of a graph of attacks, and so of each query, and of each view of one, whose attacks they are.
 pub fn class_of(graph: &Attacks) -> Class
     ensures graph { IsClassOf graph.now result }
     ensures query { (q : Query) → AreAttacks q (whole q) graph.now → IsClass q (whole q) result }
+    ensures view { (q : Query) (view : View) → AreAttacks q (seen q view) graph.now → IsClass q (seen q view) result }
 {
     if has_strong_cycle(graph) {
         return Class::CoNp;

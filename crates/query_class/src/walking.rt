@@ -1,3 +1,5 @@
+//! Where attacks lead, one after the other.
+
 ghost use Rattle.std.specs.Prelude.{ℕ, ◌<◌, ◌↔◌};
 ghost use Rattle.key_closure.specs.Sets.{HasAtom};
 ghost use Rattle.query_class.specs.Cycles.{Reaches};
