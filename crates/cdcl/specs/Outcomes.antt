@@ -10,10 +10,6 @@ use Rattle.cnf_form.specs.Spent.{NoVarTwice, IsSpentLog}
 use Rattle.cdcl.specs.declared.outcome.Outcome.{Outcome}
 use Rattle.cdcl.specs.declared.outcome.Outcome.TheVariants.{Sat, Unsat, Spent}
 
--- each literal's variable is one of the formula's, which are numbered from 1
-abbrev pub IsInRange : Cnf → Type 0
-IsInRange cnf = (c : List Lit) → Contains (literals cnf.clauses) c → (l : Lit) → Contains c l → (1 ≤ l.var) × (l.var ≤ cnf.vars)
-
 -- no clause holds a variable twice
 abbrev pub IsOnce : Cnf → Type 0
 IsOnce cnf = (c : List Lit) → Contains (literals cnf.clauses) c → NoVarTwice c

@@ -2,9 +2,10 @@
 
 ghost use Rattle.std.specs.Prelude.{◌≡◌, ◌<◌, ◌≤◌, ◌+◌, ◌^◌, Bool, List, length, IfOk};
 ghost use Rattle.cnf_form.specs.declared.log.Log.{Log};
+ghost use Rattle.cnf_form.specs.Literals.{IsInRange};
 ghost use Rattle.cnf_form.specs.Logs.{Refutes};
 ghost use Rattle.cnf_form.specs.Spent.{IsSpentLog};
-ghost use Rattle.cdcl.specs.Outcomes.{AreConsecutive, IsInRange, IsModel, IsOnce, OutcomeIs};
+ghost use Rattle.cdcl.specs.Outcomes.{AreConsecutive, IsModel, IsOnce, OutcomeIs};
 
 use crate::solver::{Solver, Verdict};
 use cnf_form::{Cnf, Log};

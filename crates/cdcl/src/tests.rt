@@ -1,6 +1,6 @@
 ghost use Rattle.std.specs.Prelude.{◌≡◌, ◌≤◌, List, Contains, IfOk, OnOk, false};
-ghost use Rattle.cnf_form.specs.Literals.{HasVar};
-ghost use Rattle.cdcl.specs.Outcomes.{IsInRange, IsOnce};
+ghost use Rattle.cnf_form.specs.Literals.{HasVar, IsInRange};
+ghost use Rattle.cdcl.specs.Outcomes.{IsOnce};
 ghost use Rattle.cdcl.specs.Tests.{IsClauseOver};
 
 use crate::order::Order;

@@ -10,11 +10,11 @@ use Rattle.cnf_form.specs.declared.fault.FormatFault.{FormatFault}
 use Rattle.cnf_form.specs.declared.formula.Lit.{Lit}
 use Rattle.cnf_form.specs.declared.formula.Clause.{Clause}
 use Rattle.cnf_form.specs.declared.formula.Cnf.{Cnf}
-use Rattle.cnf_form.specs.Literals.{literals, negated}
+use Rattle.cnf_form.specs.Literals.{AreVars, literals, negated}
 use Rattle.cnf_form.specs.Lines.{is_comment, is_nil, is_skipped, lines, tokens}
 use Rattle.cnf_form.specs.Numbers.{signed_of, unsigned_of}
 use Rattle.cnf_form.specs.Formulas.{FormulaIs, Token, after_lrat, body_tokens, both, by_header, clauses_from, content, ended, formula_in, formula_of, has_lrat, header, is_lrat, literal, lrat_line, numbers, tagged, with_vars}
-use Rattle.cnf_form.specs.Writing.{AreVars, IsWritable, ReadsBack, clause_bytes, clause_line, header_line, lit_bytes, proof_bytes}
+use Rattle.cnf_form.specs.Writing.{IsWritable, ReadsBack, clause_bytes, clause_line, header_line, lit_bytes, proof_bytes}
 use Rattle.cnf_form.proofs.Lits.{contains_here, contains_later, negated-negated}
 use Rattle.cnf_form.proofs.ReadTokens.{other_goes, zero_goes}
 use Rattle.cnf_form.proofs.Numerals.{NoEnds, decimal_begins, decimal_no_ends, decimal_signed, decimal_some, decimal_unsigned, fits, minus_signed}
@@ -108,9 +108,9 @@ abbrev AllSmall : ℕ → List Clause → Type 0
 AllSmall limit [] = Unit {0}
 AllSmall limit (c ∷ cs) = AreSmall limit c.lits × AllSmall limit cs
 
-all_small : (limit : ℕ) (cs : List Clause) → ((c : Clause) → Contains cs c → AreVars limit c.lits) → AllSmall limit cs
+all_small : (limit : ℕ) (cs : List Clause) → ((c : List Lit) → Contains (literals cs) c → AreVars limit c) → AllSmall limit cs
 all_small limit [] a = tt
-all_small limit (c ∷ cs) a = (are_small limit c.lits (a c (contains_here c cs)), all_small limit cs (λ d i. a d (contains_later c cs d i)))
+all_small limit (c ∷ cs) a = (are_small limit c.lits (a c.lits (contains_here c.lits (literals cs))), all_small limit cs (λ d i. a d (contains_later c.lits (literals cs) d i)))
 
 mark : List ℕ
 mark = 108 ∷ 114 ∷ 97 ∷ 116 ∷ []

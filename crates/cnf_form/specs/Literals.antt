@@ -1,7 +1,8 @@
 -- Literals and clauses, and what makes them true.
-use Rattle.std.specs.Prelude.{◌≡◌, ◌≢◌, ℕ, Bool, true, false, List, Contains, map}
+use Rattle.std.specs.Prelude.{◌≡◌, ◌≢◌, ◌≤◌, ℕ, Bool, true, false, List, Contains, map}
 use Rattle.cnf_form.specs.declared.formula.Lit.{Lit}
 use Rattle.cnf_form.specs.declared.formula.Clause.{Clause}
+use Rattle.cnf_form.specs.declared.formula.Cnf.{Cnf}
 
 -- the literals of each clause
 abbrev pub literals : List Clause → List (List Lit)
@@ -35,6 +36,14 @@ pub record IsUnit (held c : List Lit) (l : Lit) : Type 0 where
 -- a literal of the variable is in the list
 abbrev pub HasVar : List Lit → ℕ → Type 0
 HasVar c v = (l : Lit) × Contains c l × (l.var ≡ v)
+
+-- each literal is of one of the variables 1 to n
+abbrev pub AreVars : ℕ → List Lit → Type 0
+AreVars n c = (l : Lit) → Contains c l → (1 ≤ l.var) × (l.var ≤ n)
+
+-- each literal is of one of the formula's variables, which are numbered from 1
+abbrev pub IsInRange : Cnf → Type 0
+IsInRange cnf = (c : List Lit) → Contains (literals cnf.clauses) c → AreVars cnf.vars c
 
 -- a variable stands in the clause with both signs
 abbrev pub HasBothSigns : List Lit → Type 0

@@ -4,7 +4,7 @@ use Rattle.cnf_form.specs.declared.formula.Lit.{Lit}
 use Rattle.cnf_form.specs.declared.formula.Cnf.{Cnf}
 use Rattle.cnf_form.specs.declared.log.Step.{Step}
 use Rattle.cnf_form.specs.declared.log.Step.TheVariants.{Add, Delete}
-use Rattle.cnf_form.specs.Literals.{literals, HasVar}
+use Rattle.cnf_form.specs.Literals.{literals, AreVars, HasVar}
 use Rattle.cnf_form.specs.Logs.{Passes, added}
 use Rattle.cnf_form.specs.Propagation.{ReachesEmpty, StaysOpen}
 
@@ -16,7 +16,7 @@ NoVarTwice (l ∷ c) = (HasVar c l.var → ⊥) × NoVarTwice c
 -- the clause is not empty, and of the variables 1 to n, each at most once
 pub record IsFit (n : ℕ) (c : List Lit) : Type 0 where
   pub some : (l : Lit) × Contains c l
-  pub range : (l : Lit) → Contains c l → (1 ≤ l.var) × (l.var ≤ n)
+  pub range : AreVars n c
   pub once : NoVarTwice c
 
 -- none of the clauses is a subset of it

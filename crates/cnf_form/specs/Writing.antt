@@ -1,5 +1,5 @@
 -- How a formula is written (DIMACS).
-use Rattle.std.specs.Prelude.{◌≡◌, ℕ, ◌≤◌, cond, List, [], ◌∷◌, ◌++◌, length, drop, codes, Contains, Result, Ok, Err}
+use Rattle.std.specs.Prelude.{◌≡◌, ℕ, ◌≤◌, cond, List, [], ◌∷◌, ◌++◌, length, drop, codes, Result, Ok, Err}
 use Rattle.std.specs.Fmt.{decimal}
 use Rattle.std.specs.List.{flat_map}
 use Rattle.cnf_form.specs.declared.formula.Lit.{Lit}
@@ -8,6 +8,7 @@ use Rattle.cnf_form.specs.declared.formula.Cnf.{Cnf}
 use Rattle.cqa_value.specs.declared.memory.Fail.{Fail}
 use Rattle.cqa_value.specs.declared.memory.Fail.TheVariants.{NoMemory, Refused}
 use Rattle.cnf_form.specs.declared.fault.FormatFault.{FormatFault}
+use Rattle.cnf_form.specs.Literals.{IsInRange}
 use Rattle.cnf_form.specs.Lines.{lines}
 
 -- a variable's number, after a `-` (45) where the literal is negative, and a space (32)
@@ -29,15 +30,11 @@ header_line cnf = codes "p cnf " ++ decimal cnf.vars ++ 32 ∷ decimal (length c
 abbrev pub formula_bytes : Cnf → List ℕ
 formula_bytes cnf = header_line cnf ++ 10 ∷ flat_map clause_line cnf.clauses
 
--- each literal is of one of the variables 1 to n
-abbrev pub AreVars : ℕ → List Lit → Type 0
-AreVars n c = (l : Lit) → Contains c l → (1 ≤ l.var) × (l.var ≤ n)
-
 -- What the text of a formula allows: its numbers are in range, and each literal's variable is from 1 to that of the variables.
 pub record IsWritable (cnf : Cnf) : Type 0 where
   pub vars : cnf.vars ≤ 10000000
   pub clauses : length cnf.clauses ≤ 4294967295
-  pub literals : (c : Clause) → Contains cnf.clauses c → AreVars cnf.vars c.lits
+  pub literals : IsInRange cnf
 
 -- the text of a formula, the line `lrat`, and what follows
 abbrev pub proof_bytes : Cnf → List ℕ → List ℕ

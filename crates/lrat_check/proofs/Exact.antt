@@ -1,5 +1,9 @@
 -- A log passes or has one fault, and never both.
-use Rattle.std.proofs.Common.{◌≡◌, ℕ, zero, suc, ℤ, pos, negsuc, List, [], ◌∷◌, ◌⊎◌, map, inl, inr, refl, sym, ◌∙◌, ap, subst, arith, length, Some, None}
+use Rattle.std.proofs.Common.{◌≡◌, ℕ, zero, suc, ℤ, pos, negsuc, List, [], ◌∷◌, ◌⊎◌, map, inl, inr, refl, sym, ◌∙◌, ap, subst, arith, length, Option, Some, None, Result, Ok, Err, IfErr, IsErrAnd, MatchResult}
+use Rattle.cqa_value.specs.declared.memory.Fail.{Fail}
+use Rattle.cqa_value.specs.declared.memory.Fail.TheVariants as fail
+use Rattle.cnf_form.specs.declared.fault.FormatFault.{FormatFault}
+use Rattle.cnf_form.specs.declared.fault.Part.TheVariants as part
 use Rattle.cnf_form.specs.declared.formula.Lit.{Lit}
 use Rattle.cnf_form.specs.declared.formula.Cnf.{Cnf}
 use Rattle.cnf_form.specs.declared.log.Step.{Step}
@@ -10,6 +14,7 @@ use Rattle.lrat_check.specs.declared.fault.LogFault.{LogFault}
 use Rattle.cnf_form.specs.Literals.{literals, opposite, IsUnit}
 use Rattle.cnf_form.specs.Logs.{Live, HintsPass, AdditionPasses, without, DeletionPasses, StepPasses, live_after, top_after, StepsPass, numbered, Refutes}
 use Rattle.cnf_form.proofs.Lits.{equal_or_not}
+use Rattle.lrat_check.specs.Checked.{Checked, TextChecked}
 use Rattle.lrat_check.specs.Failing.{AdditionFails, DeletionFails, FailsAt, HasTwoFree, HintsFail, Refused, StepFails}
 
 unit_same : (held c : List Lit) (l m : Lit) → IsUnit held c l → IsUnit held c m → l ≡ m
@@ -123,3 +128,48 @@ one_first cnf steps a b (inl f) (inl g) =
 one_first cnf steps a b (inl f) (inr e) = absurd (steps_not_both (numbered (literals cnf.clauses)) (length cnf.clauses) steps f.0 a.cause e.0 f.2)
 one_first cnf steps a b (inr e) (inl g) = absurd (steps_not_both (numbered (literals cnf.clauses)) (length cnf.clauses) steps g.0 b.cause e.0 g.2)
 one_first cnf steps a b (inr e) (inr g) = same_fault a b (e.2 ∙ sym g.2) (e.3 ∙ sym g.3)
+
+-- ---- so an answer is the only one
+
+pub only_yes : (cnf : Cnf) (steps : List Step) (result : Result (Unit {0}) (Fail LogFault)) → Checked cnf steps result → Refutes cnf steps → IfErr result (λ e. e ≡ fail.NoMemory)
+only_yes cnf steps (Ok done) is refutes = tt
+only_yes cnf steps (Err (fail.Refused fault)) is refutes = absurd (not_both cnf steps fault refutes is)
+only_yes cnf steps (Err fail.NoMemory) is refutes = refl
+
+pub only_fault : (cnf : Cnf) (steps : List Step) (result : Result (Unit {0}) (Fail LogFault)) → Checked cnf steps result
+    → (fault : LogFault) → Refused cnf steps fault → IsErrAnd result (λ e. (e ≡ fail.Refused fault) ⊎ (e ≡ fail.NoMemory))
+only_fault cnf steps (Ok done) is fault fails = not_both cnf steps fault is fails
+only_fault cnf steps (Err (fail.Refused found)) is fault fails = inl (ap fail.Refused (one_first cnf steps found fault is fails))
+only_fault cnf steps (Err fail.NoMemory) is fault fails = inr refl
+
+read_yes : (cnf : Cnf) (steps : List Step) (result : Result (Option LogFault) (Fail FormatFault)) → TextChecked cnf (Ok steps) result → Refutes cnf steps
+    → MatchResult result (λ f. f ≡ None) (λ e. e ≡ fail.NoMemory)
+read_yes cnf steps (Ok None) is refutes = refl
+read_yes cnf steps (Ok (Some fault)) is refutes = absurd (not_both cnf steps fault refutes is)
+read_yes cnf steps (Err (fail.Refused fault)) is refutes = absurd is
+read_yes cnf steps (Err fail.NoMemory) is refutes = refl
+
+read_fault : (cnf : Cnf) (steps : List Step) (result : Result (Option LogFault) (Fail FormatFault)) → TextChecked cnf (Ok steps) result
+    → (fault : LogFault) → Refused cnf steps fault → MatchResult result (λ f. f ≡ Some fault) (λ e. e ≡ fail.NoMemory)
+read_fault cnf steps (Ok None) is fault fails = absurd (not_both cnf steps fault is fails)
+read_fault cnf steps (Ok (Some found)) is fault fails = ap Some (one_first cnf steps found fault is fails)
+read_fault cnf steps (Err (fail.Refused line)) is fault fails = absurd is
+read_fault cnf steps (Err fail.NoMemory) is fault fails = refl
+
+read_line : (cnf : Cnf) (line : ℕ) (result : Result (Option LogFault) (Fail FormatFault)) → TextChecked cnf (Err line) result
+    → IsErrAnd result (λ e. (e ≡ fail.Refused (record { line = line; part = part.Log })) ⊎ (e ≡ fail.NoMemory))
+read_line cnf line (Ok end) is = is
+read_line cnf line (Err (fail.Refused fault)) is = inl (ap fail.Refused is)
+read_line cnf line (Err fail.NoMemory) is = inr refl
+
+pub text_only_yes : (cnf : Cnf) (said : Result (List Step) ℕ) (result : Result (Option LogFault) (Fail FormatFault)) → TextChecked cnf said result
+    → (steps : List Step) → said ≡ Ok steps → Refutes cnf steps → MatchResult result (λ f. f ≡ None) (λ e. e ≡ fail.NoMemory)
+text_only_yes cnf said result is steps e = read_yes cnf steps result (subst (λ (r : Result (List Step) ℕ). TextChecked cnf r result) e is)
+
+pub text_only_fault : (cnf : Cnf) (said : Result (List Step) ℕ) (result : Result (Option LogFault) (Fail FormatFault)) → TextChecked cnf said result
+    → (steps : List Step) (fault : LogFault) → said ≡ Ok steps → Refused cnf steps fault → MatchResult result (λ f. f ≡ Some fault) (λ e. e ≡ fail.NoMemory)
+text_only_fault cnf said result is steps fault e = read_fault cnf steps result (subst (λ (r : Result (List Step) ℕ). TextChecked cnf r result) e is) fault
+
+pub text_only_line : (cnf : Cnf) (said : Result (List Step) ℕ) (result : Result (Option LogFault) (Fail FormatFault)) → TextChecked cnf said result
+    → (line : ℕ) → said ≡ Err line → IsErrAnd result (λ e. (e ≡ fail.Refused (record { line = line; part = part.Log })) ⊎ (e ≡ fail.NoMemory))
+text_only_line cnf said result is line e = read_line cnf line result (subst (λ (r : Result (List Step) ℕ). TextChecked cnf r result) e is)

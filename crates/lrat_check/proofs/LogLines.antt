@@ -12,8 +12,7 @@ use Rattle.cnf_form.specs.Logs.{numbered}
 use Rattle.cnf_form.specs.Lines.{after_line, line_of, lines}
 use Rattle.cnf_form.proofs.ReadLines.{lines_cons}
 use Rattle.lrat_check.specs.declared.fault.LogFault.{LogFault}
-use Rattle.lrat_check.specs.Checked.{RunIs}
-use Rattle.lrat_check.specs.Failing.{TextChecked}
+use Rattle.lrat_check.specs.Checked.{RunIs, TextChecked}
 use Rattle.lrat_check.specs.LogTexts.{LogIs, by_line, line_steps, log_of, then_steps}
 
 join : (xs ss : List Step) (r : Result (List Step) ℕ) → then_steps xs (then_steps ss r) ≡ then_steps (xs ++ ss) r

@@ -1,15 +1,11 @@
 -- Which logs are refused over a formula, and why.
-use Rattle.std.specs.Prelude.{◌≡◌, ◌≢◌, ℕ, zero, suc, ◌<◌, ◌≤◌, ℤ, pos, negsuc, List, [], ◌∷◌, ◌⊎◌, map, Contains, length, Option, Some, None, Result, Ok, Err}
-use Rattle.cqa_value.specs.declared.memory.Fail.{Fail}
-use Rattle.cqa_value.specs.declared.memory.Fail.TheVariants as fail
-use Rattle.cnf_form.specs.declared.fault.FormatFault.{FormatFault}
-use Rattle.cnf_form.specs.declared.fault.Part.TheVariants as part
+use Rattle.std.specs.Prelude.{◌≡◌, ◌≢◌, ℕ, zero, suc, ◌<◌, ◌≤◌, ℤ, pos, negsuc, List, [], ◌∷◌, ◌⊎◌, map, Contains, length, Some, None}
 use Rattle.cnf_form.specs.declared.formula.Lit.{Lit}
 use Rattle.cnf_form.specs.declared.formula.Cnf.{Cnf}
 use Rattle.cnf_form.specs.declared.log.Step.{Step}
 use Rattle.cnf_form.specs.declared.log.Step.TheVariants.{Add, Delete}
 use Rattle.cnf_form.specs.Literals.{literals, opposite, Denied, IsUnit, HasBothSigns}
-use Rattle.cnf_form.specs.Logs.{Live, Passes, Refutes, StepPasses, added, live_after, numbered, top_after, without}
+use Rattle.cnf_form.specs.Logs.{Live, StepPasses, StepsPass, added, live_after, numbered, top_after, without}
 use Rattle.lrat_check.specs.declared.fault.LogCause.{LogCause}
 use Rattle.lrat_check.specs.declared.fault.LogCause.TheVariants.{HintNotUnit, IdNotRising, NoConflict, NoEmptyClause, RatHint, UnknownId}
 use Rattle.lrat_check.specs.declared.fault.LogFault.{LogFault}
@@ -54,23 +50,13 @@ FailsAt live top [] n cause = ⊥
 FailsAt live top (step ∷ steps) zero cause = StepFails live top step cause
 FailsAt live top (step ∷ steps) (suc n) cause = StepPasses live top step × FailsAt (live_after live step) (top_after top step) steps n cause
 
--- Some step is the first that fails; or all pass and none adds the empty clause, which is the fault of the last.
+-- The fault of steps: the number, from 1, of the first that fails, with its cause; or, where all pass and none adds the empty
+-- clause, how many they are.
+abbrev pub HasFault : Live → ℕ → List Step → LogFault → Type 0
+HasFault live top steps fault =
+    ((n : ℕ) × (fault.step ≡ suc n) × FailsAt live top steps n fault.cause)
+    ⊎ (StepsPass live top steps × (Contains (added steps) [] → ⊥) × (fault.step ≡ length steps) × (fault.cause ≡ NoEmptyClause))
+
+-- The steps have this fault over the clauses of the formula.
 abbrev pub Refused : Cnf → List Step → LogFault → Type 0
-Refused cnf steps fault =
-    ((n : ℕ) × (fault.step ≡ suc n) × FailsAt (numbered (literals cnf.clauses)) (length cnf.clauses) steps n fault.cause)
-    ⊎ (Passes cnf steps × (Contains (added steps) [] → ⊥) × (fault.step ≡ length steps) × (fault.cause ≡ NoEmptyClause))
-
--- Yes for a refutation, and else the fault.
-abbrev pub Checked : Cnf → List Step → Result (Unit {0}) (Fail LogFault) → Type 0
-Checked cnf steps (Ok done) = Refutes cnf steps
-Checked cnf steps (Err (fail.Refused fault)) = Refused cnf steps fault
-Checked cnf steps (Err fail.NoMemory) = Unit {0}
-
--- The same where the log is read first: no fault, that of the log, or the first faulty line.
-abbrev pub TextChecked : Cnf → Result (List Step) ℕ → Result (Option LogFault) (Fail FormatFault) → Type 0
-TextChecked cnf said (Err fail.NoMemory) = Unit {0}
-TextChecked cnf (Ok steps) (Ok None) = Refutes cnf steps
-TextChecked cnf (Ok steps) (Ok (Some fault)) = Refused cnf steps fault
-TextChecked cnf (Ok steps) (Err (fail.Refused fault)) = ⊥
-TextChecked cnf (Err line) (Ok end) = ⊥
-TextChecked cnf (Err line) (Err (fail.Refused fault)) = fault ≡ record { line = line; part = part.Log }
+Refused cnf steps fault = HasFault (numbered (literals cnf.clauses)) (length cnf.clauses) steps fault

@@ -8,7 +8,8 @@ use Rattle.cnf_form.specs.declared.log.Log.{Log}
 use Rattle.cqa_value.specs.declared.memory.Fail.{Fail}
 use Rattle.cqa_value.specs.declared.memory.Fail.TheVariants.{NoMemory, Refused}
 use Rattle.cnf_form.specs.declared.fault.FormatFault.{FormatFault}
-use Rattle.cnf_form.specs.Writing.{AreVars, clause_bytes}
+use Rattle.cnf_form.specs.Literals.{AreVars}
+use Rattle.cnf_form.specs.Writing.{clause_bytes}
 use Rattle.lrat_check.specs.LogTexts.{greatest}
 
 -- a number and a space (32)

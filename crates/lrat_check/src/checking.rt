@@ -1,9 +1,10 @@
 //! The check of a whole log.
 
-ghost use Rattle.std.specs.Prelude.{◌≡◌, ℕ, Bool, OnOk, IfOk, length};
-ghost use Rattle.cnf_form.specs.Logs.{numbered};
-ghost use Rattle.lrat_check.specs.Checked.{RunIs};
-ghost use Rattle.lrat_check.specs.Failing.{Checked};
+ghost use Rattle.std.specs.Prelude.{◌≡◌, ◌⊎◌, ℕ, Bool, OnOk, IfOk, IfErr, IsErrAnd, length};
+ghost use Rattle.cnf_form.specs.Logs.{Refutes, numbered};
+ghost use Rattle.lrat_check.specs.declared.fault.LogFault.{LogFault as FaultValue};
+ghost use Rattle.lrat_check.specs.Checked.{Checked, RunIs};
+ghost use Rattle.lrat_check.specs.Failing.{Refused};
 ghost use Rattle.cnf_form.specs.Literals.{SatisfiesAll, literals};
 
 use crate::LogFault;
@@ -29,7 +30,12 @@ fn check_all(alloc: Global, cnf: &Cnf, log: &Log) -> Result<Option<LogFault>, Al
 /// `LogFault` with the first step that fails and its cause; or, where no step fails and none adds the empty clause, with
 /// the number of steps and `NoEmptyClause`. `NoMemory` where memory is refused.
 pub fn check(alloc: Global, cnf: &Cnf, log: &Log) -> Result<(), Fail<LogFault>>
+    // Yes comes for refutations alone, and a fault for logs that have it.
     ensures exact { Checked cnf.now log.now.steps result }
+    // Each refutation gets yes, and each other log its fault, unless memory is refused.
+    ensures only_yes { Refutes cnf.now log.now.steps → IfErr result (λ e. e ≡ Fail.NoMemory) }
+    ensures only_fault { (fault : FaultValue) → Refused cnf.now log.now.steps fault → IsErrAnd result (λ e. (e ≡ Fail.Refused fault) ⊎ (e ≡ Fail.NoMemory)) }
+    // Nothing satisfies a formula whose log gets yes.
     ensures sound { OnOk result ((v : ℕ → Bool) → SatisfiesAll v (literals cnf.now.clauses) → ⊥) }
 {
     match check_all(alloc, cnf, log)? {

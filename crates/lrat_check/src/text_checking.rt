@@ -1,12 +1,15 @@
 //! The check of a log while its text is read.
 
-ghost use Rattle.std.specs.Prelude.{◌≡◌, ◌<◌, ◌≤◌, ◌+◌, ◌-◌, ◌^◌, ◌++◌, ℕ, List, IfOk, MatchOption, None, Some};
+ghost use Rattle.std.specs.Prelude.{◌≡◌, ◌⊎◌, ◌<◌, ◌≤◌, ◌+◌, ◌-◌, ◌^◌, ◌++◌, ℕ, List, IfOk, IsErrAnd, MatchOption, MatchResult, None, Some, Ok, Err};
 ghost use Rattle.cnf_form.specs.declared.log.Step.{Step as LogStep};
 ghost use Rattle.cnf_form.specs.Lines.{after_line, line_of, lines};
-ghost use Rattle.cnf_form.specs.Logs.{Live};
+ghost use Rattle.cnf_form.specs.Logs.{Live, Refutes};
 ghost use Rattle.lrat_check.specs.LogTexts.{line_steps, log_of};
 ghost use Rattle.lrat_check.specs.Reached.{IsReady, Reached};
-ghost use Rattle.lrat_check.specs.Failing.{TextChecked};
+ghost use Rattle.cnf_form.specs.declared.fault.Part.TheVariants as part;
+ghost use Rattle.lrat_check.specs.declared.fault.LogFault.{LogFault as FaultValue};
+ghost use Rattle.lrat_check.specs.Checked.{TextChecked};
+ghost use Rattle.lrat_check.specs.Failing.{Refused};
 
 use crate::LogFault;
 use crate::checker::Checker;
@@ -39,18 +42,7 @@ fn take_line<'a>(
     Ok(Some(line.rest))
 }
 
-/// Reads a log, the text after the `lrat` line, and checks each step as it is read, so that none is kept. The answer is the
-/// fault of the log, and none where it refutes the formula.
-///
-/// # Errors
-///
-/// `FormatFault` with the number of the first line that breaks a rule, from 1. It comes before any fault of a step.
-/// `NoMemory` where memory is refused.
-pub fn check_text(
-    alloc: Global,
-    cnf: &Cnf,
-    text: &[u8],
-) -> Result<Option<LogFault>, Fail<FormatFault>>
+fn check_lines(alloc: Global, cnf: &Cnf, text: &[u8]) -> Result<Option<LogFault>, Fail<FormatFault>>
     ensures { TextChecked cnf.now (log_of cnf.now.vars 1 (lines text.now)) result }
 {
     let mut gathered = Gathered::new(alloc);
@@ -65,4 +57,26 @@ pub fn check_text(
         rest = after;
     }
     Ok(checker.end())
+}
+
+/// Reads a log, the text after the `lrat` line, and checks each step as it is read, so that none is kept. The answer is the
+/// fault of the log, and none where it refutes the formula.
+///
+/// # Errors
+///
+/// `FormatFault` with the number of the first line that breaks a rule, from 1. It comes before any fault of a step.
+/// `NoMemory` where memory is refused.
+pub fn check_text(
+    alloc: Global,
+    cnf: &Cnf,
+    text: &[u8],
+) -> Result<Option<LogFault>, Fail<FormatFault>>
+    // No fault comes for refutations alone, and a fault for texts that have it.
+    ensures exact { TextChecked cnf.now (log_of cnf.now.vars 1 (lines text.now)) result }
+    // Each text gets its answer, unless memory is refused: none where it is a refutation, else its fault or its faulty line.
+    ensures only_yes { (steps : List LogStep) → log_of cnf.now.vars 1 (lines text.now) ≡ Ok steps → Refutes cnf.now steps → MatchResult result (λ f. f ≡ None) (λ e. e ≡ Fail.NoMemory) }
+    ensures only_fault { (steps : List LogStep) (fault : FaultValue) → log_of cnf.now.vars 1 (lines text.now) ≡ Ok steps → Refused cnf.now steps fault → MatchResult result (λ f. f ≡ Some fault) (λ e. e ≡ Fail.NoMemory) }
+    ensures only_line { (line : ℕ) → log_of cnf.now.vars 1 (lines text.now) ≡ Err line → IsErrAnd result (λ e. (e ≡ Fail.Refused (record { line = line; part = part.Log })) ⊎ (e ≡ Fail.NoMemory)) }
+{
+    check_lines(alloc, cnf, text)
 }

@@ -5,7 +5,7 @@ use Rattle.cnf_form.specs.Literals.{literals}
 use Rattle.cnf_form.specs.Logs.{numbered}
 use Rattle.lrat_check.specs.LogTexts.{log_of, then_steps}
 use Rattle.lrat_check.specs.Reached.{IsReady, Reached}
-use Rattle.lrat_check.proofs.text_checking.check_text.Given as goal
+use Rattle.lrat_check.proofs.text_checking.check_lines.Given as goal
 
 abbrev pub invariant-loop-rest : goal.invariant-loop-rest
 invariant-loop-rest l = record {
