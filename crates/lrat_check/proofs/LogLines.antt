@@ -34,15 +34,14 @@ log_more vars n xs new ss rest after all h s e w a =
 pub log_bad : (vars n : ℕ) (xs : List Step) (rest : List ℕ) (all : Result (List Step) ℕ) → length rest ≢ 0 → line_steps vars (line_of rest) ≡ None → all ≡ then_steps xs (log_of vars n (lines rest)) → all ≡ Err n
 log_bad vars n xs rest all h s a = at_line vars n xs rest None all h s a
 
--- the fault of a line is what is read, and what is checked
+-- the fault of a line is what is read
 pub line_bad : (vars n : ℕ) (xs : List Step) (rest bytes : List ℕ) (f : Fail FormatFault) → length rest ≢ 0 → line_steps vars (line_of rest) ≡ None
     → f ≡ Refused (record { line = n; part = part.Log }) → log_of vars 1 (lines bytes) ≡ then_steps xs (log_of vars n (lines rest)) → LogIs vars bytes (Err f)
 line_bad vars n xs rest bytes f h s e a = subst (λ (g : Fail FormatFault). LogIs vars bytes (Err g)) (sym e) (log_bad vars n xs rest (log_of vars 1 (lines bytes)) h s a, refl)
 
-pub text_bad : (cnf : Cnf) (n : ℕ) (xs : List Step) (rest bytes : List ℕ) (f : Fail FormatFault) → length rest ≢ 0 → line_steps cnf.vars (line_of rest) ≡ None
-    → f ≡ Refused (record { line = n; part = part.Log }) → log_of cnf.vars 1 (lines bytes) ≡ then_steps xs (log_of cnf.vars n (lines rest)) → TextChecked cnf (log_of cnf.vars 1 (lines bytes)) (Err f)
-text_bad cnf n xs rest bytes f h s e a = subst (λ (g : Fail FormatFault). TextChecked cnf (log_of cnf.vars 1 (lines bytes)) (Err g)) (sym e)
-    (subst (λ (r : Result (List Step) ℕ). TextChecked cnf r (Err (Refused (record { line = n; part = part.Log })))) (sym (log_bad cnf.vars n xs rest (log_of cnf.vars 1 (lines bytes)) h s a)) refl)
+-- and what is checked
+pub line_checked : (cnf : Cnf) (said : Result (List Step) ℕ) (line : ℕ) (f : Fail FormatFault) → said ≡ Err line → f ≡ Refused (record { line = line; part = part.Log }) → TextChecked cnf said (Err f)
+line_checked cnf said line f bad e = subst (λ (g : Fail FormatFault). TextChecked cnf said (Err g)) (sym e) (subst (λ (r : Result (List Step) ℕ). TextChecked cnf r (Err (Refused (record { line = line; part = part.Log })))) (sym bad) refl)
 
 -- what a run over all steps comes to
 pub run_checked : (cnf : Cnf) (steps : List Step) (said : Result (List Step) ℕ) (end : Option LogFault) → said ≡ Ok steps

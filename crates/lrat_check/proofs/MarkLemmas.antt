@@ -61,6 +61,13 @@ found_two ts c i d l h f apart n = record {
 pub found_end : (ts : List Truth) (c : List Lit) (i : ℕ) (found : Option Lit) → length c ≤ i → FoundIs ts (take i c) found → FoundIs ts c found
 found_end ts c i found h f = subst (λ (d : List Lit). FoundIs ts d found) (take_all i c h) f
 
+-- room that no variable needs
+pub grown_valid : (ts us : List Truth) (trail : List ℕ) → IsValid ts trail → ((v : ℕ) → truth_at us v ≡ truth_at ts v) → length ts ≤ length us → IsValid us trail
+grown_valid ts us trail valid same more = record {
+  tracked = λ v n. valid.tracked v (λ o. n (same v ∙ o));
+  within = λ v k. let b = valid.within v k in omega (arith, b, more);
+}
+
 pub pop_room : (ts : List Truth) (trail rest : List ℕ) (x : ℕ) → IsValid ts trail → trail ≡ rest ++ x ∷ [] → x < length ts
 pop_room ts trail rest x valid e = valid.within x (subst (λ (ys : List ℕ). Contains ys x) (sym e) (Contains-push rest x))
 

@@ -1,5 +1,6 @@
 pub mod Failing
 pub mod Marks
+pub mod Places
 pub mod Store
 pub mod Following
 pub mod Steps

@@ -5,8 +5,7 @@ use Rattle.cnf_form.specs.Logs.{Live, StepsPass, added, live_after, top_after}
 use Rattle.lrat_check.specs.declared.fault.LogFault.{LogFault}
 use Rattle.lrat_check.specs.declared.checker.Checker.{Checker}
 use Rattle.lrat_check.specs.Failing.{FailsAt}
-use Rattle.lrat_check.specs.Marks.{IsValid, AllOpen}
-use Rattle.lrat_check.specs.Store.{live_of, IsStore}
+use Rattle.lrat_check.specs.Store.{live_of}
 
 -- the live clauses after some steps
 abbrev pub live_through : Live → List Step → Live
@@ -33,10 +32,4 @@ ReachedBy start first steps live top passed seen None = HasPassed start first st
 ReachedBy start first steps live top passed seen (Some fault) = (n : ℕ) × (fault.step ≡ suc n) × FailsAt start first steps n fault.cause
 
 abbrev pub Reached : Live → ℕ → List Step → Checker → Type 0
-Reached start first steps c = ReachedBy start first steps (live_of c.store.pool.items c.store.places) c.top c.passed c.seen c.fault
-
--- the store is one, and no literal is marked
-pub record IsReady (c : Checker) : Type 0 where
-  pub store : IsStore c.store.pool.items c.store.places
-  pub valid : IsValid c.marks.truths.items c.marks.trail.items
-  pub clear : AllOpen c.marks.truths.items
+Reached start first steps c = ReachedBy start first steps (live_of c.store) c.top c.passed c.seen c.fault

@@ -1,21 +1,19 @@
 //! The check of steps that come one by one.
 
-ghost use Rattle.std.specs.Prelude.{◌≡◌, ◌<◌, ◌≤◌, ◌+◌, ◌^◌, ◌-◌, ℕ, List, [], ◌∷◌, ◌++◌, OnOk, IfOk};
+ghost use Rattle.std.specs.Prelude.{◌≡◌, ◌<◌, ◌≤◌, ◌+◌, ◌^◌, ◌-◌, ℕ, List, [], ◌∷◌, ◌++◌, OnOk, IfOk, length};
 ghost use Rattle.cnf_form.specs.declared.log.Step.{Step as LogStep};
 ghost use Rattle.cnf_form.specs.Literals.{literals};
 ghost use Rattle.cnf_form.specs.Logs.{Live, numbered};
-ghost use Rattle.lrat_check.specs.Store.{live_of, IsStore};
-ghost use Rattle.lrat_check.specs.Reached.{IsReady, Reached};
-ghost use Rattle.lrat_check.specs.Checked.{RunIs};
-ghost use Rattle.lrat_check.specs.LogTexts.{said_steps};
-ghost use Rattle.std.specs.Prelude.{length};
+ghost use Rattle.lrat_check.specs.Marks.{AllOpen};
+ghost use Rattle.lrat_check.specs.Store.{live_of};
 
 use crate::marks::Marks;
 use crate::steps::{saw_empty, take_step, top_of};
 use crate::store::Store;
 use crate::{LogCause, LogFault};
 use cnf_form::{Clause, Step};
-use std::alloc::{AllocError, Global};
+use cqa_value::NoMemory;
+use std::alloc::Global;
 
 /// What the steps so far have come to: how many passed, and the first that fails.
 #[derive(Drop)]
@@ -30,11 +28,11 @@ pub struct Checker {
     pub seen: bool,
     /// The first step that fails; none is taken after it.
     pub fault: Option<LogFault>,
+    ghost clear: { AllOpen marks },
 }
 
-fn load(alloc: Global, clauses: &[Clause]) -> Result<Store, AllocError>
-    ensures store { IfOk result (λ s. IsStore s.pool.items s.places) }
-    ensures live { IfOk result (λ s. live_of s.pool.items s.places ≡ numbered (literals clauses.now)) }
+fn load(alloc: Global, clauses: &[Clause]) -> Result<Store, NoMemory>
+    ensures { IfOk result (λ s. live_of s ≡ numbered (literals clauses.now)) }
 {
     let mut store = Store::new(alloc);
     for (index, clause) in clauses.iter().enumerate() {
@@ -44,9 +42,11 @@ fn load(alloc: Global, clauses: &[Clause]) -> Result<Store, AllocError>
 }
 
 impl Checker {
+    ghost use Rattle.lrat_check.specs.Reached.{Reached};
+    ghost use Rattle.lrat_check.specs.Checked.{RunIs};
+
     /// Before the first step.
-    pub fn new(alloc: Global, clauses: &[Clause]) -> Result<Checker, AllocError>
-        ensures ready { IfOk result (λ c. IsReady c) }
+    pub fn new(alloc: Global, clauses: &[Clause]) -> Result<Checker, NoMemory>
         ensures reached { IfOk result (λ c. Reached (numbered (literals clauses.now)) (length clauses.now) [] c) }
         ensures none { IfOk result (λ c. c.passed ≡ 0) }
     {
@@ -60,15 +60,15 @@ impl Checker {
         })
     }
 
-    /// Takes the step after those that passed.
-    fn take_next(&mut self, step: &Step) -> Result<(), AllocError>
-        requires ready { IsReady self.old }
-        requires passing { self.old.fault ≡ None }
-        requires room { self.old.passed < 2 ^ 64 - 1 }
-        ensures ready { OnOk result (IsReady self.new) }
+    /// Takes a step. After a fault it changes nothing.
+    pub fn take(&mut self, step: &Step) -> Result<(), NoMemory>
+        requires { self.old.passed < 2 ^ 64 - 1 }
         ensures reached { OnOk result ((live : Live) (top : ℕ) (before : List LogStep) → Reached live top before self.old → Reached live top (before ++ step.now ∷ []) self.new) }
         ensures count { OnOk result (self.new.passed ≤ self.old.passed + 1) }
     {
+        let None = self.fault else {
+            return Ok(());
+        };
         match take_step(&mut self.store, &mut self.marks, self.top, step)? {
             Some(cause) => {
                 self.fault = Some(LogFault {
@@ -83,34 +83,6 @@ impl Checker {
             }
         }
         Ok(())
-    }
-
-    /// Takes a step. After a fault it changes nothing.
-    pub fn take(&mut self, step: &Step) -> Result<(), AllocError>
-        requires ready { IsReady self.old }
-        requires room { self.old.passed < 2 ^ 64 - 1 }
-        ensures ready { OnOk result (IsReady self.new) }
-        ensures reached { OnOk result ((live : Live) (top : ℕ) (before : List LogStep) → Reached live top before self.old → Reached live top (before ++ step.now ∷ []) self.new) }
-        ensures count { OnOk result (self.new.passed ≤ self.old.passed + 1) }
-    {
-        match self.fault {
-            None => self.take_next(step),
-            Some(_) => Ok(()),
-        }
-    }
-
-    /// Takes the step of a line, if it has one.
-    pub fn take_said(&mut self, step: &Option<Step>) -> Result<(), AllocError>
-        requires ready { IsReady self.old }
-        requires room { self.old.passed < 2 ^ 64 - 1 }
-        ensures ready { OnOk result (IsReady self.new) }
-        ensures reached { OnOk result ((live : Live) (top : ℕ) (before : List LogStep) → Reached live top before self.old → Reached live top (before ++ said_steps step.now) self.new) }
-        ensures count { OnOk result (self.new.passed ≤ self.old.passed + 1) }
-    {
-        match step {
-            Some(step) => self.take(step),
-            None => Ok(()),
-        }
     }
 
     /// The fault of the steps, if they are all there are; none where they refute the formula.

@@ -10,10 +10,10 @@ ghost use Rattle.cnf_form.specs.Literals.{SatisfiesAll, literals};
 use crate::LogFault;
 use crate::checker::Checker;
 use cnf_form::{Cnf, Log};
-use cqa_value::Fail;
-use std::alloc::{AllocError, Global};
+use cqa_value::{Fail, NoMemory};
+use std::alloc::Global;
 
-fn check_all(alloc: Global, cnf: &Cnf, log: &Log) -> Result<Option<LogFault>, AllocError>
+fn check_all(alloc: Global, cnf: &Cnf, log: &Log) -> Result<Option<LogFault>, NoMemory>
     ensures { IfOk result (λ f. RunIs (numbered (literals cnf.now.clauses)) (length cnf.now.clauses) log.now.steps f) }
 {
     let mut checker = Checker::new(alloc, cnf.clauses.as_slice())?;

@@ -1,19 +1,17 @@
 //! Deletions.
 
-ghost use Rattle.std.specs.Prelude.{◌≡◌, ℕ, true, false};
+ghost use Rattle.std.specs.Prelude.{◌≡◌, true, false};
 ghost use Rattle.cnf_form.specs.Logs.{DeletionPasses, after_deletion};
-ghost use Rattle.lrat_check.specs.Store.{live_of, IsStore};
+ghost use Rattle.lrat_check.specs.Store.{live_of};
 ghost use Rattle.lrat_check.specs.Failing.{DeletionFails};
 
 use crate::store::Store;
 
 /// Takes the clauses of the ids away, up to the first id that isn't live, and tells whether all are.
 pub fn delete_all(store: &mut Store, ids: &[u64]) -> bool
-    requires { IsStore store.old.pool.items store.old.places }
-    ensures store { IsStore store.new.pool.items store.new.places }
-    ensures yes { result ≡ true → DeletionPasses (live_of store.old.pool.items store.old.places) ids.now }
-    ensures no { result ≡ false → DeletionFails (live_of store.old.pool.items store.old.places) ids.now }
-    ensures live { result ≡ true → live_of store.new.pool.items store.new.places ≡ after_deletion (live_of store.old.pool.items store.old.places) ids.now }
+    ensures yes { result ≡ true → DeletionPasses (live_of store.old) ids.now }
+    ensures no { result ≡ false → DeletionFails (live_of store.old) ids.now }
+    ensures live { result ≡ true → live_of store.new ≡ after_deletion (live_of store.old) ids.now }
 {
     for id in ids {
         if !store.remove(*id) {

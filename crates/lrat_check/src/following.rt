@@ -1,18 +1,16 @@
-//! Hints, and additions.
+//! Hints, and whether a clause follows by them.
 
-ghost use Rattle.std.specs.Prelude.{◌≡◌, ℕ, ℤ, pos, negsuc, OnOk, IfOk, List, MatchOption, Some, None};
+ghost use Rattle.std.specs.Prelude.{◌≡◌, ℕ, pos, negsuc, IfOk, List, MatchOption};
 ghost use Rattle.cnf_form.specs.declared.formula.Lit.{Lit as Literal};
-ghost use Rattle.cnf_form.specs.Logs.{HintsPass};
-ghost use Rattle.lrat_check.specs.Marks.{IsValid, Shows, AllOpen};
-ghost use Rattle.lrat_check.specs.Store.{live_of, IsStore};
+ghost use Rattle.lrat_check.specs.Marks.{Shows, AllOpen};
+ghost use Rattle.lrat_check.specs.Store.{live_of};
 ghost use Rattle.lrat_check.specs.Following.{FollowIs, ClauseIs, EndIs, AdditionIs};
-ghost use Rattle.lrat_check.specs.Failing.{HintsFail};
 
 use crate::LogCause;
 use crate::marks::{Look, Marks};
 use crate::store::Store;
 use cnf_form::Lit;
-use std::alloc::AllocError;
+use cqa_value::NoMemory;
 
 /// What following a hint comes to.
 #[derive(Clone, Copy)]
@@ -31,10 +29,8 @@ fn id_of(hint: &i64) -> Option<u64>
     if *hint < 0 { None } else { Some(*hint as u64) }
 }
 
-fn follow_clause(marks: &mut Marks, clause: &[Lit]) -> Result<Follow, AllocError>
-    requires { IsValid marks.old.truths.items marks.old.trail.items }
-    ensures valid { OnOk result (IsValid marks.new.truths.items marks.new.trail.items) }
-    ensures followed { IfOk result (λ f. (held : List Literal) → Shows marks.old.truths.items held → ClauseIs held clause.now marks.new.truths.items f) }
+fn follow_clause(marks: &mut Marks, clause: &[Lit]) -> Result<Follow, NoMemory>
+    ensures { IfOk result (λ f. (held : List Literal) → Shows marks.old held → ClauseIs held clause.now marks.new f) }
 {
     match marks.look(clause) {
         Look::Conflict => Ok(Follow::Pass),
@@ -46,11 +42,8 @@ fn follow_clause(marks: &mut Marks, clause: &[Lit]) -> Result<Follow, AllocError
     }
 }
 
-fn follow_one(store: &Store, marks: &mut Marks, hint: &i64) -> Result<Follow, AllocError>
-    requires store { IsStore store.now.pool.items store.now.places }
-    requires valid { IsValid marks.old.truths.items marks.old.trail.items }
-    ensures valid { OnOk result (IsValid marks.new.truths.items marks.new.trail.items) }
-    ensures followed { IfOk result (λ f. (held : List Literal) → Shows marks.old.truths.items held → FollowIs (live_of store.now.pool.items store.now.places) held hint.now marks.new.truths.items f) }
+fn follow_one(store: &Store, marks: &mut Marks, hint: &i64) -> Result<Follow, NoMemory>
+    ensures { IfOk result (λ f. (held : List Literal) → Shows marks.old held → FollowIs (live_of store.now) held hint.now marks.new f) }
 {
     let Some(id) = id_of(hint) else {
         return Ok(Follow::Fail(LogCause::RatHint));
@@ -61,15 +54,8 @@ fn follow_one(store: &Store, marks: &mut Marks, hint: &i64) -> Result<Follow, Al
     follow_clause(marks, clause)
 }
 
-fn follow_all(
-    store: &Store,
-    marks: &mut Marks,
-    hints: &[i64],
-) -> Result<Option<LogCause>, AllocError>
-    requires store { IsStore store.now.pool.items store.now.places }
-    requires valid { IsValid marks.old.truths.items marks.old.trail.items }
-    ensures valid { OnOk result (IsValid marks.new.truths.items marks.new.trail.items) }
-    ensures followed { IfOk result (λ f. (held : List Literal) → Shows marks.old.truths.items held → EndIs (live_of store.now.pool.items store.now.places) held hints.now f) }
+fn follow_all(store: &Store, marks: &mut Marks, hints: &[i64]) -> Result<Option<LogCause>, NoMemory>
+    ensures { IfOk result (λ f. (held : List Literal) → Shows marks.old held → EndIs (live_of store.now) held hints.now f) }
 {
     for hint in hints {
         match follow_one(store, marks, hint)? {
@@ -81,25 +67,34 @@ fn follow_all(
     Ok(Some(LogCause::NoConflict))
 }
 
+/// Follows the hints of a clause, with its own literals held false.
+fn follow_addition(
+    store: &Store,
+    marks: &mut Marks,
+    clause: &[Lit],
+    hints: &[i64],
+) -> Result<Option<LogCause>, NoMemory>
+    requires { AllOpen marks.old }
+    ensures { IfOk result (λ f. AdditionIs (live_of store.now) clause.now hints.now f) }
+{
+    if marks.assume(clause)? {
+        return Ok(None);
+    }
+    follow_all(store, marks, hints)
+}
+
 /// Tries whether a clause follows by its hints, and gives the cause where it doesn't. The marks are clear before and after.
 pub fn try_addition(
     store: &Store,
     marks: &mut Marks,
     clause: &[Lit],
     hints: &[i64],
-) -> Result<Option<LogCause>, AllocError>
-    requires store { IsStore store.now.pool.items store.now.places }
-    requires valid { IsValid marks.old.truths.items marks.old.trail.items }
-    requires open { AllOpen marks.old.truths.items }
-    ensures valid { OnOk result (IsValid marks.new.truths.items marks.new.trail.items) }
-    ensures open { OnOk result (AllOpen marks.new.truths.items) }
-    ensures tried { IfOk result (λ f. AdditionIs (live_of store.now.pool.items store.now.places) clause.now hints.now f) }
+) -> Result<Option<LogCause>, NoMemory>
+    requires { AllOpen marks.old }
+    ensures open { AllOpen marks.new }
+    ensures tried { IfOk result (λ f. AdditionIs (live_of store.now) clause.now hints.now f) }
 {
-    if marks.assume(clause)? {
-        marks.clear();
-        return Ok(None);
-    }
-    let end = follow_all(store, marks, hints)?;
+    let tried = follow_addition(store, marks, clause, hints);
     marks.clear();
-    Ok(end)
+    tried
 }

@@ -1,16 +1,30 @@
 //! Which literals are true, by variable.
 
-ghost use Rattle.std.specs.Prelude.{◌≡◌, ◌≢◌, ℕ, ◌<◌, ◌≤◌, OnOk, IfOk, [], true, false, length};
-ghost use Rattle.lrat_check.specs.Marks.{truth_at, sign, IsFalse, AllOpen, IsValid, Looked, Shows, HoldIs, Assumed};
+ghost use Rattle.std.specs.Prelude.{◌≡◌, ◌≢◌, ℕ, ◌<◌, ◌≤◌, OnOk, IfOk, true, false, length};
+ghost use Rattle.lrat_check.specs.Marks.{truth_at, sign, IsFalse, AllOpen, Looked, HoldIs, Assumed};
 
 use cnf_form::{Lit, Truth};
-use std::alloc::{AllocError, Global};
+use cqa_value::NoMemory;
+use std::alloc::Global;
+use std::marker::Model;
 
 /// The truth values of variables, by their numbers, and the variables that have one in the order in which they came.
 #[derive(Drop)]
 pub struct Marks {
-    pub truths: Vec<Truth>,
-    pub trail: Vec<u32>,
+    truths: Vec<Truth>,
+    trail: Vec<u32>,
+}
+
+impl Model for Marks {
+    ghost use Rattle.std.specs.Prelude.{List};
+    ghost use Rattle.cnf_form.specs.declared.formula.Truth.{Truth};
+    ghost use Rattle.lrat_check.specs.Marks.{IsValid};
+
+    ghost Value = { List Truth };
+
+    ghost view = { λ m. m.truths.items };
+
+    ghost invariant = { λ m. IsValid m.truths.items m.trail.items };
 }
 
 /// What the marks make of a clause.
@@ -27,11 +41,23 @@ fn sign_of(positive: bool) -> Truth
     if positive { Truth::True } else { Truth::False }
 }
 
+/// Makes room for the truth value of a variable.
+fn grow(truths: &mut Vec<Truth>, var: u32) -> Result<(), NoMemory>
+    ensures same { (v : ℕ) → truth_at truths.new.items v ≡ truth_at truths.old.items v }
+    ensures more { length truths.old.items ≤ length truths.new.items }
+    ensures room { OnOk result (var < length truths.new.items) }
+{
+    let room = var as usize + 1;
+    if truths.len() < room {
+        truths.resize(room, Truth::Open)?;
+    }
+    Ok(())
+}
+
 impl Marks {
     /// Every variable is open.
     pub fn new(alloc: Global) -> Marks
-        ensures open { AllOpen result.truths.items }
-        ensures valid { IsValid result.truths.items result.trail.items }
+        ensures { AllOpen result }
     {
         Marks {
             truths: Vec::new(alloc),
@@ -41,7 +67,7 @@ impl Marks {
 
     /// The truth value of a variable.
     pub fn truth(&self, var: u32) -> Truth
-        ensures { result ≡ truth_at self.now.truths.items var }
+        ensures { result ≡ truth_at self.now var }
     {
         self.truths
             .get(var as usize)
@@ -51,8 +77,8 @@ impl Marks {
 
     /// Whether a literal is false.
     pub fn is_false(&self, lit: Lit) -> bool
-        ensures yes { result ≡ true → IsFalse self.now.truths.items lit }
-        ensures no { result ≡ false → IsFalse self.now.truths.items lit → ⊥ }
+        ensures yes { result ≡ true → IsFalse self.now lit }
+        ensures no { result ≡ false → IsFalse self.now lit → ⊥ }
     {
         match self.truth(lit.var) {
             Truth::Open => false,
@@ -61,37 +87,20 @@ impl Marks {
         }
     }
 
-    fn grow(&mut self, var: u32) -> Result<(), AllocError>
-        ensures trail { OnOk result (self.new.trail.items ≡ self.old.trail.items) }
-        ensures same { OnOk result ((v : ℕ) → truth_at self.new.truths.items v ≡ truth_at self.old.truths.items v) }
-        ensures room { OnOk result (var < length self.new.truths.items) }
-        ensures more { OnOk result (length self.old.truths.items ≤ length self.new.truths.items) }
-    {
-        let room = var as usize + 1;
-        if self.truths.len() < room {
-            self.truths.resize(room, Truth::Open)?;
-        }
-        Ok(())
-    }
-
     /// Makes a literal true, whatever the value of its variable.
-    pub fn make_true(&mut self, lit: Lit) -> Result<(), AllocError>
-        requires { IsValid self.old.truths.items self.old.trail.items }
-        ensures valid { OnOk result (IsValid self.new.truths.items self.new.trail.items) }
-        ensures here { OnOk result (truth_at self.new.truths.items lit.var ≡ sign lit.positive) }
-        ensures others { OnOk result ((v : ℕ) → v ≢ lit.var → truth_at self.new.truths.items v ≡ truth_at self.old.truths.items v) }
+    fn make_true(&mut self, lit: Lit) -> Result<(), NoMemory>
+        ensures here { OnOk result (truth_at self.new lit.var ≡ sign lit.positive) }
+        ensures others { OnOk result ((v : ℕ) → v ≢ lit.var → truth_at self.new v ≡ truth_at self.old v) }
     {
-        self.grow(lit.var)?;
+        grow(&mut self.truths, lit.var)?;
         self.trail.push(lit.var)?;
         self.truths[lit.var as usize] = sign_of(lit.positive);
         Ok(())
     }
 
     /// Makes the literal true, and answers false where it is false.
-    pub fn hold(&mut self, lit: Lit) -> Result<bool, AllocError>
-        requires { IsValid self.old.truths.items self.old.trail.items }
-        ensures valid { OnOk result (IsValid self.new.truths.items self.new.trail.items) }
-        ensures held { IfOk result (λ kept. HoldIs self.old.truths.items self.new.truths.items lit kept) }
+    pub fn hold(&mut self, lit: Lit) -> Result<bool, NoMemory>
+        ensures { IfOk result (λ kept. HoldIs self.old self.new lit kept) }
     {
         match self.truth(lit.var) {
             Truth::Open => {
@@ -103,11 +112,9 @@ impl Marks {
     }
 
     /// Makes each literal false, and answers true where a variable has both signs.
-    pub fn assume(&mut self, clause: &[Lit]) -> Result<bool, AllocError>
-        requires valid { IsValid self.old.truths.items self.old.trail.items }
-        requires open { AllOpen self.old.truths.items }
-        ensures valid { OnOk result (IsValid self.new.truths.items self.new.trail.items) }
-        ensures assumed { IfOk result (λ both. Assumed self.new.truths.items clause.now both) }
+    pub fn assume(&mut self, clause: &[Lit]) -> Result<bool, NoMemory>
+        requires { AllOpen self.old }
+        ensures { IfOk result (λ both. Assumed self.new clause.now both) }
     {
         for lit in clause {
             if !self.hold(lit.opposite())? {
@@ -119,9 +126,7 @@ impl Marks {
 
     /// Makes every variable open again.
     pub fn clear(&mut self)
-        requires { IsValid self.old.truths.items self.old.trail.items }
-        ensures open { AllOpen self.new.truths.items }
-        ensures trail { self.new.trail.items ≡ [] }
+        ensures { AllOpen self.new }
     {
         while let Some(var) = self.trail.pop() {
             self.truths[var as usize] = Truth::Open;
@@ -130,7 +135,7 @@ impl Marks {
 
     /// What is left of a clause: no literal that isn't false, one, or more.
     pub fn look(&self, clause: &[Lit]) -> Look
-        ensures { Looked self.now.truths.items clause.now result }
+        ensures { Looked self.now clause.now result }
     {
         let mut found: Option<Lit> = None;
         for lit in clause {

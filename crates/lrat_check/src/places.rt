@@ -1,11 +1,12 @@
 //! Where the clause of each id stands.
 
-ghost use Rattle.std.specs.Prelude.{◌≡◌, ◌≢◌, ℕ, ◌≤◌, ◌<◌, OnOk, Some, None, true, false, length};
+ghost use Rattle.std.specs.Prelude.{◌≡◌, ◌≢◌, ℕ, ◌≤◌, ◌<◌, OnOk, OnErr, Some, None, true, false, length};
 ghost use Rattle.std.specs.Ordering.{nat_cmp};
 ghost use Rattle.std.specs.BTreeMap.{get};
-ghost use Rattle.lrat_check.specs.Store.{near_at, place_of, with_place, without_place};
+ghost use Rattle.lrat_check.specs.Places.{near_at, place_of, with_place, without_place};
 
-use std::alloc::{AllocError, Global};
+use cqa_value::NoMemory;
+use std::alloc::Global;
 use std::collections::BTreeMap;
 
 /// Where a clause's literals stand in the pool.
@@ -57,8 +58,8 @@ impl Places {
     }
 
     /// Makes room for an id in the list, if it isn't too far.
-    fn grow(&mut self, id: u64) -> Result<(), AllocError>
-        ensures { OnOk result ((k : ℕ) → place_of self.new k ≡ place_of self.old k) }
+    fn grow(&mut self, id: u64) -> Result<(), NoMemory>
+        ensures { (k : ℕ) → place_of self.new k ≡ place_of self.old k }
     {
         self.added = self.added.saturating_add(1);
         let index = id as usize;
@@ -68,8 +69,9 @@ impl Places {
         Ok(())
     }
 
-    fn set(&mut self, id: u64, place: Place) -> Result<(), AllocError>
-        ensures { OnOk result ((k : ℕ) → place_of self.new k ≡ with_place (place_of self.old) id place k) }
+    fn set(&mut self, id: u64, place: Place) -> Result<(), NoMemory>
+        ensures err { OnErr result ((k : ℕ) → place_of self.new k ≡ place_of self.old k) }
+        ensures set { OnOk result ((k : ℕ) → place_of self.new k ≡ with_place (place_of self.old) id place k) }
     {
         let index = id as usize;
         if index < self.near.len() {
@@ -81,8 +83,9 @@ impl Places {
     }
 
     /// Gives an id its place.
-    pub fn insert(&mut self, id: u64, place: Place) -> Result<(), AllocError>
-        ensures { OnOk result ((k : ℕ) → place_of self.new k ≡ with_place (place_of self.old) id place k) }
+    pub fn insert(&mut self, id: u64, place: Place) -> Result<(), NoMemory>
+        ensures err { OnErr result ((k : ℕ) → place_of self.new k ≡ place_of self.old k) }
+        ensures set { OnOk result ((k : ℕ) → place_of self.new k ≡ with_place (place_of self.old) id place k) }
     {
         self.grow(id)?;
         self.set(id, place)

@@ -1,9 +1,9 @@
 //! Steps, one by one.
 
-ghost use Rattle.std.specs.Prelude.{◌≡◌, ℕ, OnOk, IfOk, true, false, Contains, [], ◌∷◌};
+ghost use Rattle.std.specs.Prelude.{◌≡◌, ℕ, IfOk, true, false, Contains, [], ◌∷◌};
 ghost use Rattle.cnf_form.specs.Logs.{top_after, added};
-ghost use Rattle.lrat_check.specs.Marks.{IsValid, AllOpen};
-ghost use Rattle.lrat_check.specs.Store.{live_of, IsStore};
+ghost use Rattle.lrat_check.specs.Marks.{AllOpen};
+ghost use Rattle.lrat_check.specs.Store.{live_of};
 ghost use Rattle.lrat_check.specs.Steps.{AddIs, StepIs, AddsEmpty};
 
 use crate::LogCause;
@@ -12,23 +12,20 @@ use crate::following::try_addition;
 use crate::marks::Marks;
 use crate::store::Store;
 use cnf_form::{Lit, Step};
-use std::alloc::AllocError;
+use cqa_value::NoMemory;
 
-fn take_addition(
+/// Makes a clause live under an id, if the id rises and the clause follows.
+fn add(
     store: &mut Store,
     marks: &mut Marks,
     top: u64,
     id: u64,
     clause: &[Lit],
     hints: &[i64],
-) -> Result<Option<LogCause>, AllocError>
-    requires store { IsStore store.old.pool.items store.old.places }
-    requires valid { IsValid marks.old.truths.items marks.old.trail.items }
-    requires open { AllOpen marks.old.truths.items }
-    ensures store { OnOk result (IsStore store.new.pool.items store.new.places) }
-    ensures valid { OnOk result (IsValid marks.new.truths.items marks.new.trail.items) }
-    ensures open { OnOk result (AllOpen marks.new.truths.items) }
-    ensures taken { IfOk result (λ f. AddIs (live_of store.old.pool.items store.old.places) top id clause.now hints.now (live_of store.new.pool.items store.new.places) f) }
+) -> Result<Option<LogCause>, NoMemory>
+    requires { AllOpen marks.old }
+    ensures open { AllOpen marks.new }
+    ensures added { IfOk result (λ f. AddIs (live_of store.old) top id clause.now hints.now (live_of store.new) f) }
 {
     if id <= top {
         return Ok(Some(LogCause::IdNotRising));
@@ -48,18 +45,14 @@ pub fn take_step(
     marks: &mut Marks,
     top: u64,
     step: &Step,
-) -> Result<Option<LogCause>, AllocError>
-    requires store { IsStore store.old.pool.items store.old.places }
-    requires valid { IsValid marks.old.truths.items marks.old.trail.items }
-    requires open { AllOpen marks.old.truths.items }
-    ensures store { OnOk result (IsStore store.new.pool.items store.new.places) }
-    ensures valid { OnOk result (IsValid marks.new.truths.items marks.new.trail.items) }
-    ensures open { OnOk result (AllOpen marks.new.truths.items) }
-    ensures taken { IfOk result (λ f. StepIs (live_of store.old.pool.items store.old.places) top step.now (live_of store.new.pool.items store.new.places) f) }
+) -> Result<Option<LogCause>, NoMemory>
+    requires { AllOpen marks.old }
+    ensures open { AllOpen marks.new }
+    ensures taken { IfOk result (λ f. StepIs (live_of store.old) top step.now (live_of store.new) f) }
 {
     match step {
         Step::Add { id, clause, hints } => {
-            take_addition(
+            add(
                 store,
                 marks,
                 top,

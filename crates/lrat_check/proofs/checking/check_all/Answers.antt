@@ -10,7 +10,6 @@ use Rattle.lrat_check.proofs.checking.check_all.Goals as goal
 
 pub loop-step-preserved : goal.loop-step-preserved
 loop-step-preserved c = record {
-  ready = c.in_ok-take.ensures.ready;
   count = let k = c.loop-step.invariant.count in let m = c.in_ok-take.ensures.count in omega (arith, k, m);
   reached = reached_more _ _ c.as_slice-step-items.result.now c.loop-step.step-index c.step-item.result c.take.new.self c.loop-step-test.true c.step-item.is
       (c.in_ok-take.ensures.reached _ _ _ c.loop-step.invariant.reached);

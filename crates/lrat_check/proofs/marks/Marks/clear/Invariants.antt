@@ -3,7 +3,7 @@ use Rattle.lrat_check.specs.Marks.{IsValid}
 use Rattle.lrat_check.proofs.marks.Marks.clear.Given as goal
 
 abbrev pub invariant-loop-var : goal.invariant-loop-var
-invariant-loop-var l = IsValid l.self.truths.items l.self.trail.items
+invariant-loop-var l = IsValid l.self-inside.truths.items l.self-inside.trail.items
 
 abbrev pub decreases-loop-var : goal.decreases-loop-var
-decreases-loop-var l = vec_len l.self.trail
+decreases-loop-var l = vec_len l.self-inside.trail

@@ -3,4 +3,4 @@ use Rattle.lrat_check.specs.Marks.{FoundIs}
 use Rattle.lrat_check.proofs.marks.Marks.look.Given as goal
 
 abbrev pub invariant-loop-lit : goal.invariant-loop-lit
-invariant-loop-lit l = FoundIs l.self.truths.items (take l.lit-index l.clause) l.found
+invariant-loop-lit l = FoundIs l.self (take l.lit-index l.clause) l.found

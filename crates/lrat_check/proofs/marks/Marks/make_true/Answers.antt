@@ -1,10 +1,15 @@
-use Rattle.std.proofs.Common.{◌≡◌, ◌++◌, ◌∷◌, [], List, ℕ, set, subst, sym}
+use Rattle.std.proofs.Common.{List, ℕ, set, subst, sym}
 use Rattle.lrat_check.specs.Marks.{IsValid}
-use Rattle.lrat_check.proofs.MarkLemmas.{push_valid}
+use Rattle.lrat_check.proofs.MarkLemmas.{grown_valid, push_valid}
 use Rattle.lrat_check.proofs.marks.Marks.make_true.Goals as goal
 
-pub returns-clause-valid : goal.returns-clause-valid
-returns-clause-valid c = let g = c.in_ok-grow.ensures in
-    let e : c.push.new.self.items ≡ c.args.self.now.trail.items ++ c.args.lit.var ∷ [] = (cc (g.trail, c.in_ok-push.ensures.items)) in
-    subst (λ (t : List ℕ). IsValid (set c.grow.new.self.truths.items c.args.lit.var c.sign_of.result) t) (sym e)
-    (push_valid c.args.self.now.truths.items c.grow.new.self.truths.items c.args.self.now.trail.items c.args.lit.var c.sign_of.result c.requires g.same g.room g.more)
+pub invariant_of-self : goal.invariant_of-self
+invariant_of-self c = grown_valid _ _ _ c.self.invariant c.grow.ensures.same c.grow.ensures.more
+
+pub invariant_of-self-in_err-push : goal.invariant_of-self-in_err-push
+invariant_of-self-in_err-push c = subst (λ (t : List ℕ). IsValid c.grow.new.truths.items t) (sym c.in_err-push.ensures.items)
+    (grown_valid _ _ _ c.self.invariant c.grow.ensures.same c.grow.ensures.more)
+
+pub invariant_of-self-2 : goal.invariant_of-self-2
+invariant_of-self-2 c = subst (λ (t : List ℕ). IsValid (set c.grow.new.truths.items c.args.lit.var c.sign_of.result) t) (sym c.in_ok-push.ensures.items)
+    (push_valid _ _ _ c.args.lit.var c.sign_of.result c.self.invariant c.grow.ensures.same c.in_ok-grow.ensures.room c.grow.ensures.more)
