@@ -1,8 +1,11 @@
--- A search by halving over items that a test parts.
-use Rattle.std.proofs.Common.{◌≡◌, ◌+◌, ◌/◌, ◌<◌, ◌^◌, ℕ, suc, zero, length, List, Bool, true, false, refl, sym, ◌∙◌, arith, slice_index_or, true≢false}
+-- Searches by halving and by doubling steps, over items that a test parts.
+use Rattle.std.proofs.Common.{◌≡◌, ◌+◌, ◌-◌, ◌/◌, ◌<◌, ◌≤◌, ◌^◌, ℕ, suc, zero, length, List, Bool, true, false, refl, sym, subst, ◌∙◌, arith, slice_index_or, take, drop, ◌∷◌, [], Bor, true≢false}
 use Rattle.std.proofs.Math.Nat.{pow-suc}
 use Rattle.std.specs.List.{AllWithin, HoldsAt}
-use Rattle.std.specs.List.Sorted.{IsPartitionedBy}
+use Rattle.std.specs.List.Sorted.{IsPartitionedBy, IsPartitionPoint}
+use Rattle.std.proofs.lemmas.List.{get_or-take, get_or-drop, length-take-le, length-drop}
+use Rattle.std.specs.Fn.{ComputesKey, Called, Mut}
+use native.Mathlib.Decide.{dec_lt}
 
 -- the half of a number has a digit less
 pub halves : (size left : ℕ) → 0 < size → size < 2 ^ left → (e : ℕ) × (left ≡ e + 1) × (size / 2 < 2 ^ e)
@@ -18,3 +21,39 @@ one_of false h = refl
 
 pub back_fails : {X : Type 0} (p : X → Bool) (xs : List X) (at : ℕ) → IsPartitionedBy p xs → at < length xs → HoldsAt (λ y. p y ≡ false) xs at → AllWithin (λ y. p y ≡ false) xs at (length xs)
 back_fails p xs at h l q k d a b = one_of (p (slice_index_or xs k d)) (λ t. true≢false (sym (h at k d a b t) ∙ q d))
+
+-- a part of the items from a place to another, behind which the test fails and before which it holds
+module _ {X : Type 0} (p : X → Bool) (xs : List X) (from to : ℕ) (order : from ≤ to) (within : to ≤ length xs) where
+  part_at : (i : ℕ) (d : X) → i < to - from → slice_index_or (take (to - from) (drop from xs)) i d ≡ slice_index_or xs (from + i) d
+  part_at i d l = get_or-take (to - from) (drop from xs) i d l ∙ get_or-drop from xs i d
+
+  part_long : length (take (to - from) (drop from xs)) ≡ to - from
+  part_long = let n = length-drop from xs in length-take-le (to - from) (drop from xs) (omega (arith, n, order, within))
+
+  part_parted : IsPartitionedBy p xs → IsPartitionedBy p (take (to - from) (drop from xs))
+  part_parted s i j d a b t =
+      let l : j < to - from = omega (arith, b, part_long) in
+      subst (λ y. p y ≡ true) (sym (part_at i d (omega (arith, a, l)))) (s (from + i) (from + j) d (omega (arith, a)) (omega (arith, l, order, within)) (subst (λ y. p y ≡ true) (part_at j d l) t))
+
+  pub part_point : (at : ℕ) → at ≤ length (take (to - from) (drop from xs)) → IsPartitionedBy p xs → AllWithin (λ y. p y ≡ true) xs 0 from → AllWithin (λ y. p y ≡ false) xs to (length xs)
+      → (IsPartitionedBy p (take (to - from) (drop from xs)) → IsPartitionPoint (λ y. p y ≡ true) (λ y. p y ≡ false) (take (to - from) (drop from xs)) at)
+      → IsPartitionPoint (λ y. p y ≡ true) (λ y. p y ≡ false) xs (from + at)
+  part_point at inside s front back found = (λ k d a b. before k d b (dec_lt k from), λ k d a b. behind k d a b (dec_lt k to))
+    where
+      point : IsPartitionPoint (λ y. p y ≡ true) (λ y. p y ≡ false) (take (to - from) (drop from xs)) at
+      point = found (part_parted s)
+
+      moved : (b : Bool) (k : ℕ) (d : X) → from ≤ k → k < to → p (slice_index_or (take (to - from) (drop from xs)) (k - from) d) ≡ b → p (slice_index_or xs k d) ≡ b
+      moved b k d l r e = let same : from + (k - from) ≡ k = omega (arith, l) in subst (λ n. p (slice_index_or xs n d) ≡ b) same (subst (λ y. p y ≡ b) (part_at (k - from) d (omega (arith, l, r))) e)
+
+      before : (k : ℕ) (d : X) → k < from + at → Dec (k < from) → p (slice_index_or xs k d) ≡ true
+      before k d b (yes l) = front k d (omega arith) l
+      before k d b (no n) = moved true k d (omega (arith, n)) (omega (arith, n, b, inside, part_long)) (point.0 (k - from) d (omega arith) (omega (arith, n, b)))
+
+      behind : (k : ℕ) (d : X) → from + at ≤ k → k < length xs → Dec (k < to) → p (slice_index_or xs k d) ≡ false
+      behind k d a b (yes l) = moved false k d (omega (arith, a)) l (point.1 (k - from) d (omega (arith, a)) (omega (arith, l, a, part_long)))
+      behind k d a b (no n) = back k d (omega (arith, n)) b
+
+-- what a call answers, and that the test goes on answering so
+pub answers : {F A R : Type 0} {g : Mut F (Bor A × Unit {0}) R} {f f' : F} (h : A → R) {x : Bor A} {r : R} → ComputesKey g h f → Called g f (x, tt) r f' → ComputesKey g h f' × (r ≡ h x.now)
+answers {g} {f} {f'} h {x} {r} k e = (record { at = λ xs. (k.at ((x, tt) ∷ xs) r f' e).1 }, (k.at ((x, tt) ∷ []) r f' e).0)

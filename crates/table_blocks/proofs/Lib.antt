@@ -1,4 +1,5 @@
 pub mod BlockOrder
+pub mod Halving
 pub mod Sorting
 pub mod Turning
 pub mod Membership
@@ -7,9 +8,9 @@ pub mod Counting
 pub mod Faults
 pub mod Changing
 pub mod Passing
+pub mod Sparing
 pub mod Naming
 pub mod Inserting
 pub mod Taken
-pub mod Halving
 pub mod Spanning
 mod Example

@@ -9,7 +9,7 @@ ghost use Rattle.table_blocks.specs.Tables.{table_named, rows_at, key_at, kinds_
 use crate::check::rows_fault_of;
 use crate::probe::Probe;
 use crate::rows::{find_in, fresh_rows};
-use crate::span::span_in;
+use crate::span::{rows_with, span_in};
 use crate::steps::Steps;
 use crate::table::Table;
 use crate::test::ColumnTest;
@@ -17,8 +17,8 @@ use cqa_model::{LimitKind, Refusal, Schema};
 use cqa_value::{Fail, Items, Name, NoMemory, Row};
 use indexmap::IndexMap;
 use std::alloc::Global;
-use std::marker::{Brand, Model};
-use std::sync::ledger::{Blank, Ledger};
+use std::marker::Model;
+use std::sync::ledger::Ledger;
 
 /// The most rows that all tables may have together.
 const MOST_ROWS: usize = 1_000_000;
@@ -159,28 +159,16 @@ impl Database {
         rows
     }
 
-    fn span_from<L: Ledger>(&self, table: u32, probe: &Probe<'_>, blank: Blank) -> (u32, &[Row])
-        requires name { blank.name ≡ L.name }
-        requires parts { blank.parts ≡ L.parts }
-        requires some { 0 < blank.parts }
-        requires there { table < length self.now }
-        requires few { length probe.now ≤ length (key_at self.now table) }
-        ensures span { IsSpan (key_at self.now table) (rows_at self.now table) probe.now result.0 result.1.now }
-        ensures within { result.0 + length result.1.now ≤ 1_000_000 }
-    {
-        let mut steps = Steps::<L>::new(blank);
-        self.span(table, probe, &mut steps)
-    }
-
-    /// The rows of a table whose first key values are a probe's, and the place of the first of them, found as `span` finds
-    /// them, without a count of the comparisons.
+    /// The rows of a table whose first key values are a probe's, and the place of the first of them: one search by
+    /// halving, and doubling steps to the last of them. No comparison is counted.
     pub fn rows_with(&self, table: u32, probe: &Probe<'_>) -> (u32, &[Row])
         requires there { table < length self.now }
         requires few { length probe.now ≤ length (key_at self.now table) }
         ensures span { IsSpan (key_at self.now table) (rows_at self.now table) probe.now result.0 result.1.now }
         ensures within { result.0 + length result.1.now ≤ 1_000_000 }
     {
-        self.span_from::<Brand>(table, probe, Blank::new(1))
+        let (start, rows) = rows_with(self.rows(table), self.key(table), probe);
+        (start as u32, rows)
     }
 
     /// Puts a table without rows last.

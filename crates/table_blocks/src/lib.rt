@@ -7,6 +7,7 @@ mod database;
 mod order;
 mod probe;
 mod rows;
+mod search;
 mod span;
 mod steps;
 mod table;

@@ -1,9 +1,11 @@
-ghost use Rattle.std.specs.Prelude.{◌≡◌, slice_index_or, pos};
+ghost use Rattle.std.specs.Prelude.{◌≡◌, ◌≤◌, length, slice_index_or, pos};
 ghost use Rattle.cqa_value.specs.Values.{value_cmp, row_cmp};
 ghost use Rattle.cqa_value.specs.declared.value.Value.TheVariants.{Int};
 ghost use Rattle.cqa_model.specs.Database.{key_of, block_cmp};
+ghost use Rattle.table_blocks.specs.Spans.{probe_cmp};
 
 use crate::cells::value_or;
+use crate::probe::Probe;
 use cqa_value::{Row, Value, compare};
 use std::cmp::Ordering;
 
@@ -35,4 +37,18 @@ pub fn block_compare(key: &[u32], a: &Row, b: &Row) -> Ordering
     ensures { result ≡ block_cmp key.now a.now b.now }
 {
     key_compare(key, a, b).then(a.cmp(b))
+}
+
+/// Compares the first key values of a row with a probe.
+pub fn compare_key(key: &[u32], probe: &Probe<'_>, row: &Row) -> Ordering
+    requires { length probe.now ≤ length key.now }
+    ensures { result ≡ probe_cmp key.now probe.now row.now }
+{
+    for at in 0..probe.len() {
+        let ordering = compare(value_or(row, key[at], &Value::Int(0)), probe.get(at));
+        if ordering != Ordering::Equal {
+            return ordering;
+        }
+    }
+    Ordering::Equal
 }

@@ -1,12 +1,17 @@
-ghost use Rattle.std.specs.Prelude.{◌≡◌, ◌≤◌, ◌<◌, ◌+◌, ◌-◌, ◌↔◌, ◌++◌, IsTrue, not, MatchOption, OnOk, OnErr, Some, slice_get, slice_index_or, [], List, ℕ, Contains, length, take, drop};
+ghost use Rattle.std.specs.Prelude.{◌≡◌, ◌≤◌, ◌<◌, ◌+◌, ◌-◌, ◌↔◌, ◌++◌, Bool, IsTrue, filter, not, MatchOption, OnOk, OnErr, Some, slice_get, slice_index_or, [], List, ℕ, Contains, length, take, drop};
+ghost use Rattle.std.specs.List.{AllByRecursion};
 ghost use Rattle.std.specs.List.Sorted.{IsStrictlySortedBy, IsPermutation};
+ghost use Rattle.std.specs.Bool.{Decides};
 ghost use Rattle.std.specs.Ordering.{is_lt};
+ghost use Rattle.std.specs.declared.cmp.Ordering.TheVariants.{Less};
 ghost use Rattle.cqa_value.specs.declared.value.Value.{Value as Cell};
 ghost use Rattle.cqa_model.specs.Database.{block_cmp};
 ghost use Rattle.table_blocks.specs.Tables.{IsPlace, is_among, count_new, TestsHold};
 
 use crate::order::block_compare;
-use crate::test::{ColumnTest, passes_all};
+use crate::search::{leading, leading_from_back};
+use crate::span::rows_with;
+use crate::test::{ColumnTest, known_key, passes_all};
 use cqa_value::{NoMemory, Row};
 use std::cmp::Ordering;
 
@@ -30,6 +35,34 @@ pub fn place_in(rows: &[Row], key: &[u32], row: &Row) -> usize
     ensures place { IsStrictlySortedBy (block_cmp key.now) rows.now → IsPlace (block_cmp key.now) rows.now row.now result }
 {
     rows.partition_point(
+        |other| -> bool
+            ensures { result ≡ is_lt (block_cmp key.entry.now other.now row.entry.now) }
+        { block_compare(key, other, row).is_lt() },
+    )
+}
+
+/// The same, by doubling steps from the last row back.
+fn place_from_back(rows: &[Row], key: &[u32], row: &Row) -> usize
+    ensures within { result ≤ length rows.now }
+    ensures place { IsStrictlySortedBy (block_cmp key.now) rows.now → IsPlace (block_cmp key.now) rows.now row.now result }
+{
+    leading_from_back(
+        rows,
+        |other| -> bool
+            ensures { result ≡ is_lt (block_cmp key.entry.now other.now row.entry.now) }
+        { block_compare(key, other, row).is_lt() },
+    )
+}
+
+/// The same, by doubling steps from a place on before which all rows are below the row.
+fn place_from(rows: &[Row], from: usize, key: &[u32], row: &Row) -> usize
+    requires there { from ≤ length rows.now }
+    ensures within { (from ≤ result) × (result ≤ length rows.now) }
+    ensures place { IsStrictlySortedBy (block_cmp key.now) rows.now → AllByRecursion (λ other. block_cmp key.now other row.now ≡ Less) (take from rows.now) → IsPlace (block_cmp key.now) rows.now row.now result }
+{
+    let (_, rest) = rows.split_at(from);
+    from + leading(
+        rest,
         |other| -> bool
             ensures { result ≡ is_lt (block_cmp key.entry.now other.now row.entry.now) }
         { block_compare(key, other, row).is_lt() },
@@ -61,26 +94,34 @@ pub fn find_in(rows: &[Row], key: &[u32], row: &Row) -> Option<usize>
     }
 }
 
-fn is_new(rows: &[Row], key: &[u32], row: &Row) -> bool
-    requires { IsStrictlySortedBy (block_cmp key.now) rows.now }
-    ensures { result ≡ not (is_among rows.now row.now) }
+/// Moves those of sorted rows that aren't stored to the front, and gives their number.
+fn fresh_first(rows: &mut [Row], stored: &[Row], key: &[u32]) -> usize
+    requires stored { IsStrictlySortedBy (block_cmp key.now) stored.now }
+    requires given { IsStrictlySortedBy (block_cmp key.now) rows.old }
+    ensures within { result ≤ length rows.old }
+    ensures fresh { take result rows.new ≡ filter (λ row. not (is_among stored.now row)) rows.old }
 {
-    find_in(rows, key, row).is_none()
+    let mut fresh = 0;
+    let mut from = 0;
+    for at in 0..rows.len() {
+        let row = &rows[at];
+        from = place_from(stored, from, key, row);
+        if !stands(stored, from, row) {
+            rows.swap(fresh, at);
+            fresh += 1;
+        }
+    }
+    fresh
 }
 
-/// Those of some rows that aren't stored.
+/// Those of sorted rows that aren't stored.
 fn without(mut rows: Vec<Row>, stored: &[Row], key: &[u32]) -> Vec<Row>
     requires stored { IsStrictlySortedBy (block_cmp key.now) stored.now }
     requires given { IsStrictlySortedBy (block_cmp key.now) rows.items }
-    ensures ascending { IsStrictlySortedBy (block_cmp key.now) result.items }
-    ensures new { (row : List Cell) → Contains result.items row ↔ (Contains rows.items row × (Contains stored.now row → ⊥)) }
+    ensures { result.items ≡ filter (λ row. not (is_among stored.now row)) rows.items }
 {
-    rows.retain(
-        |row| -> bool
-            requires { IsStrictlySortedBy (block_cmp key.now) stored.now }
-            ensures { result ≡ not (is_among stored.entry.now row.now) }
-        { is_new(stored, key, row) },
-    );
+    let fresh = fresh_first(rows.as_mut_slice(), stored, key);
+    rows.truncate(fresh);
     rows
 }
 
@@ -130,7 +171,7 @@ fn merge(rows: &mut [Row], key: &[u32], stored: usize, mut fresh: Vec<Row>)
 {
     let mut end = stored;
     while let Some(row) = fresh.pop() {
-        let place = place_in(&rows[..end], key, &row);
+        let place = place_from_back(&rows[..end], key, &row);
         move_back(rows, place, end, fresh.len() + 1);
         rows[place + fresh.len()] = row;
         end = place;
@@ -153,18 +194,55 @@ pub fn put(rows: &mut Vec<Row>, key: &[u32], fresh: Vec<Row>) -> Result<(), NoMe
     Ok(())
 }
 
-/// Takes the rows away for which all tests hold.
+/// Moves the rows for which not all tests hold to the front, in the order that they had, and gives their number.
+fn spare(rows: &mut [Row], tests: &[ColumnTest]) -> usize
+    ensures within { result ≤ length rows.old }
+    ensures spared { (stays : List Cell → Bool) → ((row : List Cell) → Decides (stays row) (TestsHold tests.now row → ⊥)) → take result rows.new ≡ filter stays rows.old }
+{
+    let mut spared = 0;
+    for at in 0..rows.len() {
+        if !passes_all(&rows[at], tests) {
+            rows.swap(spared, at);
+            spared += 1;
+        }
+    }
+    spared
+}
+
+/// The same within a range.
+fn spare_in(rows: &mut [Row], from: usize, to: usize, tests: &[ColumnTest]) -> usize
+    requires order { from ≤ to }
+    requires within { to ≤ length rows.old }
+    ensures within { from + result ≤ to }
+    ensures long { length rows.new ≡ length rows.old }
+    ensures spared { (stays : List Cell → Bool) → ((row : List Cell) → Decides (stays row) (TestsHold tests.now row → ⊥)) → take (from + result) rows.new ≡ take from rows.old ++ filter stays (take (to - from) (drop from rows.old)) }
+    ensures behind { drop to rows.new ≡ drop to rows.old }
+{
+    spare(&mut rows[from..to], tests)
+}
+
+/// Takes the rows of a range away for which all tests hold.
+fn remove_in(rows: &mut Vec<Row>, from: usize, to: usize, tests: &[ColumnTest])
+    requires order { from ≤ to }
+    requires within { to ≤ length rows.old.items }
+    ensures { (stays : List Cell → Bool) → ((row : List Cell) → Decides (stays row) (TestsHold tests.now row → ⊥)) → rows.new.items ≡ (take from rows.old.items ++ filter stays (take (to - from) (drop from rows.old.items))) ++ drop to rows.old.items }
+{
+    let spared = spare_in(rows.as_mut_slice(), from, to, tests);
+    drop(rows.drain(from + spared..to));
+}
+
+/// Takes the rows away for which all tests hold. Those alone are tried that have the first key values that the tests tell.
 pub fn remove(rows: &mut Vec<Row>, key: &[u32], tests: &[ColumnTest])
     requires { IsStrictlySortedBy (block_cmp key.now) rows.old.items }
     ensures ascending { IsStrictlySortedBy (block_cmp key.now) rows.new.items }
     ensures members { (row : List Cell) → Contains rows.new.items row ↔ (Contains rows.old.items row × (TestsHold tests.now row → ⊥)) }
     ensures fewer { length rows.new.items ≤ length rows.old.items }
 {
-    rows.retain(
-        |row| -> bool
-            ensures { IsTrue result ↔ (TestsHold tests.entry.now row.now → ⊥) }
-        { !passes_all(row, tests) },
-    );
+    let probe = known_key(*rows.allocator(), key, tests);
+    let (from, told) = rows_with(rows.as_slice(), key, &probe);
+    let to = from + told.len();
+    drop(probe);
+    remove_in(rows, from, to, tests);
 }
 
 /// Those of some rows that aren't stored, in block order and each once.

@@ -3,7 +3,9 @@ ghost use Rattle.std.specs.List.Sorted.{IsStrictlySortedBy, IsPartitionedBy, IsP
 ghost use Rattle.cqa_model.specs.Database.{block_cmp};
 ghost use Rattle.table_blocks.specs.Spans.{probe_cmp, comes_before, IsSpan};
 
+use crate::order::compare_key;
 use crate::probe::Probe;
+use crate::search::leading;
 use crate::steps::Steps;
 use cqa_value::Row;
 use std::cmp::Ordering;
@@ -64,5 +66,29 @@ pub fn span_in<'a, L: Ledger>(
     let start = bound(rows, key, probe, false, steps);
     let (_, rest) = rows.split_at(start);
     let (span, _) = rest.split_at(bound(rest, key, probe, true, steps));
+    (start, span)
+}
+
+/// The same rows and the same number, by one search by halving, and by doubling steps to their end.
+pub fn rows_with<'a>(rows: &'a [Row], key: &[u32], probe: &Probe<'_>) -> (usize, &'a [Row])
+    requires few { length probe.now ≤ length key.now }
+    requires in_order { IsStrictlySortedBy (block_cmp key.now) rows.now }
+    ensures { IsSpan key.now rows.now probe.now result.0 result.1.now }
+{
+    let start = rows.partition_point(
+        |row| -> bool
+            requires { length probe.now ≤ length key.now }
+            ensures { result ≡ comes_before false (probe_cmp key.entry.now probe.entry.now row.now) }
+        { is_before(false, compare_key(key, probe, row)) },
+    );
+    let (_, rest) = rows.split_at(start);
+    let count = leading(
+        rest,
+        |row| -> bool
+            requires { length probe.now ≤ length key.now }
+            ensures { result ≡ comes_before true (probe_cmp key.entry.now probe.entry.now row.now) }
+        { is_before(true, compare_key(key, probe, row)) },
+    );
+    let (span, _) = rest.split_at(count);
     (start, span)
 }

@@ -1,10 +1,9 @@
 ghost use Rattle.std.specs.Prelude.{◌≡◌, ◌+◌, ◌<◌, ◌≤◌, length};
-ghost use Rattle.cqa_value.specs.Values.{row_cmp};
-ghost use Rattle.table_blocks.specs.Spans.{first_key, probe_cmp};
+ghost use Rattle.table_blocks.specs.Spans.{probe_cmp};
 
-use crate::cells::value_or;
+use crate::order::compare_key;
 use crate::probe::Probe;
-use cqa_value::{Row, Value, compare};
+use cqa_value::Row;
 use std::cmp::Ordering;
 use std::marker::Model;
 use std::sync::ledger::{Blank, Book, Ledger, Share};
@@ -24,20 +23,6 @@ impl<L: Ledger> Model for Steps<L> {
     ghost view = { λ s. s.book.total };
 
     ghost invariant = { λ s. 0 < s.share.parts };
-}
-
-/// Compares the first key values of a row with a probe.
-fn compare_key(key: &[u32], probe: &Probe<'_>, row: &Row) -> Ordering
-    requires { length probe.now ≤ length key.now }
-    ensures { result ≡ probe_cmp key.now probe.now row.now }
-{
-    for at in 0..probe.len() {
-        let ordering = compare(value_or(row, key[at], &Value::Int(0)), probe.get(at));
-        if ordering != Ordering::Equal {
-            return ordering;
-        }
-    }
-    Ordering::Equal
 }
 
 impl<L: Ledger> Steps<L> {

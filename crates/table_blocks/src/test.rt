@@ -1,11 +1,15 @@
-ghost use Rattle.std.specs.Prelude.{◌≡◌, ◌<◌, ◌↔◌, IsTrue, slice_index_or, length, All};
+ghost use Rattle.std.specs.Prelude.{◌≡◌, ◌≤◌, ◌↔◌, IfSome, IsTrue, List, slice_index_or, length};
+ghost use Rattle.cqa_value.specs.declared.value.Value.{Value as Cell};
 ghost use Rattle.cqa_model.specs.Database.{nothing};
 ghost use Rattle.cqa_model.specs.Query.{OpHolds};
+ghost use Rattle.table_blocks.specs.Spans.{first_key};
 ghost use Rattle.table_blocks.specs.Tables.{TestsHold};
 
 use crate::cells::value_or;
+use crate::probe::Probe;
 use cqa_model::Op;
 use cqa_value::{Row, Value, compare};
+use std::alloc::Global;
 use std::cmp::Ordering;
 
 /// A comparison of a table's column with a value.
@@ -57,4 +61,44 @@ pub fn passes_all(row: &Row, tests: &[ColumnTest]) -> bool
         }
     }
     true
+}
+
+/// The value that a test tells of a column.
+fn told_by(test: &ColumnTest, place: u32) -> Option<&Value>
+    ensures { IfSome result (λ value. (row : List Cell) → OpHolds test.now.op (slice_index_or row test.now.col nothing) test.now.value → slice_index_or row place nothing ≡ value.now) }
+{
+    match test.op {
+        Op::Eq if test.col == place => Some(&test.value),
+        _ => None,
+    }
+}
+
+/// The value that some test tells of a column.
+fn told(tests: &[ColumnTest], place: u32) -> Option<&Value>
+    ensures { IfSome result (λ value. (row : List Cell) → TestsHold tests.now row → slice_index_or row place nothing ≡ value.now) }
+{
+    for test in tests {
+        if let Some(value) = told_by(test, place) {
+            return Some(value);
+        }
+    }
+    None
+}
+
+/// The first key values of the rows for which all tests hold, as many as the tests tell.
+pub fn known_key<'a>(alloc: Global, key: &[u32], tests: &'a [ColumnTest]) -> Probe<'a>
+    ensures few { length result ≤ length key.now }
+    ensures known { (row : List Cell) → TestsHold tests.now row → first_key key.now result row ≡ result }
+{
+    let mut probe = Probe::new(alloc);
+    for place in key {
+        let Some(value) = told(tests, *place) else {
+            return probe;
+        };
+        if probe.len() == 16 {
+            return probe;
+        }
+        probe.put(value);
+    }
+    probe
 }

@@ -14,7 +14,7 @@ loop-row-preserved c =
     let key = c.args.key.now in
     let all = take c.args.stored c.args.rows.now ++ c.args.fresh.items in
     let rows = c.loop-row.rows in
-    let place = c.place_in-place.result in
+    let place = c.place_from_back-place.result in
     let fs = c.pop.new.self.items in
     let row = c.in-Some.row in
     let one : c.len.result ≡ length fs = (let r = c.len.ensures in omega (arith, r)) in
@@ -22,5 +22,5 @@ loop-row-preserved c =
     let m = subst (Merging (block_cmp key) (block_total key) (block_exact key) (block_alike key) all rows c.loop-row.end) c.in-Some.ensures.items c.loop-row.invariant in
     let sorted = front_sorted (block_cmp key) (block_total key) (block_exact key) (block_alike key) all rows c.loop-row.end c.loop-row.fresh.items c.loop-row.invariant in
     subst (λ n. Merging (block_cmp key) (block_total key) (block_exact key) (block_alike key) all (set c.move_back.new.rows (place + n) row) place fs) (sym two)
-    (stepped (block_cmp key) (block_total key) (block_exact key) (block_alike key) all rows c.move_back.new.rows c.loop-row.end place fs row m (c.place_in-place.ensures.place sorted)
+    (stepped (block_cmp key) (block_total key) (block_exact key) (block_alike key) all rows c.move_back.new.rows c.loop-row.end place fs row m (c.place_from_back-place.ensures.place sorted)
     (λ a b c' d is la lb lc. let r = c.move_back.ensures.moved a b c' d is la lb (lc ∙ ap (λ n. n + 1) (sym one)) in (r.0, r.1 ∙ ap (λ n. n + 1) one, r.2)))

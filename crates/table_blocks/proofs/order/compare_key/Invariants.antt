@@ -2,7 +2,7 @@ use Rattle.std.proofs.Common.{◌≡◌, drop, take, length}
 use Rattle.cqa_value.specs.Values.{row_cmp}
 use Rattle.cqa_model.specs.Database.{key_of}
 use Rattle.table_blocks.specs.Spans.{probe_cmp}
-use Rattle.table_blocks.proofs.steps.compare_key.Given as goal
+use Rattle.table_blocks.proofs.order.compare_key.Given as goal
 
 -- what is left of the key decides
 abbrev pub invariant-loop-at : goal.invariant-loop-at

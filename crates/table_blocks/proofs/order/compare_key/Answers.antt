@@ -1,7 +1,7 @@
 use Rattle.std.proofs.Common.{◌≡◌, sym, ◌∙◌, arith, subst, true, false, not, ◌==◌}
 use Rattle.std.specs.Ordering.{ordering_index}
 use Rattle.table_blocks.proofs.Spanning.{next_pair, decides, ties_on}
-use Rattle.table_blocks.proofs.steps.compare_key.Goals as goal
+use Rattle.table_blocks.proofs.order.compare_key.Goals as goal
 
 pub returns-then-ne : goal.returns-then-ne
 returns-then-ne c =

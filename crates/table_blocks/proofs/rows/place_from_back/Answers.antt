@@ -1,0 +1,14 @@
+use Rattle.std.proofs.Common.{rules}
+use Rattle.std.specs.Ordering.{is_lt}
+use Rattle.std.proofs.lemmas.Fn.{always_returns_same}
+use Rattle.cqa_model.specs.Database.{block_cmp}
+use Rattle.table_blocks.proofs.BlockOrder.{block_total, block_exact, block_alike}
+use Rattle.table_blocks.proofs.Sorting.{place_from_point, parted}
+use Rattle.table_blocks.proofs.rows.place_from_back.Goals as goal
+
+pub returns-clause-place : goal.returns-clause-place
+returns-clause-place c s =
+    let key = c.args.key.now in
+    let row = c.args.row.now in
+    place_from_point (block_cmp key) (block_total key) (block_exact key) (block_alike key) c.args.rows.now row c.leading_from_back.result c.leading_from_back.ensures.within
+    (c.leading_from_back.ensures.partitioned (λ y. is_lt (block_cmp key y row)) (always_returns_same _ _ _ (λ a r f k. search rules)) (parted (block_cmp key) (block_total key) (block_exact key) (block_alike key) c.args.rows.now row s))
