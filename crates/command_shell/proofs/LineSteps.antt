@@ -13,17 +13,11 @@ use Rattle.cqa_model.specs.Graph.{IsWeak}
 use Rattle.cqa_model.proofs.Classic.{mem-head, mem-tail, mem-nil}
 use Rattle.attack_graph.specs.declared.graph.Attacks.{Attacks as Graph}
 use Rattle.attack_graph.specs.Attacking.{HasAttack, HasWeakAttack, AreAttacks}
-use Rattle.query_class.specs.declared.classes.Class.{Class}
-use Rattle.query_class.specs.Cycles.{IsClass}
-use Rattle.query_resolve.specs.Checks.{query_fault}
 use Rattle.query_resolve.specs.Resolved.{IsAtomOf, IsQueryOf}
 use Rattle.query_resolve.proofs.Members.{all_zip_next}
 use Rattle.spj_syntax.specs.declared.tree.Select.{Select}
-use Rattle.spj_syntax.specs.declared.tree.Statement.TheVariants as statements
 use Rattle.reply_text.specs.declared.reply.AttackLine.{AttackLine}
-use Rattle.reply_text.specs.declared.reply.Reply.TheVariants.{Classified}
 use Rattle.command_shell.specs.AttackLines.{Attack, IsBefore, IsLineOf, AreAttackLines}
-use Rattle.command_shell.specs.Machine.{RefusedOr, Executes, Replies}
 
 -- the attacks of a graph with a number below this one have their lines
 pub record AreLines (g : Graph) (names : List (List ℕ)) (n : ℕ) (lines : List AttackLine) : Type 0 where
@@ -113,11 +107,6 @@ module _ (g : Graph) (names : List (List ℕ)) where
       weak = (let k = (are.by a.from a.to).0 ((l.exactly a).0 m).0 in ((λ t. (are.weak a.from a.to k).0 (h.weak.0 t)), (λ w. h.weak.1 ((are.weak a.from a.to k).1 w))));
     }) l.each,
   )
-
-pub classified : (db : List Table) (select : Select) (query : Query) (class : Class) (lines : List AttackLine) → query_fault db select ≡ None → IsQueryOf db select query →
-    IsClass query (whole query) class → AreAttackLines query select.tables lines → Replies db (statements.Classify select) (Classified class lines) db
-classified db select query class lines valid is of_class are =
-    subst (λ fault. RefusedOr fault db (Classified class lines) db (Executes db (statements.Classify select) (Classified class lines) db)) (sym valid) (query, is, of_class, are, refl)
 
 -- a graph of a query attacks only atoms that have a name
 pub named-attacks : (db : List Table) (select : Select) (query : Query) (g : Graph) (names : List (List ℕ)) → names ≡ select.tables → IsQueryOf db select query → AreAttacks query (whole query) g →

@@ -1,6 +1,6 @@
 -- A text says one thing.
-use Rattle.std.proofs.Common.{◌≡◌, ◌⊎◌, inl, inr, ◌≤◌, ℕ, List, length, Result, Ok, Err, IfOk, refl, sym, ap, ◌∙◌, subst, arith}
-use Rattle.cqa_value.specs.declared.memory.NoMemory.{NoMemory}
+use Rattle.std.proofs.Common.{◌≡◌, ◌⊎◌, inl, inr, ◌≤◌, ℕ, List, length, Option, Result, Ok, Err, IsErrAnd, refl, sym, ap, ◌∙◌, subst, arith}
+use Rattle.cqa_value.specs.declared.memory.Fail.{Fail}
 use Rattle.cqa_value.specs.declared.memory.Fail.TheVariants as fails
 use Rattle.script_lex.specs.declared.kinds.Token.{Token}
 use Rattle.script_lex.specs.declared.kinds.LexFault.{LexFault}
@@ -13,11 +13,11 @@ use Rattle.spj_syntax.specs.Parsed.{lexemes, Refuses}
 use Rattle.spj_syntax.specs.Written.{IsWrittenAs}
 use Rattle.spj_syntax.proofs.Answered.{only_statement, only_fault}
 use Rattle.cqa_model.specs.declared.refusal.Refusal.{Refusal}
-use Rattle.cqa_model.specs.Database.{Table}
 use Rattle.reply_text.specs.declared.reply.Reply.{Reply}
-use Rattle.reply_text.specs.declared.reply.Reply.TheVariants.{Refused}
 use Rattle.command_shell.specs.State.{State}
-use Rattle.command_shell.specs.Machine.{of_lexing, of_parsing, HasNoStatement, HasStatement, Says, Does, Replies, SaysOneThing}
+use Rattle.command_shell.specs.Saying.{of_lexing, of_parsing, HasNoStatement, HasStatement, Says, IsReadAs, SaysOneThing}
+use Rattle.command_shell.specs.Replying.{IsOutcome}
+use Rattle.command_shell.specs.Machine.{Does, Step}
 
 lexing_same : (text : List ℕ) (f g : LexFault) → IsFault text f → IsFault text g → f ≡ g
 lexing_same text (lexing.TooLong m) (lexing.TooLong n) a b = ap lexing.TooLong (a.0 ∙ sym b.0)
@@ -56,15 +56,23 @@ says_same text (Err r) (Err q) (inr a) (inr b) =
     let other = subst (λ tokens. Refuses text tokens b.fault) (spells_same b.spelled a.spelled) b.cause in
     ap Err (a.is ∙ ap of_parsing (refused_once a.fault b.fault (only_fault text a.tokens (Err (fails.Refused a.fault)) a.cause b.fault other)) ∙ sym b.is)
 
--- a refusal that the text says is the reply, whatever else it may say
-pub refused_as_said : (old : State) (text : List ℕ) (first : Result Statement Refusal) (refusal : Refusal) → Says text first → first ≡ Err refusal
-    → (said : Result Statement Refusal) → Says text said → Does old said (Refused refusal) old
-refused_as_said old text first refusal says is said other = subst (λ s. Does old s (Refused refusal) old) (sym is ∙ says_same text first said says other) (refl, refl)
+-- what a text says decides the reply, whatever else it may say
+pub does_as_said : (old new : State) (text : List ℕ) (block : Option (List ℕ)) (reply : Reply) → Step old text block reply new
+    → (said : Result Statement Refusal) → Says text said → Does old said block reply new
+does_as_said old new text block reply step said says = subst (λ s. Does old s block reply new) (says_same text step.said said step.says says) step.does
 
--- a statement that the text says is done, whatever else it may say
-pub done_as_said : (old : State) (tables : List Table) (text : List ℕ) (first : Result Statement Refusal) (statement : Statement) → Says text first → first ≡ Ok statement
-    → (result : Result Reply NoMemory) → IfOk result (λ reply. Replies old.tables statement reply tables)
-    → (said : Result Statement Refusal) → Says text said → IfOk result (λ reply. Does old said reply (record { tables = tables; budget = old.budget }))
-done_as_said old tables text first statement says is (Ok reply) replies said other =
-    subst (λ s. Does old s reply (record { tables = tables; budget = old.budget })) (sym is ∙ says_same text first said says other) (replies, refl)
-done_as_said old tables text first statement says is (Err e) replies said other = replies
+-- a text that is read, or refused by its form
+pub refused_by_form : (old : State) (text : List ℕ) (block : Option (List ℕ)) (result : Result Reply (Fail Refusal)) (fail : Fail Refusal) → IsErrAnd result (λ e. e ≡ fail) → IsReadAs text (Err fail)
+    → IsOutcome result old (Step old text block) old
+refused_by_form old text block (Ok reply) fail is read = absurd is
+refused_by_form old text block (Err e) fail is read = subst (λ f. IsOutcome (Err f) old (Step old text block) old) (sym is) (of fail read)
+  where
+    of : (fail : Fail Refusal) → IsReadAs text (Err fail) → IsOutcome (Err fail) old (Step old text block) old
+    of fails.NoMemory read = refl
+    of (fails.Refused refusal) read = record { said = Err refusal; says = read; does = (refl, refl) }
+
+pub done_as_read : (old new : State) (text : List ℕ) (block : Option (List ℕ)) (statement : Statement) (result : Result Reply (Fail Refusal)) → IsReadAs text (Ok statement)
+    → IsOutcome result old (Does old (Ok statement) block) new → IsOutcome result old (Step old text block) new
+done_as_read old new text block statement (Ok reply) read done = record { said = Ok statement; says = read; does = done }
+done_as_read old new text block statement (Err (fails.Refused refusal)) read done = record { said = Ok statement; says = read; does = done }
+done_as_read old new text block statement (Err fails.NoMemory) read done = done

@@ -125,7 +125,7 @@ module _ {before after : Outside} {old : State} where
 
 -- words that aren't accepted
 pub refused_words : (outside : Outside) (state : State) → Ended None BadWords outside outside state state
-refused_words outside state = record { came = []; written = []; took = Consumes-nil outside.left; put = Appends-nil outside.held; row = ((refl, refl, refl), refl) }
+refused_words outside state = record { came = []; written = []; took = Consumes-nil outside.left; put = Appends-nil outside.held; row = ((refl, refl, refl, refl, refl), refl) }
 
 -- ---- completeness
 

@@ -7,7 +7,7 @@ use Rattle.cqa_model.specs.Blocks.{HasBlocks}
 use Rattle.cqa_model.specs.declared.schema.Schema.{Schema}
 use Rattle.table_blocks.specs.Tables.{rows_at, key_at}
 use Rattle.reply_text.specs.declared.reply.TableLine.{TableLine}
-use Rattle.command_shell.specs.Machine.{IsTableLine}
+use Rattle.command_shell.specs.Statements.ShowTables.{IsTableLine}
 
 pub line_at : (db : List Table) (at : ℕ) (line : TableLine) (schema : Schema) → at < length db → IfSome (slice_get db at) (λ t. schema ≡ t.schema) → line.schema ≡ schema → line.rows ≡ length (rows_at db at) →
     HasBlocks (key_at db at) (rows_at db at) line.blocks → IfSome (slice_get db at) (λ t. IsTableLine t line)

@@ -1,6 +1,9 @@
 pub mod State
 pub mod Offsets
+pub mod Saying
+pub mod Replying
 pub mod AttackLines
+pub mod Statements
 pub mod Machine
 pub mod Runs
 pub mod Top

@@ -12,8 +12,7 @@ use Rattle.command_shell.specs.declared.ending.Stop.{Stop}
 use Rattle.command_shell.specs.declared.ending.Stop.TheVariants as stops
 use Rattle.command_shell.specs.declared.ending.Ending.{Ending}
 use Rattle.command_shell.specs.declared.ending.Ending.TheVariants as endings
-use Rattle.proof_check.specs.declared.reply.CheckReply.{CheckReply}
-use Rattle.proof_check.specs.Verdicts.{IsVerdict, BeginsVerdict, is_verified, line_of}
+use Rattle.proof_check.specs.Verdicts.{IsVerdict, BeginsVerdict}
 use Rattle.command_shell.specs.State.{State}
 use Rattle.command_shell.specs.Machine.{Step}
 use Rattle.command_shell.specs.Runs.{Answers, CutShort}
@@ -31,11 +30,15 @@ abbrev pub ending_of : Stop → Ending
 ending_of stops.WriteFault = endings.WriteFault
 ending_of stops.OutOfMemory = endings.OutOfMemory
 
--- how a reply was written
+-- how some bytes were written, with what is answered where all of them were
+abbrev pub WriteRow : Result Bool Stop → (rose : Type 0) → (held_old held_new : Option (List ℕ)) → List ℕ → Bool → Type 0
+WriteRow (Ok answer) rose held_old held_new bytes said = Appends held_old held_new bytes × (answer ≡ said)
+WriteRow (Err stops.WriteFault) rose held_old held_new bytes said = rose × ((n : ℕ) × Appends held_old held_new (take n bytes))
+WriteRow (Err stops.OutOfMemory) rose held_old held_new bytes said = Keeps held_old held_new
+
+-- how a reply was written, with whether it is a refusal
 abbrev pub ReplyRow : Result Bool Stop → (rose : Type 0) → (held_old held_new : Option (List ℕ)) → Reply → Type 0
-ReplyRow (Ok refused) rose held_old held_new reply = Appends held_old held_new (reply_text reply) × (refused ≡ is_refusal reply)
-ReplyRow (Err stops.WriteFault) rose held_old held_new reply = rose × ((n : ℕ) × Appends held_old held_new (take n (reply_text reply)))
-ReplyRow (Err stops.OutOfMemory) rose held_old held_new reply = Keeps held_old held_new
+ReplyRow result rose held_old held_new reply = WriteRow result rose held_old held_new (reply_text reply) (is_refusal reply)
 
 -- how what is left at the end was answered
 abbrev pub CloseRow : Result Bool Stop → (rose : Type 0) → (held_old held_new : Option (List ℕ)) → Bool → Bool → Type 0
@@ -53,12 +56,6 @@ abbrev pub ProgressRow : Result Bool Stop → (rose : Type 0) → (held_old held
 ProgressRow (Ok refused) rose held_old held_new old input ended new = (written : List ℕ) × Appends held_old held_new written × Answers old input ended new written refused
 ProgressRow (Err stops.WriteFault) rose held_old held_new old input ended new = rose × ((written : List ℕ) × Appends held_old held_new written × CutShort old input (ended ≡ true) new written)
 ProgressRow (Err stops.OutOfMemory) rose held_old held_new old input ended new = (written : List ℕ) × Appends held_old held_new written × CutShort old input (ended ≡ true) new written
-
--- how the line of a reply to an input was written
-abbrev pub LineRow : Result Bool Stop → (rose : Type 0) → (held_old held_new : Option (List ℕ)) → CheckReply → Type 0
-LineRow (Ok verified) rose held_old held_new reply = Appends held_old held_new (line_of reply) × (verified ≡ is_verified reply)
-LineRow (Err stops.WriteFault) rose held_old held_new reply = rose × ((n : ℕ) × Appends held_old held_new (take n (line_of reply)))
-LineRow (Err stops.OutOfMemory) rose held_old held_new reply = Keeps held_old held_new
 
 -- how the line of `check` on an input was written
 abbrev pub VerdictRow : Result Bool Stop → (rose : Type 0) → (held_old held_new : Option (List ℕ)) → List ℕ → Type 0

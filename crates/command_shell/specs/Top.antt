@@ -46,6 +46,10 @@ pub record Outside : Type 0 where
   pub reads : ℕ
   pub writes : ℕ
 
+-- what a source and a sink tell, as one
+abbrev pub told : (left held : Option (List ℕ)) (reads writes : ℕ) → Outside
+told left held reads writes = record { left = left; held = held; reads = reads; writes = writes }
+
 -- What a call did: the outside before and after it, the bytes that came, those that were written, and the state before and after.
 pub record Call : Type 0 where
   pub before : Outside
@@ -87,9 +91,9 @@ CheckRow WriteFault call = CountsWriteFault call × IsReadToEnd call × (length 
 CheckRow OutOfMemory call = (length call.came ≤ limit + 1) × (call.written ≡ [])
 CheckRow TooLong call = (length call.came ≡ limit + 1) × (call.written ≡ [])
 
--- Words that aren't accepted: nothing is read or written.
+-- Words that aren't accepted: nothing is read or written, and no fault is counted.
 abbrev pub BadWordsRow : Ending → Call → Type 0
-BadWordsRow ending call = (ending ≡ BadWords) × (call.came ≡ []) × (call.written ≡ [])
+BadWordsRow ending call = (ending ≡ BadWords) × (call.came ≡ []) × (call.written ≡ []) × (call.after.reads ≡ call.before.reads) × (call.after.writes ≡ call.before.writes)
 
 -- The row of each ending for the command that the words are. Only `run` changes the session.
 abbrev pub Row : Option Command → Ending → Call → Type 0

@@ -1,3 +1,5 @@
+//! The answers to the statements of an input, one after another.
+
 ghost use Rattle.std.specs.Prelude.{◌≡◌, ◌≤◌, ◌<◌, IfSome, length, slice_range};
 ghost use Rattle.script_lex.specs.Scripts.{statement_at};
 ghost use Rattle.std.specs.Option.{option_copied};
@@ -35,7 +37,9 @@ fn answer<K: Sink>(
     ensures later { K.faults sink.old ≤ K.faults sink.new }
 {
     let reply = session.run(alloc, text, block)?;
-    write_reply(alloc, sink, &reply)
+    let wrote = write_reply(alloc, sink, &reply);
+    drop(reply);
+    wrote
 }
 
 /// Writes a reply, and says whether it is a refusal.

@@ -1,3 +1,5 @@
+//! How the top call and its parts may end.
+
 ghost use Rattle.std.specs.Prelude.{◌≡◌};
 ghost use Rattle.command_shell.specs.declared.ending.Stop.TheVariants as stops;
 ghost use Rattle.command_shell.specs.Parts.{ending_of};

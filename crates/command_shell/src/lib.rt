@@ -4,12 +4,12 @@
 mod answers;
 mod blocks;
 mod certain;
-mod classify;
 mod ending;
 mod execute;
 mod input;
 mod reading;
 mod session;
+mod statements;
 mod top;
 mod verdict;
 

@@ -1,12 +1,13 @@
-ghost use Rattle.std.specs.Prelude.{◌≡◌, ◌≤◌, ◌<◌, ◌^◌, Result, Ok, IfOk, length};
-ghost use Rattle.script_lex.specs.Tokens.{Spells};
-ghost use Rattle.spj_syntax.specs.Written.{HasAtMost, IsProper};
-ghost use Rattle.spj_syntax.specs.declared.tree.Statement.{Statement as Parsed};
-ghost use Rattle.command_shell.specs.Machine.{of_lexing, of_parsing, HasStatement, Says};
+//! From the text of a statement to the statement.
+
+ghost use Rattle.std.specs.Prelude.{◌≡◌, ◌≤◌, ◌<◌, ◌^◌, IfOk, length};
+ghost use Rattle.script_lex.specs.Tokens.{Spells, longest_text};
+ghost use Rattle.spj_syntax.specs.Written.{HasAtMost};
+ghost use Rattle.command_shell.specs.Saying.{of_lexing, of_parsing, IsReadAs};
 ghost use Rattle.command_shell.specs.Offsets.{lexing_offset, parsing_offset};
 
 use cqa_model::{LimitKind, Refusal};
-use cqa_value::{Fail, NoMemory};
+use cqa_value::Fail;
 use script_lex::{LexFault, Token, tokens};
 use spj_syntax::{Statement, SyntaxFault, parse};
 use std::alloc::Global;
@@ -37,33 +38,33 @@ fn without_statement(fault: SyntaxFault) -> Refusal
     }
 }
 
-/// The statement that the tokens of a text are, or its refusal.
-fn parsed(
-    alloc: Global,
-    text: &[u8],
-    tokens: &[Token],
-) -> Result<Result<Statement, Refusal>, NoMemory>
+/// The statement that the tokens of a text are.
+fn parsed(alloc: Global, text: &[u8], tokens: &[Token]) -> Result<Statement, Fail<Refusal>>
     requires spelled { Spells text.now tokens.now }
-    requires short { length text.now ≤ 1048576 }
-    ensures says { IfOk result (Says text.now) }
-    ensures small { IfOk result (λ said. IfOk said (HasAtMost (length text.now))) }
+    requires short { length text.now ≤ longest_text }
+    ensures says { IsReadAs text.now result }
+    ensures small { IfOk result (HasAtMost (length text.now)) }
 {
     match parse(alloc, text, tokens) {
-        Ok(statement) => Ok(Ok(statement)),
-        Err(Fail::NoMemory) => Err(NoMemory),
-        Err(Fail::Refused(fault)) => Ok(Err(without_statement(fault))),
+        Ok(statement) => Ok(statement),
+        Err(Fail::NoMemory) => Err(Fail::NoMemory),
+        Err(Fail::Refused(fault)) => Err(Fail::Refused(without_statement(fault))),
     }
 }
 
-/// The statement that a text is, or the refusal by the first check on its form that fails.
-pub fn read(alloc: Global, text: &[u8]) -> Result<Result<Statement, Refusal>, NoMemory>
+/// The statement that a text is.
+///
+/// # Errors
+///
+/// The refusal by the first check on the text's form that fails.
+pub fn read(alloc: Global, text: &[u8]) -> Result<Statement, Fail<Refusal>>
     requires { length text.now ≤ 268_435_456 }
-    ensures says { IfOk result (Says text.now) }
-    ensures small { IfOk result (λ said. IfOk said (HasAtMost (length text.now))) }
+    ensures says { IsReadAs text.now result }
+    ensures small { IfOk result (HasAtMost (length text.now)) }
 {
     match tokens(alloc, text) {
         Ok(tokens) => parsed(alloc, text, tokens.as_slice()),
-        Err(Fail::NoMemory) => Err(NoMemory),
-        Err(Fail::Refused(fault)) => Ok(Err(without_tokens(fault))),
+        Err(Fail::NoMemory) => Err(Fail::NoMemory),
+        Err(Fail::Refused(fault)) => Err(Fail::Refused(without_tokens(fault))),
     }
 }

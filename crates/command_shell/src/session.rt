@@ -1,23 +1,29 @@
+//! A session of the machine: its state, and the answer to one statement.
+
 ghost use Rattle.std.specs.Prelude.{◌≡◌, ◌≤◌, IfOk, OnErr, Option, Some, Result, length};
 ghost use Rattle.std.specs.Option.{option_copied};
 ghost use Rattle.spj_syntax.specs.declared.tree.Statement.{Statement};
 ghost use Rattle.cqa_model.specs.declared.refusal.Refusal.{Refusal as RefusalValue};
 ghost use Rattle.command_shell.specs.State.{opening_with};
-ghost use Rattle.command_shell.specs.Machine.{Says, Does, Step, SaysOneThing};
+ghost use Rattle.command_shell.specs.Saying.{Says, SaysOneThing};
+ghost use Rattle.command_shell.specs.Replying.{IsOutcome};
+ghost use Rattle.command_shell.specs.Machine.{Does, Step};
 
 use crate::execute::execute;
 use crate::reading::read;
-use cqa_value::NoMemory;
-use reply_text::Reply;
+use cqa_model::Refusal;
+use cqa_value::{Fail, NoMemory};
+use reply_text::{Proof, Reply};
 use std::alloc::Global;
 use std::marker::Model;
 use table_blocks::Database;
 
-/// A session of the machine: its tables, and how many conflicts a search may take.
+/// A session of the machine: its tables, how many conflicts a search may take, and the last log with its formula.
 #[derive(Drop)]
 pub struct Session {
-    database: Database,
+    pub(crate) database: Database,
     budget: u32,
+    last_log: Option<Proof>,
 }
 
 impl Model for Session {
@@ -25,7 +31,7 @@ impl Model for Session {
 
     ghost Value = { State };
 
-    ghost view = { λ s. record { tables = s.database; budget = s.budget } };
+    ghost view = { λ s. record { tables = s.database; budget = s.budget; last_log = s.last_log } };
 }
 
 impl Session {
@@ -36,7 +42,15 @@ impl Session {
         Session {
             database: Database::new(alloc),
             budget,
+            last_log: None,
         }
+    }
+
+    /// The session's tables.
+    pub(crate) fn database(&self) -> &Database
+        ensures { result.now ≡ self.now.tables }
+    {
+        &self.database
     }
 
     /// Answers a statement: its text, and the block that follows a `copy`.
@@ -53,14 +67,29 @@ impl Session {
         requires { length text.now ≤ 268_435_456 }
         ensures step { IfOk result (λ reply. Step self.old text.now (option_copied block.entry) reply self.new) }
         // What the text says decides the reply, unless memory runs out: a statement of which no check fails is done, and any other is refused.
-        ensures complete { (said : Result Statement RefusalValue) → Says text.now said → IfOk result (λ reply. Does self.old said reply self.new) }
+        ensures complete { (said : Result Statement RefusalValue) → Says text.now said → IfOk result (λ reply. Does self.old said (option_copied block.entry) reply self.new) }
         ensures err { OnErr result (self.new ≡ self.old) }
     {
-        match read(alloc, text)? {
-            Err(refusal) => Ok(Reply::Refused(refusal)),
-            Ok(statement) => execute(alloc, &mut self.database, statement),
+        match answer(alloc, self, text, block) {
+            Ok(reply) => Ok(reply),
+            Err(Fail::Refused(refusal)) => Ok(Reply::Refused(refusal)),
+            Err(Fail::NoMemory) => Err(NoMemory),
         }
     }
+}
+
+/// Answers a statement, or refuses it.
+fn answer(
+    alloc: Global,
+    session: &mut Session,
+    text: &[u8],
+    block: Option<&[u8]>,
+) -> Result<Reply, Fail<Refusal>>
+    requires { length text.now ≤ 268_435_456 }
+    ensures { IsOutcome result session.old (Step session.old text.now (option_copied block.entry)) session.new }
+{
+    let statement = read(alloc, text)?;
+    execute(alloc, session, statement, block)
 }
 
 /// A text says at most one thing: one statement, or the one refusal of its form.

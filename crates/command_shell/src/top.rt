@@ -1,8 +1,10 @@
+//! The top call: from words and bytes to a status.
+
 ghost use Rattle.std.specs.Prelude.{◌≡◌, ◌≤◌, Option, Some, MatchOption, length, take};
 ghost use Rattle.cqa_io.specs.Causes.{Rose};
 ghost use Rattle.command_shell.specs.State.{opening, State};
 ghost use Rattle.command_shell.specs.declared.ending.Command.TheVariants.{Run as RunWord, Check as CheckWord};
-ghost use Rattle.command_shell.specs.Top.{code_of, word_for, AreWordsFor, IsAskedBy, limit, Outside, Ended, IsWithinLimit, IsCompleted};
+ghost use Rattle.command_shell.specs.Top.{code_of, word_for, AreWordsFor, IsAskedBy, limit, told, Ended, IsWithinLimit, IsCompleted};
 
 use crate::Session;
 use crate::answers::answer_all;
@@ -28,9 +30,7 @@ fn run<S: Source, K: Sink>(
     source: &mut S,
     sink: &mut K,
 ) -> Ending
-    ensures row { let before : Outside = record { left = S.left source.old; held = K.held sink.old; reads = S.faults source.old; writes = K.faults sink.old } in
-        let after : Outside = record { left = S.left source.new; held = K.held sink.new; reads = S.faults source.new; writes = K.faults sink.new } in
-        Ended (Some RunWord) result before after session.old session.new }
+    ensures row { Ended (Some RunWord) result (told (S.left source.old) (K.held sink.old) (S.faults source.old) (K.faults sink.old)) (told (S.left source.new) (K.held sink.new) (S.faults source.new) (K.faults sink.new)) session.old session.new }
     ensures reads { S.faults source.old ≤ S.faults source.new }
     ensures writes { K.faults sink.old ≤ K.faults sink.new }
 {
@@ -55,9 +55,7 @@ fn run<S: Source, K: Sink>(
 
 /// Reads the input and writes the line on it, as a formula with a log.
 fn check<S: Source, K: Sink>(alloc: Global, source: &mut S, sink: &mut K) -> Ending
-    ensures row { let before : Outside = record { left = S.left source.old; held = K.held sink.old; reads = S.faults source.old; writes = K.faults sink.old } in
-        let after : Outside = record { left = S.left source.new; held = K.held sink.new; reads = S.faults source.new; writes = K.faults sink.new } in
-        (state : State) → Ended (Some CheckWord) result before after state state }
+    ensures row { (state : State) → Ended (Some CheckWord) result (told (S.left source.old) (K.held sink.old) (S.faults source.old) (K.faults sink.old)) (told (S.left source.new) (K.held sink.new) (S.faults source.new) (K.faults sink.new)) state state }
     ensures reads { S.faults source.old ≤ S.faults source.new }
     ensures writes { K.faults sink.old ≤ K.faults sink.new }
 {
@@ -112,9 +110,7 @@ pub fn run_words<S: Source, K: Sink>(
     sink: &mut K,
 ) -> u8
     requires { session.old ≡ opening }
-    ensures row { let before : Outside = record { left = S.left source.old; held = K.held sink.old; reads = S.faults source.old; writes = K.faults sink.old } in
-        let after : Outside = record { left = S.left source.new; held = K.held sink.new; reads = S.faults source.new; writes = K.faults sink.new } in
-        (command : Option Command) × IsAskedBy words.now command × ((ending : Ending) × (result ≡ code_of ending) × Ended command ending before after session.old session.new) }
+    ensures row { (command : Option Command) × IsAskedBy words.now command × ((ending : Ending) × (result ≡ code_of ending) × Ended command ending (told (S.left source.old) (K.held sink.old) (S.faults source.old) (K.faults sink.old)) (told (S.left source.new) (K.held sink.new) (S.faults source.new) (K.faults sink.new)) session.old session.new) }
     // With accepted words, where no fault is counted and the source tells that its bytes are within the limit, all is answered, or memory runs out.
     ensures completed { (command : Command) → AreWordsFor words.now command → (Rose (S.faults source.old) (S.faults source.new) → ⊥) → (Rose (K.faults sink.old) (K.faults sink.new) → ⊥) → IsWithinLimit (S.left source.old) → IsCompleted result }
     ensures reads { S.faults source.old ≤ S.faults source.new }

@@ -1,6 +1,9 @@
+//! The line of `check` on an input.
+
 ghost use Rattle.std.specs.Prelude.{◌≡◌, ◌≤◌};
 ghost use Rattle.cqa_io.specs.Causes.{Rose};
-ghost use Rattle.command_shell.specs.Parts.{LineRow, VerdictRow};
+ghost use Rattle.proof_check.specs.Verdicts.{is_verified, line_of};
+ghost use Rattle.command_shell.specs.Parts.{WriteRow, VerdictRow};
 
 use crate::ending::Stop;
 use cqa_io::{Sink, write_all};
@@ -18,7 +21,7 @@ pub fn write_verdict<K: Sink>(alloc: Global, sink: &mut K, input: &[u8]) -> Resu
 
 /// Writes the line of a reply, and says whether the log refutes the formula.
 fn write_line<K: Sink>(alloc: Global, sink: &mut K, reply: CheckReply) -> Result<bool, Stop>
-    ensures row { LineRow result (Rose (K.faults sink.old) (K.faults sink.new)) (K.held sink.old) (K.held sink.new) reply }
+    ensures row { WriteRow result (Rose (K.faults sink.old) (K.faults sink.new)) (K.held sink.old) (K.held sink.new) (line_of reply) (is_verified reply) }
     ensures later { K.faults sink.old ≤ K.faults sink.new }
 {
     let line = reply.line(alloc)?;

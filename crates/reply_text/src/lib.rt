@@ -7,7 +7,7 @@ mod refused;
 mod reply;
 mod text;
 
-pub use reply::{AttackLine, Reply, TableLine};
+pub use reply::{AttackLine, Proof, Reply, TableLine};
 pub use text::reply_bytes;
 
 #[cfg(test)]

@@ -1,3 +1,4 @@
+use cnf_form::{Cnf, Log};
 use cqa_model::{Refusal, Schema};
 use cqa_value::{Items, Name, Row};
 use query_class::Class;
@@ -38,4 +39,11 @@ pub struct AttackLine {
     pub from: Name,
     pub to: Name,
     pub weak: bool,
+}
+
+/// A formula with a log over its clauses.
+#[derive(Drop)]
+pub struct Proof {
+    pub cnf: Cnf,
+    pub log: Log,
 }

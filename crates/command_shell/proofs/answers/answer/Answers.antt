@@ -3,4 +3,4 @@ use Rattle.command_shell.proofs.Doing.{answered}
 use Rattle.command_shell.proofs.answers.answer.Goals as goal
 
 pub returns-clause-row : goal.returns-clause-row
-returns-clause-row g c = answered c.write_reply.result _ _ _ c.args.session.now c.run.new.self (c.args.text.now, option_copied c.args.block) c.in_ok-reply.reply c.in_ok-reply.ensures.step c.write_reply.ensures.row
+returns-clause-row g c = answered c.write_reply-wrote.result _ _ _ c.args.session.now c.run.new.self (c.args.text.now, option_copied c.args.block) c.in_ok-reply.reply c.in_ok-reply.ensures.step c.write_reply-wrote.ensures.row

@@ -1,0 +1,15 @@
+use Rattle.std.proofs.Common.{refl, subst}
+use Rattle.table_blocks.specs.Tables.{insert_fault, IsRefusedAs}
+use Rattle.command_shell.specs.State.{State}
+use Rattle.command_shell.specs.Statements.Insert.{insert_into_fault, InsertsInto}
+use Rattle.command_shell.proofs.Doing.{refused_out}
+use Rattle.command_shell.proofs.statements.insert.insert.Goals as goal
+
+pub returns-in_err-table : goal.returns-in_err-table
+returns-in_err-table c =
+    let old = c.args.session.now in
+    let name = c.args.name.now in
+    let fail = c.in_err-table.field-0.0 in
+    let missing = c.in_err-table.ensures.missing (λ table. insert_fault c.session.inside.database table c.args.rows) in
+    refused_out (insert_into_fault old.tables name c.args.rows) old old (InsertsInto old name c.args.rows) refl c.from_residual.result fail c.from_residual.ensures.1
+    (subst (λ (s : State). IsRefusedAs fail (insert_into_fault s.tables name c.args.rows)) c.session.view_is missing)

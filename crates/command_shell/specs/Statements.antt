@@ -1,0 +1,9 @@
+-- The statements, a room for each: which of its checks fails first, and what it may do where none fails.
+pub mod Create
+pub mod Insert
+pub mod Delete
+pub mod Ask
+pub mod Possible
+pub mod Classify
+pub mod ShowTables
+pub mod Unanswered
