@@ -12,7 +12,7 @@ use Rattle.spj_syntax.specs.declared.tree.Statement.{Statement}
 use Rattle.spj_syntax.specs.declared.tree.Statement.TheVariants as statements
 use Rattle.spj_syntax.specs.declared.fault.SyntaxFault.{SyntaxFault}
 use Rattle.spj_syntax.specs.Lexemes.{Lexeme, Word, Mark, lexeme}
-use Rattle.spj_syntax.specs.Written.{name_tokens, column_tokens, test_tokens, col_tokens, cond_tokens, row_tokens, each_after, between, listed_tokens, filtered_tokens, head_tokens, select_tokens, statement_tokens, op_symbol, literal_tokens, SelectHasAtMost, HasAtMost}
+use Rattle.spj_syntax.specs.Written.{name_tokens, column_tokens, test_tokens, col_tokens, cond_tokens, row_tokens, each_after, between, listed_tokens, filtered_tokens, head_tokens, select_tokens, verb_tokens, statement_tokens, op_symbol, literal_tokens, SelectHasAtMost, HasAtMost}
 use Rattle.spj_syntax.specs.Reading.{Parses}
 
 -- Each item is written as some tokens.
@@ -66,11 +66,7 @@ statement_within n (statements.Create r) h =
     (omega (arith, whole, columns), omega (arith, whole, parts, key))
 statement_within n (statements.Insert table rows) h = let i = between_longer (Mark s.Comma) row_tokens rows (λ x. omega arith) in omega (arith, i)
 statement_within n (statements.Delete table tests) h = let i = filtered_longer test_tokens tests (λ x. omega arith) in omega (arith, i)
-statement_within n (statements.Ask q) h = select_within n q (omega arith)
-statement_within n (statements.Possible q) h = select_within n q (omega arith)
-statement_within n (statements.Classify q) h = select_within n q (omega arith)
-statement_within n (statements.Plan q) h = select_within n q (omega arith)
-statement_within n (statements.Explain row q) h = select_within n q (omega (arith, length-append (row_tokens row) (Word (codes "for") ∷ select_tokens q)))
+statement_within n (statements.Asking verb q) h = select_within n q (omega (arith, length-append (verb_tokens verb) (select_tokens q)))
 statement_within n (statements.SetConflicts m) h = tt
 statement_within n (statements.Copy table) h = tt
 statement_within n statements.Dump h = tt

@@ -15,7 +15,7 @@ use Rattle.cqa_value.specs.declared.value.Value.TheVariants.{Int, Text}
 use Rattle.spj_syntax.specs.Written.{literal_tokens, each_after, between, filtered_tokens, anded_tokens, head_tokens, col_tokens, listed_tokens, name_tokens, column_tokens, statement_tokens, select_tokens}
 use Rattle.spj_syntax.specs.declared.tree.Select.{Select}
 use Rattle.cqa_model.specs.declared.schema.Column.{Column}
-use Rattle.spj_syntax.specs.declared.tree.Statement.TheVariants.{Create, Explain}
+use Rattle.spj_syntax.specs.declared.tree.Statement.TheVariants.{Create}
 use Rattle.spj_syntax.specs.declared.tree.RawCol.{RawCol}
 use Rattle.std.proofs.Common.{codes}
 use Rattle.std.proofs.Common.{◌<◌}
@@ -364,12 +364,6 @@ created {p = p} {s = s} {z = z} n cs k h t =
     subst (λ w. Took p (Word (codes "create") ∷ Word (codes "table") ∷ Word n ∷ Mark Open ∷ w) s z)
     (each_before-is (Mark Comma) column_tokens cs (key_tokens k ++ Mark Close ∷ []) h
     ∙ ap (λ w. between (Mark Comma) column_tokens cs ++ (Mark Comma ∷ Word (codes "primary") ∷ Word (codes "key") ∷ Mark Open ∷ w)) (append_assoc (listed_tokens name_tokens k) (Mark Close ∷ []) (Mark Close ∷ []))) t
-
-pub explained : {p : Shape} {s z : List Lexeme} (row : List Value) (q : Select)
-    → Took p (Word (codes "explain") ∷ Word (codes "row") ∷ Mark Open ∷ (listed_tokens literal_tokens row ++ (Mark Close ∷ Word (codes "for") ∷ select_tokens q))) s z
-    → Took p (statement_tokens (Explain row q)) s z
-explained {p = p} {s = s} {z = z} row q t =
-    subst (λ w. Took p (Word (codes "explain") ∷ Word (codes "row") ∷ Mark Open ∷ w) s z) (sym (append_assoc (listed_tokens literal_tokens row) (Mark Close ∷ []) (Word (codes "for") ∷ select_tokens q))) t
 
 -- what a part returns, the whole returns
 pub reads_left : {A : Type 0} {p : Shape} {s : List Lexeme} (q : Shape) (w : A → List Lexeme) (r : Result A Stop) (z : List Lexeme) → Opens true p s → Reads p w r s z → Reads (p ∣ q) w r s z

@@ -1,6 +1,7 @@
 -- Tokens are written by one tree at most.
 use Rattle.std.proofs.Common.{◌≡◌, ◌⊎◌, inl, inr, ℕ, List, [], ◌∷◌, ◌++◌, Option, Some, None, refl, sym, ◌∙◌, ap, append_assoc, codes, length, ◌<◌, get_or, arith}
-use Rattle.std.proofs.Common.{◌+◌, ◌*◌}
+use Rattle.std.proofs.Common.{◌+◌, ◌*◌, Bool, true, false, nat_eq}
+use Rattle.std.specs.List.{list_any}
 use Rattle.script_lex.specs.declared.kinds.Symbol.{Symbol}
 use Rattle.script_lex.specs.declared.kinds.Symbol.TheVariants as s
 use Rattle.cqa_value.specs.declared.value.Kind.{Kind}
@@ -17,8 +18,10 @@ use Rattle.spj_syntax.specs.declared.tree.RawCol.{RawCol}
 use Rattle.spj_syntax.specs.declared.tree.RawCond.{RawCond}
 use Rattle.spj_syntax.specs.declared.tree.RawCond.TheVariants.{Join, Test}
 use Rattle.spj_syntax.specs.Lexemes.{Lexeme, Word, Number, Quoted, Mark}
-use Rattle.spj_syntax.specs.Written.{name_tokens, literal_tokens, column_tokens, listed_tokens, row_tokens, schema_tokens, op_symbol, test_tokens, col_tokens_of, col_tokens, cond_tokens, each_after, between, filtered_tokens, head_tokens, select_tokens, statement_tokens, IsProper}
+use Rattle.spj_syntax.specs.Written.{name_tokens, literal_tokens, column_tokens, listed_tokens, row_tokens, schema_tokens, op_symbol, test_tokens, col_tokens_of, col_tokens, cond_tokens, each_after, between, filtered_tokens, head_tokens, select_tokens, verb_tokens, statement_tokens, IsProper}
 use Rattle.spj_syntax.specs.declared.tree.Select.{Select}
+use Rattle.spj_syntax.specs.declared.tree.Verb.{Verb}
+use Rattle.spj_syntax.specs.declared.tree.Verb.TheVariants as verbs
 use Rattle.spj_syntax.specs.declared.tree.Statement.{Statement}
 use Rattle.spj_syntax.specs.declared.tree.Statement.TheVariants as statements
 
@@ -290,9 +293,40 @@ second_mark : List Lexeme → ℕ
 second_mark [] = 0
 second_mark (l ∷ ls) = mark_of ls
 
+-- the verbs differ in them
+verb_decodes : (a b : Verb) (r z : List Lexeme) → verb_tokens a ++ r ≡ verb_tokens b ++ z → (a ≡ b) × (r ≡ z)
+unfolding mark_of
+verb_decodes verbs.Ask verbs.Ask r z e = (refl, (cc))
+verb_decodes verbs.Possible verbs.Possible r z e = (refl, (cc))
+verb_decodes verbs.Classify verbs.Classify r z e = (refl, (cc))
+verb_decodes verbs.Plan verbs.Plan r z e = (refl, (cc))
+verb_decodes (verbs.Explain a) (verbs.Explain b) r z e =
+    let g : (row_tokens a ++ Word (codes "for") ∷ []) ++ r ≡ (row_tokens b ++ Word (codes "for") ∷ []) ++ z = cc in
+    let i = row_decodes a b (Word (codes "for") ∷ r) (Word (codes "for") ∷ z) (sym (append_assoc (row_tokens a) (Word (codes "for") ∷ []) r) ∙ g ∙ append_assoc (row_tokens b) (Word (codes "for") ∷ []) z) in
+    (ap verbs.Explain i.0, (cc (i.1)))
+verb_decodes _ _ r z e = absurd (omega (arith, ap mark_of e))
+
+verb_marks : List ℕ
+verb_marks = mark_of (verb_tokens verbs.Ask) ∷ mark_of (verb_tokens verbs.Possible) ∷ mark_of (verb_tokens verbs.Classify) ∷ mark_of (verb_tokens verbs.Plan) ∷ mark_of (verb_tokens (verbs.Explain [])) ∷ []
+
+is_verb : List Lexeme → Bool
+is_verb ls = list_any (λ m. nat_eq m (mark_of ls)) verb_marks
+
+opens_verb : (v : Verb) (r : List Lexeme) → is_verb (verb_tokens v ++ r) ≡ true
+unfolding is_verb verb_marks mark_of
+opens_verb verbs.Ask r = refl
+opens_verb verbs.Possible r = refl
+opens_verb verbs.Classify r = refl
+opens_verb verbs.Plan r = refl
+opens_verb (verbs.Explain row) r = refl
+
+-- what is told apart from each verb begins with none
+no_verb : (v : Verb) (r ls : List Lexeme) → verb_tokens v ++ r ≡ ls → is_verb ls ≡ false → ⊥
+no_verb v r ls e n = let h : true ≡ false = sym (opens_verb v r) ∙ ap is_verb e ∙ n in absurd (cc)
+
 -- no tokens are written by two statements
 pub statement_same : (a b : Statement) → IsProper a → IsProper b → statement_tokens a ≡ statement_tokens b → a ≡ b
-unfolding mark_of second_mark
+unfolding mark_of second_mark is_verb verb_marks
 statement_same (statements.Create c) (statements.Create d) p q e = ap statements.Create (schema_same c d p.0 p.1 q.0 q.1 (cc))
 statement_same (statements.Insert t xs) (statements.Insert u ys) p q e =
     let h : t ≡ u = cc in
@@ -304,17 +338,11 @@ statement_same (statements.Delete t xs) (statements.Delete u ys) p q e =
     let g : filtered_tokens test_tokens xs ≡ filtered_tokens test_tokens ys = cc in
     let c = filtered_decodes Never test_tokens (λ x. x) (λ x y r z f g e. test_decodes x y r z e) xs ys g in
     λ i. statements.Delete (h i) (c i)
-statement_same (statements.Ask c) (statements.Ask d) p q e = let g : select_tokens c ≡ select_tokens d = cc in ap statements.Ask (select_same c d p q g)
-statement_same (statements.Possible c) (statements.Possible d) p q e = let g : select_tokens c ≡ select_tokens d = cc in ap statements.Possible (select_same c d p q g)
-statement_same (statements.Classify c) (statements.Classify d) p q e = let g : select_tokens c ≡ select_tokens d = cc in ap statements.Classify (select_same c d p q g)
-statement_same (statements.Plan c) (statements.Plan d) p q e = let g : select_tokens c ≡ select_tokens d = cc in ap statements.Plan (select_same c d p q g)
-statement_same (statements.Explain r c) (statements.Explain t d) p q e =
-    let h : row_tokens r ++ (Word (codes "for") ∷ select_tokens c) ≡ row_tokens t ++ (Word (codes "for") ∷ select_tokens d) = cc in
-    let i = row_decodes r t (Word (codes "for") ∷ select_tokens c) (Word (codes "for") ∷ select_tokens d) h in
-    let g : select_tokens c ≡ select_tokens d = cc (i.1) in
-    let j = select_same c d p q g in
-    let k = i.0 in
-    λ l. statements.Explain (k l) (j l)
+statement_same (statements.Asking v c) (statements.Asking w d) p q e =
+    let i = verb_decodes v w (select_tokens c) (select_tokens d) e in
+    let g = select_same c d p q i.1 in
+    let h = i.0 in
+    λ l. statements.Asking (h l) (g l)
 statement_same (statements.SetConflicts n) (statements.SetConflicts m) p q e = ap statements.SetConflicts (cc)
 statement_same (statements.Copy t) (statements.Copy u) p q e = ap statements.Copy (cc)
 statement_same statements.Dump statements.Dump p q e = refl
@@ -322,4 +350,6 @@ statement_same statements.ShowTables statements.ShowTables p q e = refl
 statement_same statements.ShowLog statements.ShowLog p q e = refl
 statement_same statements.ShowTables statements.ShowLog p q e = absurd (omega (arith, ap second_mark e))
 statement_same statements.ShowLog statements.ShowTables p q e = absurd (omega (arith, ap second_mark e))
+statement_same (statements.Asking v c) _ p q e = absurd (no_verb v (select_tokens c) _ e refl)
+statement_same _ (statements.Asking w d) p q e = absurd (no_verb w (select_tokens d) _ (sym e) refl)
 statement_same _ _ p q e = absurd (omega (arith, ap mark_of e))

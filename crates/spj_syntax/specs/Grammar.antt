@@ -68,11 +68,19 @@ head = one (word (codes "select")) ⨾ listed col ∣ one (word (codes "exists")
 abbrev pub query : Shape
 query = head ⨾ one (word (codes "from")) ⨾ listed a_name ⨾ filtered cond
 
-abbrev pub asking : Shape
-asking = one (word (codes "ask")) ∣ one (word (codes "possible")) ∣ one (word (codes "classify")) ∣ one (word (codes "plan"))
+-- a row, which may be empty
+abbrev pub any_row : Shape
+any_row = one (mark Open) ⨾ optional (listed literal) ⨾ one (mark Close)
 
 abbrev pub explain : Shape
-explain = one (word (codes "explain")) ⨾ one (word (codes "row")) ⨾ one (mark Open) ⨾ optional (listed literal) ⨾ one (mark Close) ⨾ one (word (codes "for")) ⨾ query
+explain = one (word (codes "explain")) ⨾ one (word (codes "row")) ⨾ any_row ⨾ one (word (codes "for"))
+
+-- what is asked of a query
+abbrev pub verb : Shape
+verb = one (word (codes "ask")) ∣ one (word (codes "possible")) ∣ one (word (codes "classify")) ∣ one (word (codes "plan")) ∣ explain
+
+abbrev pub asking : Shape
+asking = verb ⨾ query
 
 abbrev pub copy : Shape
 copy = one (word (codes "copy")) ⨾ a_name
@@ -84,4 +92,4 @@ abbrev pub show : Shape
 show = one (word (codes "show")) ⨾ one (word (codes "tables")) ∣ one (word (codes "show")) ⨾ one (word (codes "log"))
 
 abbrev pub statement : Shape
-statement = create ∣ insert ∣ delete ∣ explain ∣ copy ∣ set ∣ asking ⨾ query ∣ one (word (codes "dump")) ∣ show
+statement = set ∣ create ∣ insert ∣ delete ∣ copy ∣ one (word (codes "dump")) ∣ show ∣ asking

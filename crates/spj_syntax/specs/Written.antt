@@ -14,6 +14,8 @@ use Rattle.spj_syntax.specs.declared.tree.RawCol.{RawCol}
 use Rattle.spj_syntax.specs.declared.tree.RawCond.{RawCond}
 use Rattle.spj_syntax.specs.declared.tree.RawCond.TheVariants.{Join, Test}
 use Rattle.spj_syntax.specs.declared.tree.Select.{Select}
+use Rattle.spj_syntax.specs.declared.tree.Verb.{Verb}
+use Rattle.spj_syntax.specs.declared.tree.Verb.TheVariants as verbs
 use Rattle.spj_syntax.specs.declared.tree.Statement.{Statement}
 use Rattle.spj_syntax.specs.declared.tree.Statement.TheVariants as statements
 use Rattle.script_lex.specs.declared.kinds.TokenKind.TheVariants as token
@@ -91,15 +93,19 @@ select_tokens q = head_tokens q.columns ++ (Word (codes "from") ∷ (listed_toke
 abbrev pub schema_tokens : RawSchema → List Lexeme
 schema_tokens r = name_tokens r.name ++ (Mark s.Open ∷ (listed_tokens column_tokens r.columns ++ (Mark s.Comma ∷ Word (codes "primary") ∷ Word (codes "key") ∷ Mark s.Open ∷ (listed_tokens name_tokens r.key ++ (Mark s.Close ∷ Mark s.Close ∷ [])))))
 
+-- what is asked of a query
+abbrev pub verb_tokens : Verb → List Lexeme
+verb_tokens verbs.Ask = Word (codes "ask") ∷ []
+verb_tokens verbs.Possible = Word (codes "possible") ∷ []
+verb_tokens verbs.Classify = Word (codes "classify") ∷ []
+verb_tokens verbs.Plan = Word (codes "plan") ∷ []
+verb_tokens (verbs.Explain row) = Word (codes "explain") ∷ Word (codes "row") ∷ (row_tokens row ++ Word (codes "for") ∷ [])
+
 abbrev pub statement_tokens : Statement → List Lexeme
 statement_tokens (statements.Create r) = Word (codes "create") ∷ Word (codes "table") ∷ schema_tokens r
 statement_tokens (statements.Insert table rows) = Word (codes "insert") ∷ Word (codes "into") ∷ (name_tokens table ++ (Word (codes "values") ∷ listed_tokens row_tokens rows))
 statement_tokens (statements.Delete table tests) = Word (codes "delete") ∷ Word (codes "from") ∷ (name_tokens table ++ filtered_tokens test_tokens tests)
-statement_tokens (statements.Ask q) = Word (codes "ask") ∷ select_tokens q
-statement_tokens (statements.Possible q) = Word (codes "possible") ∷ select_tokens q
-statement_tokens (statements.Classify q) = Word (codes "classify") ∷ select_tokens q
-statement_tokens (statements.Plan q) = Word (codes "plan") ∷ select_tokens q
-statement_tokens (statements.Explain row q) = Word (codes "explain") ∷ Word (codes "row") ∷ (row_tokens row ++ (Word (codes "for") ∷ select_tokens q))
+statement_tokens (statements.Asking verb q) = verb_tokens verb ++ select_tokens q
 statement_tokens (statements.SetConflicts n) = Word (codes "set") ∷ Word (codes "conflicts") ∷ Number (pos n) ∷ []
 statement_tokens (statements.Copy table) = Word (codes "copy") ∷ name_tokens table
 statement_tokens statements.Dump = Word (codes "dump") ∷ []
@@ -113,11 +119,7 @@ IsSome xs = 0 < length xs
 abbrev pub IsProper : Statement → Type 0
 IsProper (statements.Create r) = IsSome r.columns × IsSome r.key
 IsProper (statements.Insert table rows) = IsSome rows × All (λ row. IsSome row) rows
-IsProper (statements.Ask q) = IsSome q.tables
-IsProper (statements.Possible q) = IsSome q.tables
-IsProper (statements.Classify q) = IsSome q.tables
-IsProper (statements.Plan q) = IsSome q.tables
-IsProper (statements.Explain row q) = IsSome q.tables
+IsProper (statements.Asking verb q) = IsSome q.tables
 IsProper _ = Unit {0}
 
 -- a name of the grammar, of at most 64 bytes
@@ -140,11 +142,7 @@ abbrev pub HasAtMost : ℕ → Statement → Type 0
 HasAtMost n (statements.Create r) = (length r.columns ≤ n) × (length r.key ≤ n)
 HasAtMost n (statements.Insert table rows) = length rows ≤ n
 HasAtMost n (statements.Delete table tests) = length tests ≤ n
-HasAtMost n (statements.Ask q) = SelectHasAtMost n q
-HasAtMost n (statements.Possible q) = SelectHasAtMost n q
-HasAtMost n (statements.Classify q) = SelectHasAtMost n q
-HasAtMost n (statements.Plan q) = SelectHasAtMost n q
-HasAtMost n (statements.Explain row q) = SelectHasAtMost n q
+HasAtMost n (statements.Asking verb q) = SelectHasAtMost n q
 HasAtMost n _ = Unit {0}
 
 -- A statement is written as tokens.

@@ -14,4 +14,4 @@ mod tree;
 
 pub use fault::SyntaxFault;
 pub use parser::parse;
-pub use tree::{RawCol, RawCond, RawSchema, RawTest, Select, Statement};
+pub use tree::{RawCol, RawCond, RawSchema, RawTest, Select, Statement, Verb};

@@ -95,10 +95,14 @@ fn parse_plain(alloc: Global, text: &[u8], tokens: &[Token]) -> Result<Statement
     };
     let left = reader.count();
     if left > 0 {
+        drop(found);
         return Err(stopped(Stop::Syntax, text, tokens, left));
     }
     match first_unfit(text, tokens) {
-        Some(fault) => Err(Fail::Refused(fault)),
+        Some(fault) => {
+            drop(found);
+            Err(Fail::Refused(fault))
+        }
         None => Ok(found),
     }
 }

@@ -3,13 +3,13 @@ ghost use Rattle.cqa_value.specs.Literals.{integer_of, are_digits, without_minus
 ghost use Rattle.spj_syntax.specs.Lexemes.{Word, Number, Mark};
 ghost use Rattle.spj_syntax.specs.Reading.{Reads};
 ghost use Rattle.spj_syntax.specs.Shapes.{◌⨾◌};
-ghost use Rattle.spj_syntax.specs.Written.{head_tokens, select_tokens, statement_tokens, listed_tokens, literal_tokens, name_tokens, IsName, IsNamed, IsProper};
+ghost use Rattle.spj_syntax.specs.Written.{head_tokens, select_tokens, verb_tokens, statement_tokens, listed_tokens, literal_tokens, name_tokens, row_tokens, IsName, IsNamed, IsProper};
 ghost use Rattle.spj_syntax.specs.Grammar as grammar;
 ghost use Rattle.spj_syntax.specs.Factored as factored;
 
 use crate::lists::{columns, filtered, listed, literals};
 use crate::reader::{Reader, Stop};
-use crate::{RawCol, RawSchema, Select, Statement};
+use crate::{RawCol, RawSchema, Select, Statement, Verb};
 use cqa_value::{Items, Name, Row};
 use script_lex::Symbol;
 use std::alloc::Global;
@@ -40,32 +40,6 @@ fn query(alloc: Global, reader: &mut Reader<'_>) -> Result<Select, Stop>
         tables,
         conds,
     })
-}
-
-/// `ask`, `possible`, `classify` or `plan`, and a query.
-fn asking(alloc: Global, reader: &mut Reader<'_>) -> Result<Statement, Stop>
-    ensures reads { Reads factored.asking_query statement_tokens result reader.old reader.new }
-    ensures proper { IfOk result (λ s. IsProper s) }
-    ensures named { IfOk result (λ s. IsNamed s) }
-{
-    if reader.sees_word(b"ask") {
-        reader.advance();
-        let asked = query(alloc, reader)?;
-        return Ok(Statement::Ask(asked));
-    }
-    if reader.sees_word(b"possible") {
-        reader.advance();
-        let possible = query(alloc, reader)?;
-        return Ok(Statement::Possible(possible));
-    }
-    if reader.sees_word(b"classify") {
-        reader.advance();
-        let classified = query(alloc, reader)?;
-        return Ok(Statement::Classify(classified));
-    }
-    reader.word(b"plan")?;
-    let planned = query(alloc, reader)?;
-    Ok(Statement::Plan(planned))
 }
 
 /// `primary key (NAME, ..)`.
@@ -136,20 +110,59 @@ fn optional_literals(alloc: Global, reader: &mut Reader<'_>) -> Result<Row, Stop
     Ok(Row::new(alloc))
 }
 
-/// `explain row (LITERAL, ..) for QUERY`; the row may be empty.
-fn explain(alloc: Global, reader: &mut Reader<'_>) -> Result<Statement, Stop>
-    ensures reads { Reads factored.explain statement_tokens result reader.old reader.new }
-    ensures proper { IfOk result (λ s. IsProper s) }
-    ensures named { IfOk result (λ s. IsNamed s) }
+/// `(LITERAL, ..)`; the row may be empty.
+fn any_row(alloc: Global, reader: &mut Reader<'_>) -> Result<Row, Stop>
+    ensures { Reads grammar.any_row row_tokens result reader.old reader.new }
 {
-    reader.word(b"explain")?;
-    reader.word(b"row")?;
     reader.mark(Symbol::Open)?;
     let row = optional_literals(alloc, reader)?;
     reader.mark(Symbol::Close)?;
+    Ok(row)
+}
+
+/// `explain row ROW for`.
+fn explain(alloc: Global, reader: &mut Reader<'_>) -> Result<Verb, Stop>
+    ensures { Reads grammar.explain verb_tokens result reader.old reader.new }
+{
+    reader.word(b"explain")?;
+    reader.word(b"row")?;
+    let row = any_row(alloc, reader)?;
     reader.word(b"for")?;
+    Ok(Verb::Explain { row })
+}
+
+/// `ask`, `possible`, `classify`, `plan`, or `explain row ROW for`.
+fn verb(alloc: Global, reader: &mut Reader<'_>) -> Result<Verb, Stop>
+    ensures { Reads grammar.verb verb_tokens result reader.old reader.new }
+{
+    if reader.sees_word(b"ask") {
+        reader.advance();
+        return Ok(Verb::Ask);
+    }
+    if reader.sees_word(b"possible") {
+        reader.advance();
+        return Ok(Verb::Possible);
+    }
+    if reader.sees_word(b"classify") {
+        reader.advance();
+        return Ok(Verb::Classify);
+    }
+    if reader.sees_word(b"plan") {
+        reader.advance();
+        return Ok(Verb::Plan);
+    }
+    explain(alloc, reader)
+}
+
+/// A verb and a query.
+fn asking(alloc: Global, reader: &mut Reader<'_>) -> Result<Statement, Stop>
+    ensures reads { Reads factored.asking statement_tokens result reader.old reader.new }
+    ensures proper { IfOk result (λ s. IsProper s) }
+    ensures named { IfOk result (λ s. IsNamed s) }
+{
+    let verb = verb(alloc, reader)?;
     let select = query(alloc, reader)?;
-    Ok(Statement::Explain { row, select })
+    Ok(Statement::Asking { verb, select })
 }
 
 /// `copy NAME`.
@@ -203,9 +216,6 @@ pub fn plain(alloc: Global, reader: &mut Reader<'_>) -> Result<Statement, Stop>
     }
     if reader.sees_word(b"delete") {
         return delete(alloc, reader);
-    }
-    if reader.sees_word(b"explain") {
-        return explain(alloc, reader);
     }
     if reader.sees_word(b"copy") {
         return copy(alloc, reader);

@@ -1,4 +1,4 @@
-use crate::{RawCol, RawCond, RawTest, Select, Statement, SyntaxFault, parse};
+use crate::{RawCol, RawCond, RawTest, Select, Statement, SyntaxFault, Verb, parse};
 use cqa_model::{Column, Op};
 use cqa_value::{Fail as CallFail, Kind, Name, NoMemory, literal_text, row_text};
 use script_lex::{LONGEST_TEXT, tokens};
@@ -82,8 +82,21 @@ fn add_conds(out: &mut Text, conds: &[RawCond]) -> Result<(), NoMemory> {
     Ok(())
 }
 
-fn add_select(out: &mut Text, word: &[u8], select: &Select) -> Result<(), NoMemory> {
-    add(out, word)?;
+fn add_verb(out: &mut Text, verb: &Verb) -> Result<(), NoMemory> {
+    match verb {
+        Verb::Ask => add(out, b"ask "),
+        Verb::Possible => add(out, b"possible "),
+        Verb::Classify => add(out, b"classify "),
+        Verb::Plan => add(out, b"plan "),
+        Verb::Explain { row } => {
+            add(out, b"explain row ")?;
+            row_text(row, out)?;
+            add(out, b" for ")
+        }
+    }
+}
+
+fn add_select(out: &mut Text, select: &Select) -> Result<(), NoMemory> {
     let columns = select.columns.as_slice();
     add(
         out,
@@ -129,14 +142,9 @@ fn add_statement(out: &mut Text, statement: &Statement) -> Result<(), NoMemory> 
             add(out, table.bytes())?;
             add_tests(out, tests.as_slice())
         }
-        Statement::Ask(select) => add_select(out, b"ask ", select),
-        Statement::Possible(select) => add_select(out, b"possible ", select),
-        Statement::Classify(select) => add_select(out, b"classify ", select),
-        Statement::Plan(select) => add_select(out, b"plan ", select),
-        Statement::Explain { row, select } => {
-            add(out, b"explain row ")?;
-            row_text(row, out)?;
-            add_select(out, b" for ", select)
+        Statement::Asking { verb, select } => {
+            add_verb(out, verb)?;
+            add_select(out, select)
         }
         Statement::SetConflicts(number) => {
             add(out, b"set conflicts ")?;

@@ -39,17 +39,23 @@ pub struct Select {
     pub conds: Items<RawCond>,
 }
 
+/// What is asked of a query: its certain rows, its possible rows, its class, its plan, or why a row isn't certain.
+#[derive(Drop)]
+pub enum Verb {
+    Ask,
+    Possible,
+    Classify,
+    Plan,
+    Explain { row: Row },
+}
+
 /// A statement of the script language.
 #[derive(Drop)]
 pub enum Statement {
     Create { schema: RawSchema },
     Insert { table: Name, rows: Items<Row> },
     Delete { table: Name, tests: Items<RawTest> },
-    Ask(Select),
-    Possible(Select),
-    Classify(Select),
-    Plan(Select),
-    Explain { row: Row, select: Select },
+    Asking { verb: Verb, select: Select },
     SetConflicts(u32),
     Copy { table: Name },
     Dump,
