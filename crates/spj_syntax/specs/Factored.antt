@@ -8,12 +8,19 @@ use Rattle.spj_syntax.specs.Grammar.{a_name, listed, filtered, literal, column, 
 abbrev pub columns : Shape
 columns = (column ⨾ one (mark Comma)) ⨾ many (column ⨾ one (mark Comma))
 
-abbrev pub create : Shape
-create = one (word (codes "create")) ⨾ one (word (codes "table")) ⨾ a_name ⨾ one (mark Open) ⨾ columns ⨾ key ⨾ one (mark Close)
+-- the columns and the key of a table
+abbrev pub body : Shape
+body = one (mark Open) ⨾ columns ⨾ key ⨾ one (mark Close)
 
--- After the column an = with a column or a literal, or another operator with a literal.
+abbrev pub create : Shape
+create = one (word (codes "create")) ⨾ one (word (codes "table")) ⨾ a_name ⨾ body
+
+-- an = with a column or a literal, or another operator with a literal
+abbrev pub side : Shape
+side = one (mark Eq) ⨾ (col ∣ literal) ∣ op_but_equal ⨾ literal
+
 abbrev pub cond : Shape
-cond = col ⨾ (one (mark Eq) ⨾ (col ∣ literal) ∣ op_but_equal ⨾ literal)
+cond = col ⨾ side
 
 abbrev pub query : Shape
 query = head ⨾ one (word (codes "from")) ⨾ listed a_name ⨾ filtered cond

@@ -1,7 +1,7 @@
 -- The grammar of statements.
 use Rattle.std.specs.Prelude.{codes}
 use Rattle.script_lex.specs.declared.kinds.Symbol.TheVariants.{Open, Close, Comma, Dot, Eq, Ne, Lt, Le, Gt, Ge}
-use Rattle.spj_syntax.specs.Shapes.{word, name, int, text, mark, Shape, one, ◌⨾◌, ◌∣◌, many, nothing}
+use Rattle.spj_syntax.specs.Shapes.{Terminal, word, name, int, text, mark, Shape, one, ◌⨾◌, ◌∣◌, many, nothing}
 
 abbrev pub a_name : Shape
 a_name = one name
@@ -10,13 +10,17 @@ a_name = one name
 abbrev pub optional : Shape → Shape
 optional p = p ∣ nothing
 
+-- one or more, with a token between them
+abbrev pub separated : Terminal → Shape → Shape
+separated x p = p ⨾ many (one x ⨾ p)
+
 -- one or more, with commas between them
 abbrev pub listed : Shape → Shape
-listed p = p ⨾ many (one (mark Comma) ⨾ p)
+listed p = separated (mark Comma) p
 
 -- one or more, with "and" between them
 abbrev pub anded : Shape → Shape
-anded p = p ⨾ many (one (word (codes "and")) ⨾ p)
+anded p = separated (word (codes "and")) p
 
 -- nothing, or "where" and what is to hold
 abbrev pub filtered : Shape → Shape

@@ -8,8 +8,6 @@ mod parser;
 mod parts;
 mod reader;
 mod statements;
-#[cfg(test)]
-mod tests;
 mod tree;
 
 pub use fault::SyntaxFault;

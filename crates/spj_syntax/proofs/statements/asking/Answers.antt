@@ -6,7 +6,7 @@ pub returns-in_err-verb-clause-reads : goal.returns-in_err-verb-clause-reads
 returns-in_err-verb-clause-reads c = exit _ _ c.from_residual.ensures.1 (fails_first c.in_err-verb.ensures)
 
 pub returns-in_err-select-clause-reads : goal.returns-in_err-select-clause-reads
-returns-in_err-select-clause-reads c = exit _ _ c.from_residual-in_err-select.ensures.1 (fails_then c.in_ok-verb.ensures c.in_err-select.ensures.reads)
+returns-in_err-select-clause-reads c = exit _ _ c.from_residual-in_err-select.ensures.1 (fails_then c.in_ok-verb.ensures c.in_err-select.ensures)
 
 pub returns-clause-reads : goal.returns-clause-reads
-returns-clause-reads c = took_both c.in_ok-verb.ensures c.in_ok-select.ensures.reads refl
+returns-clause-reads c = took_both c.in_ok-verb.ensures c.in_ok-select.ensures refl
