@@ -102,6 +102,11 @@ SoFar-bad text at place tokens kind n h f u =
 pub SoFar-none : (text : List ℕ) (at : ℕ) (tokens : List Token) → SoFar text at tokens → at < length text → Found (take (length text - at) (drop at text)) None → IsBadByte text at
 SoFar-none text at tokens h lt f = record { pieces = h.pieces; end = at; splits = h.splits; clean = h.clean; bad = inl (refl, lt, rw rest_of at f) }
 
+pub SoFar-whole : (text : List ℕ) (at : ℕ) (tokens : List Token) → SoFar text at tokens → length text ≤ at → Spells text tokens
+SoFar-whole text at tokens h le =
+    let e : at ≡ length text = omega (arith, h.within, le) in
+    record { pieces = h.pieces; splits = subst (λ z. Splits text 0 h.pieces z) e h.splits; clean = h.clean; tokens_are = h.tokens_are }
+
 symbol_same : (s r : Symbol) → symbol_bytes s ≡ symbol_bytes r → s ≡ r
 symbol_same Open Open e = refl
 symbol_same Close Close e = refl
@@ -242,13 +247,13 @@ only_tokens text (Err NoMemory) size h tokens le s = refl
 only_tokens text (Err (Refused (BadByte at))) size h tokens le s = absurd (spelled_not_bad s h)
 only_tokens text (Err (Refused (TooLong n))) size h tokens le s = absurd h
 
-fault_same : (text : List ℕ) (f g : LexFault) → IsFault text f → IsFault text g → f ≡ g
+pub fault_same : (text : List ℕ) (f g : LexFault) → IsFault text f → IsFault text g → f ≡ g
 fault_same text (TooLong m) (TooLong n) h k = ap TooLong (h.0 ∙ sym k.0)
 fault_same text (TooLong m) (BadByte at) h k = let lt = h.1 in let le = k.0 in absurd (omega arith)
 fault_same text (BadByte at) (TooLong n) h k = let lt = k.1 in let le = h.0 in absurd (omega arith)
 fault_same text (BadByte at) (BadByte to) h k = ap BadByte (bad_same h.1 k.1)
 
-spelled_no_fault : (text : List ℕ) (tokens : List Token) (f : LexFault) → length text ≤ longest_text → Spells text tokens → IsFault text f → ⊥
+pub spelled_no_fault : (text : List ℕ) (tokens : List Token) (f : LexFault) → length text ≤ longest_text → Spells text tokens → IsFault text f → ⊥
 spelled_no_fault text tokens (TooLong m) le s h = let lt = h.1 in absurd (omega arith)
 spelled_no_fault text tokens (BadByte at) le s h = spelled_not_bad s h.1
 

@@ -4,17 +4,41 @@ use Rattle.std.specs.List.{AllByRecursion}
 use Rattle.script_lex.specs.declared.bytes.Class.{Class}
 use Rattle.script_lex.specs.declared.bytes.Class.TheVariants.{Blank, LineBlank, Letter, Digit, WordByte, NotLineFeed}
 
+-- bytes that have a meaning outside words and numbers
+abbrev pub tab : ℕ
+tab = 9
+
+abbrev pub line_feed : ℕ
+line_feed = 10
+
+abbrev pub carriage_return : ℕ
+carriage_return = 13
+
+abbrev pub space : ℕ
+space = 32
+
+abbrev pub quote : ℕ
+quote = 39
+
+abbrev pub dash : ℕ
+dash = 45
+
+abbrev pub semicolon : ℕ
+semicolon = 59
+
 -- a space, a tab, a line feed or a carriage return
 abbrev pub is_blank : ℕ → Bool
-is_blank b = ((b == 32 || b == 9) || b == 10) || b == 13
+is_blank b = ((b == space || b == tab) || b == line_feed) || b == carriage_return
 
 -- a blank that ends no line
 abbrev pub is_line_blank : ℕ → Bool
-is_line_blank b = (b == 32 || b == 9) || b == 13
+is_line_blank b = (b == space || b == tab) || b == carriage_return
 
+-- A to Z, a to z, or _
 abbrev pub is_letter : ℕ → Bool
 is_letter b = ((nat_le 65 b && nat_le b 90) || (nat_le 97 b && nat_le b 122)) || b == 95
 
+-- 0 to 9
 abbrev pub is_digit : ℕ → Bool
 is_digit b = nat_le 48 b && nat_le b 57
 
@@ -22,7 +46,7 @@ abbrev pub is_word_byte : ℕ → Bool
 is_word_byte b = is_letter b || is_digit b
 
 abbrev pub is_not_line_feed : ℕ → Bool
-is_not_line_feed b = not (b == 10)
+is_not_line_feed b = not (b == line_feed)
 
 abbrev pub test_of : Class → ℕ → Bool
 test_of Blank b = is_blank b

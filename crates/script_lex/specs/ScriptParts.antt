@@ -6,6 +6,7 @@ use Rattle.script_lex.specs.declared.modes.Mode.TheVariants.{Outside}
 use Rattle.script_lex.specs.declared.modes.Region.{Region}
 use Rattle.script_lex.specs.declared.modes.Region.TheVariants as regions
 use Rattle.script_lex.specs.declared.modes.Stop.{Stop}
+use Rattle.script_lex.specs.Bytes.{semicolon}
 use Rattle.script_lex.specs.Scripts.{is_outside, Leads, is_gap_byte, is_text_byte, IsGap, BeginsOutright, Skips, IsBlock}
 
 -- the bytes of a region
@@ -31,7 +32,7 @@ pub record EndsAt (bytes : List ℕ) (at : ℕ) : Type 0 where
   pub ends : Mode
   pub leads : Leads is_text_byte Outside (take at bytes) ends
   pub closed : is_outside ends ≡ true
-  pub here : slice_index bytes at ≡ 59
+  pub here : slice_index bytes at ≡ semicolon
 
 -- no `;` stands outside texts and comments
 pub record HasNoEnd (bytes : List ℕ) : Type 0 where

@@ -7,14 +7,14 @@ use Rattle.script_lex.specs.declared.cutting.Cut.{Cut}
 use Rattle.script_lex.specs.declared.cutting.Cut.TheVariants as cuts
 use Rattle.script_lex.specs.declared.modes.Mode.{Mode}
 use Rattle.script_lex.specs.declared.modes.Mode.TheVariants.{Outside, Dash, Text, Comment}
-use Rattle.script_lex.specs.Bytes.{is_blank, is_line_blank, is_word_byte, is_not_line_feed, AllPass}
+use Rattle.script_lex.specs.Bytes.{line_feed, quote, dash, semicolon, is_blank, is_line_blank, is_word_byte, is_not_line_feed, AllPass}
 
 -- Where the byte after this one stands. A `'` outside begins a text and the next one ends it; two dashes outside begin a comment, which ends before a line feed.
 abbrev pub after : Mode → ℕ → Mode
-after Outside b = if b == 39 then Text else (if b == 45 then Dash else Outside)
-after Dash b = if b == 39 then Text else (if b == 45 then Comment else Outside)
-after Text b = if b == 39 then Outside else Text
-after Comment b = if b == 10 then Outside else Comment
+after Outside b = if b == quote then Text else (if b == dash then Dash else Outside)
+after Dash b = if b == quote then Text else (if b == dash then Comment else Outside)
+after Text b = if b == quote then Outside else Text
+after Comment b = if b == line_feed then Outside else Comment
 
 -- outside texts and comments
 abbrev pub is_outside : Mode → Bool
@@ -30,14 +30,14 @@ Leads passes from (b ∷ bytes) to = (passes from b ≡ true) × Leads passes (a
 
 -- a blank, or a byte of a comment
 abbrev pub is_gap_byte : Mode → ℕ → Bool
-is_gap_byte Outside b = is_blank b || b == 45
-is_gap_byte Dash b = b == 45
+is_gap_byte Outside b = is_blank b || b == dash
+is_gap_byte Dash b = b == dash
 is_gap_byte Text b = false
 is_gap_byte Comment b = true
 
 -- any byte but a `;` outside texts and comments
 abbrev pub is_text_byte : Mode → ℕ → Bool
-is_text_byte mode b = not (is_outside mode && b == 59)
+is_text_byte mode b = not (is_outside mode && b == semicolon)
 
 -- blanks, and comments with their line feeds
 pub record IsGap (bytes : List ℕ) : Type 0 where
@@ -53,7 +53,7 @@ pub record IsSpace (bytes : List ℕ) : Type 0 where
 abbrev pub BeginsOutright : List ℕ → Type 0
 BeginsOutright [] = Unit {0}
 BeginsOutright (a ∷ []) = is_blank a ≡ false
-BeginsOutright (a ∷ b ∷ _) = (is_blank a ≡ false) × (a ≡ 45 → b ≡ 45 → ⊥)
+BeginsOutright (a ∷ b ∷ _) = (is_blank a ≡ false) × (a ≡ dash → b ≡ dash → ⊥)
 
 -- the text of a statement: no `;` stands outside its texts and comments, all of which end in it
 pub record IsText (text : List ℕ) : Type 0 where
@@ -77,7 +77,7 @@ pub record IsCopy (text : List ℕ) : Type 0 where
 pub record IsLineEnd (bytes : List ℕ) : Type 0 where
   pub blanks : List ℕ
   pub each : AllPass is_line_blank blanks
-  pub is : bytes ≡ blanks ++ 10 ∷ []
+  pub is : bytes ≡ blanks ++ line_feed ∷ []
 
 -- What is skipped before a block: the rest of the line where that is blank, else nothing.
 pub record Skips (bytes skipped body : List ℕ) : Type 0 where
@@ -86,7 +86,7 @@ pub record Skips (bytes skipped body : List ℕ) : Type 0 where
 
 -- a backslash and a dot, and perhaps a carriage return
 abbrev pub IsEndingLine : List ℕ → Type 0
-IsEndingLine line = (line ≡ 92 ∷ 46 ∷ []) ⊎ (line ≡ 92 ∷ 46 ∷ 13 ∷ [])
+IsEndingLine line = (line ≡ codes "\\.") ⊎ (line ≡ codes "\\.\r")
 
 -- a line of a block
 pub record IsBlockLine (line : List ℕ) : Type 0 where
@@ -96,11 +96,11 @@ pub record IsBlockLine (line : List ℕ) : Type 0 where
 -- the lines, each with its line feed
 abbrev pub lines_text : List (List ℕ) → List ℕ
 lines_text [] = []
-lines_text (line ∷ lines) = line ++ 10 ∷ lines_text lines
+lines_text (line ∷ lines) = line ++ line_feed ∷ lines_text lines
 
 -- an ending line with its line feed, or where the input has ended at its end
 abbrev pub EndsBlock : Bool → List ℕ → List ℕ → Type 0
-EndsBlock ended bytes rest = (line : List ℕ) × IsEndingLine line × ((bytes ≡ line ++ 10 ∷ rest) ⊎ ((ended ≡ true) × (bytes ≡ line) × (rest ≡ [])))
+EndsBlock ended bytes rest = (line : List ℕ) × IsEndingLine line × ((bytes ≡ line ++ line_feed ∷ rest) ⊎ ((ended ≡ true) × (bytes ≡ line) × (rest ≡ [])))
 
 -- The bytes are a block, up to the first ending line, that line and a rest.
 pub record IsBlock (ended : Bool) (bytes block rest : List ℕ) : Type 0 where
@@ -121,7 +121,7 @@ pub record First (ended : Bool) (bytes gap text : List ℕ) (block : Option (Lis
   pub is_gap : IsGap gap
   pub is_text : IsText text
   pub more : List ℕ
-  pub whole : bytes ≡ gap ++ (text ++ 59 ∷ more)
+  pub whole : bytes ≡ gap ++ (text ++ semicolon ∷ more)
   pub follows : Follows ended text block more rest
 
 -- a statement's text, and its block if it has one

@@ -5,6 +5,7 @@ use Rattle.cqa_value.specs.declared.memory.Fail.TheVariants.{NoMemory, Refused}
 use Rattle.script_lex.specs.declared.kinds.LexFault.{LexFault}
 use Rattle.script_lex.specs.declared.kinds.LexFault.TheVariants.{TooLong, BadByte}
 use Rattle.script_lex.specs.declared.pieces.PieceKind.{PieceKind}
+use Rattle.script_lex.specs.Bytes.{quote}
 use Rattle.script_lex.specs.Tokens.{IsQuoted, IsLongest, NoPiece, IsBadByte}
 
 -- the bad byte
@@ -24,7 +25,7 @@ is_single b = ((b == 40 || b == 41) || (b == 44 || b == 46)) || b == 61
 
 -- whether a text is open behind one more byte, if the byte belongs to it
 abbrev pub step_of : Bool → ℕ → Option Bool
-step_of open_ b = if b == 39 then Some (not open_) else (if open_ then Some true else None)
+step_of open_ b = if b == quote then Some (not open_) else (if open_ then Some true else None)
 
 -- Of the bytes behind a quote the first so many end a text, and no more do; 0 if none do.
 pub record EndsQuoted (bytes : List ℕ) (n : ℕ) : Type 0 where

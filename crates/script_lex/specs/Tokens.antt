@@ -1,5 +1,5 @@
 -- How tokens spell a text.
-use Rattle.std.specs.Prelude.{◌≡◌, ◌⊎◌, ◌+◌, ◌-◌, ◌<◌, ◌≤◌, ℕ, true, List, [], ◌∷◌, ◌++◌, length, take, drop, slice_range, IsUtf8}
+use Rattle.std.specs.Prelude.{◌≡◌, ◌⊎◌, ◌+◌, ◌-◌, ◌<◌, ◌≤◌, ℕ, true, List, [], ◌∷◌, ◌++◌, length, take, drop, slice_range, codes, IsUtf8}
 use Rattle.std.specs.List.{AllByRecursion}
 use Rattle.std.specs.Str.{IsValidUpTo}
 use Rattle.cqa_value.specs.Literals.{doubled}
@@ -16,20 +16,20 @@ use Rattle.script_lex.specs.declared.kinds.LexFault.TheVariants.{TooLong, BadByt
 use Rattle.script_lex.specs.declared.pieces.PieceKind.{PieceKind}
 use Rattle.script_lex.specs.declared.pieces.PieceKind.TheVariants.{Blank, Comment, Token as OfToken}
 use Rattle.script_lex.specs.declared.pieces.Piece.{Piece}
-use Rattle.script_lex.specs.Bytes.{is_blank, is_letter, is_digit, is_word_byte, is_not_line_feed, AllPass}
+use Rattle.script_lex.specs.Bytes.{quote, dash, is_blank, is_letter, is_digit, is_word_byte, is_not_line_feed, AllPass}
 
 -- how each symbol is spelled
 abbrev pub symbol_bytes : Symbol → List ℕ
-symbol_bytes Open = 40 ∷ []
-symbol_bytes Close = 41 ∷ []
-symbol_bytes Comma = 44 ∷ []
-symbol_bytes Dot = 46 ∷ []
-symbol_bytes Eq = 61 ∷ []
-symbol_bytes Ne = 60 ∷ 62 ∷ []
-symbol_bytes Lt = 60 ∷ []
-symbol_bytes Le = 60 ∷ 61 ∷ []
-symbol_bytes Gt = 62 ∷ []
-symbol_bytes Ge = 62 ∷ 61 ∷ []
+symbol_bytes Open = codes "("
+symbol_bytes Close = codes ")"
+symbol_bytes Comma = codes ","
+symbol_bytes Dot = codes "."
+symbol_bytes Eq = codes "="
+symbol_bytes Ne = codes "<>"
+symbol_bytes Lt = codes "<"
+symbol_bytes Le = codes "<="
+symbol_bytes Gt = codes ">"
+symbol_bytes Ge = codes ">="
 
 -- one or more digits
 abbrev pub IsNumber : List ℕ → Type 0
@@ -38,16 +38,16 @@ IsNumber (b ∷ bs) = AllPass is_digit (b ∷ bs)
 
 -- what follows the first quote of a text: its value with each quote doubled, and a quote
 abbrev pub IsQuoted : List ℕ → Type 0
-IsQuoted bytes = (value : List ℕ) × (bytes ≡ doubled value ++ 39 ∷ [])
+IsQuoted bytes = (value : List ℕ) × (bytes ≡ doubled value ++ quote ∷ [])
 
 -- how each kind of token is spelled
 abbrev pub IsToken : TokenKind → List ℕ → Type 0
 IsToken Word [] = ⊥
 IsToken Word (b ∷ bs) = (is_letter b ≡ true) × AllPass is_word_byte bs
 IsToken Int [] = ⊥
-IsToken Int (b ∷ bs) = ((b ≡ 45) × IsNumber bs) ⊎ IsNumber (b ∷ bs)
+IsToken Int (b ∷ bs) = ((b ≡ dash) × IsNumber bs) ⊎ IsNumber (b ∷ bs)
 IsToken Text [] = ⊥
-IsToken Text (b ∷ bs) = (b ≡ 39) × IsQuoted bs
+IsToken Text (b ∷ bs) = (b ≡ quote) × IsQuoted bs
 IsToken (Sym s) bytes = bytes ≡ symbol_bytes s
 
 -- a token, a blank, or two dashes and bytes that end no line
@@ -56,7 +56,7 @@ IsPiece Blank [] = ⊥
 IsPiece Blank (b ∷ bs) = (is_blank b ≡ true) × (bs ≡ [])
 IsPiece Comment [] = ⊥
 IsPiece Comment (a ∷ []) = ⊥
-IsPiece Comment (a ∷ b ∷ bs) = (a ≡ 45) × (b ≡ 45) × AllPass is_not_line_feed bs
+IsPiece Comment (a ∷ b ∷ bs) = (a ≡ dash) × (b ≡ dash) × AllPass is_not_line_feed bs
 IsPiece (OfToken kind) bytes = IsToken kind bytes
 
 -- Of the fronts of these bytes that are some piece, the longest is this one, of n bytes.
@@ -139,7 +139,7 @@ pub record IsBadByte (text : List ℕ) (at : ℕ) : Type 0 where
 
 -- the most bytes of a statement's text
 abbrev pub longest_text : ℕ
-longest_text = 1048576
+longest_text = 1_048_576
 
 -- why a text has no tokens
 abbrev pub IsFault : List ℕ → LexFault → Type 0

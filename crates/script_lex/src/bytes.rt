@@ -1,3 +1,6 @@
+//! The sets of bytes that scripts are made of, and the runs of
+//! bytes of one set.
+
 ghost use Rattle.std.specs.Prelude.{◌≡◌};
 ghost use Rattle.script_lex.specs.Bytes.{test_of, Runs};
 

@@ -1,3 +1,5 @@
+//! What a cut of a script finds.
+
 use crate::Span;
 
 /// What stands first in a script, as [`cut`](crate::cut) finds it.

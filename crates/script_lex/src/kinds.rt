@@ -1,3 +1,6 @@
+//! Tokens, the symbols among them, and the faults of a text that
+//! has none.
+
 use thiserror::Error;
 
 /// A range of bytes of a text, from its first byte to the one after its last.
@@ -44,5 +47,5 @@ pub enum LexFault {
     #[error("the statement has {0} bytes, which are too many")]
     TooLong(usize),
     #[error("the byte at {0} begins no token")]
-    BadByte(usize),
+    BadByte(u32),
 }

@@ -1,3 +1,6 @@
+//! Laws of cuts: there is one, and what follows an input doesn't
+//! change it.
+
 ghost use Rattle.script_lex.specs.Scripts.{AtMostOneCut, CutsGoOn};
 
 /// At most one cut exists for an input and its end.

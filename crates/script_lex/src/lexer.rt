@@ -1,8 +1,12 @@
-ghost use Rattle.std.specs.Prelude.{◌≡◌, ◌≤◌, ◌<◌, ◌+◌, List, length, IsUtf8, All, IfOk, MatchOption, MatchResult, ◌⊎◌};
+//! From a statement's text to its tokens, or to the first byte that
+//! belongs to none.
+
+ghost use Rattle.std.specs.Prelude.{◌≡◌, ◌≤◌, ◌<◌, ◌+◌, ◌^◌, List, length, IsUtf8, All, IfOk, MatchOption, MatchResult, ◌⊎◌};
 ghost use Rattle.std.specs.Str.{IsValidUpTo};
 ghost use Rattle.cqa_value.specs.declared.memory.Fail.TheVariants.{NoMemory as FailNoMemory, Refused};
 ghost use Rattle.script_lex.specs.declared.kinds.Token.{Token};
 ghost use Rattle.script_lex.specs.declared.kinds.LexFault.{LexFault};
+ghost use Rattle.script_lex.specs.declared.kinds.LexFault.TheVariants.{BadByte};
 ghost use Rattle.script_lex.specs.TokenParts.{RefusesByte};
 ghost use Rattle.script_lex.specs.Tokens.{longest_text, Spells, LiesIn, IsSpelled, Rise, IsFault, Refuses, IsClean, IsUnclean};
 
@@ -25,7 +29,7 @@ fn utf8_fault(bytes: &[u8]) -> Option<usize>
 /// Where a text isn't UTF-8.
 fn unclean(text: &[u8], piece: Piece) -> Option<usize>
     requires { piece.kind ≡ PieceKind.Token TokenKind.Text → (piece.span.from + 2 ≤ piece.span.to) × (piece.span.to ≤ length text.now) }
-    ensures { MatchOption result (IsClean text.now piece) (IsUnclean text.now piece) }
+    ensures { MatchOption result (IsClean text.now piece) (λ at. IsUnclean text.now piece at × (at < length text.now)) }
 {
     let PieceKind::Token(TokenKind::Text) = piece.kind else {
         return None;
@@ -35,22 +39,31 @@ fn unclean(text: &[u8], piece: Piece) -> Option<usize>
     Some(piece.span.from + 1 + count)
 }
 
-/// The tokens of a text of any length.
-fn tokens_of_any(alloc: Global, text: &[u8]) -> Result<Items<Token>, Fail<LexFault>>
+/// The refusal of a byte that belongs to no token.
+fn bad_byte(at: usize) -> Fail<LexFault>
+    requires { at < 2 ^ 32 }
+    ensures { result ≡ Refused (BadByte at) }
+{
+    Fail::Refused(LexFault::BadByte(at as u32))
+}
+
+/// The tokens of a text that isn't too long.
+fn tokens_of_short(alloc: Global, text: &[u8]) -> Result<Items<Token>, Fail<LexFault>>
+    requires { length text.now ≤ longest_text }
     ensures { MatchResult result (Spells text.now) (RefusesByte text.now) }
 {
     let mut found = Items::new(alloc);
     let mut at = 0;
     'pieces: while at < text.len() {
         let Some((kind, count)) = first_piece(&text[at..]) else {
-            return Err(Fail::Refused(LexFault::BadByte(at)));
+            return Err(bad_byte(at));
         };
         let span = Span {
             from: at,
             to: at + count,
         };
         if let Some(place) = unclean(text, Piece { kind, span }) {
-            return Err(Fail::Refused(LexFault::BadByte(place)));
+            return Err(bad_byte(place));
         }
         if let PieceKind::Token(kind) = kind {
             found.push(Token { kind, span })?;
@@ -82,5 +95,5 @@ pub fn tokens(alloc: Global, text: &[u8]) -> Result<Items<Token>, Fail<LexFault>
     if text.len() > LONGEST_TEXT {
         return Err(Fail::Refused(LexFault::TooLong(text.len())));
     }
-    tokens_of_any(alloc, text)
+    tokens_of_short(alloc, text)
 }

@@ -10,8 +10,6 @@ mod lexer;
 mod modes;
 mod pieces;
 mod scan;
-#[cfg(test)]
-mod tests;
 
 pub use cutting::Cut;
 pub use kinds::{LexFault, Span, Symbol, Token, TokenKind};

@@ -1,3 +1,6 @@
+//! Texts and comments, where a `;` ends no statement: a walk that
+//! knows at each byte whether it stands in one.
+
 ghost use Rattle.std.specs.Prelude.{◌≡◌};
 ghost use Rattle.script_lex.specs.ScriptParts.{passes_in, Stands};
 ghost use Rattle.script_lex.specs.Scripts.{after};

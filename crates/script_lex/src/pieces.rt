@@ -1,3 +1,6 @@
+//! The longest piece that stands first in some bytes: a token, a
+//! blank or a comment.
+
 ghost use Rattle.std.specs.Prelude.{◌≡◌, ◌<◌, length, slice_index, MatchOption, false, true, [], ◌∷◌, ◌==◌, if◌then◌else◌};
 ghost use Rattle.script_lex.specs.TokenParts.{Found, EndsQuoted, is_single, step_of};
 ghost use Rattle.script_lex.specs.Tokens.{symbol_bytes};

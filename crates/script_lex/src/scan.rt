@@ -1,3 +1,5 @@
+//! From the bytes of a script to its first statement.
+
 ghost use Rattle.std.specs.Prelude.{◌≡◌, MatchOption};
 ghost use Rattle.script_lex.specs.declared.cutting.Cut.{Cut};
 ghost use Rattle.script_lex.specs.ScriptParts.{BeginsAt, EndsAt, HasNoEnd};

@@ -28,11 +28,24 @@ fit_there set text (t ∷ front) token rest a = fit_there set text front token r
 unfit_absurd : (set : Bool) (text : List ℕ) (tokens : List Token) (fault : SyntaxFault) → IsFirstUnfit set text tokens fault → AllByRecursion (Fits set) (lexemes text tokens) → ⊥
 unfit_absurd set text tokens fault f a = f.unfit (fit_there set text f.front f.token f.rest (subst (λ z. AllByRecursion (Fits set) (lexemes text z)) f.split a))
 
+-- why tokens are refused, with the two kinds of causes apart
+abbrev Cause : List ℕ → List Token → SyntaxFault → Type 0
+Cause text tokens fault = ((at : ℕ) × (fault ≡ At at) × IsSyntaxFault text tokens at) ⊎ (IsStatement (lexemes text tokens) × IsFirstUnfit (is_set (lexemes text tokens)) text tokens fault)
+
+cause : (text : List ℕ) (tokens : List Token) (fault : SyntaxFault) → Refuses text tokens fault → Cause text tokens fault
+cause text tokens (At at) h = inl (at, refl, h)
+cause text tokens (OutOfRange at) h = inr h
+cause text tokens (TextTooLong at) h = inr h
+cause text tokens (LongName at) h = inr h
+
+at_not : (text : List ℕ) (tokens : List Token) (at : ℕ) → IsSyntaxFault text tokens at → IsStatement (lexemes text tokens) → ⊥
+at_not text tokens at h s = fault_not (lexemes text tokens) (drop h.count (lexemes text tokens)) h.first s
+
 not_refused : (text : List ℕ) (tokens : List Token) (fault : SyntaxFault) → Refuses text tokens fault → IsStatement (lexemes text tokens) → AllFit (lexemes text tokens) → ⊥
-not_refused text tokens (At k) h s a = fault_not (lexemes text tokens) (drop h.count (lexemes text tokens)) h.first s
-not_refused text tokens (OutOfRange k) h s a = unfit_absurd (is_set (lexemes text tokens)) text tokens (OutOfRange k) h.1 a
-not_refused text tokens (TextTooLong k) h s a = unfit_absurd (is_set (lexemes text tokens)) text tokens (TextTooLong k) h.1 a
-not_refused text tokens (LongName k) h s a = unfit_absurd (is_set (lexemes text tokens)) text tokens (LongName k) h.1 a
+not_refused text tokens fault h s a = elim (cause text tokens fault h) [
+  | inl k ↦ at_not text tokens k.0 k.2 s
+  | inr k ↦ unfit_absurd (is_set (lexemes text tokens)) text tokens fault k.1 a
+]
 
 pub ok_statement : (text : List ℕ) (tokens : List Token) (r : Result Statement (Fail SyntaxFault)) → Parses text tokens r → OnOk r (IsStatement (lexemes text tokens))
 ok_statement text tokens (Ok v) h = h.0
@@ -58,7 +71,7 @@ statement_read text tokens (Err FailNoMemory) h s a = refl
 statement_read text tokens (Err (Refused fault)) h s a = absurd (not_refused text tokens fault h s a)
 
 pub only_statement : (text : List ℕ) (tokens : List Token) (r : Result Statement (Fail SyntaxFault)) → Parses text tokens r → (v : Statement) → IsWrittenAs v (lexemes text tokens) → IfOk r (λ u. u ≡ v)
-only_statement text tokens (Ok u) h v w = let k = h.2 in statement_same u v k.proper w.proper (sym k.tokens ∙ w.tokens)
+only_statement text tokens (Ok u) h v w = let k = h.2 in statement_same u v (sym k.tokens ∙ w.tokens)
 only_statement text tokens (Err e) h v w = tt
 
 -- There is one first fault.
@@ -127,22 +140,16 @@ unfit_same set text tokens a b f g = elim (compared f.front (f.token ∷ f.rest)
 ]
 
 fault_same : (text : List ℕ) (tokens : List Token) (a b : SyntaxFault) → Refuses text tokens a → Refuses text tokens b → a ≡ b
-fault_same text tokens (At j) (At k) f g = ap At (at_same text tokens j k f g)
-fault_same text tokens (At j) (OutOfRange k) f g = absurd (fault_not (lexemes text tokens) (drop f.count (lexemes text tokens)) f.first g.0)
-fault_same text tokens (At j) (TextTooLong k) f g = absurd (fault_not (lexemes text tokens) (drop f.count (lexemes text tokens)) f.first g.0)
-fault_same text tokens (At j) (LongName k) f g = absurd (fault_not (lexemes text tokens) (drop f.count (lexemes text tokens)) f.first g.0)
-fault_same text tokens (OutOfRange j) (At k) f g = absurd (fault_not (lexemes text tokens) (drop g.count (lexemes text tokens)) g.first f.0)
-fault_same text tokens (TextTooLong j) (At k) f g = absurd (fault_not (lexemes text tokens) (drop g.count (lexemes text tokens)) g.first f.0)
-fault_same text tokens (LongName j) (At k) f g = absurd (fault_not (lexemes text tokens) (drop g.count (lexemes text tokens)) g.first f.0)
-fault_same text tokens (OutOfRange j) (OutOfRange k) f g = unfit_same (is_set (lexemes text tokens)) text tokens (OutOfRange j) (OutOfRange k) f.1 g.1
-fault_same text tokens (OutOfRange j) (TextTooLong k) f g = unfit_same (is_set (lexemes text tokens)) text tokens (OutOfRange j) (TextTooLong k) f.1 g.1
-fault_same text tokens (OutOfRange j) (LongName k) f g = unfit_same (is_set (lexemes text tokens)) text tokens (OutOfRange j) (LongName k) f.1 g.1
-fault_same text tokens (TextTooLong j) (OutOfRange k) f g = unfit_same (is_set (lexemes text tokens)) text tokens (TextTooLong j) (OutOfRange k) f.1 g.1
-fault_same text tokens (TextTooLong j) (TextTooLong k) f g = unfit_same (is_set (lexemes text tokens)) text tokens (TextTooLong j) (TextTooLong k) f.1 g.1
-fault_same text tokens (TextTooLong j) (LongName k) f g = unfit_same (is_set (lexemes text tokens)) text tokens (TextTooLong j) (LongName k) f.1 g.1
-fault_same text tokens (LongName j) (OutOfRange k) f g = unfit_same (is_set (lexemes text tokens)) text tokens (LongName j) (OutOfRange k) f.1 g.1
-fault_same text tokens (LongName j) (TextTooLong k) f g = unfit_same (is_set (lexemes text tokens)) text tokens (LongName j) (TextTooLong k) f.1 g.1
-fault_same text tokens (LongName j) (LongName k) f g = unfit_same (is_set (lexemes text tokens)) text tokens (LongName j) (LongName k) f.1 g.1
+fault_same text tokens a b f g = elim (cause text tokens a f) [
+  | inl h ↦ elim (cause text tokens b g) [
+    | inl k ↦ h.1 ∙ ap At (at_same text tokens h.0 k.0 h.2 k.2) ∙ sym k.1
+    | inr k ↦ absurd (at_not text tokens h.0 h.2 k.0)
+  ]
+  | inr h ↦ elim (cause text tokens b g) [
+    | inl k ↦ absurd (at_not text tokens k.0 k.2 h.0)
+    | inr k ↦ unfit_same (is_set (lexemes text tokens)) text tokens a b h.1 k.1
+  ]
+]
 
 pub only_fault : (text : List ℕ) (tokens : List Token) (r : Result Statement (Fail SyntaxFault)) → Parses text tokens r → (fault : SyntaxFault) → Refuses text tokens fault
     → MatchResult r (λ _. ⊥) (λ e. (e ≡ Refused fault) ⊎ (e ≡ FailNoMemory))

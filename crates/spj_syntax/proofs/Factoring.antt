@@ -130,22 +130,19 @@ same_create =
     both (same (one (word (codes "create")))) (both (same (one (word (codes "table")))) (both (same grammar.a_name) (both (same (one (mark Open)))
     (trailing grammar.column (one (mark Comma)) (grammar.key ⨾ one (mark Close))))))
 
-same_explain : Same grammar.explain factored.explain
-same_explain =
-    both (same (one (word (codes "explain")))) (both (same (one (word (codes "row")))) (both (same (one (mark Open))) (both (same (grammar.optional (grammar.listed grammar.literal)))
-    (both (same (one (mark Close))) (both (same (one (word (codes "for")))) same_query)))))
-
-same_asking : Same (grammar.asking ⨾ grammar.query) factored.asking_query
-same_asking = both (same grammar.asking) same_query
+same_asking : Same grammar.asking factored.asking
+same_asking = both (same grammar.verb) same_query
 
 same_show : Same grammar.show factored.show
 same_show = drawn (one (word (codes "show"))) (one (word (codes "tables"))) (one (word (codes "log")))
 
-pub to_factored : (ls : List Lexeme) → Generates grammar.statement ls → Generates factored.statement ls
-to_factored ls g = elim g [ inl x ↦ inr (inl (same_create.to ls x)) | inr g1 ↦ elim g1 [ inl x ↦ inr (inr (inl x)) | inr g2 ↦ elim g2 [ inl x ↦ inr (inr (inr (inl x))) | inr g3 ↦ elim g3 [ inl x ↦ inr (inr (inr (inr (inl (same_explain.to ls x))))) | inr g4 ↦ elim g4 [ inl x ↦ inr (inr (inr (inr (inr (inl x))))) | inr g5 ↦ elim g5 [ inl x ↦ inl x | inr g6 ↦ elim g6 [ inl x ↦ inr (inr (inr (inr (inr (inr (inr (inr ((same_asking.to ls x))))))))) | inr g7 ↦ elim g7 [ inl x ↦ inr (inr (inr (inr (inr (inr (inl x)))))) | inr g8 ↦ inr (inr (inr (inr (inr (inr (inr (inl (same_show.to ls g8)))))))) ] ] ] ] ] ] ] ]
+same_statement : Same grammar.statement factored.statement
+same_statement =
+    either (same grammar.set) (either same_create (either (same grammar.insert) (either (same grammar.delete) (either (same grammar.copy)
+    (either (same (one (word (codes "dump")))) (either same_show same_asking))))))
 
 pub from_factored : (ls : List Lexeme) → Generates factored.statement ls → Generates grammar.statement ls
-from_factored ls g = elim g [ inl x ↦ inr (inr (inr (inr (inr (inl x))))) | inr g1 ↦ elim g1 [ inl x ↦ inl (same_create.from ls x) | inr g2 ↦ elim g2 [ inl x ↦ inr (inl x) | inr g3 ↦ elim g3 [ inl x ↦ inr (inr (inl x)) | inr g4 ↦ elim g4 [ inl x ↦ inr (inr (inr (inl (same_explain.from ls x)))) | inr g5 ↦ elim g5 [ inl x ↦ inr (inr (inr (inr (inl x)))) | inr g6 ↦ elim g6 [ inl x ↦ inr (inr (inr (inr (inr (inr (inr (inl x))))))) | inr g7 ↦ elim g7 [ inl x ↦ inr (inr (inr (inr (inr (inr (inr (inr ((same_show.from ls x))))))))) | inr g8 ↦ inr (inr (inr (inr (inr (inr (inl (same_asking.from ls g8))))))) ] ] ] ] ] ] ] ]
+from_factored ls g = same_statement.from ls g
 
 pub same_fault : (ls rest : List Lexeme) → FirstFault factored.statement ls rest → FirstFault grammar.statement ls rest
 same_fault ls rest f = record {
@@ -156,5 +153,5 @@ same_fault ls rest f = record {
 }
   where
     go : (front rest : List Lexeme) → Stuck factored.statement front rest → Stuck grammar.statement front rest
-    go front [] n = λ g. n (to_factored front g)
-    go front (t ∷ rest) n = λ b. n (b.0, to_factored ((front ++ t ∷ []) ++ b.0) b.1)
+    go front [] n = λ g. n (same_statement.to front g)
+    go front (t ∷ rest) n = λ b. n (b.0, same_statement.to ((front ++ t ∷ []) ++ b.0) b.1)

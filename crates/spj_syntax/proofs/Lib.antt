@@ -8,4 +8,3 @@ pub mod Trees
 pub mod Spelled
 pub mod Whole
 pub mod Answered
-pub mod Sizes

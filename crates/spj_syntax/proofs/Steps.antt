@@ -12,10 +12,9 @@ use Rattle.cqa_value.specs.Literals.{is_in_range}
 use Rattle.spj_syntax.specs.Grammar.{literal}
 use Rattle.cqa_value.specs.declared.value.Value.{Value}
 use Rattle.cqa_value.specs.declared.value.Value.TheVariants.{Int, Text}
-use Rattle.spj_syntax.specs.Written.{literal_tokens, each_after, between, filtered_tokens, anded_tokens, head_tokens, col_tokens, listed_tokens, name_tokens, column_tokens, statement_tokens, select_tokens}
-use Rattle.spj_syntax.specs.declared.tree.Select.{Select}
+use Rattle.spj_syntax.specs.Written.{literal_tokens, each_after, between, filtered_tokens, anded_tokens, head_tokens, col_tokens, listed_tokens, name_tokens, column_tokens, statement_tokens}
 use Rattle.cqa_model.specs.declared.schema.Column.{Column}
-use Rattle.spj_syntax.specs.declared.tree.Statement.TheVariants.{Create, Explain}
+use Rattle.spj_syntax.specs.declared.tree.Statement.TheVariants.{Create}
 use Rattle.spj_syntax.specs.declared.tree.RawCol.{RawCol}
 use Rattle.std.proofs.Common.{codes}
 use Rattle.std.proofs.Common.{◌<◌}
@@ -26,7 +25,9 @@ use Rattle.std.proofs.Common.{Result, Ok, Err}
 use Rattle.std.proofs.lemmas.Result.{err_from_is_err_and}
 use Rattle.spj_syntax.specs.declared.reader.Stop.{Stop}
 use Rattle.spj_syntax.specs.declared.reader.Stop.TheVariants.{NoMemory, Syntax}
-use Rattle.spj_syntax.specs.Reading.{Takes, Took, StopsAt, Failed, Reads, front_of, each_before}
+use Rattle.spj_syntax.specs.declared.lists.Between.{Between}
+use Rattle.spj_syntax.specs.declared.lists.Between.TheVariants as betweens
+use Rattle.spj_syntax.specs.Reading.{separator, separator_lexeme, Takes, Took, StopsAt, Failed, Reads, front_of, each_before, key_tokens, body_tokens}
 use Rattle.spj_syntax.specs.Parsed.{Fits}
 use Rattle.spj_syntax.proofs.Walking.{read-both, one_past, one_stopped, one_end, both_past, both_stopped, first_stopped, left_read, right_read, either_end, nothing_read, many_end, many_done, many_more, end_read, read_shorter, read_shrinks}
 
@@ -230,6 +231,10 @@ word_took {w = w} {s = s} h e = rw e (word_taken w s (sym h.is))
 pub mark_took : {y : Symbol} {s z : List Lexeme} → Opens true (one (mark y)) s → z ≡ drop 1 s → Took (one (mark y)) (Mark y ∷ []) s z
 mark_took {y = y} {s = s} h e = rw e (mark_taken y s (sym h.is))
 
+pub separator_took : (b : Between) {s z : List Lexeme} → Opens true (one (separator b)) s → z ≡ drop 1 s → Took (one (separator b)) (separator_lexeme b ∷ []) s z
+separator_took betweens.Comma o e = mark_took o e
+separator_took betweens.And o e = word_took o e
+
 -- the shape stops where it doesn't open
 pub one_fails : {x : Terminal} {s : List Lexeme} → Opens false (one x) s → Failed (one x) Syntax s s
 one_fails {x = x} {s = s} h = record { way = one_left x s (sym h.is) }
@@ -354,22 +359,13 @@ pub each_before-push : {A : Type 0} (l : Lexeme) (f : A → List Lexeme) (xs : L
 each_before-push l f [] x = append-nil (f x ++ l ∷ [])
 each_before-push l f (y ∷ xs) x = ap (λ z. (f y ++ l ∷ []) ++ z) (each_before-push l f xs x) ∙ sym (append_assoc (f y ++ l ∷ []) (each_before l f xs) (f x ++ l ∷ []))
 
-abbrev pub key_tokens : List (List ℕ) → List Lexeme
-key_tokens names = Word (codes "primary") ∷ Word (codes "key") ∷ Mark Open ∷ (listed_tokens name_tokens names ++ Mark Close ∷ [])
-
-pub created : {p : Shape} {s z : List Lexeme} (n : List ℕ) (cs : List Column) (k : List (List ℕ)) → 0 < length cs
-    → Took p (Word (codes "create") ∷ Word (codes "table") ∷ (name_tokens n ++ (Mark Open ∷ (each_before (Mark Comma) column_tokens cs ++ (key_tokens k ++ Mark Close ∷ []))))) s z
-    → Took p (statement_tokens (Create (record { name = n; columns = cs; key = k }))) s z
-created {p = p} {s = s} {z = z} n cs k h t =
+pub created : {p : Shape} {s z : List Lexeme} (n : List ℕ) (cs : List Column) (k : List (List ℕ)) (some_column : 1 ≤ length cs) (some_key : 1 ≤ length k)
+    → Took p (Word (codes "create") ∷ Word (codes "table") ∷ (name_tokens n ++ body_tokens (cs, k))) s z
+    → Took p (statement_tokens (Create (record { name = n; columns = cs; key = k; some_column = some_column; some_key = some_key }))) s z
+created {p = p} {s = s} {z = z} n cs k some_column some_key t =
     subst (λ w. Took p (Word (codes "create") ∷ Word (codes "table") ∷ Word n ∷ Mark Open ∷ w) s z)
-    (each_before-is (Mark Comma) column_tokens cs (key_tokens k ++ Mark Close ∷ []) h
+    (each_before-is (Mark Comma) column_tokens cs (key_tokens k ++ Mark Close ∷ []) some_column
     ∙ ap (λ w. between (Mark Comma) column_tokens cs ++ (Mark Comma ∷ Word (codes "primary") ∷ Word (codes "key") ∷ Mark Open ∷ w)) (append_assoc (listed_tokens name_tokens k) (Mark Close ∷ []) (Mark Close ∷ []))) t
-
-pub explained : {p : Shape} {s z : List Lexeme} (row : List Value) (q : Select)
-    → Took p (Word (codes "explain") ∷ Word (codes "row") ∷ Mark Open ∷ (listed_tokens literal_tokens row ++ (Mark Close ∷ Word (codes "for") ∷ select_tokens q))) s z
-    → Took p (statement_tokens (Explain row q)) s z
-explained {p = p} {s = s} {z = z} row q t =
-    subst (λ w. Took p (Word (codes "explain") ∷ Word (codes "row") ∷ Mark Open ∷ w) s z) (sym (append_assoc (listed_tokens literal_tokens row) (Mark Close ∷ []) (Word (codes "for") ∷ select_tokens q))) t
 
 -- what a part returns, the whole returns
 pub reads_left : {A : Type 0} {p : Shape} {s : List Lexeme} (q : Shape) (w : A → List Lexeme) (r : Result A Stop) (z : List Lexeme) → Opens true p s → Reads p w r s z → Reads (p ∣ q) w r s z

@@ -1,6 +1,10 @@
 -- Tokens are written by one tree at most.
 use Rattle.std.proofs.Common.{◌≡◌, ◌⊎◌, inl, inr, ℕ, List, [], ◌∷◌, ◌++◌, Option, Some, None, refl, sym, ◌∙◌, ap, append_assoc, codes, length, ◌<◌, get_or, arith}
-use Rattle.std.proofs.Common.{◌+◌, ◌*◌}
+use Rattle.std.proofs.Common.{◌≤◌, ◌+◌, ◌*◌, Bool, true, false, nat_eq}
+use Rattle.std.specs.List.{list_any}
+use Rattle.std.specs.Coded.{le_prop}
+use mathlib.Core.HLevel.{is_prop→PathP}
+use Rattle.spj_syntax.specs.Limits.{most_items}
 use Rattle.script_lex.specs.declared.kinds.Symbol.{Symbol}
 use Rattle.script_lex.specs.declared.kinds.Symbol.TheVariants as s
 use Rattle.cqa_value.specs.declared.value.Kind.{Kind}
@@ -17,8 +21,10 @@ use Rattle.spj_syntax.specs.declared.tree.RawCol.{RawCol}
 use Rattle.spj_syntax.specs.declared.tree.RawCond.{RawCond}
 use Rattle.spj_syntax.specs.declared.tree.RawCond.TheVariants.{Join, Test}
 use Rattle.spj_syntax.specs.Lexemes.{Lexeme, Word, Number, Quoted, Mark}
-use Rattle.spj_syntax.specs.Written.{name_tokens, literal_tokens, column_tokens, listed_tokens, row_tokens, schema_tokens, op_symbol, test_tokens, col_tokens_of, col_tokens, cond_tokens, each_after, between, filtered_tokens, head_tokens, select_tokens, statement_tokens, IsProper}
+use Rattle.spj_syntax.specs.Written.{name_tokens, literal_tokens, column_tokens, listed_tokens, row_tokens, schema_tokens, op_symbol, test_tokens, col_tokens_of, col_tokens, cond_tokens, each_after, between, filtered_tokens, head_tokens, select_tokens, verb_tokens, statement_tokens}
 use Rattle.spj_syntax.specs.declared.tree.Select.{Select}
+use Rattle.spj_syntax.specs.declared.tree.Verb.{Verb}
+use Rattle.spj_syntax.specs.declared.tree.Verb.TheVariants as verbs
 use Rattle.spj_syntax.specs.declared.tree.Statement.{Statement}
 use Rattle.spj_syntax.specs.declared.tree.Statement.TheVariants as statements
 
@@ -196,14 +202,20 @@ head_decodes (c ∷ cs) (d ∷ ds) r z e =
     let i = between_decodes (Mark s.Comma) IsDot col_tokens (λ x. not_dot s.Comma (λ y. (cc)) x) cols_decode (c ∷ cs) (d ∷ ds) _ _ (omega arith) (omega arith) (fine_from r) (fine_from z) g in
     (i.0, (cc (i.1)))
 
-select_same : (p q : Select) → 0 < length p.tables → 0 < length q.tables → select_tokens p ≡ select_tokens q → p ≡ q
-select_same p q h k e =
+select_same : (p q : Select) → select_tokens p ≡ select_tokens q → p ≡ q
+select_same p q e =
     let a = head_decodes p.columns q.columns _ _ e in
-    let b = between_decodes (Mark s.Comma) Never name_tokens (λ x. x) (λ x y r z f g e. name_decodes x y r z e) p.tables q.tables _ _ h k (fine_filtered cond_tokens p.conds) (fine_filtered cond_tokens q.conds) a.1 in
+    let b = between_decodes (Mark s.Comma) Never name_tokens (λ x. x) (λ x y r z f g e. name_decodes x y r z e) p.tables q.tables _ _ p.some_table q.some_table (fine_filtered cond_tokens p.conds) (fine_filtered cond_tokens q.conds) a.1 in
     let c = filtered_decodes IsDot cond_tokens (λ x. absurd (cc)) cond_decodes p.conds q.conds b.1 in
     let x = a.0 in
     let y = b.0 in
-    λ i. record { columns = x i; tables = y i; conds = c i }
+    λ i. record {
+      columns = x i;
+      tables = y i;
+      conds = c i;
+      some_table = is_prop→PathP (λ j. 1 ≤ length (y j)) (λ j. le_prop) p.some_table q.some_table i;
+      few = is_prop→PathP (λ j. length (c j) ≤ most_items) (λ j. le_prop) p.few q.few i;
+    }
 
 -- what a list of literals goes on with, where a `)` ends it
 literals_decode : (xs ys : List Value) (r z : List Lexeme) → listed_tokens literal_tokens xs ++ Mark s.Close ∷ r ≡ listed_tokens literal_tokens ys ++ Mark s.Close ∷ z → (xs ≡ ys) × (r ≡ z)
@@ -264,19 +276,28 @@ all_columns_decode (x ∷ xs) (y ∷ ys) r z p q e =
 abbrev key_rest : List (List ℕ) → List Lexeme
 key_rest names = Mark s.Open ∷ (listed_tokens name_tokens names ++ (Mark s.Close ∷ Mark s.Close ∷ []))
 
-schema_same : (a b : RawSchema) → 0 < length a.columns → 0 < length a.key → 0 < length b.columns → 0 < length b.key → schema_tokens a ≡ schema_tokens b → a ≡ b
-schema_same a b p q h k e =
+schema_same : (a b : RawSchema) → schema_tokens a ≡ schema_tokens b → a ≡ b
+schema_same a b e =
     let n : a.name ≡ b.name = cc in
     let c : listed_tokens column_tokens a.columns ++ Key (key_rest a.key) ≡ listed_tokens column_tokens b.columns ++ Key (key_rest b.key) = cc in
-    let i = all_columns_decode a.columns b.columns (key_rest a.key) (key_rest b.key) p h c in
+    let i = all_columns_decode a.columns b.columns (key_rest a.key) (key_rest b.key) a.some_column b.some_column c in
     let d : listed_tokens name_tokens a.key ++ (Mark s.Close ∷ Mark s.Close ∷ []) ≡ listed_tokens name_tokens b.key ++ (Mark s.Close ∷ Mark s.Close ∷ []) = cc (i.1) in
-    let j = between_decodes (Mark s.Comma) Never name_tokens (λ x. x) (λ x y u v f g d. name_decodes x y u v d) a.key b.key _ _ q k (fine_close (Mark s.Close ∷ [])) (fine_close (Mark s.Close ∷ [])) d in
+    let j = between_decodes (Mark s.Comma) Never name_tokens (λ x. x) (λ x y u v f g d. name_decodes x y u v d) a.key b.key _ _ a.some_key b.some_key (fine_close (Mark s.Close ∷ [])) (fine_close (Mark s.Close ∷ [])) d in
     let x = i.0 in
     let y = j.0 in
-    λ i. record { name = n i; columns = x i; key = y i }
+    λ i. record {
+      name = n i;
+      columns = x i;
+      key = y i;
+      some_column = is_prop→PathP (λ j. 1 ≤ length (x j)) (λ j. le_prop) a.some_column b.some_column i;
+      some_key = is_prop→PathP (λ j. 1 ≤ length (y j)) (λ j. le_prop) a.some_key b.some_key i;
+    }
 
-rows_same : (xs ys : List (List Value)) → 0 < length xs → 0 < length ys → listed_tokens row_tokens xs ≡ listed_tokens row_tokens ys → xs ≡ ys
-rows_same xs ys p q e = (between_decodes (Mark s.Comma) Never row_tokens (λ x. x) (λ a b u v f g h. row_decodes a b u v h) xs ys [] [] p q tt tt (ap (λ w. w ++ []) e)).0
+rows_same : (xs ys : List (List Value)) → listed_tokens row_tokens xs ≡ listed_tokens row_tokens ys → xs ≡ ys
+rows_same [] [] e = refl
+rows_same [] (y ∷ ys) e = absurd (cc)
+rows_same (x ∷ xs) [] e = absurd (cc)
+rows_same (x ∷ xs) (y ∷ ys) e = (between_decodes (Mark s.Comma) Never row_tokens (λ x. x) (λ a b u v f g h. row_decodes a b u v h) (x ∷ xs) (y ∷ ys) [] [] (omega arith) (omega arith) tt tt (ap (λ w. w ++ []) e)).0
 
 -- the first two bytes of the first word, in one number
 mark_of : List Lexeme → ℕ
@@ -290,36 +311,63 @@ second_mark : List Lexeme → ℕ
 second_mark [] = 0
 second_mark (l ∷ ls) = mark_of ls
 
+-- the verbs differ in them
+verb_decodes : (a b : Verb) (r z : List Lexeme) → verb_tokens a ++ r ≡ verb_tokens b ++ z → (a ≡ b) × (r ≡ z)
+unfolding mark_of
+verb_decodes verbs.Ask verbs.Ask r z e = (refl, (cc))
+verb_decodes verbs.Possible verbs.Possible r z e = (refl, (cc))
+verb_decodes verbs.Classify verbs.Classify r z e = (refl, (cc))
+verb_decodes verbs.Plan verbs.Plan r z e = (refl, (cc))
+verb_decodes (verbs.Explain a) (verbs.Explain b) r z e =
+    let g : (row_tokens a ++ Word (codes "for") ∷ []) ++ r ≡ (row_tokens b ++ Word (codes "for") ∷ []) ++ z = cc in
+    let i = row_decodes a b (Word (codes "for") ∷ r) (Word (codes "for") ∷ z) (sym (append_assoc (row_tokens a) (Word (codes "for") ∷ []) r) ∙ g ∙ append_assoc (row_tokens b) (Word (codes "for") ∷ []) z) in
+    (ap verbs.Explain i.0, (cc (i.1)))
+verb_decodes _ _ r z e = absurd (omega (arith, ap mark_of e))
+
+verb_marks : List ℕ
+verb_marks = mark_of (verb_tokens verbs.Ask) ∷ mark_of (verb_tokens verbs.Possible) ∷ mark_of (verb_tokens verbs.Classify) ∷ mark_of (verb_tokens verbs.Plan) ∷ mark_of (verb_tokens (verbs.Explain [])) ∷ []
+
+is_verb : List Lexeme → Bool
+is_verb ls = list_any (λ m. nat_eq m (mark_of ls)) verb_marks
+
+opens_verb : (v : Verb) (r : List Lexeme) → is_verb (verb_tokens v ++ r) ≡ true
+unfolding is_verb verb_marks mark_of
+opens_verb verbs.Ask r = refl
+opens_verb verbs.Possible r = refl
+opens_verb verbs.Classify r = refl
+opens_verb verbs.Plan r = refl
+opens_verb (verbs.Explain row) r = refl
+
+-- what is told apart from each verb begins with none
+no_verb : (v : Verb) (r ls : List Lexeme) → verb_tokens v ++ r ≡ ls → is_verb ls ≡ false → ⊥
+no_verb v r ls e n = let h : true ≡ false = sym (opens_verb v r) ∙ ap is_verb e ∙ n in absurd (cc)
+
 -- no tokens are written by two statements
-pub statement_same : (a b : Statement) → IsProper a → IsProper b → statement_tokens a ≡ statement_tokens b → a ≡ b
-unfolding mark_of second_mark
-statement_same (statements.Create c) (statements.Create d) p q e = ap statements.Create (schema_same c d p.0 p.1 q.0 q.1 (cc))
-statement_same (statements.Insert t xs) (statements.Insert u ys) p q e =
+pub statement_same : (a b : Statement) → statement_tokens a ≡ statement_tokens b → a ≡ b
+unfolding mark_of second_mark is_verb verb_marks
+statement_same (statements.Create c) (statements.Create d) e = ap statements.Create (schema_same c d (cc))
+statement_same (statements.Insert t xs) (statements.Insert u ys) e =
     let h : t ≡ u = cc in
     let g : listed_tokens row_tokens xs ≡ listed_tokens row_tokens ys = cc in
-    let c = rows_same xs ys p.0 q.0 g in
+    let c = rows_same xs ys g in
     λ i. statements.Insert (h i) (c i)
-statement_same (statements.Delete t xs) (statements.Delete u ys) p q e =
+statement_same (statements.Delete t xs) (statements.Delete u ys) e =
     let h : t ≡ u = cc in
     let g : filtered_tokens test_tokens xs ≡ filtered_tokens test_tokens ys = cc in
     let c = filtered_decodes Never test_tokens (λ x. x) (λ x y r z f g e. test_decodes x y r z e) xs ys g in
     λ i. statements.Delete (h i) (c i)
-statement_same (statements.Ask c) (statements.Ask d) p q e = let g : select_tokens c ≡ select_tokens d = cc in ap statements.Ask (select_same c d p q g)
-statement_same (statements.Possible c) (statements.Possible d) p q e = let g : select_tokens c ≡ select_tokens d = cc in ap statements.Possible (select_same c d p q g)
-statement_same (statements.Classify c) (statements.Classify d) p q e = let g : select_tokens c ≡ select_tokens d = cc in ap statements.Classify (select_same c d p q g)
-statement_same (statements.Plan c) (statements.Plan d) p q e = let g : select_tokens c ≡ select_tokens d = cc in ap statements.Plan (select_same c d p q g)
-statement_same (statements.Explain r c) (statements.Explain t d) p q e =
-    let h : row_tokens r ++ (Word (codes "for") ∷ select_tokens c) ≡ row_tokens t ++ (Word (codes "for") ∷ select_tokens d) = cc in
-    let i = row_decodes r t (Word (codes "for") ∷ select_tokens c) (Word (codes "for") ∷ select_tokens d) h in
-    let g : select_tokens c ≡ select_tokens d = cc (i.1) in
-    let j = select_same c d p q g in
-    let k = i.0 in
-    λ l. statements.Explain (k l) (j l)
-statement_same (statements.SetConflicts n) (statements.SetConflicts m) p q e = ap statements.SetConflicts (cc)
-statement_same (statements.Copy t) (statements.Copy u) p q e = ap statements.Copy (cc)
-statement_same statements.Dump statements.Dump p q e = refl
-statement_same statements.ShowTables statements.ShowTables p q e = refl
-statement_same statements.ShowLog statements.ShowLog p q e = refl
-statement_same statements.ShowTables statements.ShowLog p q e = absurd (omega (arith, ap second_mark e))
-statement_same statements.ShowLog statements.ShowTables p q e = absurd (omega (arith, ap second_mark e))
-statement_same _ _ p q e = absurd (omega (arith, ap mark_of e))
+statement_same (statements.Asking v c) (statements.Asking w d) e =
+    let i = verb_decodes v w (select_tokens c) (select_tokens d) e in
+    let g = select_same c d i.1 in
+    let h = i.0 in
+    λ l. statements.Asking (h l) (g l)
+statement_same (statements.SetConflicts n) (statements.SetConflicts m) e = ap statements.SetConflicts (cc)
+statement_same (statements.Copy t) (statements.Copy u) e = ap statements.Copy (cc)
+statement_same statements.Dump statements.Dump e = refl
+statement_same statements.ShowTables statements.ShowTables e = refl
+statement_same statements.ShowLog statements.ShowLog e = refl
+statement_same statements.ShowTables statements.ShowLog e = absurd (omega (arith, ap second_mark e))
+statement_same statements.ShowLog statements.ShowTables e = absurd (omega (arith, ap second_mark e))
+statement_same (statements.Asking v c) _ e = absurd (no_verb v (select_tokens c) _ e refl)
+statement_same _ (statements.Asking w d) e = absurd (no_verb w (select_tokens d) _ (sym e) refl)
+statement_same _ _ e = absurd (omega (arith, ap mark_of e))

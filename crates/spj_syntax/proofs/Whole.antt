@@ -19,7 +19,7 @@ use Rattle.spj_syntax.specs.Factored.{statement, plain}
 use Rattle.spj_syntax.specs.Walk.{Past, read, Opens, opens, has, only_if}
 use Rattle.spj_syntax.specs.Parsed.{IsStatement, IsSyntaxFault, IsInRange, Fits, AllFit, IsFirstUnfit, Refuses, fault_of, is_set, lexemes, place_of}
 use Rattle.spj_syntax.specs.Reading.{PlainFit, Took, Failed, IsUnfit, Parses, failure_of}
-use Rattle.spj_syntax.specs.Written.{statement_tokens, IsProper}
+use Rattle.spj_syntax.specs.Written.{statement_tokens}
 use Rattle.spj_syntax.proofs.Steps.{opens_then, took_left, took_right, fails_left, fails_right}
 use Rattle.spj_syntax.proofs.Exact.{whole, too_many, stopped}
 use Rattle.spj_syntax.proofs.Factoring.{from_factored, same_fault}
@@ -114,8 +114,8 @@ pub all_fit : {set : Bool} (ls : List Lexeme) → is_set ls ≡ set → AllByRec
 all_fit ls e a = subst (λ b. AllByRecursion (Fits b) ls) (sym e) a
 
 pub accepted : (text : List ℕ) (tokens : List Token) (v : Statement) → is_set (lexemes text tokens) ≡ false → PlainFit (lexemes text tokens)
-    → IsStatement (lexemes text tokens) × (PlainFit (lexemes text tokens) → lexemes text tokens ≡ statement_tokens v) → IsProper v → Parses text tokens (Ok v)
-accepted text tokens v e a h p = (h.0, all_fit (lexemes text tokens) e a, record { proper = p; tokens = h.1 a })
+    → IsStatement (lexemes text tokens) × (PlainFit (lexemes text tokens) → lexemes text tokens ≡ statement_tokens v) → Parses text tokens (Ok v)
+accepted text tokens v e a h = (h.0, all_fit (lexemes text tokens) e a, record { tokens = h.1 a })
 
 split_at : (tokens : List Token) (i : ℕ) (d : Token) → i < length tokens → tokens ≡ take i tokens ++ get_or tokens i d ∷ drop (suc i) tokens
 split_at [] i d h = absurd (omega arith)
@@ -149,7 +149,7 @@ pub set_accepted : (text : List ℕ) (tokens : List Token) (z : ℤ) (n : ℕ) �
     → Parses text tokens (Ok (SetConflicts n))
 set_accepted text tokens z n e h k r s =
     let is : lexemes text tokens ≡ set_tokens (pos n) = h ∙ ap set_tokens k in
-    (s, all_fit (lexemes text tokens) e (subst (λ ls. AllByRecursion (Fits true) ls) (sym is) (lit≤ tt, (lit≤ tt, (in_range n r, tt)))), record { proper = tt; tokens = is })
+    (s, all_fit (lexemes text tokens) e (subst (λ ls. AllByRecursion (Fits true) ls) (sym is) (lit≤ tt, (lit≤ tt, (in_range n r, tt)))), record { tokens = is })
 
 pub set_length : (text : List ℕ) (tokens : List Token) (z : ℤ) → lexemes text tokens ≡ set_tokens z → length tokens ≡ 3
 set_length text tokens z h = sym (length-map tokens (lexeme text)) ∙ ap length h

@@ -2,34 +2,38 @@
 use Rattle.std.specs.Prelude.{codes}
 use Rattle.script_lex.specs.declared.kinds.Symbol.TheVariants.{Open, Close, Comma, Eq}
 use Rattle.spj_syntax.specs.Shapes.{word, mark, Shape, one, ◌⨾◌, ◌∣◌, many}
-use Rattle.spj_syntax.specs.Grammar.{a_name, optional, listed, filtered, literal, column, key, insert, delete, col, op_but_equal, head, asking, copy, set}
+use Rattle.spj_syntax.specs.Grammar.{a_name, listed, filtered, literal, column, key, insert, delete, col, op_but_equal, head, verb, copy, set}
 
 -- Each column has its comma behind it.
 abbrev pub columns : Shape
 columns = (column ⨾ one (mark Comma)) ⨾ many (column ⨾ one (mark Comma))
 
-abbrev pub create : Shape
-create = one (word (codes "create")) ⨾ one (word (codes "table")) ⨾ a_name ⨾ one (mark Open) ⨾ columns ⨾ key ⨾ one (mark Close)
+-- the columns and the key of a table
+abbrev pub body : Shape
+body = one (mark Open) ⨾ columns ⨾ key ⨾ one (mark Close)
 
--- After the column an = with a column or a literal, or another operator with a literal.
+abbrev pub create : Shape
+create = one (word (codes "create")) ⨾ one (word (codes "table")) ⨾ a_name ⨾ body
+
+-- an = with a column or a literal, or another operator with a literal
+abbrev pub side : Shape
+side = one (mark Eq) ⨾ (col ∣ literal) ∣ op_but_equal ⨾ literal
+
 abbrev pub cond : Shape
-cond = col ⨾ (one (mark Eq) ⨾ (col ∣ literal) ∣ op_but_equal ⨾ literal)
+cond = col ⨾ side
 
 abbrev pub query : Shape
 query = head ⨾ one (word (codes "from")) ⨾ listed a_name ⨾ filtered cond
 
-abbrev pub asking_query : Shape
-asking_query = asking ⨾ query
-
-abbrev pub explain : Shape
-explain = one (word (codes "explain")) ⨾ one (word (codes "row")) ⨾ one (mark Open) ⨾ optional (listed literal) ⨾ one (mark Close) ⨾ one (word (codes "for")) ⨾ query
+abbrev pub asking : Shape
+asking = verb ⨾ query
 
 abbrev pub show : Shape
 show = one (word (codes "show")) ⨾ (one (word (codes "tables")) ∣ one (word (codes "log")))
 
 -- all statements but `set`
 abbrev pub plain : Shape
-plain = create ∣ insert ∣ delete ∣ explain ∣ copy ∣ one (word (codes "dump")) ∣ show ∣ asking_query
+plain = create ∣ insert ∣ delete ∣ copy ∣ one (word (codes "dump")) ∣ show ∣ asking
 
 abbrev pub statement : Shape
 statement = set ∣ plain

@@ -1,7 +1,7 @@
 -- The grammar of statements.
 use Rattle.std.specs.Prelude.{codes}
 use Rattle.script_lex.specs.declared.kinds.Symbol.TheVariants.{Open, Close, Comma, Dot, Eq, Ne, Lt, Le, Gt, Ge}
-use Rattle.spj_syntax.specs.Shapes.{word, name, int, text, mark, Shape, one, ◌⨾◌, ◌∣◌, many, nothing}
+use Rattle.spj_syntax.specs.Shapes.{Terminal, word, name, int, text, mark, Shape, one, ◌⨾◌, ◌∣◌, many, nothing}
 
 abbrev pub a_name : Shape
 a_name = one name
@@ -10,13 +10,17 @@ a_name = one name
 abbrev pub optional : Shape → Shape
 optional p = p ∣ nothing
 
+-- one or more, with a token between them
+abbrev pub separated : Terminal → Shape → Shape
+separated x p = p ⨾ many (one x ⨾ p)
+
 -- one or more, with commas between them
 abbrev pub listed : Shape → Shape
-listed p = p ⨾ many (one (mark Comma) ⨾ p)
+listed p = separated (mark Comma) p
 
 -- one or more, with "and" between them
 abbrev pub anded : Shape → Shape
-anded p = p ⨾ many (one (word (codes "and")) ⨾ p)
+anded p = separated (word (codes "and")) p
 
 -- nothing, or "where" and what is to hold
 abbrev pub filtered : Shape → Shape
@@ -68,11 +72,19 @@ head = one (word (codes "select")) ⨾ listed col ∣ one (word (codes "exists")
 abbrev pub query : Shape
 query = head ⨾ one (word (codes "from")) ⨾ listed a_name ⨾ filtered cond
 
-abbrev pub asking : Shape
-asking = one (word (codes "ask")) ∣ one (word (codes "possible")) ∣ one (word (codes "classify")) ∣ one (word (codes "plan"))
+-- a row, which may be empty
+abbrev pub any_row : Shape
+any_row = one (mark Open) ⨾ optional (listed literal) ⨾ one (mark Close)
 
 abbrev pub explain : Shape
-explain = one (word (codes "explain")) ⨾ one (word (codes "row")) ⨾ one (mark Open) ⨾ optional (listed literal) ⨾ one (mark Close) ⨾ one (word (codes "for")) ⨾ query
+explain = one (word (codes "explain")) ⨾ one (word (codes "row")) ⨾ any_row ⨾ one (word (codes "for"))
+
+-- what is asked of a query
+abbrev pub verb : Shape
+verb = one (word (codes "ask")) ∣ one (word (codes "possible")) ∣ one (word (codes "classify")) ∣ one (word (codes "plan")) ∣ explain
+
+abbrev pub asking : Shape
+asking = verb ⨾ query
 
 abbrev pub copy : Shape
 copy = one (word (codes "copy")) ⨾ a_name
@@ -84,4 +96,4 @@ abbrev pub show : Shape
 show = one (word (codes "show")) ⨾ one (word (codes "tables")) ∣ one (word (codes "show")) ⨾ one (word (codes "log"))
 
 abbrev pub statement : Shape
-statement = create ∣ insert ∣ delete ∣ explain ∣ copy ∣ set ∣ asking ⨾ query ∣ one (word (codes "dump")) ∣ show
+statement = set ∣ create ∣ insert ∣ delete ∣ copy ∣ one (word (codes "dump")) ∣ show ∣ asking

@@ -1,3 +1,4 @@
+pub mod Limits
 pub mod Lexemes
 pub mod Shapes
 pub mod Walk

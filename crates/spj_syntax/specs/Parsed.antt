@@ -6,6 +6,7 @@ use Rattle.cqa_value.specs.Literals.{is_in_range}
 use Rattle.script_lex.specs.declared.kinds.Token.{Token}
 use Rattle.spj_syntax.specs.declared.fault.SyntaxFault.{SyntaxFault}
 use Rattle.spj_syntax.specs.declared.fault.SyntaxFault.TheVariants.{At, OutOfRange, TextTooLong, LongName}
+use Rattle.spj_syntax.specs.Limits.{longest_name, longest_value, most_conflicts}
 use Rattle.spj_syntax.specs.Lexemes.{Lexeme, Word, Number, Quoted, Mark, lexeme}
 use Rattle.spj_syntax.specs.Shapes.{Generates, FirstFault}
 use Rattle.spj_syntax.specs.Grammar.{statement}
@@ -34,16 +35,16 @@ abbrev pub is_set : List Lexeme → Bool
 is_set (Word w ∷ ls) = pointwise nat_eq (codes "set") w
 is_set _ = false
 
--- The int of a `set` is 0 to 4294967295, any other is one of 64 bits.
+-- The int of a `set` is a number of conflicts, any other is one of 64 bits.
 abbrev pub IsInRange : Bool → ℤ → Type 0
-IsInRange true z = (pos 0 ≤ℤ z) × (z ≤ℤ pos 4294967295)
+IsInRange true z = (pos 0 ≤ℤ z) × (z ≤ℤ pos most_conflicts)
 IsInRange false z = IsTrue (is_in_range z)
 
--- A name has at most 64 bytes and a text at most 1,024.
+-- Neither a name nor a text is too long.
 abbrev pub Fits : Bool → Lexeme → Type 0
-Fits set (Word w) = length w ≤ 64
+Fits set (Word w) = length w ≤ longest_name
 Fits set (Number z) = IsInRange set z
-Fits set (Quoted t) = length t ≤ 1024
+Fits set (Quoted t) = length t ≤ longest_value
 Fits set (Mark s) = Unit {0}
 
 abbrev pub AllFit : List Lexeme → Type 0

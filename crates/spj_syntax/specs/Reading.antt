@@ -1,5 +1,5 @@
 -- What a part of the parser gives.
-use Rattle.std.specs.Prelude.{◌≡◌, ◌≤◌, ℕ, length, List, ◌++◌, Option, Some, None, Result, Ok, Err, false, IsTrue, [], ◌∷◌}
+use Rattle.std.specs.Prelude.{◌≡◌, ◌≤◌, ℕ, length, List, ◌++◌, Option, Some, None, Result, Ok, Err, false, IsTrue, [], ◌∷◌, codes}
 use Rattle.std.specs.List.{AllByRecursion, slice_range}
 use Rattle.std.specs.Str.{IsUtf8}
 use Rattle.cqa_value.specs.Literals.{integer_of, are_digits, without_minus}
@@ -12,9 +12,13 @@ use Rattle.spj_syntax.specs.declared.reader.Stop.TheVariants.{NoMemory, Syntax}
 use Rattle.spj_syntax.specs.declared.reader.Seen.{Seen}
 use Rattle.spj_syntax.specs.declared.reader.Seen.TheVariants as sights
 use Rattle.spj_syntax.specs.Lexemes.{Lexeme, Word, Number, Quoted, Mark, undoubled, lexeme}
-use Rattle.spj_syntax.specs.Shapes.{Shape}
+use Rattle.spj_syntax.specs.declared.lists.Between.{Between}
+use Rattle.spj_syntax.specs.declared.lists.Between.TheVariants.{Comma, And}
+use Rattle.script_lex.specs.declared.kinds.Symbol.TheVariants as s
+use Rattle.spj_syntax.specs.Shapes.{Terminal, word, mark, Shape}
 use Rattle.spj_syntax.specs.Parsed.{Fits, AllFit, IsStatement, Refuses, fault_of, lexemes, place_of}
-use Rattle.spj_syntax.specs.Written.{IsWrittenAs}
+use Rattle.cqa_model.specs.declared.schema.Column.{Column}
+use Rattle.spj_syntax.specs.Written.{IsWrittenAs, listed_tokens, name_tokens, column_tokens}
 use Rattle.spj_syntax.specs.declared.tree.Statement.{Statement}
 use Rattle.spj_syntax.specs.declared.fault.SyntaxFault.{SyntaxFault}
 use Rattle.spj_syntax.specs.declared.fault.SyntaxFault.TheVariants.{At}
@@ -47,10 +51,26 @@ abbrev pub Reads : {A : Type 0} → Shape → (A → List Lexeme) → Result A S
 Reads p written (Ok v) old new = Took p (written v) old new
 Reads p written (Err e) old new = Failed p e old new
 
+-- what stands between the items of a list
+abbrev pub separator : Between → Terminal
+separator Comma = mark s.Comma
+separator And = word (codes "and")
+
+abbrev pub separator_lexeme : Between → Lexeme
+separator_lexeme Comma = Mark s.Comma
+separator_lexeme And = Word (codes "and")
+
 -- each with a token behind it
 abbrev pub each_before : {A : Type 0} → Lexeme → (A → List Lexeme) → List A → List Lexeme
 each_before l f [] = []
 each_before l f (x ∷ xs) = (f x ++ l ∷ []) ++ each_before l f xs
+
+abbrev pub key_tokens : List (List ℕ) → List Lexeme
+key_tokens names = Word (codes "primary") ∷ Word (codes "key") ∷ Mark s.Open ∷ (listed_tokens name_tokens names ++ Mark s.Close ∷ [])
+
+-- the columns and the key of a table
+abbrev pub body_tokens : List Column × List (List ℕ) → List Lexeme
+body_tokens (columns, key) = Mark s.Open ∷ (each_before (Mark s.Comma) column_tokens columns ++ (key_tokens key ++ Mark s.Close ∷ []))
 
 abbrev pub front_of : List Lexeme → Option Lexeme
 front_of [] = None

@@ -13,11 +13,16 @@ use Rattle.spj_syntax.specs.declared.tree.RawTest.{RawTest}
 use Rattle.spj_syntax.specs.declared.tree.RawCol.{RawCol}
 use Rattle.spj_syntax.specs.declared.tree.RawCond.{RawCond}
 use Rattle.spj_syntax.specs.declared.tree.RawCond.TheVariants.{Join, Test}
+use Rattle.spj_syntax.specs.declared.lists.RawSide.{RawSide}
+use Rattle.spj_syntax.specs.declared.lists.RawSide.TheVariants as sides
 use Rattle.spj_syntax.specs.declared.tree.Select.{Select}
+use Rattle.spj_syntax.specs.declared.tree.Verb.{Verb}
+use Rattle.spj_syntax.specs.declared.tree.Verb.TheVariants as verbs
 use Rattle.spj_syntax.specs.declared.tree.Statement.{Statement}
 use Rattle.spj_syntax.specs.declared.tree.Statement.TheVariants as statements
 use Rattle.script_lex.specs.declared.kinds.TokenKind.TheVariants as token
 use Rattle.script_lex.specs.Tokens.{IsToken}
+use Rattle.spj_syntax.specs.Limits.{longest_name, most_items}
 use Rattle.spj_syntax.specs.Lexemes.{Lexeme, Word, Number, Quoted, Mark}
 use Rattle.spj_syntax.specs.Shapes.{name, matches}
 
@@ -76,6 +81,11 @@ abbrev pub cond_tokens : RawCond → List Lexeme
 cond_tokens (Join left right) = col_tokens left ++ Mark s.Eq ∷ col_tokens right
 cond_tokens (Test col op value) = col_tokens col ++ Mark (op_symbol op) ∷ literal_tokens value
 
+-- the right side of a condition
+abbrev pub side_tokens : RawSide → List Lexeme
+side_tokens (sides.Column right) = Mark s.Eq ∷ col_tokens right
+side_tokens (sides.Literal op value) = Mark (op_symbol op) ∷ literal_tokens value
+
 abbrev pub row_tokens : List Value → List Lexeme
 row_tokens values = Mark s.Open ∷ (listed_tokens literal_tokens values ++ Mark s.Close ∷ [])
 
@@ -91,15 +101,19 @@ select_tokens q = head_tokens q.columns ++ (Word (codes "from") ∷ (listed_toke
 abbrev pub schema_tokens : RawSchema → List Lexeme
 schema_tokens r = name_tokens r.name ++ (Mark s.Open ∷ (listed_tokens column_tokens r.columns ++ (Mark s.Comma ∷ Word (codes "primary") ∷ Word (codes "key") ∷ Mark s.Open ∷ (listed_tokens name_tokens r.key ++ (Mark s.Close ∷ Mark s.Close ∷ [])))))
 
+-- what is asked of a query
+abbrev pub verb_tokens : Verb → List Lexeme
+verb_tokens verbs.Ask = Word (codes "ask") ∷ []
+verb_tokens verbs.Possible = Word (codes "possible") ∷ []
+verb_tokens verbs.Classify = Word (codes "classify") ∷ []
+verb_tokens verbs.Plan = Word (codes "plan") ∷ []
+verb_tokens (verbs.Explain row) = Word (codes "explain") ∷ Word (codes "row") ∷ (row_tokens row ++ Word (codes "for") ∷ [])
+
 abbrev pub statement_tokens : Statement → List Lexeme
 statement_tokens (statements.Create r) = Word (codes "create") ∷ Word (codes "table") ∷ schema_tokens r
 statement_tokens (statements.Insert table rows) = Word (codes "insert") ∷ Word (codes "into") ∷ (name_tokens table ++ (Word (codes "values") ∷ listed_tokens row_tokens rows))
 statement_tokens (statements.Delete table tests) = Word (codes "delete") ∷ Word (codes "from") ∷ (name_tokens table ++ filtered_tokens test_tokens tests)
-statement_tokens (statements.Ask q) = Word (codes "ask") ∷ select_tokens q
-statement_tokens (statements.Possible q) = Word (codes "possible") ∷ select_tokens q
-statement_tokens (statements.Classify q) = Word (codes "classify") ∷ select_tokens q
-statement_tokens (statements.Plan q) = Word (codes "plan") ∷ select_tokens q
-statement_tokens (statements.Explain row q) = Word (codes "explain") ∷ Word (codes "row") ∷ (row_tokens row ++ (Word (codes "for") ∷ select_tokens q))
+statement_tokens (statements.Asking verb q) = verb_tokens verb ++ select_tokens q
 statement_tokens (statements.SetConflicts n) = Word (codes "set") ∷ Word (codes "conflicts") ∷ Number (pos n) ∷ []
 statement_tokens (statements.Copy table) = Word (codes "copy") ∷ name_tokens table
 statement_tokens statements.Dump = Word (codes "dump") ∷ []
@@ -109,45 +123,23 @@ statement_tokens statements.ShowLog = Word (codes "show") ∷ Word (codes "log")
 abbrev pub IsSome : {A : Type 0} → List A → Type 0
 IsSome xs = 0 < length xs
 
--- The lists that the grammar wants non-empty are so.
-abbrev pub IsProper : Statement → Type 0
-IsProper (statements.Create r) = IsSome r.columns × IsSome r.key
-IsProper (statements.Insert table rows) = IsSome rows × All (λ row. IsSome row) rows
-IsProper (statements.Ask q) = IsSome q.tables
-IsProper (statements.Possible q) = IsSome q.tables
-IsProper (statements.Classify q) = IsSome q.tables
-IsProper (statements.Plan q) = IsSome q.tables
-IsProper (statements.Explain row q) = IsSome q.tables
-IsProper _ = Unit {0}
-
--- a name of the grammar, of at most 64 bytes
+-- a name of the grammar, which isn't too long
 pub record IsName (bytes : List ℕ) : Type 0 where
   pub word : IsToken token.Word bytes
   pub allowed : matches name (Word bytes) ≡ true
-  pub short : length bytes ≤ 64
+  pub short : length bytes ≤ longest_name
 
 -- A table that is created has names, and so have its columns and its key.
 abbrev pub IsNamed : Statement → Type 0
 IsNamed (statements.Create r) = IsName r.name × All (λ c. IsName c.name) r.columns × All IsName r.key
 IsNamed _ = Unit {0}
 
--- No list of a query has more than so many items.
-abbrev pub SelectHasAtMost : ℕ → Select → Type 0
-SelectHasAtMost n q = (length q.columns ≤ n) × (length q.tables ≤ n) × (length q.conds ≤ n)
-
--- Neither has a list of the statement.
-abbrev pub HasAtMost : ℕ → Statement → Type 0
-HasAtMost n (statements.Create r) = (length r.columns ≤ n) × (length r.key ≤ n)
-HasAtMost n (statements.Insert table rows) = length rows ≤ n
-HasAtMost n (statements.Delete table tests) = length tests ≤ n
-HasAtMost n (statements.Ask q) = SelectHasAtMost n q
-HasAtMost n (statements.Possible q) = SelectHasAtMost n q
-HasAtMost n (statements.Classify q) = SelectHasAtMost n q
-HasAtMost n (statements.Plan q) = SelectHasAtMost n q
-HasAtMost n (statements.Explain row q) = SelectHasAtMost n q
-HasAtMost n _ = Unit {0}
+-- Its rows or its tests can be counted.
+abbrev pub IsSmall : Statement → Type 0
+IsSmall (statements.Insert table rows) = length rows ≤ most_items
+IsSmall (statements.Delete table tests) = length tests ≤ most_items
+IsSmall _ = Unit {0}
 
 -- A statement is written as tokens.
 pub record IsWrittenAs (statement : Statement) (ls : List Lexeme) : Type 0 where
-  pub proper : IsProper statement
   pub tokens : ls ≡ statement_tokens statement

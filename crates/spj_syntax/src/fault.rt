@@ -1,3 +1,5 @@
+//! Why tokens aren't a statement.
+
 use thiserror::Error;
 
 /// Why tokens aren't read as a statement, with an offset into the text: that of the first token
@@ -6,11 +8,11 @@ use thiserror::Error;
 #[derive(Clone, Copy, Debug, PartialEq, Eq, Error)]
 pub enum SyntaxFault {
     #[error("no statement goes on as at {0}")]
-    At(usize),
+    At(u32),
     #[error("the integer at {0} is out of range")]
-    OutOfRange(usize),
+    OutOfRange(u32),
     #[error("the text at {0} is too long")]
-    TextTooLong(usize),
+    TextTooLong(u32),
     #[error("the name at {0} is too long")]
-    LongName(usize),
+    LongName(u32),
 }

@@ -1,7 +1,12 @@
+//! The leaves of a statement: names, texts and integers.
+//! One that is out of its limits is read as a placeholder, since a fault of syntax behind it is told first;
+//! the parser then finds the first such token, and gives no statement.
+
 ghost use Rattle.std.specs.Prelude.{◌≡◌, ◌≤◌, ◌<◌, ◌++◌, ◌∷◌, slice_index, IfOk, IsTrue, ◌↔◌, length, take, drop, true};
 ghost use Rattle.std.specs.Str.{IsUtf8};
 ghost use Rattle.script_lex.specs.declared.kinds.TokenKind.TheVariants as token;
 ghost use Rattle.script_lex.specs.Tokens.{IsToken};
+ghost use Rattle.spj_syntax.specs.Limits.{longest_name, longest_value};
 ghost use Rattle.spj_syntax.specs.Lexemes.{Word, undoubled};
 ghost use Rattle.spj_syntax.specs.Shapes.{name, matches};
 ghost use Rattle.spj_syntax.specs.Written.{IsName};
@@ -22,7 +27,7 @@ pub fn kept_word(word: &[u8]) -> &[u8]
     requires allowed { matches name (Word word.now) ≡ true }
     ensures named { IsName result.now }
     ensures utf8 { IsUtf8 result.now }
-    ensures same { length word.now ≤ 64 → result.now ≡ word.now }
+    ensures same { length word.now ≤ longest_name → result.now ≡ word.now }
 {
     if word.len() <= NAME_BYTES { word } else { b"_" }
 }
@@ -31,8 +36,8 @@ pub fn kept_word(word: &[u8]) -> &[u8]
 fn kept(bytes: &[u8]) -> &[u8]
     requires { IsUtf8 bytes.now }
     ensures utf8 { IsUtf8 result.now }
-    ensures short { length result.now ≤ 1024 }
-    ensures same { length bytes.now ≤ 1024 → result.now ≡ bytes.now }
+    ensures short { length result.now ≤ longest_value }
+    ensures same { length bytes.now ≤ longest_value → result.now ≡ bytes.now }
 {
     if bytes.len() <= TEXT_BYTES {
         bytes
@@ -44,7 +49,7 @@ fn kept(bytes: &[u8]) -> &[u8]
 /// The bytes as a name where they aren't too many, else any name.
 pub fn short_name(alloc: Global, bytes: &[u8]) -> Result<Name, NoMemory>
     requires { IsUtf8 bytes.now }
-    ensures { IfOk result (λ n. length bytes.now ≤ 1024 → n ≡ bytes.now) }
+    ensures { IfOk result (λ n. length bytes.now ≤ longest_value → n ≡ bytes.now) }
 {
     match Name::from_bytes(alloc, kept(bytes)) {
         Ok(name) => Ok(name),
@@ -69,7 +74,7 @@ fn next(bytes: &[u8], at: usize) -> usize
 
 /// Whether the bytes with each two quotes side by side taken as one aren't too many.
 pub fn is_short(bytes: &[u8]) -> bool
-    ensures { IsTrue result ↔ (length (undoubled bytes.now) ≤ 1024) }
+    ensures { IsTrue result ↔ (length (undoubled bytes.now) ≤ longest_value) }
 {
     let mut length = 0;
     let mut at = 0;
@@ -86,7 +91,7 @@ pub fn is_short(bytes: &[u8]) -> bool
 /// The bytes with each two quotes side by side taken as one where these aren't too many, else any name.
 pub fn text_value(alloc: Global, bytes: &[u8]) -> Result<Name, NoMemory>
     requires { IsUtf8 (undoubled bytes.now) }
-    ensures { IfOk result (λ n. length (undoubled bytes.now) ≤ 1024 → n ≡ undoubled bytes.now) }
+    ensures { IfOk result (λ n. length (undoubled bytes.now) ≤ longest_value → n ≡ undoubled bytes.now) }
 {
     let mut value = [0; TEXT_BYTES];
     let mut length = 0;

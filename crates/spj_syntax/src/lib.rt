@@ -8,10 +8,8 @@ mod parser;
 mod parts;
 mod reader;
 mod statements;
-#[cfg(test)]
-mod tests;
 mod tree;
 
 pub use fault::SyntaxFault;
 pub use parser::parse;
-pub use tree::{RawCol, RawCond, RawSchema, RawTest, Select, Statement};
+pub use tree::{RawCol, RawCond, RawSchema, RawTest, Select, Statement, Verb};

@@ -1,7 +1,12 @@
-ghost use Rattle.std.specs.Prelude.{◌<◌, length, IfOk, All};
-ghost use Rattle.spj_syntax.specs.Reading.{Reads, each_before};
+//! Lists of a statement: items with a token between them, as rows, columns, names, tests and conditions.
+
+ghost use Rattle.std.specs.Prelude.{◌≡◌, ◌<◌, ◌≤◌, ◌++◌, ◌∷◌, [], refl, length, IfOk, All};
+ghost use Rattle.spj_syntax.specs.Reading.{Reads, separator, separator_lexeme, each_before};
+ghost use Rattle.spj_syntax.specs.Limits.{most_items};
 ghost use Rattle.spj_syntax.specs.Lexemes.{Mark};
-ghost use Rattle.spj_syntax.specs.Written.{listed_tokens, anded_tokens, filtered_tokens, literal_tokens, column_tokens, IsName};
+ghost use Rattle.spj_syntax.specs.Shapes.{mark, one, ◌⨾◌};
+ghost use Rattle.spj_syntax.specs.Walk.{Opens};
+ghost use Rattle.spj_syntax.specs.Written.{between, listed_tokens, filtered_tokens, literal_tokens, column_tokens, side_tokens, IsName};
 ghost use Rattle.spj_syntax.specs.Grammar as grammar;
 ghost use Rattle.spj_syntax.specs.Factored as factored;
 
@@ -9,15 +14,23 @@ use crate::parts::{col, column, literal, op, op_but_equal};
 use crate::reader::{Reader, Stop};
 use crate::{RawCol, RawCond, RawTest};
 use cqa_model::{Column, Op};
-use cqa_value::{Items, Name, Row};
+use cqa_value::{Items, Name, Row, Value};
 use script_lex::Symbol;
 use std::alloc::Global;
+
+/// What stands between the items of a list.
+#[derive(Clone, Copy)]
+pub enum Between {
+    Comma,
+    And,
+}
 
 /// An item of a list.
 pub trait Piece: Sized + Drop {
     ghost use Rattle.spj_syntax.specs.Shapes.{Shape};
+    ghost use Rattle.spj_syntax.specs.Walk.{nullable};
     ghost use Rattle.spj_syntax.specs.Lexemes.{Lexeme};
-    ghost use Rattle.std.specs.Prelude.{List};
+    ghost use Rattle.std.specs.Prelude.{List, false};
 
     ghost shape: { Shape };
 
@@ -25,53 +38,76 @@ pub trait Piece: Sized + Drop {
 
     ghost kept: { Self → Type 0 } = { λ _. Unit {0} };
 
+    ghost takes_some: { nullable shape ≡ false };
+
     fn piece(alloc: Global, reader: &mut Reader<'_>) -> Result<Self, Stop>
         ensures reads { Reads shape tokens result reader.old reader.new }
         ensures kept { IfOk result (λ v. kept v) };
+}
+
+/// Whether another item of a list follows.
+fn sees(reader: &Reader<'_>, between: Between) -> bool
+    ensures { Opens result (one (separator between)) reader.now }
+{
+    match between {
+        Between::Comma => reader.sees_mark(Symbol::Comma),
+        Between::And => reader.sees_word(b"and"),
+    }
+}
+
+/// One or more with a token between them.
+fn separated<P: Piece>(
+    alloc: Global,
+    reader: &mut Reader<'_>,
+    token: Between,
+) -> Result<Items<P>, Stop>
+    ensures reads { Reads (grammar.separated (separator token) P.shape) (between (separator_lexeme token) P.tokens) result reader.old reader.new }
+    ensures some { IfOk result (λ v. 0 < length v) }
+    ensures few { IfOk result (λ v. length v ≤ most_items) }
+    ensures kept { IfOk result (λ v. All (λ x. P.kept x) v) }
+{
+    let mut items = Items::new(alloc);
+    prove!(reader.count() <= 1 << 20);
+    let first = P::piece(alloc, reader)?;
+    items.push(first)?;
+    'items: while sees(reader, token) {
+        reader.advance();
+        let item = P::piece(alloc, reader)?;
+        items.push(item)?;
+    }
+    Ok(items)
 }
 
 /// One or more with commas between them.
 pub fn listed<P: Piece>(alloc: Global, reader: &mut Reader<'_>) -> Result<Items<P>, Stop>
     ensures reads { Reads (grammar.listed P.shape) (listed_tokens P.tokens) result reader.old reader.new }
     ensures some { IfOk result (λ v. 0 < length v) }
+    ensures few { IfOk result (λ v. length v ≤ most_items) }
     ensures kept { IfOk result (λ v. All (λ x. P.kept x) v) }
 {
-    let mut items = Items::new(alloc);
-    let first = P::piece(alloc, reader)?;
-    items.push(first)?;
-    'items: while reader.sees_mark(Symbol::Comma) {
-        reader.advance();
-        let item = P::piece(alloc, reader)?;
-        items.push(item)?;
-    }
-    Ok(items)
-}
-
-/// One or more with `and` between them.
-pub fn anded<P: Piece>(alloc: Global, reader: &mut Reader<'_>) -> Result<Items<P>, Stop>
-    ensures reads { Reads (grammar.anded P.shape) (anded_tokens P.tokens) result reader.old reader.new }
-    ensures some { IfOk result (λ v. 0 < length v) }
-{
-    let mut items = Items::new(alloc);
-    let first = P::piece(alloc, reader)?;
-    items.push(first)?;
-    'items: while reader.sees_word(b"and") {
-        reader.advance();
-        let item = P::piece(alloc, reader)?;
-        items.push(item)?;
-    }
-    Ok(items)
+    separated(alloc, reader, Between::Comma)
 }
 
 /// What follows `where`, or nothing.
 pub fn filtered<P: Piece>(alloc: Global, reader: &mut Reader<'_>) -> Result<Items<P>, Stop>
-    ensures { Reads (grammar.filtered P.shape) (filtered_tokens P.tokens) result reader.old reader.new }
+    ensures few { IfOk result (λ v. length v ≤ most_items) }
+    ensures reads { Reads (grammar.filtered P.shape) (filtered_tokens P.tokens) result reader.old reader.new }
 {
     if reader.sees_word(b"where") {
         reader.advance();
-        return anded(alloc, reader);
+        return separated(alloc, reader, Between::And);
     }
     Ok(Items::new(alloc))
+}
+
+/// A column and the comma behind it.
+fn column_before_comma(alloc: Global, reader: &mut Reader<'_>) -> Result<Column, Stop>
+    ensures reads { Reads (grammar.column ⨾ one (mark Symbol.Comma)) (λ c. column_tokens c ++ Mark Symbol.Comma ∷ []) result reader.old reader.new }
+    ensures named { IfOk result (λ c. IsName c.name) }
+{
+    let column = column(alloc, reader)?;
+    reader.mark(Symbol::Comma)?;
+    Ok(column)
 }
 
 /// One or more columns, each with a comma behind it.
@@ -81,12 +117,10 @@ pub fn columns(alloc: Global, reader: &mut Reader<'_>) -> Result<Items<Column>, 
     ensures some { IfOk result (λ v. 0 < length v) }
 {
     let mut items = Items::new(alloc);
-    let first = column(alloc, reader)?;
-    reader.mark(Symbol::Comma)?;
+    let first = column_before_comma(alloc, reader)?;
     items.push(first)?;
     'items: while reader.sees_name() {
-        let item = column(alloc, reader)?;
-        reader.mark(Symbol::Comma)?;
+        let item = column_before_comma(alloc, reader)?;
         items.push(item)?;
     }
     Ok(items)
@@ -117,6 +151,8 @@ impl Piece for Name {
 
     ghost tokens = { name_tokens };
 
+    ghost takes_some = { refl };
+
     ghost kept = { λ n. IsName n };
 
     fn piece(alloc: Global, reader: &mut Reader<'_>) -> Result<Self, Stop> {
@@ -132,6 +168,8 @@ impl Piece for RawCol {
 
     ghost tokens = { col_tokens };
 
+    ghost takes_some = { refl };
+
     fn piece(alloc: Global, reader: &mut Reader<'_>) -> Result<Self, Stop> {
         col(alloc, reader)
     }
@@ -144,6 +182,8 @@ impl Piece for Row {
     ghost shape = { grammar.row };
 
     ghost tokens = { row_tokens };
+
+    ghost takes_some = { refl };
 
     ghost kept = { λ row. IsSome row };
 
@@ -163,12 +203,42 @@ impl Piece for RawTest {
 
     ghost tokens = { test_tokens };
 
+    ghost takes_some = { refl };
+
     fn piece(alloc: Global, reader: &mut Reader<'_>) -> Result<Self, Stop> {
         let col = reader.name(alloc)?;
         let op = op(reader)?;
         let value = literal(alloc, reader)?;
         Ok(RawTest { col, op, value })
     }
+}
+
+/// The right side of a condition: `=` and a column, or an operator and a literal.
+#[derive(Drop)]
+pub enum RawSide {
+    Column(RawCol),
+    Literal { op: Op, value: Value },
+}
+
+/// `= COL`, or an operator and a literal.
+fn side(alloc: Global, reader: &mut Reader<'_>) -> Result<RawSide, Stop>
+    ensures { Reads factored.side side_tokens result reader.old reader.new }
+{
+    if reader.sees_mark(Symbol::Eq) {
+        reader.advance();
+        if reader.sees_name() {
+            let right = col(alloc, reader)?;
+            return Ok(RawSide::Column(right));
+        }
+        let same = literal(alloc, reader)?;
+        return Ok(RawSide::Literal {
+            op: Op::Eq,
+            value: same,
+        });
+    }
+    let op = op_but_equal(reader)?;
+    let value = literal(alloc, reader)?;
+    Ok(RawSide::Literal { op, value })
 }
 
 impl Piece for RawCond {
@@ -179,27 +249,18 @@ impl Piece for RawCond {
 
     ghost tokens = { cond_tokens };
 
+    ghost takes_some = { refl };
+
     fn piece(alloc: Global, reader: &mut Reader<'_>) -> Result<Self, Stop> {
         let left = col(alloc, reader)?;
-        if reader.sees_mark(Symbol::Eq) {
-            reader.advance();
-            if reader.sees_name() {
-                let right = col(alloc, reader)?;
-                return Ok(RawCond::Join { left, right });
-            }
-            let same = literal(alloc, reader)?;
-            return Ok(RawCond::Test {
+        let right = side(alloc, reader)?;
+        match right {
+            RawSide::Column(right) => Ok(RawCond::Join { left, right }),
+            RawSide::Literal { op, value } => Ok(RawCond::Test {
                 col: left,
-                op: Op::Eq,
-                value: same,
-            });
+                op,
+                value,
+            }),
         }
-        let op = op_but_equal(reader)?;
-        let value = literal(alloc, reader)?;
-        Ok(RawCond::Test {
-            col: left,
-            op,
-            value,
-        })
     }
 }

@@ -1,3 +1,6 @@
+//! From the tokens of a text to its statement, or to the first token that no statement goes on with,
+//! or that is out of its limits.
+
 ghost use Rattle.std.specs.Prelude.{◌≡◌, ◌⊎◌, ◌≤◌, ◌-◌, ◌^◌, All, IfOk, OnOk, Err, MatchResult, MatchOption, IsTrue, ◌↔◌, length, drop, pos, true, false};
 ghost use Rattle.cqa_value.specs.Literals.{are_digits, without_minus, integer_of};
 ghost use Rattle.cqa_value.specs.declared.memory.Fail.TheVariants.{NoMemory, Refused};
@@ -5,7 +8,7 @@ ghost use Rattle.script_lex.specs.Tokens.{Spells, longest_text};
 ghost use Rattle.spj_syntax.specs.Lexemes.{lexeme, undoubled};
 ghost use Rattle.spj_syntax.specs.Parsed.{AllFit, Fits, IsStatement, IsFirstUnfit, IsInRange, Refuses, is_set, lexemes, place_of};
 ghost use Rattle.spj_syntax.specs.Reading.{IsReadable, IsUnfit, Parses, PlainFit, failure_of};
-ghost use Rattle.spj_syntax.specs.Written.{IsWrittenAs, IsNamed, HasAtMost};
+ghost use Rattle.spj_syntax.specs.Written.{IsWrittenAs, IsNamed, IsSmall};
 ghost use Rattle.spj_syntax.specs.declared.tree.Statement.{Statement};
 ghost use Rattle.spj_syntax.specs.declared.fault.SyntaxFault.{SyntaxFault};
 
@@ -17,20 +20,33 @@ use cqa_value::{Fail, read_int};
 use script_lex::{Token, TokenKind};
 use std::alloc::Global;
 
-/// Where the first of the last so many tokens stands, or the text's length.
-fn place(text: &[u8], tokens: &[Token], left: usize) -> usize
-    requires { left ≤ length tokens.now }
+/// Where a token begins.
+fn offset(text: &[u8], token: Token) -> u32
+    requires readable { IsReadable text.now token }
+    requires short { length text.now ≤ longest_text }
+    ensures { result ≡ token.span.from }
+{
+    token.span.from as u32
+}
+
+/// Where the first of the last so many tokens begins, or the text's length.
+fn place(text: &[u8], tokens: &[Token], left: usize) -> u32
+    requires readable { All (IsReadable text.now) tokens.now }
+    requires short { length text.now ≤ longest_text }
+    requires there { left ≤ length tokens.now }
     ensures { result ≡ place_of text.now (drop (length tokens.now - left) tokens.now) }
 {
     if left == 0 {
-        return text.len();
+        return text.len() as u32;
     }
-    tokens[tokens.len() - left].span.from
+    offset(text, tokens[tokens.len() - left])
 }
 
 /// The failure of a parse whose reading stopped with so many tokens left.
 fn stopped(stop: Stop, text: &[u8], tokens: &[Token], left: usize) -> Fail<SyntaxFault>
-    requires { stop ≡ Stop.Syntax → left ≤ length tokens.now }
+    requires readable { All (IsReadable text.now) tokens.now }
+    requires short { length text.now ≤ longest_text }
+    requires there { stop ≡ Stop.Syntax → left ≤ length tokens.now }
     ensures { result ≡ failure_of stop text.now (drop (length tokens.now - left) tokens.now) }
 {
     match stop {
@@ -41,11 +57,12 @@ fn stopped(stop: Stop, text: &[u8], tokens: &[Token], left: usize) -> Fail<Synta
 
 /// What is wrong with a token alone, where the statement is no `set`.
 fn unfit(text: &[u8], token: Token) -> Option<SyntaxFault>
-    requires { IsReadable text.now token }
+    requires readable { IsReadable text.now token }
+    requires short { length text.now ≤ longest_text }
     ensures { MatchOption result (Fits false (lexeme text.now token)) (λ fault. IsUnfit text.now token fault) }
 {
-    let from = token.span.from;
-    let bytes = &text[from..token.span.to];
+    let from = offset(text, token);
+    let bytes = &text[token.span.from..token.span.to];
     match token.kind {
         TokenKind::Word => {
             if bytes.len() > NAME_BYTES {
@@ -69,7 +86,8 @@ fn unfit(text: &[u8], token: Token) -> Option<SyntaxFault>
 
 /// What is wrong with the first token that doesn't fit, where the statement is no `set`.
 fn first_unfit(text: &[u8], tokens: &[Token]) -> Option<SyntaxFault>
-    requires { All (IsReadable text.now) tokens.now }
+    requires readable { All (IsReadable text.now) tokens.now }
+    requires short { length text.now ≤ longest_text }
     ensures { MatchOption result (PlainFit (lexemes text.now tokens.now)) (λ fault. IsFirstUnfit false text.now tokens.now fault) }
 {
     for token in tokens {
@@ -84,9 +102,11 @@ fn first_unfit(text: &[u8], tokens: &[Token]) -> Option<SyntaxFault>
 fn parse_plain(alloc: Global, text: &[u8], tokens: &[Token]) -> Result<Statement, Fail<SyntaxFault>>
     requires readable { All (IsReadable text.now) tokens.now }
     requires few { length tokens.now ≤ 2 ^ 20 }
+    requires short { length text.now ≤ longest_text }
     requires no_set { is_set (lexemes text.now tokens.now) ≡ false }
     ensures exact { Parses text.now tokens.now result }
     ensures named { IfOk result (λ statement. IsNamed statement) }
+    ensures small { IfOk result (λ statement. IsSmall statement) }
 {
     let mut reader = Reader::new(text, tokens);
     let found = match plain(alloc, &mut reader) {
@@ -95,10 +115,14 @@ fn parse_plain(alloc: Global, text: &[u8], tokens: &[Token]) -> Result<Statement
     };
     let left = reader.count();
     if left > 0 {
+        drop(found);
         return Err(stopped(Stop::Syntax, text, tokens, left));
     }
     match first_unfit(text, tokens) {
-        Some(fault) => Err(Fail::Refused(fault)),
+        Some(fault) => {
+            drop(found);
+            Err(Fail::Refused(fault))
+        }
         None => Ok(found),
     }
 }
@@ -116,9 +140,11 @@ fn conflicts(digits: &[u8]) -> Option<u32>
 fn parse_set(text: &[u8], tokens: &[Token]) -> Result<Statement, Fail<SyntaxFault>>
     requires readable { All (IsReadable text.now) tokens.now }
     requires few { length tokens.now ≤ 2 ^ 20 }
+    requires short { length text.now ≤ longest_text }
     requires set { is_set (lexemes text.now tokens.now) ≡ true }
     ensures exact { Parses text.now tokens.now result }
     ensures named { IfOk result (λ statement. IsNamed statement) }
+    ensures small { IfOk result (λ statement. IsSmall statement) }
 {
     let mut reader = Reader::new(text, tokens);
     let digits = match set(&mut reader) {
@@ -131,7 +157,7 @@ fn parse_set(text: &[u8], tokens: &[Token]) -> Result<Statement, Fail<SyntaxFaul
     }
     match conflicts(digits) {
         Some(number) => Ok(Statement::SetConflicts(number)),
-        None => Err(Fail::Refused(SyntaxFault::OutOfRange(tokens[2].span.from))),
+        None => Err(Fail::Refused(SyntaxFault::OutOfRange(offset(text, tokens[2])))),
     }
 }
 
@@ -142,8 +168,10 @@ fn parse_readable(
 ) -> Result<Statement, Fail<SyntaxFault>>
     requires readable { All (IsReadable text.now) tokens.now }
     requires few { length tokens.now ≤ 2 ^ 20 }
+    requires short { length text.now ≤ longest_text }
     ensures exact { Parses text.now tokens.now result }
     ensures named { IfOk result (λ statement. IsNamed statement) }
+    ensures small { IfOk result (λ statement. IsSmall statement) }
 {
     if Reader::new(text, tokens).sees_word(b"set") {
         parse_set(text, tokens)
@@ -165,9 +193,9 @@ pub fn parse(alloc: Global, text: &[u8], tokens: &[Token]) -> Result<Statement, 
     ensures fit { OnOk result (AllFit (lexemes text.now tokens.now)) }
     ensures written { IfOk result (λ statement. IsWrittenAs statement (lexemes text.now tokens.now)) }
 
-    // A table that it creates has names, and no list of it is longer than the text.
+    // A table that it creates has names, and its rows or tests can be counted.
     ensures named { IfOk result (λ statement. IsNamed statement) }
-    ensures small { IfOk result (λ statement. HasAtMost (length text.now) statement) }
+    ensures small { IfOk result (λ statement. IsSmall statement) }
 
     // A statement that fits is read, unless memory runs out; and no other statement is written so.
     ensures complete { IsStatement (lexemes text.now tokens.now) → AllFit (lexemes text.now tokens.now) → MatchResult result (λ _. Unit {0}) (λ e. e ≡ NoMemory) }

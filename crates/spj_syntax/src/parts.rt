@@ -1,3 +1,5 @@
+//! The parts of a statement that are one token or a few: kinds, columns, literals and operators.
+
 ghost use Rattle.std.specs.Prelude.{◌∷◌, [], IfOk};
 ghost use Rattle.spj_syntax.specs.Lexemes.{Word, Mark};
 ghost use Rattle.spj_syntax.specs.Reading.{Reads};

@@ -1,3 +1,4 @@
+//! The tokens that are left to be read, and the steps that read one of them.
 #![tactic(auto, using(crate::proofs::Steps::steps))]
 
 ghost use Rattle.std.specs.Prelude.{◌≡◌, ◌≤◌, ◌<◌, ◌^◌, ◌++◌, ◌∷◌, [], Some, IsSome, IfSome, IfOk, IsTrue, length, drop, All};

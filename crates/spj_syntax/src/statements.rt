@@ -1,15 +1,18 @@
+//! The statements, each read by the shape that the grammar gives it.
+
 ghost use Rattle.std.specs.Prelude.{◌≡◌, ◌<◌, ◌∷◌, ◌++◌, [], length, IfOk, All, IsTrue, codes};
 ghost use Rattle.cqa_value.specs.Literals.{integer_of, are_digits, without_minus};
 ghost use Rattle.spj_syntax.specs.Lexemes.{Word, Number, Mark};
-ghost use Rattle.spj_syntax.specs.Reading.{Reads};
+ghost use Rattle.spj_syntax.specs.Reading.{Reads, key_tokens, body_tokens};
 ghost use Rattle.spj_syntax.specs.Shapes.{◌⨾◌};
-ghost use Rattle.spj_syntax.specs.Written.{head_tokens, select_tokens, statement_tokens, listed_tokens, literal_tokens, name_tokens, IsName, IsNamed, IsProper};
+ghost use Rattle.spj_syntax.specs.Written.{head_tokens, select_tokens, verb_tokens, statement_tokens, listed_tokens, literal_tokens, name_tokens, row_tokens, IsName, IsNamed, IsSmall};
 ghost use Rattle.spj_syntax.specs.Grammar as grammar;
 ghost use Rattle.spj_syntax.specs.Factored as factored;
 
 use crate::lists::{columns, filtered, listed, literals};
 use crate::reader::{Reader, Stop};
-use crate::{RawCol, RawSchema, Select, Statement};
+use crate::{RawCol, RawSchema, Select, Statement, Verb};
+use cqa_model::Column;
 use cqa_value::{Items, Name, Row};
 use script_lex::Symbol;
 use std::alloc::Global;
@@ -28,8 +31,7 @@ fn head(alloc: Global, reader: &mut Reader<'_>) -> Result<Items<RawCol>, Stop>
 
 /// `HEAD from NAME, .. [where COND and ..]`.
 fn query(alloc: Global, reader: &mut Reader<'_>) -> Result<Select, Stop>
-    ensures reads { Reads factored.query select_tokens result reader.old reader.new }
-    ensures some { IfOk result (λ q. 0 < length q.tables) }
+    ensures { Reads factored.query select_tokens result reader.old reader.new }
 {
     let columns = head(alloc, reader)?;
     reader.word(b"from")?;
@@ -42,35 +44,9 @@ fn query(alloc: Global, reader: &mut Reader<'_>) -> Result<Select, Stop>
     })
 }
 
-/// `ask`, `possible`, `classify` or `plan`, and a query.
-fn asking(alloc: Global, reader: &mut Reader<'_>) -> Result<Statement, Stop>
-    ensures reads { Reads factored.asking_query statement_tokens result reader.old reader.new }
-    ensures proper { IfOk result (λ s. IsProper s) }
-    ensures named { IfOk result (λ s. IsNamed s) }
-{
-    if reader.sees_word(b"ask") {
-        reader.advance();
-        let asked = query(alloc, reader)?;
-        return Ok(Statement::Ask(asked));
-    }
-    if reader.sees_word(b"possible") {
-        reader.advance();
-        let possible = query(alloc, reader)?;
-        return Ok(Statement::Possible(possible));
-    }
-    if reader.sees_word(b"classify") {
-        reader.advance();
-        let classified = query(alloc, reader)?;
-        return Ok(Statement::Classify(classified));
-    }
-    reader.word(b"plan")?;
-    let planned = query(alloc, reader)?;
-    Ok(Statement::Plan(planned))
-}
-
 /// `primary key (NAME, ..)`.
 fn key(alloc: Global, reader: &mut Reader<'_>) -> Result<Items<Name>, Stop>
-    ensures reads { Reads grammar.key (λ names. Word (codes "primary") ∷ Word (codes "key") ∷ Mark Symbol.Open ∷ (listed_tokens name_tokens names ++ Mark Symbol.Close ∷ [])) result reader.old reader.new }
+    ensures reads { Reads grammar.key key_tokens result reader.old reader.new }
     ensures some { IfOk result (λ v. 0 < length v) }
     ensures named { IfOk result (λ v. All IsName v) }
 {
@@ -82,27 +58,41 @@ fn key(alloc: Global, reader: &mut Reader<'_>) -> Result<Items<Name>, Stop>
     Ok(names)
 }
 
+/// `(NAME KIND, .., KEY)`.
+fn body(alloc: Global, reader: &mut Reader<'_>) -> Result<(Items<Column>, Items<Name>), Stop>
+    ensures reads { Reads factored.body body_tokens result reader.old reader.new }
+    ensures some { IfOk result (λ parts. (0 < length parts.0) × (0 < length parts.1)) }
+    ensures named { IfOk result (λ parts. All (λ c. IsName c.name) parts.0 × All IsName parts.1) }
+{
+    reader.mark(Symbol::Open)?;
+    let columns = columns(alloc, reader)?;
+    let key = key(alloc, reader)?;
+    reader.mark(Symbol::Close)?;
+    Ok((columns, key))
+}
+
 /// `create table NAME (NAME KIND, .., KEY)`.
 fn create(alloc: Global, reader: &mut Reader<'_>) -> Result<Statement, Stop>
     ensures reads { Reads factored.create statement_tokens result reader.old reader.new }
-    ensures proper { IfOk result (λ s. IsProper s) }
+    ensures small { IfOk result (λ s. IsSmall s) }
     ensures named { IfOk result (λ s. IsNamed s) }
 {
     reader.word(b"create")?;
     reader.word(b"table")?;
     let name = reader.name(alloc)?;
-    reader.mark(Symbol::Open)?;
-    let columns = columns(alloc, reader)?;
-    let key = key(alloc, reader)?;
-    reader.mark(Symbol::Close)?;
-    let schema = RawSchema { name, columns, key };
+    let parts = body(alloc, reader)?;
+    let schema = RawSchema {
+        name,
+        columns: parts.0,
+        key: parts.1,
+    };
     Ok(Statement::Create { schema })
 }
 
 /// `insert into NAME values ROW, ..`.
 fn insert(alloc: Global, reader: &mut Reader<'_>) -> Result<Statement, Stop>
     ensures reads { Reads grammar.insert statement_tokens result reader.old reader.new }
-    ensures proper { IfOk result (λ s. IsProper s) }
+    ensures small { IfOk result (λ s. IsSmall s) }
     ensures named { IfOk result (λ s. IsNamed s) }
 {
     reader.word(b"insert")?;
@@ -116,7 +106,7 @@ fn insert(alloc: Global, reader: &mut Reader<'_>) -> Result<Statement, Stop>
 /// `delete from NAME [where TEST and ..]`.
 fn delete(alloc: Global, reader: &mut Reader<'_>) -> Result<Statement, Stop>
     ensures reads { Reads grammar.delete statement_tokens result reader.old reader.new }
-    ensures proper { IfOk result (λ s. IsProper s) }
+    ensures small { IfOk result (λ s. IsSmall s) }
     ensures named { IfOk result (λ s. IsNamed s) }
 {
     reader.word(b"delete")?;
@@ -136,26 +126,65 @@ fn optional_literals(alloc: Global, reader: &mut Reader<'_>) -> Result<Row, Stop
     Ok(Row::new(alloc))
 }
 
-/// `explain row (LITERAL, ..) for QUERY`; the row may be empty.
-fn explain(alloc: Global, reader: &mut Reader<'_>) -> Result<Statement, Stop>
-    ensures reads { Reads factored.explain statement_tokens result reader.old reader.new }
-    ensures proper { IfOk result (λ s. IsProper s) }
-    ensures named { IfOk result (λ s. IsNamed s) }
+/// `(LITERAL, ..)`; the row may be empty.
+fn any_row(alloc: Global, reader: &mut Reader<'_>) -> Result<Row, Stop>
+    ensures { Reads grammar.any_row row_tokens result reader.old reader.new }
 {
-    reader.word(b"explain")?;
-    reader.word(b"row")?;
     reader.mark(Symbol::Open)?;
     let row = optional_literals(alloc, reader)?;
     reader.mark(Symbol::Close)?;
+    Ok(row)
+}
+
+/// `explain row ROW for`.
+fn explain(alloc: Global, reader: &mut Reader<'_>) -> Result<Verb, Stop>
+    ensures { Reads grammar.explain verb_tokens result reader.old reader.new }
+{
+    reader.word(b"explain")?;
+    reader.word(b"row")?;
+    let row = any_row(alloc, reader)?;
     reader.word(b"for")?;
+    Ok(Verb::Explain { row })
+}
+
+/// `ask`, `possible`, `classify`, `plan`, or `explain row ROW for`.
+fn verb(alloc: Global, reader: &mut Reader<'_>) -> Result<Verb, Stop>
+    ensures { Reads grammar.verb verb_tokens result reader.old reader.new }
+{
+    if reader.sees_word(b"ask") {
+        reader.advance();
+        return Ok(Verb::Ask);
+    }
+    if reader.sees_word(b"possible") {
+        reader.advance();
+        return Ok(Verb::Possible);
+    }
+    if reader.sees_word(b"classify") {
+        reader.advance();
+        return Ok(Verb::Classify);
+    }
+    if reader.sees_word(b"plan") {
+        reader.advance();
+        return Ok(Verb::Plan);
+    }
+    explain(alloc, reader)
+}
+
+/// A verb and a query.
+fn asking(alloc: Global, reader: &mut Reader<'_>) -> Result<Statement, Stop>
+    ensures reads { Reads factored.asking statement_tokens result reader.old reader.new }
+    ensures small { IfOk result (λ s. IsSmall s) }
+    ensures named { IfOk result (λ s. IsNamed s) }
+{
+    let verb = verb(alloc, reader)?;
     let select = query(alloc, reader)?;
-    Ok(Statement::Explain { row, select })
+    Ok(Statement::Asking { verb, select })
 }
 
 /// `copy NAME`.
 fn copy(alloc: Global, reader: &mut Reader<'_>) -> Result<Statement, Stop>
     ensures reads { Reads grammar.copy statement_tokens result reader.old reader.new }
-    ensures proper { IfOk result (λ s. IsProper s) }
+    ensures small { IfOk result (λ s. IsSmall s) }
     ensures named { IfOk result (λ s. IsNamed s) }
 {
     reader.word(b"copy")?;
@@ -166,7 +195,7 @@ fn copy(alloc: Global, reader: &mut Reader<'_>) -> Result<Statement, Stop>
 /// `show tables` or `show log`.
 fn show(reader: &mut Reader<'_>) -> Result<Statement, Stop>
     ensures reads { Reads factored.show statement_tokens result reader.old reader.new }
-    ensures proper { IfOk result (λ s. IsProper s) }
+    ensures small { IfOk result (λ s. IsSmall s) }
     ensures named { IfOk result (λ s. IsNamed s) }
 {
     reader.word(b"show")?;
@@ -192,7 +221,7 @@ pub fn set<'a>(reader: &mut Reader<'a>) -> Result<&'a [u8], Stop>
 /// Any statement but a `set`.
 pub fn plain(alloc: Global, reader: &mut Reader<'_>) -> Result<Statement, Stop>
     ensures reads { Reads factored.plain statement_tokens result reader.old reader.new }
-    ensures proper { IfOk result (λ s. IsProper s) }
+    ensures small { IfOk result (λ s. IsSmall s) }
     ensures named { IfOk result (λ s. IsNamed s) }
 {
     if reader.sees_word(b"create") {
@@ -203,9 +232,6 @@ pub fn plain(alloc: Global, reader: &mut Reader<'_>) -> Result<Statement, Stop>
     }
     if reader.sees_word(b"delete") {
         return delete(alloc, reader);
-    }
-    if reader.sees_word(b"explain") {
-        return explain(alloc, reader);
     }
     if reader.sees_word(b"copy") {
         return copy(alloc, reader);

@@ -1,12 +1,19 @@
+//! Statements as they are written: names aren't looked up yet.
+
+ghost use Rattle.std.specs.Prelude.{◌≤◌, length};
+ghost use Rattle.spj_syntax.specs.Limits.{most_items};
+
 use cqa_model::{Column, Op};
 use cqa_value::{Items, Name, Row, Value};
 
-/// A schema as it is written: its columns and the names of its key.
+/// A schema as it is written: its columns, one or more, and the names of its key, one or more.
 #[derive(Drop)]
 pub struct RawSchema {
     pub name: Name,
     pub columns: Items<Column>,
     pub key: Items<Name>,
+    pub ghost some_column: { 1 ≤ length columns },
+    pub ghost some_key: { 1 ≤ length key },
 }
 
 /// A test of a `delete`.
@@ -31,12 +38,24 @@ pub enum RawCond {
     Test { col: RawCol, op: Op, value: Value },
 }
 
-/// A query as it is written. An `exists` has no columns.
+/// A query as it is written, of one table or more. An `exists` has no columns.
 #[derive(Drop)]
 pub struct Select {
     pub columns: Items<RawCol>,
     pub tables: Items<Name>,
     pub conds: Items<RawCond>,
+    pub ghost some_table: { 1 ≤ length tables },
+    pub ghost few: { length conds ≤ most_items },
+}
+
+/// What is asked of a query: its certain rows, its possible rows, its class, its plan, or why a row isn't certain.
+#[derive(Drop)]
+pub enum Verb {
+    Ask,
+    Possible,
+    Classify,
+    Plan,
+    Explain { row: Row },
 }
 
 /// A statement of the script language.
@@ -45,11 +64,7 @@ pub enum Statement {
     Create { schema: RawSchema },
     Insert { table: Name, rows: Items<Row> },
     Delete { table: Name, tests: Items<RawTest> },
-    Ask(Select),
-    Possible(Select),
-    Classify(Select),
-    Plan(Select),
-    Explain { row: Row, select: Select },
+    Asking { verb: Verb, select: Select },
     SetConflicts(u32),
     Copy { table: Name },
     Dump,

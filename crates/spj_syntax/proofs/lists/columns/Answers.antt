@@ -6,23 +6,20 @@ use Rattle.spj_syntax.specs.Written.{column_tokens, IsName}
 use Rattle.cqa_model.specs.declared.schema.Column.{Column}
 use Rattle.std.proofs.lemmas.List.Elements.{All-cons, All-nil, All-push}
 use Rattle.spj_syntax.specs.Reading.{each_before}
-use Rattle.spj_syntax.proofs.Steps.{rest_after, rest_took, rest_fails, rest_more, many_nothing, many_failed, took_both, opens_then, fails_first, fails_then, exit, each_before-push, took_shorter, took_fewer}
+use Rattle.spj_syntax.proofs.Steps.{rest_after, rest_took, rest_fails, rest_more, many_nothing, many_failed, opens_then, fails_first, exit, each_before-push, took_fewer}
 use Rattle.spj_syntax.proofs.lists.columns.Goals as goal
 
 abbrev named : Column → Type 0
 named c = IsName c.name
 
 pub returns-in_err-first-clause-reads : goal.returns-in_err-first-clause-reads
-returns-in_err-first-clause-reads c = exit _ _ c.from_residual.ensures.1 (fails_first (fails_first c.in_err-first.ensures.reads))
-
-pub returns-in_err-mark-clause-reads : goal.returns-in_err-mark-clause-reads
-returns-in_err-mark-clause-reads c = exit _ _ c.from_residual-in_err-mark.ensures.1 (fails_first (fails_then c.in_ok-first.ensures.reads c.in_err-mark.ensures))
+returns-in_err-first-clause-reads c = exit _ _ c.from_residual.ensures.1 (fails_first c.in_err-first.ensures.reads)
 
 pub items-init : goal.items-init
 items-init c =
     let one : c.push.new.self ≡ c.in_ok-first.first ∷ [] = c.in_ok-push.ensures.ok ∙ ap (λ z. z ++ c.in_ok-first.first ∷ []) c.new-items.ensures in
     record {
-      rest = rw (one, append-nil) (rest_after (took_both c.in_ok-first.ensures.reads c.in_ok-mark.ensures refl));
+      rest = rw (one, append-nil) (rest_after c.in_ok-first.ensures.reads);
       started = rw one (omega arith);
       each = rw one (All-cons named c.in_ok-first.first [] c.in_ok-first.ensures.named (All-nil named));
     }
@@ -30,19 +27,14 @@ items-init c =
 pub returns-in_err-item-clause-reads : goal.returns-in_err-item-clause-reads
 returns-in_err-item-clause-reads c =
     exit _ _ c.from_residual-in_err-item.ensures.1 (rest_fails c.items.invariant.rest
-    (many_failed (opens_then refl (opens_then refl c.items-test.ensures)) (fails_first c.in_err-item.ensures.reads)))
-
-pub returns-in_err-mark-2-clause-reads : goal.returns-in_err-mark-2-clause-reads
-returns-in_err-mark-2-clause-reads c =
-    exit _ _ c.from_residual-in_err-mark-2.ensures.1 (rest_fails c.items.invariant.rest
-    (many_failed (opens_then refl (opens_then refl c.items-test.ensures)) (fails_then c.in_ok-item.ensures.reads c.in_err-mark-2.ensures)))
+    (many_failed (opens_then refl (opens_then refl c.items-test.ensures)) c.in_err-item.ensures.reads))
 
 pub items-smaller : goal.items-smaller
-items-smaller c = omega (arith, took_fewer refl c.in_ok-item.ensures.reads, took_shorter c.in_ok-mark-2.ensures)
+items-smaller c = omega (arith, took_fewer refl c.in_ok-item.ensures.reads)
 
 pub items-preserved : goal.items-preserved
 items-preserved c = record {
-  rest = rest_more c.items.invariant.rest (opens_then refl (opens_then refl c.items-test.ensures)) (took_both c.in_ok-item.ensures.reads c.in_ok-mark-2.ensures refl)
+  rest = rest_more c.items.invariant.rest (opens_then refl (opens_then refl c.items-test.ensures)) c.in_ok-item.ensures.reads
       (ap (λ z. each_before (Mark Comma) column_tokens z) c.in_ok-push-2.ensures.ok ∙ each_before-push (Mark Comma) column_tokens c.items.items c.in_ok-item.item);
   started = rw c.in_ok-push-2.ensures.ok (omega (arith, length-append c.items.items (c.in_ok-item.item ∷ [])));
   each = rw c.in_ok-push-2.ensures.ok (All-push named c.items.items c.in_ok-item.item c.items.invariant.each c.in_ok-item.ensures.named);

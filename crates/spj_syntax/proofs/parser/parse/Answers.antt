@@ -1,11 +1,10 @@
 use Rattle.std.proofs.Common.{arith}
 use Rattle.spj_syntax.proofs.Spelled.{spelled_readable, spelled_few}
 use Rattle.spj_syntax.proofs.Answered.{ok_statement, ok_fit, ok_written, err_refuses, statement_read, only_statement, only_fault}
-use Rattle.spj_syntax.proofs.Sizes.{ok_within}
 use Rattle.spj_syntax.proofs.parser.parse.Goals as goal
 
 pub parse_readable-requires : goal.parse_readable-requires
-parse_readable-requires c = record { readable = spelled_readable c.requires.spelled; few = omega (arith, spelled_few c.requires.spelled) }
+parse_readable-requires c = record { readable = spelled_readable c.requires.spelled; few = omega (arith, spelled_few c.requires.spelled); short = c.requires.short }
 
 pub returns-clause-statement : goal.returns-clause-statement
 returns-clause-statement c = ok_statement _ _ _ c.parse_readable.ensures.exact
@@ -27,6 +26,3 @@ returns-clause-only c = only_statement _ _ _ c.parse_readable.ensures.exact
 
 pub returns-clause-only_fault : goal.returns-clause-only_fault
 returns-clause-only_fault c = only_fault _ _ _ c.parse_readable.ensures.exact
-
-pub returns-clause-small : goal.returns-clause-small
-returns-clause-small c = ok_within _ _ _ (spelled_few c.requires.spelled) c.parse_readable.ensures.exact

@@ -11,17 +11,8 @@ returns-in_err-word-2-clause-reads c = exit _ _ c.from_residual-in_err-word-2.en
 pub returns-in_err-name-clause-reads : goal.returns-in_err-name-clause-reads
 returns-in_err-name-clause-reads c = exit _ _ c.from_residual-in_err-name.ensures.1 (fails_then c.in_ok-word.ensures (fails_then c.in_ok-word-2.ensures (fails_first c.in_err-name.ensures.reads)))
 
-pub returns-in_err-mark-clause-reads : goal.returns-in_err-mark-clause-reads
-returns-in_err-mark-clause-reads c = exit _ _ c.from_residual-in_err-mark.ensures.1 (fails_then c.in_ok-word.ensures (fails_then c.in_ok-word-2.ensures (fails_then c.in_ok-name.ensures.reads (fails_first c.in_err-mark.ensures))))
-
-pub returns-in_err-columns-clause-reads : goal.returns-in_err-columns-clause-reads
-returns-in_err-columns-clause-reads c = exit _ _ c.from_residual-in_err-columns.ensures.1 (fails_then c.in_ok-word.ensures (fails_then c.in_ok-word-2.ensures (fails_then c.in_ok-name.ensures.reads (fails_then c.in_ok-mark.ensures (fails_first c.in_err-columns.ensures.reads)))))
-
-pub returns-in_err-key-clause-reads : goal.returns-in_err-key-clause-reads
-returns-in_err-key-clause-reads c = exit _ _ c.from_residual-in_err-key.ensures.1 (fails_then c.in_ok-word.ensures (fails_then c.in_ok-word-2.ensures (fails_then c.in_ok-name.ensures.reads (fails_then c.in_ok-mark.ensures (fails_then c.in_ok-columns.ensures.reads (fails_first c.in_err-key.ensures.reads))))))
-
-pub returns-in_err-mark-2-clause-reads : goal.returns-in_err-mark-2-clause-reads
-returns-in_err-mark-2-clause-reads c = exit _ _ c.from_residual-in_err-mark-2.ensures.1 (fails_then c.in_ok-word.ensures (fails_then c.in_ok-word-2.ensures (fails_then c.in_ok-name.ensures.reads (fails_then c.in_ok-mark.ensures (fails_then c.in_ok-columns.ensures.reads (fails_then c.in_ok-key.ensures.reads c.in_err-mark-2.ensures))))))
+pub returns-in_err-parts-clause-reads : goal.returns-in_err-parts-clause-reads
+returns-in_err-parts-clause-reads c = exit _ _ c.from_residual-in_err-parts.ensures.1 (fails_then c.in_ok-word.ensures (fails_then c.in_ok-word-2.ensures (fails_then c.in_ok-name.ensures.reads c.in_err-parts.ensures.reads)))
 
 pub returns-clause-reads : goal.returns-clause-reads
-returns-clause-reads c = created _ _ _ c.in_ok-columns.ensures.some (took_both c.in_ok-word.ensures (took_both c.in_ok-word-2.ensures (took_both c.in_ok-name.ensures.reads (took_both c.in_ok-mark.ensures (took_both c.in_ok-columns.ensures.reads (took_both c.in_ok-key.ensures.reads c.in_ok-mark-2.ensures refl) refl) refl) refl) refl) refl)
+returns-clause-reads c = created _ _ _ c.in_ok-parts.ensures.some.0 c.in_ok-parts.ensures.some.1 (took_both c.in_ok-word.ensures (took_both c.in_ok-word-2.ensures (took_both c.in_ok-name.ensures.reads c.in_ok-parts.ensures.reads refl) refl) refl)

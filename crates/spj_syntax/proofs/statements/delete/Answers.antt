@@ -12,7 +12,7 @@ pub returns-in_err-table-clause-reads : goal.returns-in_err-table-clause-reads
 returns-in_err-table-clause-reads c = exit _ _ c.from_residual-in_err-table.ensures.1 (fails_then c.in_ok-word.ensures (fails_then c.in_ok-word-2.ensures (fails_first c.in_err-table.ensures.reads)))
 
 pub returns-in_err-tests-clause-reads : goal.returns-in_err-tests-clause-reads
-returns-in_err-tests-clause-reads c = exit _ _ c.from_residual-in_err-tests.ensures.1 (fails_then c.in_ok-word.ensures (fails_then c.in_ok-word-2.ensures (fails_then c.in_ok-table.ensures.reads c.in_err-tests.ensures)))
+returns-in_err-tests-clause-reads c = exit _ _ c.from_residual-in_err-tests.ensures.1 (fails_then c.in_ok-word.ensures (fails_then c.in_ok-word-2.ensures (fails_then c.in_ok-table.ensures.reads c.in_err-tests.ensures.reads)))
 
 pub returns-clause-reads : goal.returns-clause-reads
-returns-clause-reads c = took_both c.in_ok-word.ensures (took_both c.in_ok-word-2.ensures (took_both c.in_ok-table.ensures.reads c.in_ok-tests.ensures refl) refl) refl
+returns-clause-reads c = took_both c.in_ok-word.ensures (took_both c.in_ok-word-2.ensures (took_both c.in_ok-table.ensures.reads c.in_ok-tests.ensures.reads refl) refl) refl

@@ -1,27 +1,18 @@
 use Rattle.std.proofs.Common.{refl}
-use Rattle.spj_syntax.proofs.Steps.{took_both, fails_first, fails_then, exit, explained}
+use Rattle.spj_syntax.proofs.Steps.{took_both, fails_first, fails_then, exit}
 use Rattle.spj_syntax.proofs.statements.explain.Goals as goal
 
-pub returns-in_err-word-clause-reads : goal.returns-in_err-word-clause-reads
-returns-in_err-word-clause-reads c = exit _ _ c.from_residual.ensures.1 (fails_first c.in_err-word.ensures)
+pub returns-in_err-word : goal.returns-in_err-word
+returns-in_err-word c = exit _ _ c.from_residual.ensures.1 (fails_first c.in_err-word.ensures)
 
-pub returns-in_err-word-2-clause-reads : goal.returns-in_err-word-2-clause-reads
-returns-in_err-word-2-clause-reads c = exit _ _ c.from_residual-in_err-word-2.ensures.1 (fails_then c.in_ok-word.ensures (fails_first c.in_err-word-2.ensures))
+pub returns-in_err-word-2 : goal.returns-in_err-word-2
+returns-in_err-word-2 c = exit _ _ c.from_residual-in_err-word-2.ensures.1 (fails_then c.in_ok-word.ensures (fails_first c.in_err-word-2.ensures))
 
-pub returns-in_err-mark-clause-reads : goal.returns-in_err-mark-clause-reads
-returns-in_err-mark-clause-reads c = exit _ _ c.from_residual-in_err-mark.ensures.1 (fails_then c.in_ok-word.ensures (fails_then c.in_ok-word-2.ensures (fails_first c.in_err-mark.ensures)))
+pub returns-in_err-row : goal.returns-in_err-row
+returns-in_err-row c = exit _ _ c.from_residual-in_err-row.ensures.1 (fails_then c.in_ok-word.ensures (fails_then c.in_ok-word-2.ensures (fails_first c.in_err-row.ensures)))
 
-pub returns-in_err-row-clause-reads : goal.returns-in_err-row-clause-reads
-returns-in_err-row-clause-reads c = exit _ _ c.from_residual-in_err-row.ensures.1 (fails_then c.in_ok-word.ensures (fails_then c.in_ok-word-2.ensures (fails_then c.in_ok-mark.ensures (fails_first c.in_err-row.ensures))))
+pub returns-in_err-word-3 : goal.returns-in_err-word-3
+returns-in_err-word-3 c = exit _ _ c.from_residual-in_err-word-3.ensures.1 (fails_then c.in_ok-word.ensures (fails_then c.in_ok-word-2.ensures (fails_then c.in_ok-row.ensures c.in_err-word-3.ensures)))
 
-pub returns-in_err-mark-2-clause-reads : goal.returns-in_err-mark-2-clause-reads
-returns-in_err-mark-2-clause-reads c = exit _ _ c.from_residual-in_err-mark-2.ensures.1 (fails_then c.in_ok-word.ensures (fails_then c.in_ok-word-2.ensures (fails_then c.in_ok-mark.ensures (fails_then c.in_ok-row.ensures (fails_first c.in_err-mark-2.ensures)))))
-
-pub returns-in_err-word-3-clause-reads : goal.returns-in_err-word-3-clause-reads
-returns-in_err-word-3-clause-reads c = exit _ _ c.from_residual-in_err-word-3.ensures.1 (fails_then c.in_ok-word.ensures (fails_then c.in_ok-word-2.ensures (fails_then c.in_ok-mark.ensures (fails_then c.in_ok-row.ensures (fails_then c.in_ok-mark-2.ensures (fails_first c.in_err-word-3.ensures))))))
-
-pub returns-in_err-select-clause-reads : goal.returns-in_err-select-clause-reads
-returns-in_err-select-clause-reads c = exit _ _ c.from_residual-in_err-select.ensures.1 (fails_then c.in_ok-word.ensures (fails_then c.in_ok-word-2.ensures (fails_then c.in_ok-mark.ensures (fails_then c.in_ok-row.ensures (fails_then c.in_ok-mark-2.ensures (fails_then c.in_ok-word-3.ensures c.in_err-select.ensures.reads))))))
-
-pub returns-clause-reads : goal.returns-clause-reads
-returns-clause-reads c = explained _ _ (took_both c.in_ok-word.ensures (took_both c.in_ok-word-2.ensures (took_both c.in_ok-mark.ensures (took_both c.in_ok-row.ensures (took_both c.in_ok-mark-2.ensures (took_both c.in_ok-word-3.ensures c.in_ok-select.ensures.reads refl) refl) refl) refl) refl) refl)
+pub returns : goal.returns
+returns c = took_both c.in_ok-word.ensures (took_both c.in_ok-word-2.ensures (took_both c.in_ok-row.ensures c.in_ok-word-3.ensures refl) refl) refl

@@ -1,0 +1,18 @@
+-- The limits of a statement's parts.
+use Rattle.std.specs.Prelude.{ℕ}
+
+-- the most bytes of a name
+abbrev pub longest_name : ℕ
+longest_name = 64
+
+-- the most bytes of a text value
+abbrev pub longest_value : ℕ
+longest_value = 1_024
+
+-- the most conflicts that a search may be given
+abbrev pub most_conflicts : ℕ
+most_conflicts = 4_294_967_295
+
+-- A statement has no more items in a list than the longest text has bytes.
+abbrev pub most_items : ℕ
+most_items = 1_048_576
