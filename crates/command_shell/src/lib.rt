@@ -2,8 +2,6 @@
 #![tactic(auto)]
 
 mod answers;
-mod blocks;
-mod certain;
 mod ending;
 mod execute;
 mod input;
