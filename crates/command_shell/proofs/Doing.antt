@@ -10,11 +10,9 @@ use Rattle.cqa_model.specs.declared.query.Query.{Query}
 use Rattle.cqa_model.specs.declared.refusal.Refusal.{Refusal}
 use Rattle.cqa_model.specs.declared.refusal.Refusal.TheVariants.{UnknownTable}
 use Rattle.cqa_model.specs.Database.{Table}
+use Rattle.cqa_model.specs.Refusal.{IsRefusedAs}
 use Rattle.spj_syntax.specs.declared.tree.Select.{Select}
-use Rattle.spj_syntax.specs.declared.tree.Statement.{Statement}
-use Rattle.spj_syntax.specs.declared.tree.Statement.TheVariants as statements
-use Rattle.spj_syntax.specs.Written.{HasAtMost}
-use Rattle.table_blocks.specs.Tables.{table_named, IsRefusedAs}
+use Rattle.table_blocks.specs.Tables.{table_named}
 use Rattle.query_resolve.specs.Checks.{query_fault}
 use Rattle.query_resolve.specs.Resolved.{IsAtomOf, IsQueryOf}
 use Rattle.reply_text.specs.declared.reply.Reply.{Reply}
@@ -63,19 +61,3 @@ pub answered : (result : Result Bool Stop) (rose : Type 0) (held_old held_new : 
 answered (Ok refused) rose held_old held_new old new s reply step row = (reply, step, row.0, row.1)
 answered (Err stops.WriteFault) rose held_old held_new old new s reply step row = (row.0, (reply, row.1.0, step, row.1.1))
 answered (Err stops.OutOfMemory) rose held_old held_new old new s reply step row = (inr (reply, step), row)
-
--- a list that is no longer than some number is no longer than a greater one
-pub at_most_more : (m n : ℕ) (s : Statement) → m ≤ n → HasAtMost m s → HasAtMost n s
-at_most_more m n (statements.Create r) le h = (omega (arith, le, h.0), omega (arith, le, h.1))
-at_most_more m n (statements.Insert table rows) le h = omega (arith, le, h)
-at_most_more m n (statements.Delete table tests) le h = omega (arith, le, h)
-at_most_more m n (statements.Ask q) le h = (omega (arith, le, h.0), omega (arith, le, h.1), omega (arith, le, h.2))
-at_most_more m n (statements.Possible q) le h = (omega (arith, le, h.0), omega (arith, le, h.1), omega (arith, le, h.2))
-at_most_more m n (statements.Classify q) le h = (omega (arith, le, h.0), omega (arith, le, h.1), omega (arith, le, h.2))
-at_most_more m n (statements.Plan q) le h = (omega (arith, le, h.0), omega (arith, le, h.1), omega (arith, le, h.2))
-at_most_more m n (statements.Explain row q) le h = (omega (arith, le, h.0), omega (arith, le, h.1), omega (arith, le, h.2))
-at_most_more m n (statements.SetConflicts conflicts) le h = h
-at_most_more m n (statements.Copy table) le h = h
-at_most_more m n statements.Dump le h = h
-at_most_more m n statements.ShowTables le h = h
-at_most_more m n statements.ShowLog le h = h

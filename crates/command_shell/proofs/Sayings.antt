@@ -1,12 +1,8 @@
 -- A text says one thing.
-use Rattle.std.proofs.Common.{◌≡◌, ◌⊎◌, inl, inr, ◌≤◌, ℕ, List, length, Option, Result, Ok, Err, IsErrAnd, refl, sym, ap, ◌∙◌, subst, arith}
+use Rattle.std.proofs.Common.{◌≡◌, ◌⊎◌, inl, inr, ℕ, List, Option, Result, Ok, Err, IsErrAnd, refl, sym, ap, ◌∙◌, subst}
 use Rattle.cqa_value.specs.declared.memory.Fail.{Fail}
 use Rattle.cqa_value.specs.declared.memory.Fail.TheVariants as fails
-use Rattle.script_lex.specs.declared.kinds.Token.{Token}
-use Rattle.script_lex.specs.declared.kinds.LexFault.{LexFault}
-use Rattle.script_lex.specs.declared.kinds.LexFault.TheVariants as lexing
-use Rattle.script_lex.specs.Tokens.{Spells, IsFault, longest_text}
-use Rattle.script_lex.proofs.Spelling.{spells_same, spelled_not_bad, bad_same}
+use Rattle.script_lex.proofs.Spelling.{spells_same, fault_same, spelled_no_fault}
 use Rattle.spj_syntax.specs.declared.fault.SyntaxFault.{SyntaxFault}
 use Rattle.spj_syntax.specs.declared.tree.Statement.{Statement}
 use Rattle.spj_syntax.specs.Parsed.{lexemes, Refuses}
@@ -18,16 +14,6 @@ use Rattle.command_shell.specs.State.{State}
 use Rattle.command_shell.specs.Saying.{of_lexing, of_parsing, HasNoStatement, HasStatement, Says, IsReadAs, SaysOneThing}
 use Rattle.command_shell.specs.Replying.{IsOutcome}
 use Rattle.command_shell.specs.Machine.{Does, Step}
-
-lexing_same : (text : List ℕ) (f g : LexFault) → IsFault text f → IsFault text g → f ≡ g
-lexing_same text (lexing.TooLong m) (lexing.TooLong n) a b = ap lexing.TooLong (a.0 ∙ sym b.0)
-lexing_same text (lexing.TooLong m) (lexing.BadByte at) a b = let long = a.1 in let short = b.0 in absurd (omega (arith, long, short))
-lexing_same text (lexing.BadByte at) (lexing.TooLong n) a b = let short = a.0 in let long = b.1 in absurd (omega (arith, long, short))
-lexing_same text (lexing.BadByte at) (lexing.BadByte place) a b = ap lexing.BadByte (bad_same a.1 b.1)
-
-spelled_no_fault : (text : List ℕ) (tokens : List Token) (f : LexFault) → length text ≤ longest_text → Spells text tokens → IsFault text f → ⊥
-spelled_no_fault text tokens (lexing.TooLong m) short s f = let long = f.1 in omega (arith, long, short)
-spelled_no_fault text tokens (lexing.BadByte at) short s f = spelled_not_bad s f.1
 
 -- the tokens of one are those of the other
 same_statement : (text : List ℕ) (s t : Statement) → HasStatement text s → HasStatement text t → s ≡ t
@@ -49,7 +35,7 @@ says_same text (Ok s) (Err r) a (inl b) = absurd (spelled_no_fault text a.tokens
 says_same text (Ok s) (Err r) a (inr b) = absurd (no_refusal text s r a b)
 says_same text (Err r) (Ok t) (inl a) b = absurd (spelled_no_fault text b.tokens a.fault b.short b.spelled a.cause)
 says_same text (Err r) (Ok t) (inr a) b = absurd (no_refusal text t r b a)
-says_same text (Err r) (Err q) (inl a) (inl b) = ap Err (a.is ∙ ap of_lexing (lexing_same text a.fault b.fault a.cause b.cause) ∙ sym b.is)
+says_same text (Err r) (Err q) (inl a) (inl b) = ap Err (a.is ∙ ap of_lexing (fault_same text a.fault b.fault a.cause b.cause) ∙ sym b.is)
 says_same text (Err r) (Err q) (inl a) (inr b) = absurd (spelled_no_fault text b.tokens a.fault b.short b.spelled a.cause)
 says_same text (Err r) (Err q) (inr a) (inl b) = absurd (spelled_no_fault text a.tokens b.fault a.short a.spelled b.cause)
 says_same text (Err r) (Err q) (inr a) (inr b) =

@@ -1,5 +1,4 @@
 pub mod State
-pub mod Offsets
 pub mod Saying
 pub mod Replying
 pub mod AttackLines

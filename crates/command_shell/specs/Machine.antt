@@ -2,6 +2,9 @@
 use Rattle.std.specs.Prelude.{◌≡◌, ℕ, List, Option, None, Result, Ok, Err}
 use Rattle.spj_syntax.specs.declared.tree.Statement.{Statement}
 use Rattle.spj_syntax.specs.declared.tree.Statement.TheVariants as statements
+use Rattle.spj_syntax.specs.declared.tree.Select.{Select}
+use Rattle.spj_syntax.specs.declared.tree.Verb.{Verb}
+use Rattle.spj_syntax.specs.declared.tree.Verb.TheVariants as verbs
 use Rattle.query_resolve.specs.Checks.{schema_fault, query_fault}
 use Rattle.cqa_model.specs.declared.refusal.Refusal.{Refusal}
 use Rattle.reply_text.specs.declared.reply.Reply.{Reply}
@@ -18,33 +21,41 @@ use Rattle.command_shell.specs.Statements.Classify.{Classifies}
 use Rattle.command_shell.specs.Statements.ShowTables.{ShowsTables}
 use Rattle.command_shell.specs.Statements.Unanswered.{unanswered_fault, Unanswered}
 
--- the first check of a statement, with its block, that fails in a state
+-- ---- what is asked of a query: the first of its checks that fails in a state, and what it may do where none fails
+
+abbrev pub asking_fault : State → Verb → Select → Option Refusal
+asking_fault old verbs.Ask select = ask_fault old.tables select
+asking_fault old verbs.Possible select = query_fault old.tables select
+asking_fault old verbs.Classify select = query_fault old.tables select
+asking_fault old verbs.Plan select = unanswered_fault
+asking_fault old (verbs.Explain row) select = unanswered_fault
+
+abbrev pub Asks : State → Verb → Select → Reply → State → Type 0
+Asks old verbs.Ask select reply new = AnswersCertain old select reply new
+Asks old verbs.Possible select reply new = AnswersPossible old select reply new
+Asks old verbs.Classify select reply new = Classifies old select reply new
+Asks old verbs.Plan select reply new = Unanswered
+Asks old (verbs.Explain row) select reply new = Unanswered
+
+-- ---- a statement, with the block that follows it: the same
+
 abbrev pub fault_in : State → Statement → Option (List ℕ) → Option Refusal
 fault_in old (statements.Create raw) block = schema_fault old.tables raw
 fault_in old (statements.Insert name rows) block = insert_into_fault old.tables name rows
 fault_in old (statements.Delete name tests) block = delete_from_fault old.tables name tests
-fault_in old (statements.Ask select) block = ask_fault old.tables select
-fault_in old (statements.Possible select) block = query_fault old.tables select
-fault_in old (statements.Classify select) block = query_fault old.tables select
+fault_in old (statements.Asking verb select) block = asking_fault old verb select
 fault_in old statements.ShowTables block = None
-fault_in old (statements.Plan select) block = unanswered_fault
-fault_in old (statements.Explain row select) block = unanswered_fault
 fault_in old (statements.SetConflicts conflicts) block = unanswered_fault
 fault_in old (statements.Copy table) block = unanswered_fault
 fault_in old statements.Dump block = unanswered_fault
 fault_in old statements.ShowLog block = unanswered_fault
 
--- what a statement may do where no check fails: its reply, and the state after it
 abbrev pub Executes : State → Statement → Option (List ℕ) → Reply → State → Type 0
 Executes old (statements.Create raw) block reply new = Creates old raw reply new
 Executes old (statements.Insert name rows) block reply new = InsertsInto old name rows reply new
 Executes old (statements.Delete name tests) block reply new = DeletesFrom old name tests reply new
-Executes old (statements.Ask select) block reply new = AnswersCertain old select reply new
-Executes old (statements.Possible select) block reply new = AnswersPossible old select reply new
-Executes old (statements.Classify select) block reply new = Classifies old select reply new
+Executes old (statements.Asking verb select) block reply new = Asks old verb select reply new
 Executes old statements.ShowTables block reply new = ShowsTables old reply new
-Executes old (statements.Plan select) block reply new = Unanswered
-Executes old (statements.Explain row select) block reply new = Unanswered
 Executes old (statements.SetConflicts conflicts) block reply new = Unanswered
 Executes old (statements.Copy table) block reply new = Unanswered
 Executes old statements.Dump block reply new = Unanswered

@@ -2,9 +2,9 @@
 
 ghost use Rattle.std.specs.Option.{option_copied};
 ghost use Rattle.std.specs.Prelude.{Ok};
-ghost use Rattle.spj_syntax.specs.Written.{HasAtMost, IsProper};
-ghost use Rattle.command_shell.specs.Machine.{Does};
-ghost use Rattle.command_shell.specs.Replying.{IsOutcome};
+ghost use Rattle.spj_syntax.specs.Written.{IsSmall};
+ghost use Rattle.command_shell.specs.Machine.{asking_fault, Asks, Does};
+ghost use Rattle.command_shell.specs.Replying.{Replies, IsOutcome};
 
 use crate::Session;
 use crate::statements::ask::ask;
@@ -18,8 +18,25 @@ use crate::statements::unanswered::unanswered;
 use cqa_model::Refusal;
 use cqa_value::Fail;
 use reply_text::Reply;
-use spj_syntax::Statement;
+use spj_syntax::{Select, Statement, Verb};
 use std::alloc::Global;
+
+/// Answers what is asked of a query.
+fn asked(
+    alloc: Global,
+    session: &Session,
+    verb: &Verb,
+    select: &Select,
+) -> Result<Reply, Fail<Refusal>>
+    ensures { IsOutcome result session.now (Replies (asking_fault session.now verb.now select.now) session.now (Asks session.now verb.now select.now)) session.now }
+{
+    match verb {
+        Verb::Ask => ask(alloc, session, select),
+        Verb::Possible => possible(alloc, session, select),
+        Verb::Classify => classify(alloc, session, select),
+        Verb::Plan | Verb::Explain { .. } => Err(unanswered()),
+    }
+}
 
 /// Does what a statement says, with the block that follows it.
 ///
@@ -32,8 +49,7 @@ pub fn execute(
     statement: Statement,
     block: Option<&[u8]>,
 ) -> Result<Reply, Fail<Refusal>>
-    requires proper { IsProper statement }
-    requires small { HasAtMost 268_435_456 statement }
+    requires { IsSmall statement }
     ensures { IsOutcome result session.old (Does session.old (Ok statement) (option_copied block.entry)) session.new }
 {
     match statement {
@@ -53,31 +69,13 @@ pub fn execute(
             drop(tests);
             reply
         }
-        Statement::Ask(select) => {
-            let reply = ask(alloc, session, &select);
-            drop(select);
-            reply
-        }
-        Statement::Possible(select) => {
-            let reply = possible(alloc, session, &select);
-            drop(select);
-            reply
-        }
-        Statement::Classify(select) => {
-            let reply = classify(alloc, session, &select);
+        Statement::Asking { verb, select } => {
+            let reply = asked(alloc, session, &verb, &select);
+            drop(verb);
             drop(select);
             reply
         }
         Statement::ShowTables => show_tables(alloc, session),
-        Statement::Plan(select) => {
-            drop(select);
-            Err(unanswered())
-        }
-        Statement::Explain { row, select } => {
-            drop(row);
-            drop(select);
-            Err(unanswered())
-        }
         Statement::Copy { table } => {
             drop(table);
             Err(unanswered())

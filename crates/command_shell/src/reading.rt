@@ -1,10 +1,10 @@
 //! From the text of a statement to the statement.
 
-ghost use Rattle.std.specs.Prelude.{◌≡◌, ◌≤◌, ◌<◌, ◌^◌, IfOk, length};
+ghost use Rattle.std.specs.Prelude.{◌≡◌, ◌≤◌, ◌<◌, ◌^◌, ℕ, IfOk, length};
+ghost use Rattle.script_lex.specs.declared.kinds.LexFault.TheVariants.{TooLong};
 ghost use Rattle.script_lex.specs.Tokens.{Spells, longest_text};
-ghost use Rattle.spj_syntax.specs.Written.{HasAtMost};
+ghost use Rattle.spj_syntax.specs.Written.{IsSmall};
 ghost use Rattle.command_shell.specs.Saying.{of_lexing, of_parsing, IsReadAs};
-ghost use Rattle.command_shell.specs.Offsets.{lexing_offset, parsing_offset};
 
 use cqa_model::{LimitKind, Refusal};
 use cqa_value::Fail;
@@ -14,24 +14,23 @@ use std::alloc::Global;
 
 /// The refusal of a text that has no tokens.
 fn without_tokens(fault: LexFault) -> Refusal
-    requires { lexing_offset fault < 2 ^ 32 }
+    requires { (size : ℕ) → fault ≡ TooLong size → size < 2 ^ 32 }
     ensures { result ≡ of_lexing fault }
 {
     match fault {
         LexFault::TooLong(len) => Refusal::StatementTooLong { len: len as u32 },
-        LexFault::BadByte(at) => Refusal::BadByte { at: at as u32 },
+        LexFault::BadByte(at) => Refusal::BadByte { at },
     }
 }
 
 /// The refusal of tokens that are no statement, or of one that is out of its limits.
 fn without_statement(fault: SyntaxFault) -> Refusal
-    requires { parsing_offset fault < 2 ^ 32 }
     ensures { result ≡ of_parsing fault }
 {
     match fault {
-        SyntaxFault::At(at) => Refusal::Syntax { at: at as u32 },
-        SyntaxFault::OutOfRange(at) => Refusal::OutOfRange { at: at as u32 },
-        SyntaxFault::TextTooLong(at) => Refusal::TextTooLong { at: at as u32 },
+        SyntaxFault::At(at) => Refusal::Syntax { at },
+        SyntaxFault::OutOfRange(at) => Refusal::OutOfRange { at },
+        SyntaxFault::TextTooLong(at) => Refusal::TextTooLong { at },
         SyntaxFault::LongName(_) => Refusal::Limit {
             what: LimitKind::Name,
         },
@@ -43,7 +42,7 @@ fn parsed(alloc: Global, text: &[u8], tokens: &[Token]) -> Result<Statement, Fai
     requires spelled { Spells text.now tokens.now }
     requires short { length text.now ≤ longest_text }
     ensures says { IsReadAs text.now result }
-    ensures small { IfOk result (HasAtMost (length text.now)) }
+    ensures small { IfOk result IsSmall }
 {
     match parse(alloc, text, tokens) {
         Ok(statement) => Ok(statement),
@@ -60,7 +59,7 @@ fn parsed(alloc: Global, text: &[u8], tokens: &[Token]) -> Result<Statement, Fai
 pub fn read(alloc: Global, text: &[u8]) -> Result<Statement, Fail<Refusal>>
     requires { length text.now ≤ 268_435_456 }
     ensures says { IsReadAs text.now result }
-    ensures small { IfOk result (HasAtMost (length text.now)) }
+    ensures small { IfOk result IsSmall }
 {
     match tokens(alloc, text) {
         Ok(tokens) => parsed(alloc, text, tokens.as_slice()),

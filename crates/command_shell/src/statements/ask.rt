@@ -1,14 +1,14 @@
 //! `ask`: the certain rows of a query.
 
-ghost use Rattle.std.specs.Prelude.{◌≡◌, ◌<◌, ◌^◌, length};
+ghost use Rattle.std.specs.Prelude.{◌≡◌};
 ghost use Rattle.command_shell.specs.Replying.{Replies, IsOutcome};
 ghost use Rattle.command_shell.specs.Statements.Ask.{is_single, ask_fault, AnswersCertain};
 
 use crate::Session;
-use crate::certain::certain_rows;
 use crate::statements::unanswered::unanswered;
 use cqa_model::Refusal;
 use cqa_value::Fail;
+use join_witness::certain_rows;
 use query_resolve::resolve;
 use reply_text::Reply;
 use spj_syntax::Select;
@@ -26,7 +26,6 @@ fn is_over_one_table(select: &Select) -> bool
 ///
 /// The first check of the query that fails. A query over several tables isn't answered yet.
 pub fn ask(alloc: Global, session: &Session, select: &Select) -> Result<Reply, Fail<Refusal>>
-    requires { length select.now.conds < 2 ^ 32 }
     ensures { IsOutcome result session.now (Replies (ask_fault session.now.tables select.now) session.now (AnswersCertain session.now select.now)) session.now }
 {
     if !is_over_one_table(select) {

@@ -1,6 +1,6 @@
 //! `classify`: the class of a query and the attacks between its atoms.
 
-ghost use Rattle.std.specs.Prelude.{◌≡◌, ◌<◌, ◌≤◌, ◌^◌, ℕ, IfOk, length};
+ghost use Rattle.std.specs.Prelude.{◌<◌, ℕ, IfOk, length};
 ghost use Rattle.cqa_model.specs.declared.query.Query.{Query as QueryValue};
 ghost use Rattle.cqa_model.specs.Variables.{whole};
 ghost use Rattle.attack_graph.specs.Attacking.{AreAttacks, HasAttack, HasWeakAttack};
@@ -26,8 +26,6 @@ use std::alloc::Global;
 ///
 /// The first check of the query that fails.
 pub fn classify(alloc: Global, session: &Session, select: &Select) -> Result<Reply, Fail<Refusal>>
-    requires some_table { 1 ≤ length select.now.tables }
-    requires few { length select.now.conds < 2 ^ 32 }
     ensures { IsOutcome result session.now (Replies (query_fault session.now.tables select.now) session.now (Classifies session.now select.now)) session.now }
 {
     let query = resolve(alloc, session.database(), select)?;

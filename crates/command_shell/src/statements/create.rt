@@ -1,6 +1,5 @@
 //! `create`: a table without rows.
 
-ghost use Rattle.std.specs.Prelude.{◌≤◌, length};
 ghost use Rattle.query_resolve.specs.Checks.{schema_fault};
 ghost use Rattle.command_shell.specs.Replying.{Replies, IsOutcome};
 ghost use Rattle.command_shell.specs.Statements.Create.{Creates};
@@ -19,8 +18,6 @@ use std::alloc::Global;
 ///
 /// The first check of a schema that fails.
 pub fn create(alloc: Global, session: &mut Session, raw: &RawSchema) -> Result<Reply, Fail<Refusal>>
-    requires some_column { 1 ≤ length raw.now.columns }
-    requires some_key { 1 ≤ length raw.now.key }
     ensures { IsOutcome result session.old (Replies (schema_fault session.old.tables raw.now) session.old (Creates session.old raw.now)) session.new }
 {
     let name = raw.name.copy(alloc)?;

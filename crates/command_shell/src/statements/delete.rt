@@ -1,6 +1,7 @@
 //! `delete`: the rows for which all tests hold are taken from a table.
 
-ghost use Rattle.std.specs.Prelude.{◌<◌, ◌^◌, length};
+ghost use Rattle.std.specs.Prelude.{◌≤◌, length};
+ghost use Rattle.spj_syntax.specs.Limits.{most_items};
 ghost use Rattle.command_shell.specs.Replying.{Replies, IsOutcome};
 ghost use Rattle.command_shell.specs.Statements.Delete.{delete_from_fault, DeletesFrom};
 
@@ -24,7 +25,7 @@ pub fn delete(
     name: &Name,
     tests: &[RawTest],
 ) -> Result<Reply, Fail<Refusal>>
-    requires { length tests.now < 2 ^ 32 }
+    requires { length tests.now ≤ most_items }
     ensures { IsOutcome result session.old (Replies (delete_from_fault session.old.tables name.now tests.now) session.old (DeletesFrom session.old name.now tests.now)) session.new }
 {
     let table = table_place(alloc, &session.database, name)?;

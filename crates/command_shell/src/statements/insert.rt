@@ -1,6 +1,7 @@
 //! `insert`: rows are put into a table.
 
-ghost use Rattle.std.specs.Prelude.{◌<◌, ◌^◌, length};
+ghost use Rattle.std.specs.Prelude.{◌≤◌, length};
+ghost use Rattle.spj_syntax.specs.Limits.{most_items};
 ghost use Rattle.command_shell.specs.Replying.{Replies, IsOutcome};
 ghost use Rattle.command_shell.specs.Statements.Insert.{insert_into_fault, InsertsInto};
 
@@ -22,7 +23,7 @@ pub fn insert(
     name: &Name,
     rows: Items<Row>,
 ) -> Result<Reply, Fail<Refusal>>
-    requires { length rows < 2 ^ 32 }
+    requires { length rows ≤ most_items }
     ensures { IsOutcome result session.old (Replies (insert_into_fault session.old.tables name.now rows) session.old (InsertsInto session.old name.now rows)) session.new }
 {
     let table = table_place(alloc, &session.database, name)?;

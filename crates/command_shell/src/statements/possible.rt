@@ -1,6 +1,5 @@
 //! `possible`: the possible rows of a query.
 
-ghost use Rattle.std.specs.Prelude.{◌≤◌, ◌<◌, ◌^◌, length};
 ghost use Rattle.query_resolve.specs.Checks.{query_fault};
 ghost use Rattle.command_shell.specs.Replying.{Replies, IsOutcome};
 ghost use Rattle.command_shell.specs.Statements.Possible.{AnswersPossible};
@@ -20,8 +19,6 @@ use std::alloc::Global;
 ///
 /// The first check of the query that fails.
 pub fn possible(alloc: Global, session: &Session, select: &Select) -> Result<Reply, Fail<Refusal>>
-    requires some_table { 1 ≤ length select.now.tables }
-    requires few { length select.now.conds < 2 ^ 32 }
     ensures { IsOutcome result session.now (Replies (query_fault session.now.tables select.now) session.now (AnswersPossible session.now select.now)) session.now }
 {
     let database = session.database();

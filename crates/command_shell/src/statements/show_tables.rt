@@ -5,10 +5,10 @@ ghost use Rattle.command_shell.specs.Replying.{Replies, IsOutcome};
 ghost use Rattle.command_shell.specs.Statements.ShowTables.{IsTableLine, ShowsTables};
 
 use crate::Session;
-use crate::blocks::block_count;
 use cqa_model::Refusal;
 use cqa_value::{Fail, Items, NoMemory};
 use reply_text::{Reply, TableLine};
+use row_cursor::block_count;
 use std::alloc::Global;
 use table_blocks::Database;
 

@@ -2,7 +2,8 @@
 
 ghost use Rattle.std.specs.Prelude.{◌≡◌, ℕ, Some, Option, IfOk, IfErr};
 ghost use Rattle.cqa_model.specs.declared.refusal.Refusal.{Refusal as RefusalValue};
-ghost use Rattle.table_blocks.specs.Tables.{table_named, IsRefusedAs};
+ghost use Rattle.cqa_model.specs.Refusal.{IsRefusedAs};
+ghost use Rattle.table_blocks.specs.Tables.{table_named};
 ghost use Rattle.command_shell.specs.Replying.{on_table};
 
 use cqa_model::Refusal;

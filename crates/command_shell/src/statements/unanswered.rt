@@ -1,6 +1,6 @@
 //! Statements that the grammar allows and that aren't answered yet.
 
-ghost use Rattle.table_blocks.specs.Tables.{IsRefusedAs};
+ghost use Rattle.cqa_model.specs.Refusal.{IsRefusedAs};
 ghost use Rattle.command_shell.specs.Statements.Unanswered.{unanswered_fault};
 
 use cqa_model::Refusal;

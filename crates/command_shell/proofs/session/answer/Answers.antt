@@ -1,14 +1,9 @@
-use Rattle.std.proofs.Common.{length}
 use Rattle.std.specs.Option.{option_copied}
-use Rattle.command_shell.proofs.Doing.{at_most_more}
 use Rattle.command_shell.proofs.Sayings.{refused_by_form, done_as_read}
 use Rattle.command_shell.proofs.session.answer.Goals as goal
 
 pub returns-in_err-statement : goal.returns-in_err-statement
 returns-in_err-statement c = refused_by_form c.args.session.now c.args.text.now (option_copied c.args.block) c.from_residual.result c.in_err-statement.field-0.0 c.from_residual.ensures.1 c.in_err-statement.ensures.says
-
-pub execute-requires-clause-small : goal.execute-requires-clause-small
-execute-requires-clause-small c = at_most_more (length c.args.text.now) 268_435_456 c.in_ok-statement.statement c.requires c.in_ok-statement.ensures.small
 
 pub returns : goal.returns
 returns c =

@@ -1,5 +1,6 @@
 use Rattle.std.proofs.Common.{inr, refl, subst, ◌∙◌}
-use Rattle.table_blocks.specs.Tables.{IsRefusedAs, Deletes}
+use Rattle.cqa_model.specs.Refusal.{IsRefusedAs}
+use Rattle.table_blocks.specs.Tables.{Deletes}
 use Rattle.query_resolve.specs.Checks.{tests_fault}
 use Rattle.reply_text.specs.declared.reply.Reply.TheVariants.{Deleted}
 use Rattle.command_shell.specs.State.{State}

@@ -1,5 +1,6 @@
 use Rattle.std.proofs.Common.{refl, subst}
-use Rattle.table_blocks.specs.Tables.{insert_fault, IsRefusedAs}
+use Rattle.cqa_model.specs.Refusal.{IsRefusedAs}
+use Rattle.table_blocks.specs.Tables.{insert_fault}
 use Rattle.command_shell.specs.State.{State}
 use Rattle.command_shell.specs.Statements.Insert.{insert_into_fault, InsertsInto}
 use Rattle.command_shell.proofs.Doing.{refused_out}

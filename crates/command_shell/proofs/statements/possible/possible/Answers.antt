@@ -16,7 +16,7 @@ returns c =
         query = query;
         resolved = subst (λ db. IsQueryOf db select query) tables c.in_ok-query.ensures.resolved;
         rows = rows;
-        possible = subst (λ db. IsPossibleAnswer db query rows) tables c.in_ok-rows.ensures;
+        possible = subst (λ db. IsPossibleAnswer db query rows) tables c.in_ok-rows.ensures.possible;
         replies = refl;
         keeps = refl;
       },
