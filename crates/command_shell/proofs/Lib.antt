@@ -1,6 +1,3 @@
-pub mod BlockLists
-pub mod CertainCase
-pub mod CertainWalk
 pub mod Doing
 mod LineSteps
 pub mod FaultPlaces

@@ -7,14 +7,13 @@ ghost use Rattle.cqa_model.specs.declared.refusal.Refusal.TheVariants.{UnknownTa
 ghost use Rattle.reply_text.specs.declared.reply.Reply.TheVariants.{Refused as RefusedReply};
 ghost use Rattle.command_shell.specs.Machine.{is_single, IsTableLine, Replies};
 
-use crate::blocks::block_count;
-use crate::certain::certain_rows;
 use crate::classify::classify;
 use cqa_model::Refusal;
 use cqa_value::{Fail, Items, Name, NoMemory, Row};
-use join_witness::candidates;
+use join_witness::{candidates, certain_rows};
 use query_resolve::{resolve, resolve_schema, resolve_tests};
 use reply_text::{Reply, TableLine};
+use row_cursor::block_count;
 use spj_syntax::{RawSchema, RawTest, Select, Statement};
 use std::alloc::Global;
 use table_blocks::Database;

@@ -2,8 +2,6 @@
 #![tactic(auto)]
 
 mod answers;
-mod blocks;
-mod certain;
 mod classify;
 mod ending;
 mod execute;
