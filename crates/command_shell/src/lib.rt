@@ -14,6 +14,3 @@ mod verdict;
 pub use proof_check::{CheckReply, check_bytes};
 pub use session::{Session, text_says_one_thing};
 pub use top::run_words;
-
-#[cfg(test)]
-mod tests;

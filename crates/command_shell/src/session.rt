@@ -96,6 +96,3 @@ fn answer(
 pub fn text_says_one_thing()
     ensures { SaysOneThing }
 {}
-
-#[cfg(test)]
-mod queries;
