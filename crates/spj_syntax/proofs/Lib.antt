@@ -1,6 +1,7 @@
 pub mod Walking
 pub mod Exact
 pub mod Table
+pub mod Naming
 pub mod Steps
 pub mod Factoring
 pub mod Values

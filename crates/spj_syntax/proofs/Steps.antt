@@ -19,6 +19,7 @@ use Rattle.spj_syntax.specs.declared.tree.RawCol.{RawCol}
 use Rattle.std.proofs.Common.{codes}
 use Rattle.std.proofs.Common.{◌<◌}
 use Rattle.std.proofs.lemmas.List.{append-nil}
+use Rattle.spj_syntax.specs.Names.{AreNames}
 use Rattle.spj_syntax.specs.Walk.{nullable, followed_by, or_else, only_if, after, starts, has, opens, Opens, Outcome, Past, Stopped, ended, on, read}
 use Rattle.std.specs.Result.{IsErrAnd, IfOk}
 use Rattle.std.proofs.Common.{Result, Ok, Err}
@@ -27,7 +28,7 @@ use Rattle.spj_syntax.specs.declared.reader.Stop.{Stop}
 use Rattle.spj_syntax.specs.declared.reader.Stop.TheVariants.{NoMemory, Syntax}
 use Rattle.spj_syntax.specs.declared.lists.Between.{Between}
 use Rattle.spj_syntax.specs.declared.lists.Between.TheVariants as betweens
-use Rattle.spj_syntax.specs.Reading.{separator, separator_lexeme, Takes, Took, StopsAt, Failed, Reads, front_of, each_before, key_tokens, body_tokens}
+use Rattle.spj_syntax.specs.Reading.{separator, separator_lexeme, Pushes, Takes, Took, StopsAt, Failed, Reads, front_of, each_before, key_tokens, body_tokens}
 use Rattle.spj_syntax.specs.Parsed.{Fits}
 use Rattle.spj_syntax.proofs.Walking.{read-both, one_past, one_stopped, one_end, both_past, both_stopped, first_stopped, left_read, right_read, either_end, nothing_read, many_end, many_done, many_more, end_read, read_shorter, read_shrinks}
 
@@ -225,6 +226,9 @@ stops_at h = record { way = h }
 pub exit : {A : Type 0} {p : Shape} {e : Stop} {s z : List Lexeme} (w : A → List Lexeme) (r : Result A Stop) → IsErrAnd r (λ y. y ≡ e) → Failed p e s z → Reads p w r s z
 exit w r i h = let g = err_from_is_err_and r i in rw (g.1, g.2) h
 
+pub exit_pushes : {A : Type 0} {p : Shape} {e : Stop} {s z : List Lexeme} (w : A → List Lexeme) (kept : A → Type 0) (xs ys : List A) (r : Result (Unit {0}) Stop) → IsErrAnd r (λ y. y ≡ e) → Failed p e s z → Pushes p w kept r xs ys s z
+exit_pushes w kept xs ys r i h = let g = err_from_is_err_and r i in rw (g.1, g.2) h
+
 pub word_took : {w : List ℕ} {s z : List Lexeme} → Opens true (one (word w)) s → z ≡ drop 1 s → Took (one (word w)) (Word w ∷ []) s z
 word_took {w = w} {s = s} h e = rw e (word_taken w s (sym h.is))
 
@@ -359,10 +363,10 @@ pub each_before-push : {A : Type 0} (l : Lexeme) (f : A → List Lexeme) (xs : L
 each_before-push l f [] x = append-nil (f x ++ l ∷ [])
 each_before-push l f (y ∷ xs) x = ap (λ z. (f y ++ l ∷ []) ++ z) (each_before-push l f xs x) ∙ sym (append_assoc (f y ++ l ∷ []) (each_before l f xs) (f x ++ l ∷ []))
 
-pub created : {p : Shape} {s z : List Lexeme} (n : List ℕ) (cs : List Column) (k : List (List ℕ)) (some_column : 1 ≤ length cs) (some_key : 1 ≤ length k)
+pub created : {p : Shape} {s z : List Lexeme} (n : List ℕ) (cs : List Column) (k : List (List ℕ)) (some_column : 1 ≤ length cs) (some_key : 1 ≤ length k) (named : AreNames n cs k)
     → Took p (Word (codes "create") ∷ Word (codes "table") ∷ (name_tokens n ++ body_tokens (cs, k))) s z
-    → Took p (statement_tokens (Create (record { name = n; columns = cs; key = k; some_column = some_column; some_key = some_key }))) s z
-created {p = p} {s = s} {z = z} n cs k some_column some_key t =
+    → Took p (statement_tokens (Create (record { name = n; columns = cs; key = k; some_column = some_column; some_key = some_key; named = named }))) s z
+created {p = p} {s = s} {z = z} n cs k some_column some_key named t =
     subst (λ w. Took p (Word (codes "create") ∷ Word (codes "table") ∷ Word n ∷ Mark Open ∷ w) s z)
     (each_before-is (Mark Comma) column_tokens cs (key_tokens k ++ Mark Close ∷ []) some_column
     ∙ ap (λ w. between (Mark Comma) column_tokens cs ++ (Mark Comma ∷ Word (codes "primary") ∷ Word (codes "key") ∷ Mark Open ∷ w)) (append_assoc (listed_tokens name_tokens k) (Mark Close ∷ []) (Mark Close ∷ []))) t

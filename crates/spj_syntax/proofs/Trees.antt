@@ -3,8 +3,10 @@ use Rattle.std.proofs.Common.{◌≡◌, ◌⊎◌, inl, inr, ℕ, List, [], ◌
 use Rattle.std.proofs.Common.{◌≤◌, ◌+◌, ◌*◌, Bool, true, false, nat_eq}
 use Rattle.std.specs.List.{list_any}
 use Rattle.std.specs.Coded.{le_prop}
+use Rattle.std.proofs.Props.{props}
 use mathlib.Core.HLevel.{is_prop→PathP}
 use Rattle.spj_syntax.specs.Limits.{most_items}
+use Rattle.spj_syntax.specs.Names.{AreNames}
 use Rattle.script_lex.specs.declared.kinds.Symbol.{Symbol}
 use Rattle.script_lex.specs.declared.kinds.Symbol.TheVariants as s
 use Rattle.cqa_value.specs.declared.value.Kind.{Kind}
@@ -276,6 +278,9 @@ all_columns_decode (x ∷ xs) (y ∷ ys) r z p q e =
 abbrev key_rest : List (List ℕ) → List Lexeme
 key_rest names = Mark s.Open ∷ (listed_tokens name_tokens names ++ (Mark s.Close ∷ Mark s.Close ∷ []))
 
+are_names-prop : {n : List ℕ} {cs : List Column} {k : List (List ℕ)} → IsProp (AreNames n cs k)
+are_names-prop = hlevel props
+
 schema_same : (a b : RawSchema) → schema_tokens a ≡ schema_tokens b → a ≡ b
 schema_same a b e =
     let n : a.name ≡ b.name = cc in
@@ -291,6 +296,7 @@ schema_same a b e =
       key = y i;
       some_column = is_prop→PathP (λ j. 1 ≤ length (x j)) (λ j. le_prop) a.some_column b.some_column i;
       some_key = is_prop→PathP (λ j. 1 ≤ length (y j)) (λ j. le_prop) a.some_key b.some_key i;
+      named = is_prop→PathP (λ j. AreNames (n j) (x j) (y j)) (λ j. are_names-prop) a.named b.named i;
     }
 
 rows_same : (xs ys : List (List Value)) → listed_tokens row_tokens xs ≡ listed_tokens row_tokens ys → xs ≡ ys

@@ -1,4 +1,5 @@
 pub mod Limits
+pub mod Names
 pub mod Lexemes
 pub mod Shapes
 pub mod Walk

@@ -1,14 +1,6 @@
 -- The limits of a statement's parts.
 use Rattle.std.specs.Prelude.{ℕ}
 
--- the most bytes of a name
-abbrev pub longest_name : ℕ
-longest_name = 64
-
--- the most bytes of a text value
-abbrev pub longest_value : ℕ
-longest_value = 1_024
-
 -- the most conflicts that a search may be given
 abbrev pub most_conflicts : ℕ
 most_conflicts = 4_294_967_295

@@ -6,7 +6,9 @@ use Rattle.cqa_value.specs.Literals.{is_in_range}
 use Rattle.script_lex.specs.declared.kinds.Token.{Token}
 use Rattle.spj_syntax.specs.declared.fault.SyntaxFault.{SyntaxFault}
 use Rattle.spj_syntax.specs.declared.fault.SyntaxFault.TheVariants.{At, OutOfRange, TextTooLong, LongName}
-use Rattle.spj_syntax.specs.Limits.{longest_name, longest_value, most_conflicts}
+use Rattle.cqa_value.specs.declared.name.TheConstants.{LONGEST_TEXT_VALUE}
+use Rattle.cqa_model.specs.declared.limits.TheConstants.{LONGEST_NAME}
+use Rattle.spj_syntax.specs.Limits.{most_conflicts}
 use Rattle.spj_syntax.specs.Lexemes.{Lexeme, Word, Number, Quoted, Mark, lexeme}
 use Rattle.spj_syntax.specs.Shapes.{Generates, FirstFault}
 use Rattle.spj_syntax.specs.Grammar.{statement}
@@ -42,9 +44,9 @@ IsInRange false z = IsTrue (is_in_range z)
 
 -- Neither a name nor a text is too long.
 abbrev pub Fits : Bool → Lexeme → Type 0
-Fits set (Word w) = length w ≤ longest_name
+Fits set (Word w) = length w ≤ LONGEST_NAME
 Fits set (Number z) = IsInRange set z
-Fits set (Quoted t) = length t ≤ longest_value
+Fits set (Quoted t) = length t ≤ LONGEST_TEXT_VALUE
 Fits set (Mark s) = Unit {0}
 
 abbrev pub AllFit : List Lexeme → Type 0

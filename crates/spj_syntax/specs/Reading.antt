@@ -51,6 +51,17 @@ abbrev pub Reads : {A : Type 0} → Shape → (A → List Lexeme) → Result A S
 Reads p written (Ok v) old new = Took p (written v) old new
 Reads p written (Err e) old new = Failed p e old new
 
+-- An item is read and stands behind the others.
+pub record Pushed {A : Type 0} (p : Shape) (written : A → List Lexeme) (kept : A → Type 0) (items new_items : List A) (old new : List Lexeme) : Type 0 where
+  pub item : A
+  pub grown : new_items ≡ items ++ item ∷ []
+  pub took : Took p (written item) old new
+  pub is_kept : kept item
+
+abbrev pub Pushes : {A : Type 0} → Shape → (A → List Lexeme) → (A → Type 0) → Result (Unit {0}) Stop → List A → List A → List Lexeme → List Lexeme → Type 0
+Pushes p written kept (Ok _) items new_items old new = Pushed p written kept items new_items old new
+Pushes p written kept (Err e) items new_items old new = Failed p e old new
+
 -- what stands between the items of a list
 abbrev pub separator : Between → Terminal
 separator Comma = mark s.Comma

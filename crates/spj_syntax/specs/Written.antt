@@ -1,5 +1,5 @@
 -- How a statement is written as tokens.
-use Rattle.std.specs.Prelude.{◌≡◌, ◌<◌, ◌≤◌, length, List, [], ◌∷◌, ◌++◌, ℕ, Option, Some, None, true, codes, pos, All}
+use Rattle.std.specs.Prelude.{◌≡◌, ◌<◌, ◌≤◌, length, List, [], ◌∷◌, ◌++◌, ℕ, Option, Some, None, codes, pos}
 use Rattle.script_lex.specs.declared.kinds.Symbol.{Symbol}
 use Rattle.script_lex.specs.declared.kinds.Symbol.TheVariants as s
 use Rattle.cqa_value.specs.declared.value.Value.{Value}
@@ -20,11 +20,8 @@ use Rattle.spj_syntax.specs.declared.tree.Verb.{Verb}
 use Rattle.spj_syntax.specs.declared.tree.Verb.TheVariants as verbs
 use Rattle.spj_syntax.specs.declared.tree.Statement.{Statement}
 use Rattle.spj_syntax.specs.declared.tree.Statement.TheVariants as statements
-use Rattle.script_lex.specs.declared.kinds.TokenKind.TheVariants as token
-use Rattle.script_lex.specs.Tokens.{IsToken}
-use Rattle.spj_syntax.specs.Limits.{longest_name, most_items}
+use Rattle.spj_syntax.specs.Limits.{most_items}
 use Rattle.spj_syntax.specs.Lexemes.{Lexeme, Word, Number, Quoted, Mark}
-use Rattle.spj_syntax.specs.Shapes.{name, matches}
 
 abbrev pub name_tokens : List ℕ → List Lexeme
 name_tokens n = Word n ∷ []
@@ -122,17 +119,6 @@ statement_tokens statements.ShowLog = Word (codes "show") ∷ Word (codes "log")
 
 abbrev pub IsSome : {A : Type 0} → List A → Type 0
 IsSome xs = 0 < length xs
-
--- a name of the grammar, which isn't too long
-pub record IsName (bytes : List ℕ) : Type 0 where
-  pub word : IsToken token.Word bytes
-  pub allowed : matches name (Word bytes) ≡ true
-  pub short : length bytes ≤ longest_name
-
--- A table that is created has names, and so have its columns and its key.
-abbrev pub IsNamed : Statement → Type 0
-IsNamed (statements.Create r) = IsName r.name × All (λ c. IsName c.name) r.columns × All IsName r.key
-IsNamed _ = Unit {0}
 
 -- Its rows or its tests can be counted.
 abbrev pub IsSmall : Statement → Type 0

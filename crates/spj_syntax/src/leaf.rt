@@ -6,20 +6,16 @@ ghost use Rattle.std.specs.Prelude.{◌≡◌, ◌≤◌, ◌<◌, ◌++◌, ◌
 ghost use Rattle.std.specs.Str.{IsUtf8};
 ghost use Rattle.script_lex.specs.declared.kinds.TokenKind.TheVariants as token;
 ghost use Rattle.script_lex.specs.Tokens.{IsToken};
-ghost use Rattle.spj_syntax.specs.Limits.{longest_name, longest_value};
 ghost use Rattle.spj_syntax.specs.Lexemes.{Word, undoubled};
 ghost use Rattle.spj_syntax.specs.Shapes.{name, matches};
-ghost use Rattle.spj_syntax.specs.Written.{IsName};
+ghost use Rattle.cqa_model.specs.Valid.{IsName};
+ghost use Rattle.cqa_value.specs.declared.name.TheConstants.{LONGEST_TEXT_VALUE};
+ghost use Rattle.cqa_model.specs.declared.limits.TheConstants.{LONGEST_NAME};
 ghost use Rattle.cqa_value.specs.Literals.{are_digits, without_minus, is_in_range, integer_of};
 
-use cqa_value::{Fail, Name, NoMemory, Value, read_int};
+use cqa_model::LONGEST_NAME;
+use cqa_value::{Fail, LONGEST_TEXT_VALUE, Name, NoMemory, Value, read_int};
 use std::alloc::Global;
-
-/// The greatest number of bytes of a text value.
-const TEXT_BYTES: usize = 1024;
-
-/// The greatest number of bytes of a name.
-pub const NAME_BYTES: usize = 64;
 
 /// The word where it isn't too long, else any name.
 pub fn kept_word(word: &[u8]) -> &[u8]
@@ -27,19 +23,23 @@ pub fn kept_word(word: &[u8]) -> &[u8]
     requires allowed { matches name (Word word.now) ≡ true }
     ensures named { IsName result.now }
     ensures utf8 { IsUtf8 result.now }
-    ensures same { length word.now ≤ longest_name → result.now ≡ word.now }
+    ensures same { length word.now ≤ LONGEST_NAME → result.now ≡ word.now }
 {
-    if word.len() <= NAME_BYTES { word } else { b"_" }
+    if word.len() <= LONGEST_NAME {
+        word
+    } else {
+        b"_"
+    }
 }
 
 /// The bytes where they aren't too many, else none.
 fn kept(bytes: &[u8]) -> &[u8]
     requires { IsUtf8 bytes.now }
     ensures utf8 { IsUtf8 result.now }
-    ensures short { length result.now ≤ longest_value }
-    ensures same { length bytes.now ≤ longest_value → result.now ≡ bytes.now }
+    ensures short { length result.now ≤ LONGEST_TEXT_VALUE }
+    ensures same { length bytes.now ≤ LONGEST_TEXT_VALUE → result.now ≡ bytes.now }
 {
-    if bytes.len() <= TEXT_BYTES {
+    if bytes.len() <= LONGEST_TEXT_VALUE {
         bytes
     } else {
         b""
@@ -49,7 +49,7 @@ fn kept(bytes: &[u8]) -> &[u8]
 /// The bytes as a name where they aren't too many, else any name.
 pub fn short_name(alloc: Global, bytes: &[u8]) -> Result<Name, NoMemory>
     requires { IsUtf8 bytes.now }
-    ensures { IfOk result (λ n. length bytes.now ≤ longest_value → n ≡ bytes.now) }
+    ensures { IfOk result (λ n. length bytes.now ≤ LONGEST_TEXT_VALUE → n ≡ bytes.now) }
 {
     match Name::from_bytes(alloc, kept(bytes)) {
         Ok(name) => Ok(name),
@@ -74,12 +74,12 @@ fn next(bytes: &[u8], at: usize) -> usize
 
 /// Whether the bytes with each two quotes side by side taken as one aren't too many.
 pub fn is_short(bytes: &[u8]) -> bool
-    ensures { IsTrue result ↔ (length (undoubled bytes.now) ≤ longest_value) }
+    ensures { IsTrue result ↔ (length (undoubled bytes.now) ≤ LONGEST_TEXT_VALUE) }
 {
     let mut length = 0;
     let mut at = 0;
     while at < bytes.len() {
-        if length == TEXT_BYTES {
+        if length == LONGEST_TEXT_VALUE {
             return false;
         }
         length += 1;
@@ -91,13 +91,13 @@ pub fn is_short(bytes: &[u8]) -> bool
 /// The bytes with each two quotes side by side taken as one where these aren't too many, else any name.
 pub fn text_value(alloc: Global, bytes: &[u8]) -> Result<Name, NoMemory>
     requires { IsUtf8 (undoubled bytes.now) }
-    ensures { IfOk result (λ n. length (undoubled bytes.now) ≤ longest_value → n ≡ undoubled bytes.now) }
+    ensures { IfOk result (λ n. length (undoubled bytes.now) ≤ LONGEST_TEXT_VALUE → n ≡ undoubled bytes.now) }
 {
-    let mut value = [0; TEXT_BYTES];
+    let mut value = [0; LONGEST_TEXT_VALUE];
     let mut length = 0;
     let mut at = 0;
     while at < bytes.len() {
-        if length == TEXT_BYTES {
+        if length == LONGEST_TEXT_VALUE {
             return short_name(alloc, b"");
         }
         value[length] = bytes[at];

@@ -1,12 +1,13 @@
 //! Lists of a statement: items with a token between them, as rows, columns, names, tests and conditions.
 
 ghost use Rattle.std.specs.Prelude.{◌≡◌, ◌<◌, ◌≤◌, ◌++◌, ◌∷◌, [], refl, length, IfOk, All};
-ghost use Rattle.spj_syntax.specs.Reading.{Reads, separator, separator_lexeme, each_before};
+ghost use Rattle.spj_syntax.specs.Reading.{Reads, Pushes, separator, separator_lexeme, each_before};
 ghost use Rattle.spj_syntax.specs.Limits.{most_items};
 ghost use Rattle.spj_syntax.specs.Lexemes.{Mark};
 ghost use Rattle.spj_syntax.specs.Shapes.{mark, one, ◌⨾◌};
 ghost use Rattle.spj_syntax.specs.Walk.{Opens};
-ghost use Rattle.spj_syntax.specs.Written.{between, listed_tokens, filtered_tokens, literal_tokens, column_tokens, side_tokens, IsName};
+ghost use Rattle.spj_syntax.specs.Written.{between, listed_tokens, filtered_tokens, literal_tokens, column_tokens, side_tokens};
+ghost use Rattle.cqa_model.specs.Valid.{IsName};
 ghost use Rattle.spj_syntax.specs.Grammar as grammar;
 ghost use Rattle.spj_syntax.specs.Factored as factored;
 
@@ -55,6 +56,19 @@ fn sees(reader: &Reader<'_>, between: Between) -> bool
     }
 }
 
+/// Reads an item and puts it behind the others.
+fn push_piece<P: Piece>(
+    alloc: Global,
+    reader: &mut Reader<'_>,
+    items: &mut Items<P>,
+) -> Result<(), Stop>
+    ensures { Pushes P.shape P.tokens P.kept result items.old items.new reader.old reader.new }
+{
+    let item = P::piece(alloc, reader)?;
+    items.push(item)?;
+    Ok(())
+}
+
 /// One or more with a token between them.
 fn separated<P: Piece>(
     alloc: Global,
@@ -68,12 +82,10 @@ fn separated<P: Piece>(
 {
     let mut items = Items::new(alloc);
     prove!(reader.count() <= 1 << 20);
-    let first = P::piece(alloc, reader)?;
-    items.push(first)?;
+    push_piece(alloc, reader, &mut items)?;
     'items: while sees(reader, token) {
         reader.advance();
-        let item = P::piece(alloc, reader)?;
-        items.push(item)?;
+        push_piece(alloc, reader, &mut items)?;
     }
     Ok(items)
 }
@@ -131,21 +143,29 @@ pub fn literals(alloc: Global, reader: &mut Reader<'_>) -> Result<Row, Stop>
     ensures reads { Reads (grammar.listed grammar.literal) (listed_tokens literal_tokens) result reader.old reader.new }
     ensures some { IfOk result (λ v. 0 < length v) }
 {
-    let mut row = Row::new(alloc);
-    prove!(reader.count() <= 1 << 20);
-    let first = literal(alloc, reader)?;
-    row.push(first)?;
-    'items: while reader.sees_mark(Symbol::Comma) {
-        reader.advance();
-        let item = literal(alloc, reader)?;
-        row.push(item)?;
+    let values = listed::<Value>(alloc, reader)?;
+    Ok(Row::from_items(values))
+}
+
+impl Piece for Value {
+    ghost use Rattle.spj_syntax.specs.Grammar.{literal};
+    ghost use Rattle.spj_syntax.specs.Written.{literal_tokens};
+
+    ghost shape = { literal };
+
+    ghost tokens = { literal_tokens };
+
+    ghost takes_some = { refl };
+
+    fn piece(alloc: Global, reader: &mut Reader<'_>) -> Result<Self, Stop> {
+        literal(alloc, reader)
     }
-    Ok(row)
 }
 
 impl Piece for Name {
     ghost use Rattle.spj_syntax.specs.Grammar.{a_name};
-    ghost use Rattle.spj_syntax.specs.Written.{name_tokens, IsName};
+    ghost use Rattle.spj_syntax.specs.Written.{name_tokens};
+    ghost use Rattle.cqa_model.specs.Valid.{IsName};
 
     ghost shape = { a_name };
 

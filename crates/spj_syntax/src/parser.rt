@@ -8,14 +8,15 @@ ghost use Rattle.script_lex.specs.Tokens.{Spells, longest_text};
 ghost use Rattle.spj_syntax.specs.Lexemes.{lexeme, undoubled};
 ghost use Rattle.spj_syntax.specs.Parsed.{AllFit, Fits, IsStatement, IsFirstUnfit, IsInRange, Refuses, is_set, lexemes, place_of};
 ghost use Rattle.spj_syntax.specs.Reading.{IsReadable, IsUnfit, Parses, PlainFit, failure_of};
-ghost use Rattle.spj_syntax.specs.Written.{IsWrittenAs, IsNamed, IsSmall};
+ghost use Rattle.spj_syntax.specs.Written.{IsWrittenAs, IsSmall};
 ghost use Rattle.spj_syntax.specs.declared.tree.Statement.{Statement};
 ghost use Rattle.spj_syntax.specs.declared.fault.SyntaxFault.{SyntaxFault};
 
-use crate::leaf::{NAME_BYTES, is_short};
+use crate::leaf::is_short;
 use crate::reader::{Reader, Stop};
 use crate::statements::{plain, set};
 use crate::{Statement, SyntaxFault};
+use cqa_model::LONGEST_NAME;
 use cqa_value::{Fail, read_int};
 use script_lex::{Token, TokenKind};
 use std::alloc::Global;
@@ -65,7 +66,7 @@ fn unfit(text: &[u8], token: Token) -> Option<SyntaxFault>
     let bytes = &text[token.span.from..token.span.to];
     match token.kind {
         TokenKind::Word => {
-            if bytes.len() > NAME_BYTES {
+            if bytes.len() > LONGEST_NAME {
                 return Some(SyntaxFault::LongName(from));
             }
             None
@@ -105,7 +106,6 @@ fn parse_plain(alloc: Global, text: &[u8], tokens: &[Token]) -> Result<Statement
     requires short { length text.now ≤ longest_text }
     requires no_set { is_set (lexemes text.now tokens.now) ≡ false }
     ensures exact { Parses text.now tokens.now result }
-    ensures named { IfOk result (λ statement. IsNamed statement) }
     ensures small { IfOk result (λ statement. IsSmall statement) }
 {
     let mut reader = Reader::new(text, tokens);
@@ -143,7 +143,6 @@ fn parse_set(text: &[u8], tokens: &[Token]) -> Result<Statement, Fail<SyntaxFaul
     requires short { length text.now ≤ longest_text }
     requires set { is_set (lexemes text.now tokens.now) ≡ true }
     ensures exact { Parses text.now tokens.now result }
-    ensures named { IfOk result (λ statement. IsNamed statement) }
     ensures small { IfOk result (λ statement. IsSmall statement) }
 {
     let mut reader = Reader::new(text, tokens);
@@ -170,7 +169,6 @@ fn parse_readable(
     requires few { length tokens.now ≤ 2 ^ 20 }
     requires short { length text.now ≤ longest_text }
     ensures exact { Parses text.now tokens.now result }
-    ensures named { IfOk result (λ statement. IsNamed statement) }
     ensures small { IfOk result (λ statement. IsSmall statement) }
 {
     if Reader::new(text, tokens).sees_word(b"set") {
@@ -193,8 +191,7 @@ pub fn parse(alloc: Global, text: &[u8], tokens: &[Token]) -> Result<Statement, 
     ensures fit { OnOk result (AllFit (lexemes text.now tokens.now)) }
     ensures written { IfOk result (λ statement. IsWrittenAs statement (lexemes text.now tokens.now)) }
 
-    // A table that it creates has names, and its rows or tests can be counted.
-    ensures named { IfOk result (λ statement. IsNamed statement) }
+    // Its rows or its tests can be counted.
     ensures small { IfOk result (λ statement. IsSmall statement) }
 
     // A statement that fits is read, unless memory runs out; and no other statement is written so.

@@ -7,7 +7,8 @@ ghost use Rattle.cqa_value.specs.Literals.{integer_of, are_digits, without_minus
 ghost use Rattle.spj_syntax.specs.Grammar.{literal};
 ghost use Rattle.spj_syntax.specs.Parsed.{lexemes};
 ghost use Rattle.spj_syntax.specs.Reading.{Reads, front_of, seen, SeenSound, IsReadable};
-ghost use Rattle.spj_syntax.specs.Written.{name_tokens, IsName};
+ghost use Rattle.spj_syntax.specs.Written.{name_tokens};
+ghost use Rattle.cqa_model.specs.Valid.{IsName};
 ghost use Rattle.spj_syntax.specs.Shapes.{word, name, int, mark, one};
 ghost use Rattle.spj_syntax.specs.Walk.{Opens};
 

@@ -5,7 +5,8 @@ ghost use Rattle.cqa_value.specs.Literals.{integer_of, are_digits, without_minus
 ghost use Rattle.spj_syntax.specs.Lexemes.{Word, Number, Mark};
 ghost use Rattle.spj_syntax.specs.Reading.{Reads, key_tokens, body_tokens};
 ghost use Rattle.spj_syntax.specs.Shapes.{◌⨾◌};
-ghost use Rattle.spj_syntax.specs.Written.{head_tokens, select_tokens, verb_tokens, statement_tokens, listed_tokens, literal_tokens, name_tokens, row_tokens, IsName, IsNamed, IsSmall};
+ghost use Rattle.spj_syntax.specs.Written.{head_tokens, select_tokens, verb_tokens, statement_tokens, listed_tokens, literal_tokens, name_tokens, row_tokens, IsSmall};
+ghost use Rattle.cqa_model.specs.Valid.{IsName};
 ghost use Rattle.spj_syntax.specs.Grammar as grammar;
 ghost use Rattle.spj_syntax.specs.Factored as factored;
 
@@ -75,7 +76,6 @@ fn body(alloc: Global, reader: &mut Reader<'_>) -> Result<(Items<Column>, Items<
 fn create(alloc: Global, reader: &mut Reader<'_>) -> Result<Statement, Stop>
     ensures reads { Reads factored.create statement_tokens result reader.old reader.new }
     ensures small { IfOk result (λ s. IsSmall s) }
-    ensures named { IfOk result (λ s. IsNamed s) }
 {
     reader.word(b"create")?;
     reader.word(b"table")?;
@@ -93,7 +93,6 @@ fn create(alloc: Global, reader: &mut Reader<'_>) -> Result<Statement, Stop>
 fn insert(alloc: Global, reader: &mut Reader<'_>) -> Result<Statement, Stop>
     ensures reads { Reads grammar.insert statement_tokens result reader.old reader.new }
     ensures small { IfOk result (λ s. IsSmall s) }
-    ensures named { IfOk result (λ s. IsNamed s) }
 {
     reader.word(b"insert")?;
     reader.word(b"into")?;
@@ -107,7 +106,6 @@ fn insert(alloc: Global, reader: &mut Reader<'_>) -> Result<Statement, Stop>
 fn delete(alloc: Global, reader: &mut Reader<'_>) -> Result<Statement, Stop>
     ensures reads { Reads grammar.delete statement_tokens result reader.old reader.new }
     ensures small { IfOk result (λ s. IsSmall s) }
-    ensures named { IfOk result (λ s. IsNamed s) }
 {
     reader.word(b"delete")?;
     reader.word(b"from")?;
@@ -174,7 +172,6 @@ fn verb(alloc: Global, reader: &mut Reader<'_>) -> Result<Verb, Stop>
 fn asking(alloc: Global, reader: &mut Reader<'_>) -> Result<Statement, Stop>
     ensures reads { Reads factored.asking statement_tokens result reader.old reader.new }
     ensures small { IfOk result (λ s. IsSmall s) }
-    ensures named { IfOk result (λ s. IsNamed s) }
 {
     let verb = verb(alloc, reader)?;
     let select = query(alloc, reader)?;
@@ -185,7 +182,6 @@ fn asking(alloc: Global, reader: &mut Reader<'_>) -> Result<Statement, Stop>
 fn copy(alloc: Global, reader: &mut Reader<'_>) -> Result<Statement, Stop>
     ensures reads { Reads grammar.copy statement_tokens result reader.old reader.new }
     ensures small { IfOk result (λ s. IsSmall s) }
-    ensures named { IfOk result (λ s. IsNamed s) }
 {
     reader.word(b"copy")?;
     let table = reader.name(alloc)?;
@@ -196,7 +192,6 @@ fn copy(alloc: Global, reader: &mut Reader<'_>) -> Result<Statement, Stop>
 fn show(reader: &mut Reader<'_>) -> Result<Statement, Stop>
     ensures reads { Reads factored.show statement_tokens result reader.old reader.new }
     ensures small { IfOk result (λ s. IsSmall s) }
-    ensures named { IfOk result (λ s. IsNamed s) }
 {
     reader.word(b"show")?;
     if reader.sees_word(b"tables") {
@@ -222,7 +217,6 @@ pub fn set<'a>(reader: &mut Reader<'a>) -> Result<&'a [u8], Stop>
 pub fn plain(alloc: Global, reader: &mut Reader<'_>) -> Result<Statement, Stop>
     ensures reads { Reads factored.plain statement_tokens result reader.old reader.new }
     ensures small { IfOk result (λ s. IsSmall s) }
-    ensures named { IfOk result (λ s. IsNamed s) }
 {
     if reader.sees_word(b"create") {
         return create(alloc, reader);

@@ -2,11 +2,12 @@
 
 ghost use Rattle.std.specs.Prelude.{◌≤◌, length};
 ghost use Rattle.spj_syntax.specs.Limits.{most_items};
+ghost use Rattle.spj_syntax.specs.Names.{AreNames};
 
 use cqa_model::{Column, Op};
 use cqa_value::{Items, Name, Row, Value};
 
-/// A schema as it is written: its columns, one or more, and the names of its key, one or more.
+/// A schema as it is written: a name, one column or more, and a key of one column or more, each by its name.
 #[derive(Drop)]
 pub struct RawSchema {
     pub name: Name,
@@ -14,6 +15,7 @@ pub struct RawSchema {
     pub key: Items<Name>,
     pub ghost some_column: { 1 ≤ length columns },
     pub ghost some_key: { 1 ≤ length key },
+    pub ghost named: { AreNames name columns key },
 }
 
 /// A test of a `delete`.

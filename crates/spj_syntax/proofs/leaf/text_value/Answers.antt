@@ -11,10 +11,10 @@ too_long bytes value n at v e h k s =
     let more : 0 < length (undoubled (drop at bytes)) = undoubled_some (drop at bytes) (omega (arith, length-drop at bytes)) in
     omega (arith, more, ap length k, length-append (take n value) (undoubled (drop at bytes)), length-take-le n value (omega arith))
 
-pub returns-then-length-eq-TEXT_BYTES : goal.returns-then-length-eq-TEXT_BYTES
-returns-then-length-eq-TEXT_BYTES c =
+pub returns-then-length-eq-LONGEST_TEXT_VALUE : goal.returns-then-length-eq-LONGEST_TEXT_VALUE
+returns-then-length-eq-LONGEST_TEXT_VALUE c =
     IfOk-weaker c.short_name.result _ _
-    (λ n h s. absurd (too_long c.args.bytes.now c.loop-at.value c.loop-at.length c.loop-at.at c.loop-at.invariant.size c.if-length-eq-TEXT_BYTES.true c.loop-at-test.true c.loop-at.invariant.value s)) c.short_name.ensures
+    (λ n h s. absurd (too_long c.args.bytes.now c.loop-at.value c.loop-at.length c.loop-at.at c.loop-at.invariant.size c.if-length-eq-LONGEST_TEXT_VALUE.true c.loop-at-test.true c.loop-at.invariant.value s)) c.short_name.ensures
 
 pub loop-at-preserved : goal.loop-at-preserved
 loop-at-preserved c = record {

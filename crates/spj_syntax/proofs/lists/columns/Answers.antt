@@ -2,7 +2,8 @@ use Rattle.std.proofs.Common.{◌≡◌, ◌∷◌, [], arith, refl, sym, ◌∙
 use Rattle.std.proofs.lemmas.List.{append-nil}
 use Rattle.script_lex.specs.declared.kinds.Symbol.TheVariants.{Comma}
 use Rattle.spj_syntax.specs.Lexemes.{Mark}
-use Rattle.spj_syntax.specs.Written.{column_tokens, IsName}
+use Rattle.spj_syntax.specs.Written.{column_tokens}
+use Rattle.cqa_model.specs.Valid.{IsName}
 use Rattle.cqa_model.specs.declared.schema.Column.{Column}
 use Rattle.std.proofs.lemmas.List.Elements.{All-cons, All-nil, All-push}
 use Rattle.spj_syntax.specs.Reading.{each_before}

@@ -4,7 +4,8 @@ use Rattle.spj_syntax.specs.Lexemes.{Mark}
 use Rattle.spj_syntax.specs.Shapes.{one, mark, ◌⨾◌, many}
 use Rattle.spj_syntax.specs.Grammar.{column}
 use Rattle.spj_syntax.specs.Factored.{columns}
-use Rattle.spj_syntax.specs.Written.{column_tokens, IsName}
+use Rattle.spj_syntax.specs.Written.{column_tokens}
+use Rattle.cqa_model.specs.Valid.{IsName}
 use Rattle.std.specs.List.{All}
 use Rattle.spj_syntax.specs.Reading.{each_before}
 use Rattle.spj_syntax.proofs.Steps.{Rest}

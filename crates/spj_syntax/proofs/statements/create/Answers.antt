@@ -15,4 +15,4 @@ pub returns-in_err-parts-clause-reads : goal.returns-in_err-parts-clause-reads
 returns-in_err-parts-clause-reads c = exit _ _ c.from_residual-in_err-parts.ensures.1 (fails_then c.in_ok-word.ensures (fails_then c.in_ok-word-2.ensures (fails_then c.in_ok-name.ensures.reads c.in_err-parts.ensures.reads)))
 
 pub returns-clause-reads : goal.returns-clause-reads
-returns-clause-reads c = created _ _ _ c.in_ok-parts.ensures.some.0 c.in_ok-parts.ensures.some.1 (took_both c.in_ok-word.ensures (took_both c.in_ok-word-2.ensures (took_both c.in_ok-name.ensures.reads c.in_ok-parts.ensures.reads refl) refl) refl)
+returns-clause-reads c = created _ _ _ c.in_ok-parts.ensures.some.0 c.in_ok-parts.ensures.some.1 (record { of_table = c.in_ok-name.ensures.named; of_columns = c.in_ok-parts.ensures.named.0; of_key = c.in_ok-parts.ensures.named.1 }) (took_both c.in_ok-word.ensures (took_both c.in_ok-word-2.ensures (took_both c.in_ok-name.ensures.reads c.in_ok-parts.ensures.reads refl) refl) refl)
