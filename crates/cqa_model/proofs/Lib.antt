@@ -5,7 +5,6 @@ pub mod Repairs
 pub mod Views
 pub mod BlockOrder
 pub mod Places
-mod Prefixes
 pub mod Fitting
 pub mod Agreement
 pub mod Exchange

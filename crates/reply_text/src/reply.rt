@@ -1,3 +1,5 @@
+//! What a statement is answered by.
+
 use cqa_model::{Class, Refusal, Schema};
 use cqa_value::{Items, Name, Row};
 
