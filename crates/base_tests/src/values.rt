@@ -2,7 +2,10 @@
 
 ghost use Rattle.std.specs.Prelude.{◌≡◌, length};
 
-use cqa_value::{Fail, Items, Kind, LONGEST_TEXT_VALUE, Name, NameFault, Row, Value, compare, literal_text, row_text};
+use cqa_value::{
+    Fail, Items, Kind, LONGEST_TEXT_VALUE, Name, NameFault, Row, Value, compare, literal_text,
+    row_text,
+};
 use std::alloc::Global;
 use std::cmp::Ordering;
 use std::test::Fail as TestFail;
@@ -24,7 +27,10 @@ fn literals_are_written(rt: HostRuntime) -> Result<(), TestFail> {
     let mut out = Vec::new(rt.alloc());
     literal_text(&Value::Int(i64::MIN), &mut out)?;
     write_text(rt.alloc(), "Tromsø's".as_bytes(), &mut out)?;
-    assert_eq!(rt; out.as_slice(), "-9223372036854775808'Tromsø''s'".as_bytes());
+    assert_eq!(rt;
+        out.as_slice(),
+        "-9223372036854775808'Tromsø''s'".as_bytes()
+    );
     Ok(())
 }
 
@@ -69,8 +75,18 @@ fn names_are_bounded(rt: HostRuntime) -> Result<(), TestFail> {
     let count = longest.as_str().len();
     drop(longest);
     assert_eq!(rt; count, 1_024);
-    assert!(rt; matches!(Name::from_bytes(rt.alloc(), bytes.as_slice()), Err(Fail::Refused(NameFault::TooLong))));
-    assert!(rt; matches!(Name::from_bytes(rt.alloc(), b"ab\xff"), Err(Fail::Refused(NameFault::NotUtf8(2)))));
+    assert!(rt;
+        matches!(
+            Name::from_bytes(rt.alloc(), bytes.as_slice()),
+            Err(Fail::Refused(NameFault::TooLong))
+        )
+    );
+    assert!(rt;
+        matches!(
+            Name::from_bytes(rt.alloc(), b"ab\xff"),
+            Err(Fail::Refused(NameFault::NotUtf8(2)))
+        )
+    );
     Ok(())
 }
 
