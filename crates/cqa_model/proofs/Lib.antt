@@ -15,6 +15,7 @@ pub mod Exactness
 pub mod Attacks
 pub mod Cycles
 pub mod Interface
+pub mod AttackDecisions
 pub mod Preferring
 pub mod Witnesses
 pub mod Formula
