@@ -1,3 +1,5 @@
+//! The numbers of the calls of a device in memory.
+
 ghost use Rattle.std.specs.Prelude.{◌≡◌};
 ghost use Rattle.cqa_io.specs.Memory.{after_call, next_fails};
 

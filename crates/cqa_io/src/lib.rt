@@ -5,8 +5,6 @@ mod calls;
 mod memory;
 mod standard;
 mod streams;
-#[cfg(test)]
-mod tests;
 
 pub use memory::{MemSink, MemSource};
 pub use standard::{StdSink, StdSource};

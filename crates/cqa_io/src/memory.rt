@@ -1,3 +1,5 @@
+//! Devices over memory, whose calls fail as they are told to.
+
 ghost use Rattle.std.specs.Prelude.{◌≡◌, ◌<◌, ◌≤◌, IfOk};
 
 use crate::calls::Calls;

@@ -67,6 +67,9 @@ dec_both (yes a) (yes b) = yes (a, b)
 dec_both (yes a) (no f) = no (λ p. f p.1)
 dec_both (no f) d = no (λ p. f p.0)
 
+pub dec_three : {A B C : Type 0} → Dec A → Dec B → Dec C → Dec (A × B × C)
+dec_three d e f = dec_by (λ p. (p.0, p.1.0, p.1.1)) (λ p. (p.0, (p.1, p.2))) (dec_both d (dec_both e f))
+
 pub dec_or : {A B : Type 0} → Dec A → Dec B → Dec (A ⊎ B)
 dec_or (yes a) d = yes (inl a)
 dec_or (no f) (yes b) = yes (inr b)

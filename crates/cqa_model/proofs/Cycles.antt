@@ -1,16 +1,20 @@
 -- A plan exists exactly where the attacks have no cycle.
 use Rattle.std.proofs.Common.{◌≡◌, ℕ, zero, suc, ◌<◌, ◌≤◌, ◌≢◌, ◌⊎◌, inl, inr, List, [], ◌∷◌, length, refl, sym, subst, arith, Contains}
 use Rattle.std.proofs.lemmas.List.Elements.{All-contains}
-use native.Mathlib.Decide.{ℕ_discrete}
+use native.Mathlib.Decide.{ℕ_discrete, dec_lt}
+use Rattle.cqa_model.specs.declared.query.ColRef.{ColRef}
 use Rattle.cqa_model.specs.declared.query.Query.{Query}
 use Rattle.cqa_model.specs.Query.{atom_at, atom_key}
 use Rattle.cqa_model.specs.Variables.{View, whole, after}
 use Rattle.cqa_model.specs.Graph.{Attacks, IsWalk, HasCycle}
 use Rattle.cqa_model.specs.Plan.{IsUnattacked, IsPlan}
 use Rattle.cqa_model.specs.Laws.{PlanOrCycle}
-use Rattle.cqa_model.proofs.Classic.{Classically, mem-head, mem-tail, mem-nil, mem-cases, mem-eq}
+use Rattle.cqa_model.proofs.Classic.{dec_both}
+use Rattle.cqa_model.proofs.Values.{dec_not}
 use Rattle.cqa_model.proofs.Reification.{remove}
 use Rattle.cqa_model.proofs.Attacks.{IsClosed, after-closed, rest, kept}
+use Rattle.cqa_model.proofs.Interface.{dec_fixed_after}
+use Rattle.cqa_model.proofs.AttackDecisions.{below, below-all, attacked}
 
 module _ (q : Query) (view : View) where
   walk-start : (A : ℕ) (Hs : List ℕ) (B : ℕ) → IsWalk (Attacks q view) A Hs B → view.has A
@@ -86,44 +90,44 @@ module _ (q : Query) where
     pub stuck : (atoms : List ℕ) → ((F : ℕ) → view.has F → Contains atoms F) → (x : ℕ) → view.has x → HasCycle q view
     stuck atoms all x hx = come_round (length atoms) atoms (omega arith) x hx (λ y hy. inl (all y hy))
 
--- the least number with a property
-least : (P : ℕ → Type 0) (n m : ℕ) → m < n → P m → Classically ((k : ℕ) × P k × ((j : ℕ) → j < k → P j → ⊥))
-least P zero m l p k = absurd (omega arith)
-least P (suc n) m l p k = k (m, p, λ j lj pj. least P n j (omega arith) pj k)
-
--- what holds of each element, cases being split, holds of all
-each : (P : ℕ → Type 0) (xs : List ℕ) → ((x : ℕ) → Contains xs x → Classically (P x)) → Classically ((x : ℕ) → Contains xs x → P x)
-each P [] h k = k (λ x m. absurd (mem-nil x m))
-each P (y ∷ ys) h k = h y (mem-head y ys) (λ p. each P ys (λ x m. h x (mem-tail x y ys m)) (λ ps.
-    k (λ x m. elim (mem-cases x y ys m) [ inl e ↦ subst P e p | inr n ↦ ps x n ])))
+-- the least number below n with a decided property, if there is one
+least : (P : ℕ → Type 0) → ((k : ℕ) → Dec (P k)) → (n : ℕ) → ((k : ℕ) × (k < n) × P k × ((j : ℕ) → j < k → P j → ⊥)) ⊎ ((k : ℕ) → k < n → P k → ⊥)
+least P d zero = inr (λ k l p. absurd (omega arith))
+least P d (suc n) = go (least P d n) (d n)
+  where
+    go : ((k : ℕ) × (k < n) × P k × ((j : ℕ) → j < k → P j → ⊥)) ⊎ ((k : ℕ) → k < n → P k → ⊥) → Dec (P n) →
+        ((k : ℕ) × (k < suc n) × P k × ((j : ℕ) → j < k → P j → ⊥)) ⊎ ((k : ℕ) → k < suc n → P k → ⊥)
+    go (inl h) e = let l : h.0 < n = h.1 in inl (h.0, omega arith, h.2, h.3)
+    go (inr none) (yes p) = inl (n, omega arith, p, none)
+    go (inr none) (no np) = inr (λ k l p. elim (ℕ_discrete k n) [ yes e ↦ np (subst P e p) | no ne ↦ none k (omega arith) p ])
 
 -- a view without a cycle has a plan
 module _ (q : Query) where
-  unattacked : (atoms : List ℕ) (view : View) → ((F : ℕ) → view.has F → Contains atoms F) → (HasCycle q view → ⊥) → (x : ℕ) → view.has x →
-      Classically ((F : ℕ) × (view.has F × IsUnattacked q view F))
-  unattacked atoms view all acyclic x hx k =
-      each (λ F. view.has F → (G : ℕ) × Attacks q view G F) atoms
-      (λ F m c. c (λ hF. absurd (k (F, (hF, λ G a. c (λ h. (G, a)))))))
-      (λ attackers. acyclic (stuck q view (λ F hF. attackers F (all F hF) hF) atoms all x hx))
-
   pub plannable : (n : ℕ) (atoms : List ℕ) → length atoms ≤ n → (view : View) → IsClosed q view → ((F : ℕ) → view.has F → Contains atoms F) →
-      (HasCycle q view → ⊥) → Classically ((plan : List ℕ) × IsPlan q view plan)
-  plannable zero atoms le view closed all acyclic k = k ([], λ F hF. none (all F hF))
+      ((K : ℕ) → view.has K → K < length q.atoms) → ((K : ℕ) → Dec (view.has K)) → ((v : ColRef) → Dec (view.fixed v)) →
+      (HasCycle q view → ⊥) → (plan : List ℕ) × IsPlan q view plan
+  plannable zero atoms le view closed all within dec_has dec_fixed acyclic = ([], λ F hF. none (all F hF))
     where
       none : {F : ℕ} → Contains atoms F → ⊥
       none m = let l : m.0 < length atoms = m.1 in omega arith
-  plannable (suc n) atoms le view closed all acyclic k = k (
-    [],
-    λ x hx.
-        unattacked atoms view all acyclic x hx (λ f.
-        least (λ F. view.has F × IsUnattacked q view F) (suc f.0) f.0 (omega arith) f.1 (λ g.
-        let r = remove atoms g.0 (all g.0 g.1.0) in
-        let e : length atoms ≡ suc (length r.0) = r.1 in
-        plannable n r.0 (omega arith) (after q view g.0) (after-closed q view closed g.0)
-        (λ F hF. elim (r.2 F (all F hF.0)) [ inl f ↦ absurd (hF.1 (sym f)) | inr m ↦ m ])
-        (λ c. acyclic (has_cycle-before q view closed g.0 c))
-        (λ p. k (g.0 ∷ p.0, (g.1.0, g.1.1, (λ G hG lG uG. g.2 G lG (hG, uG)), p.1))))),
-  )
+  plannable (suc n) atoms le view closed all within dec_has dec_fixed acyclic =
+      go (least (λ F. view.has F × IsUnattacked q view F) (λ F. dec_both (dec_has F) (dec_unattacked F)) (length q.atoms))
+      (λ g hg. let r = remove atoms g (all g hg) in let e : length atoms ≡ suc (length r.0) = r.1 in
+      plannable n r.0 (omega arith) (after q view g) (after-closed q view closed g)
+      (λ F hF. elim (r.2 F (all F hF.0)) [ inl f ↦ absurd (hF.1 (sym f)) | inr m ↦ m ])
+      (λ K hK. within K hK.0) (λ K. dec_both (dec_has K) (dec_not (ℕ_discrete K g))) (dec_fixed_after q view dec_fixed g)
+      (λ c. acyclic (has_cycle-before q view closed g c)))
+    where
+      attackers : (F : ℕ) → ((G : ℕ) × Attacks q view G F) ⊎ IsUnattacked q view F
+      attackers = attacked q view closed within dec_has dec_fixed
+
+      dec_unattacked : (F : ℕ) → Dec (IsUnattacked q view F)
+      dec_unattacked F = elim (attackers F) [ inl a ↦ no (λ u. u a.0 a.1) | inr u ↦ yes u ]
+
+      go : ((F : ℕ) × (F < length q.atoms) × (view.has F × IsUnattacked q view F) × ((G : ℕ) → G < F → (view.has G × IsUnattacked q view G) → ⊥)) ⊎ ((F : ℕ) → F < length q.atoms → (view.has F × IsUnattacked q view F) → ⊥) →
+          ((g : ℕ) → view.has g → (plan : List ℕ) × IsPlan q (after q view g) plan) → (plan : List ℕ) × IsPlan q view plan
+      go (inl (g, l, u, first)) next = let p = next g u.0 in (g ∷ p.0, (u.0, u.1, (λ G hG lG uG. first G lG (hG, uG)), p.1))
+      go (inr none) next = ([], λ x hx. acyclic (stuck q view (λ F hF. elim (attackers F) [ inl a ↦ a | inr u ↦ absurd (none F (within F hF) (hF, u)) ]) atoms all x hx))
 
   -- the plan is unique
   pub one_plan : (view : View) (p o : List ℕ) → IsPlan q view p → IsPlan q view o → p ≡ o
@@ -136,27 +140,13 @@ module _ (q : Query) where
       go (yes e) next = let es : p ≡ o = next (subst (λ z. IsPlan q (after q view z) o) (sym e) ho.3) in cc
       go (no ne) next = absurd (grind (arith, hp.2 G ho.0, ho.2 F hp.0, hp.1, ho.1))
 
--- the numbers below n
-pub below : ℕ → List ℕ
-below zero = []
-below (suc n) = n ∷ below n
-
-pub below-all : (n F : ℕ) → F < n → Contains (below n) F
-unfolding below
-below-all zero F l = absurd (omega arith)
-below-all (suc n) F l = go (ℕ_discrete n F) (λ k. below-all n F k)
-  where
-    go : Dec (n ≡ F) → (F < n → Contains (below n) F) → Contains (n ∷ below n) F
-    go (yes e) next = mem-eq n F (n ∷ below n) e (mem-head n (below n))
-    go (no ne) next = mem-tail F n (below n) (next (omega arith))
-
 pub whole-narrow : (q : Query) → IsNarrow q (whole q)
 whole-narrow q K hK p m = All-contains (λ p. p < (atom_at q K).width) (atom_key q K) p (q.kept.each K hK).key_in_range m
 
 pub plan_or_cycle : PlanOrCycle
 plan_or_cycle = record {
   not_both = λ q plan h c. planned q plan (whole q) (λ u v l f. f) (whole-narrow q) h c;
-  not_neither = λ q no_plan acyclic. plannable q (length (below (length q.atoms))) (below (length q.atoms)) (omega arith) (whole q) (λ u v l f. f)
-      (λ F hF. below-all (length q.atoms) F hF) acyclic (λ p. no_plan p.0 p.1);
+  some = λ q acyclic. plannable q (length (below (length q.atoms))) (below (length q.atoms)) (omega arith) (whole q) (λ u v l f. f)
+      (λ F hF. below-all (length q.atoms) F hF) (λ K hK. hK) (λ K. dec_lt K (length q.atoms)) (λ v. no (λ f. f)) acyclic;
   one = λ q plan other h o. one_plan q (whole q) plan other h o;
 }

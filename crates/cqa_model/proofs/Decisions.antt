@@ -12,7 +12,7 @@ use Rattle.cqa_model.specs.Repairs.{SharesKey}
 use Rattle.cqa_model.specs.Database.{nothing}
 use Rattle.cqa_model.specs.Variables.{IsChain, IsLinked, AreLinked}
 use Rattle.cqa_model.specs.Plan.{Placed, TestHolds, Fits, PlanHolds}
-use Rattle.cqa_model.proofs.Classic.{mem-head, mem-tail, mem-nil, mem-cases, dec_both, dec_or, dec_if, dec_below, dec_each, dec_some}
+use Rattle.cqa_model.proofs.Classic.{mem-head, mem-tail, mem-nil, mem-cases, dec_both, dec_three, dec_or, dec_if, dec_below, dec_each, dec_some}
 use Rattle.cqa_model.proofs.Values.{dec_by, dec_op, value_discrete}
 use Rattle.cqa_model.proofs.Links
 use Rattle.cqa_model.proofs.Repairs.{dec_shares}
@@ -103,7 +103,7 @@ dec_test F x (Join c d) = yes tt
 dec_test F x (Test c op y) = dec_if (ℕ_discrete c.atom F) (dec_op op (get_or x c.col nothing) y)
 
 pub dec_fits : (q : Query) (row : List Value) (taken : List Placed) (F : ℕ) (x : List Value) → Dec (Fits q row taken F x)
-dec_fits q row taken F x = dec_by (λ p. record { agrees = p.0; tests = p.1; answers = p.2 }) (λ f. (f.agrees, f.tests, f.answers)) (three
+dec_fits q row taken F x = dec_by (λ p. record { agrees = p.0; tests = p.1; answers = p.2 }) (λ f. (f.agrees, f.tests, f.answers)) (dec_three
     (dec_each (λ t. (i : ℕ) → i < (atom_at q F).width → (j : ℕ) → j < (atom_at q t.atom).width → AreLinked q (record { atom = F; col = i }) (record { atom = t.atom; col = j }) → get_or x i nothing ≡ get_or t.row j nothing)
     (λ t. dec_below (λ i. (j : ℕ) → j < (atom_at q t.atom).width → AreLinked q (record { atom = F; col = i }) (record { atom = t.atom; col = j }) → get_or x i nothing ≡ get_or t.row j nothing)
     (λ i. dec_below (λ j. AreLinked q (record { atom = F; col = i }) (record { atom = t.atom; col = j }) → get_or x i nothing ≡ get_or t.row j nothing)
@@ -112,9 +112,6 @@ dec_fits q row taken F x = dec_by (λ p. record { agrees = p.0; tests = p.1; ans
     (dec_each (λ k. TestHolds F x k) (dec_test F x) q.conds)
     (dec_below (λ i. (get_or q.answer i (record { atom = 0; col = 0 })).atom ≡ F → get_or x (get_or q.answer i (record { atom = 0; col = 0 })).col nothing ≡ get_or row i nothing)
     (λ i. dec_if (ℕ_discrete (get_or q.answer i (record { atom = 0; col = 0 })).atom F) (value_discrete (get_or x (get_or q.answer i (record { atom = 0; col = 0 })).col nothing) (get_or row i nothing))) (length q.answer)))
-  where
-    three : {A B C : Type 0} → Dec A → Dec B → Dec C → Dec (A × B × C)
-    three d e f = dec_by (λ p. (p.0, p.1.0, p.1.1)) (λ p. (p.0, (p.1, p.2))) (dec_both d (dec_both e f))
 
 pub dec_plan : (q : Query) (tables : List (List (List Value))) (row : List Value) (taken : List Placed) (plan : List ℕ) → Dec (PlanHolds q tables row taken plan)
 dec_plan q tables row taken [] = yes tt

@@ -5,7 +5,6 @@ pub mod Repairs
 pub mod Views
 pub mod BlockOrder
 pub mod Places
-mod Prefixes
 pub mod Fitting
 pub mod Agreement
 pub mod Exchange
@@ -16,6 +15,7 @@ pub mod Exactness
 pub mod Attacks
 pub mod Cycles
 pub mod Interface
+pub mod AttackDecisions
 pub mod Preferring
 pub mod Witnesses
 pub mod Formula

@@ -18,10 +18,10 @@ RewritingIsExact =
     (db : List Table) (q : Query) (row : List Value) (plan : List ℕ) →
     FitsDatabase q db → length row ≡ length q.answer → IsPlanOf q plan → HoldsOver db q row plan ↔ IsCertain db q row
 
--- A query has exactly one of a plan and a cycle of attacks, and at most one plan.
+-- A query has a plan exactly where its attacks have no cycle, and at most one (Koutris and Wijsen, ACM TODS 2017).
 pub record PlanOrCycle : Type 0 where
   pub not_both : (q : Query) (plan : List ℕ) → IsPlanOf q plan → HasCycle q (whole q) → ⊥
-  pub not_neither : (q : Query) → ((plan : List ℕ) → IsPlanOf q plan → ⊥) → (HasCycle q (whole q) → ⊥) → ⊥
+  pub some : (q : Query) → (HasCycle q (whole q) → ⊥) → (plan : List ℕ) × IsPlanOf q plan
   pub one : (q : Query) (plan other : List ℕ) → IsPlanOf q plan → IsPlanOf q other → plan ≡ other
 
 -- a repair holds no witness of a row

@@ -14,7 +14,7 @@ pub fn rewriting_is_exact()
     ensures { RewritingIsExact }
 {}
 
-/// A query has exactly one of a plan and a cycle of attacks, and at most one plan.
+/// A query has a plan exactly where its attacks have no cycle, and at most one.
 pub fn plan_or_cycle()
     ensures { PlanOrCycle }
 {}

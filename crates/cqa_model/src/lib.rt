@@ -22,6 +22,3 @@ pub use refusal::{LimitKind, Place, Refusal};
 pub use schema::{Column, Schema};
 pub use text::schema_text;
 pub use variable_class::Variables;
-
-#[cfg(test)]
-mod tests;

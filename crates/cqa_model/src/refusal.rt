@@ -1,3 +1,5 @@
+//! Why a statement is refused.
+
 use cqa_value::{Name, Row};
 
 /// Why a statement was refused. Offsets count the bytes of the statement's text from 0; rows, columns, conditions and

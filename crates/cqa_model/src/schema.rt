@@ -1,3 +1,5 @@
+//! Schemas of tables, with their shape kept on the type.
+
 ghost use Rattle.std.specs.Prelude.{◌≡◌, IfOk};
 ghost use Rattle.cqa_model.specs.Shape.{IsSchema};
 

@@ -1,5 +1,6 @@
+//! How a schema is written.
+
 ghost use Rattle.std.specs.Prelude.{◌≡◌, ◌<◌, ◌++◌, OnOk, OnErr, All, codes, length};
-ghost use Rattle.std.specs.Io.{StartsWith};
 ghost use Rattle.std.specs.List.{flat_map, join_by};
 ghost use Rattle.cqa_model.specs.Shape.{column_at};
 ghost use Rattle.cqa_model.specs.Text.{column_text, columns_text, key_text, kind_word, schema_bytes};
@@ -17,18 +18,14 @@ pub fn schema_text(schema: &Schema, out: &mut Vec<u8>) -> Result<(), NoMemory>
     ensures ok { OnOk result (out.new.items ≡ out.old.items ++ schema_bytes schema.now) }
     ensures err { OnErr result (out.new.items ≡ out.old.items) }
 {
-    let start = out.len();
-    let done = append_schema(schema, out);
-    if done.is_err() {
-        out.truncate(start);
-    }
-    done
+    let mut text = Vec::new(*out.allocator());
+    append_schema(schema, &mut text)?;
+    out.extend_from_slice(text.as_slice())?;
+    Ok(())
 }
 
-#[tactic(auto, using(crate::proofs::Prefixes::starts_with_shorter))]
 fn append_schema(schema: &Schema, out: &mut Vec<u8>) -> Result<(), NoMemory>
-    ensures ok { OnOk result (out.new.items ≡ out.old.items ++ schema_bytes schema.now) }
-    ensures err { OnErr result (StartsWith out.new.items out.old.items) }
+    ensures { OnOk result (out.new.items ≡ out.old.items ++ schema_bytes schema.now) }
 {
     append_named_columns(schema, out)?;
     append_key(schema, out)?;
@@ -37,18 +34,15 @@ fn append_schema(schema: &Schema, out: &mut Vec<u8>) -> Result<(), NoMemory>
 }
 
 fn append_named_columns(schema: &Schema, out: &mut Vec<u8>) -> Result<(), NoMemory>
-    ensures ok { OnOk result (out.new.items ≡ out.old.items ++ columns_text schema.now) }
-    ensures err { OnErr result (StartsWith out.new.items out.old.items) }
+    ensures { OnOk result (out.new.items ≡ out.old.items ++ columns_text schema.now) }
 {
     out.extend_from_slice(schema.name.bytes())?;
     out.extend_from_slice(b" (")?;
     append_columns(schema.columns.as_slice(), out)
 }
 
-#[tactic(auto, using(crate::proofs::Prefixes::starts_with_shorter))]
 fn append_columns(columns: &[Column], out: &mut Vec<u8>) -> Result<(), NoMemory>
-    ensures ok { OnOk result (out.new.items ≡ out.old.items ++ flat_map (λ column. column_text column ++ codes ", ") columns.now) }
-    ensures err { OnErr result (StartsWith out.new.items out.old.items) }
+    ensures { OnOk result (out.new.items ≡ out.old.items ++ flat_map (λ column. column_text column ++ codes ", ") columns.now) }
 {
     for column in columns {
         append_column(column, out)?;
@@ -58,8 +52,7 @@ fn append_columns(columns: &[Column], out: &mut Vec<u8>) -> Result<(), NoMemory>
 }
 
 fn append_column(column: &Column, out: &mut Vec<u8>) -> Result<(), NoMemory>
-    ensures ok { OnOk result (out.new.items ≡ out.old.items ++ column_text column.now) }
-    ensures err { OnErr result (StartsWith out.new.items out.old.items) }
+    ensures { OnOk result (out.new.items ≡ out.old.items ++ column_text column.now) }
 {
     out.extend_from_slice(column.name.bytes())?;
     out.extend_from_slice(b" ")?;
@@ -68,8 +61,7 @@ fn append_column(column: &Column, out: &mut Vec<u8>) -> Result<(), NoMemory>
 }
 
 fn append_key(schema: &Schema, out: &mut Vec<u8>) -> Result<(), NoMemory>
-    ensures ok { OnOk result (out.new.items ≡ out.old.items ++ key_text schema.now) }
-    ensures err { OnErr result (StartsWith out.new.items out.old.items) }
+    ensures { OnOk result (out.new.items ≡ out.old.items ++ key_text schema.now) }
 {
     out.extend_from_slice(b"primary key (")?;
     append_names(schema, schema.key.as_slice(), out)?;
@@ -77,11 +69,9 @@ fn append_key(schema: &Schema, out: &mut Vec<u8>) -> Result<(), NoMemory>
     Ok(())
 }
 
-#[tactic(auto, using(crate::proofs::Prefixes::starts_with_shorter))]
 fn append_names(schema: &Schema, places: &[u32], out: &mut Vec<u8>) -> Result<(), NoMemory>
     requires { All (λ place. place < length schema.now.columns) places.now }
-    ensures ok { OnOk result (out.new.items ≡ out.old.items ++ join_by (λ place. (column_at schema.now.columns place).name) (codes ", ") places.now) }
-    ensures err { OnErr result (StartsWith out.new.items out.old.items) }
+    ensures { OnOk result (out.new.items ≡ out.old.items ++ join_by (λ place. (column_at schema.now.columns place).name) (codes ", ") places.now) }
 {
     if let [first, rest @ ..] = places {
         append_name(schema, *first, out)?;
@@ -92,8 +82,7 @@ fn append_names(schema: &Schema, places: &[u32], out: &mut Vec<u8>) -> Result<()
 
 fn append_rest(schema: &Schema, rest: &[u32], out: &mut Vec<u8>) -> Result<(), NoMemory>
     requires { All (λ place. place < length schema.now.columns) rest.now }
-    ensures ok { OnOk result (out.new.items ≡ out.old.items ++ flat_map (λ place. codes ", " ++ (column_at schema.now.columns place).name) rest.now) }
-    ensures err { OnErr result (StartsWith out.new.items out.old.items) }
+    ensures { OnOk result (out.new.items ≡ out.old.items ++ flat_map (λ place. codes ", " ++ (column_at schema.now.columns place).name) rest.now) }
 {
     for place in rest {
         out.extend_from_slice(b", ")?;
@@ -104,8 +93,7 @@ fn append_rest(schema: &Schema, rest: &[u32], out: &mut Vec<u8>) -> Result<(), N
 
 fn append_name(schema: &Schema, place: u32, out: &mut Vec<u8>) -> Result<(), NoMemory>
     requires { place < length schema.now.columns }
-    ensures ok { OnOk result (out.new.items ≡ out.old.items ++ (column_at schema.now.columns place).name) }
-    ensures err { OnErr result (out.new.items ≡ out.old.items) }
+    ensures { OnOk result (out.new.items ≡ out.old.items ++ (column_at schema.now.columns place).name) }
 {
     out.extend_from_slice(schema.columns.as_slice()[place as usize].name.bytes())?;
     Ok(())

@@ -1,3 +1,5 @@
+//! The variables of a query, by the class of each column.
+
 ghost use Rattle.std.specs.Prelude.{ℕ, ◌<◌, All};
 ghost use Rattle.cqa_model.specs.declared.limits.TheConstants.{COLUMN_NUMBERS};
 

@@ -1,3 +1,3 @@
-mod Integers
+pub mod Integers
 mod Prefixes
 mod Written

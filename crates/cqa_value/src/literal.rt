@@ -1,3 +1,5 @@
+//! How values and rows are written, and which integer a text writes.
+
 ghost use Rattle.std.specs.Prelude.{◌≡◌, ◌++◌, ℤ, IsTrue, Some, OnOk, OnErr, codes};
 ghost use Rattle.std.specs.Fmt.{signed_decimal};
 ghost use Rattle.std.specs.Io.{StartsWith};

@@ -1,2 +1,1 @@
-mod Example
 mod Pieces

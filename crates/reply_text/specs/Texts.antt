@@ -11,6 +11,7 @@ use Rattle.cqa_model.specs.declared.refusal.Place.{Place}
 use Rattle.cqa_model.specs.declared.refusal.Place.TheVariants.{Cell, Condition}
 use Rattle.cqa_model.specs.declared.refusal.LimitKind.{LimitKind}
 use Rattle.cqa_model.specs.declared.refusal.LimitKind.TheVariants.{Name as NameLimit, Tables as TablesLimit, Columns as ColumnsLimit, Atoms as AtomsLimit, Answer as AnswerLimit, Rows as RowsLimit}
+use Rattle.cqa_model.specs.declared.limits.TheConstants.{LONGEST_NAME, MOST_TABLES, MOST_COLUMNS, MOST_ATOMS, MOST_ANSWER_COLUMNS, MOST_ROWS}
 use Rattle.cqa_model.specs.declared.class.Class.{Class}
 use Rattle.cqa_model.specs.declared.class.Class.TheVariants.{FirstOrder, Polynomial, CoNp}
 use Rattle.reply_text.specs.declared.reply.AttackLine.{AttackLine}
@@ -23,14 +24,26 @@ abbrev pub place_text : Place → List ℕ
 place_text (Cell row column) = codes "row " ++ decimal row ++ codes " column " ++ decimal column
 place_text (Condition number) = codes "condition " ++ decimal number
 
--- what is limited, and its greatest number
+-- what is limited
+abbrev pub limit_word : LimitKind → List ℕ
+limit_word NameLimit = codes "name "
+limit_word TablesLimit = codes "tables "
+limit_word ColumnsLimit = codes "columns "
+limit_word AtomsLimit = codes "atoms "
+limit_word AnswerLimit = codes "answer "
+limit_word RowsLimit = codes "rows "
+
+-- its greatest number
+abbrev pub limit_of : LimitKind → ℕ
+limit_of NameLimit = LONGEST_NAME
+limit_of TablesLimit = MOST_TABLES
+limit_of ColumnsLimit = MOST_COLUMNS
+limit_of AtomsLimit = MOST_ATOMS
+limit_of AnswerLimit = MOST_ANSWER_COLUMNS
+limit_of RowsLimit = MOST_ROWS
+
 abbrev pub limit_text : LimitKind → List ℕ
-limit_text NameLimit = codes "name 64"
-limit_text TablesLimit = codes "tables 64"
-limit_text ColumnsLimit = codes "columns 16"
-limit_text AtomsLimit = codes "atoms 12"
-limit_text AnswerLimit = codes "answer 192"
-limit_text RowsLimit = codes "rows 1000000"
+limit_text what = limit_word what ++ decimal (limit_of what)
 
 -- a column as it was written: NAME, or TABLE.NAME
 abbrev pub written_column : Option (List ℕ) → List ℕ → List ℕ
@@ -88,22 +101,21 @@ classified_text class lines = codes "class " ++ class_text class ++ flat_map (λ
 abbrev pub tables_text : List TableLine → List ℕ
 tables_text lines = flat_map (λ line. table_text line ++ codes "\n") lines ++ decimal (length lines) ++ codes " tables"
 
+-- the lines of a reply, without the line feed at the end of the last
+abbrev pub lines_text : Reply → List ℕ
+lines_text (Created name) = codes "created " ++ name
+lines_text (Inserted count) = codes "inserted " ++ decimal count
+lines_text (Deleted count) = codes "deleted " ++ decimal count
+lines_text (Rows rows) = rows_text rows
+lines_text (Classified class lines) = classified_text class lines
+lines_text (Tables lines) = tables_text lines
+lines_text (Refused refusal) = refusal_text refusal
+
 -- the lines of a reply, each with a line feed at its end
 abbrev pub reply_text : Reply → List ℕ
-reply_text (Created name) = codes "created " ++ name ++ codes "\n"
-reply_text (Inserted count) = codes "inserted " ++ decimal count ++ codes "\n"
-reply_text (Deleted count) = codes "deleted " ++ decimal count ++ codes "\n"
-reply_text (Rows rows) = rows_text rows ++ codes "\n"
-reply_text (Classified class lines) = classified_text class lines ++ codes "\n"
-reply_text (Tables lines) = tables_text lines ++ codes "\n"
-reply_text (Refused refusal) = refusal_text refusal ++ codes "\n"
+reply_text reply = lines_text reply ++ codes "\n"
 
 -- the reply says that the statement was refused
 abbrev pub is_refusal : Reply → Bool
 is_refusal (Refused refusal) = true
-is_refusal (Created name) = false
-is_refusal (Inserted count) = false
-is_refusal (Deleted count) = false
-is_refusal (Rows rows) = false
-is_refusal (Classified class lines) = false
-is_refusal (Tables lines) = false
+is_refusal _ = false

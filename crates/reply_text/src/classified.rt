@@ -1,3 +1,5 @@
+//! Appends the class of a query and its attacks.
+
 ghost use Rattle.std.specs.Prelude.{◌≡◌, ◌++◌, OnOk, codes};
 ghost use Rattle.std.specs.List.{flat_map};
 ghost use Rattle.reply_text.specs.Texts.{attack_text, class_text, classified_text, strength_text};

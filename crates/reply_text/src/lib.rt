@@ -9,6 +9,3 @@ mod text;
 
 pub use reply::{AttackLine, Proof, Reply, TableLine};
 pub use text::reply_bytes;
-
-#[cfg(test)]
-mod tests;

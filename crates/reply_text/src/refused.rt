@@ -1,10 +1,15 @@
+//! Appends the line of a refusal: its number, its name, and what it is about.
+
 ghost use Rattle.std.specs.Prelude.{◌≡◌, ◌++◌, OnOk, codes};
 ghost use Rattle.std.specs.Fmt.{decimal};
 ghost use Rattle.cqa_value.specs.Literals.{row_bytes};
-ghost use Rattle.reply_text.specs.Texts.{limit_text, place_text, refusal_text, written_column};
+ghost use Rattle.reply_text.specs.Texts.{limit_of, limit_text, limit_word, place_text, refusal_text, written_column};
 
-use crate::append::{append_named, append_numbered, append_row, append_words};
-use cqa_model::{LimitKind, Place, Refusal};
+use crate::append::{append_named, append_number, append_numbered, append_row, append_words};
+use cqa_model::{
+    LONGEST_NAME, LimitKind, MOST_ANSWER_COLUMNS, MOST_ATOMS, MOST_COLUMNS, MOST_ROWS, MOST_TABLES,
+    Place, Refusal,
+};
 use cqa_value::{Name, NoMemory, Row};
 
 /// Appends the line of a refusal without its line feed.
@@ -80,13 +85,35 @@ fn append_limit(words: &str, what: LimitKind, out: &mut Vec<u8>) -> Result<(), N
     ensures { OnOk result (out.new.items ≡ out.old.items ++ (words.now ++ limit_text what)) }
 {
     append_words(words, out)?;
+    append_words(limit_name(what), out)?;
+    append_number(most(what), out)
+}
+
+/// What is limited, with a space behind it.
+fn limit_name(what: LimitKind) -> &'static str
+    ensures { result.now ≡ limit_word what }
+{
     match what {
-        LimitKind::Name => append_words("name 64", out),
-        LimitKind::Tables => append_words("tables 64", out),
-        LimitKind::Columns => append_words("columns 16", out),
-        LimitKind::Atoms => append_words("atoms 12", out),
-        LimitKind::Answer => append_words("answer 192", out),
-        LimitKind::Rows => append_words("rows 1000000", out),
+        LimitKind::Name => "name ",
+        LimitKind::Tables => "tables ",
+        LimitKind::Columns => "columns ",
+        LimitKind::Atoms => "atoms ",
+        LimitKind::Answer => "answer ",
+        LimitKind::Rows => "rows ",
+    }
+}
+
+/// The greatest number of what is limited.
+fn most(what: LimitKind) -> usize
+    ensures { result ≡ limit_of what }
+{
+    match what {
+        LimitKind::Name => LONGEST_NAME,
+        LimitKind::Tables => MOST_TABLES as usize,
+        LimitKind::Columns => MOST_COLUMNS,
+        LimitKind::Atoms => MOST_ATOMS as usize,
+        LimitKind::Answer => MOST_ANSWER_COLUMNS,
+        LimitKind::Rows => MOST_ROWS,
     }
 }
 

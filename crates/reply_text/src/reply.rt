@@ -1,5 +1,6 @@
+//! What a statement is answered by.
+
 use cnf_form::{Cnf, Log};
-use cqa_model::{Class, Refusal, Schema};
 use cqa_model::{Class, Refusal, Schema};
 use cqa_value::{Items, Name, Row};
 

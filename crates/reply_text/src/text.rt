@@ -1,5 +1,7 @@
+//! The text of a reply, a line at a time.
+
 ghost use Rattle.std.specs.Prelude.{◌≡◌, ◌++◌, IfOk, OnOk, codes};
-ghost use Rattle.reply_text.specs.Texts.{reply_text, rows_text, table_text, tables_text};
+ghost use Rattle.reply_text.specs.Texts.{lines_text, reply_text, rows_text, table_text, tables_text};
 
 use crate::append::{append_named, append_number, append_numbered, append_words};
 use crate::classified::append_classified;
@@ -26,16 +28,23 @@ pub fn reply_bytes(alloc: Global, reply: &Reply) -> Result<Vec<u8>, NoMemory>
 fn append_reply(reply: &Reply, out: &mut Vec<u8>) -> Result<(), NoMemory>
     ensures { OnOk result (out.new.items ≡ out.old.items ++ reply_text reply.now) }
 {
-    match reply {
-        Reply::Created(name) => append_named("created ", name, out)?,
-        Reply::Inserted(count) => append_numbered("inserted ", *count, out)?,
-        Reply::Deleted(count) => append_numbered("deleted ", *count, out)?,
-        Reply::Rows(rows) => append_rows(rows.as_slice(), out)?,
-        Reply::Classified { class, lines } => append_classified(*class, lines.as_slice(), out)?,
-        Reply::Tables(lines) => append_tables(lines.as_slice(), out)?,
-        Reply::Refused(refusal) => append_refusal(refusal, out)?,
-    }
+    append_lines(reply, out)?;
     append_words("\n", out)
+}
+
+/// Appends the lines of a reply without the last line feed.
+fn append_lines(reply: &Reply, out: &mut Vec<u8>) -> Result<(), NoMemory>
+    ensures { OnOk result (out.new.items ≡ out.old.items ++ lines_text reply.now) }
+{
+    match reply {
+        Reply::Created(name) => append_named("created ", name, out),
+        Reply::Inserted(count) => append_numbered("inserted ", *count, out),
+        Reply::Deleted(count) => append_numbered("deleted ", *count, out),
+        Reply::Rows(rows) => append_rows(rows.as_slice(), out),
+        Reply::Classified { class, lines } => append_classified(*class, lines.as_slice(), out),
+        Reply::Tables(lines) => append_tables(lines.as_slice(), out),
+        Reply::Refused(refusal) => append_refusal(refusal, out),
+    }
 }
 
 /// Appends each row on a line of its own, and how many they are.

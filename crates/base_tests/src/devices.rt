@@ -1,4 +1,6 @@
-use crate::{Failed, MemSink, MemSource, Sink, Source, StdSink, StdSource, write_all};
+//! Devices: what a source gives and a sink takes, and which calls fail.
+
+use cqa_io::{Failed, MemSink, MemSource, Sink, Source, StdSink, StdSource, write_all};
 use std::io;
 use std::io::{Read, Write};
 use std::test::Fail;
