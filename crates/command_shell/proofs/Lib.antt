@@ -4,3 +4,4 @@ pub mod Progress
 pub mod Sayings
 pub mod Statuses
 pub mod TableLines
+pub mod Valid

@@ -4,7 +4,7 @@ ghost use Rattle.std.specs.Prelude.{◌≡◌, ◌≤◌, IfOk, OnErr, Option, S
 ghost use Rattle.std.specs.Option.{option_copied};
 ghost use Rattle.spj_syntax.specs.declared.tree.Statement.{Statement};
 ghost use Rattle.cqa_model.specs.declared.refusal.Refusal.{Refusal as RefusalValue};
-ghost use Rattle.command_shell.specs.State.{opening_with};
+ghost use Rattle.command_shell.specs.State.{opening_with, IsState};
 ghost use Rattle.command_shell.specs.Saying.{Says, SaysOneThing};
 ghost use Rattle.command_shell.specs.Replying.{IsOutcome};
 ghost use Rattle.command_shell.specs.Machine.{Does, Step};
@@ -27,11 +27,13 @@ pub struct Session {
 }
 
 impl Model for Session {
-    ghost use Rattle.command_shell.specs.State.{State};
+    ghost use Rattle.command_shell.specs.State.{State, IsState};
 
     ghost Value = { State };
 
     ghost view = { λ s. record { tables = s.database; budget = s.budget; last_log = s.last_log } };
+
+    ghost invariant = { λ s. IsState (record { tables = s.database; budget = s.budget; last_log = s.last_log }) };
 }
 
 impl Session {
@@ -48,7 +50,8 @@ impl Session {
 
     /// The session's tables.
     pub(crate) fn database(&self) -> &Database
-        ensures { result.now ≡ self.now.tables }
+        ensures is { result.now ≡ self.now.tables }
+        ensures state { IsState self.now }
     {
         &self.database
     }

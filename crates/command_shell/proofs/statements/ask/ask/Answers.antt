@@ -15,7 +15,7 @@ returns c =
     let query = c.in_ok-query.query in
     let rows = c.in_ok-rows.field-0 in
     let state = c.args.session.now in
-    let tables = c.database-database.ensures in
+    let tables = c.database-database.ensures.is in
     inr (
       ask_fault-single state.tables select (sym c.is_over_one_table.ensures ∙ c.if-not-is_over_one_table.false) ∙ subst (λ db. query_fault db select ≡ None) tables c.in_ok-query.ensures.valid,
       record {

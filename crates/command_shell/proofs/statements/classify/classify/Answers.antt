@@ -13,7 +13,7 @@ pub returns : goal.returns
 returns c =
     let select = c.args.select.now in
     let query = c.in_ok-query.query in
-    let tables = c.database.ensures in
+    let tables = c.database.ensures.is in
     let are = c.attacks-graph.ensures.whole c.whole.ensures.is in
     inr (
       subst (λ db. query_fault db select ≡ None) tables c.in_ok-query.ensures.valid,

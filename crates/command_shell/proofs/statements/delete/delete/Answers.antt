@@ -35,7 +35,7 @@ returns c =
         tests = tests.tests;
         resolved = tests.ensures.resolved;
         count = count;
-        tables = subst (λ tests. Deletes kept.database table.table tests c.delete-count.new.self count) c.as_slice.ensures c.delete-count.ensures;
+        tables = subst (λ tests. Deletes kept.database table.table tests c.delete-count.new.self count) c.as_slice.ensures c.delete-count.ensures.deleted;
         others = refl;
         replies = refl;
       },

@@ -9,7 +9,7 @@ returns c =
     let select = c.args.select.now in
     let query = c.in_ok-query.query in
     let rows = c.in_ok-rows.field-0 in
-    let tables = c.database-database.ensures in
+    let tables = c.database-database.ensures.is in
     inr (
       subst (λ db. query_fault db select ≡ None) tables c.in_ok-query.ensures.valid,
       record {

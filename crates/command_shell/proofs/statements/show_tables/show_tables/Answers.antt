@@ -18,4 +18,4 @@ returns c =
     let count = c.count-table-end.ensures.count in
     let past = c.loop-table-test.false in
     let each = subst (λ tables. AllZip IsTableLine tables lines) (take_all c.loop-table.table db (omega (arith, count, past))) c.loop-table.invariant in
-    inr (refl, record { lines = lines; each = subst (λ tables. AllZip IsTableLine tables lines) c.database-database.ensures each; replies = refl; keeps = refl })
+    inr (refl, record { lines = lines; each = subst (λ tables. AllZip IsTableLine tables lines) c.database-database.ensures.is each; replies = refl; keeps = refl })
