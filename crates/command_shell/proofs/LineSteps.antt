@@ -13,7 +13,7 @@ use Rattle.cqa_model.specs.Graph.{IsWeak}
 use Rattle.cqa_model.proofs.Classic.{mem-head, mem-tail, mem-nil}
 use Rattle.attack_graph.specs.declared.graph.Attacks.{Attacks as Graph}
 use Rattle.attack_graph.specs.Attacking.{HasAttack, HasWeakAttack, AreAttacks}
-use Rattle.query_class.specs.declared.classes.Class.{Class}
+use Rattle.cqa_model.specs.declared.class.Class.{Class}
 use Rattle.query_class.specs.Cycles.{IsClass}
 use Rattle.query_resolve.specs.Checks.{query_fault}
 use Rattle.query_resolve.specs.Resolved.{IsAtomOf, IsQueryOf}

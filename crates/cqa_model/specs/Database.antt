@@ -1,17 +1,14 @@
 -- Tables and databases as plain lists of rows.
-use Rattle.std.specs.Prelude.{◌≡◌, ℕ, pos, ◌<◌, ◌≤◌, ◌+◌, List, [], ◌∷◌, length, map, Contains, slice_index_or}
+use Rattle.std.specs.Prelude.{◌≡◌, ℕ, ◌<◌, ◌≤◌, ◌+◌, List, [], ◌∷◌, length, map, Contains, slice_index_or}
 use Rattle.std.specs.List.Sorted.{IsStrictlySortedBy}
 use Rattle.std.specs.Ordering.{ordering_then}
 use Rattle.std.specs.declared.cmp.Ordering.{Ordering}
 use Rattle.cqa_value.specs.declared.value.Kind.{Kind}
 use Rattle.cqa_value.specs.declared.value.Value.{Value}
-use Rattle.cqa_value.specs.declared.value.Value.TheVariants.{Int}
 use Rattle.cqa_value.specs.Values.{kind_of, row_cmp}
+pub use Rattle.cqa_value.specs.Values.{nothing}
+use Rattle.cqa_model.specs.declared.limits.TheConstants.{MOST_TABLES, MOST_ROWS}
 use Rattle.cqa_model.specs.declared.schema.Schema.{Schema}
-
--- stands for the value of a column that is not there
-abbrev pub nothing : Value
-nothing = Int (pos 0)
 
 -- the values of a row in its key columns, in the key's order
 abbrev pub key_of : List ℕ → List Value → List Value
@@ -47,12 +44,12 @@ abbrev pub row_total : List Table → ℕ
 row_total [] = 0
 row_total (table ∷ db) = length table.rows + row_total db
 
--- at most 64 tables of different names, and at most 1,000,000 rows in all
+-- at most `MOST_TABLES` tables of different names, and at most `MOST_ROWS` rows in all
 pub record IsDatabase (db : List Table) : Type 0 where
-  pub few_tables : length db ≤ 64
+  pub few_tables : length db ≤ MOST_TABLES
   pub each : (table : Table) → Contains db table → IsTable table
   pub names_differ : (i j : ℕ) → i < length db → j < length db → slice_index_or (names_of db) i [] ≡ slice_index_or (names_of db) j [] → i ≡ j
-  pub few_rows : row_total db ≤ 1_000_000
+  pub few_rows : row_total db ≤ MOST_ROWS
 
 -- the rows of each table, the key of each, and the kinds of the columns of each
 abbrev pub stored : List Table → List (List (List Value))

@@ -1,6 +1,7 @@
 -- Naming the variables of a query by one join after another.
 use Rattle.std.specs.Prelude.{ℕ, ◌/◌, ◌%◌, min, max, List, [], ◌∷◌}
 use native.Mathlib.Decide.{ℕ_discrete}
+use Rattle.cqa_model.specs.declared.limits.TheConstants.{MOST_COLUMNS}
 use Rattle.cqa_model.specs.declared.query.Cond.{Cond}
 use Rattle.cqa_model.specs.declared.query.Cond.TheVariants.{Join, Test}
 use Rattle.cqa_model.specs.declared.query.ColRef.{ColRef}
@@ -22,4 +23,4 @@ label (Test a op x ∷ ks) c = label ks c
 
 -- the column of a number
 abbrev pub column : ℕ → ColRef
-column i = record { atom = i / 16; col = i % 16 }
+column i = record { atom = i / MOST_COLUMNS; col = i % MOST_COLUMNS }

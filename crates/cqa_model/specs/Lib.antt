@@ -1,5 +1,7 @@
 pub mod Shape
+pub mod Refusal
 pub mod Database
+pub mod Valid
 pub mod Repairs
 pub mod Query
 pub mod Blocks

@@ -1,5 +1,6 @@
 -- What code that names variables works on: the class of each column, and marks on classes.
 use Rattle.std.specs.Prelude.{◌≡◌, ℕ, ◌<◌, ◌↔◌, true, false, Bool, List, length, slice_index, slice_index_or}
+use Rattle.cqa_model.specs.declared.limits.TheConstants.{MOST_ATOMS, MOST_COLUMNS}
 use Rattle.cqa_model.specs.declared.query.Op.TheVariants.{Eq}
 use Rattle.cqa_model.specs.declared.query.Cond.{Cond}
 use Rattle.cqa_model.specs.declared.query.Cond.TheVariants.{Join, Test}
@@ -29,7 +30,7 @@ pub record AreVariables (q : Query) (v : Variables) : Type 0 where
 
 -- the classes after these conditions
 abbrev pub AreClasses : List Cond → List ℕ → Type 0
-AreClasses conds class = (c : ColRef) → c.atom < 12 → c.col < 16 → slice_index class (number c) ≡ label conds c
+AreClasses conds class = (c : ColRef) → c.atom < MOST_ATOMS → c.col < MOST_COLUMNS → slice_index class (number c) ≡ label conds c
 
 -- stands for a column that is not there
 abbrev pub origin : ColRef
@@ -37,7 +38,7 @@ origin = record { atom = 0; col = 0 }
 
 -- a column that can be numbered
 abbrev pub IsSmall : ColRef → Type 0
-IsSmall c = (c.atom < 12) × (c.col < 16)
+IsSmall c = (c.atom < MOST_ATOMS) × (c.col < MOST_COLUMNS)
 
 abbrev pub AreSmallColumns : List ColRef → Type 0
 AreSmallColumns columns = (j : ℕ) → j < length columns → IsSmall (slice_index_or columns j origin)

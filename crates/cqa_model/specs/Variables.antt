@@ -2,6 +2,7 @@
 -- Wijsen, ACM TODS 2017). A variable is spoken of by any of its columns.
 use Rattle.std.specs.Prelude.{◌≡◌, ℕ, ◌+◌, ◌*◌, ◌<◌, ◌≤◌, ◌≢◌, ◌⊎◌, List, [], ◌∷◌, length, Contains}
 use Rattle.cqa_value.specs.declared.value.Value.{Value}
+use Rattle.cqa_model.specs.declared.limits.TheConstants.{MOST_COLUMNS}
 use Rattle.cqa_model.specs.declared.query.Op.TheVariants.{Eq}
 use Rattle.cqa_model.specs.declared.query.Cond.{Cond}
 use Rattle.cqa_model.specs.declared.query.Cond.TheVariants.{Join, Test}
@@ -27,9 +28,9 @@ IsLinked conds c d = (es : List ColRef) × IsChain conds c es d
 abbrev pub AreLinked : Query → ColRef → ColRef → Type 0
 AreLinked q c d = IsLinked q.conds c d
 
--- the number of a column. No table has more than 16
+-- the number of a column. No table has more than `MOST_COLUMNS`
 abbrev pub number : ColRef → ℕ
-number c = 16 * c.atom + c.col
+number c = MOST_COLUMNS * c.atom + c.col
 
 -- no column of d's variable has a lesser number than d
 abbrev pub IsLeast : Query → ColRef → Type 0

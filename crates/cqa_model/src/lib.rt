@@ -1,7 +1,9 @@
 //! Schemas, queries and refusals, with the definitions of certain answers under primary keys and their laws.
 #![tactic(auto)]
 
+mod class;
 pub mod laws;
+mod limits;
 mod naming;
 mod query;
 mod refusal;
@@ -9,8 +11,13 @@ mod schema;
 mod text;
 mod variable_class;
 
+pub use class::Class;
+pub use limits::{
+    COLUMN_NUMBERS, LONGEST_NAME, MOST_ANSWER_COLUMNS, MOST_ATOMS, MOST_COLUMNS, MOST_ROWS,
+    MOST_TABLES,
+};
 pub use naming::variables;
-pub use query::{Atom, ColRef, Cond, MOST_ATOMS, Op, Plan, Query, RowId};
+pub use query::{Atom, ColRef, Cond, Op, Plan, Query, RowId};
 pub use refusal::{LimitKind, Place, Refusal};
 pub use schema::{Column, Schema};
 pub use text::schema_text;

@@ -1,4 +1,5 @@
 ghost use Rattle.std.specs.Prelude.{◌≡◌, ℕ, ◌<◌, ◌↔◌, ◌⊎◌, All, IsTrue, length, slice_index};
+ghost use Rattle.cqa_model.specs.declared.limits.TheConstants.{COLUMN_NUMBERS, MOST_ATOMS, MOST_COLUMNS};
 ghost use Rattle.cqa_model.specs.declared.query.Op.TheVariants.{Eq};
 ghost use Rattle.cqa_model.specs.Variables.{number};
 ghost use Rattle.cqa_model.specs.Labels.{relabel};
@@ -12,33 +13,33 @@ ghost use Rattle.cqa_model.specs.Naming.{
   IsTestClass,
 };
 
-use crate::{ColRef, Cond, Op, Query, Variables};
+use crate::{COLUMN_NUMBERS, ColRef, Cond, MOST_COLUMNS, Op, Query, Variables};
 
 /// The variables of a query, found by joining the classes of the two sides of each join.
 pub fn variables(query: &Query) -> Variables
     ensures { AreVariables query.now result }
 {
     let class = classes(query);
-    let mut constant = [false; 192];
+    let mut constant = [false; COLUMN_NUMBERS];
     mark_answers(&mut constant, &class, query.answer.as_slice());
     mark_tests(&mut constant, &class, query.conds.as_slice());
     Variables { class, constant }
 }
 
-/// The number of a column: 16 times its atom's place plus its own.
+/// The number of a column: `MOST_COLUMNS` times its atom's place plus its own.
 pub(crate) fn number_of(col: ColRef) -> usize
-    requires atom { col.atom < 12 }
-    requires col { col.col < 16 }
+    requires atom { col.atom < MOST_ATOMS }
+    requires col { col.col < MOST_COLUMNS }
     ensures is { result ≡ number col }
-    ensures within { result < 192 }
+    ensures within { result < COLUMN_NUMBERS }
 {
-    16 * (col.atom as usize) + (col.col as usize)
+    MOST_COLUMNS * (col.atom as usize) + (col.col as usize)
 }
 
 /// The class of each column.
-fn classes(query: &Query) -> [u8; 192]
+fn classes(query: &Query) -> [u8; COLUMN_NUMBERS]
     ensures is { AreClasses query.now.conds result }
-    ensures small { All (λ k. k < 192) result }
+    ensures small { All (λ k. k < COLUMN_NUMBERS) result }
 {
     let conds = query.conds.as_slice();
     let mut class = first_classes();
@@ -53,20 +54,20 @@ fn classes(query: &Query) -> [u8; 192]
 }
 
 /// Each column's own number.
-fn first_classes() -> [u8; 192]
-    ensures { (i : ℕ) → i < 192 → slice_index result i ≡ i }
+fn first_classes() -> [u8; COLUMN_NUMBERS]
+    ensures { (i : ℕ) → i < COLUMN_NUMBERS → slice_index result i ≡ i }
 {
-    let mut class = [0u8; 192];
-    for i in 0..192u8 {
-        class[i as usize] = i;
+    let mut class = [0; COLUMN_NUMBERS];
+    for i in 0..COLUMN_NUMBERS {
+        class[i] = i as u8;
     }
     class
 }
 
 /// Makes two classes one.
 #[tactic(auto, unfolding(crate::specs::Labels::relabel))]
-fn join(class: &mut [u8; 192], a: u8, b: u8)
-    ensures { (i : ℕ) → i < 192 → slice_index class.new i ≡ relabel a b (slice_index class.old i) }
+fn join(class: &mut [u8; COLUMN_NUMBERS], a: u8, b: u8)
+    ensures { (i : ℕ) → i < COLUMN_NUMBERS → slice_index class.new i ≡ relabel a b (slice_index class.old i) }
 {
     let low = a.min(b);
     let high = a.max(b);
@@ -78,9 +79,9 @@ fn join(class: &mut [u8; 192], a: u8, b: u8)
 }
 
 /// Marks the classes of the answer columns.
-fn mark_answers(marks: &mut [bool; 192], class: &[u8; 192], answer: &[ColRef])
+fn mark_answers(marks: &mut [bool; COLUMN_NUMBERS], class: &[u8; COLUMN_NUMBERS], answer: &[ColRef])
     requires columns { AreSmallColumns answer.now }
-    requires classes { All (λ k. k < 192) class.now }
+    requires classes { All (λ k. k < COLUMN_NUMBERS) class.now }
     ensures { (k : ℕ) → IsMarked marks.new k ↔ (IsMarked marks.old k ⊎ IsAnswerClass class.now answer.now (length answer.now) k) }
 {
     for col in answer {
@@ -89,9 +90,9 @@ fn mark_answers(marks: &mut [bool; 192], class: &[u8; 192], answer: &[ColRef])
 }
 
 /// Marks the classes of the columns that are tested to be equal to a value.
-fn mark_tests(marks: &mut [bool; 192], class: &[u8; 192], conds: &[Cond])
+fn mark_tests(marks: &mut [bool; COLUMN_NUMBERS], class: &[u8; COLUMN_NUMBERS], conds: &[Cond])
     requires columns { AreSmallTests conds.now }
-    requires classes { All (λ k. k < 192) class.now }
+    requires classes { All (λ k. k < COLUMN_NUMBERS) class.now }
     ensures { (k : ℕ) → IsMarked marks.new k ↔ (IsMarked marks.old k ⊎ IsTestClass class.now conds.now (length conds.now) k) }
 {
     for cond in conds {
@@ -102,8 +103,8 @@ fn mark_tests(marks: &mut [bool; 192], class: &[u8; 192], conds: &[Cond])
 }
 
 /// Marks a class if it is wanted.
-fn mark(marks: &mut [bool; 192], class: u8, wanted: bool)
-    requires { class < 192 }
+fn mark(marks: &mut [bool; COLUMN_NUMBERS], class: u8, wanted: bool)
+    requires { class < COLUMN_NUMBERS }
     ensures { (k : ℕ) → IsMarked marks.new k ↔ (IsMarked marks.old k ⊎ (IsTrue wanted × (k ≡ class))) }
 {
     if wanted {

@@ -1,6 +1,8 @@
+//! Queries: atoms, conditions and answer columns, with their shape kept on the type.
+
 ghost use Rattle.cqa_model.specs.Shape.{IsQuery, AreDistinct};
 
-use cqa_value::{Items, Value};
+use cqa_value::{Items, Value, compare};
 
 /// A column of an atom: the atom's place in the query, and the column's place in its table.
 #[derive(Clone, Copy, Debug, PartialEq, Eq)]
@@ -20,6 +22,25 @@ pub enum Op {
     Ge,
 }
 
+impl Op {
+    ghost use Rattle.std.specs.Prelude.{◌↔◌, IsTrue};
+    ghost use Rattle.cqa_model.specs.Query.{OpHolds};
+
+    /// Whether a value stands so to another.
+    pub fn holds(self, left: &Value, right: &Value) -> bool
+        ensures { IsTrue result ↔ OpHolds self left.now right.now }
+    {
+        match self {
+            Op::Eq => left == right,
+            Op::Ne => left != right,
+            Op::Lt => compare(left, right).is_lt(),
+            Op::Le => compare(left, right).is_le(),
+            Op::Gt => compare(left, right).is_gt(),
+            Op::Ge => compare(left, right).is_ge(),
+        }
+    }
+}
+
 /// A condition: two columns have one value, or a column's value compares with a literal.
 #[derive(Drop)]
 pub enum Cond {
@@ -35,13 +56,10 @@ pub struct Atom {
     pub key: Items<u32>,
 }
 
-/// The most atoms of a query.
-pub const MOST_ATOMS: u32 = 12;
-
 /// A select-project-join query without self-joins.
 ///
-/// It has 1 to 12 atoms of different tables, each with 1 to 16 columns and a key of different columns, at most 192
-/// answer columns, and every column that it speaks of is there.
+/// It has 1 to `MOST_ATOMS` atoms of different tables, each with 1 to `MOST_COLUMNS` columns and a key of different
+/// columns, at most `MOST_ANSWER_COLUMNS` answer columns, and every column that it speaks of is there.
 #[derive(Drop)]
 pub struct Query {
     pub atoms: Items<Atom>,

@@ -29,7 +29,7 @@ impl Column {
 
 /// The shape of a table: its name, its columns, and the places of its key columns in the key's order.
 ///
-/// It has 1 to 16 columns of different names, and its key is a list of one or more different columns.
+/// It has 1 to `MOST_COLUMNS` columns of different names, and its key is a list of one or more different columns.
 #[derive(Drop)]
 pub struct Schema {
     pub name: Name,

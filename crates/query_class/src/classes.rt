@@ -16,18 +16,7 @@ ghost use Rattle.query_class.specs.Cycles.{
 
 use crate::walking::reach;
 use attack_graph::Attacks;
-use cqa_model::MOST_ATOMS;
-
-/// How hard it is to decide the certain rows of a query.
-#[derive(Clone, Copy, Debug, PartialEq, Eq)]
-pub enum Class {
-    /// No cycle of attacks: a plan decides them.
-    FirstOrder,
-    /// A cycle, but none with a strong attack: decided in polynomial time.
-    Polynomial,
-    /// A cycle with a strong attack: as hard as any problem in coNP.
-    CoNp,
-}
+use cqa_model::{Class, MOST_ATOMS};
 
 /// The class of a graph of attacks, and so of each query, and of each view of one, whose attacks they are.
 pub fn class_of(graph: &Attacks) -> Class

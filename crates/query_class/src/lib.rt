@@ -4,7 +4,8 @@
 mod classes;
 mod walking;
 
-pub use classes::{Class, class_of};
+pub use classes::class_of;
+pub use cqa_model::Class;
 
 #[cfg(test)]
 mod tests;

@@ -11,8 +11,8 @@ use Rattle.cqa_model.specs.declared.refusal.Place.{Place}
 use Rattle.cqa_model.specs.declared.refusal.Place.TheVariants.{Cell, Condition}
 use Rattle.cqa_model.specs.declared.refusal.LimitKind.{LimitKind}
 use Rattle.cqa_model.specs.declared.refusal.LimitKind.TheVariants.{Name as NameLimit, Tables as TablesLimit, Columns as ColumnsLimit, Atoms as AtomsLimit, Answer as AnswerLimit, Rows as RowsLimit}
-use Rattle.query_class.specs.declared.classes.Class.{Class}
-use Rattle.query_class.specs.declared.classes.Class.TheVariants.{FirstOrder, Polynomial, CoNp}
+use Rattle.cqa_model.specs.declared.class.Class.{Class}
+use Rattle.cqa_model.specs.declared.class.Class.TheVariants.{FirstOrder, Polynomial, CoNp}
 use Rattle.reply_text.specs.declared.reply.AttackLine.{AttackLine}
 use Rattle.reply_text.specs.declared.reply.TableLine.{TableLine}
 use Rattle.reply_text.specs.declared.reply.Reply.{Reply}

@@ -4,8 +4,8 @@ ghost use Rattle.reply_text.specs.Texts.{attack_text, class_text, classified_tex
 
 use crate::AttackLine;
 use crate::append::{append_named, append_words};
+use cqa_model::Class;
 use cqa_value::NoMemory;
-use query_class::Class;
 
 /// Appends the class of a query, and a line for each attack.
 pub fn append_classified(

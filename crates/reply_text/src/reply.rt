@@ -1,6 +1,5 @@
-use cqa_model::{Refusal, Schema};
+use cqa_model::{Class, Refusal, Schema};
 use cqa_value::{Items, Name, Row};
-use query_class::Class;
 
 /// What a statement is answered by.
 #[derive(Drop)]

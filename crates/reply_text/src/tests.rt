@@ -1,7 +1,6 @@
 use crate::{AttackLine, Reply, TableLine, reply_bytes};
-use cqa_model::{Column, LimitKind, Place, Refusal, Schema};
+use cqa_model::{Class, Column, LimitKind, Place, Refusal, Schema};
 use cqa_value::{Fail, Items, Kind, Name, NameFault, Row, Value};
-use query_class::Class;
 use std::alloc::Global;
 use std::test::Fail as TestFail;
 

@@ -9,14 +9,13 @@ use Rattle.cqa_value.specs.declared.value.Kind.{Kind}
 use Rattle.cqa_value.specs.declared.value.Kind.TheVariants.{Int, Text}
 use Rattle.cqa_value.specs.declared.value.Value.{Value}
 use Rattle.cqa_value.specs.Values.{kind_of, row_eq}
-use Rattle.cqa_value.specs.declared.memory.Fail.{Fail}
-use Rattle.cqa_value.specs.declared.memory.Fail.TheVariants.{NoMemory, Refused}
 use Rattle.cqa_model.specs.declared.refusal.Refusal.{Refusal}
 use Rattle.cqa_model.specs.declared.refusal.Refusal.TheVariants.{WrongArity, TypeMismatch, Limit}
 use Rattle.cqa_model.specs.declared.refusal.Place.TheVariants.{Cell}
 use Rattle.cqa_model.specs.declared.refusal.LimitKind.TheVariants.{Rows}
 use Rattle.cqa_model.specs.Database.{Table, block_cmp, names_of, stored, keys_of, column_kinds, row_total, nothing}
 use Rattle.cqa_model.specs.Query.{OpHolds}
+pub use Rattle.cqa_model.specs.Refusal.{first_of, IsRefusedAs}
 use Rattle.table_blocks.specs.declared.test.ColumnTest.{ColumnTest}
 
 -- the place of the table with a name
@@ -53,11 +52,6 @@ same_kind Int Text = false
 same_kind Text Int = false
 same_kind Text Text = true
 
--- the first of two faults
-abbrev pub first_of : Option Refusal → Option Refusal → Option Refusal
-first_of (Some fault) later = Some fault
-first_of None later = later
-
 -- the value of a row in a column has another kind than the column
 abbrev pub cell_fault : ℕ → ℕ → Kind → Value → Option Refusal
 cell_fault row column kind value = if same_kind (kind_of value) kind then None else Some (TypeMismatch (Cell row column))
@@ -84,11 +78,6 @@ limit_fault db table rows = if nat_le (row_total db + count_new (rows_at db tabl
 -- the first check that fails where rows are put into a table
 abbrev pub insert_fault : List Table → ℕ → List (List Value) → Option Refusal
 insert_fault db table rows = first_of (rows_fault (kinds_at db table) 1 rows) (limit_fault db table rows)
-
--- the refusal is the fault; want of memory is free
-abbrev pub IsRefusedAs : Fail Refusal → Option Refusal → Type 0
-IsRefusedAs NoMemory fault = Unit {0}
-IsRefusedAs (Refused refusal) fault = fault ≡ Some refusal
 
 -- the stored rows and the given ones, in block order
 pub record IsMerged (key : List ℕ) (stored given rows : List (List Value)) : Type 0 where
