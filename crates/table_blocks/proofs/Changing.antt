@@ -8,15 +8,18 @@ use Rattle.std.proofs.lemmas.Option.{slice_get_within}
 use Rattle.cqa_value.specs.declared.value.Value.{Value}
 use Rattle.cqa_model.specs.declared.schema.Schema.{Schema}
 use Rattle.cqa_model.specs.Database.{Table, IsTable, IsDatabase, names_of, row_total}
-use Rattle.table_blocks.specs.Tables.{with_rows, rows_at}
+use Rattle.table_blocks.specs.Tables.{AreValidRows, IsStored, with_rows, rows_at}
 use Rattle.table_blocks.proofs.Membership.{contains_none, contains_head, contains_later, contains_cases}
 
 pub without_rows : (schema : Schema) → IsTable (record { schema = schema; rows = [] })
 unfolding IsStrictlySortedBy
 without_rows schema = record { in_order = tt; of_schema = λ row h. absurd (contains_none row h) }
 
-pub no_tables : IsDatabase []
+no_tables : IsDatabase []
 no_tables = record { few_tables = omega arith; each = λ t h. absurd (contains_none t h); names_differ = λ i j a b e. absurd (omega (arith, a)); few_rows = omega arith }
+
+pub none_stored : IsStored []
+none_stored = record { database = no_tables; valid = λ t h. absurd (contains_none t h) }
 
 -- one table holds no more rows than all
 pub rows_within : (db : List Table) (i : ℕ) → length (rows_at db i) ≤ row_total db
@@ -52,7 +55,7 @@ member_set w (u ∷ db) (suc i) x h = elim (contains_cases u (slice_set db i w) 
   | inr l ↦ elim (member_set w db i x l) [ inl e ↦ inl e | inr m ↦ inr (contains_later u db x m) ]
 ]
 
-pub database_set : (t w : Table) → w.schema ≡ t.schema → (db : List Table) (i : ℕ) → slice_get db i ≡ Some t → IsDatabase db → IsTable w → row_total (slice_set db i w) ≤ 1_000_000 → IsDatabase (slice_set db i w)
+database_set : (t w : Table) → w.schema ≡ t.schema → (db : List Table) (i : ℕ) → slice_get db i ≡ Some t → IsDatabase db → IsTable w → row_total (slice_set db i w) ≤ 1_000_000 → IsDatabase (slice_set db i w)
 database_set t w same db i e d table few =
     let names = names_set t w same db i e in
     let long = length-set db i w in
@@ -63,6 +66,13 @@ database_set t w same db i e d table few =
       names_differ = λ j k a b q. d.names_differ j k (omega (arith, a, long)) (omega (arith, b, long)) (ap (λ l. get_or l j []) (sym names) ∙ q ∙ ap (λ l. get_or l k []) names);
       few_rows = few;
     }
+
+-- tables stay stored where a table gets other rows of its schema, with valid values
+pub stored_set : (t w : Table) → w.schema ≡ t.schema → (db : List Table) (i : ℕ) → slice_get db i ≡ Some t → IsStored db → IsTable w → AreValidRows w.rows → row_total (slice_set db i w) ≤ 1_000_000 → IsStored (slice_set db i w)
+stored_set t w same db i e s table valid few = record {
+  database = database_set t w same db i e s.database table few;
+  valid = λ x h. elim (member_set w db i x h) [ inl q ↦ subst (λ z. AreValidRows z.rows) q valid | inr m ↦ s.valid x m ];
+}
 
 -- a table that is put where it stands changes nothing
 pub set_same : (db : List Table) (i : ℕ) (t : Table) → slice_get db i ≡ Some t → slice_set db i t ≡ db
@@ -97,7 +107,7 @@ new_name names name i j other a b apart e = go (nat_lt i (length names)) refl (n
         absurd (there j y (sym (early j y) ∙ sym e ∙ last i (omega (arith, x, a))))
     go false p false q = let x : length names ≤ i = search (rules, p) in let y : length names ≤ j = search (rules, q) in omega (arith, a, b, x, y)
 
-pub database_push : (db : List Table) (schema : Schema) → IsDatabase db → length db < 64 → (Contains (names_of db) schema.name → ⊥) → IsDatabase (db ++ (record { schema = schema; rows = [] }) ∷ [])
+database_push : (db : List Table) (schema : Schema) → IsDatabase db → length db < 64 → (Contains (names_of db) schema.name → ⊥) → IsDatabase (db ++ (record { schema = schema; rows = [] }) ∷ [])
 database_push db schema d room other =
     let t : Table = record { schema = schema; rows = [] } in
     let long = length-append db (t ∷ []) in
@@ -114,6 +124,17 @@ database_push db schema d room other =
       names_differ = λ i j a b q. new_name (names_of db) schema.name i j other (omega (arith, a, long, many)) (omega (arith, b, long, many))
           (λ k l c f p. d.names_differ k l (omega (arith, c, many)) (omega (arith, f, many)) p) (ap (λ l. get_or l i []) (sym names) ∙ q ∙ ap (λ l. get_or l j []) names);
       few_rows = omega (arith, total, before);
+    }
+
+pub stored_push : (db : List Table) (schema : Schema) → IsStored db → length db < 64 → (Contains (names_of db) schema.name → ⊥) → IsStored (db ++ (record { schema = schema; rows = [] }) ∷ [])
+stored_push db schema s room other =
+    let t : Table = record { schema = schema; rows = [] } in
+    record {
+      database = database_push db schema s.database room other;
+      valid = λ x h. elim (Contains-append_cases db (t ∷ []) x h) [
+        | inl l ↦ s.valid x l
+        | inr r ↦ elim (contains_cases t [] x r) [ inl q ↦ subst (λ z. AreValidRows z.rows) q (λ row m. absurd (contains_none row m)) | inr n ↦ absurd (contains_none x n) ]
+      ];
     }
 
 -- the rows of one table more

@@ -12,6 +12,8 @@ use Rattle.cqa_model.specs.declared.refusal.Refusal.TheVariants.{WrongArity, Typ
 use Rattle.cqa_model.specs.declared.refusal.Place.TheVariants.{Cell}
 use Rattle.table_blocks.specs.Tables.{first_of, same_kind, cell_fault, kind_fault, row_fault, rows_fault}
 use Rattle.table_blocks.proofs.Membership.{contains_none, contains_cases}
+use native.Mathlib.Decide.{dec_lt}
+use Rattle.std.proofs.lemmas.List.Elements.{at_read}
 
 kind_fault-step : (row column at : ℕ) (kinds : List Kind) (values : List Value) (kind : Kind) (value : Value)
     → slice_get kinds at ≡ Some kind → slice_get values at ≡ Some value
@@ -120,3 +122,11 @@ rows_fit kinds number [] e row h = absurd (contains_none row h)
 rows_fit kinds number (r ∷ rows) e row h =
     let none = both_none (row_fault kinds number r) (rows_fault kinds (number + 1) rows) e in
     elim (contains_cases r rows row h) [ inl q ↦ subst (λ x. map kind_of x ≡ kinds) q (row_fits kinds number r none.0) | inr l ↦ rows_fit kinds (number + 1) rows none.1 row l ]
+
+-- what holds of each element so far, and of the next
+pub read_more : {X : Type 0} (P : X → Type 0) (xs : List X) (at : ℕ) → ((k : ℕ) (d : X) → k < at → P (get_or xs k d)) → at < length xs → (x : X) → x ≡ get_or xs at x → P x → (k : ℕ) (d : X) → k < at + 1 → P (get_or xs k d)
+read_more P xs at so_far there x is here k d b = go (dec_lt k at)
+  where
+    go : Dec (k < at) → P (get_or xs k d)
+    go (yes l) = so_far k d l
+    go (no n) = let same : at ≡ k = omega (arith, n, b) in subst (λ i. P (get_or xs i d)) same (at_read xs P at x there is here d)

@@ -1,5 +1,5 @@
 -- The tables of a map from names, and the list that they are.
-use Rattle.std.proofs.Common.{◌≡◌, ◌⊎◌, ◌↔◌, arith, ◌≤◌, ◌<◌, ◌+◌, ℕ, zero, suc, List, [], ◌∷◌, ◌++◌, Some, None, Bool, true, false, ◌||◌, cond, length, refl, sym, ap, ◌∙◌, subst, true≢false, Contains, nat_eq, slice_set, slice_get}
+use Rattle.std.proofs.Common.{◌≡◌, arith, ◌≤◌, ◌<◌, ◌+◌, ℕ, zero, suc, List, [], ◌∷◌, ◌++◌, Some, None, Bool, true, false, ◌||◌, cond, length, refl, sym, ap, ◌∙◌, subst, true≢false, Contains, nat_eq, slice_set, slice_get}
 use Rattle.std.specs.List.{list_any}
 use Rattle.std.specs.Map.{keys_of, values_of, lookup}
 use Rattle.std.specs.Cmp.Lexicographic.{pointwise, same_text}
@@ -7,14 +7,11 @@ use Rattle.indexmap.specs.IndexMap.{set_value_at}
 use Rattle.std.proofs.lemmas.List.{map-append}
 use Rattle.indexmap.proofs.CallerLemmas.{Contains-list_any}
 use Rattle.cqa_model.specs.declared.schema.Schema.{Schema}
-use Rattle.cqa_model.specs.Database.{Table, IsTable, IsDatabase, names_of, row_total}
-use Rattle.cqa_model.specs.Database.{block_cmp}
+use Rattle.cqa_model.specs.Database.{Table, IsTable, names_of, row_total}
 use Rattle.cqa_model.proofs.Places.{key-at, rows-at}
 use Rattle.cqa_value.specs.declared.value.Value.{Value}
-use Rattle.std.specs.List.Sorted.{IsStrictlySortedBy}
-use Rattle.table_blocks.specs.declared.test.ColumnTest.{ColumnTest}
-use Rattle.table_blocks.specs.Tables.{IsMerged, IsSpared, TestsHold, key_at, rows_at}
-use Rattle.table_blocks.proofs.Changing.{names_set, database_set, database_push, total_set}
+use Rattle.table_blocks.specs.Tables.{AreValidRows, IsStored, key_at, rows_at}
+use Rattle.table_blocks.proofs.Changing.{names_set, stored_set, stored_push, total_set}
 
 lookup_none : {K X : Type 0} (test : K → Bool) (es : List (K × X)) → list_any test (keys_of es) ≡ false → lookup test es ≡ None
 lookup_none test [] h = refl
@@ -45,18 +42,18 @@ values_set (e ∷ es) (suc i) w = ap (λ xs. e.1 ∷ xs) (values_set es i w)
 
 -- the tables stand under their names, as a database
 abbrev pub AreNamed : List (List ℕ × Table) → Type 0
-AreNamed es = (keys_of es ≡ names_of (values_of es)) × IsDatabase (values_of es)
+AreNamed es = (keys_of es ≡ names_of (values_of es)) × IsStored (values_of es)
 
 keys_set : {K X : Type 0} (es : List (K × X)) (i : ℕ) (w : X) → keys_of (set_value_at es i w) ≡ keys_of es
 keys_set [] i w = refl
 keys_set (e ∷ es) zero w = refl
 keys_set (e ∷ es) (suc i) w = ap (λ ks. e.0 ∷ ks) (keys_set es i w)
 
-pub named_set : (es : List (List ℕ × Table)) (i : ℕ) (t w : Table) → AreNamed es → slice_get (values_of es) i ≡ Some t → w.schema ≡ t.schema → IsTable w → row_total (slice_set (values_of es) i w) ≤ 1_000_000 → AreNamed (set_value_at es i w)
-named_set es i t w named here same table few =
+pub named_set : (es : List (List ℕ × Table)) (i : ℕ) (t w : Table) → AreNamed es → slice_get (values_of es) i ≡ Some t → w.schema ≡ t.schema → IsTable w → AreValidRows w.rows → row_total (slice_set (values_of es) i w) ≤ 1_000_000 → AreNamed (set_value_at es i w)
+named_set es i t w named here same table valid few =
     let is = values_set es i w in (
       keys_set es i w ∙ named.0 ∙ sym (ap names_of is ∙ names_set t w same (values_of es) i here),
-      subst IsDatabase (sym is) (database_set t w same (values_of es) i here named.1 table few),
+      subst IsStored (sym is) (stored_set t w same (values_of es) i here named.1 table valid few),
     )
 
 -- a table without rows under a new name
@@ -68,33 +65,22 @@ named_push es after name schema t named room other called is e =
     let vs : values_of after ≡ values_of es ++ w ∷ [] = ap (λ l. values_of l) e ∙ values_last es name t ∙ ap (λ x. values_of es ++ x ∷ []) is in
     let ks : keys_of after ≡ keys_of es ++ schema.name ∷ [] = ap (λ l. keys_of l) e ∙ keys_last es name t ∙ ap (λ x. keys_of es ++ x ∷ []) called in
     let ns : names_of (values_of es ++ w ∷ []) ≡ names_of (values_of es) ++ schema.name ∷ [] = map-append (λ (x : Table). x.schema.name) (values_of es) (w ∷ []) in
-    ((ks ∙ ap (λ l. l ++ schema.name ∷ []) named.0 ∙ sym (ap names_of vs ∙ ns), subst IsDatabase (sym vs) (database_push (values_of es) schema named.1 room other)), vs)
+    ((ks ∙ ap (λ l. l ++ schema.name ∷ []) named.0 ∙ sym (ap names_of vs ∙ ns), subst IsStored (sym vs) (stored_push (values_of es) schema named.1 room other)), vs)
 
 -- a table gets more rows, as many as there is room for
-pub named_more : (es : List (List ℕ × Table)) (i : ℕ) (t w : Table) (more : ℕ) → AreNamed es → slice_get (values_of es) i ≡ Some t → w.schema ≡ t.schema → IsTable w
+pub named_more : (es : List (List ℕ × Table)) (i : ℕ) (t w : Table) (more : ℕ) → AreNamed es → slice_get (values_of es) i ≡ Some t → w.schema ≡ t.schema → IsTable w → AreValidRows w.rows
     → length w.rows ≡ length t.rows + more → row_total (values_of es) + more ≤ 1_000_000 → AreNamed (set_value_at es i w)
-named_more es i t w more named here same table count room =
+named_more es i t w more named here same table valid count room =
     let total = total_set t w same (values_of es) i here in
-    named_set es i t w named here same table (omega (arith, total, count, room))
+    named_set es i t w named here same table valid (omega (arith, total, count, room))
 
--- it has the rows that it had, and those that came
-pub joined_by : (db : List Table) (i : ℕ) (t w : Table) (given : List (List Value)) → slice_get db i ≡ Some t → w.schema ≡ t.schema → IsTable w
-    → ((row : List Value) → Contains w.rows row ↔ (Contains t.rows row ⊎ Contains given row)) → IsMerged (key_at db i) (rows_at db i) given w.rows
-joined_by db i t w given here same table members = record {
-  in_order = subst (λ key. IsStrictlySortedBy (block_cmp key) w.rows) (ap (λ s. s.key) same ∙ sym (key-at db i t here)) table.in_order;
-  members = subst (λ rows. (row : List Value) → Contains w.rows row ↔ (Contains rows row ⊎ Contains given row)) (sym (rows-at db i t here)) members;
-}
+-- what is said of the table that was found is said of the table at the place
+pub at_place : (P : List ℕ → List (List Value) → Type 0) (db : List Table) (i : ℕ) (t : Table) → slice_get db i ≡ Some t → P t.schema.key t.rows → P (key_at db i) (rows_at db i)
+at_place P db i t here p = subst (λ key. P key (rows_at db i)) (sym (key-at db i t here)) (subst (P t.schema.key) (sym (rows-at db i t here)) p)
 
 -- a table loses the rows for which all tests hold
-pub named_less : (es : List (List ℕ × Table)) (i : ℕ) (t w : Table) → AreNamed es → slice_get (values_of es) i ≡ Some t → w.schema ≡ t.schema → IsTable w → length w.rows ≤ length t.rows → AreNamed (set_value_at es i w)
-named_less es i t w named here same table fewer =
+pub named_less : (es : List (List ℕ × Table)) (i : ℕ) (t w : Table) → AreNamed es → slice_get (values_of es) i ≡ Some t → w.schema ≡ t.schema → IsTable w → AreValidRows w.rows → length w.rows ≤ length t.rows → AreNamed (set_value_at es i w)
+named_less es i t w named here same table valid fewer =
     let total = total_set t w same (values_of es) i here in
-    let all = named.1.few_rows in
-    named_set es i t w named here same table (omega (arith, total, fewer, all))
-
-pub spared_by : (db : List Table) (i : ℕ) (t w : Table) (tests : List ColumnTest) → slice_get db i ≡ Some t → w.schema ≡ t.schema → IsTable w
-    → ((row : List Value) → Contains w.rows row ↔ (Contains t.rows row × (TestsHold tests row → ⊥))) → IsSpared (key_at db i) (rows_at db i) tests w.rows
-spared_by db i t w tests here same table members = record {
-  in_order = subst (λ key. IsStrictlySortedBy (block_cmp key) w.rows) (ap (λ s. s.key) same ∙ sym (key-at db i t here)) table.in_order;
-  members = subst (λ rows. (row : List Value) → Contains w.rows row ↔ (Contains rows row × (TestsHold tests row → ⊥))) (sym (rows-at db i t here)) members;
-}
+    let all = named.1.database.few_rows in
+    named_set es i t w named here same table valid (omega (arith, total, fewer, all))

@@ -9,11 +9,12 @@ use Rattle.cqa_value.specs.declared.value.Kind.{Kind}
 use Rattle.cqa_value.specs.declared.value.Kind.TheVariants.{Int, Text}
 use Rattle.cqa_value.specs.declared.value.Value.{Value}
 use Rattle.cqa_value.specs.Values.{kind_of, row_eq}
+use Rattle.cqa_value.specs.Valid.{IsValidRow}
 use Rattle.cqa_model.specs.declared.refusal.Refusal.{Refusal}
 use Rattle.cqa_model.specs.declared.refusal.Refusal.TheVariants.{WrongArity, TypeMismatch, Limit}
 use Rattle.cqa_model.specs.declared.refusal.Place.TheVariants.{Cell}
 use Rattle.cqa_model.specs.declared.refusal.LimitKind.TheVariants.{Rows}
-use Rattle.cqa_model.specs.Database.{Table, block_cmp, names_of, stored, keys_of, column_kinds, row_total, nothing}
+use Rattle.cqa_model.specs.Database.{Table, IsDatabase, block_cmp, names_of, stored, keys_of, column_kinds, row_total, nothing}
 use Rattle.cqa_model.specs.Query.{OpHolds}
 pub use Rattle.cqa_model.specs.Refusal.{first_of, IsRefusedAs}
 use Rattle.table_blocks.specs.declared.test.ColumnTest.{ColumnTest}
@@ -78,6 +79,15 @@ limit_fault db table rows = if nat_le (row_total db + count_new (rows_at db tabl
 -- the first check that fails where rows are put into a table
 abbrev pub insert_fault : List Table → ℕ → List (List Value) → Option Refusal
 insert_fault db table rows = first_of (rows_fault (kinds_at db table) 1 rows) (limit_fault db table rows)
+
+-- rows whose values are valid
+abbrev pub AreValidRows : List (List Value) → Type 0
+AreValidRows rows = (row : List Value) → Contains rows row → IsValidRow row
+
+-- tables that make a database, and whose values are valid
+pub record IsStored (db : List Table) : Type 0 where
+  pub database : IsDatabase db
+  pub valid : (table : Table) → Contains db table → AreValidRows table.rows
 
 -- the stored rows and the given ones, in block order
 pub record IsMerged (key : List ℕ) (stored given rows : List (List Value)) : Type 0 where

@@ -1,3 +1,5 @@
+//! A value of a row by its place.
+//! Rows that are too narrow count as 0 there.
 ghost use Rattle.std.specs.Prelude.{◌≡◌, ◌↔◌, IsTrue, slice_get, slice_index_or};
 ghost use Rattle.std.specs.Option.{option_copied};
 ghost use Rattle.cqa_model.specs.Database.{nothing};

@@ -1,14 +1,18 @@
-ghost use Rattle.std.specs.Prelude.{◌≡◌, ◌<◌, ◌≤◌, ◌+◌, ◌^◌, length};
+//! What is wrong with rows that are to be stored: the first fault in the order of rows and columns.
+//! Rows without one have valid values of the right kinds.
+ghost use Rattle.std.specs.Prelude.{◌≡◌, ◌<◌, ◌≤◌, ◌+◌, ◌^◌, IsNone, length};
 ghost use Rattle.cqa_model.specs.Database.{kinds_of};
 ghost use Rattle.cqa_value.specs.Values.{kind_of};
-ghost use Rattle.table_blocks.specs.Tables.{cell_fault, kind_fault, row_fault, rows_fault};
+ghost use Rattle.cqa_value.specs.Valid.{IsValidValue, IsValidRow};
+ghost use Rattle.table_blocks.specs.Tables.{AreValidRows, cell_fault, kind_fault, row_fault, rows_fault};
 
 use cqa_model::{Column, Place, Refusal, Schema};
 use cqa_value::{Row, Value};
 
 /// What is wrong with a value: it has another kind than its column.
 fn cell_fault_of(column: &Column, value: &Value, row: u32, at: u32) -> Option<Refusal>
-    ensures { result ≡ cell_fault row at column.now.kind value.now }
+    ensures is { result ≡ cell_fault row at column.now.kind value.now }
+    ensures valid { IsValidValue value.now }
 {
     if value.kind() == column.kind {
         None
@@ -22,7 +26,8 @@ fn cell_fault_of(column: &Column, value: &Value, row: u32, at: u32) -> Option<Re
 /// The first value of a row, by its number, that has another kind than its column.
 fn kind_fault_of(schema: &Schema, row: &Row, number: u32) -> Option<Refusal>
     requires { length row.now ≡ length schema.now.columns }
-    ensures { result ≡ kind_fault number 1 (kinds_of schema.now) row.now }
+    ensures is { result ≡ kind_fault number 1 (kinds_of schema.now) row.now }
+    ensures valid { IsNone result → IsValidRow row.now }
 {
     let columns = schema.columns.as_slice();
     for (at, value) in row.as_slice().iter().enumerate() {
@@ -35,7 +40,8 @@ fn kind_fault_of(schema: &Schema, row: &Row, number: u32) -> Option<Refusal>
 
 /// What is wrong with the row of a number: how many values it has, or the kind of one.
 fn row_fault_of(schema: &Schema, row: &Row, number: u32) -> Option<Refusal>
-    ensures { result ≡ row_fault (kinds_of schema.now) number row.now }
+    ensures is { result ≡ row_fault (kinds_of schema.now) number row.now }
+    ensures valid { IsNone result → IsValidRow row.now }
 {
     if row.len() as usize != schema.columns.as_slice().len() {
         return Some(Refusal::WrongArity { row: number });
@@ -46,7 +52,8 @@ fn row_fault_of(schema: &Schema, row: &Row, number: u32) -> Option<Refusal>
 /// The first fault of rows, numbered from 1.
 pub fn rows_fault_of(schema: &Schema, rows: &[Row]) -> Option<Refusal>
     requires { length rows.now < 2 ^ 32 }
-    ensures { result ≡ rows_fault (kinds_of schema.now) 1 rows.now }
+    ensures is { result ≡ rows_fault (kinds_of schema.now) 1 rows.now }
+    ensures valid { IsNone result → AreValidRows rows.now }
 {
     for (at, row) in rows.iter().enumerate() {
         if let Some(fault) = row_fault_of(schema, row, at as u32 + 1) {

@@ -1,10 +1,12 @@
+//! The tables of a database by their names: how they are made, looked through, filled and emptied.
+//! What always holds of them is the invariant of `Database`.
 ghost use Rattle.std.specs.Prelude.{◌≡◌, ◌≤◌, ◌<◌, ◌^◌, ◌++◌, ◌∷◌, [], Some, None, Contains, OnOk, OnErr, IfOk, IfErr, IfSome, MatchOption, MatchResult, length, map, slice_get, List, ◌+◌, ◌*◌, ℕ};
 ghost use Rattle.cqa_model.specs.Database.{Table as StoredTable, IsDatabase, names_of, row_total, kinds_of, block_cmp};
 ghost use Rattle.std.specs.List.Sorted.{IsStrictlySortedBy};
 ghost use Rattle.cqa_value.specs.declared.value.Value.{Value};
 ghost use Rattle.cqa_value.specs.Values.{kind_of};
 ghost use Rattle.table_blocks.specs.Spans.{IsSpan};
-ghost use Rattle.table_blocks.specs.Tables.{table_named, rows_at, key_at, kinds_at, with_rows, insert_fault, Inserts, Deletes, IsMerged, IsSpared, IsRefusedAs};
+ghost use Rattle.table_blocks.specs.Tables.{table_named, rows_at, key_at, kinds_at, with_rows, insert_fault, Inserts, Deletes, AreValidRows, IsStored, IsMerged, IsSpared, IsRefusedAs};
 
 use crate::check::rows_fault_of;
 use crate::probe::Probe;
@@ -13,17 +15,14 @@ use crate::span::{rows_with, span_in};
 use crate::steps::Steps;
 use crate::table::Table;
 use crate::test::ColumnTest;
-use cqa_model::{LimitKind, Refusal, Schema};
+use cqa_model::{LimitKind, MOST_ROWS, MOST_TABLES, Refusal, Schema};
 use cqa_value::{Fail, Items, Name, NoMemory, Row};
 use indexmap::IndexMap;
 use std::alloc::Global;
 use std::marker::Model;
 use std::sync::ledger::Ledger;
 
-/// The most rows that all tables may have together.
-const MOST_ROWS: usize = 1_000_000;
-
-/// Tables in the order of their creation, under different names.
+/// Tables in the order of their creation, under different names. Their values are valid.
 #[derive(Drop)]
 pub struct Database {
     tables: IndexMap<Name, Table>,
@@ -32,19 +31,21 @@ pub struct Database {
 impl Model for Database {
     ghost use Rattle.std.specs.Prelude.{List, ◌≡◌};
     ghost use Rattle.indexmap.specs.IndexMap.{keys, values};
-    ghost use Rattle.cqa_model.specs.Database.{Table as StoredTable, IsDatabase, names_of};
+    ghost use Rattle.cqa_model.specs.Database.{Table as StoredTable, names_of};
+    ghost use Rattle.table_blocks.specs.Tables.{IsStored};
 
     ghost Value = { List StoredTable };
 
     ghost view = { λ d. values d.tables };
 
-    ghost invariant = { λ d. (keys d.tables ≡ names_of (values d.tables)) × IsDatabase (values d.tables) };
+    ghost invariant = { λ d. (keys d.tables ≡ names_of (values d.tables)) × IsStored (values d.tables) };
 }
 
 impl Database {
     /// A database without tables.
     pub fn new(alloc: Global) -> Database
-        ensures { result ≡ [] }
+        ensures empty { result ≡ [] }
+        ensures stored { IsStored result }
     {
         Database {
             tables: IndexMap::new(alloc),
@@ -55,6 +56,7 @@ impl Database {
     pub fn count(&self) -> u32
         ensures count { result ≡ length self.now }
         ensures database { IsDatabase self.now }
+        ensures stored { IsStored self.now }
     {
         self.tables.len() as u32
     }
@@ -93,7 +95,7 @@ impl Database {
         requires { table < length self.now }
         ensures is { result.now ≡ rows_at self.now table }
         ensures in_order { IsStrictlySortedBy (block_cmp (key_at self.now table)) result.now }
-        ensures few { length result.now ≤ 1_000_000 }
+        ensures few { length result.now ≤ MOST_ROWS }
     {
         self.table(table).rows()
     }
@@ -109,7 +111,7 @@ impl Database {
     /// The number of rows in all tables.
     pub fn row_total(&self) -> u32
         ensures total { result ≡ row_total self.now }
-        ensures few { result ≤ 1_000_000 }
+        ensures few { result ≤ MOST_ROWS }
     {
         let mut total = 0;
         for table in 0..self.count() {
@@ -139,7 +141,7 @@ impl Database {
         requires there { table < length self.now }
         requires few { length probe.now ≤ length (key_at self.now table) }
         ensures span { IsSpan (key_at self.now table) (rows_at self.now table) probe.now result.0 result.1.now }
-        ensures within { result.0 + length result.1.now ≤ 1_000_000 }
+        ensures within { result.0 + length result.1.now ≤ MOST_ROWS }
         ensures cost { (digits : ℕ) → length (rows_at self.now table) < 2 ^ digits → steps.new ≤ steps.old + 2 * digits }
     {
         let (start, rows) = span_in(self.rows(table), self.key(table), probe, steps);
@@ -165,7 +167,7 @@ impl Database {
         requires there { table < length self.now }
         requires few { length probe.now ≤ length (key_at self.now table) }
         ensures span { IsSpan (key_at self.now table) (rows_at self.now table) probe.now result.0 result.1.now }
-        ensures within { result.0 + length result.1.now ≤ 1_000_000 }
+        ensures within { result.0 + length result.1.now ≤ MOST_ROWS }
     {
         let (start, rows) = rows_with(self.rows(table), self.key(table), probe);
         (start as u32, rows)
@@ -177,11 +179,13 @@ impl Database {
     ///
     /// `NoMemory` where memory is refused; nothing has changed then.
     pub fn create(&mut self, alloc: Global, schema: Schema) -> Result<(), NoMemory>
-        requires room { length self.old < 64 }
+        requires room { length self.old < MOST_TABLES }
         requires other { Contains (names_of self.old) schema.name → ⊥ }
         ensures ok { OnOk result (self.new ≡ self.old ++ (record { schema = schema; rows = [] }) ∷ []) }
         ensures err { OnErr result (self.new ≡ self.old) }
+        ensures stored { IsStored self.new }
     {
+        let _ = &self.tables;
         let name = schema.name.copy(alloc)?;
         self.tables.insert(name, Table::new(alloc, schema))?;
         Ok(())
@@ -192,10 +196,12 @@ impl Database {
         requires there { table < length self.old }
         requires ascending { IsStrictlySortedBy (block_cmp (key_at self.old table)) fresh.items }
         requires fits { (row : List Value) → Contains fresh.items row → map kind_of row ≡ kinds_at self.old table }
+        requires valid { AreValidRows fresh.items }
         requires new { (row : List Value) → Contains (rows_at self.old table) row → Contains fresh.items row → ⊥ }
-        requires room { row_total self.old + length fresh.items ≤ 1_000_000 }
+        requires room { row_total self.old + length fresh.items ≤ MOST_ROWS }
         ensures changed { OnOk result ((rows : List (List Value)) × IsMerged (key_at self.old table) (rows_at self.old table) fresh.items rows × (self.new ≡ with_rows self.old table rows)) }
         ensures err { OnErr result (self.new ≡ self.old) }
+        ensures stored { IsStored self.new }
     {
         match self.tables.get_index_mut(table as usize) {
             Some(found) => {
@@ -219,7 +225,9 @@ impl Database {
         ensures valid { OnOk result (insert_fault self.old table rows ≡ None) }
         ensures refused { IfErr result (λ e. IsRefusedAs e (insert_fault self.old table rows)) }
         ensures err { OnErr result (self.new ≡ self.old) }
+        ensures stored { IsStored self.new }
     {
+        let _ = &self.tables;
         if let Some(fault) = rows_fault_of(self.schema(table), rows.as_slice()) {
             return Err(Fail::Refused(fault));
         }
@@ -236,7 +244,8 @@ impl Database {
     /// Takes the rows away from a table for which all tests hold.
     fn remove(&mut self, table: u32, tests: &[ColumnTest])
         requires { table < length self.old }
-        ensures { (rows : List (List Value)) × IsSpared (key_at self.old table) (rows_at self.old table) tests.now rows × (self.new ≡ with_rows self.old table rows) × (length rows ≤ length (rows_at self.old table)) }
+        ensures stored { IsStored self.new }
+        ensures spared { (rows : List (List Value)) × IsSpared (key_at self.old table) (rows_at self.old table) tests.now rows × (self.new ≡ with_rows self.old table rows) × (length rows ≤ length (rows_at self.old table)) }
     {
         match self.tables.get_index_mut(table as usize) {
             Some(found) => found.remove(tests),
@@ -247,7 +256,8 @@ impl Database {
     /// Takes the rows away from a table for which all tests hold, and gives their number.
     pub fn delete(&mut self, table: u32, tests: &[ColumnTest]) -> u32
         requires { table < length self.old }
-        ensures { Deletes self.old table tests.now self.new result }
+        ensures deleted { Deletes self.old table tests.now self.new result }
+        ensures stored { IsStored self.new }
     {
         let stored = self.rows(table).len();
         self.remove(table, tests);

@@ -1,22 +1,19 @@
-ghost use Rattle.std.specs.Prelude.{◌≡◌, ◌≤◌, length, slice_index_or, pos};
-ghost use Rattle.cqa_value.specs.Values.{value_cmp, row_cmp};
-ghost use Rattle.cqa_value.specs.declared.value.Value.TheVariants.{Int};
+//! Block order: rows by their key values, and rows of one key by all values.
+//! Everything that is found is found in this order.
+ghost use Rattle.std.specs.Prelude.{◌≡◌, ◌≤◌, length, slice_index_or};
+ghost use Rattle.cqa_value.specs.Values.{nothing, value_cmp, row_cmp};
 ghost use Rattle.cqa_model.specs.Database.{key_of, block_cmp};
 ghost use Rattle.table_blocks.specs.Spans.{probe_cmp};
 
-use crate::cells::value_or;
 use crate::probe::Probe;
-use cqa_value::{Row, Value, compare};
+use cqa_value::{NOTHING, Row, compare};
 use std::cmp::Ordering;
 
 /// Compares two rows in one column; a row that is too narrow counts as 0 there.
 fn compare_at(place: u32, a: &Row, b: &Row) -> Ordering
-    ensures { result ≡ value_cmp (slice_index_or a.now place (Int (pos 0))) (slice_index_or b.now place (Int (pos 0))) }
+    ensures { result ≡ value_cmp (slice_index_or a.now place nothing) (slice_index_or b.now place nothing) }
 {
-    compare(
-        value_or(a, place, &Value::Int(0)),
-        value_or(b, place, &Value::Int(0)),
-    )
+    compare(a.at_or(place, &NOTHING), b.at_or(place, &NOTHING))
 }
 
 /// Compares two rows by their key values.
@@ -45,7 +42,7 @@ pub fn compare_key(key: &[u32], probe: &Probe<'_>, row: &Row) -> Ordering
     ensures { result ≡ probe_cmp key.now probe.now row.now }
 {
     for at in 0..probe.len() {
-        let ordering = compare(value_or(row, key[at], &Value::Int(0)), probe.get(at));
+        let ordering = compare(row.at_or(key[at], &NOTHING), probe.get(at));
         if ordering != Ordering::Equal {
             return ordering;
         }

@@ -1,27 +1,31 @@
+//! First key values that are looked for.
+//! They are borrowed and take no memory.
 ghost use Rattle.std.specs.Prelude.{◌≡◌, ◌<◌, ◌≤◌, length, [], ◌∷◌, ◌++◌, slice_get, Some};
 ghost use Rattle.table_blocks.specs.Lists.{borrowed_values, AllTaken};
 
+use cqa_model::MOST_COLUMNS;
 use cqa_value::Value;
 use smallvec::SmallVec;
 use std::alloc::Global;
 use std::marker::Model;
 
-/// The first values of a key, at most 16, in places that take no memory.
+/// The first values of a key, at most `MOST_COLUMNS`, in places that take no memory.
 #[derive(Drop)]
 pub struct Probe<'a> {
-    slots: SmallVec<Option<&'a Value>, 16>,
+    slots: SmallVec<Option<&'a Value>, MOST_COLUMNS>,
 }
 
 impl<'a> Model for Probe<'a> {
     ghost use Rattle.std.specs.Prelude.{◌≡◌, ◌≤◌, List, length};
     ghost use Rattle.cqa_value.specs.declared.value.Value.{Value as Cell};
+    ghost use Rattle.cqa_model.specs.declared.limits.TheConstants.{MOST_COLUMNS};
     ghost use Rattle.table_blocks.specs.Lists.{borrowed_values, AllTaken};
 
     ghost Value = { List Cell };
 
     ghost view = { λ p. borrowed_values p.slots.items };
 
-    ghost invariant = { λ p. (p.slots.capacity ≡ 16) × (length p.slots.items ≤ 16) × AllTaken p.slots.items };
+    ghost invariant = { λ p. (p.slots.capacity ≡ MOST_COLUMNS) × (length p.slots.items ≤ MOST_COLUMNS) × AllTaken p.slots.items };
 }
 
 /// The value at a place.
@@ -48,16 +52,16 @@ impl<'a> Probe<'a> {
 
     /// Adds the value of the next key column.
     pub fn put(&mut self, value: &'a Value)
-        requires { length self.old < 16 }
+        requires { length self.old < MOST_COLUMNS }
         ensures { self.new ≡ self.old ++ value.now ∷ [] }
     {
         self.slots.push_reserved(Some(value));
     }
 
-    /// The number of values, at most 16.
+    /// The number of values, at most `MOST_COLUMNS`.
     pub fn len(&self) -> usize
         ensures value { result ≡ length self.now }
-        ensures small { result ≤ 16 }
+        ensures small { result ≤ MOST_COLUMNS }
     {
         self.slots.len()
     }

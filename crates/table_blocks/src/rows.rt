@@ -1,3 +1,5 @@
+//! Rows in block order: how new ones are sorted in, and how rows are taken out.
+//! Nothing is compared that its place or its key tells.
 ghost use Rattle.std.specs.Prelude.{◌≡◌, ◌≤◌, ◌<◌, ◌+◌, ◌-◌, ◌↔◌, ◌++◌, Bool, IsTrue, filter, not, MatchOption, OnOk, OnErr, Some, slice_get, slice_index_or, [], List, ℕ, Contains, length, take, drop};
 ghost use Rattle.std.specs.List.{AllByRecursion};
 ghost use Rattle.std.specs.List.Sorted.{IsStrictlySortedBy, IsPermutation};
@@ -6,7 +8,7 @@ ghost use Rattle.std.specs.Ordering.{is_lt};
 ghost use Rattle.std.specs.declared.cmp.Ordering.TheVariants.{Less};
 ghost use Rattle.cqa_value.specs.declared.value.Value.{Value as Cell};
 ghost use Rattle.cqa_model.specs.Database.{block_cmp};
-ghost use Rattle.table_blocks.specs.Tables.{IsPlace, is_among, count_new, TestsHold};
+ghost use Rattle.table_blocks.specs.Tables.{IsPlace, IsMerged, IsSpared, is_among, count_new, TestsHold};
 
 use crate::order::block_compare;
 use crate::search::{leading, leading_from_back};
@@ -69,16 +71,13 @@ fn place_from(rows: &[Row], from: usize, key: &[u32], row: &Row) -> usize
     )
 }
 
-fn same_row(a: &Row, b: &Row) -> bool
-    ensures { IsTrue result ↔ (a.now ≡ b.now) }
-{
-    a == b
-}
-
 fn stands(rows: &[Row], at: usize, row: &Row) -> bool
     ensures { IsTrue result ↔ (slice_get rows.now at ≡ Some row.now) }
 {
-    at < rows.len() && same_row(&rows[at], row)
+    match rows.get(at) {
+        Some(other) => other == row,
+        None => false,
+    }
 }
 
 /// The place of a row, if it is there.
@@ -183,8 +182,8 @@ pub fn put(rows: &mut Vec<Row>, key: &[u32], fresh: Vec<Row>) -> Result<(), NoMe
     requires ascending { IsStrictlySortedBy (block_cmp key.now) rows.old.items }
     requires fresh { IsStrictlySortedBy (block_cmp key.now) fresh.items }
     requires new { (row : List Cell) → Contains rows.old.items row → Contains fresh.items row → ⊥ }
-    ensures ascending { OnOk result (IsStrictlySortedBy (block_cmp key.now) rows.new.items) }
-    ensures same { OnOk result (IsPermutation (rows.old.items ++ fresh.items) rows.new.items) }
+    ensures merged { OnOk result (IsMerged key.now rows.old.items fresh.items rows.new.items) }
+    ensures count { OnOk result (length rows.new.items ≡ length rows.old.items + length fresh.items) }
     ensures err { OnErr result (rows.new.items ≡ rows.old.items) }
 {
     let stored = rows.len();
@@ -234,8 +233,7 @@ fn remove_in(rows: &mut Vec<Row>, from: usize, to: usize, tests: &[ColumnTest])
 /// Takes the rows away for which all tests hold. Those alone are tried that have the first key values that the tests tell.
 pub fn remove(rows: &mut Vec<Row>, key: &[u32], tests: &[ColumnTest])
     requires { IsStrictlySortedBy (block_cmp key.now) rows.old.items }
-    ensures ascending { IsStrictlySortedBy (block_cmp key.now) rows.new.items }
-    ensures members { (row : List Cell) → Contains rows.new.items row ↔ (Contains rows.old.items row × (TestsHold tests.now row → ⊥)) }
+    ensures spared { IsSpared key.now rows.old.items tests.now rows.new.items }
     ensures fewer { length rows.new.items ≤ length rows.old.items }
 {
     let probe = known_key(*rows.allocator(), key, tests);

@@ -1,3 +1,5 @@
+//! The rows with given first key values, which stand together in block order.
+//! `span_in` counts and bounds its comparisons, `rows_with` is the faster one.
 ghost use Rattle.std.specs.Prelude.{◌≡◌, ◌+◌, ◌*◌, ◌<◌, ◌≤◌, ◌^◌, ℕ, length, true, false};
 ghost use Rattle.std.specs.List.Sorted.{IsStrictlySortedBy, IsPartitionedBy, IsPartitionPoint};
 ghost use Rattle.cqa_model.specs.Database.{block_cmp};

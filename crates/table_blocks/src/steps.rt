@@ -1,3 +1,5 @@
+//! Comparisons of keys, counted in a ledger.
+//! A clause can bound them, and they cost no byte.
 ghost use Rattle.std.specs.Prelude.{◌≡◌, ◌+◌, ◌<◌, ◌≤◌, length};
 ghost use Rattle.table_blocks.specs.Spans.{probe_cmp};
 

@@ -1,8 +1,10 @@
-ghost use Rattle.std.specs.Prelude.{◌≡◌, ◌↔◌, ◌⊎◌, ◌+◌, ◌≤◌, [], List, Contains, length, OnOk, OnErr};
+//! One table: a schema, and rows of it in block order.
+//! Only its own methods change its rows.
+ghost use Rattle.std.specs.Prelude.{◌≡◌, ◌+◌, ◌≤◌, [], List, Contains, length, OnOk, OnErr};
 ghost use Rattle.std.specs.List.Sorted.{IsStrictlySortedBy};
 ghost use Rattle.cqa_value.specs.declared.value.Value.{Value};
 ghost use Rattle.cqa_model.specs.Database.{IsTable, IsRowOf, block_cmp};
-ghost use Rattle.table_blocks.specs.Tables.{TestsHold};
+ghost use Rattle.table_blocks.specs.Tables.{AreValidRows, IsMerged, IsSpared};
 
 use crate::rows::{put, remove};
 use crate::test::ColumnTest;
@@ -11,7 +13,7 @@ use cqa_value::{NoMemory, Row};
 use std::alloc::Global;
 use std::marker::Model;
 
-/// A table: its rows stand in block order.
+/// A table: its rows are of its schema, stand in block order, and hold valid values.
 #[derive(Drop)]
 pub struct Table {
     schema: Schema,
@@ -20,12 +22,13 @@ pub struct Table {
 
 impl Model for Table {
     ghost use Rattle.cqa_model.specs.Database.{Table as StoredTable, IsTable};
+    ghost use Rattle.table_blocks.specs.Tables.{AreValidRows};
 
     ghost Value = { StoredTable };
 
     ghost view = { λ t. record { schema = t.schema; rows = t.rows.items } };
 
-    ghost invariant = { λ t. IsTable (record { schema = t.schema; rows = t.rows.items }) };
+    ghost invariant = { λ t. IsTable (record { schema = t.schema; rows = t.rows.items }) × AreValidRows t.rows.items };
 }
 
 fn key_places(schema: &Schema) -> &[u32]
@@ -60,6 +63,7 @@ impl Table {
     pub fn rows(&self) -> &[Row]
         ensures is { result.now ≡ self.now.rows }
         ensures table { IsTable self.now }
+        ensures valid { AreValidRows self.now.rows }
     {
         self.rows.as_slice()
     }
@@ -68,10 +72,12 @@ impl Table {
     pub fn add(&mut self, fresh: Vec<Row>) -> Result<(), NoMemory>
         requires ascending { IsStrictlySortedBy (block_cmp self.old.schema.key) fresh.items }
         requires fits { (row : List Value) → Contains fresh.items row → IsRowOf self.old.schema row }
+        requires valid { AreValidRows fresh.items }
         requires new { (row : List Value) → Contains self.old.rows row → Contains fresh.items row → ⊥ }
         ensures table { IsTable self.new }
+        ensures valid { AreValidRows self.new.rows }
         ensures schema { self.new.schema ≡ self.old.schema }
-        ensures members { OnOk result ((row : List Value) → Contains self.new.rows row ↔ (Contains self.old.rows row ⊎ Contains fresh.items row)) }
+        ensures merged { OnOk result (IsMerged self.old.schema.key self.old.rows fresh.items self.new.rows) }
         ensures count { OnOk result (length self.new.rows ≡ length self.old.rows + length fresh.items) }
         ensures err { OnErr result (self.new ≡ self.old) }
     {
@@ -82,8 +88,9 @@ impl Table {
     /// Takes the rows away for which all tests hold.
     pub fn remove(&mut self, tests: &[ColumnTest])
         ensures table { IsTable self.new }
+        ensures valid { AreValidRows self.new.rows }
         ensures schema { self.new.schema ≡ self.old.schema }
-        ensures members { (row : List Value) → Contains self.new.rows row ↔ (Contains self.old.rows row × (TestsHold tests.now row → ⊥)) }
+        ensures spared { IsSpared self.old.schema.key self.old.rows tests.now self.new.rows }
         ensures fewer { length self.new.rows ≤ length self.old.rows }
     {
         remove(&mut self.rows, key_places(&self.schema), tests);

@@ -1,3 +1,5 @@
+//! Tests of columns, which say what rows are deleted.
+//! Tests of equality tell first key values, by which the rows are found.
 ghost use Rattle.std.specs.Prelude.{◌≡◌, ◌≤◌, ◌↔◌, IfSome, IsTrue, List, slice_index_or, length};
 ghost use Rattle.cqa_value.specs.declared.value.Value.{Value as Cell};
 ghost use Rattle.cqa_model.specs.Database.{nothing};
@@ -5,12 +7,10 @@ ghost use Rattle.cqa_model.specs.Query.{OpHolds};
 ghost use Rattle.table_blocks.specs.Spans.{first_key};
 ghost use Rattle.table_blocks.specs.Tables.{TestsHold};
 
-use crate::cells::value_or;
 use crate::probe::Probe;
-use cqa_model::Op;
-use cqa_value::{Row, Value, compare};
+use cqa_model::{MOST_COLUMNS, Op};
+use cqa_value::{NOTHING, Row, Value};
 use std::alloc::Global;
-use std::cmp::Ordering;
 
 /// A comparison of a table's column with a value.
 #[derive(Drop)]
@@ -20,35 +20,18 @@ pub struct ColumnTest {
     pub value: Value,
 }
 
-fn is_same(a: &Value, b: &Value) -> bool
-    ensures { IsTrue result ↔ (a.now ≡ b.now) }
-{
-    a == b
-}
-
 /// Whether two values stand in the relation of an operator.
 pub fn compares(op: Op, a: &Value, b: &Value) -> bool
     ensures { IsTrue result ↔ OpHolds op a.now b.now }
 {
-    match op {
-        Op::Eq => is_same(a, b),
-        Op::Ne => !is_same(a, b),
-        Op::Lt => compare(a, b) == Ordering::Less,
-        Op::Le => compare(a, b) != Ordering::Greater,
-        Op::Gt => compare(a, b) == Ordering::Greater,
-        Op::Ge => compare(a, b) != Ordering::Less,
-    }
+    op.holds(a, b)
 }
 
 /// Whether a row passes a test; a row that is too narrow counts as 0 in the column.
 fn passes(row: &Row, test: &ColumnTest) -> bool
     ensures { IsTrue result ↔ OpHolds test.now.op (slice_index_or row.now test.now.col nothing) test.now.value }
 {
-    compares(
-        test.op,
-        value_or(row, test.col, &Value::Int(0)),
-        &test.value,
-    )
+    test.op.holds(row.at_or(test.col, &NOTHING), &test.value)
 }
 
 /// Whether a row passes all tests.
@@ -95,7 +78,7 @@ pub fn known_key<'a>(alloc: Global, key: &[u32], tests: &'a [ColumnTest]) -> Pro
         let Some(value) = told(tests, *place) else {
             return probe;
         };
-        if probe.len() == 16 {
+        if probe.len() == MOST_COLUMNS {
             return probe;
         }
         probe.put(value);

@@ -25,16 +25,15 @@ left c =
     ∙ spared_all stays key rows probe from told (subst (λ xs. IsSpan key xs probe from told) c.as_slice.ensures.value c.rows_with-from.ensures)
     (λ row n. (is_no (dec_tests c.args.tests.now row)).1 (λ t. n (c.known_key-probe.ensures.known row t)))
 
-pub returns-clause-ascending : goal.returns-clause-ascending
-returns-clause-ascending c = subst (IsStrictlySortedBy (block_cmp c.args.key.now)) (sym (left c)) (IsStrictlySortedBy-filter (block_cmp c.args.key.now) (λ row. not (is_yes (dec_tests c.args.tests.now row))) c.args.rows.now.items c.requires)
-
-pub returns-clause-members : goal.returns-clause-members
-returns-clause-members c row =
-    let kept = contains_filter (λ row. not (is_yes (dec_tests c.args.tests.now row))) c.args.rows.now.items row in
-    let no_test = is_no (dec_tests c.args.tests.now row) in (
-      λ h. let k = kept.0 (subst (λ rows. Contains rows row) (left c) h) in (k.0, no_test.0 k.1),
-      λ h. subst (λ rows. Contains rows row) (sym (left c)) (kept.1 (h.0, no_test.1 h.1)),
-    )
+pub returns-clause-spared : goal.returns-clause-spared
+returns-clause-spared c = record {
+  in_order = subst (IsStrictlySortedBy (block_cmp c.args.key.now)) (sym (left c)) (IsStrictlySortedBy-filter (block_cmp c.args.key.now) (λ row. not (is_yes (dec_tests c.args.tests.now row))) c.args.rows.now.items c.requires);
+  members = λ row. (let kept = contains_filter (λ row. not (is_yes (dec_tests c.args.tests.now row))) c.args.rows.now.items row in
+      let no_test = is_no (dec_tests c.args.tests.now row) in (
+        λ h. let k = kept.0 (subst (λ rows. Contains rows row) (left c) h) in (k.0, no_test.0 k.1),
+        λ h. subst (λ rows. Contains rows row) (sym (left c)) (kept.1 (h.0, no_test.1 h.1)),
+      ));
+}
 
 pub returns-clause-fewer : goal.returns-clause-fewer
 returns-clause-fewer c =

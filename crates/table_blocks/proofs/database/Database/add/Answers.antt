@@ -2,8 +2,9 @@ use Rattle.std.proofs.Common.{◌≡◌, ◌≤◌, ◌+◌, ℕ, ◌∙◌, sym
 use Rattle.std.specs.Prelude.{Result, Ok, Err, OnErr}
 use Rattle.cqa_model.specs.Database.{Table, row_total}
 use Rattle.cqa_model.proofs.Places.{rows-at}
+use Rattle.table_blocks.specs.Tables.{IsMerged}
 use Rattle.table_blocks.proofs.Changing.{set_with_rows, set_same}
-use Rattle.table_blocks.proofs.Naming.{named_more, joined_by, values_set}
+use Rattle.table_blocks.proofs.Naming.{named_more, at_place, values_set}
 use Rattle.table_blocks.proofs.database.Database.add.Goals as goal
 
 on_err : {T E P : Type 0} (r : Result T E) → P → OnErr r P
@@ -27,13 +28,13 @@ pub invariant_of-self : goal.invariant_of-self
 invariant_of-self c =
     let es = c.self.inside.tables.entries in
     let same = c.in_err-add-in-Some.ensures.err in
-    named_more es c.args.table c.in-Some.found.now c.add.new.self 0 c.self.invariant (sym c.in-Some.ensures.value) (ap (λ (z : Table). z.schema) same) c.add.ensures.table
-    (ap (λ (z : Table). length z.rows) same ∙ nothing_more _) (no_more _ c.self.invariant.1.few_rows)
+    named_more es c.args.table c.in-Some.found.now c.add.new.self 0 c.self.invariant (sym c.in-Some.ensures.value) (ap (λ (z : Table). z.schema) same) c.add.ensures.table c.add.ensures.valid
+    (ap (λ (z : Table). length z.rows) same ∙ nothing_more _) (no_more _ c.self.invariant.1.database.few_rows)
 
 pub invariant_of-self-2 : goal.invariant_of-self-2
 invariant_of-self-2 c =
     let es = c.self.inside.tables.entries in
-    named_more es c.args.table c.in-Some.found.now c.add.new.self (length c.args.fresh.items) c.self.invariant (sym c.in-Some.ensures.value) c.add.ensures.schema c.add.ensures.table
+    named_more es c.args.table c.in-Some.found.now c.add.new.self (length c.args.fresh.items) c.self.invariant (sym c.in-Some.ensures.value) c.add.ensures.schema c.add.ensures.table c.add.ensures.valid
     c.in_ok-add-in-Some.ensures.count (subst (λ db. row_total db + length c.args.fresh.items ≤ 1_000_000) (sym c.self.view_is) c.requires.room)
 
 pub returns-clause-changed : goal.returns-clause-changed
@@ -41,7 +42,7 @@ returns-clause-changed c =
     let found = subst (λ db. slice_get db c.args.table ≡ Some c.in-Some.found.now) c.self.view_is (sym c.in-Some.ensures.value) in
     let w = c.add.new.self in (
       w.rows,
-      joined_by c.args.self.now c.args.table c.in-Some.found.now w c.args.fresh.items found c.add.ensures.schema c.add.ensures.table c.in_ok-add-in-Some.ensures.members,
+      at_place (λ key rows. IsMerged key rows c.args.fresh.items w.rows) c.args.self.now c.args.table c.in-Some.found.now found c.in_ok-add-in-Some.ensures.merged,
       values_set c.self.inside.tables.entries c.args.table w ∙ ap (λ db. slice_set db c.args.table w) c.self.view_is ∙ set_with_rows c.in-Some.found.now w c.add.ensures.schema c.args.self.now c.args.table found,
     )
 
@@ -51,3 +52,9 @@ returns-in_err-add-in-Some-clause-err c =
     on_err c.from_residual.result
     (values_set c.self.inside.tables.entries c.args.table c.add.new.self ∙ ap (λ db. slice_set db c.args.table c.add.new.self) c.self.view_is
     ∙ ap (λ t. slice_set c.args.self.now c.args.table t) c.in_err-add-in-Some.ensures.err ∙ set_same c.args.self.now c.args.table c.in-Some.found.now found)
+
+pub returns-clause-stored : goal.returns-clause-stored
+returns-clause-stored c = (invariant_of-self-2 c).1
+
+pub returns-in_err-add-in-Some-clause-stored : goal.returns-in_err-add-in-Some-clause-stored
+returns-in_err-add-in-Some-clause-stored c = (invariant_of-self c).1

@@ -19,3 +19,6 @@ invariant_of-self-2 c = (pushed c).0
 
 pub returns-clause-ok : goal.returns-clause-ok
 returns-clause-ok c = (pushed c).1 ∙ ap (λ db. db ++ (record { schema = c.args.schema; rows = [] }) ∷ []) c.self.view_is
+
+pub returns-clause-stored : goal.returns-clause-stored
+returns-clause-stored c = (pushed c).0.1

@@ -5,21 +5,21 @@ use Rattle.table_blocks.proofs.database.Database.delete.Goals as goal
 
 pub rows-requires : goal.rows-requires
 rows-requires c =
-    let kept = length-with_rows c.args.self.now c.args.table c.remove.ensures.0 in
-    let same = ap length c.remove.ensures.2 in
+    let kept = length-with_rows c.args.self.now c.args.table c.remove.ensures.spared.0 in
+    let same = ap length c.remove.ensures.spared.2 in
     omega (arith, kept, same, c.requires)
 
-left : (c : goal.After-rows) → length c.rows.result.now ≡ length c.remove.ensures.0
-left c = ap length (c.rows.ensures.is ∙ ap (λ db. rows_at db c.args.table) c.remove.ensures.2 ∙ rows_at-with_rows c.args.self.now c.args.table c.remove.ensures.0 c.requires)
+left : (c : goal.After-rows) → length c.rows.result.now ≡ length c.remove.ensures.spared.0
+left c = ap length (c.rows.ensures.is ∙ ap (λ db. rows_at db c.args.table) c.remove.ensures.spared.2 ∙ rows_at-with_rows c.args.self.now c.args.table c.remove.ensures.spared.0 c.requires)
 
 fewer : (now before kept stored : ℕ) → now ≡ kept → before ≡ stored → kept ≤ stored → (now ≤ before) × (before - now + kept ≡ stored)
 fewer now before kept stored a b h = (omega (arith, a, b, h), omega (arith, a, b, h))
 
-counts : (c : goal.After-rows) → (length c.rows.result.now ≤ length c.rows-stored.result.now) × (length c.rows-stored.result.now - length c.rows.result.now + length c.remove.ensures.0 ≡ length (rows_at c.args.self.now c.args.table))
-counts c = fewer _ _ (length c.remove.ensures.0) (length (rows_at c.args.self.now c.args.table)) (left c) (ap length c.rows-stored.ensures.is) c.remove.ensures.3
+counts : (c : goal.After-rows) → (length c.rows.result.now ≤ length c.rows-stored.result.now) × (length c.rows-stored.result.now - length c.rows.result.now + length c.remove.ensures.spared.0 ≡ length (rows_at c.args.self.now c.args.table))
+counts c = fewer _ _ (length c.remove.ensures.spared.0) (length (rows_at c.args.self.now c.args.table)) (left c) (ap length c.rows-stored.ensures.is) c.remove.ensures.spared.3
 
 pub overflow_sub-result : goal.overflow_sub-result
 overflow_sub-result c = (counts c).0
 
-pub returns : goal.returns
-returns c = record { rows = c.remove.ensures.0; spared = c.remove.ensures.1; changed = c.remove.ensures.2; count_is = (counts c).1 }
+pub returns-clause-deleted : goal.returns-clause-deleted
+returns-clause-deleted c = record { rows = c.remove.ensures.spared.0; spared = c.remove.ensures.spared.1; changed = c.remove.ensures.spared.2; count_is = (counts c).1 }

@@ -1,4 +1,4 @@
-use Rattle.std.proofs.Common.{◌≡◌, ◌≤◌, ◌-◌, ◌+◌, ◌↔◌, sym, subst, arith, length, List, ℕ, None, Contains}
+use Rattle.std.proofs.Common.{◌≡◌, ◌≤◌, ◌-◌, ◌+◌, ◌↔◌, refl, sym, subst, arith, length, List, ℕ, None, Contains}
 use Rattle.cqa_value.specs.declared.value.Value.{Value}
 use Rattle.cqa_model.specs.Database.{row_total}
 use Rattle.table_blocks.specs.Tables.{rows_at, kinds_at, key_at, count_new}
@@ -8,8 +8,11 @@ use Rattle.table_blocks.proofs.database.Database.insert.Goals as goal
 
 pub add-requires-clause-fits : goal.add-requires-clause-fits
 add-requires-clause-fits c row h =
-    rows_fit (kinds_at c.args.self.now c.args.table) 1 c.args.rows (fault_seen (kinds_at c.args.self.now c.args.table) _ c.args.rows _ None c.schema.ensures.kinds c.as_slice.ensures c.in_default.ensures) row
+    rows_fit (kinds_at c.args.self.now c.args.table) 1 c.args.rows (fault_seen (kinds_at c.args.self.now c.args.table) _ c.args.rows _ None c.schema.ensures.kinds c.as_slice.ensures c.in_default.ensures.is) row
     (subst (λ rows. Contains rows row) c.into_vec.ensures ((c.fresh_rows-fresh.ensures.new row).0 h).0)
+
+pub add-requires-clause-valid : goal.add-requires-clause-valid
+add-requires-clause-valid c row h = c.in_default.ensures.valid refl row (subst (λ rows. Contains rows row) (sym c.as_slice.ensures) (subst (λ rows. Contains rows row) c.into_vec.ensures ((c.fresh_rows-fresh.ensures.new row).0 h).0))
 
 pub add-requires-clause-new : goal.add-requires-clause-new
 add-requires-clause-new c row m h = ((c.fresh_rows-fresh.ensures.new row).0 h).1 (subst (λ rows. Contains rows row) (sym c.rows-2.ensures.is) m)
@@ -36,5 +39,5 @@ returns-clause-inserted c =
 
 pub returns-clause-valid : goal.returns-clause-valid
 returns-clause-valid c =
-    valid_insert c.args.self.now c.args.table c.args.rows (fault_seen (kinds_at c.args.self.now c.args.table) _ c.args.rows _ None c.schema.ensures.kinds c.as_slice.ensures c.in_default.ensures)
+    valid_insert c.args.self.now c.args.table c.args.rows (fault_seen (kinds_at c.args.self.now c.args.table) _ c.args.rows _ None c.schema.ensures.kinds c.as_slice.ensures c.in_default.ensures.is)
     (room_left c.row_total.result (row_total c.args.self.now) c.len-count.result _ c.row_total.ensures.total (count_is c) c.row_total.ensures.few c.if-count-row_total.false)
