@@ -1,4 +1,4 @@
-use Rattle.std.proofs.Common.{inr, refl, subst, ◌∙◌}
+use Rattle.std.proofs.Common.{inr, refl, sym, subst, ◌∙◌}
 use Rattle.cqa_model.specs.Refusal.{IsRefusedAs}
 use Rattle.table_blocks.specs.Tables.{Deletes}
 use Rattle.query_resolve.specs.Checks.{tests_fault}
@@ -7,7 +7,15 @@ use Rattle.command_shell.specs.State.{State}
 use Rattle.command_shell.specs.Replying.{Replies}
 use Rattle.command_shell.specs.Statements.Delete.{delete_from_fault, DeletesFrom}
 use Rattle.command_shell.proofs.Doing.{refused_out, on_table-there}
+use Rattle.command_shell.proofs.Valid.{AreNamed, state_of, named_in, named_with_rows}
 use Rattle.command_shell.proofs.statements.delete.delete.Goals as goal
+
+pub invariant_of-session : goal.invariant_of-session
+invariant_of-session c =
+    let kept = c.session.inside in
+    let deleted = c.delete-count.ensures.deleted in
+    let named = named_with_rows kept.database c.in_ok-table.table deleted.rows (named_in kept.database c.session.invariant.valid) in
+    state_of c.delete-count.new.self kept.budget kept.last_log c.delete-count.ensures.stored (subst AreNamed (sym deleted.changed) named) c.session.invariant.budget
 
 pub returns-in_err-table : goal.returns-in_err-table
 returns-in_err-table c =
