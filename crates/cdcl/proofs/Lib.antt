@@ -8,7 +8,6 @@ pub mod Ends
 pub mod Watches
 pub mod Values
 pub mod Bridge
-pub mod Clauses
 pub mod WatchState
 pub mod LookState
 pub mod Visiting

@@ -9,4 +9,3 @@ pub mod Looking
 pub mod Lines
 pub mod Marks
 pub mod Outcomes
-pub mod Tests

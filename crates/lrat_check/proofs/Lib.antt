@@ -6,7 +6,7 @@ mod Reaching
 mod MarkLemmas
 mod Shown
 mod Stored
-mod Takes
+pub mod Takes
 mod StepLines
 mod LogLines
 mod RoundTrip
