@@ -1,3 +1,4 @@
+-- Lemmas of the solver, by the part that they are of.
 pub mod SettledLemmas
 pub mod TrailLemmas
 pub mod Works

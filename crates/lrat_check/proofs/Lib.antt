@@ -1,3 +1,4 @@
+-- Lemmas of the checker, and of how logs are read and written.
 mod Deleted
 pub mod Exact
 mod Followed

@@ -1,6 +1,6 @@
 //! Formulas as texts, read, decided, written and checked.
 
-ghost use Rattle.std.specs.Prelude.{◌≡◌, ◌≤◌, true, false};
+ghost use Rattle.std.specs.Prelude.{◌≡◌, ◌<◌, true, false};
 ghost use Rattle.cnf_form.specs.Literals.{HasVar};
 ghost use Rattle.proof_tests.specs.Fit.{IsClauseOver, IsFit};
 
@@ -102,32 +102,36 @@ fn formulas_are_decided(rt: HostRuntime) -> Result<(), Fail> {
     Ok(())
 }
 
-/// A chain in which each variable implies the next one, the links from odd variables first.
-fn chain(alloc: Global, vars: u32) -> Result<Vec<u8>, AllocError>
-    requires { vars ≤ 1000000 }
+/// Appends the clause by which a variable implies the next one.
+fn append_link(alloc: Global, text: &mut Vec<u8>, var: u32) -> Result<(), AllocError>
+    requires { var < 1000000 }
 {
-    let mut text = format!(in alloc; "p cnf {vars} {vars}\n1 0\n")?.into_bytes();
-    for link in 1..vars {
-        let odd = vars / 2;
-        let var = if link <= odd {
-            2 * link - 1
-        } else {
-            2 * (link - odd)
-        };
-        let next = var + 1;
-        text.extend_from_slice(format!(in alloc; "-{var} {next} 0\n")?.as_bytes())?;
+    let next = var + 1;
+    let link = format!(in alloc; "-{var} {next} 0\n")?;
+    let done = text.extend_from_slice(link.as_bytes());
+    drop(link);
+    done
+}
+
+/// A chain in which each variable implies the next one, the links from odd variables first.
+fn append_chain(alloc: Global, text: &mut Vec<u8>) -> Result<(), AllocError> {
+    text.extend_from_slice(b"p cnf 400000 400000\n1 0\n")?;
+    for link in 0..200_000u32 {
+        append_link(alloc, text, 2 * link + 1)?;
     }
-    text.extend_from_slice(b"lrat\n")?;
-    Ok(text)
+    for link in 1..200_000u32 {
+        append_link(alloc, text, 2 * link)?;
+    }
+    text.extend_from_slice(b"lrat\n")
 }
 
 #[test]
 fn a_long_chain_is_propagated(rt: HostRuntime) -> Result<(), Fail> {
-    let text = chain(rt.alloc(), 400_000)?;
-    assert_eq!(rt;
-        answer_to(rt.alloc(), text.as_slice(), 0)?,
-        ("sat", 400_000)
-    );
+    let mut text = Vec::new(rt.alloc());
+    append_chain(rt.alloc(), &mut text)?;
+    let said = answer_to(rt.alloc(), text.as_slice(), 0);
+    drop(text);
+    assert_eq!(rt; said?, ("sat", 400_000));
     Ok(())
 }
 
@@ -145,13 +149,17 @@ fn refutation(alloc: Global, cnf: &Cnf) -> Result<Vec<u8>, Fail> {
     Ok(text?)
 }
 
+fn refutation_of(alloc: Global, text: &[u8]) -> Result<Vec<u8>, Fail> {
+    let (cnf, _) = read_formula(alloc, text)?;
+    let written = refutation(alloc, &cnf);
+    drop(cnf);
+    written
+}
+
 #[test]
 fn a_refutation_is_written(rt: HostRuntime) -> Result<(), Fail> {
-    let (cnf, _) = read_formula(rt.alloc(), UNITS)?;
-    assert_eq!(rt;
-        refutation(rt.alloc(), &cnf)?.as_slice(),
-        b"3 0 1 2 0\n".as_slice()
-    );
+    let written = refutation_of(rt.alloc(), UNITS)?;
+    assert_eq!(rt; written.as_slice(), b"3 0 1 2 0\n".as_slice());
     Ok(())
 }
 

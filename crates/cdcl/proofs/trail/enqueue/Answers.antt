@@ -4,7 +4,7 @@ use Rattle.cnf_form.specs.declared.formula.Lit.{Lit}
 use Rattle.cdcl.specs.declared.trail.Entry.{Entry}
 use Rattle.cdcl.specs.Trail.{held, ArePlaces}
 use Rattle.cdcl.proofs.Places.{places_put}
-use Rattle.cdcl.proofs.trail.put.Goals as goal
+use Rattle.cdcl.proofs.trail.enqueue.Goals as goal
 
 pub returns-clause-places : goal.returns-clause-places
 returns-clause-places c =

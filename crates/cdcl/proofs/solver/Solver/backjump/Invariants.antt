@@ -2,7 +2,7 @@ use Rattle.std.proofs.Common.{◌≡◌, length, take}
 use Rattle.cdcl.specs.Trail.{held}
 use Rattle.cdcl.specs.Looking.{IsReady}
 use Rattle.cdcl.specs.Visits.{IsPrefix}
-use Rattle.cdcl.proofs.solver.Solver.back_to.Given as goal
+use Rattle.cdcl.proofs.solver.Solver.backjump.Given as goal
 
 abbrev pub invariant-loop-self : goal.invariant-loop-self
 invariant-loop-self l = record {
@@ -14,4 +14,4 @@ invariant-loop-self l = record {
 }
 
 abbrev pub decreases-loop-self : goal.decreases-loop-self
-decreases-loop-self l = length l.self.starts.items
+decreases-loop-self l = length l.self.level_starts.items
