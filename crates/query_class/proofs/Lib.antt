@@ -1,3 +1,2 @@
 mod WalkSteps
 pub mod Rounds
-mod Example

@@ -7,5 +7,3 @@ mod walking;
 pub use classes::class_of;
 pub use cqa_model::Class;
 
-#[cfg(test)]
-mod tests;

@@ -1,5 +1,5 @@
 -- The first fault of a list, a member further on, and the values of the members so far.
-use Rattle.std.proofs.Common.{◌≡◌, ℕ, zero, suc, ◌+◌, ◌<◌, ◌≤◌, List, [], ◌∷◌, ◌++◌, length, drop, take, get_or, slice_get, Option, Some, None, Result, Ok, Err, IfErr, refl, sym, ap, ◌∙◌, subst, arith}
+use Rattle.std.proofs.Common.{◌≡◌, ℕ, zero, suc, ◌+◌, ◌<◌, ◌≤◌, List, [], ◌∷◌, ◌++◌, length, drop, take, get_or, slice_get, Option, Some, None, Result, Ok, Err, refl, sym, ap, ◌∙◌, subst, arith}
 use Rattle.std.specs.List.{AllZip}
 use Rattle.std.specs.Result.{IsErrAnd}
 use Rattle.std.proofs.lemmas.List.{length-take-le, take_all}
@@ -8,7 +8,7 @@ use Rattle.std.proofs.Math.Seq.{drop-cons, take-suc}
 use Rattle.cqa_value.specs.declared.memory.Fail.{Fail}
 use Rattle.cqa_value.specs.declared.memory.Fail.TheVariants.{NoMemory, Refused}
 use Rattle.cqa_model.specs.declared.refusal.Refusal.{Refusal}
-use Rattle.table_blocks.specs.Tables.{first_of, IsRefusedAs}
+use Rattle.cqa_model.specs.Refusal.{first_of, IsRefusedAs, Checked}
 use Rattle.query_resolve.specs.Checks.{first_fault, by_number}
 
 -- a refusal by the first of two checks, or by the second where the first passes
@@ -32,9 +32,13 @@ both_none None b e = (refl, e)
 both_none (Some f) b e = absurd (some_none f e)
 
 -- an error that is handed on
-pub handed_on : {T : Type 0} (r : Result T (Fail Refusal)) (e : Fail Refusal) (fault : Option Refusal) → IsErrAnd r (λ x. x ≡ e) → IsRefusedAs e fault → IfErr r (λ x. IsRefusedAs x fault)
-handed_on (Ok v) e fault s h = absurd s
-handed_on (Err x) e fault s h = subst (λ y. IsRefusedAs y fault) (sym s) h
+pub handed_on : {T : Type 0} (r : Result T (Fail Refusal)) (e : Fail Refusal) (fault : Option Refusal) (P : T → Type 0) → IsErrAnd r (λ x. x ≡ e) → IsRefusedAs e fault → Checked r fault P
+handed_on (Ok v) e fault P s h = absurd s
+handed_on (Err x) e fault P s h = record { refused = subst (λ y. IsRefusedAs y fault) (sym s) h; valid = tt; is = tt }
+
+-- a refusal that is the fault
+pub refused_at : {T : Type 0} {e : Fail Refusal} {fault : Option Refusal} {refusal : Refusal} {P : T → Type 0} → IsRefusedAs e (Some refusal) → fault ≡ Some refusal → Checked (Err e) fault P
+refused_at {e = e} h same = record { refused = subst (IsRefusedAs e) (sym same) h; valid = tt; is = tt }
 
 plus_one : (n : ℕ) → suc n ≡ n + 1
 plus_one n = omega arith
@@ -65,26 +69,26 @@ module _ {A : Type 0} (check : List A → A → Option Refusal) (xs : List A) (a
   fault_next = ap (first_fault check (take at xs)) (drop_next xs at x here)
       ∙ ap (λ b. first_of (check (take at xs) x) (first_fault check b (drop (at + 1) xs))) (sym (take_next xs at x here))
 
-module _ {A B : Type 0} (check : List A → A → Option Refusal) (R : A → B → Type 0) (xs : List A) (at : ℕ) (out : List B) where
-  pub start : at ≡ 0 → out ≡ [] → SoFar check R xs at out
-  start z e = record {
-    fault = ap (λ n. first_fault check (take n xs) (drop n xs)) (sym z);
-    values = subst (λ o. AllZip R (take at xs) o) (sym e) (subst (λ n. AllZip R (take n xs) []) (sym z) tt);
-  }
+pub start : {A B : Type 0} {check : List A → A → Option Refusal} {R : A → B → Type 0} {xs : List A} {at : ℕ} {out : List B} → at ≡ 0 → out ≡ [] → SoFar check R xs at out
+start {check = check} {R = R} {xs = xs} {at = at} {out = out} z e = record {
+  fault = ap (λ n. first_fault check (take n xs) (drop n xs)) (sym z);
+  values = subst (λ o. AllZip R (take at xs) o) (sym e) (subst (λ n. AllZip R (take n xs) []) (sym z) tt);
+}
 
--- the member at a place passes its check and has its value, or doesn't
-module _ {A B : Type 0} (check : List A → A → Option Refusal) (R : A → B → Type 0) (xs : List A) (at : ℕ) (out : List B) (x : A) (so : SoFar check R xs at out) (inside : at < length xs) (is : x ≡ get_or xs at x) where
-  pub more : (y : B) (next : List B) → check (take at xs) x ≡ None → R x y → next ≡ out ++ y ∷ [] → SoFar check R xs (at + 1) next
-  more y next none h e = let here = read xs at x inside is in record {
-    fault = so.fault ∙ fault_next check xs at x here ∙ ap (λ o. first_of o (first_fault check (take (at + 1) xs) (drop (at + 1) xs))) none;
-    values = subst (λ o. AllZip R (take (at + 1) xs) o) (sym e) (subst (λ l. AllZip R l (out ++ y ∷ [])) (sym (take_next xs at x here)) (all_zip_next R (take at xs) out x y so.values h));
-  }
+-- the member at a place passes its check and has its value
+pub more : {A B : Type 0} {check : List A → A → Option Refusal} {R : A → B → Type 0} {xs : List A} {at : ℕ} {out : List B} {x : A} {y : B} {next : List B} →
+    SoFar check R xs at out → at < length xs → x ≡ get_or xs at x → Checked (Ok y) (check (take at xs) x) (R x) → next ≡ out ++ y ∷ [] → SoFar check R xs (at + 1) next
+more {check = check} {R = R} {xs = xs} {at = at} {out = out} {x = x} {y = y} so inside is checked e = let here = read xs at x inside is in record {
+  fault = so.fault ∙ fault_next check xs at x here ∙ ap (λ o. first_of o (first_fault check (take (at + 1) xs) (drop (at + 1) xs))) checked.valid;
+  values = subst (λ o. AllZip R (take (at + 1) xs) o) (sym e) (subst (λ l. AllZip R l (out ++ y ∷ [])) (sym (take_next xs at x here)) (all_zip_next R (take at xs) out x y so.values checked.is));
+}
 
-  pub found : (e : Fail Refusal) → IsRefusedAs e (check (take at xs) x) → IsRefusedAs e (first_fault check [] xs)
-  found e h = subst (IsRefusedAs e) (sym (so.fault ∙ fault_next check xs at x (read xs at x inside is))) (refused_first e (check (take at xs) x) (first_fault check (take (at + 1) xs) (drop (at + 1) xs)) h)
-
-  pub stopped : {T : Type 0} (r : Result T (Fail Refusal)) (e : Fail Refusal) → IsErrAnd r (λ f. f ≡ e) → IsRefusedAs e (check (take at xs) x) → IfErr r (λ f. IsRefusedAs f (first_fault check [] xs))
-  stopped r e same h = handed_on r e (first_fault check [] xs) same (found e h)
+-- or its fault is the list's
+pub stopped : {A B T : Type 0} {check : List A → A → Option Refusal} {R : A → B → Type 0} {xs : List A} {at : ℕ} {out : List B} {x : A} {P : T → Type 0} {r : Result T (Fail Refusal)} {e : Fail Refusal} →
+    SoFar check R xs at out → at < length xs → x ≡ get_or xs at x → Checked (Err e) (check (take at xs) x) (R x) → IsErrAnd r (λ f. f ≡ e) → Checked r (first_fault check [] xs) P
+stopped {check = check} {xs = xs} {at = at} {x = x} {P = P} {r = r} {e = e} so inside is checked same =
+    handed_on r e (first_fault check [] xs) P same
+    (subst (IsRefusedAs e) (sym (so.fault ∙ fault_next check xs at x (read xs at x inside is))) (refused_first e (check (take at xs) x) (first_fault check (take (at + 1) xs) (drop (at + 1) xs)) checked.refused))
 
 drop_all : {A : Type 0} (at : ℕ) (xs : List A) → length xs ≤ at → drop at xs ≡ []
 drop_all zero [] h = refl
@@ -93,13 +97,16 @@ drop_all zero (x ∷ xs) h = absurd (omega (arith, h))
 drop_all (suc at) (x ∷ xs) h = drop_all at xs (omega (arith, h))
 
 -- all members pass their checks and have their values
-module _ {A B : Type 0} (check : List A → A → Option Refusal) (R : A → B → Type 0) (xs : List A) (at : ℕ) (out : List B) (so : SoFar check R xs at out) (over : length xs ≤ at) where
-  pub passed : first_fault check [] xs ≡ None
-  passed = so.fault ∙ ap (first_fault check (take at xs)) (drop_all at xs over)
+pub finished : {A B : Type 0} {check : List A → A → Option Refusal} {R : A → B → Type 0} {xs : List A} {at : ℕ} {out result : List B} →
+    SoFar check R xs at out → length xs ≤ at → result ≡ out → Checked (Ok result) (first_fault check [] xs) (AllZip R xs)
+finished {check = check} {R = R} {xs = xs} {at = at} {out = out} so over same = record {
+  refused = tt;
+  valid = so.fault ∙ ap (first_fault check (take at xs)) (drop_all at xs over);
+  is = subst (AllZip R xs) (sym same) (subst (λ l. AllZip R l out) (take_all at xs over) so.values);
+}
 
-  pub resolved : (result : List B) → result ≡ out → AllZip R xs result
-  resolved result same = subst (AllZip R xs) (sym same) (subst (λ l. AllZip R l out) (take_all at xs over) so.values)
-
--- the number of a member
-pub numbered : {A : Type 0} (check : ℕ → A → Option Refusal) (xs : List A) (at : ℕ) (x : A) → at < length xs → check (at + 1) x ≡ by_number check (take at xs) x
-numbered check xs at x inside = ap (λ n. check (n + 1) x) (sym (length-take-le at xs (omega (arith, inside))))
+-- a check by the number of a member
+pub numbered : {A T : Type 0} (check : ℕ → A → Option Refusal) (xs : List A) (at : ℕ) (x : A) {r : Result T (Fail Refusal)} {P : T → Type 0} →
+    at < length xs → Checked r (check (at + 1) x) P → Checked r (by_number check (take at xs) x) P
+numbered check xs at x {r = r} {P = P} inside checked =
+    subst (λ n. Checked r (check (n + 1) x) P) (sym (length-take-le at xs (omega (arith, inside)))) checked

@@ -23,7 +23,8 @@ use Rattle.spj_syntax.specs.declared.tree.RawCol.{RawCol}
 use Rattle.spj_syntax.specs.declared.tree.RawCond.{RawCond}
 use Rattle.spj_syntax.specs.declared.tree.RawCond.TheVariants.{Join as WrittenJoin, Test as WrittenTest}
 use Rattle.spj_syntax.specs.declared.tree.Select.{Select}
-use Rattle.table_blocks.specs.Tables.{table_named, first_of}
+use Rattle.cqa_model.specs.Refusal.{first_of}
+use Rattle.table_blocks.specs.Tables.{table_named}
 use Rattle.query_resolve.specs.Names.{name_place, columns_at}
 use Rattle.query_resolve.specs.Checks.{fault_unless, first_fault, by_number, kinds_fault, from_fault, column_fault, column_kind, cond_fault, size_fault, where_fault}
 use Rattle.query_resolve.specs.Resolved.{IsAtomOf, IsColumnOf, IsCondOf, IsQueryOf}
@@ -100,11 +101,17 @@ zip_found R (x ∷ xs) (z ∷ ys) y so (zero, b, e) = (zero, x, omega arith, ref
 zip_found R (x ∷ xs) (z ∷ ys) y so (suc k, b, e) = let more = zip_found R xs ys y so.1 (k, omega (arith, b), e) in (suc more.0, more.1, omega (arith, more.2), more.3, more.4)
 
 -- the kinds of a table's columns are those that it is stored with
-kinds_stored : (db : List Table) (t col : ℕ) → t < length db → get_or (get_or (column_kinds db) t []) col Int ≡ (column_at (columns_at db t) col).kind
+pub kinds_stored : (db : List Table) (t col : ℕ) → t < length db → get_or (get_or (column_kinds db) t []) col Int ≡ (column_at (columns_at db t) col).kind
 kinds_stored db t col inside =
     let found = table_at db t inside in
     ap (λ l. get_or l col Int) (kinds-at db t found.0 found.1) ∙ get_or-map_default (λ (c : Column). c.kind) found.0.schema.columns col (record { name = []; kind = Int })
     ∙ ap (λ l. (column_at l col).kind) (sym (map-at (λ (t : Table). t.schema.columns) db t found.0 [] found.1))
+
+-- a table has as many columns as kinds
+pub wide : (db : List Table) (t : ℕ) → t < length db → length (columns_at db t) ≡ length (get_or (column_kinds db) t [])
+wide db t inside =
+    let found = table_at db t inside in
+    ap length (map-at (λ (t : Table). t.schema.columns) db t found.0 [] found.1) ∙ sym (length-map found.0.schema.columns (λ (c : Column). c.kind)) ∙ ap length (sym (kinds-at db t found.0 found.1))
 
 -- what the parts of a query were resolved from
 pub record Parts (db : List Table) (names : List (List ℕ)) (columns : List RawCol) (written : List RawCond) (atoms : List Atom) (conds : List Cond) (answer : List ColRef) : Type 0 where
@@ -165,7 +172,7 @@ query_of db select q parts =
       answer = parts.selected;
       fits = record {
         there = λ F inside. table_there db (get_or select.tables F []) (nth_atom q.atoms F).table (of F inside).table;
-        width = λ F inside. (of F inside).width ∙ wide (nth_atom q.atoms F).table (table_there db (get_or select.tables F []) (nth_atom q.atoms F).table (of F inside).table);
+        width = λ F inside. (of F inside).width ∙ wide db (nth_atom q.atoms F).table (table_there db (get_or select.tables F []) (nth_atom q.atoms F).table (of F inside).table);
         keyed = λ F inside. (of F inside).key;
         kinds = λ k h.
             let found = zip_found (IsCondOf db select.tables) select.conds q.conds k parts.meant h in
@@ -174,8 +181,3 @@ query_of db select q parts =
             (ap (cond_fault db select.tables (length (take found.0 select.conds) + 1)) (sym found.3) ∙ passes);
       };
     }
-  where
-    wide : (t : ℕ) → t < length db → length (columns_at db t) ≡ length (get_or (column_kinds db) t [])
-    wide t inside =
-        let found = table_at db t inside in
-        ap length (map-at (λ (t : Table). t.schema.columns) db t found.0 [] found.1) ∙ sym (length-map found.0.schema.columns (λ (c : Column). c.kind)) ∙ ap length (sym (kinds-at db t found.0 found.1))

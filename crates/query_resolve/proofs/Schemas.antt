@@ -9,7 +9,8 @@ use Rattle.cqa_model.specs.declared.refusal.LimitKind.TheVariants.{Tables, Colum
 use Rattle.cqa_model.specs.Database.{Table, names_of}
 use Rattle.cqa_model.specs.Shape.{AreDistinct, IsSchema, column_at}
 use Rattle.spj_syntax.specs.declared.tree.RawSchema.{RawSchema}
-use Rattle.table_blocks.specs.Tables.{table_named, first_of}
+use Rattle.cqa_model.specs.Refusal.{first_of}
+use Rattle.table_blocks.specs.Tables.{table_named}
 use Rattle.query_resolve.specs.Names.{name_place, column_named, has_column}
 use Rattle.query_resolve.specs.Checks.{fault_unless, first_fault, table_fault, duplicate_fault, key_fault}
 use Rattle.query_resolve.proofs.Members.{both_none}

@@ -7,6 +7,7 @@ use Rattle.cqa_model.specs.declared.refusal.Refusal.{Refusal}
 use Rattle.cqa_model.specs.declared.refusal.Refusal.TheVariants.{UnknownTable, TableExists, UnknownColumn, AmbiguousColumn, SelfJoin, TypeMismatch, DuplicateColumn, BadKey, Limit}
 use Rattle.cqa_model.specs.declared.refusal.Place.TheVariants.{Condition}
 use Rattle.cqa_model.specs.declared.refusal.LimitKind.TheVariants.{Tables, Columns, Atoms, Answer}
+use Rattle.cqa_model.specs.declared.limits.TheConstants.{MOST_TABLES, MOST_COLUMNS, MOST_ATOMS, MOST_ANSWER_COLUMNS}
 use Rattle.cqa_model.specs.Database.{Table}
 use Rattle.spj_syntax.specs.declared.tree.RawSchema.{RawSchema}
 use Rattle.spj_syntax.specs.declared.tree.RawTest.{RawTest}
@@ -14,7 +15,8 @@ use Rattle.spj_syntax.specs.declared.tree.RawCol.{RawCol}
 use Rattle.spj_syntax.specs.declared.tree.RawCond.{RawCond}
 use Rattle.spj_syntax.specs.declared.tree.RawCond.TheVariants.{Join, Test}
 use Rattle.spj_syntax.specs.declared.tree.Select.{Select}
-use Rattle.table_blocks.specs.Tables.{table_named, first_of, same_kind}
+use Rattle.cqa_model.specs.Refusal.{first_of}
+use Rattle.table_blocks.specs.Tables.{table_named, same_kind}
 use Rattle.query_resolve.specs.Names.{name_place, has_column, kind_named, columns_at, columns_in, owners}
 
 -- the refusal of a check that fails
@@ -38,7 +40,7 @@ kinds_fault number a b = fault_unless (same_kind a b) (TypeMismatch (Condition n
 abbrev pub table_fault : List Table → RawSchema → Option Refusal
 table_fault db raw =
     first_of (fault_unless (is_none (table_named db raw.name)) (TableExists raw.name))
-    (first_of (fault_unless (nat_lt (length db) 64) (Limit Tables)) (fault_unless (nat_le (length raw.columns) 16) (Limit Columns)))
+    (first_of (fault_unless (nat_lt (length db) MOST_TABLES) (Limit Tables)) (fault_unless (nat_le (length raw.columns) MOST_COLUMNS) (Limit Columns)))
 
 -- no column before has the name
 abbrev pub duplicate_fault : List Column → Column → Option Refusal
@@ -90,7 +92,7 @@ cond_fault db names number (Test col op value) = first_of (column_fault db names
 
 -- a query names at most 12 tables and 192 columns
 abbrev pub size_fault : Select → Option Refusal
-size_fault select = first_of (fault_unless (nat_le (length select.tables) 12) (Limit Atoms)) (fault_unless (nat_le (length select.columns) 192) (Limit Answer))
+size_fault select = first_of (fault_unless (nat_le (length select.tables) MOST_ATOMS) (Limit Atoms)) (fault_unless (nat_le (length select.columns) MOST_ANSWER_COLUMNS) (Limit Answer))
 
 -- the checks of the columns that a query selects, and of its conditions
 abbrev pub select_fault : List Table → List (List ℕ) → List RawCol → Option Refusal

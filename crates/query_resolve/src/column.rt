@@ -1,11 +1,14 @@
-ghost use Rattle.std.specs.Prelude.{◌≡◌, ◌<◌, ◌≤◌, [], Some, None, IfOk, OnOk, IfErr, MatchOption, All, length, drop};
+//! The columns that a query names: each is of exactly one of its tables.
+
+ghost use Rattle.std.specs.Prelude.{◌≡◌, ◌<◌, ◌≤◌, [], Some, None, MatchOption, All, length, drop};
 ghost use Rattle.std.specs.List.{AllZip};
 ghost use Rattle.cqa_model.specs.Shape.{column_at, nth_atom};
-ghost use Rattle.table_blocks.specs.Tables.{IsRefusedAs};
+ghost use Rattle.cqa_model.specs.Refusal.{Checked};
 ghost use Rattle.query_resolve.specs.Names.{columns_at, atom_scope, having, IsNextOwner};
 ghost use Rattle.query_resolve.specs.Checks.{column_fault, column_kind, select_fault};
 ghost use Rattle.query_resolve.specs.Resolved.{IsAtomOf, IsColumnOf};
 
+use crate::faults::{unknown_column, unknown_table};
 use crate::names::{place_of_column, place_of_name, table_columns};
 use cqa_model::{Atom, ColRef, Refusal};
 use cqa_value::{Fail, Items, Kind, Name};
@@ -23,9 +26,7 @@ pub fn columns_of(
 ) -> Result<Items<ColRef>, Fail<Refusal>>
     requires atoms { AllZip (IsAtomOf db.now) names.now atoms.now }
     requires few { length names.now ≤ 12 }
-    ensures resolved { IfOk result (λ resolved. AllZip (IsColumnOf db.now names.now) columns.now resolved) }
-    ensures valid { OnOk result (select_fault db.now names.now columns.now ≡ None) }
-    ensures refused { IfErr result (λ e. IsRefusedAs e (select_fault db.now names.now columns.now)) }
+    ensures { Checked result (select_fault db.now names.now columns.now) (AllZip (IsColumnOf db.now names.now) columns.now) }
 {
     let mut resolved = Vec::with_capacity(alloc, columns.len())?;
     for column in columns {
@@ -44,9 +45,7 @@ fn column_of(
 ) -> Result<ColRef, Fail<Refusal>>
     requires atoms { AllZip (IsAtomOf db.now) names.now atoms.now }
     requires few { length names.now ≤ 12 }
-    ensures resolved { IfOk result (λ col. IsColumnOf db.now names.now column.now col) }
-    ensures valid { OnOk result (column_fault db.now names.now column.now.table column.now.name ≡ None) }
-    ensures refused { IfErr result (λ e. IsRefusedAs e (column_fault db.now names.now column.now.table column.now.name)) }
+    ensures { Checked result (column_fault db.now names.now column.now.table column.now.name) (IsColumnOf db.now names.now column.now) }
 {
     match &column.table {
         Some(table) => column_of_table(alloc, db, names, atoms, table, &column.name),
@@ -65,19 +64,15 @@ fn column_of_table(
 ) -> Result<ColRef, Fail<Refusal>>
     requires atoms { AllZip (IsAtomOf db.now) names.now atoms.now }
     requires few { length names.now ≤ 12 }
-    ensures resolved { IfOk result (λ col. IsColumnOf db.now names.now (record { table = Some table.now; name = name.now }) col) }
-    ensures valid { OnOk result (column_fault db.now names.now (Some table.now) name.now ≡ None) }
-    ensures refused { IfErr result (λ e. IsRefusedAs e (column_fault db.now names.now (Some table.now) name.now)) }
+    ensures { Checked result (column_fault db.now names.now (Some table.now) name.now) (IsColumnOf db.now names.now (record { table = Some table.now; name = name.now })) }
 {
     let Some(atom) = place_of_name(names, table) else {
-        let name = table.copy(alloc)?;
-        return Err(Fail::Refused(Refusal::UnknownTable { name }));
+        return Err(unknown_table(alloc, table));
     };
     let columns = table_columns(db, atoms[atom].table);
     let Some(col) = place_of_column(columns, name) else {
-        let table = Some(table.copy(alloc)?);
-        let name = name.copy(alloc)?;
-        return Err(Fail::Refused(Refusal::UnknownColumn { table, name }));
+        let table = table.copy(alloc)?;
+        return Err(unknown_column(alloc, Some(table), name));
     };
     Ok(ColRef {
         atom: atom as u32,
@@ -95,13 +90,10 @@ fn column_of_any(
 ) -> Result<ColRef, Fail<Refusal>>
     requires atoms { AllZip (IsAtomOf db.now) names.now atoms.now }
     requires few { length names.now ≤ 12 }
-    ensures resolved { IfOk result (λ col. IsColumnOf db.now names.now (record { table = None; name = name.now }) col) }
-    ensures valid { OnOk result (column_fault db.now names.now None name.now ≡ None) }
-    ensures refused { IfErr result (λ e. IsRefusedAs e (column_fault db.now names.now None name.now)) }
+    ensures { Checked result (column_fault db.now names.now None name.now) (IsColumnOf db.now names.now (record { table = None; name = name.now })) }
 {
     let Some(col) = owner_from(db, atoms, name, 0) else {
-        let name = name.copy(alloc)?;
-        return Err(Fail::Refused(Refusal::UnknownColumn { table: None, name }));
+        return Err(unknown_column(alloc, None, name));
     };
     match owner_from(db, atoms, name, col.atom as usize + 1) {
         None => Ok(col),
@@ -140,10 +132,7 @@ pub fn typed_column(
 ) -> Result<(ColRef, Kind), Fail<Refusal>>
     requires atoms { AllZip (IsAtomOf db.now) names.now atoms.now }
     requires few { length names.now ≤ 12 }
-    ensures resolved { IfOk result (λ found. IsColumnOf db.now names.now column.now found.0) }
-    ensures kind { IfOk result (λ found. found.1 ≡ column_kind db.now names.now column.now) }
-    ensures valid { OnOk result (column_fault db.now names.now column.now.table column.now.name ≡ None) }
-    ensures refused { IfErr result (λ e. IsRefusedAs e (column_fault db.now names.now column.now.table column.now.name)) }
+    ensures { Checked result (column_fault db.now names.now column.now.table column.now.name) (λ found. IsColumnOf db.now names.now column.now found.0 × (found.1 ≡ column_kind db.now names.now column.now)) }
 {
     let col = column_of(alloc, db, names, atoms, column)?;
     let kind = kind_of_column(db, atoms, col);

@@ -1,10 +1,13 @@
-ghost use Rattle.std.specs.Prelude.{◌≡◌, ◌<◌, ◌≤◌, ◌^◌, None, IfOk, OnOk, IfErr, length};
+//! The conditions of a query: their columns are there, and both sides have one kind.
+
+ghost use Rattle.std.specs.Prelude.{◌<◌, ◌≤◌, ◌^◌, ⊤, length};
 ghost use Rattle.std.specs.List.{AllZip};
-ghost use Rattle.table_blocks.specs.Tables.{IsRefusedAs};
+ghost use Rattle.cqa_model.specs.Refusal.{Checked};
 ghost use Rattle.query_resolve.specs.Checks.{kinds_fault, cond_fault, where_fault};
 ghost use Rattle.query_resolve.specs.Resolved.{IsAtomOf, IsCondOf};
 
 use crate::column::typed_column;
+use crate::faults::kind_mismatch;
 use cqa_model::{Atom, Cond, Place, Refusal};
 use cqa_value::{Fail, Items, Kind, Name};
 use spj_syntax::RawCond;
@@ -22,9 +25,7 @@ pub fn conds_of(
     requires atoms { AllZip (IsAtomOf db.now) names.now atoms.now }
     requires few { length names.now ≤ 12 }
     requires numbered { length conds.now < 2 ^ 32 }
-    ensures resolved { IfOk result (λ resolved. AllZip (IsCondOf db.now names.now) conds.now resolved) }
-    ensures valid { OnOk result (where_fault db.now names.now conds.now ≡ None) }
-    ensures refused { IfErr result (λ e. IsRefusedAs e (where_fault db.now names.now conds.now)) }
+    ensures { Checked result (where_fault db.now names.now conds.now) (AllZip (IsCondOf db.now names.now) conds.now) }
 {
     let mut resolved = Vec::with_capacity(alloc, conds.len())?;
     for (at, cond) in conds.iter().enumerate() {
@@ -44,9 +45,7 @@ fn cond_of(
 ) -> Result<Cond, Fail<Refusal>>
     requires atoms { AllZip (IsAtomOf db.now) names.now atoms.now }
     requires few { length names.now ≤ 12 }
-    ensures resolved { IfOk result (λ resolved. IsCondOf db.now names.now cond.now resolved) }
-    ensures valid { OnOk result (cond_fault db.now names.now number cond.now ≡ None) }
-    ensures refused { IfErr result (λ e. IsRefusedAs e (cond_fault db.now names.now number cond.now)) }
+    ensures { Checked result (cond_fault db.now names.now number cond.now) (IsCondOf db.now names.now cond.now) }
 {
     match cond {
         RawCond::Join { left, right } => {
@@ -70,12 +69,10 @@ fn cond_of(
 
 /// Whether the two sides of the condition of a number have one kind.
 pub fn check_kinds(number: u32, a: Kind, b: Kind) -> Result<(), Fail<Refusal>>
-    ensures valid { OnOk result (kinds_fault number a b ≡ None) }
-    ensures refused { IfErr result (λ e. IsRefusedAs e (kinds_fault number a b)) }
+    ensures { Checked result (kinds_fault number a b) (λ _. ⊤) }
 {
-    if a == b {
-        return Ok(());
+    match kind_mismatch(Place::Condition(number), a, b) {
+        None => Ok(()),
+        Some(refusal) => Err(Fail::Refused(refusal)),
     }
-    let place = Place::Condition(number);
-    Err(Fail::Refused(Refusal::TypeMismatch { place }))
 }

@@ -1,10 +1,13 @@
-ghost use Rattle.std.specs.Prelude.{◌≡◌, ◌<◌, ◌≤◌, ◌^◌, [], None, IfOk, OnOk, IfErr, length};
+//! The tests of a `delete`: their columns are there, with the kinds of the literals.
+
+ghost use Rattle.std.specs.Prelude.{◌<◌, ◌≤◌, ◌^◌, [], length};
 ghost use Rattle.std.specs.List.{AllZip};
-ghost use Rattle.table_blocks.specs.Tables.{IsRefusedAs};
+ghost use Rattle.cqa_model.specs.Refusal.{Checked};
 ghost use Rattle.query_resolve.specs.Checks.{first_fault, by_number, test_fault, tests_fault};
 ghost use Rattle.query_resolve.specs.Resolved.{IsTestOf, AreTestsOf};
 
 use crate::condition::check_kinds;
+use crate::faults::unknown_column;
 use crate::names::{place_of_column, table_columns};
 use cqa_model::{Column, Refusal};
 use cqa_value::{Fail, Items};
@@ -25,9 +28,7 @@ pub fn resolve_tests(
 ) -> Result<Items<ColumnTest>, Fail<Refusal>>
     requires there { table < length db.now }
     requires few { length tests.now < 2 ^ 32 }
-    ensures resolved { IfOk result (λ resolved. AreTestsOf db.now table tests.now resolved) }
-    ensures valid { OnOk result (tests_fault db.now table tests.now ≡ None) }
-    ensures refused { IfErr result (λ e. IsRefusedAs e (tests_fault db.now table tests.now)) }
+    ensures { Checked result (tests_fault db.now table tests.now) (AreTestsOf db.now table tests.now) }
 {
     tests_of(alloc, table_columns(db, table), tests)
 }
@@ -40,9 +41,7 @@ fn tests_of(
 ) -> Result<Items<ColumnTest>, Fail<Refusal>>
     requires narrow { length columns.now ≤ 16 }
     requires few { length tests.now < 2 ^ 32 }
-    ensures resolved { IfOk result (λ resolved. AllZip (IsTestOf columns.now) tests.now resolved) }
-    ensures valid { OnOk result (first_fault (by_number (test_fault columns.now)) [] tests.now ≡ None) }
-    ensures refused { IfErr result (λ e. IsRefusedAs e (first_fault (by_number (test_fault columns.now)) [] tests.now)) }
+    ensures { Checked result (first_fault (by_number (test_fault columns.now)) [] tests.now) (AllZip (IsTestOf columns.now) tests.now) }
 {
     let mut resolved = Vec::with_capacity(alloc, tests.len())?;
     for (at, test) in tests.iter().enumerate() {
@@ -59,13 +58,10 @@ fn column_test(
     number: u32,
 ) -> Result<ColumnTest, Fail<Refusal>>
     requires { length columns.now ≤ 16 }
-    ensures resolved { IfOk result (λ resolved. IsTestOf columns.now test.now resolved) }
-    ensures valid { OnOk result (test_fault columns.now number test.now ≡ None) }
-    ensures refused { IfErr result (λ e. IsRefusedAs e (test_fault columns.now number test.now)) }
+    ensures { Checked result (test_fault columns.now number test.now) (IsTestOf columns.now test.now) }
 {
     let Some(place) = place_of_column(columns, &test.col) else {
-        let name = test.col.copy(alloc)?;
-        return Err(Fail::Refused(Refusal::UnknownColumn { table: None, name }));
+        return Err(unknown_column(alloc, None, &test.col));
     };
     check_kinds(number, columns[place].kind, test.value.kind())?;
     Ok(ColumnTest {

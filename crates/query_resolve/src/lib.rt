@@ -4,6 +4,7 @@
 mod column;
 mod condition;
 mod deletion;
+mod faults;
 mod from;
 mod names;
 mod query;
@@ -12,6 +13,3 @@ mod schema;
 pub use deletion::resolve_tests;
 pub use query::resolve;
 pub use schema::resolve_schema;
-
-#[cfg(test)]
-mod tests;

@@ -1,3 +1,5 @@
+//! Where names stand: in a list, among columns, among tables.
+
 ghost use Rattle.std.specs.Prelude.{◌≡◌, ◌<◌, ◌≤◌, length};
 ghost use Rattle.query_resolve.specs.Names.{name_place, column_named, columns_at};
 

@@ -7,7 +7,7 @@ use Rattle.command_shell.proofs.statements.ask.ask.Goals as goal
 
 pub certain_rows-rows-requires-clause-one : goal.certain_rows-rows-requires-clause-one
 certain_rows-rows-requires-clause-one c =
-    one_atom c.database-database.result.now c.args.select.now c.in_ok-query.query (sym c.is_over_one_table.ensures ∙ c.if-not-is_over_one_table.false) c.in_ok-query.ensures.resolved
+    one_atom c.database-database.result.now c.args.select.now c.in_ok-query.query (sym c.is_over_one_table.ensures ∙ c.if-not-is_over_one_table.false) c.in_ok-query.ensures.is
 
 pub returns : goal.returns
 returns c =
@@ -20,7 +20,7 @@ returns c =
       ask_fault-single state.tables select (sym c.is_over_one_table.ensures ∙ c.if-not-is_over_one_table.false) ∙ subst (λ db. query_fault db select ≡ None) tables c.in_ok-query.ensures.valid,
       record {
         query = query;
-        resolved = subst (λ db. IsQueryOf db select query) tables c.in_ok-query.ensures.resolved;
+        resolved = subst (λ db. IsQueryOf db select query) tables c.in_ok-query.ensures.is;
         rows = rows;
         certain = subst (λ db. IsCertainAnswer db query rows) tables c.in_ok-rows.ensures;
         replies = refl;

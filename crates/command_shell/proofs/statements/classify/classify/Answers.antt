@@ -7,7 +7,7 @@ use Rattle.command_shell.proofs.statements.classify.classify.Goals as goal
 
 pub attack_lines-requires : goal.attack_lines-requires
 attack_lines-requires c =
-    named-attacks c.database.result.now c.args.select.now c.in_ok-query.query c.attacks-graph.result _ c.as_slice.ensures c.in_ok-query.ensures.resolved (c.attacks-graph.ensures.whole c.whole.ensures.is)
+    named-attacks c.database.result.now c.args.select.now c.in_ok-query.query c.attacks-graph.result _ c.as_slice.ensures c.in_ok-query.ensures.is (c.attacks-graph.ensures.whole c.whole.ensures.is)
 
 pub returns : goal.returns
 returns c =
@@ -19,7 +19,7 @@ returns c =
       subst (λ db. query_fault db select ≡ None) tables c.in_ok-query.ensures.valid,
       record {
         query = query;
-        resolved = subst (λ db. IsQueryOf db select query) tables c.in_ok-query.ensures.resolved;
+        resolved = subst (λ db. IsQueryOf db select query) tables c.in_ok-query.ensures.is;
         class = c.class_of-class.result;
         classed = c.class_of-class.ensures.query query are;
         lines = c.in_ok-lines.lines;

@@ -26,4 +26,4 @@ returns c =
     let kept = c.session.inside in
     let schema = c.in_ok-schema in
     subst (λ (s : State). Replies (schema_fault s.tables raw) s (Creates s raw) (Created name) (record { tables = c.create.new.self; budget = kept.budget; last_log = kept.last_log })) c.session.view_is
-    (inr (schema.ensures.valid, record { schema = schema.schema; resolved = schema.ensures.resolved; tables = c.in_ok-create.ensures.ok; others = refl; replies = ap Created c.in_ok-name.ensures }))
+    (inr (schema.ensures.checked.valid, record { schema = schema.schema; resolved = schema.ensures.checked.is; tables = c.in_ok-create.ensures.ok; others = refl; replies = ap Created c.in_ok-name.ensures }))

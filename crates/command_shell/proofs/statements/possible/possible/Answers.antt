@@ -14,7 +14,7 @@ returns c =
       subst (λ db. query_fault db select ≡ None) tables c.in_ok-query.ensures.valid,
       record {
         query = query;
-        resolved = subst (λ db. IsQueryOf db select query) tables c.in_ok-query.ensures.resolved;
+        resolved = subst (λ db. IsQueryOf db select query) tables c.in_ok-query.ensures.is;
         rows = rows;
         possible = subst (λ db. IsPossibleAnswer db query rows) tables c.in_ok-rows.ensures.possible;
         replies = refl;
