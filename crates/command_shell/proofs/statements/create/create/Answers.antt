@@ -16,7 +16,7 @@ pub invariant_of-session-2 : goal.invariant_of-session-2
 invariant_of-session-2 c =
     let kept = c.session.inside in
     let schema = c.in_ok-schema in
-    let named = named_more kept.database schema.schema (named_in kept.database c.session.invariant.valid) (named_schema c.args.raw.now schema.schema schema.ensures.resolved) in
+    let named = named_more kept.database schema.schema (named_in kept.database c.session.invariant.valid) (named_schema c.args.raw.now schema.schema schema.ensures.checked.is) in
     state_of c.create.new.self kept.budget kept.last_log c.create.ensures.stored (subst AreNamed (sym c.in_ok-create.ensures.ok) named) c.session.invariant.budget
 
 pub returns : goal.returns
