@@ -14,7 +14,8 @@ use Rattle.cqa_model.proofs.Values.{dec_not}
 use Rattle.cqa_model.proofs.Reification.{remove}
 use Rattle.cqa_model.proofs.Attacks.{IsClosed, after-closed, rest, kept}
 use Rattle.cqa_model.proofs.Interface.{dec_fixed_after}
-use Rattle.cqa_model.proofs.AttackDecisions.{below, below-all, attacked}
+use Rattle.cqa_model.proofs.AttackDecisions.{attacked}
+pub use Rattle.cqa_model.proofs.AttackDecisions.{below, below-all}
 
 module _ (q : Query) (view : View) where
   walk-start : (A : ℕ) (Hs : List ℕ) (B : ℕ) → IsWalk (Attacks q view) A Hs B → view.has A

@@ -1,3 +1,3 @@
 pub mod Integers
 mod Prefixes
-mod Written
+pub mod Written

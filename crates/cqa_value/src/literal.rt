@@ -10,7 +10,7 @@ use crate::{NoMemory, Row, Value};
 use itoa::Buffer;
 
 /// The integer that a text writes: an optional `-` and one or more digits. `None` where the text is
-/// no such text, or the number is out of range. It takes no memory.
+/// no such text, or the number is out of range.
 pub fn read_int(bytes: &[u8]) -> Option<i64>
     ensures exact { result ≡ int_of bytes.now }
     ensures reads_written { (n : ℤ) → IsTrue (is_in_range n) → bytes.now ≡ signed_decimal n → result ≡ Some n }
