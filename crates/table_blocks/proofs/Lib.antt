@@ -13,4 +13,3 @@ pub mod Naming
 pub mod Inserting
 pub mod Taken
 pub mod Spanning
-mod Example

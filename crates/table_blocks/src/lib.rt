@@ -12,8 +12,6 @@ mod span;
 mod steps;
 mod table;
 mod test;
-#[cfg(test)]
-mod tests;
 
 pub use cells::{cell, same_value, value_or};
 pub use database::Database;
