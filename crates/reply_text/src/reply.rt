@@ -1,6 +1,5 @@
 use cnf_form::{Cnf, Log};
 use cqa_model::{Class, Refusal, Schema};
-use cqa_model::{Class, Refusal, Schema};
 use cqa_value::{Items, Name, Row};
 
 /// What a statement is answered by.
