@@ -2,7 +2,7 @@
 use Rattle.std.specs.Prelude.{◌≡◌, List}
 use Rattle.cqa_model.specs.declared.query.Query.{Query}
 use Rattle.cqa_model.specs.Variables.{whole}
-use Rattle.query_class.specs.declared.classes.Class.{Class}
+use Rattle.cqa_model.specs.declared.class.Class.{Class}
 use Rattle.query_class.specs.Cycles.{IsClass}
 use Rattle.spj_syntax.specs.declared.tree.Select.{Select}
 use Rattle.query_resolve.specs.Resolved.{IsQueryOf}
