@@ -16,7 +16,7 @@ module _ (q : Query) where
   same-free : (a b : Rest) → AreSame a b → (v : ColRef) → IsFree q a v → IsFree q b v
   same-free a b s v f = (f.0, λ h. f.1 ((s.fixed v).1 h))
 
-  same-var : (a b : Rest) → AreSame a b → (F : ℕ) (v : ColRef) → IsVar q a F v → IsVar q b F v
+  pub same-var : (a b : Rest) → AreSame a b → (F : ℕ) (v : ColRef) → IsVar q a F v → IsVar q b F v
   same-var a b s F v h = (same-free a b s v h.0, h.1)
 
   same-key : (a b : Rest) → AreSame a b → (F : ℕ) (v : ColRef) → IsKeyVar q a F v → IsKeyVar q b F v

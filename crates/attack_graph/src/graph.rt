@@ -1,3 +1,5 @@
+//! The attacks of a query, once they are found.
+
 ghost use Rattle.std.specs.Prelude.{ℕ, ◌<◌};
 ghost use Rattle.attack_graph.specs.Pairs.{HasPair};
 

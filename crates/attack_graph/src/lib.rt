@@ -5,5 +5,5 @@ mod building;
 mod graph;
 mod spreading;
 
-pub use building::attacks;
+pub use building::{attack_row, attacks};
 pub use graph::Attacks;

@@ -12,7 +12,7 @@ use Rattle.cdcl.specs.Settled.{IsOpen}
 use Rattle.cdcl.specs.Trail.{At, held}
 use Rattle.cdcl.specs.State.{IsSound}
 use Rattle.cdcl.specs.Watching.{IsListed, IsWatching, IsBase, AreLists}
-use Rattle.cdcl.specs.Looking.{IsPut, IsSameBeside, IsForcedIn, IsWatchful, IsFirst, CanWatch}
+use Rattle.cdcl.specs.Looking.{IsEnqueued, IsSameBeside, IsForcedIn, IsWatchful, IsFirst, CanWatch}
 use Rattle.cdcl.specs.Visits.{IsConflict}
 use Rattle.cdcl.proofs.Works.{At-same}
 use Rattle.cdcl.proofs.States.{held_push, literals_count}
@@ -37,7 +37,7 @@ forced_one s k xs l at inside one free = (xs, at, record { inside = inside; free
 
 -- what is true before any level starts is below all levels
 pub base_one : (s : Solver) (k : ℕ) (xs : List Lit) (l : Lit) → IsFirst s → k ≡ length s.pairs.items → At (literals s.clauses.items) k xs → Contains xs l
-    → Contains (held s.trail.items) l → CanWatch s (IsBase (held s.trail.items) s.starts.items) l l
+    → Contains (held s.trail.items) l → CanWatch s (IsBase (held s.trail.items) s.level_starts.items) l l
 base_one s k xs l first e at inside holds = (
   xs,
   subst (λ (n : ℕ). At (literals s.clauses.items) n xs) e at,
@@ -48,39 +48,39 @@ base_one s k xs l first e at inside holds = (
     l,
     inside,
     (holds.1, holds.2),
-    λ x i. let j : Contains [] x = subst (λ (ys : List ℕ). Contains ys x) first.starts i in absurd (omega (arith, j.1)),
+    λ x i. let j : Contains [] x = subst (λ (ys : List ℕ). Contains ys x) first.level_starts i in absurd (omega (arith, j.1)),
   ),
 )
 
-pub forced_watchful : (s s' : Solver) (l : Lit) → IsWatchful s → IsSameBeside s s' → IsPut s.trail.items l s'.trail.items → IsSound s' → IsWatchful s'
+pub forced_watchful : (s s' : Solver) (l : Lit) → IsWatchful s → IsSameBeside s s' → IsEnqueued s.trail.items l s'.trail.items → IsSound s' → IsWatchful s'
 forced_watchful s s' l w same put sound =
     let db = literals s.clauses.items in
     let R = IsListed s.lists.items in
     let t : held s'.trail.items ≡ held s.trail.items ++ put.0.lit ∷ [] = ap held put.2 ∙ held_push s.trail.items put.0 in
-    let watching : IsWatching R db (held s.trail.items ++ put.0.lit ∷ []) s.starts.items s.head s.pairs.items =
-    watching_put R db (held s.trail.items) s.starts.items s.head s.pairs.items put.0.lit w.watching in
+    let watching : IsWatching R db (held s.trail.items ++ put.0.lit ∷ []) s.level_starts.items s.head s.pairs.items =
+    watching_put R db (held s.trail.items) s.level_starts.items s.head s.pairs.items put.0.lit w.watching in
     record {
       sound = sound;
-      watching = subst (λ (x : Vec (List ℕ) Global). IsWatching (IsListed x.items) (literals s'.clauses.items) (held s'.trail.items) s'.starts.items s'.head s'.pairs.items) (sym same.lists)
-          (subst (λ (x : Vec Clause Global). IsWatching R (literals x.items) (held s'.trail.items) s'.starts.items s'.head s'.pairs.items) (sym same.clauses)
-          (subst (λ (x : Vec ℕ Global). IsWatching R db (held s'.trail.items) x.items s'.head s'.pairs.items) (sym same.starts)
-          (subst (λ (h : ℕ). IsWatching R db (held s'.trail.items) s.starts.items h s'.pairs.items) (sym same.head)
-          (subst (λ (x : Vec Pair Global). IsWatching R db (held s'.trail.items) s.starts.items s.head x.items) (sym same.pairs)
-          (subst (λ (xs : List Lit). IsWatching R db xs s.starts.items s.head s.pairs.items) (sym t) watching)))));
+      watching = subst (λ (x : Vec (List ℕ) Global). IsWatching (IsListed x.items) (literals s'.clauses.items) (held s'.trail.items) s'.level_starts.items s'.head s'.pairs.items) (sym same.lists)
+          (subst (λ (x : Vec Clause Global). IsWatching R (literals x.items) (held s'.trail.items) s'.level_starts.items s'.head s'.pairs.items) (sym same.clauses)
+          (subst (λ (x : Vec ℕ Global). IsWatching R db (held s'.trail.items) x.items s'.head s'.pairs.items) (sym same.level_starts)
+          (subst (λ (h : ℕ). IsWatching R db (held s'.trail.items) s.level_starts.items h s'.pairs.items) (sym same.head)
+          (subst (λ (x : Vec Pair Global). IsWatching R db (held s'.trail.items) s.level_starts.items s.head x.items) (sym same.pairs)
+          (subst (λ (xs : List Lit). IsWatching R db xs s.level_starts.items s.head s.pairs.items) (sym t) watching)))));
       lists = subst (λ (x : Vec (List ℕ) Global). AreLists x.items (length s'.places.items) (length s'.pairs.items)) (sym same.lists)
           (subst (λ (x : Vec Pair Global). AreLists s.lists.items (length s'.places.items) (length x.items)) (sym same.pairs)
           (subst (λ (n : ℕ). AreLists s.lists.items n (length s.pairs.items)) (sym same.len) w.lists));
     }
 
-pub first_same : (s s' : Solver) → s'.starts ≡ s.starts → s'.head ≡ s.head → IsFirst s → IsFirst s'
-first_same s s' e h f = record { starts = subst (λ (x : Vec ℕ Global). x.items ≡ []) (sym e) f.starts; head = h ∙ f.head }
+pub first_same : (s s' : Solver) → s'.level_starts ≡ s.level_starts → s'.head ≡ s.head → IsFirst s → IsFirst s'
+first_same s s' e h f = record { level_starts = subst (λ (x : Vec ℕ Global). x.items ≡ []) (sym e) f.level_starts; head = h ∙ f.head }
 
 -- a literal that its clause forces there is too
 pub forced_base : (s s' : Solver) (k : ℕ) (xs : List Lit) (l : Lit) → IsFirst s → k ≡ length s.pairs.items → At (literals s.clauses.items) k xs → Contains xs l
-    → IsSameBeside s s' → IsPut s.trail.items l s'.trail.items → CanWatch s' (IsBase (held s'.trail.items) s'.starts.items) l l
+    → IsSameBeside s s' → IsEnqueued s.trail.items l s'.trail.items → CanWatch s' (IsBase (held s'.trail.items) s'.level_starts.items) l l
 forced_base s s' k xs l first e at inside same put =
     let t : held s'.trail.items ≡ held s.trail.items ++ l ∷ [] =
     ap held put.2 ∙ held_push s.trail.items put.0 ∙ ap (λ (y : Lit). held s.trail.items ++ y ∷ []) put.1 in
     let holds : Contains (held s'.trail.items) l = subst (λ (ys : List Lit). Contains ys l) (sym t) (Contains-push (held s.trail.items) l) in
-    base_one s' k xs l (first_same s s' same.starts same.head first) (e ∙ ap (λ (v : Vec Pair Global). length v.items) (sym same.pairs))
+    base_one s' k xs l (first_same s s' same.level_starts same.head first) (e ∙ ap (λ (v : Vec Pair Global). length v.items) (sym same.pairs))
     (subst (λ (v : Vec Clause Global). At (literals v.items) k xs) (sym same.clauses) at) inside holds

@@ -18,7 +18,7 @@ use Rattle.cdcl.specs.declared.solver.Solver.{Solver}
 use Rattle.cdcl.specs.State.{IsSound}
 use Rattle.cdcl.proofs.Places.{consistent}
 use Rattle.cdcl.specs.Visits.{IsStill, IsComplete, IsModelled}
-use Rattle.cdcl.specs.Lines.{Adds, IsLine, AreLines, IsLineStep, IsLastStep, EndsEmpty, EndsSpent, added_lits, learnt}
+use Rattle.cdcl.specs.Lines.{Adds, IsLine, AreLines, IsLineStep, IsLastStep, EndsEmpty, EndsLog, EndsSpent, added_lits, learnt}
 
 pub line_step : (db : List (List Lit)) (n : ℕ) (step : Step) (id : ℕ) (lits : List Lit) (hints : List ℤ) → Adds step id lits hints → id ≡ length db + 1
     → IsLine db n lits hints → IsLineStep db n step
@@ -79,14 +79,14 @@ modelled db more s sound still all e = record {
       (λ l k. all l.var (sound.db_low c j l k) (sound.db_in c j l k));
 }
 
-pub refuted_end : (db : List (List Lit)) (n budget : ℕ) (log0 log : List Step) (step : Step) (d : List (List Lit))
-    → log ≡ log0 ++ step ∷ [] → AreLines db n log0 → d ≡ db ++ learnt log0 → IsLastStep d step → length log0 ≤ budget → EndsEmpty db n budget log
-refuted_end db n budget log0 log step d shape lines e last count = record {
+pub refuted_end : (db : List (List Lit)) (n budget : ℕ) (log0 log : List Step) (d : List (List Lit))
+    → EndsLog d log0 log → AreLines db n log0 → d ≡ db ++ learnt log0 → length log0 ≤ budget → EndsEmpty db n budget log
+refuted_end db n budget log0 log d last lines e count = record {
   before = log0;
-  last = step;
-  shape = shape;
+  last = last.0;
+  shape = last.1;
   lines = lines;
-  ends = subst (λ (x : List (List Lit)). IsLastStep x step) e last;
+  ends = subst (λ (x : List (List Lit)). IsLastStep x last.0) e last.2;
   count = count;
 }
 

@@ -171,9 +171,9 @@ pub learn_facts : (s0 s1 s2 : Solver) (learnt : LearntClause) → IsSound s0 →
     → take learnt.end (held s2.trail.items) ≡ take learnt.end (held s1.trail.items)
     → Facts (literals s0.clauses.items) (length s0.places.items) (held s2.trail.items) learnt.end learnt.lits.items learnt.hints.items learnt.asserted
 learn_facts s0 s1 s2 learnt sound analyzed left p kept =
-    facts (literals s0.clauses.items) s0.trail.items s1.trail.items s2.trail.items s0.places.items s0.starts.items s1.starts.items
-    analyzed.0 left.0 learnt.end (length s0.starts.items) learnt.lits.items learnt.hints.items learnt.asserted
-    sound left.1 refl (At-read s0.starts.items (length s0.starts.items - 1) analyzed.0 analyzed.1) left.2 p kept analyzed.2
+    facts (literals s0.clauses.items) s0.trail.items s1.trail.items s2.trail.items s0.places.items s0.level_starts.items s1.level_starts.items
+    analyzed.0 left.0 learnt.end (length s0.level_starts.items) learnt.lits.items learnt.hints.items learnt.asserted
+    sound left.1 refl (At-read s0.level_starts.items (length s0.level_starts.items - 1) analyzed.0 analyzed.1) left.2 p kept analyzed.2
   where
     At-read : (xs : List ℕ) (k x : ℕ) → At xs k x → x ≡ get_or xs k x
     At-read xs k x a = At-same xs k x (get_or xs k x) a (At-get_or xs k x a.0)
@@ -191,7 +191,7 @@ learnt_last s0 s1 s2 learnt sound analyzed left p kept k e =
     let d = w.below m.0 m.1 in
     let b : (d.0 < analyzed.0) × At t d.0 (opposite m.0) = At-take analyzed.0 t d.0 (opposite m.0) (d.1, d.2) in
     let q : d.0 ≡ k = apart d.0 k (opposite m.0) (opposite m.0) b.1 m.2 refl in
-    let f = last_is s0.starts.items s1.starts.items left.0 (length s0.starts.items) analyzed.0 left.1 refl (At-read s0.starts.items (length s0.starts.items - 1) analyzed.0 analyzed.1) in
+    let f = last_is s0.level_starts.items s1.level_starts.items left.0 (length s0.level_starts.items) analyzed.0 left.1 refl (At-read s0.level_starts.items (length s0.level_starts.items - 1) analyzed.0 analyzed.1) in
     let cut : held s1.trail.items ≡ take left.0 t = ap held left.2 ∙ held_take left.0 s0.trail.items in
     let in_one : At (held s1.trail.items) k (opposite m.0) =
     subst (λ (xs : List Lit). At xs k (opposite m.0)) (sym cut) (At-in_take left.0 t k (opposite m.0) (omega (arith, b.0, q, f)) m.2) in

@@ -12,7 +12,7 @@ use Rattle.cdcl.specs.Trail.{At, held}
 use Rattle.cdcl.specs.Looks.{IsForced}
 use Rattle.cdcl.specs.State.{IsSound}
 use Rattle.cdcl.specs.Watching.{IsListed, IsWatching, IsBase, AreLists}
-use Rattle.cdcl.specs.Looking.{IsPut, IsSameBeside, IsWatchful, CanWatch, IsPairFor}
+use Rattle.cdcl.specs.Looking.{IsEnqueued, IsSameBeside, IsWatchful, CanWatch, IsPairFor}
 use Rattle.cdcl.proofs.Works.{At-same, At-contains}
 use Rattle.cdcl.proofs.Places.{At-push_old, At-push_new, apart_by_places, consistent}
 use Rattle.cdcl.proofs.States.{held_push, literals_count}
@@ -20,23 +20,23 @@ use Rattle.cdcl.proofs.Watches.{watch_new, watch_learnt}
 use Rattle.cdcl.proofs.WatchState.{watching_more, watching_put}
 
 pub learnt_watchful : (s s' : Solver) (v : Vec Clause Global) (lits : List Lit) (a : Lit) → IsWatchful s → literals v.items ≡ literals s.clauses.items ++ lits ∷ []
-    → IsSameBeside (record s { clauses = v }) s' → IsPut s.trail.items a s'.trail.items → IsSound s' → IsWatchful s'
+    → IsSameBeside (record s { clauses = v }) s' → IsEnqueued s.trail.items a s'.trail.items → IsSound s' → IsWatchful s'
 learnt_watchful s s' v lits a w more same put sound =
     let db = literals s.clauses.items ++ lits ∷ [] in
     let R = IsListed s.lists.items in
     let t : held s'.trail.items ≡ held s.trail.items ++ a ∷ [] =
     ap held put.2 ∙ held_push s.trail.items put.0 ∙ ap (λ (x : Lit). held s.trail.items ++ x ∷ []) put.1 in
-    let watching : IsWatching R db (held s.trail.items ++ a ∷ []) s.starts.items s.head s.pairs.items =
-    watching_put R db (held s.trail.items) s.starts.items s.head s.pairs.items a (watching_more R (literals s.clauses.items) (held s.trail.items) s.starts.items s.head s.pairs.items lits w.watching) in
+    let watching : IsWatching R db (held s.trail.items ++ a ∷ []) s.level_starts.items s.head s.pairs.items =
+    watching_put R db (held s.trail.items) s.level_starts.items s.head s.pairs.items a (watching_more R (literals s.clauses.items) (held s.trail.items) s.level_starts.items s.head s.pairs.items lits w.watching) in
     record {
       sound = sound;
-      watching = subst (λ (x : Vec (List ℕ) Global). IsWatching (IsListed x.items) (literals s'.clauses.items) (held s'.trail.items) s'.starts.items s'.head s'.pairs.items) (sym same.lists)
-          (subst (λ (x : Vec Clause Global). IsWatching R (literals x.items) (held s'.trail.items) s'.starts.items s'.head s'.pairs.items) (sym same.clauses)
-          (subst (λ (x : List (List Lit)). IsWatching R x (held s'.trail.items) s'.starts.items s'.head s'.pairs.items) (sym more)
-          (subst (λ (x : Vec ℕ Global). IsWatching R db (held s'.trail.items) x.items s'.head s'.pairs.items) (sym same.starts)
-          (subst (λ (h : ℕ). IsWatching R db (held s'.trail.items) s.starts.items h s'.pairs.items) (sym same.head)
-          (subst (λ (x : Vec Pair Global). IsWatching R db (held s'.trail.items) s.starts.items s.head x.items) (sym same.pairs)
-          (subst (λ (xs : List Lit). IsWatching R db xs s.starts.items s.head s.pairs.items) (sym t) watching))))));
+      watching = subst (λ (x : Vec (List ℕ) Global). IsWatching (IsListed x.items) (literals s'.clauses.items) (held s'.trail.items) s'.level_starts.items s'.head s'.pairs.items) (sym same.lists)
+          (subst (λ (x : Vec Clause Global). IsWatching R (literals x.items) (held s'.trail.items) s'.level_starts.items s'.head s'.pairs.items) (sym same.clauses)
+          (subst (λ (x : List (List Lit)). IsWatching R x (held s'.trail.items) s'.level_starts.items s'.head s'.pairs.items) (sym more)
+          (subst (λ (x : Vec ℕ Global). IsWatching R db (held s'.trail.items) x.items s'.head s'.pairs.items) (sym same.level_starts)
+          (subst (λ (h : ℕ). IsWatching R db (held s'.trail.items) s.level_starts.items h s'.pairs.items) (sym same.head)
+          (subst (λ (x : Vec Pair Global). IsWatching R db (held s'.trail.items) s.level_starts.items s.head x.items) (sym same.pairs)
+          (subst (λ (xs : List Lit). IsWatching R db xs s.level_starts.items s.head s.pairs.items) (sym t) watching))))));
       lists = subst (λ (x : Vec (List ℕ) Global). AreLists x.items (length s'.places.items) (length s'.pairs.items)) (sym same.lists)
           (subst (λ (x : Vec Pair Global). AreLists s.lists.items (length s'.places.items) (length x.items)) (sym same.pairs)
           (subst (λ (n : ℕ). AreLists s.lists.items n (length s.pairs.items)) (sym same.len) w.lists));
@@ -52,7 +52,7 @@ learnt_at s s' v lits all more same =
     (subst (λ (d : List (List Lit)). At d (length s'.pairs.items) lits) (sym more)
     (subst (λ (i : ℕ). At (literals s.clauses.items ++ lits ∷ []) i lits) k (At-push_new (literals s.clauses.items) lits)))
 
-at_put : (s s' : Solver) (a : Lit) → IsPut s.trail.items a s'.trail.items → At (held s'.trail.items) (length (held s.trail.items)) a
+at_put : (s s' : Solver) (a : Lit) → IsEnqueued s.trail.items a s'.trail.items → At (held s'.trail.items) (length (held s.trail.items)) a
 at_put s s' a put =
     let t : held s'.trail.items ≡ held s.trail.items ++ a ∷ [] =
     ap held put.2 ∙ held_push s.trail.items put.0 ∙ ap (λ (x : Lit). held s.trail.items ++ x ∷ []) put.1 in
@@ -60,8 +60,8 @@ at_put s s' a put =
 
 -- where no level is left, the literal that it forces is true below all levels
 pub learnt_base : (s s' : Solver) (v : Vec Clause Global) (lits : List Lit) (a : Lit) (end : ℕ) → length s.pairs.items ≡ length s.clauses.items
-    → literals v.items ≡ literals s.clauses.items ++ lits ∷ [] → IsSameBeside (record s { clauses = v }) s' → IsPut s.trail.items a s'.trail.items
-    → Contains lits a → ((x : ℕ) → Contains s.starts.items x → x < end) → end ≡ 0 → CanWatch s' (IsBase (held s'.trail.items) s'.starts.items) a a
+    → literals v.items ≡ literals s.clauses.items ++ lits ∷ [] → IsSameBeside (record s { clauses = v }) s' → IsEnqueued s.trail.items a s'.trail.items
+    → Contains lits a → ((x : ℕ) → Contains s.level_starts.items x → x < end) → end ≡ 0 → CanWatch s' (IsBase (held s'.trail.items) s'.level_starts.items) a a
 learnt_base s s' v lits a end all more same put inside below none_left = (
   lits,
   learnt_at s s' v lits all more same,
@@ -72,14 +72,14 @@ learnt_base s s' v lits a end all more same put inside below none_left = (
     a,
     inside,
     at_put s s' a put,
-    λ x i. let r = below x (subst (λ (y : Vec ℕ Global). Contains y.items x) same.starts i) in absurd (omega (arith, r, none_left)),
+    λ x i. let r = below x (subst (λ (y : Vec ℕ Global). Contains y.items x) same.level_starts i) in absurd (omega (arith, r, none_left)),
   ),
 )
 
 -- the literal that it forces, and the deepest of the others
 pub learnt_pair : (s s' : Solver) (v : Vec Clause Global) (lits : List Lit) (a x : Lit) (end : ℕ) → length s.pairs.items ≡ length s.clauses.items
-    → literals v.items ≡ literals s.clauses.items ++ lits ∷ [] → IsSameBeside (record s { clauses = v }) s' → IsPut s.trail.items a s'.trail.items → IsSound s'
-    → IsForced (held s.trail.items) lits a → ((y : ℕ) → Contains s.starts.items y → y < end)
+    → literals v.items ≡ literals s.clauses.items ++ lits ∷ [] → IsSameBeside (record s { clauses = v }) s' → IsEnqueued s.trail.items a s'.trail.items → IsSound s'
+    → IsForced (held s.trail.items) lits a → ((y : ℕ) → Contains s.level_starts.items y → y < end)
     → ((k : ℕ) → end ≡ k + 1 → (m : Lit) × Contains lits m × At (held s.trail.items) k (opposite m)) → (end ≡ 0 → ⊥)
     → At (held s'.trail.items) (end - 1) x → CanWatch s' (IsPairFor s' a (opposite x)) a (opposite x)
 learnt_pair s s' v lits a x zero all more same put sound forced below last some at = absurd (some refl)
@@ -102,9 +102,9 @@ learnt_pair s s' v lits a x (suc k) all more same put sound forced below last so
       inside,
       (
         λ e. let q : length t ≡ k = apart (length t) k a x new here (ap (λ (y : Lit). y.var) e) in omega (arith, q, m.2.0),
-        watch_new (held s'.trail.items) s'.starts.items s'.head lits a free,
-        watch_learnt (held s'.trail.items) s'.starts.items s'.head k lits (opposite x) a forced.inside (At-contains (held s'.trail.items) (length t) a new)
+        watch_new (held s'.trail.items) s'.level_starts.items s'.head lits a free,
+        watch_learnt (held s'.trail.items) s'.level_starts.items s'.head k lits (opposite x) a forced.inside (At-contains (held s'.trail.items) (length t) a new)
             (λ p b. apart p k (opposite (opposite x)) x b here refl)
-            (λ y i. let r = below y (subst (λ (z : Vec ℕ Global). Contains z.items y) same.starts i) in omega (arith, r)),
+            (λ y i. let r = below y (subst (λ (z : Vec ℕ Global). Contains z.items y) same.level_starts i) in omega (arith, r)),
       ),
     )

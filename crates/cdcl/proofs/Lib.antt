@@ -1,3 +1,4 @@
+-- Lemmas of the solver, by the part that they are of.
 pub mod SettledLemmas
 pub mod TrailLemmas
 pub mod Works
@@ -8,7 +9,6 @@ pub mod Ends
 pub mod Watches
 pub mod Values
 pub mod Bridge
-pub mod Clauses
 pub mod WatchState
 pub mod LookState
 pub mod Visiting

@@ -1,14 +1,14 @@
 -- How marks are counted.
 use Rattle.std.proofs.Common.{◌≡◌, ℕ, zero, suc, ◌<◌, ◌≤◌, ◌+◌, ◌-◌, Bool, true, false, List, [], ◌∷◌, ◌++◌, ◌⊎◌, inl, inr, sym, ◌∙◌, subst, arith, length, get_or, set, drop, ◌≢◌, Option, Some, None}
 use Rattle.std.specs.Prelude.{Contains}
-use Rattle.std.proofs.lemmas.List.{length-drop}
+use Rattle.std.proofs.lemmas.List.{length-drop, length-set}
 use Rattle.std.proofs.lemmas.List.Elements.{Contains-append_left, Contains-push}
 use Rattle.cnf_form.specs.declared.formula.Lit.{Lit}
 use Rattle.cnf_form.proofs.Lits.{cons_cases, contains_here, contains_later}
 use Rattle.cdcl.specs.Trail.{At, ArePlaces}
 use Rattle.cdcl.specs.Marks.{IsSeen, AllClear, AllMet}
-use Rattle.cdcl.specs.Analysis.{AtMostSeen, NoneSeen}
-use Rattle.cdcl.proofs.Works.{seen_cases, some_same, At-same, At-get_or}
+use Rattle.cdcl.specs.Analysis.{AreMarks, AtMostSeen, Grow, NoneSeen}
+use Rattle.cdcl.proofs.Works.{seen_cases, seen_more, some_same, At-same, At-get_or}
 
 -- a list without one of its members
 without : (ws : List ℕ) (p : ℕ) → Contains ws p → (vs : List ℕ) × (length vs + 1 ≡ length ws) × ((q : ℕ) → Contains ws q → (q ≡ p → ⊥) → Contains vs q)
@@ -43,6 +43,34 @@ at_most_more t places start end seen count v place are is range m = record {
     | inr r ↦ contains_later place m.places p (m.all p l g h a r)
   ];
 }
+
+-- what was counted stays where the variable is open or stands below the level
+pub at_most_same : (t : List Lit) (places : List (Option ℕ)) (start end : ℕ) (seen : List Bool) (count v : ℕ) → ArePlaces t places
+    → ((p : ℕ) → get_or places v None ≡ Some p → start ≤ p → ⊥) → v < length seen → AtMostSeen t start end seen count → AtMostSeen t start end (set seen v true) count
+at_most_same t places start end seen count v are away range m = record {
+  places = m.places;
+  few = m.few;
+  all = λ p l g h a s. elim (seen_cases seen v l.var range s) [
+    | inl e ↦ absurd (away p (subst (λ (n : ℕ). get_or places n None ≡ Some p) e (are.every p l a)) g)
+    | inr r ↦ m.all p l g h a r
+  ];
+}
+
+-- and what was kept, where it is open or stands on the level
+pub marks_same : (t : List Lit) (places : List (Option ℕ)) (start : ℕ) (seen : List Bool) (lower : List Lit) (v : ℕ) → ArePlaces t places
+    → ((p : ℕ) → get_or places v None ≡ Some p → p < start → ⊥) → v < length seen → AreMarks t start seen lower → AreMarks t start (set seen v true) lower
+marks_same t places start seen lower v are away range marks = record {
+  kept = λ p l h a s. elim (seen_cases seen v l.var range s) [
+    | inl e ↦ absurd (away p (subst (λ (n : ℕ). get_or places n None ≡ Some p) e (are.every p l a)) h)
+    | inr r ↦ marks.kept p l h a r
+  ];
+  below = marks.below;
+  marked = λ m i. seen_more seen v m.var range (marks.marked m i);
+  once = marks.once;
+}
+
+pub grow_one : (seen : List Bool) (lower lower' : List Lit) (v : ℕ) → v < length seen → ((m : Lit) → Contains lower m → Contains lower' m) → Grow seen (set seen v true) lower lower'
+grow_one seen lower lower' v range more = record { same = length-set seen v true; seen_more = λ w s. seen_more seen v w range s; lower_more = more }
 
 -- the walk comes to a literal that is marked
 pub at_most_walked : (t : List Lit) (start at : ℕ) (seen : List Bool) (count : ℕ) (x : Lit) → start ≤ at → At t at x → IsSeen seen x.var

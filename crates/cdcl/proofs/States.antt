@@ -61,37 +61,37 @@ contains_cut s trail l i =
     let a = At-take s (held trail) j.0 l (j.1, j.2) in At-contains (held trail) j.0 l a.1
 
 -- the last level's start is the highest
-pub below_last : (starts : List ℕ) (s x : ℕ) → ((i j a b : ℕ) → i < j → At (starts ++ s ∷ []) i a → At (starts ++ s ∷ []) j b → a < b)
-    → Contains starts x → x < s
-below_last starts s x rising i = rising i.0 (length starts) x s i.1 (At-push_old starts (s ∷ []) i.0 x (i.1, i.2)) (At-push_new starts s)
+pub below_last : (level_starts : List ℕ) (s x : ℕ) → ((i j a b : ℕ) → i < j → At (level_starts ++ s ∷ []) i a → At (level_starts ++ s ∷ []) j b → a < b)
+    → Contains level_starts x → x < s
+below_last level_starts s x rising i = rising i.0 (length level_starts) x s i.1 (At-push_old level_starts (s ∷ []) i.0 x (i.1, i.2)) (At-push_new level_starts s)
 
 -- the last level is left
-pub state_back : (db : List (List Lit)) (trail : List Entry) (places places' : List (Option ℕ)) (starts : List ℕ) (s : ℕ)
-    → IsState db trail places (starts ++ s ∷ []) → ArePlaces (held (take s trail)) places' → length places' ≡ length places
-    → IsState db (take s trail) places' starts
-state_back db trail places places' starts s st are len =
-    let lower : (x : ℕ) → Contains starts x → x < s = λ x i. below_last starts s x st.rising i in
+pub state_back : (db : List (List Lit)) (trail : List Entry) (places places' : List (Option ℕ)) (level_starts : List ℕ) (s : ℕ)
+    → IsState db trail places (level_starts ++ s ∷ []) → ArePlaces (held (take s trail)) places' → length places' ≡ length places
+    → IsState db (take s trail) places' level_starts
+state_back db trail places places' level_starts s st are len =
+    let lower : (x : ℕ) → Contains level_starts x → x < s = λ x i. below_last level_starts s x st.rising i in
     record {
       places_are = are;
       held_in = λ l i. let r = st.held_in l (contains_cut s trail l i) in omega (arith, r, len);
       held_low = λ l i. st.held_low l (contains_cut s trail l i);
       db_low = st.db_low;
       db_in = λ c i l j. let r = st.db_in c i l j in omega (arith, r, len);
-      rising = λ i j a b h x y. st.rising i j a b h (At-push_old starts (s ∷ []) i a x) (At-push_old starts (s ∷ []) j b y);
-      under = λ x i. let r = lower x i in let q = length-take s trail in let w = st.under s (Contains-push starts s) in omega (arith, q);
+      rising = λ i j a b h x y. st.rising i j a b h (At-push_old level_starts (s ∷ []) i a x) (At-push_old level_starts (s ∷ []) j b y);
+      under = λ x i. let r = lower x i in let q = length-take s trail in let w = st.under s (Contains-push level_starts s) in omega (arith, q);
       forced = λ p n e a.
           let b = At-take s trail p e a in
           forced_by_same db (held trail) (held (take s trail)) p e (sym (take_cut p s trail (omega (arith, b.0))))
-          (st.forced p (λ i. elim (Contains-push_cases starts s p i) [ inl j ↦ n j | inr q ↦ absurd (omega (arith, q, b.0)) ]) e b.1);
+          (st.forced p (λ i. elim (Contains-push_cases level_starts s p i) [ inl j ↦ n j | inr q ↦ absurd (omega (arith, q, b.0)) ]) e b.1);
       ended = λ x i. let r = lower x i in
-          subst (λ (xs : List Lit). AllSettled xs db) (sym (take_cut x s trail (omega (arith, r)))) (st.ended x (Contains-append_left starts (s ∷ []) x i));
+          subst (λ (xs : List Lit). AllSettled xs db) (sym (take_cut x s trail (omega (arith, r)))) (st.ended x (Contains-append_left level_starts (s ∷ []) x i));
     }
 
 -- a forced literal is put on the trail
-pub state_forced : (db : List (List Lit)) (trail : List Entry) (places places' : List (Option ℕ)) (starts : List ℕ) (l : Lit) (r : ℕ) (c : List Lit) (e : Entry)
-    → e.lit ≡ l → e.reason ≡ Some r → IsState db trail places starts → At db r c → Contains c l → OthersDenied (held trail) c l → l.var < length places
-    → ArePlaces (held (trail ++ e ∷ [])) places' → length places' ≡ length places → IsState db (trail ++ e ∷ []) places' starts
-state_forced db trail places places' starts l r c e el er st at inside others range are len = record {
+pub state_forced : (db : List (List Lit)) (trail : List Entry) (places places' : List (Option ℕ)) (level_starts : List ℕ) (l : Lit) (r : ℕ) (c : List Lit) (e : Entry)
+    → e.lit ≡ l → e.reason ≡ Some r → IsState db trail places level_starts → At db r c → Contains c l → OthersDenied (held trail) c l → l.var < length places
+    → ArePlaces (held (trail ++ e ∷ [])) places' → length places' ≡ length places → IsState db (trail ++ e ∷ []) places' level_starts
+state_forced db trail places places' level_starts l r c e el er st at inside others range are len = record {
   places_are = are;
   held_in = λ m i. elim (Contains-push_cases (held trail) e.lit m (subst (λ (xs : List Lit). Contains xs m) (held_push trail e) i)) [
     | inl j ↦ let q = st.held_in m j in omega (arith, q, len)
@@ -124,10 +124,10 @@ state_forced db trail places places' starts l r c e el er st at inside others ra
     whole p h = take_put p trail e (omega (arith, h)) ∙ take_all p (held trail) (let k = length_held trail in omega (arith, k, h))
 
 -- a decision starts a level
-pub state_decided : (db : List (List Lit)) (trail : List Entry) (places places' : List (Option ℕ)) (starts : List ℕ) (e : Entry)
-    → IsState db trail places starts → AllSettled (held trail) db → 1 ≤ e.lit.var → e.lit.var < length places
-    → ArePlaces (held (trail ++ e ∷ [])) places' → length places' ≡ length places → IsState db (trail ++ e ∷ []) places' (starts ++ length trail ∷ [])
-state_decided db trail places places' starts e st settled low range are len = record {
+pub state_decided : (db : List (List Lit)) (trail : List Entry) (places places' : List (Option ℕ)) (level_starts : List ℕ) (e : Entry)
+    → IsState db trail places level_starts → AllSettled (held trail) db → 1 ≤ e.lit.var → e.lit.var < length places
+    → ArePlaces (held (trail ++ e ∷ [])) places' → length places' ≡ length places → IsState db (trail ++ e ∷ []) places' (level_starts ++ length trail ∷ [])
+state_decided db trail places places' level_starts e st settled low range are len = record {
   places_are = are;
   held_in = λ m i. elim (Contains-push_cases (held trail) e.lit m (subst (λ (xs : List Lit). Contains xs m) (held_push trail e) i)) [
     | inl j ↦ let q = st.held_in m j in omega (arith, q, len)
@@ -139,26 +139,26 @@ state_decided db trail places places' starts e st settled low range are len = re
   ];
   db_low = st.db_low;
   db_in = λ d i m j. let q = st.db_in d i m j in omega (arith, q, len);
-  rising = λ i j a b h x y. elim (At-push_cases starts (length trail) j b y) [
-    | inl v ↦ elim (At-push_cases starts (length trail) i a x) [
+  rising = λ i j a b h x y. elim (At-push_cases level_starts (length trail) j b y) [
+    | inl v ↦ elim (At-push_cases level_starts (length trail) i a x) [
       | inl u ↦ st.rising i j a b h u v
       | inr u ↦ absurd (omega (arith, u.0, v.0, h))
     ]
-    | inr v ↦ elim (At-push_cases starts (length trail) i a x) [
+    | inr v ↦ elim (At-push_cases level_starts (length trail) i a x) [
       | inl u ↦ let q = st.under a (i, u.0, u.1) in omega (arith, q, v.1)
       | inr u ↦ absurd (omega (arith, u.0, v.0, h))
     ]
   ];
-  under = λ s i. let w = length_push trail e in elim (Contains-push_cases starts (length trail) s i) [
+  under = λ s i. let w = length_push trail e in elim (Contains-push_cases level_starts (length trail) s i) [
     | inl j ↦ let q = st.under s j in omega (arith, q, w)
     | inr q ↦ omega (arith, q, w)
   ];
   forced = λ p n x a. elim (At-push_cases trail e p x a) [
     | inl b ↦ forced_by_same db (held trail) (held (trail ++ e ∷ [])) p x (sym (take_put p trail e (omega (arith, b.0))))
-        (st.forced p (λ i. n (Contains-append_left starts (length trail ∷ []) p i)) x b)
-    | inr b ↦ absurd (n (subst (λ (k : ℕ). Contains (starts ++ length trail ∷ []) k) (sym b.0) (Contains-push starts (length trail))))
+        (st.forced p (λ i. n (Contains-append_left level_starts (length trail ∷ []) p i)) x b)
+    | inr b ↦ absurd (n (subst (λ (k : ℕ). Contains (level_starts ++ length trail ∷ []) k) (sym b.0) (Contains-push level_starts (length trail))))
   ];
-  ended = λ s i. elim (Contains-push_cases starts (length trail) s i) [
+  ended = λ s i. elim (Contains-push_cases level_starts (length trail) s i) [
     | inl j ↦ let q = st.under s j in subst (λ (xs : List Lit). AllSettled xs db) (sym (take_put s trail e (omega (arith, q)))) (st.ended s j)
     | inr q ↦ subst (λ (xs : List Lit). AllSettled xs db) (sym (whole s (sym q))) settled
   ];
@@ -168,10 +168,10 @@ state_decided db trail places places' starts e st settled low range are len = re
     whole p h = take_put p trail e (omega (arith, h)) ∙ take_all p (held trail) (let k = length_held trail in omega (arith, k, h))
 
 -- a clause is learnt
-pub state_learnt : (db : List (List Lit)) (trail : List Entry) (places : List (Option ℕ)) (starts : List ℕ) (c : List Lit)
-    → IsState db trail places starts → AllInRange c (length places) → AllLow c → ((s : ℕ) → Contains starts s → IsSettled (take s (held trail)) c)
-    → IsState (db ++ c ∷ []) trail places starts
-state_learnt db trail places starts c st range low settled = record {
+pub state_learnt : (db : List (List Lit)) (trail : List Entry) (places : List (Option ℕ)) (level_starts : List ℕ) (c : List Lit)
+    → IsState db trail places level_starts → AllInRange c (length places) → AllLow c → ((s : ℕ) → Contains level_starts s → IsSettled (take s (held trail)) c)
+    → IsState (db ++ c ∷ []) trail places level_starts
+state_learnt db trail places level_starts c st range low settled = record {
   places_are = st.places_are;
   held_in = st.held_in;
   held_low = st.held_low;

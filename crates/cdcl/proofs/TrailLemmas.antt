@@ -1,3 +1,4 @@
+-- Literals of a clause that the trail denies.
 use Rattle.cdcl.specs.Trail.{At}
 use Rattle.std.proofs.Common.{◌≢◌, ℕ, zero, suc, List, [], ◌∷◌, map, inl, inr, refl, sym, ap, subst, arith}
 use Rattle.std.specs.Prelude.{Contains}

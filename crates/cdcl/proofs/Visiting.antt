@@ -11,16 +11,18 @@ use Rattle.cnf_form.proofs.Lits.{contains_here}
 use Rattle.cdcl.specs.declared.trail.Entry.{Entry}
 use Rattle.cdcl.specs.declared.watch.Pair.{Pair}
 use Rattle.cdcl.specs.declared.solver.Solver.{Solver}
+use Rattle.cdcl.specs.declared.solver.Visit.{Visit}
+use Rattle.cdcl.specs.declared.solver.Visit.TheVariants.{Conflict}
 use Rattle.cdcl.specs.Trail.{At, held}
 use Rattle.cdcl.specs.State.{IsState, IsSound}
 use Rattle.cdcl.specs.Watching.{HasWatch, IsPairOf, code_of, IsPending, IsWatching, IsListed, AreLists}
-use Rattle.cdcl.specs.Looking.{IsLooking, IsLookingAt, IsPut, IsSameBeside, IsReady, IsGrown, Stays}
-use Rattle.cdcl.specs.Visits.{IsStill}
+use Rattle.cdcl.specs.Looking.{IsLooking, IsLookingAt, IsEnqueued, IsSameBeside, IsReady, IsGrown, Stays, VisitIs}
+use Rattle.cdcl.specs.Visits.{IsConflict, IsStill}
 use Rattle.cdcl.proofs.Works.{At-same}
 use Rattle.cdcl.proofs.Places.{At-push_old, consistent, trail_fits}
 use Rattle.cdcl.proofs.States.{db_at, literals_count, length_held}
 use Rattle.cdcl.proofs.WatchState.{code_small, watching_next, watching_settled}
-use Rattle.cdcl.proofs.Stretches.{take_set, drop_set}
+use Rattle.cdcl.proofs.Stretches.{take_set, drop_set, next_index}
 use Rattle.cdcl.proofs.LookState.{looking_kept, looking_drop, looking_force, looking_first, looking_last}
 
 pub small_at : (s : Solver) (lit : Lit) (kept rest : List ℕ) (k : ℕ) → IsLookingAt s lit kept (k ∷ rest) → k < length s.pairs.items
@@ -44,32 +46,32 @@ clause_at s lit other kept rest k pair at of l =
 pub drop_at : (s : Solver) (lit : Lit) (kept rest : List ℕ) (k : ℕ) (pair : Pair) → At s.pairs.items k pair → (HasWatch pair lit → ⊥)
     → IsLookingAt s lit kept (k ∷ rest) → IsLookingAt s lit kept rest
 drop_at s lit kept rest k pair at none l =
-    looking_drop (literals s.clauses.items) s.trail.items s.places.items s.starts.items s.head s.pairs.items s.lists.items lit kept rest k
+    looking_drop (literals s.clauses.items) s.trail.items s.places.items s.level_starts.items s.head s.pairs.items s.lists.items lit kept rest k
     (λ p a h. none (subst (λ (x : Pair). HasWatch x lit) (At-same s.pairs.items k p pair a at) h)) l
 
 pub kept_at : (s : Solver) (lit other : Lit) (kept rest : List ℕ) (k : ℕ) (pair : Pair) → At s.pairs.items k pair → IsPairOf pair lit other
     → Contains (held s.trail.items) other → IsLookingAt s lit kept (k ∷ rest) → IsLookingAt s lit (kept ++ k ∷ []) rest
 kept_at s lit other kept rest k pair at of holds l =
     let d = clause_at s lit other kept rest k pair at of l in
-    looking_kept (literals s.clauses.items) s.trail.items s.places.items s.starts.items s.head s.pairs.items s.lists.items lit kept rest k
+    looking_kept (literals s.clauses.items) s.trail.items s.places.items s.level_starts.items s.head s.pairs.items s.lists.items lit kept rest k
     (λ c a. (other, subst (λ (xs : List Lit). Contains xs other) (At-same (literals s.clauses.items) k d.0 c d.1 a) d.2, holds)) l
 
 pub force_at : (s s' : Solver) (lit other : Lit) (kept rest : List ℕ) (k : ℕ) (pair : Pair) → At s.pairs.items k pair → IsPairOf pair lit other
-    → IsSameBeside s s' → IsPut s.trail.items other s'.trail.items → IsSound s' → IsLookingAt s lit kept (k ∷ rest) → IsLookingAt s' lit (kept ++ k ∷ []) rest
+    → IsSameBeside s s' → IsEnqueued s.trail.items other s'.trail.items → IsSound s' → IsLookingAt s lit kept (k ∷ rest) → IsLookingAt s' lit (kept ++ k ∷ []) rest
 force_at s s' lit other kept rest k pair at of same put sound l =
     let d = clause_at s lit other kept rest k pair at of l in
-    let st : IsState (literals s.clauses.items) s'.trail.items s'.places.items s.starts.items =
-    subst (λ (v : Vec ℕ Global). IsState (literals s.clauses.items) s'.trail.items s'.places.items v.items) same.starts
-    (subst (λ (v : Vec Clause Global). IsState (literals v.items) s'.trail.items s'.places.items s'.starts.items) same.clauses sound) in
-    let r : IsLooking (literals s.clauses.items) s'.trail.items s'.places.items s.starts.items s.head s.pairs.items s.lists.items lit (kept ++ k ∷ []) rest =
-    looking_force (literals s.clauses.items) s.trail.items s'.trail.items s.places.items s'.places.items s.starts.items s.head s.pairs.items s.lists.items lit kept rest k
+    let st : IsState (literals s.clauses.items) s'.trail.items s'.places.items s.level_starts.items =
+    subst (λ (v : Vec ℕ Global). IsState (literals s.clauses.items) s'.trail.items s'.places.items v.items) same.level_starts
+    (subst (λ (v : Vec Clause Global). IsState (literals v.items) s'.trail.items s'.places.items s'.level_starts.items) same.clauses sound) in
+    let r : IsLooking (literals s.clauses.items) s'.trail.items s'.places.items s.level_starts.items s.head s.pairs.items s.lists.items lit (kept ++ k ∷ []) rest =
+    looking_force (literals s.clauses.items) s.trail.items s'.trail.items s.places.items s'.places.items s.level_starts.items s.head s.pairs.items s.lists.items lit kept rest k
     put.0 put.2 st same.len
     (λ c a. subst (λ (x : Lit). Contains c x) (sym put.1) (subst (λ (xs : List Lit). Contains xs other) (At-same (literals s.clauses.items) k d.0 c d.1 a) d.2)) l in
-    subst (λ (v : Vec Clause Global). IsLooking (literals v.items) s'.trail.items s'.places.items s'.starts.items s'.head s'.pairs.items s'.lists.items lit (kept ++ k ∷ []) rest) (sym same.clauses)
-    (subst (λ (v : Vec ℕ Global). IsLooking (literals s.clauses.items) s'.trail.items s'.places.items v.items s'.head s'.pairs.items s'.lists.items lit (kept ++ k ∷ []) rest) (sym same.starts)
-    (subst (λ (h : ℕ). IsLooking (literals s.clauses.items) s'.trail.items s'.places.items s.starts.items h s'.pairs.items s'.lists.items lit (kept ++ k ∷ []) rest) (sym same.head)
-    (subst (λ (v : Vec Pair Global). IsLooking (literals s.clauses.items) s'.trail.items s'.places.items s.starts.items s.head v.items s'.lists.items lit (kept ++ k ∷ []) rest) (sym same.pairs)
-    (subst (λ (v : Vec (List ℕ) Global). IsLooking (literals s.clauses.items) s'.trail.items s'.places.items s.starts.items s.head s.pairs.items v.items lit (kept ++ k ∷ []) rest) (sym same.lists) r))))
+    subst (λ (v : Vec Clause Global). IsLooking (literals v.items) s'.trail.items s'.places.items s'.level_starts.items s'.head s'.pairs.items s'.lists.items lit (kept ++ k ∷ []) rest) (sym same.clauses)
+    (subst (λ (v : Vec ℕ Global). IsLooking (literals s.clauses.items) s'.trail.items s'.places.items v.items s'.head s'.pairs.items s'.lists.items lit (kept ++ k ∷ []) rest) (sym same.level_starts)
+    (subst (λ (h : ℕ). IsLooking (literals s.clauses.items) s'.trail.items s'.places.items s.level_starts.items h s'.pairs.items s'.lists.items lit (kept ++ k ∷ []) rest) (sym same.head)
+    (subst (λ (v : Vec Pair Global). IsLooking (literals s.clauses.items) s'.trail.items s'.places.items s.level_starts.items s.head v.items s'.lists.items lit (kept ++ k ∷ []) rest) (sym same.pairs)
+    (subst (λ (v : Vec (List ℕ) Global). IsLooking (literals s.clauses.items) s'.trail.items s'.places.items s.level_starts.items s.head s.pairs.items v.items lit (kept ++ k ∷ []) rest) (sym same.lists) r))))
 
 pub code_in : (s : Solver) (lit : Lit) → IsSound s → Denied (held s.trail.items) lit → code_of lit < length s.places.items + length s.places.items
 code_in s lit sound d = code_small lit (length s.places.items) (sound.held_in (opposite lit) d)
@@ -77,20 +79,32 @@ code_in s lit sound d = code_small lit (length s.places.items) (sound.held_in (o
 pub first_at : (s : Solver) (lit : Lit) (lists : Vec (List ℕ) Global) (list : List ℕ) → IsReady s → At (held s.trail.items) s.head (opposite lit)
     → list ≡ get_or s.lists.items (code_of lit) [] → lists.items ≡ set s.lists.items (code_of lit) [] → IsLookingAt (record s { lists = lists }) lit [] list
 first_at s lit lists list ready next own left =
-    subst (λ (ls : List (List ℕ)). IsLooking (literals s.clauses.items) s.trail.items s.places.items s.starts.items s.head s.pairs.items ls lit [] list) (sym left)
-    (looking_first (literals s.clauses.items) s.trail.items s.places.items s.starts.items s.head s.pairs.items s.lists.items lit list
+    subst (λ (ls : List (List ℕ)). IsLooking (literals s.clauses.items) s.trail.items s.places.items s.level_starts.items s.head s.pairs.items ls lit [] list) (sym left)
+    (looking_first (literals s.clauses.items) s.trail.items s.places.items s.level_starts.items s.head s.pairs.items s.lists.items lit list
     ready.watchful.sound next own ready.watchful.lists ready.watchful.watching)
+
+-- what a visit to the clause at a place of the list tells
+pub visited_at : (s s' : Solver) (lit : Lit) (list : List ℕ) (kept at x : ℕ) (v : Visit) → at < length list → x ≡ get_or list at x → IsLookingAt s lit (take kept list) (drop at list)
+    → ((front rest : List ℕ) → IsLookingAt s lit front (x ∷ rest) → VisitIs s' lit front rest x v) → VisitIs s' lit (take kept list) (drop (at + 1) list) x v
+visited_at s s' lit list kept at x v h is looking visit =
+    visit (take kept list) (drop (at + 1) list) (subst (λ (xs : List ℕ). IsLookingAt s lit (take kept list) xs) (next_index list at x h is) looking)
+
+pub conflict_at : (s s' : Solver) (lit : Lit) (list : List ℕ) (kept at x : ℕ) (v : Visit) → at < length list → x ≡ get_or list at x → IsLookingAt s lit (take kept list) (drop at list)
+    → ((front rest : List ℕ) → IsLookingAt s lit front (x ∷ rest) → VisitIs s' lit front rest x v) → v ≡ Conflict
+    → IsLookingAt s' lit (take kept list) (x ∷ drop (at + 1) list) × IsConflict s' x
+conflict_at s s' lit list kept at x v h is looking visit e =
+    subst (λ (w : Visit). VisitIs s' lit (take kept list) (drop (at + 1) list) x w) e (visited_at s s' lit list kept at x v h is looking visit)
 
 pub last_at : (s : Solver) (lit : Lit) (lists : Vec (List ℕ) Global) (kept rest list : List ℕ) → length s.pairs.items ≡ length s.clauses.items
     → list ≡ kept ++ rest → lists.items ≡ set s.lists.items (code_of lit) list → IsLookingAt s lit kept rest → IsReady (record s { lists = lists })
 last_at s lit lists kept rest list all own put l =
     let range = code_in s lit l.sound l.denied in
-    let r = looking_last (literals s.clauses.items) s.trail.items s.places.items s.starts.items s.head s.pairs.items s.lists.items lit kept rest list own
+    let r = looking_last (literals s.clauses.items) s.trail.items s.places.items s.level_starts.items s.head s.pairs.items s.lists.items lit kept rest list own
     (omega (arith, range, l.lists_are.room)) l in
     record {
       watchful = record {
         sound = l.sound;
-        watching = subst (λ (ls : List (List ℕ)). IsWatching (IsListed ls) (literals s.clauses.items) (held s.trail.items) s.starts.items s.head s.pairs.items) (sym put) r.1;
+        watching = subst (λ (ls : List (List ℕ)). IsWatching (IsListed ls) (literals s.clauses.items) (held s.trail.items) s.level_starts.items s.head s.pairs.items) (sym put) r.1;
         lists = subst (λ (ls : List (List ℕ)). AreLists ls (length s.places.items) (length s.pairs.items)) (sym put) r.0;
       };
       all = all;
@@ -107,8 +121,8 @@ pub next_at : (s : Solver) (h : ℕ) (lit : Lit) → h ≡ s.head + 1 → At (he
 next_at s h lit e at pending ready = record {
   watchful = record {
     sound = ready.watchful.sound;
-    watching = subst (λ (n : ℕ). IsWatching (IsListed s.lists.items) (literals s.clauses.items) (held s.trail.items) s.starts.items n s.pairs.items) (sym e)
-        (watching_next (IsListed s.lists.items) (literals s.clauses.items) (held s.trail.items) s.starts.items s.head s.pairs.items lit at pending ready.watchful.watching);
+    watching = subst (λ (n : ℕ). IsWatching (IsListed s.lists.items) (literals s.clauses.items) (held s.trail.items) s.level_starts.items n s.pairs.items) (sym e)
+        (watching_next (IsListed s.lists.items) (literals s.clauses.items) (held s.trail.items) s.level_starts.items s.head s.pairs.items lit at pending ready.watchful.watching);
     lists = ready.watchful.lists;
   };
   all = ready.all;
@@ -127,7 +141,7 @@ grown_more t u v a b = (a.0 ++ b.0, b.1 ∙ ap (λ (xs : List Lit). xs ++ b.0) a
 pub stays_more : (s s' s'' : Solver) → Stays s s' → Stays s' s'' → Stays s s''
 stays_more s s' s'' a b = record {
   clauses = b.clauses ∙ a.clauses;
-  starts = b.starts ∙ a.starts;
+  level_starts = b.level_starts ∙ a.level_starts;
   head = b.head ∙ a.head;
   count = b.count ∙ a.count;
   len = b.len ∙ a.len;
@@ -157,7 +171,7 @@ pub still_at : (s : Solver) → IsReady s → length s.trail.items ≤ s.head �
 still_at s ready whole =
     let n = literals_count s.clauses.items in
     let h = length_held s.trail.items in
-    watching_settled (IsListed s.lists.items) (literals s.clauses.items) (held s.trail.items) s.starts.items s.head s.pairs.items
+    watching_settled (IsListed s.lists.items) (literals s.clauses.items) (held s.trail.items) s.level_starts.items s.head s.pairs.items
     (consistent (held s.trail.items) s.places.items ready.watchful.sound.places_are) (omega (arith, whole, h)) (ready.all ∙ sym n) ready.watchful.watching
 
 pub fits_at : (s : Solver) → IsReady s → length s.trail.items ≤ length s.places.items

@@ -52,9 +52,9 @@ At-set_cases xs k x j y a =
     ]
 
 -- the same over other lists
-pub watching_relist : (R S : Lit → ℕ → Type 0) (db : List (List Lit)) (t : List Lit) (starts : List ℕ) (head : ℕ) (pairs : List Pair)
-    → ((l : Lit) (k : ℕ) → R l k → S l k) → IsWatching R db t starts head pairs → IsWatching S db t starts head pairs
-watching_relist R S db t starts head pairs more w = record {
+pub watching_relist : (R S : Lit → ℕ → Type 0) (db : List (List Lit)) (t : List Lit) (level_starts : List ℕ) (head : ℕ) (pairs : List Pair)
+    → ((l : Lit) (k : ℕ) → R l k → S l k) → IsWatching R db t level_starts head pairs → IsWatching S db t level_starts head pairs
+watching_relist R S db t level_starts head pairs more w = record {
   head_in = w.head_in;
   levels = w.levels;
   some = w.some;
@@ -72,9 +72,9 @@ watching_relist R S db t starts head pairs more w = record {
 }
 
 -- a clause without a pair is added
-pub watching_more : (R : Lit → ℕ → Type 0) (db : List (List Lit)) (t : List Lit) (starts : List ℕ) (head : ℕ) (pairs : List Pair) (c : List Lit)
-    → IsWatching R db t starts head pairs → IsWatching R (db ++ c ∷ []) t starts head pairs
-watching_more R db t starts head pairs c w =
+pub watching_more : (R : Lit → ℕ → Type 0) (db : List (List Lit)) (t : List Lit) (level_starts : List ℕ) (head : ℕ) (pairs : List Pair) (c : List Lit)
+    → IsWatching R db t level_starts head pairs → IsWatching R (db ++ c ∷ []) t level_starts head pairs
+watching_more R db t level_starts head pairs c w =
     let old : (k : ℕ) (d : List Lit) (pair : Pair) → At (db ++ c ∷ []) k d → At pairs k pair → At db k d = λ k d pair a b. elim (At-push_cases db c k d a) [
       | inl o ↦ o
       | inr e ↦ let s = w.some in absurd (omega (arith, s, e.0, b.0))
@@ -88,9 +88,9 @@ watching_more R db t starts head pairs c w =
     }
 
 -- a literal is put on the trail
-pub watching_put : (R : Lit → ℕ → Type 0) (db : List (List Lit)) (t : List Lit) (starts : List ℕ) (head : ℕ) (pairs : List Pair) (x : Lit)
-    → IsWatching R db t starts head pairs → IsWatching R db (t ++ x ∷ []) starts head pairs
-watching_put R db t starts head pairs x w = record {
+pub watching_put : (R : Lit → ℕ → Type 0) (db : List (List Lit)) (t : List Lit) (level_starts : List ℕ) (head : ℕ) (pairs : List Pair) (x : Lit)
+    → IsWatching R db t level_starts head pairs → IsWatching R db (t ++ x ∷ []) level_starts head pairs
+watching_put R db t level_starts head pairs x w = record {
   head_in = let l = length_push t x in let s = w.head_in in omega (arith, l, s);
   levels = w.levels;
   some = w.some;
@@ -99,8 +99,8 @@ watching_put R db t starts head pairs x w = record {
     | inl base ↦ inl (base.0, base.1, base.2, At-push_old t (x ∷ []) base.0 base.1 base.3, base.4)
     | inr p ↦ inr (record {
       apart = p.apart;
-      first = watch_put t starts head c pair.first x w.head_in p.first;
-      second = watch_put t starts head c pair.second x w.head_in p.second;
+      first = watch_put t level_starts head c pair.first x w.head_in p.first;
+      second = watch_put t level_starts head c pair.second x w.head_in p.second;
       first_in = p.first_in;
       second_in = p.second_in;
     })
@@ -108,11 +108,11 @@ watching_put R db t starts head pairs x w = record {
 }
 
 -- the last level is left
-pub watching_back : (R : Lit → ℕ → Type 0) (db : List (List Lit)) (t : List Lit) (starts : List ℕ) (s head : ℕ) (pairs : List Pair)
-    → s ≤ length t → ((x : ℕ) → Contains starts x → x < s) → IsWatching R db t (starts ++ s ∷ []) head pairs → IsWatching R db (take s t) starts (min head s) pairs
-watching_back R db t starts s head pairs within rising w = record {
+pub watching_back : (R : Lit → ℕ → Type 0) (db : List (List Lit)) (t : List Lit) (level_starts : List ℕ) (s head : ℕ) (pairs : List Pair)
+    → s ≤ length t → ((x : ℕ) → Contains level_starts x → x < s) → IsWatching R db t (level_starts ++ s ∷ []) head pairs → IsWatching R db (take s t) level_starts (min head s) pairs
+watching_back R db t level_starts s head pairs within rising w = record {
   head_in = let l = length-take s t in omega (arith, l, within);
-  levels = λ x i. let a = w.levels x (Contains-append_left starts (s ∷ []) x i) in let b = rising x i in omega (arith, a, b);
+  levels = λ x i. let a = w.levels x (Contains-append_left level_starts (s ∷ []) x i) in let b = rising x i in omega (arith, a, b);
   some = w.some;
   inside = w.inside;
   each = λ k c pair a b. elim (w.each k c pair a b) [
@@ -120,13 +120,13 @@ watching_back R db t starts s head pairs within rising w = record {
       base.0,
       base.1,
       base.2,
-      At-in_take s t base.0 base.1 (base.4 s (Contains-push starts s)) base.3,
-      λ x i. base.4 x (Contains-append_left starts (s ∷ []) x i),
+      At-in_take s t base.0 base.1 (base.4 s (Contains-push level_starts s)) base.3,
+      λ x i. base.4 x (Contains-append_left level_starts (s ∷ []) x i),
     )
     | inr p ↦ inr (record {
       apart = p.apart;
-      first = watch_back t starts s head c pair.first p.first;
-      second = watch_back t starts s head c pair.second p.second;
+      first = watch_back t level_starts s head c pair.first p.first;
+      second = watch_back t level_starts s head c pair.second p.second;
       first_in = p.first_in;
       second_in = p.second_in;
     })
@@ -134,11 +134,11 @@ watching_back R db t starts s head pairs within rising w = record {
 }
 
 -- a level starts where the whole trail was looked at
-pub watching_level : (R : Lit → ℕ → Type 0) (db : List (List Lit)) (t : List Lit) (starts : List ℕ) (head : ℕ) (pairs : List Pair)
-    → length t ≤ head → IsWatching R db t starts head pairs → IsWatching R db t (starts ++ length t ∷ []) head pairs
-watching_level R db t starts head pairs whole w = record {
+pub watching_level : (R : Lit → ℕ → Type 0) (db : List (List Lit)) (t : List Lit) (level_starts : List ℕ) (head : ℕ) (pairs : List Pair)
+    → length t ≤ head → IsWatching R db t level_starts head pairs → IsWatching R db t (level_starts ++ length t ∷ []) head pairs
+watching_level R db t level_starts head pairs whole w = record {
   head_in = w.head_in;
-  levels = λ s i. elim (Contains-push_cases starts (length t) s i) [ inl j ↦ w.levels s j | inr e ↦ omega (arith, e, whole) ];
+  levels = λ s i. elim (Contains-push_cases level_starts (length t) s i) [ inl j ↦ w.levels s j | inr e ↦ omega (arith, e, whole) ];
   some = w.some;
   inside = w.inside;
   each = λ k c pair a b. elim (w.each k c pair a b) [
@@ -147,12 +147,12 @@ watching_level R db t starts head pairs whole w = record {
       base.1,
       base.2,
       base.3,
-      λ s i. elim (Contains-push_cases starts (length t) s i) [ inl j ↦ base.4 s j | inr e ↦ omega (arith, e, base.3.0) ],
+      λ s i. elim (Contains-push_cases level_starts (length t) s i) [ inl j ↦ base.4 s j | inr e ↦ omega (arith, e, base.3.0) ],
     )
     | inr p ↦ inr (record {
       apart = p.apart;
-      first = watch_level t starts head c pair.first p.first;
-      second = watch_level t starts head c pair.second p.second;
+      first = watch_level t level_starts head c pair.first p.first;
+      second = watch_level t level_starts head c pair.second p.second;
       first_in = p.first_in;
       second_in = p.second_in;
     })
@@ -160,10 +160,10 @@ watching_level R db t starts head pairs whole w = record {
 }
 
 -- a clause gets its pair
-pub watching_attach : (R : Lit → ℕ → Type 0) (db : List (List Lit)) (t : List Lit) (starts : List ℕ) (head : ℕ) (pairs : List Pair) (c : List Lit) (pair : Pair)
-    → At db (length pairs) c → Contains c pair.first → Contains c pair.second → IsBase t starts c ⊎ IsPaired R t starts head (length pairs) c pair
-    → IsWatching R db t starts head pairs → IsWatching R db t starts head (pairs ++ pair ∷ [])
-watching_attach R db t starts head pairs c pair at first second new w = record {
+pub watching_attach : (R : Lit → ℕ → Type 0) (db : List (List Lit)) (t : List Lit) (level_starts : List ℕ) (head : ℕ) (pairs : List Pair) (c : List Lit) (pair : Pair)
+    → At db (length pairs) c → Contains c pair.first → Contains c pair.second → IsBase t level_starts c ⊎ IsPaired R t level_starts head (length pairs) c pair
+    → IsWatching R db t level_starts head pairs → IsWatching R db t level_starts head (pairs ++ pair ∷ [])
+watching_attach R db t level_starts head pairs c pair at first second new w = record {
   head_in = w.head_in;
   levels = w.levels;
   some = let l = length_push pairs pair in omega (arith, l, at.0);
@@ -178,23 +178,23 @@ watching_attach R db t starts head pairs c pair at first second new w = record {
     | inl o ↦ w.each k d p a o
     | inr e ↦
         let same : c ≡ d = At-same db (length pairs) c d at (subst (λ (n : ℕ). At db n d) e.0 a) in
-        subst (λ (q : Pair). IsBase t starts d ⊎ IsPaired R t starts head k d q) e.1
-        (subst (λ (n : ℕ). IsBase t starts d ⊎ IsPaired R t starts head n d pair) (sym e.0)
-        (subst (λ (xs : List Lit). IsBase t starts xs ⊎ IsPaired R t starts head (length pairs) xs pair) same new))
+        subst (λ (q : Pair). IsBase t level_starts d ⊎ IsPaired R t level_starts head k d q) e.1
+        (subst (λ (n : ℕ). IsBase t level_starts d ⊎ IsPaired R t level_starts head n d pair) (sym e.0)
+        (subst (λ (xs : List Lit). IsBase t level_starts xs ⊎ IsPaired R t level_starts head (length pairs) xs pair) same new))
   ];
 }
 
 -- where the whole trail was looked at, each clause is settled
-pub watching_settled : (R : Lit → ℕ → Type 0) (db : List (List Lit)) (t : List Lit) (starts : List ℕ) (head : ℕ) (pairs : List Pair)
-    → IsConsistent t → length t ≤ head → length pairs ≡ length db → IsWatching R db t starts head pairs → AllSettled t db
-watching_settled R db t starts head pairs k whole all w c i =
+pub watching_settled : (R : Lit → ℕ → Type 0) (db : List (List Lit)) (t : List Lit) (level_starts : List ℕ) (head : ℕ) (pairs : List Pair)
+    → IsConsistent t → length t ≤ head → length pairs ≡ length db → IsWatching R db t level_starts head pairs → AllSettled t db
+watching_settled R db t level_starts head pairs k whole all w c i =
     let none : Lit = record { var = 0; positive = false } in
     let a = At-get_or pairs i.0 (let p : Pair = record { first = none; second = none } in p) (omega (arith, i.1, all)) in
     let pair = get_or pairs i.0 (record { first = none; second = none }) in
     let d = w.inside i.0 c pair (i.1, i.2) a in
     elim (w.each i.0 c pair (i.1, i.2) a) [
       | inl base ↦ settled_by_true t c base.1 k base.2 (At-contains t base.0 base.1 base.3)
-      | inr p ↦ watches_settle t starts head c pair.first pair.second k whole d.0 d.1 p.apart p.first p.second
+      | inr p ↦ watches_settle t level_starts head c pair.first pair.second k whole d.0 d.1 p.apart p.first p.second
     ]
 
 other_contains : (kept rest : List ℕ) (k j : ℕ) → j ≢ k → Contains (kept ++ k ∷ rest) j → Contains (kept ++ rest) j
@@ -204,10 +204,10 @@ other_contains kept rest k j n i = elim (Contains-append_cases kept (k ∷ rest)
 ]
 
 -- an index whose clause does not watch the literal leaves its list
-pub watching_drop : (db : List (List Lit)) (t : List Lit) (starts : List ℕ) (head : ℕ) (pairs : List Pair) (out : Lit) (kept rest : List ℕ) (lists : List (List ℕ)) (k : ℕ)
-    → ((pair : Pair) → At pairs k pair → HasWatch pair out → ⊥) → IsWatching (IsListedBut out (kept ++ k ∷ rest) lists) db t starts head pairs
-    → IsWatching (IsListedBut out (kept ++ rest) lists) db t starts head pairs
-watching_drop db t starts head pairs out kept rest lists k no_watch w = record {
+pub watching_drop : (db : List (List Lit)) (t : List Lit) (level_starts : List ℕ) (head : ℕ) (pairs : List Pair) (out : Lit) (kept rest : List ℕ) (lists : List (List ℕ)) (k : ℕ)
+    → ((pair : Pair) → At pairs k pair → HasWatch pair out → ⊥) → IsWatching (IsListedBut out (kept ++ k ∷ rest) lists) db t level_starts head pairs
+    → IsWatching (IsListedBut out (kept ++ rest) lists) db t level_starts head pairs
+watching_drop db t level_starts head pairs out kept rest lists k no_watch w = record {
   head_in = w.head_in;
   levels = w.levels;
   some = w.some;
@@ -257,12 +257,12 @@ listed_new lists l k range =
     (Contains-push (get_or lists (code_of l) []) k)
 
 -- a clause watches another literal in place of one
-pub watching_move : (db : List (List Lit)) (t : List Lit) (starts : List ℕ) (head : ℕ) (pairs : List Pair) (out other new : Lit) (kept rest : List ℕ)
+pub watching_move : (db : List (List Lit)) (t : List Lit) (level_starts : List ℕ) (head : ℕ) (pairs : List Pair) (out other new : Lit) (kept rest : List ℕ)
     (lists : List (List ℕ)) (k : ℕ) (c : List Lit) (pair : Pair) → At db k c → At pairs k pair → IsPairOf pair out other
     → Denied t out → Contains c new → (Denied t new → ⊥) → new ≢ other → code_of new < length lists
-    → IsWatching (IsListedBut out (kept ++ k ∷ rest) lists) db t starts head pairs
-    → IsWatching (IsListedBut out (kept ++ rest) (listed_at lists (code_of new) k)) db t starts head (set pairs k (record { first = other; second = new }))
-watching_move db t starts head pairs out other new kept rest lists k c pair at pat of denied inside free apart range w =
+    → IsWatching (IsListedBut out (kept ++ k ∷ rest) lists) db t level_starts head pairs
+    → IsWatching (IsListedBut out (kept ++ rest) (listed_at lists (code_of new) k)) db t level_starts head (set pairs k (record { first = other; second = new }))
+watching_move db t level_starts head pairs out other new kept rest lists k c pair at pat of denied inside free apart range w =
     let made : Pair = record { first = other; second = new } in
     let S : Lit → ℕ → Type 0 = IsListedBut out (kept ++ rest) (listed_at lists (code_of new) k) in
     let new_out : new ≢ out = λ e. free (subst (λ (x : Lit). Denied t x) (sym e) denied) in
@@ -286,9 +286,9 @@ watching_move db t starts head pairs out other new kept rest lists k c pair at p
       each = λ j d p a b. elim (At-set_cases pairs k made j p b) [
         | inl e ↦
             let same : c ≡ d = At-same db k c d at (subst (λ (n : ℕ). At db n d) e.0 a) in
-            subst (λ (q : Pair). IsBase t starts d ⊎ IsPaired S t starts head j d q) e.1
-            (subst (λ (n : ℕ). IsBase t starts d ⊎ IsPaired S t starts head n d made) (sym e.0)
-            (subst (λ (xs : List Lit). IsBase t starts xs ⊎ IsPaired S t starts head k xs made) same
+            subst (λ (q : Pair). IsBase t level_starts d ⊎ IsPaired S t level_starts head j d q) e.1
+            (subst (λ (n : ℕ). IsBase t level_starts d ⊎ IsPaired S t level_starts head n d made) (sym e.0)
+            (subst (λ (xs : List Lit). IsBase t level_starts xs ⊎ IsPaired S t level_starts head k xs made) same
             (elim (w.each k c pair at pat) [
               | inl base ↦ inl base
               | inr old ↦ inr (elim of [
@@ -296,8 +296,8 @@ watching_move db t starts head pairs out other new kept rest lists k c pair at p
                     let n : other ≢ out = λ x. old.apart (q.0 ∙ sym x ∙ sym q.1) in
                     record {
                       apart = λ x. apart (sym x);
-                      first = subst (λ (x : Lit). WatchIs t starts head c x) q.1 old.second;
-                      second = watch_new t starts head c new free;
+                      first = subst (λ (x : Lit). WatchIs t level_starts head c x) q.1 old.second;
+                      second = watch_new t level_starts head c new free;
                       first_in = (
                         λ x. absurd (n x),
                         λ x. listed_more lists (code_of new) k other k (subst (λ (y : Lit). IsListed lists y k) q.1 (old.second_in.1 (λ y. n (sym q.1 ∙ y)))),
@@ -308,8 +308,8 @@ watching_move db t starts head pairs out other new kept rest lists k c pair at p
                     let n : other ≢ out = λ x. old.apart (q.1 ∙ x ∙ sym q.0) in
                     record {
                       apart = λ x. apart (sym x);
-                      first = subst (λ (x : Lit). WatchIs t starts head c x) q.1 old.first;
-                      second = watch_new t starts head c new free;
+                      first = subst (λ (x : Lit). WatchIs t level_starts head c x) q.1 old.first;
+                      second = watch_new t level_starts head c new free;
                       first_in = (
                         λ x. absurd (n x),
                         λ x. listed_more lists (code_of new) k other k (subst (λ (y : Lit). IsListed lists y k) q.1 (old.first_in.1 (λ y. n (sym q.1 ∙ y)))),
@@ -332,9 +332,9 @@ watching_move db t starts head pairs out other new kept rest lists k c pair at p
     }
 
 -- the next place of the trail was looked at
-pub watching_next : (R : Lit → ℕ → Type 0) (db : List (List Lit)) (t : List Lit) (starts : List ℕ) (head : ℕ) (pairs : List Pair) (out : Lit)
-    → At t head (opposite out) → IsPending t db pairs out [] → IsWatching R db t starts head pairs → IsWatching R db t starts (head + 1) pairs
-watching_next R db t starts head pairs out at pending w = record {
+pub watching_next : (R : Lit → ℕ → Type 0) (db : List (List Lit)) (t : List Lit) (level_starts : List ℕ) (head : ℕ) (pairs : List Pair) (out : Lit)
+    → At t head (opposite out) → IsPending t db pairs out [] → IsWatching R db t level_starts head pairs → IsWatching R db t level_starts (head + 1) pairs
+watching_next R db t level_starts head pairs out at pending w = record {
   head_in = omega (arith, at.0);
   levels = λ s i. let l = w.levels s i in omega (arith, l);
   some = w.some;
@@ -343,8 +343,8 @@ watching_next R db t starts head pairs out at pending w = record {
     | inl base ↦ inl base
     | inr p ↦ inr (record {
       apart = p.apart;
-      first = watch_look t starts head c pair.first (opposite out) at w.levels (cases k c pair a b pair.first (λ e. inl e)) p.first;
-      second = watch_look t starts head c pair.second (opposite out) at w.levels (cases k c pair a b pair.second (λ e. inr e)) p.second;
+      first = watch_look t level_starts head c pair.first (opposite out) at w.levels (cases k c pair a b pair.first (λ e. inl e)) p.first;
+      second = watch_look t level_starts head c pair.second (opposite out) at w.levels (cases k c pair a b pair.second (λ e. inr e)) p.second;
       first_in = p.first_in;
       second_in = p.second_in;
     })
@@ -358,9 +358,9 @@ watching_next R db t starts head pairs out at pending w = record {
       | inr n ↦ inl (λ e. n (sym (opposite-opposite x) ∙ ap opposite (sym e) ∙ opposite-opposite out))
     ]
 
-pub pending_first : (db : List (List Lit)) (t : List Lit) (starts : List ℕ) (head : ℕ) (pairs : List Pair) (out : Lit) (own : List ℕ) (lists : List (List ℕ))
-    → IsWatching (IsListedBut out own lists) db t starts head pairs → IsPending t db pairs out own
-pending_first db t starts head pairs out own lists w k c pair a b has = elim (w.each k c pair a b) [
+pub pending_first : (db : List (List Lit)) (t : List Lit) (level_starts : List ℕ) (head : ℕ) (pairs : List Pair) (out : Lit) (own : List ℕ) (lists : List (List ℕ))
+    → IsWatching (IsListedBut out own lists) db t level_starts head pairs → IsPending t db pairs out own
+pending_first db t level_starts head pairs out own lists w k c pair a b has = elim (w.each k c pair a b) [
   | inl base ↦ inr (base.1, base.2, At-contains t base.0 base.1 base.3)
   | inr p ↦ elim has [ inl e ↦ inl (p.first_in.0 e) | inr e ↦ inl (p.second_in.0 e) ]
 ]

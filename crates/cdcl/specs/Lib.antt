@@ -1,12 +1,15 @@
-pub mod Settled
-pub mod Trail
-pub mod Watching
-pub mod Looks
-pub mod Analysis
-pub mod State
-pub mod Visits
-pub mod Looking
-pub mod Lines
-pub mod Marks
+-- What a caller sees: the answers of `solve`.
 pub mod Outcomes
-pub mod Tests
+-- What the solver keeps: the trail, what it settles, the levels, and what clauses watch.
+pub mod Trail
+pub mod Settled
+pub mod State
+pub mod Watching
+-- What propagation does: a look at one clause, the look through the clauses of a literal, and what a search comes to.
+pub mod Looks
+pub mod Looking
+pub mod Visits
+-- What is learnt from a conflict: marks of variables, the analysis, and the lines of the log.
+pub mod Marks
+pub mod Analysis
+pub mod Lines

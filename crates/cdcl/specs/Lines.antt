@@ -49,6 +49,10 @@ abbrev pub IsLastStep : List (List Lit) → Step → Type 0
 IsLastStep db (Add id clause hints) = (id ≡ length db + 1) × (clause.lits ≡ []) × ChainPasses db [] hints
 IsLastStep db (Delete ids) = ⊥
 
+-- the log is longer by that step
+abbrev pub EndsLog : List (List Lit) → List Step → List Step → Type 0
+EndsLog db old new = (last : Step) × (new ≡ old ++ last ∷ []) × IsLastStep db last
+
 -- lines, and then the empty clause
 pub record EndsEmpty (db : List (List Lit)) (n budget : ℕ) (log : List Step) : Type 0 where
   pub before : List Step

@@ -17,7 +17,7 @@ use Rattle.cdcl.specs.Visits.{IsConflict}
 -- the first clauses watch their literals
 pub record IsWatchful (s : Solver) : Type 0 where
   pub sound : IsSound s
-  pub watching : IsWatching (IsListed s.lists.items) (literals s.clauses.items) (held s.trail.items) s.starts.items s.head s.pairs.items
+  pub watching : IsWatching (IsListed s.lists.items) (literals s.clauses.items) (held s.trail.items) s.level_starts.items s.head s.pairs.items
   pub lists : AreLists s.lists.items (length s.places.items) (length s.pairs.items)
 
 -- all clauses do
@@ -27,7 +27,7 @@ pub record IsReady (s : Solver) : Type 0 where
 
 -- no level has started, and nothing was looked at
 pub record IsFirst (s : Solver) : Type 0 where
-  pub starts : s.starts.items ≡ []
+  pub level_starts : s.level_starts.items ≡ []
   pub head : s.head ≡ 0
 
 pub record IsUnattached (s : Solver) : Type 0 where
@@ -36,18 +36,18 @@ pub record IsUnattached (s : Solver) : Type 0 where
   pub none : s.pairs.items ≡ []
 
 -- The clauses of a literal's list are looked through: those of the indexes kept are done with.
-pub record IsLooking (db : List (List Lit)) (trail : List Entry) (places : List (Option ℕ)) (starts : List ℕ) (head : ℕ) (pairs : List Pair) (lists : List (List ℕ))
+pub record IsLooking (db : List (List Lit)) (trail : List Entry) (places : List (Option ℕ)) (level_starts : List ℕ) (head : ℕ) (pairs : List Pair) (lists : List (List ℕ))
     (lit : Lit) (kept rest : List ℕ) : Type 0 where
-  pub sound : IsState db trail places starts
+  pub sound : IsState db trail places level_starts
   pub denied : Denied (held trail) lit
-  pub watching : IsWatching (IsListedBut lit (kept ++ rest) lists) db (held trail) starts head pairs
+  pub watching : IsWatching (IsListedBut lit (kept ++ rest) lists) db (held trail) level_starts head pairs
   pub lists_are : AreLists lists (length places) (length pairs)
   pub entries : (k : ℕ) → Contains (kept ++ rest) k → k < length pairs
   pub pending : IsPending (held trail) db pairs lit rest
 
 abbrev pub IsLookingAt : Solver → Lit → List ℕ → List ℕ → Type 0
 IsLookingAt s lit kept rest =
-    IsLooking (literals s.clauses.items) s.trail.items s.places.items s.starts.items s.head s.pairs.items s.lists.items lit kept rest
+    IsLooking (literals s.clauses.items) s.trail.items s.places.items s.level_starts.items s.head s.pairs.items s.lists.items lit kept rest
 
 abbrev pub VisitIs : Solver → Lit → List ℕ → List ℕ → ℕ → Visit → Type 0
 VisitIs s lit kept rest k Kept = IsLookingAt s lit (kept ++ k ∷ []) rest
@@ -66,8 +66,8 @@ abbrev pub IsForcedIn : List (List Lit) → List Lit → ℕ → Lit → Type 0
 IsForcedIn db t k l = (c : List Lit) × At db k c × IsForced t c l
 
 -- the literal is put on the trail
-abbrev pub IsPut : List Entry → Lit → List Entry → Type 0
-IsPut old l new = (e : Entry) × (e.lit ≡ l) × (new ≡ old ++ e ∷ [])
+abbrev pub IsEnqueued : List Entry → Lit → List Entry → Type 0
+IsEnqueued old l new = (e : Entry) × (e.lit ≡ l) × (new ≡ old ++ e ∷ [])
 
 abbrev pub IsGrown : List Lit → List Lit → Type 0
 IsGrown t u = (more : List Lit) × (u ≡ t ++ more)
@@ -75,7 +75,7 @@ IsGrown t u = (more : List Lit) × (u ≡ t ++ more)
 -- of what answers rest on, all but the trail stays
 pub record IsSameBeside (old new : Solver) : Type 0 where
   pub clauses : new.clauses ≡ old.clauses
-  pub starts : new.starts ≡ old.starts
+  pub level_starts : new.level_starts ≡ old.level_starts
   pub head : new.head ≡ old.head
   pub pairs : new.pairs ≡ old.pairs
   pub lists : new.lists ≡ old.lists
@@ -84,7 +84,7 @@ pub record IsSameBeside (old new : Solver) : Type 0 where
 -- of that, all but what is watched stays
 pub record IsSameAttached (old new : Solver) : Type 0 where
   pub clauses : new.clauses ≡ old.clauses
-  pub starts : new.starts ≡ old.starts
+  pub level_starts : new.level_starts ≡ old.level_starts
   pub head : new.head ≡ old.head
   pub trail : new.trail ≡ old.trail
   pub len : length new.places.items ≡ length old.places.items
@@ -92,7 +92,7 @@ pub record IsSameAttached (old new : Solver) : Type 0 where
 -- of that, all but the trail and what is watched stays
 pub record Stays (old new : Solver) : Type 0 where
   pub clauses : new.clauses ≡ old.clauses
-  pub starts : new.starts ≡ old.starts
+  pub level_starts : new.level_starts ≡ old.level_starts
   pub head : new.head ≡ old.head
   pub count : length new.pairs.items ≡ length old.pairs.items
   pub len : length new.places.items ≡ length old.places.items
@@ -103,4 +103,4 @@ CanWatch s P a b = (c : List Lit) × At (literals s.clauses.items) (length s.pai
 
 -- the two may be watched
 abbrev pub IsPairFor : Solver → Lit → Lit → List Lit → Type 0
-IsPairFor s a b c = (a ≢ b) × WatchIs (held s.trail.items) s.starts.items s.head c a × WatchIs (held s.trail.items) s.starts.items s.head c b
+IsPairFor s a b c = (a ≢ b) × WatchIs (held s.trail.items) s.level_starts.items s.head c a × WatchIs (held s.trail.items) s.level_starts.items s.head c b

@@ -10,16 +10,16 @@ use Rattle.cdcl.specs.Trail.{held, ArePlaces, AllInRange, AllLow}
 use Rattle.cdcl.specs.Analysis.{AreAllInRange, IsForcedAt}
 
 -- The trail, the places of variables, and where levels start, over clauses.
-pub record IsState (db : List (List Lit)) (trail : List Entry) (places : List (Option ℕ)) (starts : List ℕ) : Type 0 where
+pub record IsState (db : List (List Lit)) (trail : List Entry) (places : List (Option ℕ)) (level_starts : List ℕ) : Type 0 where
   pub places_are : ArePlaces (held trail) places
   pub held_in : AllInRange (held trail) (length places)
   pub held_low : AllLow (held trail)
   pub db_in : AreAllInRange db (length places)
   pub db_low : (c : List Lit) → Contains db c → AllLow c
-  pub rising : (i j a b : ℕ) → i < j → At starts i a → At starts j b → a < b
-  pub under : (s : ℕ) → Contains starts s → s < length trail
-  pub forced : (p : ℕ) → (Contains starts p → ⊥) → IsForcedAt db trail p
-  pub ended : (s : ℕ) → Contains starts s → AllSettled (take s (held trail)) db
+  pub rising : (i j a b : ℕ) → i < j → At level_starts i a → At level_starts j b → a < b
+  pub under : (s : ℕ) → Contains level_starts s → s < length trail
+  pub forced : (p : ℕ) → (Contains level_starts p → ⊥) → IsForcedAt db trail p
+  pub ended : (s : ℕ) → Contains level_starts s → AllSettled (take s (held trail)) db
 
 abbrev pub IsSound : Solver → Type 0
-IsSound s = IsState (literals s.clauses.items) s.trail.items s.places.items s.starts.items
+IsSound s = IsState (literals s.clauses.items) s.trail.items s.places.items s.level_starts.items

@@ -37,7 +37,7 @@ SearchIs s (Some k) = IsConflict s k
 
 -- the last level's start is gone, and the trail from there on
 abbrev pub LeavesLevel : Solver → Solver → Type 0
-LeavesLevel old new = (s : ℕ) × (old.starts.items ≡ new.starts.items ++ s ∷ []) × (new.trail.items ≡ take s old.trail.items)
+LeavesLevel old new = (s : ℕ) × (old.level_starts.items ≡ new.level_starts.items ++ s ∷ []) × (new.trail.items ≡ take s old.trail.items)
 
 abbrev pub IsPrefix : List Entry → List Entry → Type 0
 IsPrefix new old = (k : ℕ) × (new ≡ take k old)
@@ -49,7 +49,7 @@ pub record IsModelled (db : List (List Lit)) (s : Solver) : Type 0 where
 
 -- what is learnt from a conflict on the last level
 abbrev pub IsLearnt : Solver → LearntClause → Type 0
-IsLearnt s learnt = (start : ℕ) × At s.starts.items (length s.starts.items - 1) start
+IsLearnt s learnt = (start : ℕ) × At s.level_starts.items (length s.level_starts.items - 1) start
     × IsLearntClause (literals s.clauses.items) (held s.trail.items) start learnt.lits.items learnt.hints.items learnt.asserted learnt.end
 
 -- the values of variables, from 1 on, make the literals true: those of variables below a number, and all

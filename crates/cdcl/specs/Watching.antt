@@ -31,32 +31,32 @@ HoldsIn t c = (m : Lit) × Contains c m × Contains t m
 
 -- below all levels
 abbrev pub IsBase : List Lit → List ℕ → List Lit → Type 0
-IsBase t starts c = (q : ℕ) × (m : Lit) × Contains c m × At t q m × ((s : ℕ) → Contains starts s → q < s)
+IsBase t level_starts c = (q : ℕ) × (m : Lit) × Contains c m × At t q m × ((s : ℕ) → Contains level_starts s → q < s)
 
 -- for a place of the trail: at no later level
 abbrev pub IsExcused : List Lit → List ℕ → List Lit → ℕ → Type 0
-IsExcused t starts c p = (q : ℕ) × (m : Lit) × Contains c m × At t q m × ((s : ℕ) → Contains starts s → p < s → q < s)
+IsExcused t level_starts c p = (q : ℕ) × (m : Lit) × Contains c m × At t q m × ((s : ℕ) → Contains level_starts s → p < s → q < s)
 
 -- each place that was looked at and makes the watched literal false is excused
 abbrev pub WatchIs : List Lit → List ℕ → ℕ → List Lit → Lit → Type 0
-WatchIs t starts head c w = (p : ℕ) → p < head → At t p (opposite w) → IsExcused t starts c p
+WatchIs t level_starts head c w = (p : ℕ) → p < head → At t p (opposite w) → IsExcused t level_starts c p
 
 -- the clause of the index watches the two literals, and is listed with both
-pub record IsPaired (R : Lit → ℕ → Type 0) (t : List Lit) (starts : List ℕ) (head k : ℕ) (c : List Lit) (pair : Pair) : Type 0 where
+pub record IsPaired (R : Lit → ℕ → Type 0) (t : List Lit) (level_starts : List ℕ) (head k : ℕ) (c : List Lit) (pair : Pair) : Type 0 where
   pub apart : pair.first ≢ pair.second
-  pub first : WatchIs t starts head c pair.first
-  pub second : WatchIs t starts head c pair.second
+  pub first : WatchIs t level_starts head c pair.first
+  pub second : WatchIs t level_starts head c pair.second
   pub first_in : R pair.first k
   pub second_in : R pair.second k
 
 -- The places below `head` were looked at, and the first clauses have pairs. Each has a true literal below all levels, or
 -- watches its pair.
-pub record IsWatching (R : Lit → ℕ → Type 0) (db : List (List Lit)) (t : List Lit) (starts : List ℕ) (head : ℕ) (pairs : List Pair) : Type 0 where
+pub record IsWatching (R : Lit → ℕ → Type 0) (db : List (List Lit)) (t : List Lit) (level_starts : List ℕ) (head : ℕ) (pairs : List Pair) : Type 0 where
   pub head_in : head ≤ length t
-  pub levels : (s : ℕ) → Contains starts s → s ≤ head
+  pub levels : (s : ℕ) → Contains level_starts s → s ≤ head
   pub some : length pairs ≤ length db
   pub inside : (k : ℕ) (c : List Lit) (pair : Pair) → At db k c → At pairs k pair → Contains c pair.first × Contains c pair.second
-  pub each : (k : ℕ) (c : List Lit) (pair : Pair) → At db k c → At pairs k pair → IsBase t starts c ⊎ IsPaired R t starts head k c pair
+  pub each : (k : ℕ) (c : List Lit) (pair : Pair) → At db k c → At pairs k pair → IsBase t level_starts c ⊎ IsPaired R t level_starts head k c pair
 
 abbrev pub HasWatch : Pair → Lit → Type 0
 HasWatch pair l = (pair.first ≡ l) ⊎ (pair.second ≡ l)

@@ -3,13 +3,11 @@
 
 mod analysis;
 mod look;
-mod order;
+pub mod order;
 mod outcome;
-mod restart;
+pub mod restart;
 mod seen;
 mod solver;
-#[cfg(test)]
-mod tests;
 mod trail;
 mod watch;
 

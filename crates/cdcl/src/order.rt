@@ -44,7 +44,7 @@ fn is_open(places: &[Option<usize>], var: u32) -> bool
 }
 
 /// The first variable that has no value.
-pub(crate) fn first_open(places: &[Option<usize>]) -> Option<u32>
+pub fn first_open(places: &[Option<usize>]) -> Option<u32>
     requires small { length places.now ≤ 2 ^ 32 }
     ensures { NextIs places.now result }
 {
@@ -58,7 +58,7 @@ pub(crate) fn first_open(places: &[Option<usize>]) -> Option<u32>
 
 impl Order {
     /// An order of variables from 1 to a number, none of which was met.
-    pub(crate) fn new(alloc: Global, vars: u32) -> Result<Order, NoMemory> {
+    pub fn new(alloc: Global, vars: u32) -> Result<Order, NoMemory> {
         let mut standings = Vec::with_capacity(alloc, vars as usize + 1)?;
         let mut heap = Vec::with_capacity(alloc, vars as usize)?;
         standings.push(Standing {
@@ -83,14 +83,14 @@ impl Order {
     }
 
     /// The value that a variable last had; false at first.
-    pub(crate) fn value(&self, var: u32) -> bool {
+    pub fn value(&self, var: u32) -> bool {
         self.standings
             .get(var as usize)
             .is_some_and(|standing| standing.positive)
     }
 
     /// An open variable, the most active one of the heap; none where all variables have values.
-    pub(crate) fn next(&mut self, places: &[Option<usize>]) -> Option<u32>
+    pub fn next(&mut self, places: &[Option<usize>]) -> Option<u32>
         requires small { length places.now ≤ 2 ^ 32 }
         ensures { NextIs places.now result }
     {
@@ -105,7 +105,7 @@ impl Order {
     }
 
     /// Keeps the value of a variable that loses it, and has it decided again.
-    pub(crate) fn put_back(&mut self, lit: Lit) {
+    pub fn put_back(&mut self, lit: Lit) {
         if let Some(standing) = self.standings.get_mut(lit.var as usize) {
             standing.positive = lit.positive;
             if standing.place.is_none() {
@@ -115,7 +115,7 @@ impl Order {
     }
 
     /// Raises the activity of the variables that a conflict met.
-    pub(crate) fn raise(&mut self, met: &[u32]) {
+    pub fn raise(&mut self, met: &[u32]) {
         for var in met {
             self.raise_one(*var);
         }

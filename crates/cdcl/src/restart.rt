@@ -13,7 +13,7 @@ pub struct Restarts {
 }
 
 impl Restarts {
-    pub(crate) fn new() -> Restarts {
+    pub fn new() -> Restarts {
         Restarts {
             turn: 1,
             length: 1,
@@ -22,7 +22,7 @@ impl Restarts {
     }
 
     /// Counts a search, and tells whether it is to start anew.
-    pub(crate) fn is_due(&mut self) -> bool {
+    pub fn is_due(&mut self) -> bool {
         if self.left > 1 {
             self.left -= 1;
             return false;

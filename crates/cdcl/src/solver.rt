@@ -9,20 +9,28 @@ ghost use Rattle.cdcl.specs.Analysis.{AreAllInRange};
 ghost use Rattle.cdcl.specs.State.{IsSound};
 ghost use Rattle.cdcl.specs.Marks.{AllClear, AllMet};
 ghost use Rattle.cdcl.specs.Watching.{AreLists, IsBase};
-ghost use Rattle.cdcl.specs.Looking.{IsForcedIn, IsPut, IsSameBeside, IsSameAttached, Stays, IsGrown, FoundIsAt, IsLookingAt, VisitIs, LookedIs, IsReady, IsWatchful, IsUnattached, IsFirst, CanWatch, IsPairFor};
+ghost use Rattle.cdcl.specs.Looking.{IsForcedIn, IsEnqueued, IsSameBeside, IsSameAttached, Stays, IsGrown, FoundIsAt, IsLookingAt, VisitIs, LookedIs, IsReady, IsWatchful, IsUnattached, IsFirst, CanWatch, IsPairFor};
 ghost use Rattle.cdcl.specs.Visits.{ConflictIs, OpenVarIs, SearchIs, IsStill, LeavesLevel, IsPrefix, IsConflict, IsLearnt, AgreesWith};
-ghost use Rattle.cdcl.specs.Lines.{Adds, IsLineStep, IsLastStep, VerdictIs, added_lits};
+ghost use Rattle.cdcl.specs.Lines.{Adds, EndsLog, IsLineStep, VerdictIs, added_lits};
 
 use crate::analysis::{LearntClause, analyze, refute};
 use crate::look::{Found, Watches, literals_at, seek, watches_of};
 use crate::order::{Order, first_open};
 use crate::restart::Restarts;
 use crate::seen::SeenBuffer;
-use crate::trail::{Entry, cut, lit_at, put, truth_of, value_at};
+use crate::trail::{Entry, cut, enqueue, lit_at, truth_of, value_at};
 use crate::watch::{Pair, close_gap, code, other_of, push_index, put_list, take_list};
 use cnf_form::{Clause, Cnf, Lit, Step, Truth};
 use cqa_value::{Items, NoMemory};
 use std::alloc::Global;
+
+/// How a search ends.
+#[derive(Clone, Copy, PartialEq, Eq)]
+pub enum Verdict {
+    Sat,
+    Unsat,
+    Spent,
+}
 
 /// What came of a visit to a clause that watches a literal which is false.
 #[derive(Clone, Copy)]
@@ -72,7 +80,8 @@ pub(crate) struct Solver {
     clauses: Vec<Clause>,
     trail: Vec<Entry>,
     places: Vec<Option<usize>>,
-    starts: Vec<usize>,
+    /// The place of the trail at which each level starts.
+    level_starts: Vec<usize>,
     /// The first place of the trail that was not looked at.
     head: usize,
     /// What each clause watches.
@@ -98,7 +107,7 @@ impl Solver {
             clauses: cnf.copy(alloc)?.clauses.into_vec(),
             trail: Vec::new(alloc),
             places: no_places(alloc, cnf.vars as usize + 1)?,
-            starts: Vec::new(alloc),
+            level_starts: Vec::new(alloc),
             head: 0,
             pairs: Vec::new(alloc),
             lists: no_lists(alloc, cnf.vars as usize + 1)?,
@@ -137,14 +146,14 @@ impl Solver {
         requires sound { IsSound self.old }
         requires forced { IsForcedIn (literals self.old.clauses.items) (held self.old.trail.items) index lit }
         ensures sound { OnOk result (IsSound self.new) }
-        ensures trail { OnOk result (IsPut self.old.trail.items lit self.new.trail.items) }
+        ensures trail { OnOk result (IsEnqueued self.old.trail.items lit self.new.trail.items) }
         ensures same { IsSameBeside self.old self.new }
     {
         let entry = Entry {
             lit,
             reason: Some(index),
         };
-        put(&mut self.trail, &mut self.places, entry)?;
+        enqueue(&mut self.trail, &mut self.places, entry)?;
         Ok(())
     }
 
@@ -226,7 +235,7 @@ impl Solver {
         requires { IsReady self.old }
         ensures ready { OnOk result (IsReady self.new) }
         ensures clauses { self.new.clauses ≡ self.old.clauses }
-        ensures starts { self.new.starts ≡ self.old.starts }
+        ensures level_starts { self.new.level_starts ≡ self.old.level_starts }
         ensures grows { OnOk result (length self.old.trail.items ≤ length self.new.trail.items) }
         ensures len { length self.new.places.items ≡ length self.old.places.items }
         ensures conflict { IfOk result (λ r. ConflictIs self.new r) }
@@ -259,7 +268,7 @@ impl Solver {
     /// Passes over the next clause, which has a literal that is true below all levels.
     fn attach_none(&mut self, lit: Lit) -> Result<(), NoMemory>
         requires watchful { IsWatchful self.old }
-        requires base { CanWatch self.old (IsBase (held self.old.trail.items) self.old.starts.items) lit lit }
+        requires base { CanWatch self.old (IsBase (held self.old.trail.items) self.old.level_starts.items) lit lit }
         ensures watchful { OnOk result (IsWatchful self.new) }
         ensures same { IsSameAttached self.old self.new }
         ensures count { OnOk result (length self.new.pairs.items ≡ length self.old.pairs.items + 1) }
@@ -294,12 +303,12 @@ impl Solver {
         ensures trail { OnOk result (length self.old.trail.items < length self.new.trail.items) }
     {
         let start = self.trail.len();
-        self.starts.push(start)?;
+        self.level_starts.push(start)?;
         let lit = Lit {
             var,
             positive: self.order.value(var),
         };
-        put(
+        enqueue(
             &mut self.trail,
             &mut self.places,
             Entry { lit, reason: None },
@@ -315,7 +324,7 @@ impl Solver {
         ensures len { length self.new.places.items ≡ length self.old.places.items }
     {
         if self.restarts.is_due() {
-            self.back_to(0);
+            self.backjump(0);
         }
     }
 
@@ -341,32 +350,34 @@ impl Solver {
     }
 
     /// Leaves the last level.
-    fn leave(&mut self)
+    fn leave_level(&mut self)
         requires ready { IsReady self.old }
-        requires level { 0 < length self.old.starts.items }
+        requires level { 0 < length self.old.level_starts.items }
         ensures ready { IsReady self.new }
         ensures clauses { self.new.clauses ≡ self.old.clauses }
         ensures len { length self.new.places.items ≡ length self.old.places.items }
         ensures leave { LeavesLevel self.old self.new }
     {
-        if let Some(start) = self.starts.pop() {
+        if let Some(start) = self.level_starts.pop() {
             cut(&mut self.trail, &mut self.places, &mut self.order, start);
             self.head = self.head.min(start);
         }
     }
 
     /// Leaves the levels that start at `end` or later.
-    fn back_to(&mut self, end: usize)
+    fn backjump(&mut self, end: usize)
         requires ready { IsReady self.old }
         ensures ready { IsReady self.new }
         ensures clauses { self.new.clauses ≡ self.old.clauses }
         ensures len { length self.new.places.items ≡ length self.old.places.items }
-        ensures below { (s : ℕ) → Contains self.new.starts.items s → s < end }
+        ensures below { (s : ℕ) → Contains self.new.level_starts.items s → s < end }
         ensures kept { take end (held self.new.trail.items) ≡ take end (held self.old.trail.items) }
         ensures fewer { IsPrefix self.new.trail.items self.old.trail.items }
     {
-        while !self.starts.is_empty() && self.starts[self.starts.len() - 1] >= end {
-            self.leave();
+        while !self.level_starts.is_empty()
+            && self.level_starts[self.level_starts.len() - 1] >= end
+        {
+            self.leave_level();
         }
     }
 
@@ -376,8 +387,8 @@ impl Solver {
         requires range { AllInRange lits.items (length self.old.places.items) }
         requires low { AllLow lits.items }
         requires forced { IsForced (held self.old.trail.items) lits.items asserted }
-        requires settled { (s : ℕ) → Contains self.old.starts.items s → IsSettled (take s (held self.old.trail.items)) lits.items }
-        requires below { (s : ℕ) → Contains self.old.starts.items s → s < end }
+        requires settled { (s : ℕ) → Contains self.old.level_starts.items s → IsSettled (take s (held self.old.trail.items)) lits.items }
+        requires below { (s : ℕ) → Contains self.old.level_starts.items s → s < end }
         requires last { (k : ℕ) → end ≡ k + 1 → (m : Lit) × Contains lits.items m × At (held self.old.trail.items) k (opposite m) }
         ensures ready { OnOk result (IsReady self.new) }
         ensures added { OnOk result (literals self.new.clauses.items ≡ literals self.old.clauses.items ++ lits.items ∷ []) }
@@ -406,13 +417,13 @@ impl Solver {
     ) -> Result<LearntClause, NoMemory>
         requires sound { IsSound self.now }
         requires conflict { IsConflict self.now conflict }
-        requires level { 0 < length self.now.starts.items }
+        requires level { 0 < length self.now.level_starts.items }
         requires clear { AllClear seen.items }
         requires len { length seen.items ≡ length self.now.places.items }
         ensures learnt { IfOk result (λ learnt. IsLearnt self.now learnt) }
         ensures met { IfOk result (λ learnt. AllMet learnt.seen.items learnt.met.items) }
     {
-        let start = self.starts[self.starts.len() - 1];
+        let start = self.level_starts[self.level_starts.len() - 1];
         analyze(
             alloc,
             self.clauses.as_slice(),
@@ -428,7 +439,7 @@ impl Solver {
     fn learn(&mut self, alloc: Global, conflict: usize) -> Result<Step, NoMemory>
         requires ready { IsReady self.old }
         requires conflict { IsConflict self.old conflict }
-        requires level { 0 < length self.old.starts.items }
+        requires level { 0 < length self.old.level_starts.items }
         ensures ready { OnOk result (IsReady self.new) }
         ensures len { length self.new.places.items ≡ length self.old.places.items }
         ensures added { IfOk result (λ step. literals self.new.clauses.items ≡ literals self.old.clauses.items ++ added_lits step ∷ []) }
@@ -440,18 +451,18 @@ impl Solver {
         self.seen.put_back(learnt.seen, learnt.met.as_slice());
         let id = self.clauses.len() as u64 + 1;
         let lits = Vec::from_slice(alloc, learnt.lits.as_slice())?;
-        self.leave();
-        self.back_to(learnt.end);
+        self.leave_level();
+        self.backjump(learnt.end);
         self.add_learnt(lits, learnt.asserted, learnt.end)?;
         Ok(step_of(id, learnt.lits, learnt.hints))
     }
 
-    /// The step that adds the empty clause.
-    fn end(&self, alloc: Global, conflict: usize) -> Result<Step, NoMemory>
+    /// Ends the log with the empty clause, where a clause is false and no level has started.
+    fn end(&self, alloc: Global, conflict: usize, log: &mut Vec<Step>) -> Result<(), NoMemory>
         requires sound { IsSound self.now }
         requires conflict { IsConflict self.now conflict }
-        requires level { length self.now.starts.items ≡ 0 }
-        ensures { IfOk result (λ step. IsLastStep (literals self.now.clauses.items) step) }
+        requires level { length self.now.level_starts.items ≡ 0 }
+        ensures { OnOk result (EndsLog (literals self.now.clauses.items) log.old.items log.new.items) }
     {
         let id = self.clauses.len() as u64 + 1;
         let hints = refute(
@@ -461,7 +472,8 @@ impl Solver {
             self.places.as_slice(),
             conflict,
         )?;
-        Ok(step_of(id, Vec::new(alloc), hints))
+        log.push(step_of(id, Vec::new(alloc), hints))?;
+        Ok(())
     }
 
     /// Has the next clause watch two of its literals; one of one literal forces it. Gives the clause where it is false.
@@ -527,18 +539,18 @@ impl Solver {
             match self.search(alloc)? {
                 None => return Ok(Verdict::Sat),
                 Some(conflict) => {
-                    if self.starts.is_empty() {
-                        log.push(self.end(alloc, conflict)?)?;
+                    if self.level_starts.is_empty() {
+                        self.end(alloc, conflict, log)?;
                         return Ok(Verdict::Unsat);
                     }
                     log.push(self.learn(alloc, conflict)?)?;
                 }
             }
         }
-        self.back_to(0);
+        self.backjump(0);
         match self.propagate(alloc)? {
             Some(conflict) => {
-                log.push(self.end(alloc, conflict)?)?;
+                self.end(alloc, conflict, log)?;
                 Ok(Verdict::Unsat)
             }
             None => match self.open_var() {
@@ -563,17 +575,9 @@ impl Solver {
         match self.attach_all()? {
             None => self.search_and_learn(alloc, budget, log),
             Some(conflict) => {
-                log.push(self.end(alloc, conflict)?)?;
+                self.end(alloc, conflict, log)?;
                 Ok(Verdict::Unsat)
             }
         }
     }
-}
-
-/// How a search ends.
-#[derive(Clone, Copy, PartialEq, Eq)]
-pub enum Verdict {
-    Sat,
-    Unsat,
-    Spent,
 }

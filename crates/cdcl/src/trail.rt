@@ -86,7 +86,7 @@ pub(crate) fn place_after(trail: &[Entry], places: &[Option<usize>], var: u32) -
 }
 
 /// Puts an open literal on the trail.
-pub(crate) fn put(
+pub(crate) fn enqueue(
     trail: &mut Vec<Entry>,
     places: &mut Vec<Option<usize>>,
     entry: Entry,

@@ -7,6 +7,7 @@ use Rattle.cnf_form.specs.declared.formula.Lit.{Lit}
 use Rattle.cnf_form.specs.declared.formula.Cnf.{Cnf}
 use Rattle.cnf_form.specs.declared.fault.FormatFault.{FormatFault}
 use Rattle.cnf_form.specs.declared.fault.Part.TheVariants as part
+use Rattle.cnf_form.specs.declared.header.TheConstants.{MOST_CLAUSES, MOST_VARIABLES}
 use Rattle.cnf_form.specs.Literals.{literals, negated}
 use Rattle.cnf_form.specs.Lines.{is_comment, is_nil, is_skipped, lines, tokens}
 use Rattle.cnf_form.specs.Numbers.{signed_of, unsigned_of}
@@ -84,7 +85,7 @@ both (Some a) (Some b) = Some (a, b)
 -- `p`, `cnf`, how many variables, and how many clauses
 abbrev pub header_by : List ℕ → List ℕ → List ℕ → List ℕ → List ℕ → Option (ℕ × ℕ)
 header_by p cnf v m rest =
-    cond (pointwise nat_eq p (112 ∷ []) && pointwise nat_eq cnf (99 ∷ 110 ∷ 102 ∷ []) && is_nil rest) (both (unsigned_of 10000000 v) (unsigned_of 4294967295 m)) None
+    cond (pointwise nat_eq p (112 ∷ []) && pointwise nat_eq cnf (99 ∷ 110 ∷ 102 ∷ []) && is_nil rest) (both (unsigned_of MOST_VARIABLES v) (unsigned_of MOST_CLAUSES m)) None
 
 -- the four tokens of a header, and no more
 abbrev pub header : List (List ℕ) → Option (ℕ × ℕ)

@@ -1,3 +1,4 @@
+-- Literals to Spent: what formulas and logs mean. Lines to Writing: how formulas are written and read.
 pub mod Literals
 pub mod Logs
 pub mod Propagation

@@ -8,6 +8,7 @@ use Rattle.cnf_form.specs.declared.formula.Cnf.{Cnf}
 use Rattle.cqa_value.specs.declared.memory.Fail.{Fail}
 use Rattle.cqa_value.specs.declared.memory.Fail.TheVariants.{NoMemory, Refused}
 use Rattle.cnf_form.specs.declared.fault.FormatFault.{FormatFault}
+use Rattle.cnf_form.specs.declared.header.TheConstants.{MOST_CLAUSES, MOST_VARIABLES}
 use Rattle.cnf_form.specs.Literals.{IsInRange}
 use Rattle.cnf_form.specs.Lines.{lines}
 
@@ -32,8 +33,8 @@ formula_bytes cnf = header_line cnf ++ 10 ∷ flat_map clause_line cnf.clauses
 
 -- What the text of a formula allows: its numbers are in range, and each literal's variable is from 1 to that of the variables.
 pub record IsWritable (cnf : Cnf) : Type 0 where
-  pub vars : cnf.vars ≤ 10000000
-  pub clauses : length cnf.clauses ≤ 4294967295
+  pub vars : cnf.vars ≤ MOST_VARIABLES
+  pub clauses : length cnf.clauses ≤ MOST_CLAUSES
   pub literals : IsInRange cnf
 
 -- the text of a formula, the line `lrat`, and what follows

@@ -8,8 +8,8 @@ ghost use Rattle.cnf_form.specs.Reading.{Goes, ReadIs, outcome};
 
 use crate::scan::{Next, Signed, is_comment_line, is_lrat_line, next_number, skip_line};
 use crate::{Clause, Lit};
-use cqa_value::Items;
-use std::alloc::{AllocError, Global};
+use cqa_value::{Items, NoMemory};
+use std::alloc::Global;
 
 /// What was read of the clauses: how many are to come, the literals of the next, and those before.
 #[derive(Drop)]
@@ -27,7 +27,7 @@ pub enum Read<'a> {
 }
 
 /// Takes a number that a token writes, and answers false where it is one too many.
-fn take_number(alloc: Global, body: &mut Body, number: Signed) -> Result<bool, AllocError>
+fn take_number(alloc: Global, body: &mut Body, number: Signed) -> Result<bool, NoMemory>
     requires { number.size < 2 ^ 32 }
     ensures { IfOk result (λ ok. (vars missing n : ℕ) (token : List ℕ) (later : List Token) → signed_of vars token ≡ Some (number.negative, number.size) → Goes (outcome vars missing body.old ((n, token) ∷ later)) n (outcome vars missing body.new later) ok) }
 {
@@ -55,7 +55,7 @@ fn take_line<'a>(
     vars: u32,
     body: &mut Body,
     text: &'a [u8],
-) -> Result<Option<&'a [u8]>, AllocError>
+) -> Result<Option<&'a [u8]>, NoMemory>
     ensures { IfOk result (λ r. MatchOption r
         ((missing n : ℕ) (later : List Token) → outcome vars missing body.old (tagged n (tokens (line_of text.now)) ++ later) ≡ Err n)
         (λ rest. (rest.now ≡ after_line text.now) × ((missing n : ℕ) (later : List Token) → outcome vars missing body.old (tagged n (tokens (line_of text.now)) ++ later) ≡ outcome vars missing body.new later))) }
@@ -80,7 +80,7 @@ fn take_content<'a>(
     vars: u32,
     body: &mut Body,
     text: &'a [u8],
-) -> Result<Option<&'a [u8]>, AllocError>
+) -> Result<Option<&'a [u8]>, NoMemory>
     ensures { IfOk result (λ r. MatchOption r
         ((missing n : ℕ) (later : List Token) → outcome vars missing body.old (content n (line_of text.now) ++ later) ≡ Err n)
         (λ rest. (rest.now ≡ after_line text.now) × ((missing n : ℕ) (later : List Token) → outcome vars missing body.old (content n (line_of text.now) ++ later) ≡ outcome vars missing body.new later))) }
@@ -99,7 +99,7 @@ pub fn read_body<'a>(
     body: &mut Body,
     text: &'a [u8],
     first: u64,
-) -> Result<Read<'a>, AllocError>
+) -> Result<Read<'a>, NoMemory>
     requires { first + length text.now < 2 ^ 64 }
     ensures { IfOk result (λ r. ReadIs vars body.old body.new first text.now r) }
 {

@@ -1,3 +1,5 @@
+//! The faults of texts of formulas and logs.
+
 use thiserror::Error;
 
 /// The parts of a proof's text.

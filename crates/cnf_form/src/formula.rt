@@ -1,3 +1,5 @@
+//! Literals, clauses and formulas.
+
 ghost use Rattle.std.specs.Prelude.{◌≡◌, IfOk};
 ghost use Rattle.cnf_form.specs.Literals.{opposite};
 

@@ -8,9 +8,9 @@ ghost use Rattle.cnf_form.specs.Reading.{FindIs};
 use crate::scan::{is_lrat_line, is_skipped_line, next_token, read_unsigned, skip_line};
 
 /// The greatest number of variables that a header may tell.
-const MAX_VARS: u64 = 10_000_000;
+pub const MOST_VARIABLES: u64 = 10_000_000;
 /// The greatest number of clauses that a header may tell.
-const MAX_CLAUSES: u64 = u32::MAX as u64;
+pub const MOST_CLAUSES: u64 = u32::MAX as u64;
 
 /// How many variables and clauses a formula has.
 #[derive(Clone, Copy)]
@@ -34,8 +34,8 @@ fn header_from(p: &[u8], cnf: &[u8], vars: &[u8], count: &[u8], rest: &[u8]) -> 
     if !(p == b"p".as_slice() && cnf == b"cnf".as_slice() && rest.is_empty()) {
         return None;
     }
-    let vars = read_unsigned(vars, MAX_VARS)?;
-    let count = read_unsigned(count, MAX_CLAUSES)?;
+    let vars = read_unsigned(vars, MOST_VARIABLES)?;
+    let count = read_unsigned(count, MOST_CLAUSES)?;
     Some(Header {
         vars: vars as u32,
         count: count as u32,

@@ -9,8 +9,6 @@ pub mod laws;
 mod log;
 mod reading;
 pub mod scan;
-#[cfg(test)]
-mod tests;
 mod writing;
 
 pub use fault::{FormatFault, Part};

@@ -1,3 +1,5 @@
+//! Logs: steps that add clauses, each with its hints, and steps that delete some.
+
 ghost use Rattle.std.specs.Prelude.{◌≡◌, IfOk};
 
 use crate::Clause;

@@ -1,3 +1,5 @@
+//! Reads formulas.
+
 ghost use Rattle.std.specs.Prelude.{◌≡◌, ℕ, List};
 ghost use Rattle.cqa_value.specs.declared.memory.Fail.TheVariants.{Refused};
 ghost use Rattle.cnf_form.specs.declared.fault.Part.TheVariants as part;

@@ -1,3 +1,4 @@
 pub mod Members
 pub mod Growing
 pub mod Sameness
+pub mod Naming

@@ -1,3 +1,5 @@
+//! Sets of the atoms of a query.
+
 /// A set of a query's atoms, each by its place, 0 to 11.
 #[derive(Clone, Copy)]
 pub struct AtomSet {

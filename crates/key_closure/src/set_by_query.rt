@@ -1,9 +1,11 @@
+//! Sets of a view's variables, for a caller who hasn't named them.
+
 ghost use Rattle.std.specs.Prelude.{ℕ, ◌<◌, ◌↔◌, length};
 ghost use Rattle.cqa_model.specs.Variables.{IsKeyVar, IsVar};
 ghost use Rattle.cqa_model.specs.Closures.{InClosure};
 ghost use Rattle.key_closure.specs.Members.{IsAmong, IsIn, IsProper, IsSetOf, IsUsed, seen};
 
-use crate::{AtomSet, VarSet, View, named};
+use crate::{AtomSet, Named, VarSet, View};
 use cqa_model::{Query, variables};
 
 /// key(F): the variables of an atom's key columns that are neither constants nor fixed.
@@ -12,7 +14,12 @@ pub fn key_set(query: &Query, view: &View, atom: u32) -> VarSet
     ensures is { IsSetOf query.now result (IsKeyVar query.now (seen query.now view.now) atom) }
     ensures proper { IsProper query.now result }
 {
-    named::key_set(query, &variables(query), view, atom)
+    let named = Named {
+        query,
+        variables: variables(query),
+        view: *view,
+    };
+    named.key_set(atom)
 }
 
 /// vars(F): the variables of an atom's columns that are neither constants nor fixed.
@@ -21,7 +28,12 @@ pub fn var_set(query: &Query, view: &View, atom: u32) -> VarSet
     ensures is { IsSetOf query.now result (IsVar query.now (seen query.now view.now) atom) }
     ensures proper { IsProper query.now result }
 {
-    named::var_set(query, &variables(query), view, atom)
+    let named = Named {
+        query,
+        variables: variables(query),
+        view: *view,
+    };
+    named.var_set(atom)
 }
 
 /// The closure of a set under the dependencies key(K) → vars(K) of the view's atoms K, but for one where it is given.
@@ -29,15 +41,20 @@ pub fn closure(query: &Query, view: &View, start: &VarSet, without: Option<u32>)
     ensures is { IsSetOf query.now result (InClosure query.now (seen query.now view.now) (IsUsed query.now view.now without) (IsIn query.now start.now)) }
     ensures proper { IsProper query.now start.now → IsProper query.now result }
 {
-    let atoms = used(query, view, without);
-    named::closure(query, &variables(query), view, start, &atoms)
+    let named = Named {
+        query,
+        variables: variables(query),
+        view: *view,
+    };
+    let atoms = used(&named, without);
+    named.closure(start, &atoms)
 }
 
 /// The atoms that are left, but one.
-fn used(query: &Query, view: &View, without: Option<u32>) -> AtomSet
-    ensures { (K : ℕ) → IsAmong query.now result K ↔ IsUsed query.now view.now without K }
+fn used(named: &Named<'_>, without: Option<u32>) -> AtomSet
+    ensures { (K : ℕ) → IsAmong named.now.query.now result K ↔ IsUsed named.now.query.now named.now.view without K }
 {
-    let mut atoms = named::left(query, view);
+    let mut atoms = named.left();
     if let Some(atom) = without {
         if atom < 12 && atoms.has(atom) {
             atoms.remove(atom);

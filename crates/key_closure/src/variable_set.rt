@@ -1,3 +1,5 @@
+//! Sets of the variables of a query.
+
 /// A set of variables, each by its class, 0 to 191.
 #[derive(Clone, Copy)]
 pub struct VarSet {

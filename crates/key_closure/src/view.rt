@@ -1,4 +1,6 @@
-use crate::{AtomSet, VarSet, named};
+//! What is left of a query once atoms are taken out of it.
+
+use crate::{AtomSet, Named, VarSet};
 use cqa_model::{Query, variables};
 
 /// The rest of a query: the atoms that were taken out of it, and the variables that count as constants besides.
@@ -30,6 +32,11 @@ impl View {
         ensures is { AreSame (after query.now (seen query.now self.now) atom) (seen query.now result) }
         ensures proper { IsProper query.now self.now.fixed → IsProper query.now result.fixed }
     {
-        named::after(query, &variables(query), self, atom)
+        let named = Named {
+            query,
+            variables: variables(query),
+            view: *self,
+        };
+        named.after(atom)
     }
 }

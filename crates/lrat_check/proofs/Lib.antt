@@ -1,3 +1,4 @@
+-- Lemmas of the checker, and of how logs are read and written.
 mod Deleted
 pub mod Exact
 mod Followed
@@ -6,7 +7,7 @@ mod Reaching
 mod MarkLemmas
 mod Shown
 mod Stored
-mod Takes
+pub mod Takes
 mod StepLines
 mod LogLines
 mod RoundTrip

@@ -21,7 +21,8 @@ use Rattle.cnf_form.specs.Writing.{lit_bytes}
 use Rattle.cnf_form.proofs.Numerals.{NoEnds, decimal_begins, decimal_no_ends, decimal_signed, decimal_some, decimal_unsigned, minus_signed}
 use Rattle.cnf_form.proofs.Cuts.{NoLf, line_cut, no_lf, no_lf_both, no_mark, token_space}
 use Rattle.cnf_form.proofs.RoundTrip.{AreSmall, Begins, are_small, begins_more, clause_no_lf, clause_tokens, lit_begins, lit_signed, lit_token, literal_back, zero_signed}
-use Rattle.lrat_check.specs.LogTexts.{LogIs, add_step, addition_of, by_first, by_hint, by_lit, by_line, ended, greatest, hint_value, hints_of, ids_of, line_steps, log_of, one_step, step_after, step_of, then_steps}
+use Rattle.lrat_check.specs.declared.reading.TheConstants.{GREATEST_ID}
+use Rattle.lrat_check.specs.LogTexts.{LogIs, add_step, addition_of, by_first, by_hint, by_lit, by_line, ended, hint_value, hints_of, ids_of, line_steps, log_of, one_step, step_after, step_of, then_steps}
 use Rattle.lrat_check.specs.Writing.{AreHints, IsHint, IsWritableLog, ReadsBack, hint_bytes, log_bytes, log_lines, step_line, used_after}
 
 -- hints
@@ -38,10 +39,10 @@ hint_number : ℤ → Bool × ℕ
 hint_number (pos n) = (false, n)
 hint_number (negsuc n) = (true, suc n)
 
-hint_signed : (h : ℤ) → IsHint h → signed_of greatest (signed_decimal h) ≡ Some (hint_number h)
+hint_signed : (h : ℤ) → IsHint h → signed_of GREATEST_ID (signed_decimal h) ≡ Some (hint_number h)
 unfolding hint_number
-hint_signed (pos n) i = decimal_signed greatest n i.1 (omega (arith, i.1))
-hint_signed (negsuc n) i = minus_signed greatest (suc n) (omega (arith, i)) (omega (arith, i))
+hint_signed (pos n) i = decimal_signed GREATEST_ID n i.1 (omega (arith, i.1))
+hint_signed (negsuc n) i = minus_signed GREATEST_ID (suc n) (omega (arith, i)) (omega (arith, i))
 
 hint_back : (h : ℤ) → hint_value (hint_number h) ≡ h
 unfolding hint_number
@@ -69,7 +70,7 @@ hints_no_lf (h ∷ hs) a = subst NoLf (sym (hint_split h hs (48 ∷ [])))
     (no_lf_both (signed_decimal h) (32 ∷ (flat_map hint_bytes hs ++ 48 ∷ [])) (no_lf (signed_decimal h) (hint_no_ends h a.0)) (refl, hints_no_lf hs a.1))
 
 hints_back : (hs : List ℤ) → AreHints hs → hints_of (map signed_decimal hs ++ (48 ∷ []) ∷ []) ≡ Some hs
-hints_back [] a = ap (λ (o : Option (Bool × ℕ)). by_hint o (Some []) None) (zero_signed greatest)
+hints_back [] a = ap (λ (o : Option (Bool × ℕ)). by_hint o (Some []) None) (zero_signed GREATEST_ID)
 hints_back (h ∷ hs) a =
     let rest : List (List ℕ) = map signed_decimal hs ++ (48 ∷ []) ∷ [] in
     ap (λ (o : Option (Bool × ℕ)). by_hint o (ended rest) (hints_of rest)) (hint_signed h a.0)
@@ -91,7 +92,7 @@ lits_back vars (l ∷ c) ts hs s a e =
 add_line : ℕ → List Lit → List ℤ → List ℕ
 add_line id c hs = decimal id ++ 32 ∷ (flat_map lit_bytes c ++ 48 ∷ 32 ∷ (flat_map hint_bytes hs ++ 48 ∷ []))
 
-add_tokens : (vars id : ℕ) (c : List Lit) (hs : List ℤ) → vars < 2 ^ 64 → id ≤ greatest → AreSmall vars c → AreHints hs
+add_tokens : (vars id : ℕ) (c : List Lit) (hs : List ℤ) → vars < 2 ^ 64 → id ≤ GREATEST_ID → AreSmall vars c → AreHints hs
     → tokens (add_line id c hs) ≡ decimal id ∷ (map lit_token c ++ (48 ∷ []) ∷ (map signed_decimal hs ++ (48 ∷ []) ∷ []))
 unfolding add_line
 add_tokens vars id c hs s i a k =
@@ -100,13 +101,13 @@ add_tokens vars id c hs s i a k =
     (clause_tokens vars c (48 ∷ 32 ∷ (flat_map hint_bytes hs ++ 48 ∷ [])) ((48 ∷ []) ∷ (map signed_decimal hs ++ (48 ∷ []) ∷ [])) s a
     (token_space (48 ∷ []) (flat_map hint_bytes hs ++ 48 ∷ []) (omega arith) (refl, tt) ∙ ap (λ (r : List (List ℕ)). (48 ∷ []) ∷ r) (hints_tokens hs k)))
 
-add_no_lf : (vars id : ℕ) (c : List Lit) (hs : List ℤ) → vars < 2 ^ 64 → id ≤ greatest → AreSmall vars c → AreHints hs → NoLf (add_line id c hs)
+add_no_lf : (vars id : ℕ) (c : List Lit) (hs : List ℤ) → vars < 2 ^ 64 → id ≤ GREATEST_ID → AreSmall vars c → AreHints hs → NoLf (add_line id c hs)
 unfolding add_line
 add_no_lf vars id c hs s i a k =
     no_lf_both (decimal id) (32 ∷ (flat_map lit_bytes c ++ 48 ∷ 32 ∷ (flat_map hint_bytes hs ++ 48 ∷ []))) (no_lf (decimal id) (decimal_no_ends id (omega (arith, i))))
     (refl, clause_no_lf vars c (48 ∷ 32 ∷ (flat_map hint_bytes hs ++ 48 ∷ [])) s a (refl, (refl, hints_no_lf hs k)))
 
-add_begins : (id : ℕ) (c : List Lit) (hs : List ℤ) → id ≤ greatest → Begins (add_line id c hs)
+add_begins : (id : ℕ) (c : List Lit) (hs : List ℤ) → id ≤ GREATEST_ID → Begins (add_line id c hs)
 unfolding add_line
 add_begins id c hs i = begins_more (decimal id) (32 ∷ (flat_map lit_bytes c ++ 48 ∷ 32 ∷ (flat_map hint_bytes hs ++ 48 ∷ []))) (decimal_begins id (omega (arith, i)))
 
@@ -121,13 +122,13 @@ after_back vars id (l ∷ c) ts hs s a e =
     ap (λ (x : Bool). cond x (option_map (λ ids. Delete ids) (ids_of (map lit_token c ++ (48 ∷ []) ∷ ts))) (option_map (add_step id) (addition_of vars (map lit_token (l ∷ c) ++ (48 ∷ []) ∷ ts)))) (no_d (lit_token l) b.0 b.1 b.2 b.3)
     ∙ ap (option_map (add_step id)) (lits_back vars (l ∷ c) ts hs s a e)
 
-add_back : (vars id : ℕ) (c : List Lit) (hs : List ℤ) → vars < 2 ^ 64 → 1 ≤ id → id ≤ greatest → AreSmall vars c → AreHints hs → line_steps vars (add_line id c hs) ≡ Some (Add id (record { lits = c }) hs ∷ [])
+add_back : (vars id : ℕ) (c : List Lit) (hs : List ℤ) → vars < 2 ^ 64 → 1 ≤ id → id ≤ GREATEST_ID → AreSmall vars c → AreHints hs → line_steps vars (add_line id c hs) ≡ Some (Add id (record { lits = c }) hs ∷ [])
 add_back vars id c hs s o i a k =
     let ts : List (List ℕ) = map lit_token c ++ (48 ∷ []) ∷ (map signed_decimal hs ++ (48 ∷ []) ∷ []) in
     let t = add_tokens vars id c hs s i a k in
     ap (λ (b : Bool). cond b (Some []) (option_map one_step (step_of vars (tokens (add_line id c hs))))) (not_skipped t)
     ∙ ap (λ (r : List (List ℕ)). option_map one_step (step_of vars r)) t
-    ∙ ap (λ (n : Option ℕ). option_map one_step (by_first vars n ts)) (decimal_unsigned greatest id i (omega (arith, i)))
+    ∙ ap (λ (n : Option ℕ). option_map one_step (by_first vars n ts)) (decimal_unsigned GREATEST_ID id i (omega (arith, i)))
     ∙ ap (λ (b : Bool). option_map one_step (cond b None (step_after vars id ts))) (ne_eqb id 0 (λ z. omega (arith, z, o)))
     ∙ ap (option_map one_step) (after_back vars id c (map signed_decimal hs ++ (48 ∷ []) ∷ []) hs s a (hints_back hs k))
   where

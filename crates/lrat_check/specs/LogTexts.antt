@@ -9,13 +9,10 @@ use Rattle.cnf_form.specs.declared.log.Step.{Step}
 use Rattle.cnf_form.specs.declared.log.Step.TheVariants.{Add, Delete}
 use Rattle.cnf_form.specs.declared.fault.FormatFault.{FormatFault}
 use Rattle.cnf_form.specs.declared.fault.Part.TheVariants as part
+use Rattle.lrat_check.specs.declared.reading.TheConstants.{GREATEST_ID}
 use Rattle.cnf_form.specs.Lines.{is_skipped, lines, tokens}
 use Rattle.cnf_form.specs.Numbers.{signed_of, unsigned_of}
 use Rattle.cnf_form.specs.Formulas.{literal}
-
--- the greatest id
-abbrev pub greatest : ℕ
-greatest = 9223372036854775807
 
 -- nothing follows
 abbrev pub ended : {X : Type 0} → List (List ℕ) → Option (List X)
@@ -29,7 +26,7 @@ by_id (Some n) at_zero more = cond (n == 0) at_zero (option_map (λ ns. n ∷ ns
 -- ids, and a last zero
 abbrev pub ids_of : List (List ℕ) → Option (List ℕ)
 ids_of [] = None
-ids_of (t ∷ ts) = by_id (unsigned_of greatest t) (ended ts) (ids_of ts)
+ids_of (t ∷ ts) = by_id (unsigned_of GREATEST_ID t) (ended ts) (ids_of ts)
 
 -- the number of a hint
 abbrev pub hint_value : Bool × ℕ → ℤ
@@ -43,7 +40,7 @@ by_hint (Some z) at_zero more = cond (z.1 == 0) at_zero (option_map (λ hs. hint
 -- hints, and a last zero
 abbrev pub hints_of : List (List ℕ) → Option (List ℤ)
 hints_of [] = None
-hints_of (t ∷ ts) = by_hint (signed_of greatest t) (ended ts) (hints_of ts)
+hints_of (t ∷ ts) = by_hint (signed_of GREATEST_ID t) (ended ts) (hints_of ts)
 
 abbrev pub by_lit : Option (Bool × ℕ) → Option (List ℤ) → Option (List Lit × List ℤ) → Option (List Lit × List ℤ)
 by_lit None hints more = None
@@ -72,7 +69,7 @@ by_first vars (Some n) ts = cond (n == 0) None (step_after vars n ts)
 -- a first number from 1 to the greatest id, and what follows it
 abbrev pub step_of : ℕ → List (List ℕ) → Option Step
 step_of vars [] = None
-step_of vars (t ∷ ts) = by_first vars (unsigned_of greatest t) ts
+step_of vars (t ∷ ts) = by_first vars (unsigned_of GREATEST_ID t) ts
 
 abbrev pub one_step : Step → List Step
 one_step s = s ∷ []

@@ -10,7 +10,7 @@ use Rattle.cqa_value.specs.declared.memory.Fail.TheVariants.{NoMemory, Refused}
 use Rattle.cnf_form.specs.declared.fault.FormatFault.{FormatFault}
 use Rattle.cnf_form.specs.Literals.{AreVars}
 use Rattle.cnf_form.specs.Writing.{clause_bytes}
-use Rattle.lrat_check.specs.LogTexts.{greatest}
+use Rattle.lrat_check.specs.declared.reading.TheConstants.{GREATEST_ID}
 
 -- a number and a space (32)
 abbrev pub hint_bytes : ℤ → List ℕ
@@ -54,8 +54,8 @@ log_bytes steps = log_lines None steps
 
 -- a hint of absolute value from 1 to the greatest id
 abbrev pub IsHint : ℤ → Type 0
-IsHint (pos n) = (1 ≤ n) × (n ≤ greatest)
-IsHint (negsuc n) = n + 1 ≤ greatest
+IsHint (pos n) = (1 ≤ n) × (n ≤ GREATEST_ID)
+IsHint (negsuc n) = n + 1 ≤ GREATEST_ID
 
 abbrev pub AreHints : List ℤ → Type 0
 AreHints [] = Unit {0}
@@ -63,7 +63,7 @@ AreHints (h ∷ hs) = IsHint h × AreHints hs
 
 -- An addition whose id, literals and hints are in range.
 abbrev pub IsWritableStep : ℕ → Step → Type 0
-IsWritableStep vars (Add id clause hints) = (1 ≤ id) × (id ≤ greatest) × AreVars vars clause.lits × AreHints hints
+IsWritableStep vars (Add id clause hints) = (1 ≤ id) × (id ≤ GREATEST_ID) × AreVars vars clause.lits × AreHints hints
 IsWritableStep vars (Delete ids) = ⊥
 
 -- Additions alone, whose ids, literals and hints are in range.

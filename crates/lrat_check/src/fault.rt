@@ -1,3 +1,5 @@
+//! Why a log is refused.
+
 use thiserror::Error;
 
 /// Why a step fails.

@@ -12,8 +12,6 @@ mod places;
 mod reading;
 mod steps;
 mod store;
-#[cfg(test)]
-mod tests;
 mod text_checking;
 mod writing;
 

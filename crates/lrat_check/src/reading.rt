@@ -18,7 +18,7 @@ use cqa_value::{Fail, Items, NoMemory};
 use std::alloc::Global;
 
 /// The greatest id, and the greatest size of a hint.
-const GREATEST: u64 = i64::MAX as u64;
+pub const GREATEST_ID: u64 = i64::MAX as u64;
 
 fn lit_of(number: Signed) -> Lit
     requires { number.size < 2 ^ 32 }
@@ -103,7 +103,7 @@ fn read_hints<'a>(hints: &mut Vec<i64>, text: &'a [u8]) -> Result<Option<&'a [u8
     hints.clear();
     let mut rest = text;
     loop {
-        match next_number(rest, GREATEST) {
+        match next_number(rest, GREATEST_ID) {
             Next::Number(number, after) => {
                 if number.size == 0 {
                     return Ok(line_end(after));
@@ -145,7 +145,7 @@ fn read_ids<'a>(alloc: Global, text: &'a [u8]) -> Result<Option<(Vec<u64>, &'a [
 fn next_id(text: &[u8]) -> Option<(u64, &[u8])>
     ensures { MatchOption result (NoIdNext text.now) (λ n. IdIsNext text.now n.0 n.1.now) }
 {
-    match next_number(text, GREATEST) {
+    match next_number(text, GREATEST_ID) {
         Next::Number(number, rest) => {
             let id = unsigned(number)?;
             Some((id, rest))
@@ -260,7 +260,7 @@ pub fn read_line<'a>(
         let rest = skip_line(text);
         return Ok(Some(Line { step: None, rest }));
     }
-    match next_number(text, GREATEST) {
+    match next_number(text, GREATEST_ID) {
         Next::End(rest) => Ok(Some(Line { step: None, rest })),
         Next::Number(first, rest) => match read_numbered(alloc, gathered, vars, first, rest)? {
             Some((step, rest)) => Ok(Some(Line {

@@ -1,1 +1,2 @@
+-- Lemmas of replies.
 mod Replies

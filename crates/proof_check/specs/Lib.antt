@@ -1,1 +1,2 @@
+-- What the checker says of an input.
 pub mod Verdicts

@@ -1,3 +1,5 @@
+//! Reads an input of a formula and a log, and checks it.
+
 ghost use Rattle.std.specs.Prelude.{◌≡◌, ◌≤◌, IfOk, Ok, length, drop};
 ghost use Rattle.lrat_check.specs.LogTexts.{log_of};
 ghost use Rattle.cnf_form.specs.Lines.{lines};

@@ -6,6 +6,3 @@ mod reply;
 
 pub use checking::{check_bytes, input_has_one_reply};
 pub use reply::CheckReply;
-
-#[cfg(test)]
-mod tests;

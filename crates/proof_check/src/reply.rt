@@ -1,3 +1,5 @@
+//! What the checker says of an input, and the line that it writes.
+
 ghost use Rattle.std.specs.Prelude.{◌≡◌, IfOk, string_bytes};
 ghost use Rattle.proof_check.specs.Verdicts.{cause_word, is_verified, line_of, log_line, part_word, text_line};
 

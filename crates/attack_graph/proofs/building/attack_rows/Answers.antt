@@ -7,6 +7,6 @@ use Rattle.attack_graph.proofs.building.attack_rows.Goals as goal
 pub loop-atom-preserved : goal.loop-atom-preserved
 loop-atom-preserved c = record {
   size = simp length-set c.loop-atom.invariant.size;
-  rows = rows-more (Attacks c.args.query.now (seen c.args.query.now c.args.view.now)) c.loop-atom.rows c.loop-atom.atom c.attack_row.result c.loop-atom.invariant.size (omega (arith, c.args.query.now.kept.size.1))
+  rows = rows-more (Attacks c.args.named.now.query.now (seen c.args.named.now.query.now c.args.named.now.view)) c.loop-atom.rows c.loop-atom.atom c.attack_row.result c.loop-atom.invariant.size (omega (arith, c.args.named.now.query.now.kept.size.1))
       c.loop-atom.invariant.rows c.attack_row.ensures;
 }

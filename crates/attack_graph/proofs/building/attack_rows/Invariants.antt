@@ -5,4 +5,4 @@ use Rattle.attack_graph.specs.Pairs.{HasPair}
 use Rattle.attack_graph.proofs.building.attack_rows.Given as goal
 
 abbrev pub invariant-loop-atom : goal.invariant-loop-atom
-invariant-loop-atom l = record { size : length l.rows ≡ 12; rows : (F G : ℕ) → HasPair l.rows F G ↔ ((F < l.atom) × Attacks l.query (seen l.query l.view) F G) }
+invariant-loop-atom l = record { size : length l.rows ≡ 12; rows : (F G : ℕ) → HasPair l.rows F G ↔ ((F < l.atom) × Attacks l.named.query.now (seen l.named.query.now l.named.view) F G) }

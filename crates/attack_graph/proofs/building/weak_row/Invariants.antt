@@ -5,4 +5,4 @@ use Rattle.key_closure.specs.Members.{seen}
 use Rattle.attack_graph.proofs.building.weak_row.Given as goal
 
 abbrev pub invariant-loop-atom : goal.invariant-loop-atom
-invariant-loop-atom l = (K : ℕ) → HasAtom l.atoms K ↔ ((K < l.atom) × IsWeak l.query (seen l.query l.view) l.from K)
+invariant-loop-atom l = (K : ℕ) → HasAtom l.atoms K ↔ ((K < l.atom) × IsWeak l.named.query.now (seen l.named.query.now l.named.view) l.from K)

@@ -6,4 +6,4 @@ abbrev pub decreases-spread : goal.decreases-spread
 decreases-spread l = size l.waiting
 
 abbrev pub invariant-spread : goal.invariant-spread
-invariant-spread l = Spread l.query l.view l.from l.set l.waiting
+invariant-spread l = Spread l.named.query.now l.named.view l.from l.set l.waiting

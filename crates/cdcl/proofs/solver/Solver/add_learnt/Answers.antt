@@ -19,8 +19,8 @@ force-requires-clause-sound c =
     let clause : Clause = record { lits = c.from_vec.result } in
     let more : literals c.push.new.self.items ≡ literals old ++ lits ∷ [] =
     ap literals c.in_ok-push.ensures.items ∙ map-append (λ (x : Clause). x.lits) old (clause ∷ []) ∙ ap (λ (x : List Lit). literals old ++ x ∷ []) c.from_vec.ensures in
-    subst (λ (d : List (List Lit)). IsState d s.trail.items s.places.items s.starts.items) (sym more)
-    (state_learnt (literals old) s.trail.items s.places.items s.starts.items lits c.requires.ready.watchful.sound c.requires.range c.requires.low c.requires.settled)
+    subst (λ (d : List (List Lit)). IsState d s.trail.items s.places.items s.level_starts.items) (sym more)
+    (state_learnt (literals old) s.trail.items s.places.items s.level_starts.items lits c.requires.ready.watchful.sound c.requires.range c.requires.low c.requires.settled)
 
 pub attach_none-requires-clause-watchful : goal.attach_none-requires-clause-watchful
 attach_none-requires-clause-watchful c =

@@ -14,8 +14,8 @@ analyze-requires-clause-range c d i l j =
 
 pub analyze-requires-clause-start : goal.analyze-requires-clause-start
 analyze-requires-clause-start c =
-    let starts = c.args.self.now.starts in
-    let h : c.len.result - 1 < length starts.items = omega (arith, c.len.ensures, starts.ok, c.requires.level) in
+    let level_starts = c.args.self.now.level_starts in
+    let h : c.len.result - 1 < length level_starts.items = omega (arith, c.len.ensures, level_starts.ok, c.requires.level) in
     let r = c.requires.sound.under c.index-start.result.now (c.len.result - 1, h, sym c.index-start.ensures) in
     subst (λ (es : List Entry). c.index-start.result.now < length es) (sym c.as_slice-2.ensures.value) r
 

@@ -51,7 +51,7 @@ returns-clause-watchful c =
     let range_a = code_small a n (w.sound.db_in p.0 (At-contains _ _ _ p.1) a p.2) in
     let range_b = code_small b n (w.sound.db_in p.0 (At-contains _ _ _ p.1) b p.3) in
     let room : length first ≡ length self.lists.items = length-set self.lists.items (code_of a) (get_or self.lists.items (code_of a) [] ++ k ∷ []) in
-    let paired : IsPaired (IsListed both) (held self.trail.items) self.starts.items self.head k p.0 pair = record {
+    let paired : IsPaired (IsListed both) (held self.trail.items) self.level_starts.items self.head k p.0 pair = record {
       apart = p.4.0;
       first = p.4.1;
       second = p.4.2;
@@ -60,10 +60,10 @@ returns-clause-watchful c =
     } in
     record {
       sound = w.sound;
-      watching = subst (λ (ps : List Pair). IsWatching (IsListed c.push_index-2.new.lists.items) (literals self.clauses.items) (held self.trail.items) self.starts.items self.head ps) (sym new)
-          (subst (λ (ls : List (List ℕ)). IsWatching (IsListed ls) (literals self.clauses.items) (held self.trail.items) self.starts.items self.head (self.pairs.items ++ pair ∷ [])) (sym two)
-          (watching_attach (IsListed both) (literals self.clauses.items) (held self.trail.items) self.starts.items self.head self.pairs.items p.0 pair p.1 p.2 p.3 (inr paired)
-          (watching_relist (IsListed self.lists.items) (IsListed both) (literals self.clauses.items) (held self.trail.items) self.starts.items self.head self.pairs.items more w.watching)));
+      watching = subst (λ (ps : List Pair). IsWatching (IsListed c.push_index-2.new.lists.items) (literals self.clauses.items) (held self.trail.items) self.level_starts.items self.head ps) (sym new)
+          (subst (λ (ls : List (List ℕ)). IsWatching (IsListed ls) (literals self.clauses.items) (held self.trail.items) self.level_starts.items self.head (self.pairs.items ++ pair ∷ [])) (sym two)
+          (watching_attach (IsListed both) (literals self.clauses.items) (held self.trail.items) self.level_starts.items self.head self.pairs.items p.0 pair p.1 p.2 p.3 (inr paired)
+          (watching_relist (IsListed self.lists.items) (IsListed both) (literals self.clauses.items) (held self.trail.items) self.level_starts.items self.head self.pairs.items more w.watching)));
       lists = subst (λ (ps : List Pair). AreLists c.push_index-2.new.lists.items n (length ps)) (sym new)
           (subst (λ (ls : List (List ℕ)). AreLists ls n (length (self.pairs.items ++ pair ∷ []))) (sym two)
           (let l = length_push self.pairs.items pair in

@@ -60,10 +60,10 @@ attach_none-requires-clause-base c =
     elim c.match-truth_of.branch [
       | in-True w ↦
           let holds : Contains (held s.trail.items) l = subst (λ (es : List Entry). Contains (held es) l) c.as_slice-in-One.ensures.value (w.in-True.ensures.yes refl) in
-          subst (λ (x : Solver). CanWatch x (IsBase (held x.trail.items) x.starts.items) l l) (sym w.self-is)
+          subst (λ (x : Solver). CanWatch x (IsBase (held x.trail.items) x.level_starts.items) l l) (sym w.self-is)
           (base_one s k xs l c.requires.first place at c.in-One.ensures.0 holds)
       | in-Open+in_ok-force-in-Open w ↦
-          subst (λ (x : Solver). CanWatch x (IsBase (held x.trail.items) x.starts.items) l l) (sym w.self-is)
+          subst (λ (x : Solver). CanWatch x (IsBase (held x.trail.items) x.level_starts.items) l l) (sym w.self-is)
           (forced_base s w.force.new.self k xs l c.requires.first place at c.in-One.ensures.0 w.force.ensures.same w.in_ok-force-in-Open.ensures.trail)
     ]
 

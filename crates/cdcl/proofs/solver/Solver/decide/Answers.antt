@@ -17,25 +17,25 @@ returns-clause-ready c =
     let trail = self.trail.items in
     let R = IsListed self.lists.items in
     let ready = c.requires.ready in
-    let e = c.in_ok-put.ensures.trail in
+    let e = c.in_ok-enqueue.ensures.trail in
     let start : length trail ≡ c.len-start.result = omega (arith, c.len-start.ensures, self.trail.ok) in
-    let starts : self.starts.items ++ length trail ∷ [] ≡ c.push.new.self.items =
-    ap (λ (n : ℕ). self.starts.items ++ n ∷ []) start ∙ sym c.in_ok-push.ensures.items in
-    let t : held c.put.new.trail.items ≡ held trail ++ entry.lit ∷ [] = ap held e ∙ held_push trail entry in
+    let level_starts : self.level_starts.items ++ length trail ∷ [] ≡ c.push.new.self.items =
+    ap (λ (n : ℕ). self.level_starts.items ++ n ∷ []) start ∙ sym c.in_ok-push.ensures.items in
+    let t : held c.enqueue.new.trail.items ≡ held trail ++ entry.lit ∷ [] = ap held e ∙ held_push trail entry in
     let len = length_held trail in
     record {
       watchful = record {
-        sound = subst (λ (ss : List ℕ). IsState db c.put.new.trail.items c.put.new.places.items ss) starts
-            (subst (λ (es : List Entry). IsState db es c.put.new.places.items (self.starts.items ++ length trail ∷ [])) (sym e)
-            (state_decided db trail self.places.items c.put.new.places.items self.starts.items entry
+        sound = subst (λ (ss : List ℕ). IsState db c.enqueue.new.trail.items c.enqueue.new.places.items ss) level_starts
+            (subst (λ (es : List Entry). IsState db es c.enqueue.new.places.items (self.level_starts.items ++ length trail ∷ [])) (sym e)
+            (state_decided db trail self.places.items c.enqueue.new.places.items self.level_starts.items entry
             ready.watchful.sound c.requires.still c.requires.low c.requires.range
-            (subst (λ (es : List Entry). ArePlaces (held es) c.put.new.places.items) e c.in_ok-put.ensures.places) c.put.ensures.len));
-        watching = subst (λ (ss : List ℕ). IsWatching R db (held c.put.new.trail.items) ss self.head self.pairs.items) starts
-            (subst (λ (xs : List Lit). IsWatching R db xs (self.starts.items ++ length trail ∷ []) self.head self.pairs.items) (sym t)
-            (watching_put R db (held trail) (self.starts.items ++ length trail ∷ []) self.head self.pairs.items entry.lit
-            (subst (λ (n : ℕ). IsWatching R db (held trail) (self.starts.items ++ n ∷ []) self.head self.pairs.items) len
-            (watching_level R db (held trail) self.starts.items self.head self.pairs.items (omega (arith, len, c.requires.whole)) ready.watchful.watching))));
-        lists = subst (λ (n : ℕ). AreLists self.lists.items n (length self.pairs.items)) (sym c.put.ensures.len) ready.watchful.lists;
+            (subst (λ (es : List Entry). ArePlaces (held es) c.enqueue.new.places.items) e c.in_ok-enqueue.ensures.places) c.enqueue.ensures.len));
+        watching = subst (λ (ss : List ℕ). IsWatching R db (held c.enqueue.new.trail.items) ss self.head self.pairs.items) level_starts
+            (subst (λ (xs : List Lit). IsWatching R db xs (self.level_starts.items ++ length trail ∷ []) self.head self.pairs.items) (sym t)
+            (watching_put R db (held trail) (self.level_starts.items ++ length trail ∷ []) self.head self.pairs.items entry.lit
+            (subst (λ (n : ℕ). IsWatching R db (held trail) (self.level_starts.items ++ n ∷ []) self.head self.pairs.items) len
+            (watching_level R db (held trail) self.level_starts.items self.head self.pairs.items (omega (arith, len, c.requires.whole)) ready.watchful.watching))));
+        lists = subst (λ (n : ℕ). AreLists self.lists.items n (length self.pairs.items)) (sym c.enqueue.ensures.len) ready.watchful.lists;
       };
       all = ready.all;
     }

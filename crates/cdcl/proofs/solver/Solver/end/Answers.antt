@@ -23,6 +23,9 @@ refute-requires-clause-empty c d a m i =
 pub returns : goal.returns
 returns c =
     let clauses = c.args.self.now.clauses in
-    let id : c.len.result + 1 ≡ length (literals clauses.items) + 1 = let n = literals_count clauses.items in omega (arith, n, c.len.ensures, clauses.ok) in
-    last_step (literals clauses.items) c.step_of.result (c.len.result + 1) c.new.result.items c.in_ok-hints.hints.items c.step_of.ensures id c.new.ensures.items
-    (subst (λ (cs : List Clause). ChainPasses (literals cs) [] c.in_ok-hints.hints.items) c.as_slice.ensures.value c.in_ok-hints.ensures)
+    let id : c.len.result + 1 ≡ length (literals clauses.items) + 1 = let n = literals_count clauses.items in omega (arith, n, c.len.ensures, clauses.ok) in (
+      c.step_of.result,
+      c.in_ok-push.ensures.items,
+      last_step (literals clauses.items) c.step_of.result (c.len.result + 1) c.new.result.items c.in_ok-hints.hints.items c.step_of.ensures id c.new.ensures.items
+          (subst (λ (cs : List Clause). ChainPasses (literals cs) [] c.in_ok-hints.hints.items) c.as_slice.ensures.value c.in_ok-hints.ensures),
+    )

@@ -3,12 +3,11 @@ use Rattle.std.specs.Prelude.{Vec}
 use Rattle.std.specs.declared.alloc.Global.{Global}
 use Rattle.std.proofs.lemmas.List.{length-set}
 use Rattle.cdcl.specs.declared.solver.Visit.{Visit}
-use Rattle.cdcl.specs.declared.solver.Visit.TheVariants.{Conflict}
 use Rattle.cdcl.specs.Trail.{held}
 use Rattle.cdcl.specs.Watching.{code_of}
 use Rattle.cdcl.specs.Looking.{IsLookingAt, VisitIs}
 use Rattle.cdcl.proofs.Stretches.{next_index, drop_end, append_none}
-use Rattle.cdcl.proofs.Visiting.{code_in, first_at, last_at, grown_same, grown_more, stays_more, stays_all, dropped_next, kept_next}
+use Rattle.cdcl.proofs.Visiting.{code_in, conflict_at, visited_at, first_at, last_at, grown_same, grown_more, stays_more, stays_all, dropped_next, kept_next}
 use Rattle.cdcl.proofs.solver.Solver.look_through.Goals.{in-Dropped, in-Kept}
 use Rattle.cdcl.proofs.solver.Solver.look_through.Goals as goal
 
@@ -22,59 +21,38 @@ loop-at-init c =
       order = omega arith;
       len = omega (arith, c.len-at-end.ensures, t.result.ok);
       looking = first_at s c.args.lit t.new.lists t.result.items c.requires.ready c.requires.next own left;
-      stays = record { clauses = refl; starts = refl; head = refl; count = refl; len = refl };
+      stays = record { clauses = refl; level_starts = refl; head = refl; count = refl; len = refl };
       grows = grown_same (held s.trail.items);
     }
 
 pub put_list-requires : goal.put_list-requires
 put_list-requires c =
     let list = c.loop-at.list.items in
-    let kept = c.loop-at.kept in
-    let at = c.loop-at.at in
-    let x = c.index-index.result.now in
-    let h : at < length list = omega (arith, c.loop-at-test.true, c.loop-at.invariant.len) in
-    let next : drop at list ≡ x ∷ drop (at + 1) list = next_index list at x h c.index-index.ensures in
-    let l : IsLookingAt c.loop-at.self c.args.lit (take kept list) (x ∷ drop (at + 1) list) =
-    subst (λ (xs : List ℕ). IsLookingAt c.loop-at.self c.args.lit (take kept list) xs) next c.loop-at.invariant.looking in
-    let visited : VisitIs c.visit.new.self c.args.lit (take kept list) (drop (at + 1) list) x c.in_ok-visit.field-0 = c.in_ok-visit.ensures.visit (take kept list) (drop (at + 1) list) l in
-    let f : VisitIs c.visit.new.self c.args.lit (take kept list) (drop (at + 1) list) x Conflict =
-    subst (λ (v : Visit). VisitIs c.visit.new.self c.args.lit (take kept list) (drop (at + 1) list) x v) c.in-Conflict.is visited in
+    let h : c.loop-at.at < length list = omega (arith, c.loop-at-test.true, c.loop-at.invariant.len) in
+    let f = conflict_at c.loop-at.self c.visit.new.self c.args.lit list c.loop-at.kept c.loop-at.at c.index-index.result.now _ h c.index-index.ensures c.loop-at.invariant.looking c.in_ok-visit.ensures.visit c.in-Conflict.is in
     let range = code_in c.visit.new.self c.args.lit f.0.sound f.0.denied in
     omega (arith, range, f.0.lists_are.room, c.code-in-Conflict.ensures)
 
-pub returns-in-Conflict-clause-ready : goal.returns-in-Conflict-clause-ready
-returns-in-Conflict-clause-ready c =
+pub returns-in-Conflict : goal.returns-in-Conflict
+returns-in-Conflict c =
+    let old = c.args.self.now in
+    let s = c.visit.new.self in
     let list = c.loop-at.list.items in
     let kept = c.loop-at.kept in
     let at = c.loop-at.at in
     let x = c.index-index.result.now in
     let h : at < length list = omega (arith, c.loop-at-test.true, c.loop-at.invariant.len) in
-    let next : drop at list ≡ x ∷ drop (at + 1) list = next_index list at x h c.index-index.ensures in
-    let l : IsLookingAt c.loop-at.self c.args.lit (take kept list) (x ∷ drop (at + 1) list) =
-    subst (λ (xs : List ℕ). IsLookingAt c.loop-at.self c.args.lit (take kept list) xs) next c.loop-at.invariant.looking in
-    let visited : VisitIs c.visit.new.self c.args.lit (take kept list) (drop (at + 1) list) x c.in_ok-visit.field-0 = c.in_ok-visit.ensures.visit (take kept list) (drop (at + 1) list) l in
-    let f : VisitIs c.visit.new.self c.args.lit (take kept list) (drop (at + 1) list) x Conflict =
-    subst (λ (v : Visit). VisitIs c.visit.new.self c.args.lit (take kept list) (drop (at + 1) list) x v) c.in-Conflict.is visited in
-    let own : c.close_gap.new.list.items ≡ take kept list ++ x ∷ drop (at + 1) list = c.close_gap.ensures ∙ ap (λ (ys : List ℕ). take kept list ++ ys) next in
-    let put : c.put_list.new.lists.items ≡ set c.visit.new.self.lists.items (code_of c.args.lit) c.close_gap.new.list.items =
-    c.put_list.ensures ∙ ap (λ (i : ℕ). set c.visit.new.self.lists.items i c.close_gap.new.list.items) c.code-in-Conflict.ensures in
-    let all = stays_all c.args.self.now c.visit.new.self (stays_more c.args.self.now c.loop-at.self c.visit.new.self c.loop-at.invariant.stays c.visit.ensures.stays) c.requires.ready.all in
-    last_at c.visit.new.self c.args.lit c.put_list.new.lists (take kept list) (x ∷ drop (at + 1) list) c.close_gap.new.list.items all own put f.0
-
-pub returns-in-Conflict-clause-conflict : goal.returns-in-Conflict-clause-conflict
-returns-in-Conflict-clause-conflict c =
-    let list = c.loop-at.list.items in
-    let kept = c.loop-at.kept in
-    let at = c.loop-at.at in
-    let x = c.index-index.result.now in
-    let h : at < length list = omega (arith, c.loop-at-test.true, c.loop-at.invariant.len) in
-    let next : drop at list ≡ x ∷ drop (at + 1) list = next_index list at x h c.index-index.ensures in
-    let l : IsLookingAt c.loop-at.self c.args.lit (take kept list) (x ∷ drop (at + 1) list) =
-    subst (λ (xs : List ℕ). IsLookingAt c.loop-at.self c.args.lit (take kept list) xs) next c.loop-at.invariant.looking in
-    let visited : VisitIs c.visit.new.self c.args.lit (take kept list) (drop (at + 1) list) x c.in_ok-visit.field-0 = c.in_ok-visit.ensures.visit (take kept list) (drop (at + 1) list) l in
-    let f : VisitIs c.visit.new.self c.args.lit (take kept list) (drop (at + 1) list) x Conflict =
-    subst (λ (v : Visit). VisitIs c.visit.new.self c.args.lit (take kept list) (drop (at + 1) list) x v) c.in-Conflict.is visited in
-    f.1
+    let f = conflict_at c.loop-at.self s c.args.lit list kept at x _ h c.index-index.ensures c.loop-at.invariant.looking c.in_ok-visit.ensures.visit c.in-Conflict.is in
+    let own : c.close_gap.new.list.items ≡ take kept list ++ x ∷ drop (at + 1) list = c.close_gap.ensures ∙ ap (λ (ys : List ℕ). take kept list ++ ys) (next_index list at x h c.index-index.ensures) in
+    let put : c.put_list.new.lists.items ≡ set s.lists.items (code_of c.args.lit) c.close_gap.new.list.items =
+    c.put_list.ensures ∙ ap (λ (i : ℕ). set s.lists.items i c.close_gap.new.list.items) c.code-in-Conflict.ensures in
+    let stays = stays_more old c.loop-at.self s c.loop-at.invariant.stays c.visit.ensures.stays in
+    record {
+      ready = last_at s c.args.lit c.put_list.new.lists (take kept list) (x ∷ drop (at + 1) list) c.close_gap.new.list.items (stays_all old s stays c.requires.ready.all) own put f.0;
+      stays = record { clauses = stays.clauses; level_starts = stays.level_starts; head = stays.head; count = stays.count; len = stays.len };
+      grows = grown_more (held old.trail.items) (held c.loop-at.self.trail.items) (held s.trail.items) c.loop-at.invariant.grows c.in_ok-visit.ensures.grows;
+      conflict = f.1;
+    }
 
 pub loop-at-preserved : goal.loop-at-preserved
 loop-at-preserved c =
@@ -83,10 +61,7 @@ loop-at-preserved c =
     let at = c.loop-at.at in
     let x = c.index-index.result.now in
     let h : at < length list = omega (arith, c.loop-at-test.true, c.loop-at.invariant.len) in
-    let next : drop at list ≡ x ∷ drop (at + 1) list = next_index list at x h c.index-index.ensures in
-    let l : IsLookingAt c.loop-at.self c.args.lit (take kept list) (x ∷ drop (at + 1) list) =
-    subst (λ (xs : List ℕ). IsLookingAt c.loop-at.self c.args.lit (take kept list) xs) next c.loop-at.invariant.looking in
-    let visited : VisitIs c.visit.new.self c.args.lit (take kept list) (drop (at + 1) list) x c.in_ok-visit.field-0 = c.in_ok-visit.ensures.visit (take kept list) (drop (at + 1) list) l in
+    let visited = visited_at c.loop-at.self c.visit.new.self c.args.lit list kept at x c.in_ok-visit.field-0 h c.index-index.ensures c.loop-at.invariant.looking c.in_ok-visit.ensures.visit in
     let new = c.match-branch-2 in
     let stays = stays_more c.args.self.now c.loop-at.self c.visit.new.self c.loop-at.invariant.stays c.visit.ensures.stays in
     let grows = grown_more (held c.args.self.now.trail.items) (held c.loop-at.self.trail.items) (held c.visit.new.self.trail.items) c.loop-at.invariant.grows c.in_ok-visit.ensures.grows in

@@ -27,6 +27,6 @@ returns-clause-new c =
         watching = rw (c.new.ensures.items, c.new-2.ensures.items, c.new-3.ensures.items) (watching_first (IsListed lists) db);
         lists = rw c.new-3.ensures.items (subst (λ (m : ℕ). AreLists lists m 0) len c.in_ok-no_lists.ensures);
       };
-      first = record { starts = c.new-2.ensures.items; head = refl };
+      first = record { level_starts = c.new-2.ensures.items; head = refl };
       none = c.new-3.ensures.items;
     }

@@ -35,7 +35,7 @@ loop-self-preserved c =
       ready = next_at s' (s'.head + 1) lit refl there pending done.ready;
       grows = omega (arith, longer, i.grows);
       clauses = stays.clauses ∙ i.clauses;
-      starts = stays.starts ∙ i.starts;
+      level_starts = stays.level_starts ∙ i.level_starts;
       len = stays.len ∙ i.len;
     }
 

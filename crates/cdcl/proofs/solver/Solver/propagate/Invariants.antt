@@ -7,7 +7,7 @@ invariant-loop-self l = record {
   ready : IsReady l.self;
   grows : length l.initial.self.trail.items ≤ length l.self.trail.items;
   clauses : l.self.clauses ≡ l.initial.self.clauses;
-  starts : l.self.starts ≡ l.initial.self.starts;
+  level_starts : l.self.level_starts ≡ l.initial.self.level_starts;
   len : length l.self.places.items ≡ length l.initial.self.places.items;
 }
 

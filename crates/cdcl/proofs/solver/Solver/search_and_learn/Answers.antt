@@ -21,9 +21,9 @@ returns-in-None c =
 pub returns-then-is_empty : goal.returns-then-is_empty
 returns-then-is_empty c =
     let count : length c.loop-round.log.items ≤ c.args.budget = omega (arith, c.loop-round.invariant.count, c.loop-round-test.true) in
-    refuted_end (literals c.args.self.now.clauses.items) (length c.args.self.now.places.items) c.args.budget c.loop-round.log.items c.push.new.self.items
-    c.in_ok-end-in-Some.field-0 (literals c.search.new.self.clauses.items) c.in_ok-push-in-Some.ensures.items c.loop-round.invariant.lines
-    (ap (λ (v : Vec Clause Global). literals v.items) c.search.ensures.clauses ∙ c.loop-round.invariant.db) c.in_ok-end-in-Some.ensures count
+    refuted_end (literals c.args.self.now.clauses.items) (length c.args.self.now.places.items) c.args.budget c.loop-round.log.items c.end.new.log.items
+    (literals c.search.new.self.clauses.items) c.in_ok-end-in-Some.ensures c.loop-round.invariant.lines
+    (ap (λ (v : Vec Clause Global). literals v.items) c.search.ensures.clauses ∙ c.loop-round.invariant.db) count
 
 pub loop-round-preserved : goal.loop-round-preserved
 loop-round-preserved c =
@@ -32,34 +32,34 @@ loop-round-preserved c =
     let d = literals c.search.new.self.clauses.items in
     let l = c.in_ok-learn-in-Some.field-0 in
     let e : d ≡ db ++ learnt log = ap (λ (v : Vec Clause Global). literals v.items) c.search.ensures.clauses ∙ c.loop-round.invariant.db in
-    let p : c.push-in-Some.new.self.items ≡ log ++ l ∷ [] = c.in_ok-push-in-Some-2.ensures.items in
+    let p : c.push.new.self.items ≡ log ++ l ∷ [] = c.in_ok-push-in-Some.ensures.items in
     record {
       ready = c.in_ok-learn-in-Some.ensures.ready;
       len = c.learn.ensures.len ∙ c.search.ensures.len ∙ c.loop-round.invariant.len;
-      db = db_push db log c.push-in-Some.new.self.items l d (literals c.learn.new.self.clauses.items) e c.in_ok-learn-in-Some.ensures.added p;
-      lines = log_push db (length c.args.self.now.places.items) log c.push-in-Some.new.self.items l d (length c.search.new.self.places.items)
+      db = db_push db log c.push.new.self.items l d (literals c.learn.new.self.clauses.items) e c.in_ok-learn-in-Some.ensures.added p;
+      lines = log_push db (length c.args.self.now.places.items) log c.push.new.self.items l d (length c.search.new.self.places.items)
           c.loop-round.invariant.lines e (c.search.ensures.len ∙ c.loop-round.invariant.len) c.in_ok-learn-in-Some.ensures.line p;
       count = let q = ap (λ (xs : List _). length xs) p in let r = length_push log l in omega (arith, q, r, c.loop-round.invariant.count);
     }
 
 pub end-requires-in-Some-2-clause-level : goal.end-requires-in-Some-2-clause-level
 end-requires-in-Some-2-clause-level c =
-    ap (λ (v : Vec ℕ Global). length v.items) c.propagate.ensures.starts ∙ none_below c.back_to.new.self.starts.items c.back_to.ensures.below
+    ap (λ (v : Vec ℕ Global). length v.items) c.propagate.ensures.level_starts ∙ none_below c.backjump.new.self.level_starts.items c.backjump.ensures.below
 
-pub returns-in_ok-push-in-Some-2-2 : goal.returns-in_ok-push-in-Some-2-2
-returns-in_ok-push-in-Some-2-2 c =
+pub returns-in_ok-end-in-Some-2 : goal.returns-in_ok-end-in-Some-2
+returns-in_ok-end-in-Some-2 c =
     let count : length c.loop-round.log.items ≤ c.args.budget = omega (arith, c.loop-round.invariant.count, c.loop-round.auto._round-end) in
-    refuted_end (literals c.args.self.now.clauses.items) (length c.args.self.now.places.items) c.args.budget c.loop-round.log.items c.push-in-Some-2.new.self.items
-    c.in_ok-end-in-Some-2.field-0 (literals c.propagate.new.self.clauses.items) c.in_ok-push-in-Some-2-2.ensures.items c.loop-round.invariant.lines
-    (ap (λ (v : Vec Clause Global). literals v.items) (c.propagate.ensures.clauses ∙ c.back_to.ensures.clauses) ∙ c.loop-round.invariant.db) c.in_ok-end-in-Some-2.ensures count
+    refuted_end (literals c.args.self.now.clauses.items) (length c.args.self.now.places.items) c.args.budget c.loop-round.log.items c.end-in-Some-2.new.log.items
+    (literals c.propagate.new.self.clauses.items) c.in_ok-end-in-Some-2.ensures c.loop-round.invariant.lines
+    (ap (λ (v : Vec Clause Global). literals v.items) (c.propagate.ensures.clauses ∙ c.backjump.ensures.clauses) ∙ c.loop-round.invariant.db) count
 
 pub returns-in-None-open_var : goal.returns-in-None-open_var
 returns-in-None-open_var c = (
   c.in_ok-conflict.ensures.ready.watchful.sound,
-  c.propagate.ensures.len ∙ c.back_to.ensures.len ∙ c.loop-round.invariant.len,
+  c.propagate.ensures.len ∙ c.backjump.ensures.len ∙ c.loop-round.invariant.len,
   modelled (literals c.args.self.now.clauses.items) (learnt c.loop-round.log.items) c.propagate.new.self c.in_ok-conflict.ensures.ready.watchful.sound
       (let f : ConflictIs c.propagate.new.self None = subst (λ (r : Option ℕ). ConflictIs c.propagate.new.self r) c.in-None-2.is c.in_ok-conflict.ensures.conflict in f.0) c.in-None-open_var.ensures
-      (ap (λ (v : Vec Clause Global). literals v.items) (c.propagate.ensures.clauses ∙ c.back_to.ensures.clauses) ∙ c.loop-round.invariant.db),
+      (ap (λ (v : Vec Clause Global). literals v.items) (c.propagate.ensures.clauses ∙ c.backjump.ensures.clauses) ∙ c.loop-round.invariant.db),
 )
 
 pub returns-in-Some-open_var : goal.returns-in-Some-open_var
@@ -67,8 +67,8 @@ returns-in-Some-open_var c =
     let count : length c.loop-round.log.items ≡ c.args.budget = omega (arith, c.loop-round.invariant.count, c.loop-round.auto._round-end, c.loop-round-test.false) in
     let open' = c.in-Some-open_var.ensures in
     let range : c.in-Some-open_var.field-0 < length c.args.self.now.places.items =
-    omega (arith, open'.1, c.propagate.ensures.len, c.back_to.ensures.len, c.loop-round.invariant.len) in
+    omega (arith, open'.1, c.propagate.ensures.len, c.backjump.ensures.len, c.loop-round.invariant.len) in
     spent_end (literals c.args.self.now.clauses.items) (length c.args.self.now.places.items) c.args.budget c.in-Some-open_var.field-0 c.loop-round.log.items c.propagate.new.self
     c.loop-round.invariant.lines count
-    (ap (λ (v : Vec Clause Global). literals v.items) (c.propagate.ensures.clauses ∙ c.back_to.ensures.clauses) ∙ c.loop-round.invariant.db)
+    (ap (λ (v : Vec Clause Global). literals v.items) (c.propagate.ensures.clauses ∙ c.backjump.ensures.clauses) ∙ c.loop-round.invariant.db)
     (let f : ConflictIs c.propagate.new.self None = subst (λ (r : Option ℕ). ConflictIs c.propagate.new.self r) c.in-None-2.is c.in_ok-conflict.ensures.conflict in f.0) open'.0 range open'.2

@@ -1,0 +1,250 @@
+#!/usr/bin/env python3
+"""How the time and the memory of the program grow: each load at n and at 4n, beside sqlite3 in the same run.
+
+    bench/growth.py [--program FILE] [--scale X] [--only WORD] [--repeat N]
+
+It makes the loads, runs them, and prints a table in Markdown. Times are processor seconds of the whole process, reading
+the script included, the least of N runs; memory is the greatest that a run held. A program that has to end with status 0
+and doesn't is an error. `--scale 0.1` is a quick look. sqlite3 is optional. Python 3.9 and its library alone are needed.
+"""
+
+import argparse
+import os
+import random
+import shutil
+import subprocess
+import sys
+import tempfile
+
+TOP = os.path.dirname(os.path.dirname(os.path.abspath(__file__)))
+PROGRAM = os.path.join(TOP, "crates", "cqa_cli", "out", "cqa_cli")
+
+
+# Loads. Each makes a script for the program and one for sqlite3, whose tables keep each row once, as the program's do.
+
+def tables(names, columns, key):
+    """The statements that make tables of int columns, for both."""
+    kinds = ", ".join(column + " int" for column in columns)
+    ours = ["create table %s (%s, primary key (%s));" % (name, kinds, key) for name in names]
+    theirs = ["create table %s (%s, primary key (%s)) without rowid;" % (name, kinds, ", ".join(columns)) for name in names]
+    return ours, theirs
+
+
+def inserts(name, rows, together=1000):
+    """The same rows as statements of so many rows, for both."""
+    ours, theirs = [], []
+    for at in range(0, len(rows), together):
+        values = ", ".join(map(row_text, rows[at:at + together]))
+        ours.append("insert into %s values %s;" % (name, values))
+        theirs.append("insert or ignore into %s values %s;" % (name, values))
+    return ours, theirs
+
+
+def row_text(row):
+    return "(" + ", ".join(map(str, row)) + ")"
+
+
+def join(*parts):
+    """Parts of both scripts, one after the other."""
+    return tuple([line for part in parts for line in part[side]] for side in (0, 1))
+
+
+def shuffled(n, seed=1):
+    keys = list(range(n))
+    random.Random(seed).shuffle(keys)
+    return keys
+
+
+def turns(keys):
+    """A row inserted and asked for by its key, in turn."""
+    ours, theirs = tables(["r"], ["k", "v"], "k")
+    for key in keys:
+        ours.append("insert into r values (%d, %d);" % (key, key % 7))
+        ours.append("ask select v from r where k = %d;" % key)
+        theirs.append("insert or ignore into r values (%d, %d);" % (key, key % 7))
+        theirs.append("select distinct v from r where k = %d;" % key)
+    return ours, theirs
+
+
+def ascending_turns(n):
+    return turns(range(n))
+
+
+def random_turns(n):
+    return turns(shuffled(n))
+
+
+def deletes(n):
+    """Every second row of 2n is deleted by its key, one statement each."""
+    made = join(tables(["r"], ["k", "v"], "k"), inserts("r", [(k, k % 7) for k in range(2 * n)]))
+    gone = ["delete from r where k = %d;" % (2 * k) for k in range(n)]
+    return made[0] + gone, made[1] + gone
+
+
+def one_by_key(n):
+    """1,000 statements that find one row of n by its key."""
+    made = join(tables(["r"], ["k", "v"], "k"), inserts("r", [(k, k % 7) for k in range(n)]))
+    keys = shuffled(n)[:1000]
+    return (made[0] + ["ask select v from r where k = %d;" % k for k in keys],
+            made[1] + ["select distinct v from r where k = %d;" % k for k in keys])
+
+
+def two_tables(n):
+    """Two tables of n rows, joined on columns that are no keys."""
+    left = [(k, k) for k in range(n)]
+    right = [(k, x) for k, x in enumerate(shuffled(n))]
+    made = join(tables(["a", "b"], ["k", "x"], "k"), inserts("a", left), inserts("b", right))
+    where = "from a, b where a.x = b.x"
+    return made[0] + ["possible select a.k %s;" % where], made[1] + ["select distinct a.k %s;" % where]
+
+
+def chain(n, order):
+    """Three tables of n rows in a chain on columns that are no keys, in an order of `from`."""
+    parts = [tables(["a", "b", "c"], ["k", "x", "y"], "k")]
+    for seed, name in enumerate(["a", "b", "c"]):
+        other = shuffled(n, seed)
+        parts.append(inserts(name, [(k, k, other[k]) for k in range(n)]))
+    made = join(*parts)
+    where = "from %s where a.y = b.x and b.y = c.x" % ", ".join(order)
+    return made[0] + ["possible select a.k %s;" % where], made[1] + ["select distinct a.k %s;" % where]
+
+
+def chain_from_the_front(n):
+    return chain(n, "abc")
+
+
+def chain_from_the_back(n):
+    return chain(n, "cba")
+
+
+def chain_by_a_product(n):
+    return chain(n, "acb")
+
+
+def all_pairs(n):
+    """All pairs of n and n rows, of which 77 different rows come."""
+    rows = [(k, k % 77) for k in range(n)]
+    made = join(tables(["a", "b"], ["k", "x"], "k"), inserts("a", rows), inserts("b", rows))
+    return made[0] + ["possible select a.x from a, b;"], made[1] + ["select distinct a.x from a, b;"]
+
+
+def one_chain(n):
+    """n rows and n rows with one value in the joined column: an exists is found at once."""
+    rows = [(k, 0) for k in range(n)]
+    made = join(tables(["a", "b"], ["k", "x"], "k"), inserts("a", rows), inserts("b", rows))
+    where = "from a, b where a.x = b.x"
+    return made[0] + ["possible exists %s;" % where], made[1] + ["select exists (select 1 %s);" % where]
+
+
+def load(rows):
+    return join(tables(["r"], ["a", "b"][:len(rows[0])], "a"), inserts("r", rows))
+
+
+def ascending_load(n):
+    return load([(k,) for k in range(n)])
+
+
+def random_load(n):
+    return load([(k,) for k in shuffled(n)])
+
+
+def random_load_of_two(n):
+    return load([(k, k % 7) for k in shuffled(n)])
+
+
+LOADS = [
+    ("inserts and asks by key in turn, ascending", ascending_turns, 50000),
+    ("inserts and asks by key in turn, random", random_turns, 50000),
+    ("every second row deleted by key", deletes, 20000),
+    ("1,000 asks by key, with the load", one_by_key, 250000),
+    ("two tables joined off their keys", two_tables, 100000),
+    ("a chain of three, from its front", chain_from_the_front, 20000),
+    ("a chain of three, from its back", chain_from_the_back, 20000),
+    ("a chain of three, that begins with a product", chain_by_a_product, 20000),
+    ("all pairs, 77 answers", all_pairs, 3000),
+    ("an exists over one chain of equal values", one_chain, 25000),
+    ("a load of one column, ascending", ascending_load, 250000),
+    ("a load of one column, random", random_load, 250000),
+    ("a load of two columns, random", random_load_of_two, 250000),
+]
+
+
+# Runs
+
+def run(words, script, limit):
+    """Processor seconds and megabytes of a run; None where it doesn't end in time."""
+    with open(script, "rb") as source:
+        process = subprocess.Popen(words, stdin=source, stdout=subprocess.DEVNULL)
+        try:
+            process.wait(timeout=limit)
+        except subprocess.TimeoutExpired:
+            process.kill()
+            process.wait()
+            return None
+    if process.returncode != 0:
+        sys.exit("%s ended with status %d" % (words[0], process.returncode))
+    return True
+
+
+def measured(words, script, limit, repeat):
+    """The least processor seconds and the greatest megabytes of some runs, each in a process of its own that waits for it."""
+    best, most = None, 0.0
+    for _ in range(repeat):
+        reader, writer = os.pipe()
+        child = os.fork()
+        if child == 0:
+            import resource
+            ended = run(words, script, limit)
+            used = resource.getrusage(resource.RUSAGE_CHILDREN)
+            line = "%s %f %d" % (ended, used.ru_utime + used.ru_stime, used.ru_maxrss)
+            os.write(writer, line.encode())
+            os._exit(0)
+        os.close(writer)
+        said = os.read(reader, 200).decode().split()
+        os.close(reader)
+        os.waitpid(child, 0)
+        if not said or said[0] == "None":
+            return None
+        best = float(said[1]) if best is None else min(best, float(said[1]))
+        most = max(most, int(said[2]) / 1024)
+    return best, most
+
+
+def shown(result):
+    return "over the limit" if result is None else "%.2f s, %.0f MB" % result
+
+
+def main():
+    parser = argparse.ArgumentParser(description=__doc__.split("\n\n")[0])
+    parser.add_argument("--program", default=PROGRAM)
+    parser.add_argument("--scale", type=float, default=1.0, help="a factor for each n")
+    parser.add_argument("--only", default="", help="the loads whose names hold this word")
+    parser.add_argument("--repeat", type=int, default=3)
+    parser.add_argument("--limit", type=float, default=120.0, help="seconds for a run")
+    words = parser.parse_args()
+    if not os.access(words.program, os.X_OK):
+        sys.exit("no program %s: build it by ./cqa run </dev/null" % words.program)
+    peer = shutil.which("sqlite3")
+    print("| Load | n | the program | sqlite3 | ratio | 4n: the program | sqlite3 | ratio |")
+    print("|---|---|---|---|---|---|---|---|")
+    with tempfile.TemporaryDirectory() as room:
+        for name, make, size in LOADS:
+            if words.only not in name:
+                continue
+            cells = [name, "{:,}".format(int(size * words.scale))]
+            for factor in (1, 4):
+                ours, theirs = make(max(int(size * words.scale) * factor, 1))
+                script, other = os.path.join(room, "ours"), os.path.join(room, "theirs")
+                with open(script, "w", encoding="ascii") as file:
+                    file.write("\n".join(ours) + "\n")
+                with open(other, "w", encoding="ascii") as file:
+                    file.write("begin;\n" + "\n".join(theirs) + "\ncommit;\n")
+                mine = measured([words.program, "run"], script, words.limit, words.repeat)
+                its = measured([peer, ":memory:"], other, words.limit, words.repeat) if peer else None
+                ratio = "%.2f" % (mine[0] / its[0]) if mine and its and its[0] else ""
+                cells += [shown(mine), shown(its) if peer else "", ratio]
+            print("| " + " | ".join(cells) + " |", flush=True)
+
+
+if __name__ == "__main__":
+    main()

@@ -1,8 +1,0 @@
-use Rattle.std.specs.Prelude.{List, Contains}
-use Rattle.cnf_form.specs.declared.formula.Lit.{Lit}
-use Rattle.cnf_form.specs.Literals.{literals}
-use Rattle.cdcl.specs.Tests.{IsClauseOver}
-use Rattle.cdcl.proofs.tests.formula.Given as goal
-
-abbrev pub invariant-loop-numbers : goal.invariant-loop-numbers
-invariant-loop-numbers l = (c : List Lit) → Contains (literals l.made) c → IsClauseOver l.vars c

@@ -1,0 +1,23 @@
+-- A plan names each atom once.
+use Rattle.std.proofs.Common.{◌≡◌, ℕ, zero, suc, ◌<◌, List, [], ◌∷◌, length, get_or, refl, ap, sym, subst, arith, Contains}
+use Rattle.std.proofs.lemmas.List.{get_or_default}
+use Rattle.cqa_model.specs.declared.query.Query.{Query}
+use Rattle.cqa_model.specs.Shape.{AreDistinct}
+use Rattle.cqa_model.specs.Variables.{View, after}
+use Rattle.cqa_model.specs.Plan.{IsPlan}
+
+module _ (q : Query) where
+  in_view : (plan : List ℕ) (view : View) → IsPlan q view plan → (i : ℕ) → i < length plan → view.has (get_or plan i 0)
+  in_view [] view h i l = absurd (omega (arith, l))
+  in_view (F ∷ plan) view h zero l = h.0
+  in_view (F ∷ plan) view h (suc i) l = (in_view plan (after q view F) h.3 i (omega (arith, l))).0
+
+  apart : (F : ℕ) (plan : List ℕ) (view : View) → IsPlan q (after q view F) plan → (i : ℕ) → i < length plan → get_or plan i 0 ≡ F → ⊥
+  apart F plan view h i l e = (in_view plan (after q view F) h i l).1 e
+
+  pub plan-distinct : (plan : List ℕ) (view : View) → IsPlan q view plan → AreDistinct plan
+  plan-distinct [] view h i j a b e = absurd (omega (arith, a))
+  plan-distinct (F ∷ plan) view h zero zero a b e = refl
+  plan-distinct (F ∷ plan) view h zero (suc j) a b e = absurd (apart F plan view h.3 j (omega (arith, b)) (sym e))
+  plan-distinct (F ∷ plan) view h (suc i) zero a b e = absurd (apart F plan view h.3 i (omega (arith, a)) e)
+  plan-distinct (F ∷ plan) view h (suc i) (suc j) a b e = ap suc (plan-distinct plan (after q view F) h.3 i j (omega (arith, a)) (omega (arith, b)) e)

@@ -1,0 +1,28 @@
+-- Taking the unattacked atoms of a query one after the other (Koutris and Wijsen, ACM TODS 2017).
+use Rattle.std.specs.Prelude.{◌≡◌, ℕ, ◌<◌, ◌↔◌, List, length}
+use Rattle.cqa_value.specs.declared.value.Value.{Value}
+use Rattle.cqa_model.specs.declared.query.Query.{Query}
+use Rattle.cqa_model.specs.Database.{Table}
+use Rattle.cqa_model.specs.Query.{FitsDatabase}
+use Rattle.cqa_model.specs.Certain.{IsCertain}
+use Rattle.cqa_model.specs.Variables.{View}
+use Rattle.cqa_model.specs.Graph.{Attacks}
+use Rattle.cqa_model.specs.Plan.{HoldsOver, IsUnattacked}
+
+-- over each database that the query fits, the plan holds for a row of the answer's length exactly where the row is certain
+abbrev pub IsExact : Query → List ℕ → Type 0
+IsExact q plan = (db : List Table) (row : List Value) → FitsDatabase q db → length row ≡ length q.answer → HoldsOver db q row plan ↔ IsCertain db q row
+
+-- some atom attacks G
+abbrev pub IsAttacked : Query → View → ℕ → Type 0
+IsAttacked q view G = (F : ℕ) × Attacks q view F G
+
+-- every atom of the view is attacked
+abbrev pub IsStuck : Query → View → Type 0
+IsStuck q view = (G : ℕ) → view.has G → IsAttacked q view G
+
+-- the first atom of the view that none attacks
+pub record IsNext (q : Query) (view : View) (G : ℕ) : Type 0 where
+  pub has : view.has G
+  pub free : IsUnattacked q view G
+  pub first : (H : ℕ) → H < G → view.has H → IsAttacked q view H

@@ -1,0 +1,45 @@
+//! Which atoms of a view are attacked, and the first that none attacks.
+
+ghost use Rattle.std.specs.Prelude.{ℕ, ◌<◌, ◌↔◌, MatchOption};
+ghost use Rattle.cqa_model.specs.Graph.{Attacks};
+ghost use Rattle.key_closure.specs.Sets.{HasAtom};
+ghost use Rattle.key_closure.specs.Members.{IsLeft, seen};
+ghost use Rattle.fo_rewrite.specs.Planning.{IsAttacked, IsNext, IsStuck};
+
+use attack_graph::attack_row;
+use cqa_model::MOST_ATOMS;
+use key_closure::{AtomSet, Named};
+
+/// The first atom of the view that none attacks.
+pub(crate) fn next_atom(named: &Named<'_>, left: &AtomSet) -> Option<u32>
+    requires { (K : ℕ) → HasAtom left.now K ↔ IsLeft named.now.query.now named.now.view K }
+    ensures { MatchOption result (IsStuck named.now.query.now (seen named.now.query.now named.now.view)) (IsNext named.now.query.now (seen named.now.query.now named.now.view)) }
+{
+    let attacked = attacked_atoms(named);
+    first_outside(left, &attacked)
+}
+
+/// The atoms that an atom of the view attacks.
+fn attacked_atoms(named: &Named<'_>) -> AtomSet
+    ensures { (G : ℕ) → HasAtom result G ↔ IsAttacked named.now.query.now (seen named.now.query.now named.now.view) G }
+{
+    let mut attacked = AtomSet::new();
+    for atom in 0..named.query.atoms.len() as u32 {
+        let row = attack_row(named, atom);
+        attacked = attacked.union(&row);
+    }
+    attacked
+}
+
+/// The first atom of a set that is outside another.
+fn first_outside(set: &AtomSet, other: &AtomSet) -> Option<u32>
+    ensures { MatchOption result ((G : ℕ) → G < 12 → HasAtom set.now G → HasAtom other.now G)
+        (λ G. (G < 12) × HasAtom set.now G × (HasAtom other.now G → ⊥) × ((H : ℕ) → H < G → HasAtom set.now H → HasAtom other.now H)) }
+{
+    for atom in 0..MOST_ATOMS {
+        if set.has(atom) && !other.has(atom) {
+            return Some(atom);
+        }
+    }
+    None
+}

@@ -1,6 +1,0 @@
-use Rattle.std.proofs.Common.{ℕ, ◌<◌, ◌↔◌}
-use Rattle.key_closure.specs.Sets.{HasAtom}
-use Rattle.key_closure.proofs.named.left.Given as goal
-
-abbrev pub invariant-loop-atom : goal.invariant-loop-atom
-invariant-loop-atom l = (K : ℕ) → HasAtom l.atoms K ↔ ((K < l.atom) × (HasAtom l.view.gone K → ⊥))

@@ -1,7 +1,0 @@
-use Rattle.std.proofs.Common.{ℕ, ◌↔◌}
-use Rattle.key_closure.specs.Sets.{Has}
-use Rattle.key_closure.specs.Members.{IsVarClass}
-use Rattle.key_closure.proofs.named.var_classes.Given as goal
-
-abbrev pub invariant-loop-col : goal.invariant-loop-col
-invariant-loop-col l = (k : ℕ) → Has l.set k ↔ IsVarClass l.variables l.view l.atom l.col k

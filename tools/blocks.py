@@ -1,0 +1,57 @@
+#!/usr/bin/env python3
+"""Runs the blocks of README.md and docs/LANGUAGE.md against the built program, and says where a reply differs.
+
+    tools/blocks.py [PROGRAM]
+
+A block ```cqa is a script, and the block ```reply behind it what the program has to write. In LANGUAGE.md each script is a
+session of its own; in README.md all of them are one, which has to be the stored run of cqa_cli. Rows of a table whose first
+cell is a statement and whose second is its reply, both in back quotes, are run behind the table `staff`.
+"""
+
+import os
+import re
+import subprocess
+import sys
+
+TOP = os.path.dirname(os.path.dirname(os.path.abspath(__file__)))
+PROGRAM = sys.argv[1] if len(sys.argv) > 1 else os.path.join(TOP, "crates", "cqa_cli", "out", "cqa_cli")
+STAFF = "create table staff (id int, name text, room int, primary key (id));\n"
+
+
+def read(*path):
+    with open(os.path.join(TOP, *path), encoding="utf-8") as file:
+        return file.read()
+
+
+def replies(script):
+    ran = subprocess.run([PROGRAM, "run"], input=script.encode(), stdout=subprocess.PIPE, check=False)
+    return ran.stdout.decode()
+
+
+def blocks(text):
+    return re.findall(r"```cqa\n(.*?)```\n\n```reply\n(.*?)```", text, flags=re.S)
+
+
+def compare(where, script, expected, got):
+    if expected == got:
+        return 0
+    print("%s:\n%s-- expected:\n%s-- written:\n%s" % (where, script, expected, got))
+    return 1
+
+
+def main():
+    failed, language = 0, read("docs", "LANGUAGE.md")
+    for script, expected in blocks(language):
+        failed += compare("docs/LANGUAGE.md", script, expected, replies(script))
+    for statement, expected in re.findall(r"^\| `([^`]*;)` \| `([^`]*)` \|", language, flags=re.M):
+        failed += compare("docs/LANGUAGE.md", statement + "\n", expected, replies(STAFF + statement).split("\n")[1])
+    tour = blocks(read("README.md"))
+    script, expected = "\n".join(part for part, _ in tour), "".join(reply for _, reply in tour)
+    failed += compare("README.md", script, expected, replies(script))
+    failed += compare("crates/cqa_cli/stdin", "", read("crates", "cqa_cli", "stdin"), script)
+    print("%d differ" % failed if failed else "all blocks agree")
+    return 1 if failed else 0
+
+
+if __name__ == "__main__":
+    sys.exit(main())
