@@ -175,6 +175,47 @@ pub(crate) fn resolve(
     Ok(())
 }
 
+/// Walks back from a conflict to the first unique implication point, by marks of which none is made yet. Gives the hints, the
+/// literal that is asserted, and how much of the trail denies the others; the literals are those below the level and this one.
+fn walk_back(
+    alloc: Global,
+    clauses: &[Clause],
+    trail: &[Entry],
+    places: &[Option<usize>],
+    start: usize,
+    conflict: usize,
+    marks: &mut SeenMarks,
+) -> Result<(Vec<i64>, Lit, usize), NoMemory>
+    requires consistent { IsConsistent (held trail.now) }
+    requires places { ArePlaces (held trail.now) places.now }
+    requires reasons { AreForcedAfter (literals clauses.now) trail.now start }
+    requires range { AreAllInRange (literals clauses.now) (length places.now) }
+    requires held { AllInRange (held trail.now) (length places.now) }
+    requires start { start < length trail.now }
+    requires conflict { conflict < length clauses.now }
+    requires empty { IsFalse (held trail.now) (literals clauses.now) conflict }
+    requires len { length marks.old.seen.items ≡ length places.now }
+    requires marks { AreMarksOf (held trail.now) start marks.old }
+    requires few { (end : ℕ) → AtMostSeen (held trail.now) start end marks.old.seen.items marks.old.left }
+    ensures learnt { IfOk result (λ r. IsLearntClause (literals clauses.now) (held trail.now) start marks.new.lower.items r.0.items r.1 r.2) }
+    ensures met { OnOk result (AllMet marks.new.seen.items marks.new.met.items) }
+{
+    let mut hints = Vec::new(alloc);
+    let clause = literals_at(clauses, conflict);
+    mark_all(trail, places, start, marks, clause)?;
+    push_hint(clauses, &mut hints, conflict)?;
+    let mut at = trail.len() - 1;
+    while at > start && !is_last(trail, marks, at) {
+        resolve(clauses, trail, places, start, at, marks, &mut hints)?;
+        at -= 1;
+    }
+    let end = end_of(trail, places, marks.lower.as_slice());
+    let asserted = lit_at(trail, at).opposite();
+    push_lit(&mut marks.lower, asserted)?;
+    hints.reverse();
+    Ok((hints, asserted, end))
+}
+
 /// Learns a clause from a conflict, a clause that the trail makes false. The marks are to be clear.
 pub(crate) fn analyze(
     alloc: Global,
@@ -199,27 +240,54 @@ pub(crate) fn analyze(
     ensures met { IfOk result (λ learnt. AllMet learnt.seen.items learnt.met.items) }
 {
     let mut marks = no_marks(alloc, seen);
+    match walk_back(alloc, clauses, trail, places, start, conflict, &mut marks) {
+        Ok((hints, asserted, end)) => Ok(LearntClause {
+            lits: marks.lower,
+            hints,
+            asserted,
+            end,
+            seen: marks.seen,
+            met: marks.met,
+        }),
+        Err(refused) => {
+            drop(marks);
+            Err(refused)
+        }
+    }
+}
+
+/// The hints of the empty clause, where a clause is false and no decision stands, by marks of which none is made yet.
+fn walk_to_start(
+    alloc: Global,
+    clauses: &[Clause],
+    trail: &[Entry],
+    places: &[Option<usize>],
+    conflict: usize,
+    marks: &mut SeenMarks,
+) -> Result<Vec<i64>, NoMemory>
+    requires consistent { IsConsistent (held trail.now) }
+    requires places { ArePlaces (held trail.now) places.now }
+    requires reasons { (p : ℕ) → IsForcedAt (literals clauses.now) trail.now p }
+    requires range { AreAllInRange (literals clauses.now) (length places.now) }
+    requires held { AllInRange (held trail.now) (length places.now) }
+    requires conflict { conflict < length clauses.now }
+    requires empty { IsFalse (held trail.now) (literals clauses.now) conflict }
+    requires len { length marks.old.seen.items ≡ length places.now }
+    requires marks { AreMarksOf (held trail.now) 0 marks.old }
+    requires few { (end : ℕ) → AtMostSeen (held trail.now) 0 end marks.old.seen.items marks.old.left }
+    ensures { IfOk result (λ hints. ChainPasses (literals clauses.now) [] hints.items) }
+{
     let mut hints = Vec::new(alloc);
     let clause = literals_at(clauses, conflict);
-    mark_all(trail, places, start, &mut marks, clause)?;
+    mark_all(trail, places, 0, marks, clause)?;
     push_hint(clauses, &mut hints, conflict)?;
-    let mut at = trail.len() - 1;
-    while at > start && !is_last(trail, &marks, at) {
-        resolve(clauses, trail, places, start, at, &mut marks, &mut hints)?;
+    let mut at = trail.len();
+    while at > 0 {
         at -= 1;
+        resolve(clauses, trail, places, 0, at, marks, &mut hints)?;
     }
-    let end = end_of(trail, places, marks.lower.as_slice());
-    let asserted = lit_at(trail, at).opposite();
-    push_lit(&mut marks.lower, asserted)?;
     hints.reverse();
-    Ok(LearntClause {
-        lits: marks.lower,
-        hints,
-        asserted,
-        end,
-        seen: marks.seen,
-        met: marks.met,
-    })
+    Ok(hints)
 }
 
 /// The hints of the empty clause, where a clause is false and no decision stands.
@@ -240,15 +308,7 @@ pub(crate) fn refute(
     ensures { IfOk result (λ hints. ChainPasses (literals clauses.now) [] hints.items) }
 {
     let mut marks = no_marks(alloc, all_clear(alloc, places.len())?);
-    let mut hints = Vec::new(alloc);
-    let clause = literals_at(clauses, conflict);
-    mark_all(trail, places, 0, &mut marks, clause)?;
-    push_hint(clauses, &mut hints, conflict)?;
-    let mut at = trail.len();
-    while at > 0 {
-        at -= 1;
-        resolve(clauses, trail, places, 0, at, &mut marks, &mut hints)?;
-    }
-    hints.reverse();
-    Ok(hints)
+    let hints = walk_to_start(alloc, clauses, trail, places, conflict, &mut marks);
+    drop(marks);
+    hints
 }

@@ -6,7 +6,8 @@ use std::alloc::Global;
 use std::test::Fail;
 
 /// Two statements and an unfinished one.
-const SCRIPT: &str = "create table t (a int, primary key (a));\ninsert into t values (1), (2);\nask";
+const SCRIPT: &str =
+    "create table t (a int, primary key (a));\ninsert into t values (1), (2);\nask";
 
 /// The same two statements, and an answer.
 const WHOLE: &str =
@@ -28,7 +29,12 @@ struct Call {
 }
 
 /// A call of one word whose devices never fail.
-fn whole(words: &'static [&'static str], input: &'static str, status: u8, written: &'static str) -> Call {
+fn whole(
+    words: &'static [&'static str],
+    input: &'static str,
+    status: u8,
+    written: &'static str,
+) -> Call {
     Call {
         words,
         input,
@@ -65,14 +71,31 @@ fn ends_as_wanted(alloc: Global, call: &Call) -> Result<bool, Fail> {
 fn each_status_has_its_cause(rt: HostRuntime) -> Result<(), Fail> {
     let calls = [
         whole(&["run"], WHOLE, 0, "created t\ninserted 2\n()\n1 rows\n"),
-        whole(&["run"], SCRIPT, 1, "created t\ninserted 2\nerror 15 Unfinished\n"),
+        whole(
+            &["run"],
+            SCRIPT,
+            1,
+            "created t\ninserted 2\nerror 15 Unfinished\n",
+        ),
         whole(&["runs"], WHOLE, 2, ""),
         whole(&[], WHOLE, 2, ""),
         whole(&["run", "run"], WHOLE, 2, ""),
-        Call { read: 1, ..whole(&["run"], WHOLE, 3, "") },
-        Call { read: 9, ..whole(&["run"], WHOLE, 3, "created t\n") },
-        Call { write: 1, ..whole(&["run"], WHOLE, 4, "") },
-        Call { room: 16, ..whole(&["run"], WHOLE, 4, "created t\ninsert") },
+        Call {
+            read: 1,
+            ..whole(&["run"], WHOLE, 3, "")
+        },
+        Call {
+            read: 9,
+            ..whole(&["run"], WHOLE, 3, "created t\n")
+        },
+        Call {
+            write: 1,
+            ..whole(&["run"], WHOLE, 4, "")
+        },
+        Call {
+            room: 16,
+            ..whole(&["run"], WHOLE, 4, "created t\ninsert")
+        },
     ];
     for call in calls.iter() {
         assert!(rt; ends_as_wanted(rt.alloc(), call)?, "at {}", call.written);
@@ -87,9 +110,18 @@ fn each_status_of_check_has_its_cause(rt: HostRuntime) -> Result<(), Fail> {
         whole(&["check"], REFUTED, 0, "verified\n"),
         whole(&["check"], "", 1, "refused line 1 BadFormula\n"),
         whole(&["Check"], REFUTED, 2, ""),
-        Call { read: 3, ..whole(&["check"], REFUTED, 3, "") },
-        Call { write: 1, ..whole(&["check"], REFUTED, 4, "") },
-        Call { room: 4, ..whole(&["check"], REFUTED, 4, "veri") },
+        Call {
+            read: 3,
+            ..whole(&["check"], REFUTED, 3, "")
+        },
+        Call {
+            write: 1,
+            ..whole(&["check"], REFUTED, 4, "")
+        },
+        Call {
+            room: 4,
+            ..whole(&["check"], REFUTED, 4, "veri")
+        },
     ];
     for call in calls.iter() {
         assert!(rt; ends_as_wanted(rt.alloc(), call)?, "at {}", call.written);

@@ -1,32 +1,5 @@
-use Rattle.std.proofs.Common.{◌+◌, ℕ, ℤ, pos, refl, length, List, [], ◌∷◌, ◌++◌, arith, subst, sym, ◌∙◌, ap, reverse}
-use Rattle.std.proofs.lemmas.List.{length-map}
-use Rattle.cnf_form.specs.Literals.{literals}
-use Rattle.cdcl.specs.declared.trail.Entry.{Entry}
 use Rattle.cdcl.specs.Trail.{held}
-use Rattle.cdcl.specs.Analysis.{Works}
-use Rattle.cdcl.proofs.Works.{At-contains, works_first}
 use Rattle.cdcl.proofs.analysis.refute.Goals as goal
 
-pub mark_all-requires-clause-range : goal.mark_all-requires-clause-range
-mark_all-requires-clause-range c = c.requires.range _ (At-contains _ _ _ c.literals_at-clause.ensures)
-
-pub mark_all-requires-clause-marks : goal.mark_all-requires-clause-marks
-mark_all-requires-clause-marks c = c.no_marks-marks.ensures.marks (held c.args.trail.now) 0
-
-pub loop-at-init : goal.loop-at-init
-loop-at-init c =
-    let db = literals c.args.clauses.now in
-    let t = held c.args.trail.now in
-    let new = c.mark_all.new.marks.seen.items in
-    record {
-      within = omega arith;
-      same = c.in_ok-mark_all.ensures.grow.same ∙ c.no_marks-marks.ensures.len ∙ c.in_ok-all_clear.ensures.len;
-      marks = c.in_ok-mark_all.ensures.marks;
-      few = c.in_ok-mark_all.ensures.open _ (c.no_marks-marks.ensures.open t 0 _);
-      works =
-          subst (λ (k : ℕ). Works db t 0 new c.mark_all.new.marks.lower.items k (reverse c.push_hint.new.hints.items)) (length-map c.args.trail.now (λ (x : Entry). x.lit))
-          (subst (λ (hs : List ℤ). Works db t 0 new c.mark_all.new.marks.lower.items (length t) (reverse hs))
-          (sym (c.in_ok-push_hint.ensures ∙ ap (λ (xs : List ℤ). xs ++ pos (c.args.conflict + 1) ∷ []) c.new-hints.ensures.items))
-          (works_first db t 0 new c.mark_all.new.marks.lower.items (pos (c.args.conflict + 1)) c.args.conflict c.literals_at-clause.result.now refl c.literals_at-clause.ensures
-          (c.requires.empty _ c.literals_at-clause.ensures) c.in_ok-mark_all.ensures.marks.marks c.in_ok-mark_all.ensures.seen));
-    }
+pub walk_to_start-hints-requires-clause-marks : goal.walk_to_start-hints-requires-clause-marks
+walk_to_start-hints-requires-clause-marks c = c.no_marks-marks.ensures.marks (held c.args.trail.now) 0

@@ -1,4 +1,4 @@
-use Rattle.std.proofs.Common.{inr, refl, sym, subst, ◌<◌, ◌+◌, ◌∙◌, take, arith}
+use Rattle.std.proofs.Common.{inr, refl, sym, subst, ◌<◌, ◌+◌, take, arith}
 use Rattle.std.specs.List.{AllZip}
 use Rattle.std.proofs.lemmas.List.{take_all}
 use Rattle.command_shell.specs.Statements.ShowTables.{IsTableLine}

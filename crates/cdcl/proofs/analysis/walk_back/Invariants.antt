@@ -2,7 +2,7 @@ use Rattle.std.proofs.Common.{◌≡◌, ◌<◌, ◌≤◌, ◌+◌, length, re
 use Rattle.cnf_form.specs.Literals.{literals}
 use Rattle.cdcl.specs.Trail.{held}
 use Rattle.cdcl.specs.Analysis.{AreMarksOf, AtMostSeen, Works}
-use Rattle.cdcl.proofs.analysis.analyze.Given as goal
+use Rattle.cdcl.proofs.analysis.walk_back.Given as goal
 
 abbrev pub invariant-loop-at : goal.invariant-loop-at
 invariant-loop-at l = record {

@@ -2,7 +2,7 @@ use Rattle.std.proofs.Common.{◌≡◌, ◌≤◌, length, reverse}
 use Rattle.cnf_form.specs.Literals.{literals}
 use Rattle.cdcl.specs.Trail.{held}
 use Rattle.cdcl.specs.Analysis.{AreMarksOf, AtMostSeen, Works}
-use Rattle.cdcl.proofs.analysis.refute.Given as goal
+use Rattle.cdcl.proofs.analysis.walk_to_start.Given as goal
 
 abbrev pub invariant-loop-at : goal.invariant-loop-at
 invariant-loop-at l = record {
