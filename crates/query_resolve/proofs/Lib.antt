@@ -3,3 +3,4 @@ pub mod Lookups
 pub mod Schemas
 pub mod Scopes
 pub mod Queries
+pub mod AnswerColumns

@@ -1,6 +1,7 @@
 -- The first failing check of a schema, of the tests of a `delete`, and of a query.
-use Rattle.std.specs.Prelude.{ℕ, ◌+◌, Bool, nat_lt, nat_le, not, ◌&&◌, if◌then◌else◌, List, [], ◌∷◌, ◌++◌, length, Option, Some, None, is_some, is_none, slice_index_or}
+use Rattle.std.specs.Prelude.{ℕ, ◌+◌, Bool, nat_lt, nat_le, not, ◌&&◌, if◌then◌else◌, List, [], ◌∷◌, ◌++◌, length, map, Option, Some, None, is_some, is_none, slice_index_or}
 use Rattle.cqa_value.specs.declared.value.Kind.{Kind}
+use Rattle.cqa_value.specs.declared.value.Value.{Value}
 use Rattle.cqa_value.specs.Values.{kind_of}
 use Rattle.cqa_model.specs.declared.schema.Column.{Column}
 use Rattle.cqa_model.specs.declared.refusal.Refusal.{Refusal}
@@ -15,8 +16,10 @@ use Rattle.spj_syntax.specs.declared.tree.RawCol.{RawCol}
 use Rattle.spj_syntax.specs.declared.tree.RawCond.{RawCond}
 use Rattle.spj_syntax.specs.declared.tree.RawCond.TheVariants.{Join, Test}
 use Rattle.spj_syntax.specs.declared.tree.Select.{Select}
+use Rattle.cqa_model.specs.declared.query.Query.{Query}
+use Rattle.cqa_model.specs.Query.{kind_at}
 use Rattle.cqa_model.specs.Refusal.{first_of}
-use Rattle.table_blocks.specs.Tables.{table_named, same_kind}
+use Rattle.table_blocks.specs.Tables.{table_named, same_kind, row_fault}
 use Rattle.query_resolve.specs.Names.{name_place, has_column, kind_named, columns_at, columns_in, owners}
 
 -- the refusal of a check that fails
@@ -105,3 +108,11 @@ abbrev pub query_fault : List Table → Select → Option Refusal
 query_fault db select =
     first_of (size_fault select)
     (first_of (first_fault (from_fault db) [] select.tables) (first_of (select_fault db select.tables select.columns) (where_fault db select.tables select.conds)))
+
+-- the kinds of a query's answer columns
+abbrev pub answer_kinds : List Table → Query → List Kind
+answer_kinds db q = map (kind_at q db) q.answer
+
+-- the row of an `explain` has a value for each answer column, of the column's kind
+abbrev pub answer_fault : List Table → Query → List Value → Option Refusal
+answer_fault db q row = row_fault (answer_kinds db q) 1 row

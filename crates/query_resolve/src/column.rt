@@ -140,7 +140,7 @@ pub fn typed_column(
 }
 
 /// The kind of a column.
-fn kind_of_column(db: &Database, atoms: &[Atom], col: ColRef) -> Kind
+pub(crate) fn kind_of_column(db: &Database, atoms: &[Atom], col: ColRef) -> Kind
     requires atom { col.atom < length atoms.now }
     requires table { (nth_atom atoms.now col.atom).table < length db.now }
     requires column { col.col < length (columns_at db.now (nth_atom atoms.now col.atom).table) }

@@ -1,6 +1,7 @@
 //! The names of schemas, of the tests of a `delete` and of queries, resolved over a database's tables.
 #![tactic(auto)]
 
+mod answer;
 mod column;
 mod condition;
 mod deletion;
@@ -10,6 +11,7 @@ mod names;
 mod query;
 mod schema;
 
+pub use answer::check_row;
 pub use deletion::resolve_tests;
 pub use query::resolve;
 pub use schema::resolve_schema;

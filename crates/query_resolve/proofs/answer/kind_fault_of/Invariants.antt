@@ -1,0 +1,8 @@
+use Rattle.std.proofs.Common.{◌≡◌, ◌+◌, drop}
+use Rattle.table_blocks.specs.Tables.{kind_fault}
+use Rattle.query_resolve.specs.Checks.{answer_kinds}
+use Rattle.query_resolve.proofs.answer.kind_fault_of.Given as goal
+
+-- the values so far have their columns' kinds
+abbrev pub invariant-loop-at : goal.invariant-loop-at
+invariant-loop-at l = kind_fault 1 1 (answer_kinds l.db l.query) l.row ≡ kind_fault 1 (l.at + 1) (drop l.at (answer_kinds l.db l.query)) (drop l.at l.row)
