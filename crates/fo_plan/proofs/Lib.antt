@@ -1,0 +1,4 @@
+mod Suiting
+mod Parted
+mod Walked
+mod PlanParts
