@@ -1,0 +1,6 @@
+mod Again
+mod Fields
+mod OneWay
+mod Quoting
+mod Records
+mod Rows

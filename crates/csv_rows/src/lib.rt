@@ -1,0 +1,13 @@
+//! Rows as CSV (RFC 4180): the rows that a block of records holds, and rows written as records that are read as the
+//! same rows.
+#![tactic(auto)]
+
+mod field;
+mod laws;
+mod reading;
+mod record;
+mod writing;
+
+pub use laws::a_block_reads_in_one_way;
+pub use reading::read_rows;
+pub use writing::write_rows;
