@@ -7,7 +7,7 @@ use Rattle.std.proofs.lemmas.Grind.{common_steps}
 use Rattle.std.proofs.lemmas.Bool.Decides.{nat_tests}
 use Rattle.std.specs.List.{AllByRecursion}
 use Rattle.script_lex.specs.Bytes.{is_line_blank, is_not_line_feed, AllPass}
-use Rattle.script_lex.specs.ScriptParts.{HasNoBlock}
+use Rattle.script_lex.specs.ScriptParts.{LinesSoFar, HasNoBlock}
 use Rattle.script_lex.specs.Scripts.{IsLineEnd, Skips, IsEndingLine, IsBlockLine, lines_text, EndsBlock, IsBlock}
 use Rattle.script_lex.proofs.Runs.{AllPass-push, run_same, run_none}
 
@@ -128,15 +128,6 @@ skips_same bytes s t b c h k = elim h.is [
     | inr n ↦ (m.0 ∙ sym n.0, ap (λ z. z ++ b) (sym m.0) ∙ sym h.whole ∙ k.whole ∙ ap (λ z. z ++ c) n.0)
   ]
 ]
-
--- Up to a place the bytes are whole lines of a block, and from the last line's beginning there is no line feed.
-pub record LinesSoFar (bytes : List ℕ) (line i : ℕ) : Type 0 where
-  pub order : line ≤ i
-  pub within : i ≤ length bytes
-  pub lines : List (List ℕ)
-  pub each : AllByRecursion IsBlockLine lines
-  pub are : take line bytes ≡ lines_text lines
-  pub open_line : AllPass is_not_line_feed (slice_range bytes line i)
 
 pub lines_start : (bytes : List ℕ) → LinesSoFar bytes 0 0
 lines_start bytes = record { order = omega arith; within = omega arith; lines = []; each = tt; are = grind (arith, common_steps); open_line = subst (AllPass is_not_line_feed) (nothing (drop 0 bytes)) tt }

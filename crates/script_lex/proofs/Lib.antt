@@ -3,6 +3,7 @@ pub mod Leading
 pub mod BlockLines
 pub mod Statements
 pub mod FirstCuts
+pub mod Progressing
 pub mod FirstBytes
 pub mod Quotes
 pub mod Longest

@@ -1,18 +1,25 @@
 -- What the parts of the cut answer.
-use Rattle.std.specs.Prelude.{◌≡◌, ◌<◌, ◌≤◌, ℕ, Bool, true, false, List, length, take, drop, slice_index}
+use Rattle.std.specs.Prelude.{◌≡◌, ◌<◌, ◌≤◌, ℕ, Bool, true, false, List, length, take, drop, slice_index, slice_range}
+use Rattle.std.specs.List.{AllByRecursion}
 use Rattle.script_lex.specs.declared.blocks.BlockEnd.{BlockEnd}
 use Rattle.script_lex.specs.declared.modes.Mode.{Mode}
 use Rattle.script_lex.specs.declared.modes.Mode.TheVariants.{Outside}
 use Rattle.script_lex.specs.declared.modes.Region.{Region}
 use Rattle.script_lex.specs.declared.modes.Region.TheVariants as regions
 use Rattle.script_lex.specs.declared.modes.Stop.{Stop}
-use Rattle.script_lex.specs.Bytes.{semicolon}
-use Rattle.script_lex.specs.Scripts.{is_outside, Leads, is_gap_byte, is_text_byte, IsGap, BeginsOutright, Skips, IsBlock}
+use Rattle.script_lex.specs.declared.blocks.Lines.{Lines}
+use Rattle.script_lex.specs.Bytes.{semicolon, line_feed, is_not_line_feed, AllPass}
+use Rattle.script_lex.specs.Scripts.{is_outside, Leads, is_gap_byte, is_text_byte, IsGap, BeginsOutright, Skips, IsBlockLine, IsEndingLine, lines_text, IsBlock}
 
 -- the bytes of a region
 abbrev pub passes_in : Region → Mode → ℕ → Bool
 passes_in regions.Gap mode b = is_gap_byte mode b
 passes_in regions.Statement mode b = is_text_byte mode b
+
+-- the bytes before the place belong to the region
+pub record Reaches (region : Region) (bytes : List ℕ) (stop : Stop) : Type 0 where
+  pub within : stop.at ≤ length bytes
+  pub leads : Leads (passes_in region) Outside (take stop.at bytes) stop.mode
 
 -- the bytes before the place belong to the region, and the one there doesn't
 pub record Stands (region : Region) (bytes : List ℕ) (stop : Stop) : Type 0 where
@@ -43,6 +50,21 @@ pub record HasNoEnd (bytes : List ℕ) : Type 0 where
 pub record SkipsAt (bytes : List ℕ) (at : ℕ) : Type 0 where
   pub within : at ≤ length bytes
   pub skips : Skips bytes (take at bytes) (drop at bytes)
+
+-- The lines up to one are lines of a block, and up to a place no line feed ends that one.
+pub record LinesSoFar (bytes : List ℕ) (line i : ℕ) : Type 0 where
+  pub order : line ≤ i
+  pub within : i ≤ length bytes
+  pub lines : List (List ℕ)
+  pub each : AllByRecursion IsBlockLine lines
+  pub are : take line bytes ≡ lines_text lines
+  pub open_line : AllPass is_not_line_feed (slice_range bytes line i)
+
+-- the last of them ends the block with the line feed there, or the bytes are over
+pub record StandAt (bytes : List ℕ) (lines : Lines) : Type 0 where
+  pub so_far : LinesSoFar bytes lines.line lines.seen
+  pub feed : lines.seen < length bytes → slice_index bytes lines.seen ≡ line_feed
+  pub ends : lines.seen < length bytes → IsEndingLine (slice_range bytes lines.line lines.seen)
 
 -- a block ends at the place, and its ending line before the rest
 pub record BlockEndsAt (ended : Bool) (bytes : List ℕ) (end : BlockEnd) : Type 0 where

@@ -1,8 +1,8 @@
 //! The sets of bytes that scripts are made of, and the runs of
 //! bytes of one set.
 
-ghost use Rattle.std.specs.Prelude.{◌≡◌};
-ghost use Rattle.script_lex.specs.Bytes.{test_of, Runs};
+ghost use Rattle.std.specs.Prelude.{◌≡◌, ◌≤◌, length, take};
+ghost use Rattle.script_lex.specs.Bytes.{test_of, AllPass, Runs};
 
 /// A set of bytes.
 #[derive(Clone, Copy)]
@@ -35,14 +35,25 @@ pub fn is_in(class: Class, byte: u8) -> bool
     }
 }
 
+/// How many bytes of a class stand first, where so many are known to.
+pub fn run_on(class: Class, bytes: &[u8], known: usize) -> usize
+    requires within { known ≤ length bytes.now }
+    requires each { AllPass (test_of class) (take known bytes.now) }
+    ensures { Runs class bytes.now result }
+{
+    let mut count = known;
+    while count < bytes.len() {
+        if !is_in(class, bytes[count]) {
+            return count;
+        }
+        count += 1;
+    }
+    count
+}
+
 /// How many bytes of a class stand first.
 pub fn run_length(class: Class, bytes: &[u8]) -> usize
     ensures { Runs class bytes.now result }
 {
-    for (i, byte) in bytes.iter().enumerate() {
-        if !is_in(class, *byte) {
-            return i;
-        }
-    }
-    bytes.len()
+    run_on(class, bytes, 0)
 }

@@ -3,6 +3,7 @@
 
 mod blocks;
 mod bytes;
+mod cutter;
 mod cutting;
 mod kinds;
 mod laws;
@@ -11,6 +12,7 @@ mod modes;
 mod pieces;
 mod scan;
 
+pub use cutter::Cutter;
 pub use cutting::Cut;
 pub use kinds::{LexFault, Span, Symbol, Token, TokenKind};
 pub use laws::{cut_goes_on, cut_is_unique};

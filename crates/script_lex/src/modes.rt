@@ -2,7 +2,7 @@
 //! knows at each byte whether it stands in one.
 
 ghost use Rattle.std.specs.Prelude.{◌≡◌};
-ghost use Rattle.script_lex.specs.ScriptParts.{passes_in, Stands};
+ghost use Rattle.script_lex.specs.ScriptParts.{passes_in, Reaches, Stands};
 ghost use Rattle.script_lex.specs.Scripts.{after};
 
 use crate::bytes::{Class, is_in};
@@ -84,19 +84,19 @@ fn belongs(region: Region, mode: Mode, byte: u8) -> bool
     }
 }
 
-/// The first byte that doesn't belong to a region which begins outside texts and comments, or the end.
-pub fn region_end(region: Region, bytes: &[u8]) -> Stop
+/// The first byte from a known place on that doesn't belong to a region, or the end.
+pub fn region_on(region: Region, bytes: &[u8], known: Stop) -> Stop
+    requires { Reaches region bytes.now known }
     ensures { Stands region bytes.now result }
 {
-    let mut mode = Mode::Outside;
-    for (at, byte) in bytes.iter().enumerate() {
-        if !belongs(region, mode, *byte) {
+    let mut at = known.at;
+    let mut mode = known.mode;
+    while at < bytes.len() {
+        if !belongs(region, mode, bytes[at]) {
             return Stop { at, mode };
         }
-        mode = next_mode(mode, *byte);
+        mode = next_mode(mode, bytes[at]);
+        at += 1;
     }
-    Stop {
-        at: bytes.len(),
-        mode,
-    }
+    Stop { at, mode }
 }

@@ -1,8 +1,0 @@
-use Rattle.std.proofs.Common.{take}
-use Rattle.script_lex.specs.declared.modes.Mode.TheVariants.{Outside}
-use Rattle.script_lex.specs.ScriptParts.{passes_in}
-use Rattle.script_lex.specs.Scripts.{Leads}
-use Rattle.script_lex.proofs.modes.region_end.Given as goal
-
-abbrev pub invariant-loop-at : goal.invariant-loop-at
-invariant-loop-at l = Leads (passes_in l.region) Outside (take l.at l.bytes) l.mode
