@@ -6,4 +6,3 @@ mod walking;
 
 pub use classes::class_of;
 pub use cqa_model::Class;
-
