@@ -8,7 +8,6 @@ use cqa_value::{Fail, Items, Kind, Name, NameFault, Row, Value};
 use std::alloc::Global;
 use std::marker::Brand;
 use std::sync::ledger::{Blank, Ledger};
-use std::test::Fail as TestFail;
 use table_blocks::{Database, Probe, Steps};
 
 /// A number and a text, as the tables of cases write a row.
@@ -50,9 +49,15 @@ fn schema(alloc: Global) -> Result<Schema, Fail<NameFault>> {
 fn database(alloc: Global) -> Result<Database, Fail<NameFault>>
     ensures { IfOk result (λ db. length db ≡ 1) }
 {
+    let schema = schema(alloc)?;
     let mut db = Database::new(alloc);
-    db.create(alloc, schema(alloc)?)?;
-    Ok(db)
+    match db.create(alloc, schema) {
+        Ok(()) => Ok(db),
+        Err(_) => {
+            drop(db);
+            Err(Fail::NoMemory)
+        }
+    }
 }
 
 /// Puts rows into the table, and gives how many were new, if they were taken.
@@ -82,26 +87,29 @@ const ORDERED: [Pair; 5] = [(1, "x"), (5, "x"), (2, "y"), (3, "y"), (4, "z")];
 
 const GIVEN: [Pair; 6] = [(4, "z"), (1, "x"), (3, "y"), (5, "x"), (2, "y"), (1, "x")];
 
+const OTHERS: [Pair; 3] = [(2, "x"), (6, "z"), (0, "")];
+
+/// Whether rows that come in another order, and again, have the places of block order, and other rows none.
+fn are_in_order(alloc: Global, db: &mut Database) -> Result<bool, Fail<NameFault>> {
+    let first = fill(alloc, db, &GIVEN)?;
+    let again = fill(alloc, db, &GIVEN)?;
+    let mut right = first == Some(5) && again == Some(0) && db.row_total() == 5;
+    for (place, pair) in ORDERED.iter().enumerate() {
+        right = right && place_of(alloc, db, *pair)? == Some(place as u32);
+    }
+    for pair in OTHERS {
+        right = right && place_of(alloc, db, pair)?.is_none();
+    }
+    Ok(right)
+}
+
 #[test]
-fn rows_have_their_places_in_block_order(rt: HostRuntime) -> Result<(), TestFail> {
+fn rows_have_their_places_in_block_order(rt: HostRuntime) {
     let alloc = rt.alloc();
-    let mut db = database(alloc)?;
-    assert_eq!(rt; fill(alloc, &mut db, &GIVEN)?, Some(5));
-    assert_eq!(rt; fill(alloc, &mut db, &GIVEN)?, Some(0));
-    let mut place = 0;
-    for pair in ORDERED {
-        assert_eq!(rt; place_of(alloc, &db, pair)?, Some(place));
-        place = 1u32.wrapping_add(place);
-    }
-    for pair in [(2, "x"), (6, "z"), (0, "")] {
-        assert_eq!(rt; place_of(alloc, &db, pair)?, None);
-    }
-    assert_eq!(rt; db.row_total(), 5);
-    let name = Name::from_bytes(alloc, b"turned")?;
-    assert_eq!(rt; db.find(&name), Some(0));
-    let name = Name::from_bytes(alloc, b"Turned")?;
-    assert_eq!(rt; db.find(&name), None);
-    Ok(())
+    let mut db = database(alloc).expect(&rt, "ample memory");
+    let right = are_in_order(alloc, &mut db);
+    drop(db);
+    assert!(rt; right.is_ok_and(|right| right));
 }
 
 /// The place and the number of the rows with first key values, if two ways to find them agree.
@@ -130,54 +138,60 @@ fn block<L: Ledger>(db: &Database, probe: &Probe<'_>, steps: &mut Steps<L>) -> u
     db.block(0, probe, steps).len()
 }
 
-/// What is found of a first key value, and of it with a second one.
-type Found = (Option<(u32, usize)>, Option<(u32, usize)>, usize);
+/// A first key value, a second one, and the place and the number of the rows that have the first, and both.
+type Case = (&'static str, i64, (u32, usize), (u32, usize));
 
-fn look_up<L: Ledger>(
+const CASES: [Case; 8] = [
+    ("w", 1, (0, 0), (0, 0)),
+    ("x", 1, (0, 2), (0, 1)),
+    ("x", 3, (0, 2), (1, 0)),
+    ("x", 5, (0, 2), (1, 1)),
+    ("y", 2, (2, 2), (2, 1)),
+    ("y", 5, (2, 2), (4, 0)),
+    ("z", 4, (4, 1), (4, 1)),
+    ("zz", 4, (5, 0), (5, 0)),
+];
+
+/// Whether that is found.
+fn is_found<L: Ledger>(
     alloc: Global,
     db: &Database,
     first: &Value,
-    second: i64,
+    case: &Case,
     blank: Blank,
-) -> Found
+) -> bool
     requires name { blank.name ≡ L.name }
     requires parts { blank.parts ≡ L.parts }
     requires some { 0 < blank.parts }
 {
     let mut steps = Steps::<L>::new(blank);
-    let second = Value::Int(second);
+    let second = Value::Int(case.1);
     let mut probe = Probe::new(alloc);
     if db.count() == 0 || db.schema(0).key.as_slice().len() != 2 {
-        return (None, None, 0);
+        return false;
     }
     probe.put(first);
     let one = span(db, &probe, &mut steps);
     probe.put(&second);
     let both = span(db, &probe, &mut steps);
     let count = block(db, &probe, &mut steps);
-    (one, both, count)
+    one == Some(case.2) && both == Some(case.3) && count == case.3.1
+}
+
+fn are_found(alloc: Global, db: &mut Database) -> Result<bool, Fail<NameFault>> {
+    let mut right = fill(alloc, db, &GIVEN)? == Some(5);
+    for case in CASES {
+        let first = text(alloc, case.0)?;
+        right = right && is_found::<Brand>(alloc, db, &first, &case, Blank::new(1));
+    }
+    Ok(right)
 }
 
 #[test]
-fn rows_are_found_by_first_key_values(rt: HostRuntime) -> Result<(), TestFail> {
+fn rows_are_found_by_first_key_values(rt: HostRuntime) {
     let alloc = rt.alloc();
-    let mut db = database(alloc)?;
-    let empty = look_up::<Brand>(alloc, &db, &text(alloc, "x")?, 1, Blank::new(1));
-    assert_eq!(rt; empty, (Some((0, 0)), Some((0, 0)), 0));
-    assert_eq!(rt; fill(alloc, &mut db, &GIVEN)?, Some(5));
-    let cases = [
-        ("w", 1, (0, 0), (0, 0)),
-        ("x", 1, (0, 2), (0, 1)),
-        ("x", 3, (0, 2), (1, 0)),
-        ("x", 5, (0, 2), (1, 1)),
-        ("y", 2, (2, 2), (2, 1)),
-        ("y", 5, (2, 2), (4, 0)),
-        ("z", 4, (4, 1), (4, 1)),
-        ("zz", 4, (5, 0), (5, 0)),
-    ];
-    for (first, second, one, both) in cases {
-        let found = look_up::<Brand>(alloc, &db, &text(alloc, first)?, second, Blank::new(1));
-        assert_eq!(rt; found, (Some(one), Some(both), both.1), "{first} {second}");
-    }
-    Ok(())
+    let mut db = database(alloc).expect(&rt, "ample memory");
+    let right = are_found(alloc, &mut db);
+    drop(db);
+    assert!(rt; right.is_ok_and(|right| right));
 }
