@@ -18,6 +18,7 @@ const REFUTED: &str = "c two units\np cnf 1 2\n1 0 -1\n0\nlrat\n3 0 1 2 0\n";
 
 /// A call of the program: its words and input, the first call of the source and of the sink that fails (0: none), and
 /// how many bytes the sink takes; its status, and what it writes.
+#[derive(Drop, Clone, Copy)]
 struct Call {
     words: &'static [&'static str],
     input: &'static str,
