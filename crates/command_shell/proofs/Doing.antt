@@ -1,26 +1,18 @@
 -- How the rooms of the statements answer.
-use Rattle.std.proofs.Common.{◌≡◌, inl, inr, ℕ, Bool, true, if◌then◌else◌, List, length, Option, Some, Result, Ok, Err, IsErrAnd, refl, sym, ap, ◌∙◌, subst, arith}
+use Rattle.std.proofs.Common.{◌≡◌, inl, inr, ℕ, Bool, List, Option, Some, None, IsNone, Result, Ok, Err, IsErrAnd, refl, sym, ap, subst}
 use Rattle.std.specs.Option.{option_map_or}
-use Rattle.std.proofs.lemmas.Bool.Decides.{nat_tests}
-use Rattle.std.proofs.lemmas.Slice.Zip.{AllZip-long}
 use Rattle.cqa_value.specs.declared.memory.Fail.{Fail}
 use Rattle.cqa_value.specs.declared.memory.Fail.TheVariants as fails
-use Rattle.cqa_model.specs.declared.query.Query.{Query}
 use Rattle.cqa_model.specs.declared.refusal.Refusal.{Refusal}
 use Rattle.cqa_model.specs.declared.refusal.Refusal.TheVariants.{UnknownTable}
 use Rattle.cqa_model.specs.Database.{Table}
 use Rattle.cqa_model.specs.Refusal.{IsRefusedAs}
-use Rattle.spj_syntax.specs.declared.tree.Select.{Select}
 use Rattle.table_blocks.specs.Tables.{table_named}
-use Rattle.query_resolve.specs.Checks.{query_fault}
-use Rattle.query_resolve.specs.Resolved.{IsAtomOf, IsQueryOf}
 use Rattle.reply_text.specs.declared.reply.Reply.{Reply}
 use Rattle.command_shell.specs.declared.ending.Stop.{Stop}
 use Rattle.command_shell.specs.declared.ending.Stop.TheVariants as stops
 use Rattle.command_shell.specs.State.{State}
 use Rattle.command_shell.specs.Replying.{on_table, Replies, IsOutcome}
-use Rattle.command_shell.specs.Statements.Ask.{is_single, ask_fault}
-use Rattle.command_shell.specs.Statements.Unanswered.{unanswered_fault}
 use Rattle.command_shell.specs.Machine.{Step}
 use Rattle.command_shell.specs.Parts.{AnswerRow, ReplyRow}
 
@@ -37,19 +29,15 @@ module _ (fault : Option Refusal) (old new : State) (May : Reply → State → T
   refused_out (Ok reply) fail is cause = absurd is
   refused_out (Err e) fail is cause = subst (λ f. IsOutcome (Err f) old (Replies fault old May) new) (sym is) (refused fail cause)
 
+-- at the exit of a `let .. else`
+pub none_found : {T : Type 0} (found : Option T) → ((x : T) → found ≡ Some x → ⊥) → IsNone found
+none_found None h = refl
+none_found (Some x) h = absurd (h x refl)
+
 -- ---- the checks
 
 pub on_table-there : (db : List Table) (name : List ℕ) (check : ℕ → Option Refusal) (table : ℕ) → table_named db name ≡ Some table → on_table db name check ≡ check table
 on_table-there db name check table found = ap (λ o. option_map_or check o (Some (UnknownTable name))) found
-
-pub ask_fault-single : (db : List Table) (select : Select) → is_single select ≡ true → ask_fault db select ≡ query_fault db select
-ask_fault-single db select single = ap (λ b. if b then query_fault db select else unanswered_fault) single
-
-pub one_table : (select : Select) → is_single select ≡ true → length select.tables ≡ 1
-one_table select e = grind (arith, nat_tests)
-
-pub one_atom : (db : List Table) (select : Select) (query : Query) → is_single select ≡ true → IsQueryOf db select query → length query.atoms ≡ 1
-one_atom db select query single is = AllZip-long (IsAtomOf db) select.tables query.atoms is.atoms ∙ one_table select single
 
 -- ---- one statement of an input
 

@@ -15,26 +15,27 @@ use Rattle.command_shell.specs.Replying.{Replies}
 use Rattle.command_shell.specs.Statements.Create.{Creates}
 use Rattle.command_shell.specs.Statements.Insert.{insert_into_fault, InsertsInto}
 use Rattle.command_shell.specs.Statements.Delete.{delete_from_fault, DeletesFrom}
-use Rattle.command_shell.specs.Statements.Ask.{ask_fault, AnswersCertain}
+use Rattle.command_shell.specs.Statements.Ask.{AnswersCertain}
 use Rattle.command_shell.specs.Statements.Possible.{AnswersPossible}
 use Rattle.command_shell.specs.Statements.Classify.{Classifies}
+use Rattle.command_shell.specs.Statements.Plan.{ShowsPlan}
 use Rattle.command_shell.specs.Statements.ShowTables.{ShowsTables}
 use Rattle.command_shell.specs.Statements.Unanswered.{unanswered_fault, Unanswered}
 
 -- ---- what is asked of a query: the first of its checks that fails in a state, and what it may do where none fails
 
 abbrev pub asking_fault : State → Verb → Select → Option Refusal
-asking_fault old verbs.Ask select = ask_fault old.tables select
+asking_fault old verbs.Ask select = query_fault old.tables select
 asking_fault old verbs.Possible select = query_fault old.tables select
 asking_fault old verbs.Classify select = query_fault old.tables select
-asking_fault old verbs.Plan select = unanswered_fault
+asking_fault old verbs.Plan select = query_fault old.tables select
 asking_fault old (verbs.Explain row) select = unanswered_fault
 
 abbrev pub Asks : State → Verb → Select → Reply → State → Type 0
 Asks old verbs.Ask select reply new = AnswersCertain old select reply new
 Asks old verbs.Possible select reply new = AnswersPossible old select reply new
 Asks old verbs.Classify select reply new = Classifies old select reply new
-Asks old verbs.Plan select reply new = Unanswered
+Asks old verbs.Plan select reply new = ShowsPlan old select reply new
 Asks old (verbs.Explain row) select reply new = Unanswered
 
 -- ---- a statement, with the block that follows it: the same

@@ -5,5 +5,6 @@ pub mod Delete
 pub mod Ask
 pub mod Possible
 pub mod Classify
+pub mod Plan
 pub mod ShowTables
 pub mod Unanswered

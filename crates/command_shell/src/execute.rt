@@ -12,6 +12,7 @@ use crate::statements::classify::classify;
 use crate::statements::create::create;
 use crate::statements::delete::delete;
 use crate::statements::insert::insert;
+use crate::statements::plan::plan;
 use crate::statements::possible::possible;
 use crate::statements::show_tables::show_tables;
 use crate::statements::unanswered::unanswered;
@@ -34,7 +35,8 @@ fn asked(
         Verb::Ask => ask(alloc, session, select),
         Verb::Possible => possible(alloc, session, select),
         Verb::Classify => classify(alloc, session, select),
-        Verb::Plan | Verb::Explain { .. } => Err(unanswered()),
+        Verb::Plan => plan(alloc, session, select),
+        Verb::Explain { .. } => Err(unanswered()),
     }
 }
 

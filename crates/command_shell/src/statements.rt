@@ -5,6 +5,7 @@ pub mod classify;
 pub mod create;
 pub mod delete;
 pub mod insert;
+pub mod plan;
 pub mod possible;
 pub mod show_tables;
 mod table_place;

@@ -1,10 +1,10 @@
 -- A plan names each atom once.
-use Rattle.std.proofs.Common.{◌≡◌, ℕ, zero, suc, ◌<◌, List, [], ◌∷◌, length, get_or, refl, ap, sym, subst, arith, Contains}
+use Rattle.std.proofs.Common.{◌≡◌, ℕ, zero, suc, ◌<◌, List, [], ◌∷◌, length, get_or, refl, ap, sym, subst, arith, Contains, ◌∙◌}
 use Rattle.std.proofs.lemmas.List.{get_or_default}
 use Rattle.cqa_model.specs.declared.query.Query.{Query}
 use Rattle.cqa_model.specs.Shape.{AreDistinct}
-use Rattle.cqa_model.specs.Variables.{View, after}
-use Rattle.cqa_model.specs.Plan.{IsPlan}
+use Rattle.cqa_model.specs.Variables.{View, whole, after}
+use Rattle.cqa_model.specs.Plan.{IsPlan, IsPlanOf}
 
 module _ (q : Query) where
   in_view : (plan : List ℕ) (view : View) → IsPlan q view plan → (i : ℕ) → i < length plan → view.has (get_or plan i 0)
@@ -21,3 +21,7 @@ module _ (q : Query) where
   plan-distinct (F ∷ plan) view h zero (suc j) a b e = absurd (apart F plan view h.3 j (omega (arith, b)) (sym e))
   plan-distinct (F ∷ plan) view h (suc i) zero a b e = absurd (apart F plan view h.3 i (omega (arith, a)) e)
   plan-distinct (F ∷ plan) view h (suc i) (suc j) a b e = ap suc (plan-distinct plan (after q view F) h.3 i j (omega (arith, a)) (omega (arith, b)) e)
+
+  -- a plan names atoms of the query
+  pub plan-atoms : (plan : List ℕ) → IsPlanOf q plan → (F : ℕ) → Contains plan F → F < length q.atoms
+  plan-atoms plan h F (i, l, e) = subst (λ z. z < length q.atoms) (get_or_default plan i 0 F l ∙ e) (in_view plan (whole q) h i l)

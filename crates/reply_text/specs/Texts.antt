@@ -1,5 +1,5 @@
 -- The bytes of each reply.
-use Rattle.std.specs.Prelude.{ℕ, Bool, true, false, List, ◌++◌, length, Option, Some, None, codes}
+use Rattle.std.specs.Prelude.{ℕ, zero, suc, ◌+◌, Bool, true, false, List, [], ◌∷◌, ◌++◌, length, Option, Some, None, codes}
 use Rattle.std.specs.Fmt.{decimal}
 use Rattle.std.specs.List.{flat_map}
 use Rattle.cqa_value.specs.Literals.{row_bytes}
@@ -17,7 +17,7 @@ use Rattle.cqa_model.specs.declared.class.Class.TheVariants.{FirstOrder, Polynom
 use Rattle.reply_text.specs.declared.reply.AttackLine.{AttackLine}
 use Rattle.reply_text.specs.declared.reply.TableLine.{TableLine}
 use Rattle.reply_text.specs.declared.reply.Reply.{Reply}
-use Rattle.reply_text.specs.declared.reply.Reply.TheVariants.{Created, Inserted, Deleted, Rows, Classified, Tables, Refused}
+use Rattle.reply_text.specs.declared.reply.Reply.TheVariants.{Created, Inserted, Deleted, Rows, Classified, Steps, NoPlan, Tables, Refused}
 
 -- row R column C, or condition K
 abbrev pub place_text : Place → List ℕ
@@ -97,6 +97,20 @@ attack_text line = line.from ++ codes " attacks " ++ line.to ++ strength_text li
 abbrev pub classified_text : Class → List AttackLine → List ℕ
 classified_text class lines = codes "class " ++ class_text class ++ flat_map (λ line. codes "\n" ++ attack_text line) lines
 
+-- what stands before the number of a step, with so many before it: all but the first begin a line
+abbrev pub step_start : ℕ → List ℕ
+step_start zero = codes "step "
+step_start (suc before) = codes "\nstep "
+
+-- step K NAME, with so many steps before it
+abbrev pub step_text : ℕ → List ℕ → List ℕ
+step_text before name = step_start before ++ decimal (before + 1) ++ codes " " ++ name
+
+-- a step for each of these tables, each on a line of its own, with so many before them
+abbrev pub steps_text : ℕ → List (List ℕ) → List ℕ
+steps_text before [] = []
+steps_text before (name ∷ names) = step_text before name ++ steps_text (before + 1) names
+
 -- each table on a line of its own, then N tables
 abbrev pub tables_text : List TableLine → List ℕ
 tables_text lines = flat_map (λ line. table_text line ++ codes "\n") lines ++ decimal (length lines) ++ codes " tables"
@@ -108,6 +122,8 @@ lines_text (Inserted count) = codes "inserted " ++ decimal count
 lines_text (Deleted count) = codes "deleted " ++ decimal count
 lines_text (Rows rows) = rows_text rows
 lines_text (Classified class lines) = classified_text class lines
+lines_text (Steps names) = steps_text 0 names
+lines_text NoPlan = codes "no plan"
 lines_text (Tables lines) = tables_text lines
 lines_text (Refused refusal) = refusal_text refusal
 

@@ -3,6 +3,7 @@
 
 mod append;
 mod classified;
+mod planned;
 mod refused;
 mod reply;
 mod text;

@@ -20,6 +20,10 @@ pub enum Reply {
         class: Class,
         lines: Items<AttackLine>,
     },
+    /// The tables of a query in the order of its plan.
+    Steps(Items<Name>),
+    /// The query has no plan.
+    NoPlan,
     /// The tables in the order in which they were made.
     Tables(Items<TableLine>),
     /// The statement was refused and changed nothing.

@@ -5,6 +5,7 @@ ghost use Rattle.reply_text.specs.Texts.{lines_text, reply_text, rows_text, tabl
 
 use crate::append::{append_named, append_number, append_numbered, append_words};
 use crate::classified::append_classified;
+use crate::planned::append_steps;
 use crate::refused::append_refusal;
 use crate::{Reply, TableLine};
 use cqa_model::schema_text;
@@ -42,6 +43,8 @@ fn append_lines(reply: &Reply, out: &mut Vec<u8>) -> Result<(), NoMemory>
         Reply::Deleted(count) => append_numbered("deleted ", *count, out),
         Reply::Rows(rows) => append_rows(rows.as_slice(), out),
         Reply::Classified { class, lines } => append_classified(*class, lines.as_slice(), out),
+        Reply::Steps(names) => append_steps(names.as_slice(), out),
+        Reply::NoPlan => append_words("no plan", out),
         Reply::Tables(lines) => append_tables(lines.as_slice(), out),
         Reply::Refused(refusal) => append_refusal(refusal, out),
     }
