@@ -1,9 +1,9 @@
 -- Views that are the same have the same attacks.
-use Rattle.std.proofs.Common.{ℕ, ◌≢◌, inl, inr, List, [], ◌∷◌}
+use Rattle.std.proofs.Common.{ℕ, inl, inr, List, [], ◌∷◌}
 use Rattle.cqa_model.specs.declared.query.ColRef.{ColRef}
 use Rattle.cqa_model.specs.declared.query.Query.{Query}
 use Rattle.cqa_model.specs.Variables.{View as Rest, IsFree, IsVar, IsKeyVar}
-use Rattle.cqa_model.specs.Closures.{IsDerivation, InPlus}
+use Rattle.cqa_model.specs.Closures.{IsDerivation, CountsFor, InPlus}
 use Rattle.cqa_model.specs.Graph.{IsSequence, Attacks, IsWeak}
 use Rattle.key_closure.specs.Members.{AreSame}
 use Rattle.attack_graph.specs.declared.graph.Attacks.{Attacks as Graph}
@@ -22,7 +22,7 @@ module _ (q : Query) where
   same-key : (a b : Rest) → AreSame a b → (F : ℕ) (v : ColRef) → IsKeyVar q a F v → IsKeyVar q b F v
   same-key a b s F v h = (same-free a b s v h.0, h.1)
 
-  same-derivation : (a b : Rest) → AreSame a b → (F : ℕ) (vs : List ColRef) → IsDerivation q a (λ K. a.has K × (K ≢ F)) (IsKeyVar q a F) vs → IsDerivation q b (λ K. b.has K × (K ≢ F)) (IsKeyVar q b F) vs
+  same-derivation : (a b : Rest) → AreSame a b → (F : ℕ) (vs : List ColRef) → IsDerivation q a (CountsFor q a F) (IsKeyVar q a F) vs → IsDerivation q b (CountsFor q b F) (IsKeyVar q b F) vs
   same-derivation a b s F [] d = tt
   same-derivation a b s F (v ∷ vs) d = (
     elim d.0 [

@@ -4,7 +4,7 @@ use native.Mathlib.Decide.{ℕ_discrete}
 use Rattle.cqa_model.specs.declared.query.ColRef.{ColRef}
 use Rattle.cqa_model.specs.declared.query.Query.{Query}
 use Rattle.cqa_model.specs.Variables.{number, IsVar, IsKeyVar}
-use Rattle.cqa_model.specs.Closures.{InClosure, InPlus}
+use Rattle.cqa_model.specs.Closures.{InClosure, CountsFor, InPlus}
 use Rattle.cqa_model.specs.Graph.{IsReached}
 use Rattle.cqa_model.proofs.Columns.{label-of_least}
 use Rattle.cqa_model.proofs.Interface.{reached-within}
@@ -16,14 +16,12 @@ use Rattle.key_closure.specs.Members.{IsIn, IsSetOf, seen, IsAmong}
 use Rattle.key_closure.proofs.Growing.{in_union, union_left, union_right, closure-map}
 use Rattle.attack_graph.specs.Attacking.{IsTouched}
 
-pub plus-set : (q : Query) (view : View) (F : ℕ) (start s : VarSet) (all atoms : AtomSet) → IsSetOf q start (IsKeyVar q (seen q view) F) →
-    ((K : ℕ) → HasAtom all K ↔ (seen q view).has K) → ((K : ℕ) → HasAtom atoms K ↔ (HasAtom all K × (K ≢ F))) →
+pub plus-set : (q : Query) (view : View) (F : ℕ) (start s : VarSet) (atoms : AtomSet) → IsSetOf q start (IsKeyVar q (seen q view) F) →
+    ((K : ℕ) → HasAtom atoms K ↔ CountsFor q (seen q view) F K) →
     IsSetOf q s (InClosure q (seen q view) (IsAmong q atoms) (IsIn q start)) → IsSetOf q s (InPlus q (seen q view) F)
-plus-set q view F start s all atoms hs ha ht hc c = (
-  (λ m. closure-map q (seen q view) (IsAmong q atoms) (λ K. (seen q view).has K × (K ≢ F)) (IsIn q start) (IsKeyVar q (seen q view) F)
-      (λ K u. let a = (ht K).0 u.1 in ((ha K).0 a.0, a.1)) (λ v i. (hs v).0 i) c ((hc c).0 m)),
-  (λ p. (hc c).1 (closure-map q (seen q view) (λ K. (seen q view).has K × (K ≢ F)) (IsAmong q atoms) (IsKeyVar q (seen q view) F) (IsIn q start)
-      (λ K u. (u.0.0, (ht K).1 ((ha K).1 u.0, u.1))) (λ v i. (hs v).1 i) c p)),
+plus-set q view F start s atoms hs ha hc c = (
+  (λ m. closure-map q (seen q view) (IsAmong q atoms) (CountsFor q (seen q view) F) (IsIn q start) (IsKeyVar q (seen q view) F) (λ K u. (ha K).0 u.1) (λ v i. (hs v).0 i) c ((hc c).0 m)),
+  (λ p. (hc c).1 (closure-map q (seen q view) (CountsFor q (seen q view) F) (IsAmong q atoms) (IsKeyVar q (seen q view) F) (IsIn q start) (λ K u. (u.0.0, (ha K).1 u)) (λ v i. (hs v).1 i) c p)),
 )
 
 -- what is in a difference

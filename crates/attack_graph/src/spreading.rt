@@ -2,11 +2,14 @@
 
 ghost use Rattle.std.specs.Prelude.{ℕ, ◌<◌, ◌↔◌, IsTrue, MatchOption, length};
 ghost use Rattle.cqa_model.specs.Variables.{IsVar};
-ghost use Rattle.cqa_model.specs.Closures.{InPlus};
+ghost use Rattle.cqa_model.specs.Query.{IsStrict};
+ghost use Rattle.cqa_model.specs.Closures.{CountsFor, InPlus};
 ghost use Rattle.cqa_model.specs.Graph.{IsReached};
+ghost use Rattle.key_closure.specs.Sets.{HasAtom};
 ghost use Rattle.key_closure.specs.Members.{IsAmong, IsLeft, IsSetOf, seen};
 ghost use Rattle.attack_graph.specs.Attacking.{IsTouched};
 
+use cqa_model::Query;
 use key_closure::{AtomSet, Named, VarSet};
 
 /// The variables that a sequence from vars(F) outside F+ leads to.
@@ -34,15 +37,34 @@ pub(crate) fn is_touched(named: &Named<'_>, set: &VarSet, atom: u32) -> bool
     set.meets(&vars)
 }
 
-/// F+: the closure of key(F) under the dependencies of the other atoms.
+/// F+: the closure of key(F) under the dependencies that count for it.
 fn plus_of(named: &Named<'_>, from: u32) -> VarSet
     requires atom { IsLeft named.now.query.now named.now.view from }
     ensures { IsSetOf named.now.query.now result (InPlus named.now.query.now (seen named.now.query.now named.now.view) from) }
 {
     let start = named.key_set(from);
-    let mut atoms = named.left();
-    atoms.remove(from);
+    let atoms = counted(named, from);
     named.closure(&start, &atoms)
+}
+
+/// The atoms whose dependencies count for F+: those of the view, without F unless its table is strict.
+fn counted(named: &Named<'_>, from: u32) -> AtomSet
+    requires atom { IsLeft named.now.query.now named.now.view from }
+    ensures { (K : ℕ) → HasAtom result K ↔ CountsFor named.now.query.now (seen named.now.query.now named.now.view) from K }
+{
+    let mut atoms = named.left();
+    if !is_strict(named.query, from) {
+        atoms.remove(from);
+    }
+    atoms
+}
+
+/// Is the atom's table strict?
+fn is_strict(query: &Query, atom: u32) -> bool
+    requires { atom < length query.now.atoms }
+    ensures { IsTrue result ↔ IsStrict query.now atom }
+{
+    query.atoms.as_slice()[atom as usize].strict
 }
 
 /// The variables of an atom that are outside F+.

@@ -1,5 +1,5 @@
 -- Agreement: two witnesses whose rows of G share a key agree on G+, where all else is of one repair.
-use Rattle.std.proofs.Common.{◌≡◌, ℕ, ◌<◌, ◌≢◌, inl, inr, List, [], ◌∷◌, length, get_or, ap, sym, ◌∙◌, subst, Contains}
+use Rattle.std.proofs.Common.{◌≡◌, ℕ, ◌<◌, inl, inr, List, [], ◌∷◌, length, get_or, ap, sym, ◌∙◌, subst, Contains}
 use Rattle.cqa_model.specs.declared.query.ColRef.{ColRef}
 use Rattle.cqa_model.specs.declared.query.Query.{Query}
 use Rattle.cqa_value.specs.declared.value.Value.{Value}
@@ -8,7 +8,7 @@ use Rattle.cqa_model.specs.Repairs.{SharesKey, IsRepairBy}
 use Rattle.cqa_model.proofs.Fitting.{FitsTables}
 use Rattle.cqa_model.specs.Database.{nothing}
 use Rattle.cqa_model.specs.Variables.{IsKeyVar}
-use Rattle.cqa_model.specs.Closures.{HasVariable, IsDerived, IsDerivation, InPlus}
+use Rattle.cqa_model.specs.Closures.{HasVariable, IsDerived, IsDerivation, CountsFor, InPlus}
 use Rattle.cqa_model.specs.Plan.{Placed}
 use Rattle.cqa_model.specs.Partial.{view_of, IsPartial}
 use Rattle.cqa_model.proofs.Classic.{same_value, mem-nil, mem-cases}
@@ -25,13 +25,13 @@ module _ (q : Query) (keys : List (List ℕ)) (tables : List (List (List Value))
 
   module _ (row : List Value) (taken : List Placed) (r s : List (List (List Value))) (hr : IsRepairBy keys tables r)
       (S T : List (List Value)) (hS : IsPartial q row taken r S) (hT : IsPartial q row taken s T) (G : ℕ)
-      (elsewhere : (K : ℕ) → (view_of q taken).has K → K ≢ G → (x : List Value) → Contains (rows_of q s K) x → Contains (rows_of q r K) x)
+      (elsewhere : (K : ℕ) → CountsFor q (view_of q taken) G K → (x : List Value) → Contains (rows_of q s K) x → Contains (rows_of q r K) x)
       (shares : SharesKey (atom_key q G) (row_at S G) (row_at T G)) where
     agree-derived : (vs : List ColRef) → ((u : ColRef) → HasVariable q vs u → value S u ≡ value T u) → (v : ColRef) →
-        IsDerived q (view_of q taken) (λ K. (view_of q taken).has K × (K ≢ G)) (IsKeyVar q (view_of q taken) G) vs v → value S v ≡ value T v
+        IsDerived q (view_of q taken) (CountsFor q (view_of q taken) G) (IsKeyVar q (view_of q taken) G) vs v → value S v ≡ value T v
     agree-derived vs ih v (inl (free, (p, m, l))) =
         value-linked q S hS.holds v (record { atom = G; col = p }) l ∙ shares p m ∙ sym (value-linked q T hT.holds v (record { atom = G; col = p }) l)
-    agree-derived vs ih v (inr (K, (has, ne), (free, (p, lp, l)), all)) =
+    agree-derived vs ih v (inr (K, counts, (free, (p, lp, l)), all)) =
         value-linked q S hS.holds v (record { atom = K; col = p }) l ∙ ap (λ x. get_or x p nothing) same ∙ sym (value-linked q T hT.holds v (record { atom = K; col = p }) l)
       where
         same_key : SharesKey (atom_key q K) (row_at S K) (row_at T K)
@@ -40,9 +40,9 @@ module _ (q : Query) (keys : List (List ℕ)) (tables : List (List (List Value))
             (λ free. k (ih (record { atom = K; col = p }) (all (record { atom = K; col = p }) (free, (p, m, linked-self q (record { atom = K; col = p })))))) k)
 
         same : row_at S K ≡ row_at T K
-        same = one_of_atom r hr K (view-in_range q taken K has) (row_at S K) (row_at T K) (hS.keeps K has) (elsewhere K has ne (row_at T K) (hT.keeps K has)) same_key
+        same = one_of_atom r hr K (view-in_range q taken K counts.0) (row_at S K) (row_at T K) (hS.keeps K counts.0) (elsewhere K counts (row_at T K) (hT.keeps K counts.0)) same_key
 
-    agree-derivation : (vs : List ColRef) → IsDerivation q (view_of q taken) (λ K. (view_of q taken).has K × (K ≢ G)) (IsKeyVar q (view_of q taken) G) vs →
+    agree-derivation : (vs : List ColRef) → IsDerivation q (view_of q taken) (CountsFor q (view_of q taken) G) (IsKeyVar q (view_of q taken) G) vs →
         (u : ColRef) → Contains vs u → value S u ≡ value T u
     agree-derivation [] d u m = absurd (mem-nil u m)
     agree-derivation (v ∷ vs) d u m = elim (mem-cases u v vs m) [

@@ -1,17 +1,17 @@
 -- Closures and attacks are decided, in views whose atoms and fixed variables are: a list of columns grows by what is
 -- derived until it has all of it.
-use Rattle.std.proofs.Common.{◌≡◌, ℕ, zero, suc, ◌<◌, ◌≤◌, ◌≢◌, ◌⊎◌, inl, inr, List, [], ◌∷◌, ◌++◌, length, sym, subst, arith, Contains}
+use Rattle.std.proofs.Common.{◌≡◌, true, ℕ, zero, suc, ◌<◌, ◌≤◌, ◌⊎◌, inl, inr, List, [], ◌∷◌, ◌++◌, length, sym, subst, arith, Contains}
 use Rattle.std.proofs.lemmas.List.Elements.{All-contains, Contains-append_left, Contains-append_right}
 use native.Mathlib.Decide.{ℕ_discrete}
 use Rattle.cqa_model.specs.declared.query.ColRef.{ColRef}
 use Rattle.cqa_model.specs.declared.query.Query.{Query}
-use Rattle.cqa_model.specs.Query.{atom_at, atom_key}
+use Rattle.cqa_model.specs.Query.{atom_at, atom_key, IsStrict}
 use Rattle.cqa_model.specs.Variables.{AreLinked, View, IsFree, IsVar, IsKeyVar}
-use Rattle.cqa_model.specs.Closures.{HasVariable, IsDerived, IsDerivation, InPlus}
+use Rattle.cqa_model.specs.Closures.{HasVariable, IsDerived, IsDerivation, CountsFor, InPlus}
 use Rattle.cqa_model.specs.Graph.{AreTogether, IsReached, Attacks}
 use Rattle.cqa_model.specs.Plan.{IsUnattacked}
 use Rattle.cqa_model.proofs.Classic.{stable, mem-head, mem-tail, mem-nil, mem-cases, mem-eq, dec_both, dec_three, dec_or, dec_if, dec_each, dec_some}
-use Rattle.cqa_model.proofs.Values.{dec_by, dec_not}
+use Rattle.cqa_model.proofs.Values.{dec_by, dec_not, bool_discrete}
 use Rattle.cqa_model.proofs.Decisions.{dec_linked}
 use Rattle.cqa_model.proofs.Views.{linked-self, linked-sym, has_variable-linked}
 use Rattle.cqa_model.proofs.Reification.{remove}
@@ -132,7 +132,10 @@ module _ (q : Query) (view : View) (closed : IsClosed q view) (within : (K : ℕ
 
   module _ (G : ℕ) (lG : G < length q.atoms) where
     abbrev uses : ℕ → Type 0
-    uses K = view.has K × (K ≢ G)
+    uses = CountsFor q view G
+
+    dec_strict : Dec (IsStrict q G)
+    dec_strict = bool_discrete (atom_at q G).strict true
 
     abbrev derived : List ColRef → ColRef → Type 0
     derived = IsDerived q view uses (IsKeyVar q view G)
@@ -150,7 +153,7 @@ module _ (q : Query) (view : View) (closed : IsClosed q view) (within : (K : ℕ
     dec_derived : (vs : List ColRef) (v : ColRef) → Dec (derived vs v)
     dec_derived vs v = dec_or (dec_key_var G v) (dec_by (λ h. (h.0, h.2.0, h.2.1, h.2.2)) (λ h. (h.0, in-atoms h.0 h.1.0, (h.1, h.2, h.3)))
         (dec_some (λ K. uses K × IsVar q view K v × ((u : ColRef) → IsKeyVar q view K u → HasVariable q vs u))
-        (λ K. dec_three (dec_both (dec_has K) (dec_not (ℕ_discrete K G))) (dec_var q view dec_fixed K v) (dec_keys vs K)) atoms))
+        (λ K. dec_three (dec_both (dec_has K) (dec_or (dec_not (ℕ_discrete K G)) dec_strict)) (dec_var q view dec_fixed K v) (dec_keys vs K)) atoms))
 
     plus_list : IsFull q (IsDerivation q view uses (IsKeyVar q view G)) derived dec_derived (λ xs x good s. (s, good)) all
     plus_list = filled q (IsDerivation q view uses (IsKeyVar q view G)) derived dec_derived (λ xs x good s. (s, good)) all tt

@@ -6,7 +6,7 @@ use Rattle.cqa_model.specs.declared.query.ColRef.{ColRef}
 use Rattle.cqa_model.specs.declared.query.Query.{Query}
 use Rattle.cqa_model.specs.Query.{atom_at, atom_key}
 use Rattle.cqa_model.specs.Variables.{AreLinked, View, IsFree, IsVar, IsKeyVar, after}
-use Rattle.cqa_model.specs.Closures.{HasVariable, IsDerived, IsDerivation, InClosure, InPlus}
+use Rattle.cqa_model.specs.Closures.{HasVariable, IsDerived, IsDerivation, InClosure, CountsFor, InPlus}
 use Rattle.cqa_model.specs.Graph.{IsSequence, IsReached, Attacks}
 use Rattle.cqa_model.specs.Plan.{IsUnattacked}
 use Rattle.cqa_model.proofs.Classic.{Classically, mem-head, mem-tail, mem-nil, mem-cases}
@@ -87,8 +87,8 @@ module _ (q : Query) (view : View) (closed : IsClosed q view) where
   closure-linked uses start u v l c = (c.0, c.1, has_variable-linked q c.0 u v l c.2)
 
   sequence-linked : (G : ℕ) (u v : ColRef) → AreLinked q u v → (us : List ColRef) → IsSequence q view G u us → IsSequence q view G v us
-  sequence-linked G u v l [] h = ((λ c. h.0 (closure-linked (λ K. view.has K × (K ≢ G)) (IsKeyVar q view G) u v l c)), var-linked G u v l h.1)
-  sequence-linked G u v l (x ∷ xs) h = ((λ c. h.0 (closure-linked (λ K. view.has K × (K ≢ G)) (IsKeyVar q view G) u v l c)), (h.1.0, h.1.1, h.1.2, var-linked h.1.0 u v l h.1.3), h.2)
+  sequence-linked G u v l [] h = ((λ c. h.0 (closure-linked (CountsFor q view G) (IsKeyVar q view G) u v l c)), var-linked G u v l h.1)
+  sequence-linked G u v l (x ∷ xs) h = ((λ c. h.0 (closure-linked (CountsFor q view G) (IsKeyVar q view G) u v l c)), (h.1.0, h.1.1, h.1.2, var-linked h.1.0 u v l h.1.3), h.2)
 
   reached-linked : (G : ℕ) (u v : ColRef) → AreLinked q u v → IsReached q view G u → IsReached q view G v
   reached-linked G u v l r = (r.0, sequence-linked G u v l r.0 r.1)
@@ -107,20 +107,20 @@ module _ (q : Query) (view : View) (closed : IsClosed q view) (F : ℕ) where
 
   module _ (G : ℕ) where
     abbrev old_uses : ℕ → Type 0
-    old_uses K = view.has K × (K ≢ G)
+    old_uses = CountsFor q view G
 
     abbrev new_uses : ℕ → Type 0
-    new_uses K = (view.has K × (K ≢ F)) × (K ≢ G)
+    new_uses = CountsFor q (after q view F) G
 
     -- no attack comes: what G+ had and is still free, it has still
     old-derived : (vs : List ColRef) → ((u : ColRef) → HasVariable q vs u → IsFree q (after q view F) u → Classically (InPlus q (after q view F) G u)) → (v : ColRef) →
         IsDerived q view old_uses (IsKeyVar q view G) vs v → IsFree q (after q view F) v → Classically (InPlus q (after q view F) G v)
     old-derived vs ih v (inl s) f k = k (closure-start q (after q view F) (after-closed q view closed F) new_uses (IsKeyVar q (after q view F) G) v (f, s.1))
-    old-derived vs ih v (inr (K, (hasK, ne), var_v, keys)) f k = go (ℕ_discrete K F)
+    old-derived vs ih v (inr (K, (hasK, own), var_v, keys)) f k = go (ℕ_discrete K F)
       where
         go : Dec (K ≡ F) → ⊥
         go (yes e) = not_var v f (subst (λ z. IsVar q view z v) e var_v)
-        go (no nf) = closure-rule q (after q view F) (after-closed q view closed F) new_uses (IsKeyVar q (after q view F) G) K ((hasK, nf), ne) v (f, var_v.1)
+        go (no nf) = closure-rule q (after q view F) (after-closed q view closed F) new_uses (IsKeyVar q (after q view F) G) K ((hasK, nf), own) v (f, var_v.1)
             (λ u ku. ih u (keys u (free-before q view F u ku.0, ku.1)) ku.0) k
 
     old-derivation : (vs : List ColRef) → IsDerivation q view old_uses (IsKeyVar q view G) vs → (u : ColRef) → HasVariable q vs u → IsFree q (after q view F) u →
@@ -149,10 +149,10 @@ module _ (q : Query) (view : View) (closed : IsClosed q view) (F : ℕ) where
   module _ (narrow : (K : ℕ) → view.has K → (p : ℕ) → Contains (atom_key q K) p → p < (atom_at q K).width)
       (hF : view.has F) (free : IsUnattacked q view F) (G : ℕ) (hG : view.has G) (ne_F : G ≢ F) where
     abbrev first_uses : ℕ → Type 0
-    first_uses K = view.has K × (K ≢ G)
+    first_uses = CountsFor q view G
 
     abbrev last_uses : ℕ → Type 0
-    last_uses K = (view.has K × (K ≢ F)) × (K ≢ G)
+    last_uses = CountsFor q (after q view F) G
 
     -- no variable of F is reached
     reached-not_var : (v : ColRef) → IsReached q view G v → IsVar q view F v → ⊥
@@ -165,8 +165,8 @@ module _ (q : Query) (view : View) (closed : IsClosed q view) (F : ℕ) where
     new-derived : (vs : List ColRef) → ((u : ColRef) → HasVariable q vs u → IsReached q view G u → ⊥) → (v : ColRef) →
         IsDerived q (after q view F) last_uses (IsKeyVar q (after q view F) G) vs v → IsReached q view G v → ⊥
     new-derived vs ih v (inl s) r = reached-outside v r (closure-start q view closed first_uses (IsKeyVar q view G) v (free-before q view F v s.0, s.1))
-    new-derived vs ih v (inr (K, ((hasK, nf), ne), var_v, keys)) r =
-        closure-rule q view closed first_uses (IsKeyVar q view G) K (hasK, ne) v (free-before q view F v var_v.0, var_v.1)
+    new-derived vs ih v (inr (K, ((hasK, nf), own), var_v, keys)) r =
+        closure-rule q view closed first_uses (IsKeyVar q view G) K (hasK, own) v (free-before q view F v var_v.0, var_v.1)
         (λ u ku k.
         let reached : IsReached q view G u = (v ∷ r.0, (k, (K, hasK, (free-before q view F v var_v.0, var_v.1), (ku.0, key-var u ku)), r.1)) in
         ih u (keys u (free-after u ku.0 (reached-not_var u reached), ku.1)) reached)

@@ -1,7 +1,7 @@
--- A database of two tables, r (x int, y int, primary key (x)) and s (y int, z int, primary key (y)), where r breaks its key.
--- Does some y of r stand in s? With (1, 1) and (1, 2) in r and (1, 5) in s it does in some repair and not in each; once
--- (2, 7) is in s too, it does in each.
-use Rattle.std.proofs.Common.{◌≡◌, ℕ, zero, suc, pos, ◌<◌, inl, inr, List, [], ◌∷◌, get_or, slice_index_or, refl, ap, sym, ◌∙◌, subst, arith, Contains}
+-- A database of two tables, r (x int, y int, primary key (x)) and the strict s (y int, z int, primary key (y)), where r
+-- breaks its key. Does some y of r stand in s? With (1, 1) and (1, 2) in r and (1, 5) in s it does in some repair and not
+-- in each; once (2, 7) is in s too, it does in each.
+use Rattle.std.proofs.Common.{◌≡◌, Bool, true, true≢false, false, ℕ, zero, suc, pos, ◌<◌, inl, inr, List, [], ◌∷◌, get_or, slice_index_or, refl, ap, sym, ◌∙◌, subst, arith, Contains}
 use Rattle.std.specs.List.Sorted.{IsStrictlySortedBy}
 use Rattle.std.specs.declared.cmp.Ordering.{Ordering}
 use Rattle.std.specs.declared.cmp.Ordering.TheVariants.{Less}
@@ -15,7 +15,7 @@ use Rattle.cqa_model.specs.declared.query.Cond.{Cond}
 use Rattle.cqa_model.specs.declared.query.Cond.TheVariants.{Join}
 use Rattle.cqa_model.specs.declared.query.Query.{Query}
 use Rattle.cqa_model.specs.Shape.{nth_atom, IsAtom, IsQuery}
-use Rattle.cqa_model.specs.Database.{Table, nothing, stored, IsTable, IsDatabase}
+use Rattle.cqa_model.specs.Database.{Table, nothing, AreConsistent, stored, IsTable, IsDatabase}
 use Rattle.cqa_model.specs.Repairs.{SharesKey, HasOne, IsTableRepair, IsRepair}
 use Rattle.cqa_model.specs.Query.{IsWitness, FitsDatabase}
 use Rattle.cqa_model.specs.Certain.{IsCertain, IsPossible}
@@ -34,10 +34,10 @@ same_number : (a b : ℕ) → Int (pos a) ≡ Int (pos b) → a ≡ b
 same_number a b e = (cc)
 
 abbrev r_schema : Schema
-r_schema = record { name = 114 ∷ []; columns = column 120 ∷ column 121 ∷ []; key = 0 ∷ []; kept = first_is_key (column 120) (column 121) (λ e. omega (arith, same_letter 120 121 e)) }
+r_schema = record { name = 114 ∷ []; columns = column 120 ∷ column 121 ∷ []; key = 0 ∷ []; strict = false; kept = first_is_key (column 120) (column 121) (λ e. omega (arith, same_letter 120 121 e)) }
 
 abbrev s_schema : Schema
-s_schema = record { name = 115 ∷ []; columns = column 121 ∷ column 122 ∷ []; key = 0 ∷ []; kept = first_is_key (column 121) (column 122) (λ e. omega (arith, same_letter 121 122 e)) }
+s_schema = record { name = 115 ∷ []; columns = column 121 ∷ column 122 ∷ []; key = 0 ∷ []; strict = true; kept = first_is_key (column 121) (column 122) (λ e. omega (arith, same_letter 121 122 e)) }
 
 abbrev row : ℕ → ℕ → List Value
 row a b = Int (pos a) ∷ Int (pos b) ∷ []
@@ -62,12 +62,15 @@ sorted_two : {A : Type 0} (cmp : A → A → Ordering) (a b : A) → cmp a b ≡
 unfolding IsStrictlySortedBy
 sorted_two cmp a b e = ((e, tt), (tt, tt))
 
+consistent_one : (key : List ℕ) (a : List Value) → AreConsistent key (a ∷ [])
+consistent_one key a x y mx my s = in_one (λ z. z ≡ y) a (in_one (λ z. a ≡ z) a refl y my) x mx
+
 before : IsDatabase (database (row 1 5 ∷ []))
 before = record {
   few_tables = omega arith;
   each = in_two IsTable _ _
-      (record { in_order = sorted_two _ (row 1 1) (row 1 2) refl; of_schema = in_two _ (row 1 1) (row 1 2) refl refl })
-      (record { in_order = sorted_one _ (row 1 5); of_schema = in_one _ (row 1 5) refl });
+      (record { in_order = sorted_two _ (row 1 1) (row 1 2) refl; of_schema = in_two _ (row 1 1) (row 1 2) refl refl; strict = λ s. absurd (true≢false (sym s)) })
+      (record { in_order = sorted_one _ (row 1 5); of_schema = in_one _ (row 1 5) refl; strict = λ s. consistent_one (0 ∷ []) (row 1 5) });
   names_differ = names;
   few_rows = omega arith;
 }
@@ -81,13 +84,16 @@ before = record {
     names i (suc (suc j)) li lj e = absurd (omega arith)
 
 -- exists from r, s where r.y = s.y
-abbrev atom : ℕ → Atom
-atom t = record { table = t; width = 2; key = 0 ∷ [] }
+abbrev atom : ℕ → Bool → Atom
+atom t strict = record { table = t; width = 2; key = 0 ∷ []; strict = strict }
+
+abbrev atoms : List Atom
+atoms = atom 0 false ∷ atom 1 true ∷ []
 
 abbrev join : Cond
 join = Join (record { atom = 0; col = 1 }) (record { atom = 1; col = 0 })
 
-kept : IsQuery (atom 0 ∷ atom 1 ∷ []) (join ∷ []) []
+kept : IsQuery atoms (join ∷ []) []
 kept = record {
   size = (omega arith, omega arith);
   each = each;
@@ -101,15 +107,15 @@ kept = record {
     places zero d l = omega arith
     places (suc k) d l = absurd (omega arith)
 
-    is_atom : (t : ℕ) → IsAtom (atom t)
-    is_atom t = record { width = (omega arith, omega arith); some_key = omega arith; key_in_range = places; key_apart = λ i j li lj e. omega arith }
+    is_atom : (t : ℕ) (strict : Bool) → IsAtom (atom t strict)
+    is_atom t strict = record { width = (omega arith, omega arith); some_key = omega arith; key_in_range = places; key_apart = λ i j li lj e. omega arith }
 
-    each : (F : ℕ) → F < 2 → IsAtom (nth_atom (atom 0 ∷ atom 1 ∷ []) F)
-    each zero l = is_atom 0
-    each (suc zero) l = is_atom 1
+    each : (F : ℕ) → F < 2 → IsAtom (nth_atom atoms F)
+    each zero l = is_atom 0 false
+    each (suc zero) l = is_atom 1 true
     each (suc (suc F)) l = absurd (omega arith)
 
-    tables : (F G : ℕ) → F < 2 → G < 2 → (nth_atom (atom 0 ∷ atom 1 ∷ []) F).table ≡ (nth_atom (atom 0 ∷ atom 1 ∷ []) G).table → F ≡ G
+    tables : (F G : ℕ) → F < 2 → G < 2 → (nth_atom atoms F).table ≡ (nth_atom atoms G).table → F ≡ G
     tables zero zero lF lG e = refl
     tables zero (suc zero) lF lG e = absurd (omega arith)
     tables (suc zero) zero lF lG e = absurd (omega arith)
@@ -118,18 +124,20 @@ kept = record {
     tables F (suc (suc G)) lF lG e = absurd (omega arith)
 
 abbrev query : Query
-query = record { atoms = atom 0 ∷ atom 1 ∷ []; conds = join ∷ []; answer = []; kept = kept }
+query = record { atoms = atoms; conds = join ∷ []; answer = []; kept = kept }
 
 below_two : (P : ℕ → Type 0) → P 0 → P 1 → (F : ℕ) → F < 2 → P F
 below_two P p0 p1 zero l = p0
 below_two P p0 p1 (suc zero) l = p1
 below_two P p0 p1 (suc (suc F)) l = absurd (omega arith)
 
-fits : (s_rows : List (List Value)) → FitsDatabase query (database s_rows)
-fits s_rows = record {
+fits : FitsDatabase query (database (row 1 5 ∷ []))
+fits = record {
   there = below_two _ (omega arith) (omega arith);
   width = below_two _ refl refl;
   keyed = below_two _ refl refl;
+  marked = below_two _ refl refl;
+  strict = below_two _ (λ s. absurd (true≢false (sym s))) (λ s. consistent_one (0 ∷ []) (row 1 5));
   kinds = in_one _ join refl;
 }
 
@@ -198,5 +206,5 @@ not_certain_before certain = clash (certain other other_is_repair)
         omega (arith, same_number 2 1 (sym left ∙ joined ∙ right))
 
 possible_before : IsPossible (database (row 1 5 ∷ [])) query []
-possible_before = (possible_is_candidate.possible (database (row 1 5 ∷ [])) query [] (fits (row 1 5 ∷ []))).1
+possible_before = (possible_is_candidate.possible (database (row 1 5 ∷ [])) query [] fits).1
     (row 1 1 ∷ row 1 5 ∷ [], pair (stored (database (row 1 5 ∷ []))) (row 1 1) (row 1 5) (mem-head (row 1 1) (row 1 2 ∷ [])) (mem-head (row 1 5) []) refl)

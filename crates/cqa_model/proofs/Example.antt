@@ -1,5 +1,5 @@
 -- The definitions are not empty: a query of one atom with its plan, and schemas of two columns.
-use Rattle.std.proofs.Common.{◌≡◌, ℕ, zero, suc, ◌<◌, refl, sym, [], ◌∷◌, slice_index_or, arith}
+use Rattle.std.proofs.Common.{◌≡◌, false, ℕ, zero, suc, ◌<◌, refl, sym, [], ◌∷◌, slice_index_or, arith}
 use Rattle.cqa_model.specs.declared.schema.Column.{Column}
 use Rattle.cqa_model.specs.declared.query.Atom.{Atom}
 use Rattle.cqa_model.specs.declared.query.Query.{Query}
@@ -8,7 +8,7 @@ use Rattle.cqa_model.specs.Plan.{IsPlanOf}
 use Rattle.cqa_model.proofs.Classic.{mem-nil}
 
 abbrev one_atom : Atom
-one_atom = record { table = 0; width = 2; key = 0 ∷ [] }
+one_atom = record { table = 0; width = 2; key = 0 ∷ []; strict = false }
 
 one_kept : IsQuery (one_atom ∷ []) [] []
 one_kept = record {

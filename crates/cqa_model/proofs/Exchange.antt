@@ -1,5 +1,5 @@
 -- Exchange: where B stands for A in G's block, each key of an atom that G doesn't attack was there before.
-use Rattle.std.proofs.Common.{◌≡◌, ℕ, ◌<◌, ◌≢◌, ◌⊎◌, inl, inr, List, [], ◌∷◌, length, get_or, map, refl, ap, sym, ◌∙◌, subst, Contains}
+use Rattle.std.proofs.Common.{◌≡◌, ℕ, ◌<◌, ◌⊎◌, inl, inr, List, [], ◌∷◌, length, get_or, map, refl, ap, sym, ◌∙◌, subst, Contains}
 use native.Mathlib.Decide.{ℕ_discrete}
 use Rattle.cqa_model.specs.declared.query.Cond.{Cond}
 use Rattle.cqa_model.specs.declared.query.Cond.TheVariants.{Join, Test}
@@ -12,7 +12,7 @@ use Rattle.cqa_model.specs.Repairs.{SharesKey, IsRepairBy}
 use Rattle.cqa_model.proofs.Fitting.{FitsTables}
 use Rattle.cqa_model.specs.Database.{nothing}
 use Rattle.cqa_model.specs.Variables.{AreLinked, IsJoined, IsVar}
-use Rattle.cqa_model.specs.Closures.{InPlus}
+use Rattle.cqa_model.specs.Closures.{CountsFor, InPlus}
 use Rattle.cqa_model.specs.Graph.{IsReached}
 use Rattle.cqa_model.specs.Plan.{Placed, IsUnattacked}
 use Rattle.cqa_model.specs.Partial.{view_of, AllFit, IsPartial}
@@ -31,7 +31,7 @@ map_alike f g (x ∷ xs) h =
 module _ (q : Query) (keys : List (List ℕ)) (tables : List (List (List Value))) (fits : FitsTables q keys tables)
     (row : List Value) (taken : List Placed) (all : AllFit q row taken) (r s : List (List (List Value))) (hr : IsRepairBy keys tables r)
     (S T : List (List Value)) (hS : IsPartial q row taken r S) (hT : IsPartial q row taken s T) (G : ℕ) (hG : (view_of q taken).has G)
-    (elsewhere : (K : ℕ) → (view_of q taken).has K → K ≢ G → (x : List Value) → Contains (rows_of q s K) x → Contains (rows_of q r K) x)
+    (elsewhere : (K : ℕ) → CountsFor q (view_of q taken) G K → (x : List Value) → Contains (rows_of q s K) x → Contains (rows_of q r K) x)
     (shares : SharesKey (atom_key q G) (row_at S G) (row_at T G)) where
   -- the atoms whose row S gives
   abbrev IsFirst : ℕ → Type 0
@@ -94,7 +94,7 @@ module _ (q : Query) (keys : List (List ℕ)) (tables : List (List (List Value))
       where
         keeps : (F : ℕ) → (view_of q taken).has F → (IsFirst F × (row_at U F ≡ row_at S F)) ⊎ ((IsFirst F → ⊥) × (row_at U F ≡ row_at T F)) → Contains (rows_of q r F) (row_at U F)
         keeps F has (inl p) = subst (λ x. Contains (rows_of q r F) x) (sym p.1) (hS.keeps F has)
-        keeps F has (inr p) = subst (λ x. Contains (rows_of q r F) x) (sym p.1) (elsewhere F has (λ e. p.0 (has, inl e)) (row_at T F) (hT.keeps F has))
+        keeps F has (inr p) = subst (λ x. Contains (rows_of q r F) x) (sym p.1) (elsewhere F (has, inl (λ e. p.0 (has, inl e))) (row_at T F) (hT.keeps F has))
 
         extends : (t : Placed) → Contains taken t → (IsFirst t.atom × (row_at U t.atom ≡ row_at S t.atom)) ⊎ ((IsFirst t.atom → ⊥) × (row_at U t.atom ≡ row_at T t.atom)) → row_at U t.atom ≡ t.row
         extends t m (inl p) = p.1 ∙ hS.extends t m

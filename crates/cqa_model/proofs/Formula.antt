@@ -8,15 +8,10 @@ use Rattle.cqa_model.specs.Repairs.{SharesKey, HasOne, IsRepairBy}
 use Rattle.cqa_model.proofs.Fitting.{IsCertainBy, FitsTables}
 use Rattle.cqa_model.specs.Formula.{Satisfies}
 use Rattle.cqa_model.proofs.Classic.{find_below, stable, dec_if, dec_below, dec_mem}
+use Rattle.cqa_model.proofs.Values.{bool_discrete}
 use Rattle.cqa_model.proofs.Repairs.{sublist-stored, shares-self}
 use Rattle.cqa_model.proofs.Preferring.{preferring}
 use Rattle.cqa_model.proofs.Witnesses.{dec_witness, at_table, witness-stored}
-
-bool_discrete : (a b : Bool) → Dec (a ≡ b)
-bool_discrete false false = yes refl
-bool_discrete false true = no (λ e. cc e)
-bool_discrete true false = no (λ e. cc e)
-bool_discrete true true = yes refl
 
 abbrev is_yes : {A : Type 0} → Dec A → Bool
 is_yes (yes a) = true

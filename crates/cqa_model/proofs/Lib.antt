@@ -14,6 +14,7 @@ pub mod Decisions
 pub mod Exactness
 pub mod Attacks
 pub mod Cycles
+pub mod Strict
 pub mod Interface
 pub mod AttackDecisions
 pub mod Preferring

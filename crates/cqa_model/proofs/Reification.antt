@@ -4,9 +4,10 @@ use native.Mathlib.Decide.{ℕ_discrete}
 use Rattle.std.proofs.lemmas.List.Elements.{Contains-append_left, Contains-append_right}
 use Rattle.cqa_model.specs.declared.query.Query.{Query}
 use Rattle.cqa_value.specs.declared.value.Value.{Value}
-use Rattle.cqa_model.specs.Query.{atom_at, atom_key, rows_of, row_at}
+use Rattle.cqa_model.specs.Query.{atom_at, atom_key, rows_of, IsStrict, row_at}
 use Rattle.cqa_model.specs.Repairs.{SharesKey, HasOne, IsRepairBy}
 use Rattle.cqa_model.proofs.Fitting.{FitsTables}
+use Rattle.cqa_model.specs.Closures.{CountsFor}
 use Rattle.cqa_model.specs.Plan.{Placed, IsUnattacked}
 use Rattle.cqa_model.specs.Partial.{view_of, AllFit, IsPartial}
 use Rattle.cqa_model.proofs.Classic.{Classically, mem-head, mem-tail, mem-nil, mem-cases, mem-eq}
@@ -111,12 +112,28 @@ module _ (q : Query) (keys : List (List ℕ)) (tables : List (List (List Value))
           | inr n ↦ k (T, record { size = hT.size; keeps = λ H has. stays n.0 H has (ℕ_discrete H K); holds = hT.holds; answers = hT.answers; extends = hT.extends }, shares-self (atom_key q F) (row_at T F))
         ]
       where
-        elsewhere : (H : ℕ) → (view_of q taken).has H → H ≢ K → (x : List Value) → Contains (rows_of q (replaced r hr K lK (row_at S K) b ma mb ab) H) x → Contains (rows_of q r H) x
-        elsewhere H has ne x m = subst (λ z. Contains z x) (replaced-elsewhere r hr K lK (row_at S K) b ma mb ab H (view-in_range q taken H has) ne) m
+        others : (H : ℕ) → (view_of q taken).has H → H ≢ K → (x : List Value) → Contains (rows_of q (replaced r hr K lK (row_at S K) b ma mb ab) H) x → Contains (rows_of q r H) x
+        others H has ne x m = subst (λ z. Contains z x) (replaced-elsewhere r hr K lK (row_at S K) b ma mb ab H (view-in_range q taken H has) ne) m
+
+        -- in a strict table the row and b are one
+        same : IsStrict q K → row_at S K ≡ b
+        same strict = fits.strict K lK strict (row_at S K) b (kept-stored r hr K lK (row_at S K) ma) mb ab
+
+        own : IsStrict q K → (x : List Value) → Contains (rows_of q (replaced r hr K lK (row_at S K) b ma mb ab) K) x → Contains (rows_of q r K) x
+        own strict x m = elim (replaced-out r hr K lK (row_at S K) b ma mb ab x m) [ inl e ↦ subst (λ z. Contains (rows_of q r K) z) (same strict ∙ sym e) ma | inr n ↦ n.0 ]
+
+        elsewhere : (H : ℕ) → CountsFor q (view_of q taken) K H → (x : List Value) → Contains (rows_of q (replaced r hr K lK (row_at S K) b ma mb ab) H) x → Contains (rows_of q r H) x
+        elsewhere H counts x m = go (ℕ_discrete H K) counts.1
+          where
+            go : Dec (H ≡ K) → (H ≢ K) ⊎ IsStrict q K → Contains (rows_of q r H) x
+            go (no ne) c = others H counts.0 ne x m
+            go (yes e) (inl ne) = absurd (ne e)
+            go (yes e) (inr strict) =
+                subst (λ z. Contains (rows_of q r z) x) (sym e) (own strict x (subst (λ z. Contains (rows_of q (replaced r hr K lK (row_at S K) b ma mb ab) z) x) e m))
 
         stays : Contains (rows_of q r K) (row_at T K) → (H : ℕ) → (view_of q taken).has H → Dec (H ≡ K) → Contains (rows_of q r H) (row_at T H)
         stays m H has (yes e) = subst (λ z. Contains (rows_of q r z) (row_at T z)) (sym e) m
-        stays m H has (no ne) = elsewhere H has ne (row_at T H) (hT.keeps H has)
+        stays m H has (no ne) = others H has ne (row_at T H) (hT.keeps H has)
 
     -- towards a repair s that lacks the key of x
     module _ (s : List (List (List Value))) (hs : IsRepairBy keys tables s) (x : List Value) (lacks : LacksKey s x) where

@@ -2,6 +2,7 @@
 use Rattle.std.specs.Prelude.{ℕ, ◌≢◌, ◌⊎◌, List, [], ◌∷◌, Contains}
 use Rattle.cqa_model.specs.declared.query.ColRef.{ColRef}
 use Rattle.cqa_model.specs.declared.query.Query.{Query}
+use Rattle.cqa_model.specs.Query.{IsStrict}
 use Rattle.cqa_model.specs.Variables.{AreLinked, View, IsVar, IsKeyVar}
 
 -- a column of v's variable is in the list
@@ -22,6 +23,11 @@ IsDerivation q view uses start (v ∷ vs) = IsDerived q view uses start vs v × 
 abbrev pub InClosure : Query → View → (ℕ → Type 0) → (ColRef → Type 0) → ColRef → Type 0
 InClosure q view uses start v = (vs : List ColRef) × IsDerivation q view uses start vs × HasVariable q vs v
 
--- F+: the closure of key(F) under the atoms of the view other than F
+-- K's dependency counts for F+: K is an atom of the view other than F, or F itself where its table is strict, so that the
+-- stored rows keep it (Koutris and Wijsen, ACM TODS 2017, where a strict table is one of mode c)
+abbrev pub CountsFor : Query → View → ℕ → ℕ → Type 0
+CountsFor q view F K = view.has K × ((K ≢ F) ⊎ IsStrict q F)
+
+-- F+: the closure of key(F) under the atoms of the view, without F unless its table is strict
 abbrev pub InPlus : Query → View → ℕ → ColRef → Type 0
-InPlus q view F v = InClosure q view (λ K. view.has K × (K ≢ F)) (IsKeyVar q view F) v
+InPlus q view F v = InClosure q view (CountsFor q view F) (IsKeyVar q view F) v

@@ -1,5 +1,5 @@
 -- Tables and databases as plain lists of rows.
-use Rattle.std.specs.Prelude.{◌≡◌, ℕ, ◌<◌, ◌≤◌, ◌+◌, List, [], ◌∷◌, length, map, Contains, slice_index_or}
+use Rattle.std.specs.Prelude.{◌≡◌, IsTrue, Bool, ℕ, ◌<◌, ◌≤◌, ◌+◌, List, [], ◌∷◌, length, map, Contains, slice_index_or}
 use Rattle.std.specs.List.Sorted.{IsStrictlySortedBy}
 use Rattle.std.specs.Ordering.{ordering_then}
 use Rattle.std.specs.declared.cmp.Ordering.{Ordering}
@@ -13,6 +13,14 @@ use Rattle.cqa_model.specs.declared.schema.Schema.{Schema}
 -- the values of a row in its key columns, in the key's order
 abbrev pub key_of : List ℕ → List Value → List Value
 key_of key row = map (λ p. slice_index_or row p nothing) key
+
+-- two rows agree on the key columns: they are of one block
+abbrev pub SharesKey : List ℕ → List Value → List Value → Type 0
+SharesKey key x y = (p : ℕ) → Contains key p → slice_index_or x p nothing ≡ slice_index_or y p nothing
+
+-- rows are consistent with a key: no two of them share it (Arenas, Bertossi and Chomicki, PODS 1999)
+abbrev pub AreConsistent : List ℕ → List (List Value) → Type 0
+AreConsistent key rows = (x y : List Value) → Contains rows x → Contains rows y → SharesKey key x y → x ≡ y
 
 -- block order: by the key's values, and rows of one key by the whole row
 abbrev pub block_cmp : List ℕ → List Value → List Value → Ordering
@@ -31,10 +39,11 @@ kinds_of schema = map (λ column. column.kind) schema.columns
 abbrev pub IsRowOf : Schema → List Value → Type 0
 IsRowOf schema row = map kind_of row ≡ kinds_of schema
 
--- different rows of the schema, in block order
+-- different rows of the schema, in block order. No two rows of a strict table share its key
 pub record IsTable (table : Table) : Type 0 where
   pub in_order : IsStrictlySortedBy (block_cmp table.schema.key) table.rows
   pub of_schema : (row : List Value) → Contains table.rows row → IsRowOf table.schema row
+  pub strict : IsTrue table.schema.strict → AreConsistent table.schema.key table.rows
 
 abbrev pub names_of : List Table → List (List ℕ)
 names_of db = map (λ table. table.schema.name) db
@@ -51,12 +60,16 @@ pub record IsDatabase (db : List Table) : Type 0 where
   pub names_differ : (i j : ℕ) → i < length db → j < length db → slice_index_or (names_of db) i [] ≡ slice_index_or (names_of db) j [] → i ≡ j
   pub few_rows : row_total db ≤ MOST_ROWS
 
--- the rows of each table, the key of each, and the kinds of the columns of each
+-- the rows of each table, the key of each, the mark of each, which says whether it is strict, and the kinds of the columns
+-- of each
 abbrev pub stored : List Table → List (List (List Value))
 stored db = map (λ table. table.rows) db
 
 abbrev pub keys_of : List Table → List (List ℕ)
 keys_of db = map (λ table. table.schema.key) db
+
+abbrev pub marks_of : List Table → List Bool
+marks_of db = map (λ table. table.schema.strict) db
 
 abbrev pub column_kinds : List Table → List (List Kind)
 column_kinds db = map (λ table. kinds_of table.schema) db

@@ -4,10 +4,10 @@ use Rattle.cqa_value.specs.declared.value.Value.{Value}
 use Rattle.cqa_model.specs.declared.query.Query.{Query}
 use Rattle.cqa_model.specs.Database.{Table, stored}
 use Rattle.cqa_model.specs.Repairs.{IsRepair}
-use Rattle.cqa_model.specs.Query.{atom_key, rows_of, IsWitness, FitsDatabase}
+use Rattle.cqa_model.specs.Query.{atom_key, rows_of, IsStrict, IsWitness, FitsDatabase}
 use Rattle.cqa_model.specs.Certain.{IsCertain, IsPossible, IsCandidate}
 use Rattle.cqa_model.specs.Variables.{whole}
-use Rattle.cqa_model.specs.Graph.{HasCycle}
+use Rattle.cqa_model.specs.Graph.{Attacks, HasCycle}
 use Rattle.cqa_model.specs.Plan.{HoldsOver, IsPlanOf}
 use Rattle.cqa_model.specs.Formula.{Satisfies}
 use Rattle.cqa_model.specs.OneTable.{FitsRow, SomeBlockFits}
@@ -23,6 +23,10 @@ pub record PlanOrCycle : Type 0 where
   pub not_both : (q : Query) (plan : List ℕ) → IsPlanOf q plan → HasCycle q (whole q) → ⊥
   pub some : (q : Query) → (HasCycle q (whole q) → ⊥) → (plan : List ℕ) × IsPlanOf q plan
   pub one : (q : Query) (plan other : List ℕ) → IsPlanOf q plan → IsPlanOf q other → plan ≡ other
+
+-- An atom of a strict table attacks no other (Koutris and Wijsen, ACM TODS 2017).
+abbrev pub StrictAttacksNothing : Type 0
+StrictAttacksNothing = (q : Query) (F G : ℕ) → IsStrict q F → Attacks q (whole q) F G → ⊥
 
 -- a repair holds no witness of a row
 abbrev pub IsRejected : List Table → Query → List Value → Type 0

@@ -1,11 +1,8 @@
 -- Repairs: what is left of a database when each block keeps exactly one of its rows (Koutris and Wijsen, ACM TODS 2017).
 use Rattle.std.specs.Prelude.{◌≡◌, ℕ, ◌<◌, ◌⊎◌, List, [], ◌∷◌, length, Contains, slice_index_or}
 use Rattle.cqa_value.specs.declared.value.Value.{Value}
-use Rattle.cqa_model.specs.Database.{Table, nothing, stored, keys_of}
-
--- two rows agree on the key columns: they are of one block
-abbrev pub SharesKey : List ℕ → List Value → List Value → Type 0
-SharesKey key x y = (p : ℕ) → Contains key p → slice_index_or x p nothing ≡ slice_index_or y p nothing
+use Rattle.cqa_model.specs.Database.{Table, stored, keys_of}
+pub use Rattle.cqa_model.specs.Database.{SharesKey}
 
 -- some of the rows, in their order
 abbrev pub IsSublist : List (List Value) → List (List Value) → Type 0

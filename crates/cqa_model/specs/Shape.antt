@@ -1,5 +1,5 @@
 -- What the types of schemas, queries and plans keep.
-use Rattle.std.specs.Prelude.{◌≡◌, ℕ, ◌<◌, ◌≤◌, List, [], ◌∷◌, length, All, Contains, slice_index_or}
+use Rattle.std.specs.Prelude.{◌≡◌, ℕ, ◌<◌, ◌≤◌, false, List, [], ◌∷◌, length, All, Contains, slice_index_or}
 use Rattle.cqa_value.specs.declared.value.Kind.TheVariants.{Int}
 use Rattle.cqa_model.specs.declared.limits.TheConstants.{MOST_COLUMNS, MOST_ATOMS, MOST_ANSWER_COLUMNS}
 use Rattle.cqa_model.specs.declared.schema.Column.{Column}
@@ -26,7 +26,7 @@ pub record IsSchema (columns : List Column) (key : List ℕ) : Type 0 where
 
 -- the atom at a place
 abbrev pub nth_atom : List Atom → ℕ → Atom
-nth_atom atoms F = slice_index_or atoms F (record { table = 0; width = 0; key = [] })
+nth_atom atoms F = slice_index_or atoms F (record { table = 0; width = 0; key = []; strict = false })
 
 -- the atom is there, and the column is one of its columns
 abbrev pub IsInRange : List Atom → ColRef → Type 0

@@ -7,6 +7,7 @@ ghost use Rattle.cqa_model.specs.Laws.{
   PlanOrCycle,
   PossibleIsCandidate,
   RewritingIsExact,
+  StrictAttacksNothing,
 };
 
 /// The plan of a query holds exactly where the row is certain.
@@ -17,6 +18,11 @@ pub fn rewriting_is_exact()
 /// A query has a plan exactly where its attacks have no cycle, and at most one.
 pub fn plan_or_cycle()
     ensures { PlanOrCycle }
+{}
+
+/// An atom of a strict table attacks no other.
+pub fn strict_attacks_nothing()
+    ensures { StrictAttacksNothing }
 {}
 
 /// Each row of a query with a plan is certain, or some repair holds no witness of it.

@@ -48,12 +48,13 @@ pub enum Cond {
     Test { col: ColRef, op: Op, value: Value },
 }
 
-/// A table of a query: its place in the database, its number of columns, and the places of its key.
+/// A table of a query: its place in the database, its number of columns, the places of its key, and whether it is strict.
 #[derive(Drop)]
 pub struct Atom {
     pub table: u32,
     pub width: u32,
     pub key: Items<u32>,
+    pub strict: bool,
 }
 
 /// A select-project-join query without self-joins.

@@ -46,6 +46,11 @@ pub enum Refusal {
     Spent { row: Row, conflicts: u32 },
     /// The record isn't a row of the table.
     BadCsv { number: u32 },
+    /// The table is strict, and the numbered row of the statement, `fresh`, shares its key with the different row `kept`
+    /// that is stored or stands before it.
+    KeyTaken { row: u32, kept: Row, fresh: Row },
+    /// The table would be strict, and these different rows share the key that it would have.
+    KeyBroken { first: Row, second: Row },
 }
 
 /// Where two kinds differ: at a value of a row, or in a condition.

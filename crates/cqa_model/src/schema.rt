@@ -29,7 +29,8 @@ impl Column {
     }
 }
 
-/// The shape of a table: its name, its columns, and the places of its key columns in the key's order.
+/// The shape of a table: its name, its columns, the places of its key columns in the key's order, and whether it is
+/// strict, which is to say that it never holds two rows of one key.
 ///
 /// It has 1 to `MOST_COLUMNS` columns of different names, and its key is a list of one or more different columns.
 #[derive(Drop)]
@@ -37,6 +38,7 @@ pub struct Schema {
     pub name: Name,
     pub columns: Items<Column>,
     pub key: Items<u32>,
+    pub strict: bool,
     pub ghost kept: { IsSchema columns key },
 }
 
@@ -52,7 +54,12 @@ impl Schema {
         let name = self.name.copy(alloc)?;
         let columns = copy_columns(alloc, self.columns.as_slice())?;
         let key = Items::from_slice(alloc, self.key.as_slice())?;
-        Ok(Schema { name, columns, key })
+        Ok(Schema {
+            name,
+            columns,
+            key,
+            strict: self.strict,
+        })
     }
 }
 

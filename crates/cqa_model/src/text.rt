@@ -9,7 +9,7 @@ use crate::{Column, Schema};
 use cqa_value::{Kind, NoMemory};
 
 /// Appends `NAME (COLUMN KIND, COLUMN KIND, primary key (COLUMN, COLUMN))`, with as many columns as the schema and its
-/// key have.
+/// key have. Whether the table is strict isn't said.
 ///
 /// # Errors
 ///

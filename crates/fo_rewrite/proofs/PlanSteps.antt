@@ -1,9 +1,9 @@
 -- Steps of the code that plans.
-use Rattle.std.proofs.Common.{◌≡◌, ℕ, ◌+◌, ◌<◌, ◌≢◌, ◌↔◌, ◌⊎◌, inl, inr, List, [], ◌∷◌, ◌++◌, sym, subst, arith, append_assoc, append-nil, length, Option, Some, None, MatchOption, IsNone}
+use Rattle.std.proofs.Common.{◌≡◌, ℕ, ◌+◌, ◌<◌, ◌≢◌, ◌↔◌, ◌⊎◌, inl, inr, List, [], ◌∷◌, ◌++◌, subst, arith, append_assoc, append-nil, length, Option, Some, None, MatchOption}
 use native.Mathlib.Decide.{ℕ_discrete}
 use Rattle.cqa_model.specs.declared.query.Query.{Query}
-use Rattle.cqa_model.specs.Variables.{View as Rest, whole, after}
-use Rattle.cqa_model.specs.Graph.{Attacks, HasCycle}
+use Rattle.cqa_model.specs.Variables.{whole, after}
+use Rattle.cqa_model.specs.Graph.{HasCycle}
 use Rattle.cqa_model.specs.Plan.{IsPlan, IsPlanOf}
 use Rattle.cqa_model.proofs.Cycles.{stuck, has_cycle-before, below, below-all}
 use Rattle.key_closure.specs.declared.atom_set.AtomSet.{AtomSet}

@@ -1,5 +1,5 @@
 -- Views that are the same have the same cycles and the same plans.
-use Rattle.std.proofs.Common.{◌≡◌, ℕ, ◌⊎◌, inl, inr, List, [], ◌∷◌}
+use Rattle.std.proofs.Common.{ℕ, inl, inr, List, [], ◌∷◌}
 use Rattle.cqa_model.specs.declared.query.Query.{Query}
 use Rattle.cqa_model.specs.Variables.{View, after}
 use Rattle.cqa_model.specs.Graph.{Attacks, IsWalk, HasCycle}

@@ -42,7 +42,7 @@ key-in_range q F p lF m = (lF, All-contains (λ x. x < (atom_at q F).width) (ato
 pub key_place : (q : Query) (atoms : List Atom) (F : ℕ) (a : Atom) (key : List ℕ) (j : ℕ) → atoms ≡ q.atoms → F < length q.atoms → a ≡ get_or atoms F a → key ≡ (get_or atoms F a).key → j < length key →
     (F < 12) × (get_or key j 0 < 16)
 key_place q atoms F a key j eq lF ea ek lj =
-    let d : Atom = record { table = 0; width = 0; key = [] } in
+    let d : Atom = record { table = 0; width = 0; key = []; strict = false } in
     let e : get_or atoms F a ≡ nth_atom q.atoms F = ap (λ z. get_or z F a) eq ∙ get_or_default q.atoms F a d lF in
     range-small q (record { atom = F; col = get_or key j 0 }) (key-in_range q F (get_or key j 0) lF (subst (λ z. Contains z (get_or key j 0)) (ek ∙ ap (λ z. z.key) e) (at-contains key j lj)))
 

@@ -1,5 +1,5 @@
 -- The names of a query's variables, from the fact that there are some.
-use Rattle.std.proofs.Common.{◌≡◌, ℕ, ◌∙◌, sym}
+use Rattle.std.proofs.Common.{◌∙◌, sym}
 use denote.Struct.Props.{props}
 use Rattle.std.proofs.Math.Logic.{∥∥₁_elim}
 use Rattle.cqa_model.specs.declared.query.ColRef.{ColRef}
