@@ -6,14 +6,17 @@ use Rattle.std.proofs.Math.Seq.{get_or-append_seam}
 use Rattle.std.proofs.lemmas.List.Elements.{Contains-append_cases, Contains-get_or}
 use Rattle.std.proofs.lemmas.Option.{slice_get_within}
 use Rattle.cqa_value.specs.declared.value.Value.{Value}
+use Rattle.std.proofs.Props.{props}
+use Rattle.cqa_model.specs.declared.schema.Column.{Column}
 use Rattle.cqa_model.specs.declared.schema.Schema.{Schema}
+use Rattle.cqa_model.specs.Shape.{IsSchema}
 use Rattle.cqa_model.specs.Database.{Table, IsTable, IsDatabase, names_of, row_total}
-use Rattle.table_blocks.specs.Tables.{AreValidRows, IsStored, with_rows, rows_at}
+use Rattle.table_blocks.specs.Tables.{AreValidRows, IsStored, with_rows, with_mark, rows_at}
 use Rattle.table_blocks.proofs.Membership.{contains_none, contains_head, contains_later, contains_cases}
 
 pub without_rows : (schema : Schema) → IsTable (record { schema = schema; rows = [] })
 unfolding IsStrictlySortedBy
-without_rows schema = record { in_order = tt; of_schema = λ row h. absurd (contains_none row h) }
+without_rows schema = record { in_order = tt; of_schema = λ row h. absurd (contains_none row h); strict = λ t x y m. absurd (contains_none x m) }
 
 no_tables : IsDatabase []
 no_tables = record { few_tables = omega arith; each = λ t h. absurd (contains_none t h); names_differ = λ i j a b e. absurd (omega (arith, a)); few_rows = omega arith }
@@ -30,22 +33,27 @@ rows_within (t ∷ db) (suc i) = let h = rows_within db i in omega (arith, h)
 some_is : (a b : Table) → Some a ≡ Some b → a ≡ b
 some_is a b e = (cc)
 
--- the table at a place is changed: its schema stays
-module _ (t w : Table) (same : w.schema ≡ t.schema) where
-  pub set_with_rows : (db : List Table) (i : ℕ) → slice_get db i ≡ Some t → slice_set db i w ≡ with_rows db i w.rows
-  set_with_rows [] i e = refl
-  set_with_rows (u ∷ db) zero e = let is : u ≡ t = some_is u t e in (λ k. record { schema = (same ∙ ap (λ z. z.schema) (sym is)) k; rows = w.rows } ∷ db)
-  set_with_rows (u ∷ db) (suc i) e = ap (λ l. u ∷ l) (set_with_rows db i e)
+-- the table at a place gets other rows: its schema stays
+pub set_with_rows : (t w : Table) → w.schema ≡ t.schema → (db : List Table) (i : ℕ) → slice_get db i ≡ Some t → slice_set db i w ≡ with_rows db i w.rows
+set_with_rows t w same [] i e = refl
+set_with_rows t w same (u ∷ db) zero e = let is : u ≡ t = some_is u t e in (λ k. record { schema = (same ∙ ap (λ z. z.schema) (sym is)) k; rows = w.rows } ∷ db)
+set_with_rows t w same (u ∷ db) (suc i) e = ap (λ l. u ∷ l) (set_with_rows t w same db i e)
 
-  pub names_set : (db : List Table) (i : ℕ) → slice_get db i ≡ Some t → names_of (slice_set db i w) ≡ names_of db
-  names_set [] i e = refl
-  names_set (u ∷ db) zero e = ap (λ schema. schema.name ∷ names_of db) (same ∙ ap (λ z. z.schema) (sym (some_is u t e)))
-  names_set (u ∷ db) (suc i) e = ap (λ l. u.schema.name ∷ l) (names_set db i e)
+-- the table at a place gets another mark
+pub set_with_mark : (t : Table) (strict : Bool) (db : List Table) (i : ℕ) → slice_get db i ≡ Some t → slice_set db i (record t { schema = record t.schema { strict = strict } }) ≡ with_mark db i strict
+set_with_mark t strict [] i e = refl
+set_with_mark t strict (u ∷ db) zero e = ap (λ (z : Table). record z { schema = record z.schema { strict = strict } } ∷ db) (sym (some_is u t e))
+set_with_mark t strict (u ∷ db) (suc i) e = ap (λ l. u ∷ l) (set_with_mark t strict db i e)
 
-  pub total_set : (db : List Table) (i : ℕ) → slice_get db i ≡ Some t → row_total (slice_set db i w) + length t.rows ≡ row_total db + length w.rows
-  total_set [] i e = absurd (omega (arith, slice_get_within [] i t e))
-  total_set (u ∷ db) zero e = let is : length u.rows ≡ length t.rows = ap (λ z. length z.rows) (some_is u t e) in omega (arith, is)
-  total_set (u ∷ db) (suc i) e = let more = total_set db i e in omega (arith, more)
+pub names_set : (t w : Table) → w.schema.name ≡ t.schema.name → (db : List Table) (i : ℕ) → slice_get db i ≡ Some t → names_of (slice_set db i w) ≡ names_of db
+names_set t w same [] i e = refl
+names_set t w same (u ∷ db) zero e = ap (λ name. name ∷ names_of db) (same ∙ ap (λ z. z.schema.name) (sym (some_is u t e)))
+names_set t w same (u ∷ db) (suc i) e = ap (λ l. u.schema.name ∷ l) (names_set t w same db i e)
+
+pub total_set : (t w : Table) (db : List Table) (i : ℕ) → slice_get db i ≡ Some t → row_total (slice_set db i w) + length t.rows ≡ row_total db + length w.rows
+total_set t w [] i e = absurd (omega (arith, slice_get_within [] i t e))
+total_set t w (u ∷ db) zero e = let is : length u.rows ≡ length t.rows = ap (λ z. length z.rows) (some_is u t e) in omega (arith, is)
+total_set t w (u ∷ db) (suc i) e = let more = total_set t w db i e in omega (arith, more)
 
 member_set : (w : Table) (db : List Table) (i : ℕ) (x : Table) → Contains (slice_set db i w) x → (w ≡ x) ⊎ Contains db x
 member_set w [] i x h = inr h
@@ -55,7 +63,7 @@ member_set w (u ∷ db) (suc i) x h = elim (contains_cases u (slice_set db i w) 
   | inr l ↦ elim (member_set w db i x l) [ inl e ↦ inl e | inr m ↦ inr (contains_later u db x m) ]
 ]
 
-database_set : (t w : Table) → w.schema ≡ t.schema → (db : List Table) (i : ℕ) → slice_get db i ≡ Some t → IsDatabase db → IsTable w → row_total (slice_set db i w) ≤ 1_000_000 → IsDatabase (slice_set db i w)
+database_set : (t w : Table) → w.schema.name ≡ t.schema.name → (db : List Table) (i : ℕ) → slice_get db i ≡ Some t → IsDatabase db → IsTable w → row_total (slice_set db i w) ≤ 1_000_000 → IsDatabase (slice_set db i w)
 database_set t w same db i e d table few =
     let names = names_set t w same db i e in
     let long = length-set db i w in
@@ -67,8 +75,8 @@ database_set t w same db i e d table few =
       few_rows = few;
     }
 
--- tables stay stored where a table gets other rows of its schema, with valid values
-pub stored_set : (t w : Table) → w.schema ≡ t.schema → (db : List Table) (i : ℕ) → slice_get db i ≡ Some t → IsStored db → IsTable w → AreValidRows w.rows → row_total (slice_set db i w) ≤ 1_000_000 → IsStored (slice_set db i w)
+-- tables stay stored where one is changed, which keeps its name and has valid values
+pub stored_set : (t w : Table) → w.schema.name ≡ t.schema.name → (db : List Table) (i : ℕ) → slice_get db i ≡ Some t → IsStored db → IsTable w → AreValidRows w.rows → row_total (slice_set db i w) ≤ 1_000_000 → IsStored (slice_set db i w)
 stored_set t w same db i e s table valid few = record {
   database = database_set t w same db i e s.database table few;
   valid = λ x h. elim (member_set w db i x h) [ inl q ↦ subst (λ z. AreValidRows z.rows) q valid | inr m ↦ s.valid x m ];
@@ -165,3 +173,12 @@ pub rows_at-with_rows : (db : List Table) (i : ℕ) (rows : List (List Value)) �
 rows_at-with_rows [] i rows h = absurd (omega (arith, h))
 rows_at-with_rows (t ∷ db) zero rows h = refl
 rows_at-with_rows (t ∷ db) (suc i) rows h = rows_at-with_rows db i rows (omega (arith, h))
+
+kept_once : (columns : List Column) (key : List ℕ) → IsProp (IsSchema columns key)
+kept_once columns key = hlevel props
+
+-- a schema that is marked is the schema with the mark
+pub marked_table : (schema : Schema) (rows : List (List Value)) (strict : Bool) (kept : IsSchema schema.columns schema.key)
+    → ◌≡◌ {A = Table} (record { schema = record { name = schema.name; columns = schema.columns; key = schema.key; strict = strict; kept = kept }; rows = rows }) (record { schema = record schema { strict = strict }; rows = rows })
+marked_table schema rows strict kept =
+    ap {B = Table} (λ k. record { schema = record { name = schema.name; columns = schema.columns; key = schema.key; strict = strict; kept = k }; rows = rows }) (kept_once schema.columns schema.key kept schema.kept)

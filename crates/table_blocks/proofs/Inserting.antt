@@ -10,7 +10,7 @@ use Rattle.std.specs.List.Sorted.{IsStrictlySortedBy, IsPermutation}
 use Rattle.std.proofs.lemmas.List.Sorted.{Contains-permutation, IsPermutation-sym}
 use Rattle.std.proofs.lemmas.List.Elements.{Contains-append_cases, Contains-append_left, Contains-append_right}
 use Rattle.cqa_model.specs.Database.{Table, row_total, block_cmp}
-use Rattle.table_blocks.specs.Tables.{IsMerged, is_among, first_of, rows_fault, limit_fault, insert_fault, rows_at, kinds_at, count_new}
+use Rattle.table_blocks.specs.Tables.{IsMerged, is_among, first_of, rows_fault, key_fault, limit_fault, insert_fault, rows_at, kinds_at, count_new}
 use Rattle.table_blocks.proofs.Membership.{among}
 
 -- sorted rows that are those of two lists
@@ -45,11 +45,14 @@ room n h = ap (λ b. if b then None else Some (Limit Rows)) fits
     fits : nat_le n 1_000_000 ≡ true
     fits = search (rules, h)
 
-pub valid_insert : (db : List Table) (table : ℕ) (rows : List (List Value)) → rows_fault (kinds_at db table) 1 rows ≡ None → row_total db + count_new (rows_at db table) rows ≤ 1_000_000 → insert_fault db table rows ≡ None
-valid_insert db table rows fits few = ap (λ o. first_of o (limit_fault db table rows)) fits ∙ room (row_total db + count_new (rows_at db table) rows) few
+pub valid_insert : (db : List Table) (table : ℕ) (rows : List (List Value)) → rows_fault (kinds_at db table) 1 rows ≡ None → key_fault db table rows ≡ None → row_total db + count_new (rows_at db table) rows ≤ 1_000_000 → insert_fault db table rows ≡ None
+valid_insert db table rows fits apart few = (λ i. first_of (fits i) (first_of (apart i) (limit_fault db table rows))) ∙ room (row_total db + count_new (rows_at db table) rows) few
 
 pub faulty_insert : (db : List Table) (table : ℕ) (rows : List (List Value)) (fault : Refusal) → rows_fault (kinds_at db table) 1 rows ≡ Some fault → insert_fault db table rows ≡ Some fault
-faulty_insert db table rows fault e = ap (λ o. first_of o (limit_fault db table rows)) e
+faulty_insert db table rows fault e = ap (λ o. first_of o (first_of (key_fault db table rows) (limit_fault db table rows))) e
+
+pub taken_insert : (db : List Table) (table : ℕ) (rows : List (List Value)) (fault : Refusal) → rows_fault (kinds_at db table) 1 rows ≡ None → key_fault db table rows ≡ Some fault → insert_fault db table rows ≡ Some fault
+taken_insert db table rows fault fits e = (λ i. first_of (fits i) (first_of (e i) (limit_fault db table rows)))
 
 -- there are too many rows
 full : (n : ℕ) → (n ≤ 1_000_000 → ⊥) → (if nat_le n 1_000_000 then None else Some (Limit Rows)) ≡ Some (Limit Rows)
@@ -59,8 +62,8 @@ full n h = go (nat_le n 1_000_000) refl
     go true e = absurd (h (search (rules, e)))
     go false e = refl
 
-pub full_insert : (db : List Table) (table : ℕ) (rows : List (List Value)) → rows_fault (kinds_at db table) 1 rows ≡ None → (row_total db + count_new (rows_at db table) rows ≤ 1_000_000 → ⊥) → insert_fault db table rows ≡ Some (Limit Rows)
-full_insert db table rows fits many = ap (λ o. first_of o (limit_fault db table rows)) fits ∙ full (row_total db + count_new (rows_at db table) rows) many
+pub full_insert : (db : List Table) (table : ℕ) (rows : List (List Value)) → rows_fault (kinds_at db table) 1 rows ≡ None → key_fault db table rows ≡ None → (row_total db + count_new (rows_at db table) rows ≤ 1_000_000 → ⊥) → insert_fault db table rows ≡ Some (Limit Rows)
+full_insert db table rows fits apart many = (λ i. first_of (fits i) (first_of (apart i) (limit_fault db table rows))) ∙ full (row_total db + count_new (rows_at db table) rows) many
 
 -- the fault of rows that were looked at
 pub fault_seen : (kinds seen_kinds : List Kind) (rows seen_rows : List (List Value)) (fault : Option Refusal) → seen_kinds ≡ kinds → seen_rows ≡ rows → fault ≡ rows_fault seen_kinds 1 seen_rows → rows_fault kinds 1 rows ≡ fault

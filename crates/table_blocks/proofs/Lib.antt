@@ -1,6 +1,7 @@
 pub mod BlockOrder
 pub mod Halving
 pub mod Sorting
+pub mod Placing
 pub mod Turning
 pub mod Membership
 pub mod Merging
@@ -13,3 +14,7 @@ pub mod Naming
 pub mod Inserting
 pub mod Taken
 pub mod Spanning
+pub mod Sharing
+pub mod ByKey
+pub mod Reordering
+pub mod Taking

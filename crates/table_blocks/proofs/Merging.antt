@@ -14,6 +14,7 @@ use Rattle.std.proofs.Math.Seq.{take-append_seam, set-append_seam}
 use Rattle.std.proofs.lemmas.Option.{slice_get-get_or}
 use Rattle.table_blocks.specs.Tables.{IsPlace}
 use Rattle.table_blocks.proofs.Membership.{contains_head, contains_later, contains_cases, contains_none}
+use Rattle.table_blocks.proofs.Placing.{take_of_take, place_in_front}
 use Rattle.table_blocks.proofs.Sorting.{earlier_below, greater}
 
 module _ {A : Type 0} (cmp : A → A → Ordering) (total : IsTotalOrder cmp) (exact : (a b : A) → cmp a b ≡ Equal → a ≡ b) (alike : (a : A) → cmp a a ≡ Equal) where
@@ -21,7 +22,7 @@ module _ {A : Type 0} (cmp : A → A → Ordering) (total : IsTotalOrder cmp) (e
   all_by P [] h = tt
   all_by P (x ∷ xs) h = (h x (contains_head x xs), all_by P xs (λ y m. h y (contains_later x xs y m)))
 
-  of_all : (P : A → Type 0) (xs : List A) → AllByRecursion P xs → (x : A) → Contains xs x → P x
+  pub of_all : (P : A → Type 0) (xs : List A) → AllByRecursion P xs → (x : A) → Contains xs x → P x
   of_all P [] h x m = absurd (contains_none x m)
   of_all P (y ∷ xs) h x m = elim (contains_cases y xs x m) [ inl e ↦ subst P e h.0 | inr l ↦ of_all P xs h.1 x l ]
 
@@ -73,11 +74,12 @@ module _ {A : Type 0} (cmp : A → A → Ordering) (total : IsTotalOrder cmp) (e
       further (suc k) less here within = subst (λ z. cmp y z ≡ Less) here (total.trans y (get_or xs at x) (get_or xs (at + suc k) x) less (earlier_below cmp total exact alike xs s at (at + suc k) x (omega arith) within))
 
   -- rows that are merged: stored ones, room for the given ones, and those that stand at their place already
-  pub record Merging (all rows : List A) (end : ℕ) (fresh : List A) : Type 0 where
+  pub record Merging (old all rows : List A) (end : ℕ) (fresh : List A) : Type 0 where
     pub before : List A
     pub room : List A
     pub tail : List A
     pub is : rows ≡ before ++ (room ++ tail)
+    pub first : before ≡ take end old
     pub ends : length before ≡ end
     pub rooms : length room ≡ length fresh
     pub ascending : IsStrictlySortedBy cmp (before ++ tail)
@@ -85,12 +87,13 @@ module _ {A : Type 0} (cmp : A → A → Ordering) (total : IsTotalOrder cmp) (e
     pub apart : (x : A) → Contains before x → Contains fresh x → ⊥
     pub same : IsPermutation all (before ++ (fresh ++ tail))
 
-  pub begun : (rows : List A) (end : ℕ) (fresh : List A) → length rows ≡ end + length fresh → IsStrictlySortedBy cmp (take end rows) → IsStrictlySortedBy cmp fresh → ((x : A) → Contains (take end rows) x → Contains fresh x → ⊥) → Merging (take end rows ++ fresh) rows end fresh
+  pub begun : (rows : List A) (end : ℕ) (fresh : List A) → length rows ≡ end + length fresh → IsStrictlySortedBy cmp (take end rows) → IsStrictlySortedBy cmp fresh → ((x : A) → Contains (take end rows) x → Contains fresh x → ⊥) → Merging (take end rows) (take end rows ++ fresh) rows end fresh
   begun rows end fresh long s t apart = record {
     before = take end rows;
     room = drop end rows;
     tail = [];
     is = sym (ap (λ l. take end rows ++ l) (append-nil (drop end rows)) ∙ take-append-drop end rows);
+    first = sym (take_of_take end end rows (omega arith));
     ends = length-take-le end rows (omega (arith, long));
     rooms = length-drop end rows ∙ omega (arith, long);
     ascending = subst (IsStrictlySortedBy cmp) (sym (append-nil (take end rows))) s;
@@ -99,15 +102,9 @@ module _ {A : Type 0} (cmp : A → A → Ordering) (total : IsTotalOrder cmp) (e
     same = subst (IsPermutation (take end rows ++ fresh)) (ap (λ l. take end rows ++ l) (sym (append-nil fresh))) (IsPermutation-refl (take end rows ++ fresh));
   }
 
-  front_of : (all rows : List A) (end : ℕ) (fresh : List A) (m : Merging all rows end fresh) → take end rows ≡ m.before
-  front_of all rows end fresh m = ap (λ n. take n rows) (sym m.ends) ∙ ap (take (length m.before)) m.is ∙ take-append_seam m.before (m.room ++ m.tail)
-
-  pub front_sorted : (all rows : List A) (end : ℕ) (fresh : List A) → Merging all rows end fresh → IsStrictlySortedBy cmp (take end rows)
-  front_sorted all rows end fresh m = subst (IsStrictlySortedBy cmp) (sym (front_of all rows end fresh m)) (sorted_front m.before m.tail m.ascending)
-
   -- there is room for the given ones behind the stored ones
-  pub roomy : (all rows : List A) (end : ℕ) (fresh : List A) → Merging all rows end fresh → end + length fresh ≤ length rows
-  roomy all rows end fresh m =
+  pub roomy : (old all rows : List A) (end : ℕ) (fresh : List A) → Merging old all rows end fresh → end + length fresh ≤ length rows
+  roomy old all rows end fresh m =
       let long = ap length m.is ∙ length-append m.before (m.room ++ m.tail) in
       let more = length-append m.room m.tail in
       omega (arith, long, more, m.ends, m.rooms)
@@ -116,14 +113,14 @@ module _ {A : Type 0} (cmp : A → A → Ordering) (total : IsTotalOrder cmp) (e
   nil_of [] e = refl
   nil_of (x ∷ xs) e = absurd (omega (arith, e))
 
-  merged : (all rows : List A) (end : ℕ) (m : Merging all rows end []) → rows ≡ m.before ++ m.tail
-  merged all rows end m = m.is ∙ ap (λ l. m.before ++ (l ++ m.tail)) (nil_of m.room m.rooms)
+  merged : (old all rows : List A) (end : ℕ) (m : Merging old all rows end []) → rows ≡ m.before ++ m.tail
+  merged old all rows end m = m.is ∙ ap (λ l. m.before ++ (l ++ m.tail)) (nil_of m.room m.rooms)
 
-  pub ended_sorted : (all rows : List A) (end : ℕ) → Merging all rows end [] → IsStrictlySortedBy cmp rows
-  ended_sorted all rows end m = subst (IsStrictlySortedBy cmp) (sym (merged all rows end m)) m.ascending
+  pub ended_sorted : (old all rows : List A) (end : ℕ) → Merging old all rows end [] → IsStrictlySortedBy cmp rows
+  ended_sorted old all rows end m = subst (IsStrictlySortedBy cmp) (sym (merged old all rows end m)) m.ascending
 
-  pub ended_same : (all rows : List A) (end : ℕ) → Merging all rows end [] → IsPermutation all rows
-  ended_same all rows end m = subst (IsPermutation all) (sym (merged all rows end m)) m.same
+  pub ended_same : (old all rows : List A) (end : ℕ) → Merging old all rows end [] → IsPermutation all rows
+  ended_same old all rows end m = subst (IsPermutation all) (sym (merged old all rows end m)) m.same
 
   last_of : (xs : List A) (n : ℕ) → length xs ≡ suc n → (ys : List A) × (y : A) × (xs ≡ ys ++ y ∷ []) × (length ys ≡ n)
   last_of [] n e = absurd (omega (arith, e))
@@ -132,12 +129,12 @@ module _ {A : Type 0} (cmp : A → A → Ordering) (total : IsTotalOrder cmp) (e
   last_of (x ∷ z ∷ xs) (suc n) e = let r = last_of (z ∷ xs) n (omega (arith, e)) in (x ∷ r.0, r.1, ap (λ l. x ∷ l) r.2, omega (arith, r.3))
 
   -- the greatest of the given rows goes to its place
-  pub stepped : (all rows moved : List A) (end place : ℕ) (fs : List A) (y : A) → Merging all rows end (fs ++ y ∷ []) → IsPlace cmp (take end rows) y place
+  pub stepped : (old all rows moved : List A) (end place : ℕ) (fs : List A) (y : A) → Merging old all rows end (fs ++ y ∷ []) → place ≤ end → IsPlace cmp old y place
       → ((a b c d : List A) → rows ≡ a ++ (b ++ (c ++ d)) → length a ≡ place → length a + length b ≡ end → length c ≡ length fs + 1 → (e : List A) × (length e ≡ length fs + 1) × (moved ≡ a ++ (e ++ (b ++ d))))
-      → Merging all (set moved (place + length fs) y) place fs
-  stepped all rows moved end place fs y m p moves =
+      → Merging old all (set moved (place + length fs) y) place fs
+  stepped old all rows moved end place fs y m no_later p moves =
       let fresh = fs ++ y ∷ [] in
-      let at : IsPlace cmp m.before y place = subst (λ l. IsPlace cmp l y place) (front_of all rows end fresh m) p in
+      let at : IsPlace cmp m.before y place = subst (λ l. IsPlace cmp l y place) (sym m.first) (place_in_front cmp old y place end no_later (ap length (sym m.first) ∙ m.ends) p) in
       let a = take place m.before in
       let b = drop place m.before in
       let rest = b ++ m.tail in
@@ -166,6 +163,7 @@ module _ {A : Type 0} (cmp : A → A → Ordering) (total : IsTotalOrder cmp) (e
         room = es;
         tail = y ∷ rest;
         is = ap (λ n. set moved n y) (sym far) ∙ ap (λ l. set l (length (a ++ es)) y) seam ∙ set-append_seam (a ++ es) r.1 rest y ∙ append_assoc a es (y ∷ rest);
+        first = ap (take place) m.first ∙ take_of_take place end old no_later;
         ends = long;
         rooms = r.3;
         ascending = sorted_join a (y ∷ rest) (sorted_front a rest split) behind (λ u v h k. elim (contains_cases y rest v k) [

@@ -49,7 +49,7 @@ keys_set [] i w = refl
 keys_set (e ∷ es) zero w = refl
 keys_set (e ∷ es) (suc i) w = ap (λ ks. e.0 ∷ ks) (keys_set es i w)
 
-pub named_set : (es : List (List ℕ × Table)) (i : ℕ) (t w : Table) → AreNamed es → slice_get (values_of es) i ≡ Some t → w.schema ≡ t.schema → IsTable w → AreValidRows w.rows → row_total (slice_set (values_of es) i w) ≤ 1_000_000 → AreNamed (set_value_at es i w)
+pub named_set : (es : List (List ℕ × Table)) (i : ℕ) (t w : Table) → AreNamed es → slice_get (values_of es) i ≡ Some t → w.schema.name ≡ t.schema.name → IsTable w → AreValidRows w.rows → row_total (slice_set (values_of es) i w) ≤ 1_000_000 → AreNamed (set_value_at es i w)
 named_set es i t w named here same table valid few =
     let is = values_set es i w in (
       keys_set es i w ∙ named.0 ∙ sym (ap names_of is ∙ names_set t w same (values_of es) i here),
@@ -68,19 +68,23 @@ named_push es after name schema t named room other called is e =
     ((ks ∙ ap (λ l. l ++ schema.name ∷ []) named.0 ∙ sym (ap names_of vs ∙ ns), subst IsStored (sym vs) (stored_push (values_of es) schema named.1 room other)), vs)
 
 -- a table gets more rows, as many as there is room for
-pub named_more : (es : List (List ℕ × Table)) (i : ℕ) (t w : Table) (more : ℕ) → AreNamed es → slice_get (values_of es) i ≡ Some t → w.schema ≡ t.schema → IsTable w → AreValidRows w.rows
+pub named_more : (es : List (List ℕ × Table)) (i : ℕ) (t w : Table) (more : ℕ) → AreNamed es → slice_get (values_of es) i ≡ Some t → w.schema.name ≡ t.schema.name → IsTable w → AreValidRows w.rows
     → length w.rows ≡ length t.rows + more → row_total (values_of es) + more ≤ 1_000_000 → AreNamed (set_value_at es i w)
 named_more es i t w more named here same table valid count room =
-    let total = total_set t w same (values_of es) i here in
+    let total = total_set t w (values_of es) i here in
     named_set es i t w named here same table valid (omega (arith, total, count, room))
 
 -- what is said of the table that was found is said of the table at the place
 pub at_place : (P : List ℕ → List (List Value) → Type 0) (db : List Table) (i : ℕ) (t : Table) → slice_get db i ≡ Some t → P t.schema.key t.rows → P (key_at db i) (rows_at db i)
 at_place P db i t here p = subst (λ key. P key (rows_at db i)) (sym (key-at db i t here)) (subst (P t.schema.key) (sym (rows-at db i t here)) p)
 
--- a table loses the rows for which all tests hold
-pub named_less : (es : List (List ℕ × Table)) (i : ℕ) (t w : Table) → AreNamed es → slice_get (values_of es) i ≡ Some t → w.schema ≡ t.schema → IsTable w → AreValidRows w.rows → length w.rows ≤ length t.rows → AreNamed (set_value_at es i w)
+-- a table gets no more rows
+pub named_less : (es : List (List ℕ × Table)) (i : ℕ) (t w : Table) → AreNamed es → slice_get (values_of es) i ≡ Some t → w.schema.name ≡ t.schema.name → IsTable w → AreValidRows w.rows → length w.rows ≤ length t.rows → AreNamed (set_value_at es i w)
 named_less es i t w named here same table valid fewer =
-    let total = total_set t w same (values_of es) i here in
+    let total = total_set t w (values_of es) i here in
     let all = named.1.database.few_rows in
     named_set es i t w named here same table valid (omega (arith, total, fewer, all))
+
+-- the table that is found in a map stands at the place in the database
+pub found_in : (vs db : List Table) (i : ℕ) (t : Table) → vs ≡ db → Some t ≡ slice_get vs i → slice_get db i ≡ Some t
+found_in vs db i t e found = subst (λ l. slice_get l i ≡ Some t) e (sym found)

@@ -28,7 +28,7 @@ greater Equal l e = absurd (e refl)
 greater Greater l e = refl
 
 module _ {A : Type 0} (cmp : A → A → Ordering) (total : IsTotalOrder cmp) (exact : (a b : A) → cmp a b ≡ Equal → a ≡ b) (alike : (a : A) → cmp a a ≡ Equal) where
-  each_at : (P : A → Type 0) (xs : List A) (i : ℕ) (d : A) → AllByRecursion P xs → i < length xs → P (get_or xs i d)
+  pub each_at : (P : A → Type 0) (xs : List A) (i : ℕ) (d : A) → AllByRecursion P xs → i < length xs → P (get_or xs i d)
   each_at P [] i d h b = absurd (omega (arith, b))
   each_at P (x ∷ xs) zero d h b = h.0
   each_at P (x ∷ xs) (suc i) d h b = each_at P xs i d h.1 (omega (arith, b))

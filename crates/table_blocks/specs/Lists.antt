@@ -1,6 +1,10 @@
--- Lists whose places are all taken.
-use Rattle.std.specs.Prelude.{List, [], ◌∷◌, Option, Some, None}
+-- Lists of references, and lists whose places are all taken.
+use Rattle.std.specs.Prelude.{List, [], ◌∷◌, map, Option, Some, None}
 use Rattle.std.specs.Borrow.{Bor}
+
+-- the values that references show
+abbrev pub shown : {A : Type 0} → List (Bor A) → List A
+shown references = map (λ r. r.now) references
 
 -- what stands in the places that are taken, as `read` reads it
 abbrev pub taken_values : {A B : Type 0} → (A → B) → List (Option A) → List B

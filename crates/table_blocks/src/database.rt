@@ -1,16 +1,18 @@
 //! The tables of a database by their names: how they are made, looked through, filled and emptied.
 //! What always holds of them is the invariant of `Database`.
-ghost use Rattle.std.specs.Prelude.{◌≡◌, ◌≤◌, ◌<◌, ◌^◌, ◌++◌, ◌∷◌, [], Some, None, Contains, OnOk, OnErr, IfOk, IfErr, IfSome, MatchOption, MatchResult, length, map, slice_get, List, ◌+◌, ◌*◌, ℕ};
-ghost use Rattle.cqa_model.specs.Database.{Table as StoredTable, IsDatabase, names_of, row_total, kinds_of, block_cmp};
+ghost use Rattle.std.specs.Prelude.{◌≡◌, ◌≤◌, ◌<◌, ◌^◌, ◌++◌, ◌∷◌, [], Some, None, Contains, IsTrue, true, false, OnOk, OnErr, IfOk, IfErr, IfSome, MatchOption, MatchResult, length, map, slice_get, List, ◌+◌, ◌*◌, ℕ};
+ghost use Rattle.cqa_model.specs.Database.{Table as StoredTable, AreConsistent, IsDatabase, names_of, row_total, kinds_of, block_cmp};
+ghost use Rattle.cqa_model.specs.Refusal.{Checked};
 ghost use Rattle.std.specs.List.Sorted.{IsStrictlySortedBy};
 ghost use Rattle.cqa_value.specs.declared.value.Value.{Value};
 ghost use Rattle.cqa_value.specs.Values.{kind_of};
 ghost use Rattle.table_blocks.specs.Spans.{IsSpan};
-ghost use Rattle.table_blocks.specs.Tables.{table_named, rows_at, key_at, kinds_at, with_rows, insert_fault, Inserts, Deletes, AreValidRows, IsStored, IsMerged, IsSpared, IsRefusedAs};
+ghost use Rattle.table_blocks.specs.Keys.{IsKey};
+ghost use Rattle.table_blocks.specs.Tables.{table_named, rows_at, key_at, mark_at, kinds_at, with_rows, with_mark, key_fault, insert_fault, strict_fault, rekey_fault, Inserts, Deletes, Rekeys, AreMergeable, AreValidRows, IsStored, IsMerged, IsSpared, IsRefusedAs};
 
 use crate::check::rows_fault_of;
 use crate::probe::Probe;
-use crate::rows::{find_in, fresh_rows};
+use crate::rows::{Fresh, find_in, fresh_rows};
 use crate::span::{rows_with, span_in};
 use crate::steps::Steps;
 use crate::table::Table;
@@ -192,14 +194,14 @@ impl Database {
     }
 
     /// Puts sorted rows that aren't there yet into a table.
-    fn add(&mut self, table: u32, fresh: Vec<Row>) -> Result<(), NoMemory>
+    fn add(&mut self, table: u32, fresh: Fresh) -> Result<(), NoMemory>
         requires there { table < length self.old }
-        requires ascending { IsStrictlySortedBy (block_cmp (key_at self.old table)) fresh.items }
-        requires fits { (row : List Value) → Contains fresh.items row → map kind_of row ≡ kinds_at self.old table }
-        requires valid { AreValidRows fresh.items }
-        requires new { (row : List Value) → Contains (rows_at self.old table) row → Contains fresh.items row → ⊥ }
-        requires room { row_total self.old + length fresh.items ≤ MOST_ROWS }
-        ensures changed { OnOk result ((rows : List (List Value)) × IsMerged (key_at self.old table) (rows_at self.old table) fresh.items rows × (self.new ≡ with_rows self.old table rows)) }
+        requires mergeable { AreMergeable (key_at self.old table) (rows_at self.old table) fresh.rows.items fresh.places.items }
+        requires fits { (row : List Value) → Contains fresh.rows.items row → map kind_of row ≡ kinds_at self.old table }
+        requires valid { AreValidRows fresh.rows.items }
+        requires room { row_total self.old + length fresh.rows.items ≤ MOST_ROWS }
+        requires consistent { IsTrue (mark_at self.old table) → AreConsistent (key_at self.old table) (rows_at self.old table ++ fresh.rows.items) }
+        ensures changed { OnOk result ((rows : List (List Value)) × IsMerged (key_at self.old table) (rows_at self.old table) fresh.rows.items rows × (self.new ≡ with_rows self.old table rows)) }
         ensures err { OnErr result (self.new ≡ self.old) }
         ensures stored { IsStored self.new }
     {
@@ -212,12 +214,22 @@ impl Database {
         }
     }
 
+    /// Refuses rows that a table can't hold since it is strict.
+    fn check_keys(&self, table: u32, rows: &[Row]) -> Result<(), Fail<Refusal>>
+        requires there { table < length self.now }
+        requires few { length rows.now < 2 ^ 32 }
+        ensures { Checked result (key_fault self.now table rows.now) (λ _. IsTrue (mark_at self.now table) → AreConsistent (key_at self.now table) (rows_at self.now table ++ rows.now)) }
+    {
+        self.table(table).check_keys(rows)
+    }
+
     /// Puts the rows that aren't there yet into a table, and gives their number.
     ///
     /// # Errors
     ///
-    /// `NoMemory` where memory is refused; else the first fault of a row, or `Limit` where all tables together would have
-    /// more than 1,000,000 rows. Nothing has changed then.
+    /// `NoMemory` where memory is refused; else the first fault of a row; `KeyTaken` where the table is strict and a row
+    /// shares its key with a different one that is stored or stands before it; or `Limit` where all tables together would
+    /// have more than 1,000,000 rows. Nothing has changed then.
     pub fn insert(&mut self, table: u32, rows: Items<Row>) -> Result<u32, Fail<Refusal>>
         requires there { table < length self.old }
         requires few { length rows < 2 ^ 32 }
@@ -231,8 +243,9 @@ impl Database {
         if let Some(fault) = rows_fault_of(self.schema(table), rows.as_slice()) {
             return Err(Fail::Refused(fault));
         }
-        let fresh = fresh_rows(rows.into_vec(), self.rows(table), self.key(table));
-        let count = fresh.len();
+        self.check_keys(table, rows.as_slice())?;
+        let fresh = fresh_rows(rows.into_vec(), self.rows(table), self.key(table))?;
+        let count = fresh.rows.len();
         if count > MOST_ROWS - self.row_total() as usize {
             let what = LimitKind::Rows;
             return Err(Fail::Refused(Refusal::Limit { what }));
@@ -262,5 +275,54 @@ impl Database {
         let stored = self.rows(table).len();
         self.remove(table, tests);
         (stored - self.rows(table).len()) as u32
+    }
+
+    /// Makes a table strict: it holds no two rows of one key from then on.
+    ///
+    /// # Errors
+    ///
+    /// `NoMemory` where memory is refused; else `KeyBroken` with the first two rows of the first block of more than one row.
+    /// Nothing has changed then.
+    pub fn set_strict(&mut self, table: u32) -> Result<(), Fail<Refusal>>
+        requires { table < length self.old }
+        ensures checked { Checked result (strict_fault self.old table) (λ _. self.new ≡ with_mark self.old table true) }
+        ensures err { OnErr result (self.new ≡ self.old) }
+        ensures stored { IsStored self.new }
+    {
+        match self.tables.get_index_mut(table as usize) {
+            Some(found) => found.set_strict(),
+            None => unreachable!(),
+        }
+    }
+
+    /// Lets a table hold rows that share a key.
+    pub fn drop_strict(&mut self, table: u32)
+        requires { table < length self.old }
+        ensures is { self.new ≡ with_mark self.old table false }
+        ensures stored { IsStored self.new }
+    {
+        match self.tables.get_index_mut(table as usize) {
+            Some(found) => found.drop_strict(),
+            None => unreachable!(),
+        }
+    }
+
+    /// Gives a table another key: its rows stay, and stand in the block order of that key.
+    ///
+    /// # Errors
+    ///
+    /// `NoMemory` where memory is refused; else, where the table is strict, `KeyBroken` with the first two rows of the first
+    /// block of more than one row that it would have. Nothing has changed then.
+    pub fn set_key(&mut self, table: u32, key: Items<u32>) -> Result<(), Fail<Refusal>>
+        requires there { table < length self.old }
+        requires key { IsKey (length (kinds_at self.old table)) key }
+        ensures checked { Checked result (rekey_fault self.old table key) (λ _. Rekeys self.old table key self.new) }
+        ensures err { OnErr result (self.new ≡ self.old) }
+        ensures stored { IsStored self.new }
+    {
+        match self.tables.get_index_mut(table as usize) {
+            Some(found) => found.set_key(key),
+            None => unreachable!(),
+        }
     }
 }

@@ -4,6 +4,7 @@
 mod cells;
 mod check;
 mod database;
+mod keys;
 mod order;
 mod probe;
 mod rows;

@@ -1,26 +1,29 @@
 //! Rows in block order: how new ones are sorted in, and how rows are taken out.
 //! Nothing is compared that its place or its key tells.
-ghost use Rattle.std.specs.Prelude.{◌≡◌, ◌≤◌, ◌<◌, ◌+◌, ◌-◌, ◌↔◌, ◌++◌, Bool, IsTrue, filter, not, MatchOption, OnOk, OnErr, Some, slice_get, slice_index_or, [], List, ℕ, Contains, length, take, drop};
+ghost use Rattle.std.specs.Prelude.{◌≡◌, ◌≤◌, ◌<◌, ◌+◌, ◌-◌, ◌↔◌, ◌++◌, Bool, IsTrue, filter, not, MatchOption, OnOk, OnErr, IfOk, Some, None, if◌then◌else◌, slice_get, slice_index_or, [], List, ℕ, Contains, length, take, drop};
 ghost use Rattle.std.specs.List.{AllByRecursion};
 ghost use Rattle.std.specs.List.Sorted.{IsStrictlySortedBy, IsPermutation};
 ghost use Rattle.std.specs.Bool.{Decides};
 ghost use Rattle.std.specs.Ordering.{is_lt};
 ghost use Rattle.std.specs.declared.cmp.Ordering.TheVariants.{Less};
 ghost use Rattle.cqa_value.specs.declared.value.Value.{Value as Cell};
-ghost use Rattle.cqa_model.specs.Database.{block_cmp};
-ghost use Rattle.table_blocks.specs.Tables.{IsPlace, IsMerged, IsSpared, is_among, count_new, TestsHold};
+ghost use Rattle.cqa_model.specs.Database.{AreConsistent, block_cmp};
+ghost use Rattle.cqa_model.specs.Refusal.{Checked};
+ghost use Rattle.table_blocks.specs.Keys.{block_order, broken_fault};
+ghost use Rattle.table_blocks.specs.Tables.{IsPlace, ArePlaces, AreMergeable, IsMerged, IsSpared, is_among, count_new, TestsHold};
 
+use crate::keys::check_consistent;
 use crate::order::block_compare;
-use crate::search::{leading, leading_from_back};
+use crate::search::leading;
 use crate::span::rows_with;
 use crate::test::{ColumnTest, known_key, passes_all};
-use cqa_value::{NoMemory, Row};
+use cqa_model::Refusal;
+use cqa_value::{Fail, NoMemory, Row};
 use std::cmp::Ordering;
 
 /// Puts rows in block order, each once.
-fn sorted(mut rows: Vec<Row>, key: &[u32]) -> Vec<Row>
-    ensures ascending { IsStrictlySortedBy (block_cmp key.now) result.items }
-    ensures same { (row : List Cell) → Contains result.items row ↔ Contains rows.items row }
+pub fn put_in_order(rows: &mut Vec<Row>, key: &[u32])
+    ensures { rows.new.items ≡ block_order key.now rows.old.items }
 {
     rows.sort_unstable_by(
         |a, b| -> Ordering
@@ -28,7 +31,34 @@ fn sorted(mut rows: Vec<Row>, key: &[u32]) -> Vec<Row>
         { block_compare(key, a, b) },
     );
     rows.dedup();
-    rows
+}
+
+/// Puts a table's rows in the block order of another key.
+///
+/// # Errors
+///
+/// `NoMemory` where memory is refused; else, where the table is strict, `KeyBroken` with the first two rows of the first
+/// block of more than one row. The rows stand as before then.
+pub fn reorder(
+    rows: &mut Vec<Row>,
+    old_key: &[u32],
+    key: &[u32],
+    strict: bool,
+) -> Result<(), Fail<Refusal>>
+    requires { IsStrictlySortedBy (block_cmp old_key.now) rows.old.items }
+    ensures checked { Checked result (if strict then broken_fault key.now (block_order key.now rows.old.items) else None) (λ _. (rows.new.items ≡ block_order key.now rows.old.items) × (IsTrue strict → AreConsistent key.now rows.new.items)) }
+    ensures err { OnErr result (rows.new.items ≡ rows.old.items) }
+    ensures no_more { length rows.new.items ≤ length rows.old.items }
+{
+    put_in_order(rows, key);
+    if strict {
+        let consistent = check_consistent(*rows.allocator(), rows.as_slice(), key);
+        if consistent.is_err() {
+            put_in_order(rows, old_key);
+            return consistent;
+        }
+    }
+    Ok(())
 }
 
 /// How many rows stand before a row's place.
@@ -43,21 +73,8 @@ pub fn place_in(rows: &[Row], key: &[u32], row: &Row) -> usize
     )
 }
 
-/// The same, by doubling steps from the last row back.
-fn place_from_back(rows: &[Row], key: &[u32], row: &Row) -> usize
-    ensures within { result ≤ length rows.now }
-    ensures place { IsStrictlySortedBy (block_cmp key.now) rows.now → IsPlace (block_cmp key.now) rows.now row.now result }
-{
-    leading_from_back(
-        rows,
-        |other| -> bool
-            ensures { result ≡ is_lt (block_cmp key.entry.now other.now row.entry.now) }
-        { block_compare(key, other, row).is_lt() },
-    )
-}
-
-/// The same, by doubling steps from a place on before which all rows are below the row.
-fn place_from(rows: &[Row], from: usize, key: &[u32], row: &Row) -> usize
+/// The same, looked for from a place on before which all rows are below the row, and expected so many rows behind it.
+fn place_from(rows: &[Row], from: usize, reach: usize, key: &[u32], row: &Row) -> usize
     requires there { from ≤ length rows.now }
     ensures within { (from ≤ result) × (result ≤ length rows.now) }
     ensures place { IsStrictlySortedBy (block_cmp key.now) rows.now → AllByRecursion (λ other. block_cmp key.now other row.now ≡ Less) (take from rows.now) → IsPlace (block_cmp key.now) rows.now row.now result }
@@ -65,6 +82,7 @@ fn place_from(rows: &[Row], from: usize, key: &[u32], row: &Row) -> usize
     let (_, rest) = rows.split_at(from);
     from + leading(
         rest,
+        reach,
         |other| -> bool
             ensures { result ≡ is_lt (block_cmp key.entry.now other.now row.entry.now) }
         { block_compare(key, other, row).is_lt() },
@@ -93,35 +111,51 @@ pub fn find_in(rows: &[Row], key: &[u32], row: &Row) -> Option<usize>
     }
 }
 
-/// Moves those of sorted rows that aren't stored to the front, and gives their number.
-fn fresh_first(rows: &mut [Row], stored: &[Row], key: &[u32]) -> usize
+/// Moves those of sorted rows that aren't stored to the front, with their places among the stored ones, and gives their
+/// number.
+fn fresh_first(rows: &mut [Row], places: &mut [usize], stored: &[Row], key: &[u32]) -> usize
     requires stored { IsStrictlySortedBy (block_cmp key.now) stored.now }
     requires given { IsStrictlySortedBy (block_cmp key.now) rows.old }
+    requires room { length places.old ≡ length rows.old }
     ensures within { result ≤ length rows.old }
     ensures fresh { take result rows.new ≡ filter (λ row. not (is_among stored.now row)) rows.old }
+    ensures placed { ArePlaces (block_cmp key.now) stored.now (filter (λ row. not (is_among stored.now row)) rows.old) (take result places.new) }
 {
+    let reach = stored.len() / rows.len().max(1);
     let mut fresh = 0;
     let mut from = 0;
     for at in 0..rows.len() {
         let row = &rows[at];
-        from = place_from(stored, from, key, row);
+        from = place_from(stored, from, reach, key, row);
         if !stands(stored, from, row) {
             rows.swap(fresh, at);
+            places[fresh] = from;
             fresh += 1;
         }
     }
     fresh
 }
 
+/// Sorted rows that aren't stored, and the place of each among the stored ones.
+#[derive(Drop)]
+pub struct Fresh {
+    pub rows: Vec<Row>,
+    pub places: Vec<usize>,
+}
+
 /// Those of sorted rows that aren't stored.
-fn without(mut rows: Vec<Row>, stored: &[Row], key: &[u32]) -> Vec<Row>
+fn without(mut rows: Vec<Row>, stored: &[Row], key: &[u32]) -> Result<Fresh, NoMemory>
     requires stored { IsStrictlySortedBy (block_cmp key.now) stored.now }
     requires given { IsStrictlySortedBy (block_cmp key.now) rows.items }
-    ensures { result.items ≡ filter (λ row. not (is_among stored.now row)) rows.items }
+    ensures fresh { IfOk result (λ fresh. fresh.rows.items ≡ filter (λ row. not (is_among stored.now row)) rows.items) }
+    ensures placed { IfOk result (λ fresh. ArePlaces (block_cmp key.now) stored.now fresh.rows.items fresh.places.items) }
 {
-    let fresh = fresh_first(rows.as_mut_slice(), stored, key);
+    let mut places = Vec::new(*rows.allocator());
+    places.resize(rows.len(), 0)?;
+    let fresh = fresh_first(rows.as_mut_slice(), places.as_mut_slice(), stored, key);
     rows.truncate(fresh);
-    rows
+    places.truncate(fresh);
+    Ok(Fresh { rows, places })
 }
 
 /// Moves the last `count` rows of a range to its front.
@@ -160,17 +194,14 @@ fn move_back(rows: &mut [Row], from: usize, to: usize, count: usize)
 
 /// Merges sorted rows with fresh ones, for which there is room behind them: from the greatest on, each of these goes to
 /// its place, and the stored rows behind it move to theirs.
-fn merge(rows: &mut [Row], key: &[u32], stored: usize, mut fresh: Vec<Row>)
+fn merge(rows: &mut [Row], stored: usize, mut fresh: Vec<Row>, places: &[usize])
     requires room { length rows.old ≡ stored + length fresh.items }
-    requires ascending { IsStrictlySortedBy (block_cmp key.now) (take stored rows.old) }
-    requires rising { IsStrictlySortedBy (block_cmp key.now) fresh.items }
-    requires apart { (row : List Cell) → Contains (take stored rows.old) row → Contains fresh.items row → ⊥ }
-    ensures ascending { IsStrictlySortedBy (block_cmp key.now) rows.new }
-    ensures same { IsPermutation (take stored rows.old ++ fresh.items) rows.new }
+    requires placed { (key : List ℕ) × AreMergeable key (take stored rows.old) fresh.items places.now }
+    ensures merged { (key : List ℕ) → AreMergeable key (take stored rows.old) fresh.items places.now → IsStrictlySortedBy (block_cmp key) rows.new × IsPermutation (take stored rows.old ++ fresh.items) rows.new }
 {
     let mut end = stored;
     while let Some(row) = fresh.pop() {
-        let place = place_from_back(&rows[..end], key, &row);
+        let place = places[fresh.len()];
         move_back(rows, place, end, fresh.len() + 1);
         rows[place + fresh.len()] = row;
         end = place;
@@ -178,18 +209,20 @@ fn merge(rows: &mut [Row], key: &[u32], stored: usize, mut fresh: Vec<Row>)
 }
 
 /// Puts sorted rows that aren't there yet among sorted rows.
-pub fn put(rows: &mut Vec<Row>, key: &[u32], fresh: Vec<Row>) -> Result<(), NoMemory>
-    requires ascending { IsStrictlySortedBy (block_cmp key.now) rows.old.items }
-    requires fresh { IsStrictlySortedBy (block_cmp key.now) fresh.items }
-    requires new { (row : List Cell) → Contains rows.old.items row → Contains fresh.items row → ⊥ }
-    ensures merged { OnOk result (IsMerged key.now rows.old.items fresh.items rows.new.items) }
-    ensures count { OnOk result (length rows.new.items ≡ length rows.old.items + length fresh.items) }
+pub fn put(rows: &mut Vec<Row>, fresh: Fresh) -> Result<(), NoMemory>
+    requires placed { (key : List ℕ) × AreMergeable key rows.old.items fresh.rows.items fresh.places.items }
+    ensures merged { OnOk result ((key : List ℕ) → AreMergeable key rows.old.items fresh.rows.items fresh.places.items → IsMerged key rows.old.items fresh.rows.items rows.new.items) }
+    ensures count { OnOk result (length rows.new.items ≡ length rows.old.items + length fresh.rows.items) }
     ensures err { OnErr result (rows.new.items ≡ rows.old.items) }
 {
     let stored = rows.len();
     let alloc = *rows.allocator();
+    let Fresh {
+        rows: fresh,
+        places,
+    } = fresh;
     rows.resize_with(stored + fresh.len(), || -> Row { Row::new(alloc) })?;
-    merge(rows.as_mut_slice(), key, stored, fresh);
+    merge(rows.as_mut_slice(), stored, fresh, places.as_slice());
     Ok(())
 }
 
@@ -244,11 +277,16 @@ pub fn remove(rows: &mut Vec<Row>, key: &[u32], tests: &[ColumnTest])
 }
 
 /// Those of some rows that aren't stored, in block order and each once.
-pub fn fresh_rows(rows: Vec<Row>, stored: &[Row], key: &[u32]) -> Vec<Row>
+///
+/// # Errors
+///
+/// `NoMemory` where memory is refused.
+pub fn fresh_rows(mut rows: Vec<Row>, stored: &[Row], key: &[u32]) -> Result<Fresh, NoMemory>
     requires { IsStrictlySortedBy (block_cmp key.now) stored.now }
-    ensures ascending { IsStrictlySortedBy (block_cmp key.now) result.items }
-    ensures new { (row : List Cell) → Contains result.items row ↔ (Contains rows.items row × (Contains stored.now row → ⊥)) }
-    ensures count { length result.items ≡ count_new stored.now rows.items }
+    ensures new { IfOk result (λ fresh. (row : List Cell) → Contains fresh.rows.items row ↔ (Contains rows.items row × (Contains stored.now row → ⊥))) }
+    ensures count { IfOk result (λ fresh. length fresh.rows.items ≡ count_new stored.now rows.items) }
+    ensures mergeable { IfOk result (λ fresh. AreMergeable key.now stored.now fresh.rows.items fresh.places.items) }
 {
-    without(sorted(rows, key), stored, key)
+    put_in_order(&mut rows, key);
+    without(rows, stored, key)
 }

@@ -86,6 +86,7 @@ pub fn rows_with<'a>(rows: &'a [Row], key: &[u32], probe: &Probe<'_>) -> (usize,
     let (_, rest) = rows.split_at(start);
     let count = leading(
         rest,
+        0,
         |row| -> bool
             requires { length probe.now ≤ length key.now }
             ensures { result ≡ comes_before true (probe_cmp key.entry.now probe.entry.now row.now) }

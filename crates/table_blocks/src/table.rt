@@ -1,15 +1,18 @@
 //! One table: a schema, and rows of it in block order.
 //! Only its own methods change its rows.
-ghost use Rattle.std.specs.Prelude.{◌≡◌, ◌+◌, ◌≤◌, [], List, Contains, length, OnOk, OnErr};
+ghost use Rattle.std.specs.Prelude.{◌≡◌, ◌+◌, ◌≤◌, ◌<◌, ◌^◌, ◌++◌, [], List, Contains, length, true, false, IsTrue, None, if◌then◌else◌, OnOk, OnErr};
 ghost use Rattle.std.specs.List.Sorted.{IsStrictlySortedBy};
 ghost use Rattle.cqa_value.specs.declared.value.Value.{Value};
-ghost use Rattle.cqa_model.specs.Database.{IsTable, IsRowOf, block_cmp};
-ghost use Rattle.table_blocks.specs.Tables.{AreValidRows, IsMerged, IsSpared};
+ghost use Rattle.cqa_model.specs.Database.{AreConsistent, IsTable, IsRowOf, block_cmp};
+ghost use Rattle.cqa_model.specs.Refusal.{Checked};
+ghost use Rattle.table_blocks.specs.Keys.{IsKey, block_order, taken_fault, broken_fault};
+ghost use Rattle.table_blocks.specs.Tables.{AreMergeable, AreValidRows, IsMerged, IsSpared, IsRekeyed};
 
-use crate::rows::{put, remove};
+use crate::keys::{check_consistent, check_taken};
+use crate::rows::{Fresh, put, remove, reorder};
 use crate::test::ColumnTest;
-use cqa_model::Schema;
-use cqa_value::{NoMemory, Row};
+use cqa_model::{Refusal, Schema};
+use cqa_value::{Fail, Items, NoMemory, Row};
 use std::alloc::Global;
 use std::marker::Model;
 
@@ -69,19 +72,96 @@ impl Table {
     }
 
     /// Puts in sorted rows that aren't there yet.
-    pub fn add(&mut self, fresh: Vec<Row>) -> Result<(), NoMemory>
-        requires ascending { IsStrictlySortedBy (block_cmp self.old.schema.key) fresh.items }
-        requires fits { (row : List Value) → Contains fresh.items row → IsRowOf self.old.schema row }
-        requires valid { AreValidRows fresh.items }
-        requires new { (row : List Value) → Contains self.old.rows row → Contains fresh.items row → ⊥ }
+    pub fn add(&mut self, fresh: Fresh) -> Result<(), NoMemory>
+        requires mergeable { AreMergeable self.old.schema.key self.old.rows fresh.rows.items fresh.places.items }
+        requires fits { (row : List Value) → Contains fresh.rows.items row → IsRowOf self.old.schema row }
+        requires valid { AreValidRows fresh.rows.items }
+        requires consistent { IsTrue self.old.schema.strict → AreConsistent self.old.schema.key (self.old.rows ++ fresh.rows.items) }
         ensures table { IsTable self.new }
         ensures valid { AreValidRows self.new.rows }
         ensures schema { self.new.schema ≡ self.old.schema }
-        ensures merged { OnOk result (IsMerged self.old.schema.key self.old.rows fresh.items self.new.rows) }
-        ensures count { OnOk result (length self.new.rows ≡ length self.old.rows + length fresh.items) }
+        ensures merged { OnOk result (IsMerged self.old.schema.key self.old.rows fresh.rows.items self.new.rows) }
+        ensures count { OnOk result (length self.new.rows ≡ length self.old.rows + length fresh.rows.items) }
         ensures err { OnErr result (self.new ≡ self.old) }
     {
-        put(&mut self.rows, key_places(&self.schema), fresh)?;
+        put(&mut self.rows, fresh)?;
+        Ok(())
+    }
+
+    /// Refuses the rows of a statement that the table can't hold since it is strict.
+    ///
+    /// # Errors
+    ///
+    /// `NoMemory` where memory is refused; else `KeyTaken` with the first row that shares its key with a different one that
+    /// is stored or stands before it, and that one.
+    pub fn check_keys(&self, rows: &[Row]) -> Result<(), Fail<Refusal>>
+        requires { length rows.now < 2 ^ 32 }
+        ensures { Checked result (if self.now.schema.strict then taken_fault self.now.schema.key self.now.rows 1 rows.now else None) (λ _. IsTrue self.now.schema.strict → AreConsistent self.now.schema.key (self.now.rows ++ rows.now)) }
+    {
+        if !self.schema.strict {
+            return Ok(());
+        }
+        let stored = self.rows.as_slice();
+        check_taken(
+            *self.rows.allocator(),
+            stored,
+            rows,
+            key_places(&self.schema),
+        )
+    }
+
+    /// Makes the table strict.
+    ///
+    /// # Errors
+    ///
+    /// `NoMemory` where memory is refused; else `KeyBroken` with the first two rows of the first block of more than one row.
+    /// Nothing has changed then.
+    pub fn set_strict(&mut self) -> Result<(), Fail<Refusal>>
+        ensures checked { Checked result (broken_fault self.old.schema.key self.old.rows) (λ _. self.new ≡ record self.old { schema = record self.old.schema { strict = true } }) }
+        ensures err { OnErr result (self.new ≡ self.old) }
+        ensures table { IsTable self.new }
+        ensures valid { AreValidRows self.new.rows }
+        ensures name { self.new.schema.name ≡ self.old.schema.name }
+        ensures rows { self.new.rows ≡ self.old.rows }
+    {
+        let rows = self.rows.as_slice();
+        check_consistent(*self.rows.allocator(), rows, key_places(&self.schema))?;
+        self.schema.strict = true;
+        Ok(())
+    }
+
+    /// Lets the table hold rows that share a key.
+    pub fn drop_strict(&mut self)
+        ensures is { self.new ≡ record self.old { schema = record self.old.schema { strict = false } } }
+        ensures table { IsTable self.new }
+        ensures valid { AreValidRows self.new.rows }
+    {
+        self.schema.strict = false;
+    }
+
+    /// Gives the table another key, and puts its rows in the block order of that key.
+    ///
+    /// # Errors
+    ///
+    /// `NoMemory` where memory is refused; else, where the table is strict, `KeyBroken` with the first two rows of the first
+    /// block of more than one row. Nothing has changed then.
+    pub fn set_key(&mut self, key: Items<u32>) -> Result<(), Fail<Refusal>>
+        requires { IsKey (length self.old.schema.columns) key }
+        ensures checked { Checked result (if self.old.schema.strict then broken_fault key (block_order key self.old.rows) else None) (λ _. IsRekeyed self.old key self.new) }
+        ensures err { OnErr result (self.new ≡ self.old) }
+        ensures table { IsTable self.new }
+        ensures valid { AreValidRows self.new.rows }
+        ensures name { self.new.schema.name ≡ self.old.schema.name }
+        ensures no_more { length self.new.rows ≤ length self.old.rows }
+    {
+        let strict = self.schema.strict;
+        reorder(
+            &mut self.rows,
+            key_places(&self.schema),
+            key.as_slice(),
+            strict,
+        )?;
+        self.schema.key = key;
         Ok(())
     }
 

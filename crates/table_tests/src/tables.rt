@@ -24,7 +24,7 @@ fn row(alloc: Global, pair: Pair) -> Result<Row, Fail<NameFault>> {
     Ok(row)
 }
 
-fn column(alloc: Global, name: &[u8], kind: Kind) -> Result<Column, Fail<NameFault>>
+pub fn column(alloc: Global, name: &[u8], kind: Kind) -> Result<Column, Fail<NameFault>>
     ensures { IfOk result (λ column. column.name ≡ name.now) }
 {
     let name = Name::from_bytes(alloc, name)?;
@@ -43,7 +43,12 @@ fn schema(alloc: Global) -> Result<Schema, Fail<NameFault>> {
     let mut key = Items::new(alloc);
     key.push(1)?;
     key.push(0)?;
-    Ok(Schema { name, columns, key })
+    Ok(Schema {
+        name,
+        columns,
+        key,
+        strict: false,
+    })
 }
 
 fn database(alloc: Global) -> Result<Database, Fail<NameFault>>

@@ -1,5 +1,5 @@
 use Rattle.std.proofs.Common.{◌≡◌, ◌<◌, true, false, not, length, get_or, arith, subst, sym, ap, ◌∙◌, take, true≢false}
-use Rattle.std.proofs.lemmas.List.{get_or-drop, get_or_default}
+use Rattle.std.proofs.lemmas.List.{get_or-drop, get_or_default, length-set}
 use Rattle.std.specs.List.{AllByRecursion}
 use Rattle.std.specs.declared.cmp.Ordering.TheVariants.{Less}
 use Rattle.std.proofs.lemmas.List.Filters.{FiltersInPlace-more_no, FiltersInPlace-more_swap}
@@ -8,6 +8,7 @@ use Rattle.table_blocks.specs.Tables.{IsPlace, is_among}
 use Rattle.table_blocks.proofs.BlockOrder.{block_total, block_exact, block_alike}
 use Rattle.table_blocks.proofs.Sorting.{below_later, absent}
 use Rattle.table_blocks.proofs.Membership.{among, not_among, contains_got}
+use Rattle.table_blocks.proofs.Placing.{places_more, places_same}
 use Rattle.table_blocks.proofs.rows.fresh_first.Goals as goal
 use Rattle.table_blocks.proofs.rows.fresh_first.Goals.{then-not-stands, else-not-stands}
 
@@ -38,6 +39,12 @@ loop-at-preserved c =
         fresh = (let new : not (is_among stored x) ≡ true =
             (not_among stored x).1 (absent cmp (block_total key) (block_exact key) (block_alike key) stored x c.place_from-from.result c.requires.stored place (λ e. true≢false (sym (c.stands.ensures.1 e) ∙ w.if-not-stands.true))) in
             rw (w.rows-is, w.fresh-is) (FiltersInPlace-more_swap {x = x} i there new (get_or_default c.loop-at.rows at row x there) w.swap.ensures.by_index));
+        long = rw w.places-is (length-set c.loop-at.places c.loop-at.fresh c.place_from-from.result ∙ c.loop-at.invariant.long);
+        placed = rw (w.places-is, w.fresh-is) (places_more cmp stored (λ row. not (is_among stored row)) xs at row inside c.loop-at.places c.loop-at.fresh c.place_from-from.result
+            (subst (λ y. not (is_among stored y) ≡ true) same
+            ((not_among stored x).1 (absent cmp (block_total key) (block_exact key) (block_alike key) stored x c.place_from-from.result c.requires.stored place (λ e. true≢false (sym (c.stands.ensures.1 e) ∙ w.if-not-stands.true)))))
+            (let count = c.loop-at.invariant.count in let size = c.loop-at.invariant.long in omega (arith, count, inside, size))
+            (subst (λ y. IsPlace cmp stored y c.place_from-from.result) same place) c.loop-at.invariant.placed);
       }
       | else-not-stands w ↦ record {
         count = (let e = w.fresh-is in omega (arith, e, count));
@@ -45,5 +52,8 @@ loop-at-preserved c =
         below = later;
         fresh = (let known : not (is_among stored x) ≡ false = ap not ((among stored x).1 (contains_got stored c.place_from-from.result x (c.stands.ensures.0 w.if-not-stands.false))) in
             rw (w.rows-is, w.fresh-is) (FiltersInPlace-more_no {x = x} i there known (get_or_default c.loop-at.rows at row x there)));
+        long = rw w.places-is c.loop-at.invariant.long;
+        placed = rw (w.places-is, w.fresh-is) (places_same cmp stored (λ row. not (is_among stored row)) xs at row inside (take c.loop-at.fresh c.loop-at.places)
+            (subst (λ y. not (is_among stored y) ≡ false) same (ap not ((among stored x).1 (contains_got stored c.place_from-from.result x (c.stands.ensures.0 w.if-not-stands.false))))) c.loop-at.invariant.placed);
       }
     ]

@@ -1,30 +1,75 @@
-use Rattle.std.proofs.Common.{◌↔◌, List, Contains, not, subst, sym}
+use Rattle.std.proofs.Common.{◌≡◌, ◌↔◌, ℕ, List, Contains, not, subst, sym}
+use Rattle.std.specs.Prelude.{Result, Ok, Err, IfOk}
+use Rattle.std.specs.List.{filter}
 use Rattle.std.specs.List.Sorted.{IsStrictlySortedBy}
 use Rattle.std.proofs.lemmas.List.Kept.{IsStrictlySortedBy-filter}
 use Rattle.cqa_value.specs.declared.value.Value.{Value}
 use Rattle.cqa_model.specs.Database.{block_cmp}
+use Rattle.table_blocks.specs.Keys.{block_order}
 use Rattle.table_blocks.specs.Tables.{is_among}
 use Rattle.table_blocks.proofs.Counting.{counted}
 use Rattle.table_blocks.proofs.Membership.{contains_filter, not_among}
+use Rattle.table_blocks.proofs.Reordering.{order_sorted, order_members}
 use Rattle.table_blocks.proofs.rows.fresh_rows.Goals as goal
 
-in_order : (c : goal.After-without) → IsStrictlySortedBy (block_cmp c.args.key.now) c.without.result.items
-in_order c = subst (IsStrictlySortedBy (block_cmp c.args.key.now)) (sym c.without.ensures) (IsStrictlySortedBy-filter (block_cmp c.args.key.now) (λ row. not (is_among c.args.stored.now row)) c.sorted.result.items c.sorted.ensures.ascending)
+if_ok : {T E : Type 0} (r : Result T E) (P Q : T → Type 0) → ((v : T) → P v → Q v) → IfOk r P → IfOk r Q
+if_ok (Ok v) P Q f p = f v p
+if_ok (Err e) P Q f p = tt
 
-joined : (c : goal.After-without) → (row : List Value) → Contains c.without.result.items row ↔ (Contains c.args.rows.items row × (Contains c.args.stored.now row → ⊥))
-joined c row =
-    let kept = contains_filter (λ row. not (is_among c.args.stored.now row)) c.sorted.result.items row in
-    let other = not_among c.args.stored.now row in
-    let same = c.sorted.ensures.same row in (
-      λ h. let k = kept.0 (subst (λ rows. Contains rows row) c.without.ensures h) in (same.0 k.0, other.0 k.1),
-      λ h. subst (λ rows. Contains rows row) (sym c.without.ensures) (kept.1 (same.1 h.0, other.1 h.1)),
-    )
+if_both : {T E : Type 0} (r : Result T E) (P Q R : T → Type 0) → ((v : T) → P v → Q v → R v) → IfOk r P → IfOk r Q → IfOk r R
+if_both (Ok v) P Q R f p q = f v p q
+if_both (Err e) P Q R f p q = tt
 
-pub returns-clause-ascending : goal.returns-clause-ascending
-returns-clause-ascending c = in_order c
+module _ (key : List ℕ) (stored rows sorted : List (List Value)) (is : sorted ≡ block_order key rows) where
+  kept : List (List Value)
+  kept = filter (λ row. not (is_among stored row)) sorted
+
+  in_order : IsStrictlySortedBy (block_cmp key) kept
+  unfolding kept
+  in_order = IsStrictlySortedBy-filter (block_cmp key) (λ row. not (is_among stored row)) sorted (subst (IsStrictlySortedBy (block_cmp key)) (sym is) (order_sorted key rows))
+
+  joined : (row : List Value) → Contains kept row ↔ (Contains rows row × (Contains stored row → ⊥))
+  unfolding kept
+  joined row =
+      let passes = contains_filter (λ row. not (is_among stored row)) sorted row in
+      let other = not_among stored row in
+      let same = subst (λ sorted. Contains sorted row ↔ Contains rows row) (sym is) (order_members key rows row) in (
+        λ h. let k = passes.0 h in (same.0 k.0, other.0 k.1),
+        λ h. passes.1 (same.1 h.0, other.1 h.1),
+      )
+
+pub without-requires-clause-given : goal.without-requires-clause-given
+without-requires-clause-given c = subst (IsStrictlySortedBy (block_cmp c.args.key.now)) (sym c.put_in_order.ensures) (order_sorted c.args.key.now c.args.rows.items)
 
 pub returns-clause-new : goal.returns-clause-new
-returns-clause-new c row = joined c row
+unfolding kept
+returns-clause-new c =
+    if_ok c.without.result (λ fresh. fresh.rows.items ≡ filter (λ row. not (is_among c.args.stored.now row)) c.put_in_order.new.rows.items) _
+    (λ fresh e row. subst (λ rows. Contains rows row ↔ (Contains c.args.rows.items row × (Contains c.args.stored.now row → ⊥))) (sym e) (joined c.args.key.now c.args.stored.now c.args.rows.items c.put_in_order.new.rows.items c.put_in_order.ensures row))
+    c.without.ensures.fresh
 
 pub returns-clause-count : goal.returns-clause-count
-returns-clause-count c = counted c.args.key.now c.args.stored.now c.args.rows.items c.without.result.items (in_order c) (joined c)
+unfolding kept
+returns-clause-count c =
+    let key = c.args.key.now in
+    let stored = c.args.stored.now in
+    let sorted = c.put_in_order.new.rows.items in
+    if_ok c.without.result (λ fresh. fresh.rows.items ≡ filter (λ row. not (is_among stored row)) sorted) _
+    (λ fresh e. counted key stored c.args.rows.items fresh.rows.items (subst (IsStrictlySortedBy (block_cmp key)) (sym e) (in_order key stored c.args.rows.items sorted c.put_in_order.ensures))
+    (λ row. subst (λ rows. Contains rows row ↔ (Contains c.args.rows.items row × (Contains stored row → ⊥))) (sym e) (joined key stored c.args.rows.items sorted c.put_in_order.ensures row)))
+    c.without.ensures.fresh
+
+pub returns-clause-mergeable : goal.returns-clause-mergeable
+unfolding kept
+returns-clause-mergeable c =
+    let key = c.args.key.now in
+    let stored = c.args.stored.now in
+    let sorted = c.put_in_order.new.rows.items in
+    if_both c.without.result (λ fresh. fresh.rows.items ≡ filter (λ row. not (is_among stored row)) sorted) _ _
+    (λ fresh e placed. record {
+      ascending = c.requires;
+      rising = subst (IsStrictlySortedBy (block_cmp key)) (sym e) (in_order key stored c.args.rows.items sorted c.put_in_order.ensures);
+      apart = λ row m h. ((joined key stored c.args.rows.items sorted c.put_in_order.ensures row).0 (subst (λ rows. Contains rows row) e h)).1 m;
+      placed = placed;
+    })
+    c.without.ensures.fresh c.without.ensures.placed

@@ -1,4 +1,5 @@
 use Rattle.std.proofs.Common.{◌≡◌, ◌≤◌, ◌∙◌, sym, ap, subst, length, Some, slice_get, slice_set}
+use Rattle.cqa_model.specs.declared.schema.Schema.{Schema}
 use Rattle.cqa_model.proofs.Places.{rows-at}
 use Rattle.table_blocks.specs.Tables.{IsSpared}
 use Rattle.table_blocks.proofs.Changing.{set_with_rows}
@@ -7,7 +8,7 @@ use Rattle.table_blocks.proofs.database.Database.remove.Goals as goal
 
 pub invariant_of-self : goal.invariant_of-self
 invariant_of-self c =
-    named_less c.self.inside.tables.entries c.args.table c.in-Some.found.now c.remove.new.self c.self.invariant (sym c.in-Some.ensures.value) c.remove.ensures.schema c.remove.ensures.table c.remove.ensures.valid c.remove.ensures.fewer
+    named_less c.self.inside.tables.entries c.args.table c.in-Some.found.now c.remove.new.self c.self.invariant (sym c.in-Some.ensures.value) (ap (λ (s : Schema). s.name) c.remove.ensures.schema) c.remove.ensures.table c.remove.ensures.valid c.remove.ensures.fewer
 
 pub returns-clause-spared : goal.returns-clause-spared
 returns-clause-spared c =

@@ -2,6 +2,7 @@ use Rattle.std.proofs.Common.{subst}
 use Rattle.std.specs.List.Sorted.{IsStrictlySortedBy}
 use Rattle.cqa_model.specs.Database.{block_cmp, IsTable}
 use Rattle.table_blocks.specs.Tables.{AreValidRows, IsSpared}
+use Rattle.table_blocks.proofs.Taking.{consistent_within}
 use Rattle.table_blocks.proofs.table.Table.remove.Goals as goal
 use Rattle.table_blocks.proofs.table.Table.remove.Goals.{After-remove}
 
@@ -10,6 +11,7 @@ in_block_order c = (
   record {
     in_order = subst (λ key. IsStrictlySortedBy (block_cmp key) c.remove.new.rows.items) c.key_places.ensures c.remove.ensures.spared.in_order;
     of_schema = λ row h. c.self.invariant.0.of_schema row ((c.remove.ensures.spared.members row).0 h).0;
+    strict = λ t. consistent_within c.self.inside.schema.key c.self.inside.rows.items c.remove.new.rows.items (c.self.invariant.0.strict t) (λ row h. ((c.remove.ensures.spared.members row).0 h).0);
   },
   λ row h. c.self.invariant.1 row ((c.remove.ensures.spared.members row).0 h).0,
 )

@@ -1,0 +1,128 @@
+-- Rows that are put in block order: there is one such list of them.
+use Rattle.std.proofs.Common.{◌≡◌, ◌⊎◌, ◌↔◌, inl, inr, ℕ, ◌≤◌, ◌+◌, length, arith, List, [], ◌∷◌, Contains, refl, sym, ap, ◌∙◌, subst}
+use Rattle.std.specs.List.Sorted.{IsStrictlySortedBy}
+use Rattle.std.specs.Ordering.{ordering_reverse}
+use Rattle.std.specs.declared.cmp.Ordering.{Ordering}
+use Rattle.std.specs.declared.cmp.Ordering.TheVariants.{Less, Equal, Greater}
+use Rattle.cqa_value.specs.declared.value.Value.{Value}
+use Rattle.cqa_model.specs.Database.{block_cmp}
+use Rattle.table_blocks.specs.Keys.{by_ordering, with_row, block_order}
+use Rattle.table_blocks.proofs.BlockOrder.{block_total, block_exact, block_alike}
+use Rattle.table_blocks.proofs.Membership.{contains_none, contains_head, contains_later, contains_cases}
+use Rattle.table_blocks.proofs.Merging.{sorted_cons, of_all}
+
+module _ (key : List ℕ) where
+  cmp : List Value → List Value → Ordering
+  cmp = block_cmp key
+
+  abbrev IsInOrder : List (List Value) → Type 0
+  IsInOrder rows = IsStrictlySortedBy (block_cmp key) rows
+
+  tail_sorted : (x : List Value) (rows : List (List Value)) → IsInOrder (x ∷ rows) → IsInOrder rows
+  unfolding IsStrictlySortedBy
+  tail_sorted x rows s = s.1
+
+  head_below : (x : List Value) (rows : List (List Value)) → IsInOrder (x ∷ rows) → (y : List Value) → Contains rows y → block_cmp key x y ≡ Less
+  unfolding IsStrictlySortedBy
+  head_below x rows s = of_all (block_cmp key) (block_total key) (block_exact key) (block_alike key) (λ y. block_cmp key x y ≡ Less) rows s.0
+
+  no_rows : IsInOrder []
+  unfolding IsStrictlySortedBy
+  no_rows = tt
+
+  joined : (x : List Value) (rows : List (List Value)) → ((y : List Value) → Contains rows y → block_cmp key x y ≡ Less) → IsInOrder rows → IsInOrder (x ∷ rows)
+  joined = sorted_cons (block_cmp key) (block_total key) (block_exact key) (block_alike key)
+
+  with_row-members : (row : List Value) (rows : List (List Value)) (x : List Value) → Contains (with_row key row rows) x ↔ ((row ≡ x) ⊎ Contains rows x)
+  with_row-members row [] x = (λ h. contains_cases row [] x h, λ h. elim h [ inl e ↦ subst (Contains (row ∷ [])) e (contains_head row []) | inr m ↦ absurd (contains_none x m) ])
+  with_row-members row (y ∷ rows) x = go (block_cmp key row y) refl (with_row-members row rows x)
+    where
+      go : (o : Ordering) → block_cmp key row y ≡ o → Contains (with_row key row rows) x ↔ ((row ≡ x) ⊎ Contains rows x)
+          → Contains (by_ordering o (row ∷ (y ∷ rows)) (y ∷ rows) (y ∷ with_row key row rows)) x ↔ ((row ≡ x) ⊎ Contains (y ∷ rows) x)
+      go Less e more = (λ h. contains_cases row (y ∷ rows) x h, λ h. elim h [ inl q ↦ subst (Contains (row ∷ (y ∷ rows))) q (contains_head row (y ∷ rows)) | inr m ↦ contains_later row (y ∷ rows) x m ])
+      go Equal e more = (λ h. inr h, λ h. elim h [ inl q ↦ subst (Contains (y ∷ rows)) (sym (block_exact key row y e) ∙ q) (contains_head y rows) | inr m ↦ m ])
+      go Greater e more = (
+        λ h. elim (contains_cases y (with_row key row rows) x h) [
+          | inl q ↦ inr (subst (Contains (y ∷ rows)) q (contains_head y rows))
+          | inr m ↦ elim (more.0 m) [ inl q ↦ inl q | inr l ↦ inr (contains_later y rows x l) ]
+        ],
+        λ h. elim h [
+          | inl q ↦ contains_later y (with_row key row rows) x (more.1 (inl q))
+          | inr m ↦ elim (contains_cases y rows x m) [
+            | inl q ↦ subst (Contains (y ∷ with_row key row rows)) q (contains_head y (with_row key row rows))
+            | inr l ↦ contains_later y (with_row key row rows) x (more.1 (inr l))
+          ]
+        ],
+      )
+
+  with_row-sorted : (row : List Value) (rows : List (List Value)) → IsInOrder rows → IsInOrder (with_row key row rows)
+  with_row-sorted row [] s = joined row [] (λ y m. absurd (contains_none y m)) no_rows
+  with_row-sorted row (y ∷ rows) s = go (block_cmp key row y) refl (with_row-sorted row rows (tail_sorted y rows s))
+    where
+      go : (o : Ordering) → block_cmp key row y ≡ o → IsInOrder (with_row key row rows) → IsInOrder (by_ordering o (row ∷ (y ∷ rows)) (y ∷ rows) (y ∷ with_row key row rows))
+      go Less e more = joined row (y ∷ rows) (λ z m. elim (contains_cases y rows z m) [
+        | inl q ↦ subst (λ z. block_cmp key row z ≡ Less) q e
+        | inr l ↦ (block_total key).trans row y z e (head_below y rows s z l)
+      ]) s
+      go Equal e more = s
+      go Greater e more = joined y (with_row key row rows) (λ z m. elim ((with_row-members row rows z).0 m) [
+        | inl q ↦ subst (λ z. block_cmp key y z ≡ Less) q ((block_total key).antisymm y row ∙ ap ordering_reverse e)
+        | inr l ↦ head_below y rows s z l
+      ]) more
+
+  pub order_sorted : (rows : List (List Value)) → IsInOrder (block_order key rows)
+  order_sorted [] = no_rows
+  order_sorted (row ∷ rows) = with_row-sorted row (block_order key rows) (order_sorted rows)
+
+  pub order_members : (rows : List (List Value)) (x : List Value) → Contains (block_order key rows) x ↔ Contains rows x
+  order_members [] x = (λ h. h, λ h. h)
+  order_members (row ∷ rows) x =
+      let more = order_members rows x in
+      let here = with_row-members row (block_order key rows) x in (
+        λ h. elim (here.0 h) [ inl q ↦ subst (Contains (row ∷ rows)) q (contains_head row rows) | inr m ↦ contains_later row rows x (more.0 m) ],
+        λ h. here.1 (elim (contains_cases row rows x h) [ inl q ↦ inl q | inr m ↦ inr (more.1 m) ]),
+      )
+
+  not_both : (x y : List Value) → block_cmp key x y ≡ Less → block_cmp key y x ≡ Less → ⊥
+  not_both x y a b = let c = (block_total key).trans x y x a b in let e = block_alike key x in (cc)
+
+  -- lists in block order that have the same rows are one
+  pub ordered_once : (xs ys : List (List Value)) → IsInOrder xs → IsInOrder ys → ((x : List Value) → Contains xs x ↔ Contains ys x) → xs ≡ ys
+  ordered_once [] [] s t same = refl
+  ordered_once [] (y ∷ ys) s t same = absurd (contains_none y ((same y).1 (contains_head y ys)))
+  ordered_once (x ∷ xs) [] s t same = absurd (contains_none x ((same x).0 (contains_head x xs)))
+  ordered_once (x ∷ xs) (y ∷ ys) s t same =
+      let first : x ≡ y = heads (contains_cases y ys x ((same x).0 (contains_head x xs))) (contains_cases x xs y ((same y).1 (contains_head y ys))) in
+      let rest : xs ≡ ys = ordered_once xs ys (tail_sorted x xs s) (tail_sorted y ys t) (λ z. (
+        λ m. elim (contains_cases y ys z ((same z).0 (contains_later x xs z m))) [ inl q ↦ absurd (not_self x z (head_below x xs s z m) (first ∙ q)) | inr l ↦ l ],
+        λ m. elim (contains_cases x xs z ((same z).1 (contains_later y ys z m))) [ inl q ↦ absurd (not_self y z (head_below y ys t z m) (sym first ∙ q)) | inr l ↦ l ],
+      )) in
+      (λ i. first i ∷ rest i)
+    where
+      heads : (y ≡ x) ⊎ Contains ys x → (x ≡ y) ⊎ Contains xs y → x ≡ y
+      heads (inl e) h = sym e
+      heads (inr m) (inl e) = e
+      heads (inr m) (inr n) = absurd (not_both x y (head_below x xs s y n) (head_below y ys t x m))
+
+      not_self : (a z : List Value) → block_cmp key a z ≡ Less → a ≡ z → ⊥
+      not_self a z less e = let q : block_cmp key a a ≡ Less = subst (λ z. block_cmp key a z ≡ Less) (sym e) less in let r = block_alike key a in (cc)
+
+  -- rows in block order that have some rows are these rows' block order
+  pub order_is : (xs rows : List (List Value)) → IsInOrder xs → ((x : List Value) → Contains xs x ↔ Contains rows x) → xs ≡ block_order key rows
+  order_is xs rows s same = ordered_once xs (block_order key rows) s (order_sorted rows) (λ x. (
+    λ h. (order_members rows x).1 ((same x).0 h),
+    λ h. (same x).1 ((order_members rows x).0 h),
+  ))
+
+  with_row-count : (row : List Value) (rows : List (List Value)) → length (with_row key row rows) ≤ 1 + length rows
+  with_row-count row [] = omega arith
+  with_row-count row (y ∷ rows) = go (block_cmp key row y) (with_row-count row rows)
+    where
+      go : (o : Ordering) → length (with_row key row rows) ≤ 1 + length rows → length (by_ordering o (row ∷ (y ∷ rows)) (y ∷ rows) (y ∷ with_row key row rows)) ≤ 1 + length (y ∷ rows)
+      go Less more = omega arith
+      go Equal more = omega arith
+      go Greater more = omega (arith, more)
+
+  pub order_count : (rows : List (List Value)) → length (block_order key rows) ≤ length rows
+  order_count [] = omega arith
+  order_count (row ∷ rows) = let one = with_row-count row (block_order key rows) in let more = order_count rows in omega (arith, one, more)
