@@ -1,5 +1,5 @@
 -- Queries that pass their checks.
-use Rattle.std.proofs.Common.{◌≡◌, ℕ, zero, suc, ◌+◌, ◌<◌, ◌≤◌, List, [], ◌∷◌, length, take, get_or, slice_get, Some, None, All, Contains, nat_le, is_some, refl, sym, ap, ◌∙◌, subst, arith}
+use Rattle.std.proofs.Common.{◌≡◌, false, ℕ, zero, suc, ◌+◌, ◌<◌, ◌≤◌, List, [], ◌∷◌, length, take, get_or, slice_get, Some, None, All, Contains, nat_le, is_some, refl, sym, ap, ◌∙◌, subst, arith}
 use Rattle.std.specs.List.{AllZip}
 use Rattle.std.proofs.lemmas.List.{length-map}
 use Rattle.std.proofs.Math.ListN.{get_or-map as get_or-map_default}
@@ -15,9 +15,10 @@ use Rattle.cqa_model.specs.declared.query.Query.{Query}
 use Rattle.cqa_model.specs.declared.refusal.Refusal.TheVariants.{UnknownTable, SelfJoin, TypeMismatch, Limit}
 use Rattle.cqa_model.specs.declared.refusal.Place.TheVariants.{Condition}
 use Rattle.cqa_model.specs.declared.refusal.LimitKind.TheVariants.{Atoms, Answer}
-use Rattle.cqa_model.specs.Database.{Table, kinds_of, column_kinds, keys_of}
+use Rattle.cqa_model.specs.Database.{Table, IsDatabase, kinds_of, column_kinds, keys_of}
 use Rattle.cqa_model.specs.Shape.{IsAtom, IsQuery, IsInRange, columns_of, column_at, nth_atom}
 use Rattle.cqa_model.specs.Query.{KindsAgree, kind_at}
+use Rattle.cqa_model.proofs.Fitting.{strict-consistent}
 use Rattle.cqa_model.proofs.Places.{map-at, key-at, kinds-at}
 use Rattle.spj_syntax.specs.declared.tree.RawCol.{RawCol}
 use Rattle.spj_syntax.specs.declared.tree.RawCond.{RawCond}
@@ -33,7 +34,7 @@ use Rattle.query_resolve.proofs.Lookups.{passes, at_most, none_is, named_at, nam
 use Rattle.query_resolve.proofs.Scopes.{table_there, as_many, atom_there, table_of_column, column_there, kind_found}
 
 pub no_atom : Atom
-no_atom = record { table = 0; width = 0; key = [] }
+no_atom = record { table = 0; width = 0; key = []; strict = false }
 
 -- a table that is there
 table_at : (db : List Table) (t : ℕ) → t < length db → (table : Table) × (slice_get db t ≡ Some table)
@@ -163,17 +164,20 @@ module _ (db : List Table) (names : List (List ℕ)) (q : Query) (are : AllZip (
       kind_of_column col c is.0 both.0 ∙ kinds_same number (column_kind db names col) (kind_of value) both.1 ∙ ap kind_of (sym is.2)
 
 -- the query of the parts
-pub query_of : (db : List Table) (select : Select) (q : Query) → Parts db select.tables select.columns select.conds q.atoms q.conds q.answer → IsQueryOf db select q
-query_of db select q parts =
+pub query_of : (db : List Table) → IsDatabase db → (select : Select) (q : Query) → Parts db select.tables select.columns select.conds q.atoms q.conds q.answer → IsQueryOf db select q
+query_of db valid select q parts =
     let of : (F : ℕ) → F < length q.atoms → IsAtomOf db (get_or select.tables F []) (nth_atom q.atoms F) = atom_of_name db select.tables q.atoms parts.are in
+    let within : (F : ℕ) → F < length q.atoms → (nth_atom q.atoms F).table < length db = λ F inside. table_there db (get_or select.tables F []) (nth_atom q.atoms F).table (of F inside).table in
     record {
       atoms = parts.are;
       conds = parts.meant;
       answer = parts.selected;
       fits = record {
-        there = λ F inside. table_there db (get_or select.tables F []) (nth_atom q.atoms F).table (of F inside).table;
-        width = λ F inside. (of F inside).width ∙ wide db (nth_atom q.atoms F).table (table_there db (get_or select.tables F []) (nth_atom q.atoms F).table (of F inside).table);
+        there = within;
+        width = λ F inside. (of F inside).width ∙ wide db (nth_atom q.atoms F).table (within F inside);
         keyed = λ F inside. (of F inside).key;
+        marked = λ F inside. (of F inside).mark;
+        strict = λ F inside. strict-consistent db valid q F (within F inside) (of F inside).key (of F inside).mark;
         kinds = λ k h.
             let found = zip_found (IsCondOf db select.tables) select.conds q.conds k parts.meant h in
             let passes = passes_at (by_number (cond_fault db select.tables)) select.conds found.0 found.1 parts.sound found.2 in

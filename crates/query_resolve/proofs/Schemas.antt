@@ -1,5 +1,5 @@
 -- Schemas that pass their checks.
-use Rattle.std.proofs.Common.{◌≡◌, ℕ, ◌<◌, ◌≤◌, List, [], length, take, get_or, Contains, Some, None, Bool, true, false, ◌&&◌, nat_le, nat_lt, is_none, refl, sym, ap, ◌∙◌, subst, arith, true≢false}
+use Rattle.std.proofs.Common.{◌≡◌, ℕ, ◌<◌, ◌≤◌, List, [], length, take, get_or, Contains, Some, None, Bool, true, false, ◌&&◌, nat_le, nat_lt, is_none, Result, Ok, Err, IfOk, refl, sym, ap, ◌∙◌, subst, arith, true≢false}
 use Rattle.std.proofs.lemmas.Bool.Decides.{nat_tests}
 use Rattle.std.specs.List.{AllZip}
 use Rattle.cqa_value.specs.declared.value.Kind.TheVariants.{Int}
@@ -9,11 +9,16 @@ use Rattle.cqa_model.specs.declared.refusal.LimitKind.TheVariants.{Tables, Colum
 use Rattle.cqa_model.specs.Database.{Table, names_of}
 use Rattle.cqa_model.specs.Shape.{AreDistinct, IsSchema, column_at}
 use Rattle.spj_syntax.specs.declared.tree.RawSchema.{RawSchema}
-use Rattle.cqa_model.specs.Refusal.{first_of}
-use Rattle.table_blocks.specs.Tables.{table_named}
-use Rattle.query_resolve.specs.Names.{name_place, column_named, has_column}
-use Rattle.query_resolve.specs.Checks.{fault_unless, first_fault, table_fault, duplicate_fault, key_fault}
+use Rattle.cqa_value.specs.declared.memory.Fail.{Fail}
+use Rattle.cqa_model.specs.declared.refusal.Refusal.{Refusal}
+use Rattle.cqa_model.specs.Refusal.{first_of, Checked}
+use Rattle.table_blocks.specs.Keys.{IsKey}
+use Rattle.table_blocks.specs.Tables.{table_named, kinds_at}
+use Rattle.query_resolve.specs.Names.{name_place, column_named, has_column, columns_at}
+use Rattle.query_resolve.specs.Checks.{fault_unless, first_fault, table_fault, duplicate_fault, key_fault, names_fault, new_key_fault}
+use Rattle.query_resolve.specs.Resolved.{ArePlacesOf, IsKeyOf}
 use Rattle.query_resolve.proofs.Members.{both_none}
+use Rattle.query_resolve.proofs.Queries.{wide}
 use Rattle.query_resolve.proofs.Lookups.{passes, at_most, none_is, not_some, named_at, named_nowhere, named_apart, passes_at, zip_at, zip_length}
 
 no_column : Column
@@ -81,3 +86,24 @@ pub kept_schema : (db : List Table) (raw : RawSchema) (copies seen columns : Lis
 kept_schema db raw copies seen columns names key s c n same some some_key valid fresh apart places =
     subst (λ l. IsSchema l key) (sym (same ∙ s))
     (is_schema raw.columns raw.key key (sym (λ i. first_fault (key_fault (c i)) [] (n i)) ∙ apart) (key_seen raw columns names key c n places) some (narrow db raw valid) some_key (ap (first_fault duplicate_fault []) (sym s) ∙ fresh))
+
+-- the key of a table that is there, by the names of its columns
+pub is_key : (db : List Table) (table : ℕ) (names : List (List ℕ)) (key : List ℕ) → table < length db → 0 < length names → new_key_fault db table names ≡ None → IsKeyOf db table names key → IsKey (length (kinds_at db table)) key
+is_key db table names key there some valid places =
+    let columns = columns_at db table in
+    let long = zip_length (λ (name : List ℕ) (place : ℕ). column_named columns name ≡ Some place) names key places in
+    record {
+      some_key = omega (arith, long, some);
+      key_in_range = λ i d inside. subst (λ n. get_or key i d < n) (wide db table there) (named columns names key valid places i d inside).0;
+      key_apart = key_distinct columns names key valid places;
+    }
+
+module _ (db : List Table) (table : ℕ) (names : List (List ℕ)) where
+  -- the names were looked up among these columns, which are the table's
+  pub key_looked_up : (columns : List Column) {r : Result (List ℕ) (Fail Refusal)} → columns ≡ columns_at db table → Checked r (names_fault columns names) (ArePlacesOf columns names) → Checked r (new_key_fault db table names) (IsKeyOf db table names)
+  key_looked_up columns {r = r} seen h = subst (λ cs. Checked r (names_fault cs names) (ArePlacesOf cs names)) seen h
+
+  -- a key that was looked up fits the table
+  pub key_fits : (r : Result (List ℕ) (Fail Refusal)) → table < length db → 0 < length names → Checked r (new_key_fault db table names) (IsKeyOf db table names) → IfOk r (λ key. IsKey (length (kinds_at db table)) key)
+  key_fits (Ok key) there some h = is_key db table names key there some h.valid h.is
+  key_fits (Err e) there some h = tt

@@ -185,10 +185,10 @@ module _ (db : List Table) (names : List (List ℕ)) (atoms : List Atom) (are : 
   ]
 
   pub table_of_column : (nth_atom atoms col.atom).table < length db
-  table_of_column = tables_there db names atoms are col.atom (record { table = 0; width = 0; key = [] }) atom_there
+  table_of_column = tables_there db names atoms are col.atom (record { table = 0; width = 0; key = []; strict = false }) atom_there
 
   columns_is : columns_at db (nth_atom atoms col.atom).table ≡ atom_columns db names col.atom
-  columns_is = columns-read db names atoms are col.atom (record { table = 0; width = 0; key = [] }) atom_there
+  columns_is = columns-read db names atoms are col.atom (record { table = 0; width = 0; key = []; strict = false }) atom_there
 
   pub column_there : col.col < length (columns_at db (nth_atom atoms col.atom).table)
   column_there = subst (λ l. col.col < length l) (sym columns_is) (column_inside (atom_columns db names col.atom) written.name col.col is.place)

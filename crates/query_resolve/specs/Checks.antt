@@ -1,4 +1,4 @@
--- The first failing check of a schema, of the tests of a `delete`, and of a query.
+-- The first failing check of a schema, of the key of an `alter`, of the tests of a `delete`, and of a query.
 use Rattle.std.specs.Prelude.{ℕ, ◌+◌, Bool, nat_lt, nat_le, not, ◌&&◌, if◌then◌else◌, List, [], ◌∷◌, ◌++◌, length, map, Option, Some, None, is_some, is_none, slice_index_or}
 use Rattle.cqa_value.specs.declared.value.Kind.{Kind}
 use Rattle.cqa_value.specs.declared.value.Value.{Value}
@@ -53,8 +53,16 @@ duplicate_fault before column = fault_unless (not (has_column before column.name
 abbrev pub key_fault : List Column → List (List ℕ) → List ℕ → Option Refusal
 key_fault columns before name = fault_unless (has_column columns name && is_none (name_place before name)) (BadKey name)
 
+-- each name of a key is a column and hasn't stood before
+abbrev pub names_fault : List Column → List (List ℕ) → Option Refusal
+names_fault columns names = first_fault (key_fault columns) [] names
+
 abbrev pub schema_fault : List Table → RawSchema → Option Refusal
-schema_fault db raw = first_of (table_fault db raw) (first_of (first_fault duplicate_fault [] raw.columns) (first_fault (key_fault raw.columns) [] raw.key))
+schema_fault db raw = first_of (table_fault db raw) (first_of (first_fault duplicate_fault [] raw.columns) (names_fault raw.columns raw.key))
+
+-- the key of an `alter` names columns of the table
+abbrev pub new_key_fault : List Table → ℕ → List (List ℕ) → Option Refusal
+new_key_fault db table names = names_fault (columns_at db table) names
 
 -- the column of the test of a number is there and has the literal's kind
 abbrev pub test_fault : List Column → ℕ → RawTest → Option Refusal

@@ -18,6 +18,10 @@ name_place names name = position (pointwise nat_eq name) names
 abbrev pub column_named : List Column → List ℕ → Option ℕ
 column_named columns name = position (λ (column : Column). pointwise nat_eq name column.name) columns
 
+-- the places of the columns with these names
+abbrev pub places_of : List Column → List (List ℕ) → List ℕ
+places_of columns names = map (λ name. unwrap_or (column_named columns name) 0) names
+
 abbrev pub has_column : List Column → List ℕ → Bool
 has_column columns name = is_some (column_named columns name)
 

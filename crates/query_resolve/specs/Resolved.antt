@@ -17,14 +17,23 @@ use Rattle.spj_syntax.specs.declared.tree.RawCond.{RawCond}
 use Rattle.spj_syntax.specs.declared.tree.RawCond.TheVariants.{Join as WrittenJoin, Test as WrittenTest}
 use Rattle.spj_syntax.specs.declared.tree.Select.{Select}
 use Rattle.table_blocks.specs.declared.test.ColumnTest.{ColumnTest}
-use Rattle.table_blocks.specs.Tables.{table_named, key_at}
+use Rattle.table_blocks.specs.Tables.{table_named, key_at, mark_at}
 use Rattle.query_resolve.specs.Names.{name_place, column_named, has_column, columns_at, atom_columns}
+
+-- one place for each name, in order: that of the column so named
+abbrev pub ArePlacesOf : List Column → List (List ℕ) → List ℕ → Type 0
+ArePlacesOf columns names places = AllZip (λ name place. column_named columns name ≡ Some place) names places
 
 -- the key's places are those of the columns that it names; all else is kept
 pub record IsSchemaOf (raw : RawSchema) (schema : Schema) : Type 0 where
   pub name : schema.name ≡ raw.name
   pub columns : schema.columns ≡ raw.columns
-  pub key : AllZip (λ name place. column_named raw.columns name ≡ Some place) raw.key schema.key
+  pub key : ArePlacesOf raw.columns raw.key schema.key
+  pub strict : schema.strict ≡ raw.strict
+
+-- the key of an `alter`: the places of the table's columns that it names
+abbrev pub IsKeyOf : List Table → ℕ → List (List ℕ) → List ℕ → Type 0
+IsKeyOf db table names key = ArePlacesOf (columns_at db table) names key
 
 -- the test's column has its place among these; all else is kept
 pub record IsTestOf (columns : List Column) (raw : RawTest) (test : ColumnTest) : Type 0 where
@@ -36,11 +45,12 @@ pub record IsTestOf (columns : List Column) (raw : RawTest) (test : ColumnTest) 
 abbrev pub AreTestsOf : List Table → ℕ → List RawTest → List ColumnTest → Type 0
 AreTestsOf db table raw tests = AllZip (IsTestOf (columns_at db table)) raw tests
 
--- the atom of a name: the place, the width and the key of the table so named
+-- the atom of a name: the place, the width, the key and the mark of the table so named
 pub record IsAtomOf (db : List Table) (name : List ℕ) (atom : Atom) : Type 0 where
   pub table : table_named db name ≡ Some atom.table
   pub width : atom.width ≡ length (columns_at db atom.table)
   pub key : atom.key ≡ key_at db atom.table
+  pub mark : atom.strict ≡ mark_at db atom.table
 
 -- the atom of a column: that of the table where it is written, else the only one whose table has the column
 abbrev pub IsAtomFor : List Table → List (List ℕ) → Option (List ℕ) → List ℕ → ℕ → Type 0

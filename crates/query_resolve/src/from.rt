@@ -2,6 +2,7 @@
 
 ghost use Rattle.std.specs.Prelude.{[]};
 ghost use Rattle.std.specs.List.{AllZip};
+ghost use Rattle.cqa_model.specs.Database.{IsDatabase};
 ghost use Rattle.cqa_model.specs.Refusal.{Checked};
 ghost use Rattle.query_resolve.specs.Checks.{first_fault, from_fault};
 ghost use Rattle.query_resolve.specs.Resolved.{IsAtomOf};
@@ -15,9 +16,11 @@ use table_blocks::Database;
 
 /// The atoms of different tables by their names.
 pub fn atoms_of(alloc: Global, db: &Database, names: &[Name]) -> Result<Items<Atom>, Fail<Refusal>>
-    ensures { Checked result (first_fault (from_fault db.now) [] names.now) (AllZip (IsAtomOf db.now) names.now) }
+    ensures checked { Checked result (first_fault (from_fault db.now) [] names.now) (AllZip (IsAtomOf db.now) names.now) }
+    ensures database { IsDatabase db.now }
 {
-    let mut atoms = Vec::with_capacity(alloc, names.len())?;
+    let most = names.len().min(db.count() as usize);
+    let mut atoms = Vec::with_capacity(alloc, most)?;
     for (at, name) in names.iter().enumerate() {
         atoms.push(atom_of(alloc, db, name, &names[..at])?)?;
     }
@@ -46,5 +49,6 @@ fn atom_of(
         table,
         width: schema.columns.len() as u32,
         key,
+        strict: schema.strict,
     })
 }

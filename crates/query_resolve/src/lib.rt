@@ -7,11 +7,13 @@ mod condition;
 mod deletion;
 mod faults;
 mod from;
+mod key;
 mod names;
 mod query;
 mod schema;
 
 pub use answer::check_row;
 pub use deletion::resolve_tests;
+pub use key::resolve_key;
 pub use query::resolve;
 pub use schema::resolve_schema;

@@ -1,17 +1,16 @@
 //! The schema of a new table, check by check.
 
-ghost use Rattle.std.specs.Prelude.{◌≡◌, ◌≤◌, ◌<◌, ⊤, [], Some, OnOk, Contains, length};
-ghost use Rattle.std.specs.List.{AllZip};
+ghost use Rattle.std.specs.Prelude.{◌≡◌, ◌<◌, ⊤, [], OnOk, Contains, length};
 ghost use Rattle.cqa_model.specs.Database.{names_of};
 ghost use Rattle.cqa_model.specs.Refusal.{Checked};
-ghost use Rattle.query_resolve.specs.Names.{column_named};
-ghost use Rattle.query_resolve.specs.Checks.{first_fault, table_fault, duplicate_fault, key_fault, schema_fault};
+ghost use Rattle.query_resolve.specs.Checks.{first_fault, table_fault, duplicate_fault, schema_fault};
 ghost use Rattle.query_resolve.specs.Resolved.{IsSchemaOf};
 
 use crate::faults::limit;
-use crate::names::{place_of_column, place_of_name};
+use crate::key::key_places;
+use crate::names::place_of_column;
 use cqa_model::{Column, LimitKind, MOST_COLUMNS, MOST_TABLES, Refusal, Schema};
-use cqa_value::{Fail, Items, Name};
+use cqa_value::{Fail, Items};
 use spj_syntax::RawSchema;
 use std::alloc::Global;
 use table_blocks::Database;
@@ -37,7 +36,12 @@ pub fn resolve_schema(
     let columns = distinct_columns(alloc, raw.columns.as_slice())?;
     let key = key_places(alloc, raw.columns.as_slice(), raw.key.as_slice())?;
     let name = raw.name.copy(alloc)?;
-    Ok(Schema { name, columns, key })
+    Ok(Schema {
+        name,
+        columns,
+        key,
+        strict: raw.strict,
+    })
 }
 
 /// Whether the database has room for the table, and the table isn't too wide.
@@ -77,35 +81,4 @@ fn fresh_column(alloc: Global, column: &Column, before: &[Column]) -> Result<Col
         return Err(Fail::Refused(Refusal::DuplicateColumn { name }));
     }
     Ok(column.copy(alloc)?)
-}
-
-/// The places of different columns by their names.
-fn key_places(alloc: Global, columns: &[Column], key: &[Name]) -> Result<Items<u32>, Fail<Refusal>>
-    requires { length columns.now ≤ 16 }
-    ensures { Checked result (first_fault (key_fault columns.now) [] key.now) (λ places. AllZip (λ name place. column_named columns.now name ≡ Some place) key.now places) }
-{
-    let mut places = Vec::with_capacity(alloc, key.len())?;
-    for (at, name) in key.iter().enumerate() {
-        places.push(key_place(alloc, columns, name, &key[..at])?)?;
-    }
-    Ok(Items::from_vec(places))
-}
-
-/// The place of a key's column, whose name hasn't stood before.
-fn key_place(
-    alloc: Global,
-    columns: &[Column],
-    name: &Name,
-    before: &[Name],
-) -> Result<u32, Fail<Refusal>>
-    requires { length columns.now ≤ 16 }
-    ensures { Checked result (key_fault columns.now before.now name.now) (λ place. column_named columns.now name.now ≡ Some place) }
-{
-    match place_of_column(columns, name) {
-        Some(place) if place_of_name(before, name).is_none() => Ok(place as u32),
-        _ => {
-            let name = name.copy(alloc)?;
-            Err(Fail::Refused(Refusal::BadKey { name }))
-        }
-    }
 }

@@ -104,6 +104,19 @@ drawn p q r = record {
 then : {p q r : Shape} → Same p q → Same q r → Same p r
 then f h = record { to = λ ls g. h.to ls (f.to ls g); from = λ ls g. f.from ls (h.from ls g) }
 
+-- a beginning drawn out of two around another
+drawn_around : (o p q r : Shape) → Same (p ⨾ q ∣ o ∣ p ⨾ r) (o ∣ p ⨾ (q ∣ r))
+drawn_around o p q r = record {
+  to = λ ls g. elim g [
+    | inl x ↦ inr (x.0, x.1, x.2, inl x.3, x.4)
+    | inr y ↦ elim y [ inl z ↦ inl z | inr z ↦ inr (z.0, z.1, z.2, inr z.3, z.4) ]
+  ];
+  from = λ ls g. elim g [
+    | inl z ↦ inr (inl z)
+    | inr x ↦ let y = x.3 in elim y [ inl z ↦ inl (x.0, x.1, x.2, z, x.4) | inr z ↦ inr (inr (x.0, x.1, x.2, z, x.4)) ]
+  ];
+}
+
 -- e and p, or e or o and q
 split : (e o p q : Shape) → Same (e ⨾ p ∣ (e ∣ o) ⨾ q) (e ⨾ (p ∣ q) ∣ o ⨾ q)
 split e o p q = record {
@@ -127,8 +140,13 @@ same_query =
 
 same_create : Same grammar.create factored.create
 same_create =
-    both (same (one (word (codes "create")))) (both (same (one (word (codes "table")))) (both (same grammar.a_name) (both (same (one (mark Open)))
-    (trailing grammar.column (one (mark Comma)) (grammar.key ⨾ one (mark Close))))))
+    both (same (one (word (codes "create")))) (both (same grammar.strict) (both (same (one (word (codes "table")))) (both (same grammar.a_name) (both (same (one (mark Open)))
+    (trailing grammar.column (one (mark Comma)) (grammar.key ⨾ one (mark Close)))))))
+
+same_alter : Same grammar.alter factored.alter
+same_alter =
+    both (same (one (word (codes "alter")))) (both (same (one (word (codes "table")))) (both (same grammar.a_name)
+    (drawn_around (one (word (codes "drop")) ⨾ one (word (codes "strict"))) (one (word (codes "set"))) (one (word (codes "strict"))) grammar.key)))
 
 same_asking : Same grammar.asking factored.asking
 same_asking = both (same grammar.verb) same_query
@@ -138,8 +156,8 @@ same_show = drawn (one (word (codes "show"))) (one (word (codes "tables"))) (one
 
 same_statement : Same grammar.statement factored.statement
 same_statement =
-    either (same grammar.set) (either same_create (either (same grammar.insert) (either (same grammar.delete) (either (same grammar.copy)
-    (either (same (one (word (codes "dump")))) (either same_show same_asking))))))
+    either (same grammar.set) (either same_create (either same_alter (either (same grammar.insert) (either (same grammar.delete) (either (same grammar.copy)
+    (either (same (one (word (codes "dump")))) (either same_show same_asking)))))))
 
 pub from_factored : (ls : List Lexeme) → Generates factored.statement ls → Generates grammar.statement ls
 from_factored ls g = same_statement.from ls g

@@ -12,7 +12,7 @@ use Rattle.cqa_value.specs.Literals.{is_in_range}
 use Rattle.spj_syntax.specs.Grammar.{literal}
 use Rattle.cqa_value.specs.declared.value.Value.{Value}
 use Rattle.cqa_value.specs.declared.value.Value.TheVariants.{Int, Text}
-use Rattle.spj_syntax.specs.Written.{literal_tokens, each_after, between, filtered_tokens, anded_tokens, head_tokens, col_tokens, listed_tokens, name_tokens, column_tokens, statement_tokens}
+use Rattle.spj_syntax.specs.Written.{literal_tokens, each_after, between, filtered_tokens, anded_tokens, head_tokens, col_tokens, listed_tokens, name_tokens, column_tokens, strict_tokens, key_tokens, statement_tokens}
 use Rattle.cqa_model.specs.declared.schema.Column.{Column}
 use Rattle.spj_syntax.specs.declared.tree.Statement.TheVariants.{Create}
 use Rattle.spj_syntax.specs.declared.tree.RawCol.{RawCol}
@@ -28,7 +28,7 @@ use Rattle.spj_syntax.specs.declared.reader.Stop.{Stop}
 use Rattle.spj_syntax.specs.declared.reader.Stop.TheVariants.{NoMemory, Syntax}
 use Rattle.spj_syntax.specs.declared.lists.Between.{Between}
 use Rattle.spj_syntax.specs.declared.lists.Between.TheVariants as betweens
-use Rattle.spj_syntax.specs.Reading.{separator, separator_lexeme, Pushes, Takes, Took, StopsAt, Failed, Reads, front_of, each_before, key_tokens, body_tokens}
+use Rattle.spj_syntax.specs.Reading.{separator, separator_lexeme, Pushes, Takes, Took, StopsAt, Failed, Reads, front_of, each_before, body_tokens}
 use Rattle.spj_syntax.specs.Parsed.{Fits}
 use Rattle.spj_syntax.proofs.Walking.{read-both, one_past, one_stopped, one_end, both_past, both_stopped, first_stopped, left_read, right_read, either_end, nothing_read, many_end, many_done, many_more, end_read, read_shorter, read_shrinks}
 
@@ -363,11 +363,11 @@ pub each_before-push : {A : Type 0} (l : Lexeme) (f : A → List Lexeme) (xs : L
 each_before-push l f [] x = append-nil (f x ++ l ∷ [])
 each_before-push l f (y ∷ xs) x = ap (λ z. (f y ++ l ∷ []) ++ z) (each_before-push l f xs x) ∙ sym (append_assoc (f y ++ l ∷ []) (each_before l f xs) (f x ++ l ∷ []))
 
-pub created : {p : Shape} {s z : List Lexeme} (n : List ℕ) (cs : List Column) (k : List (List ℕ)) (some_column : 1 ≤ length cs) (some_key : 1 ≤ length k) (named : AreNames n cs k)
-    → Took p (Word (codes "create") ∷ Word (codes "table") ∷ (name_tokens n ++ body_tokens (cs, k))) s z
-    → Took p (statement_tokens (Create (record { name = n; columns = cs; key = k; some_column = some_column; some_key = some_key; named = named }))) s z
-created {p = p} {s = s} {z = z} n cs k some_column some_key named t =
-    subst (λ w. Took p (Word (codes "create") ∷ Word (codes "table") ∷ Word n ∷ Mark Open ∷ w) s z)
+pub created : {p : Shape} {s z : List Lexeme} (n : List ℕ) (cs : List Column) (k : List (List ℕ)) (strict : Bool) (some_column : 1 ≤ length cs) (some_key : 1 ≤ length k) (named : AreNames n cs k)
+    → Took p (Word (codes "create") ∷ (strict_tokens strict ++ (Word (codes "table") ∷ (name_tokens n ++ body_tokens (cs, k))))) s z
+    → Took p (statement_tokens (Create (record { name = n; columns = cs; key = k; strict = strict; some_column = some_column; some_key = some_key; named = named }))) s z
+created {p = p} {s = s} {z = z} n cs k strict some_column some_key named t =
+    subst (λ w. Took p (Word (codes "create") ∷ (strict_tokens strict ++ (Word (codes "table") ∷ Word n ∷ Mark Open ∷ w))) s z)
     (each_before-is (Mark Comma) column_tokens cs (key_tokens k ++ Mark Close ∷ []) some_column
     ∙ ap (λ w. between (Mark Comma) column_tokens cs ++ (Mark Comma ∷ Word (codes "primary") ∷ Word (codes "key") ∷ Mark Open ∷ w)) (append_assoc (listed_tokens name_tokens k) (Mark Close ∷ []) (Mark Close ∷ []))) t
 

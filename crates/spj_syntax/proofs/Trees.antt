@@ -23,7 +23,9 @@ use Rattle.spj_syntax.specs.declared.tree.RawCol.{RawCol}
 use Rattle.spj_syntax.specs.declared.tree.RawCond.{RawCond}
 use Rattle.spj_syntax.specs.declared.tree.RawCond.TheVariants.{Join, Test}
 use Rattle.spj_syntax.specs.Lexemes.{Lexeme, Word, Number, Quoted, Mark}
-use Rattle.spj_syntax.specs.Written.{name_tokens, literal_tokens, column_tokens, listed_tokens, row_tokens, schema_tokens, op_symbol, test_tokens, col_tokens_of, col_tokens, cond_tokens, each_after, between, filtered_tokens, head_tokens, select_tokens, verb_tokens, statement_tokens}
+use Rattle.spj_syntax.specs.Written.{name_tokens, literal_tokens, column_tokens, listed_tokens, row_tokens, schema_tokens, op_symbol, test_tokens, col_tokens_of, col_tokens, cond_tokens, each_after, between, filtered_tokens, head_tokens, select_tokens, verb_tokens, strict_tokens, change_tokens, statement_tokens}
+use Rattle.spj_syntax.specs.declared.tree.Change.{Change}
+use Rattle.spj_syntax.specs.declared.tree.Change.TheVariants as changes
 use Rattle.spj_syntax.specs.declared.tree.Select.{Select}
 use Rattle.spj_syntax.specs.declared.tree.Verb.{Verb}
 use Rattle.spj_syntax.specs.declared.tree.Verb.TheVariants as verbs
@@ -281,8 +283,8 @@ key_rest names = Mark s.Open ∷ (listed_tokens name_tokens names ++ (Mark s.Clo
 are_names-prop : {n : List ℕ} {cs : List Column} {k : List (List ℕ)} → IsProp (AreNames n cs k)
 are_names-prop = hlevel props
 
-schema_same : (a b : RawSchema) → schema_tokens a ≡ schema_tokens b → a ≡ b
-schema_same a b e =
+schema_same : (a b : RawSchema) → a.strict ≡ b.strict → schema_tokens a ≡ schema_tokens b → a ≡ b
+schema_same a b m e =
     let n : a.name ≡ b.name = cc in
     let c : listed_tokens column_tokens a.columns ++ Key (key_rest a.key) ≡ listed_tokens column_tokens b.columns ++ Key (key_rest b.key) = cc in
     let i = all_columns_decode a.columns b.columns (key_rest a.key) (key_rest b.key) a.some_column b.some_column c in
@@ -294,6 +296,7 @@ schema_same a b e =
       name = n i;
       columns = x i;
       key = y i;
+      strict = m i;
       some_column = is_prop→PathP (λ j. 1 ≤ length (x j)) (λ j. le_prop) a.some_column b.some_column i;
       some_key = is_prop→PathP (λ j. 1 ≤ length (y j)) (λ j. le_prop) a.some_key b.some_key i;
       named = is_prop→PathP (λ j. AreNames (n j) (x j) (y j)) (λ j. are_names-prop) a.named b.named i;
@@ -348,10 +351,50 @@ opens_verb (verbs.Explain row) r = refl
 no_verb : (v : Verb) (r ls : List Lexeme) → verb_tokens v ++ r ≡ ls → is_verb ls ≡ false → ⊥
 no_verb v r ls e n = let h : true ≡ false = sym (opens_verb v r) ∙ ap is_verb e ∙ n in absurd (cc)
 
+strict_table : (r z : List Lexeme) → Word (codes "strict") ∷ r ≡ Word (codes "table") ∷ z → ⊥
+unfolding mark_of
+strict_table r z e = absurd (omega (arith, ap mark_of e))
+
+-- the mark stands before the word that begins the rest, or not
+strict_decodes : (a b : Bool) (r z : List Lexeme) → strict_tokens a ++ (Word (codes "table") ∷ r) ≡ strict_tokens b ++ (Word (codes "table") ∷ z) → (a ≡ b) × (r ≡ z)
+strict_decodes true true r z e = (refl, (cc))
+strict_decodes false false r z e = (refl, (cc))
+strict_decodes true false r z e = absurd (strict_table (Word (codes "table") ∷ r) z e)
+strict_decodes false true r z e = absurd (strict_table (Word (codes "table") ∷ z) r (sym e))
+
+-- what a list of names goes on with, where a `)` ends it
+names_decode : (xs ys : List (List ℕ)) (r z : List Lexeme) → listed_tokens name_tokens xs ++ Mark s.Close ∷ r ≡ listed_tokens name_tokens ys ++ Mark s.Close ∷ z → (xs ≡ ys) × (r ≡ z)
+names_decode [] [] r z e = (refl, (cc))
+names_decode [] (y ∷ ys) r z e = absurd (cc)
+names_decode (x ∷ xs) [] r z e = absurd (cc)
+names_decode (x ∷ xs) (y ∷ ys) r z e =
+    let i = between_decodes (Mark s.Comma) Never name_tokens (λ x. x) (λ a b u v f g h. name_decodes a b u v h) (x ∷ xs) (y ∷ ys) _ _ (omega arith) (omega arith) (fine_close r) (fine_close z) e in
+    (i.0, (cc (i.1)))
+
+-- the changes differ in their first word, or in their second
+change_same : (a b : Change) → change_tokens a ≡ change_tokens b → a ≡ b
+unfolding mark_of second_mark
+change_same changes.SetStrict changes.SetStrict e = refl
+change_same changes.DropStrict changes.DropStrict e = refl
+change_same (changes.SetKey xs) (changes.SetKey ys) e =
+    let g : listed_tokens name_tokens xs ++ Mark s.Close ∷ [] ≡ listed_tokens name_tokens ys ++ Mark s.Close ∷ [] = cc in
+    ap changes.SetKey (names_decode xs ys [] [] g).0
+change_same changes.SetStrict (changes.SetKey ys) e = absurd (omega (arith, ap second_mark e))
+change_same (changes.SetKey xs) changes.SetStrict e = absurd (omega (arith, ap second_mark e))
+change_same _ _ e = absurd (omega (arith, ap mark_of e))
+
 -- no tokens are written by two statements
 pub statement_same : (a b : Statement) → statement_tokens a ≡ statement_tokens b → a ≡ b
 unfolding mark_of second_mark is_verb verb_marks
-statement_same (statements.Create c) (statements.Create d) e = ap statements.Create (schema_same c d (cc))
+statement_same (statements.Create c) (statements.Create d) e =
+    let g : strict_tokens c.strict ++ (Word (codes "table") ∷ schema_tokens c) ≡ strict_tokens d.strict ++ (Word (codes "table") ∷ schema_tokens d) = cc in
+    let i = strict_decodes c.strict d.strict (schema_tokens c) (schema_tokens d) g in
+    ap statements.Create (schema_same c d i.0 i.1)
+statement_same (statements.Alter t c) (statements.Alter u d) e =
+    let h : t ≡ u = cc in
+    let g : change_tokens c ≡ change_tokens d = cc in
+    let i = change_same c d g in
+    λ l. statements.Alter (h l) (i l)
 statement_same (statements.Insert t xs) (statements.Insert u ys) e =
     let h : t ≡ u = cc in
     let g : listed_tokens row_tokens xs ≡ listed_tokens row_tokens ys = cc in

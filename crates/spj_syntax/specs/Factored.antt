@@ -2,7 +2,7 @@
 use Rattle.std.specs.Prelude.{codes}
 use Rattle.script_lex.specs.declared.kinds.Symbol.TheVariants.{Open, Close, Comma, Eq}
 use Rattle.spj_syntax.specs.Shapes.{word, mark, Shape, one, ◌⨾◌, ◌∣◌, many}
-use Rattle.spj_syntax.specs.Grammar.{a_name, listed, filtered, literal, column, key, insert, delete, col, op_but_equal, head, verb, copy, set}
+use Rattle.spj_syntax.specs.Grammar.{a_name, listed, filtered, literal, strict, column, key, insert, delete, col, op_but_equal, head, verb, copy, set}
 
 -- Each column has its comma behind it.
 abbrev pub columns : Shape
@@ -13,7 +13,14 @@ abbrev pub body : Shape
 body = one (mark Open) ⨾ columns ⨾ key ⨾ one (mark Close)
 
 abbrev pub create : Shape
-create = one (word (codes "create")) ⨾ one (word (codes "table")) ⨾ a_name ⨾ body
+create = one (word (codes "create")) ⨾ strict ⨾ one (word (codes "table")) ⨾ a_name ⨾ body
+
+-- `drop` with the mark, or `set` with the mark or a key
+abbrev pub change : Shape
+change = one (word (codes "drop")) ⨾ one (word (codes "strict")) ∣ one (word (codes "set")) ⨾ (one (word (codes "strict")) ∣ key)
+
+abbrev pub alter : Shape
+alter = one (word (codes "alter")) ⨾ one (word (codes "table")) ⨾ a_name ⨾ change
 
 -- an = with a column or a literal, or another operator with a literal
 abbrev pub side : Shape
@@ -33,7 +40,7 @@ show = one (word (codes "show")) ⨾ (one (word (codes "tables")) ∣ one (word 
 
 -- all statements but `set`
 abbrev pub plain : Shape
-plain = create ∣ insert ∣ delete ∣ copy ∣ one (word (codes "dump")) ∣ show ∣ asking
+plain = create ∣ alter ∣ insert ∣ delete ∣ copy ∣ one (word (codes "dump")) ∣ show ∣ asking
 
 abbrev pub statement : Shape
 statement = set ∣ plain

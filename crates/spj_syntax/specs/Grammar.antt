@@ -38,9 +38,20 @@ column = a_name ⨾ kind
 abbrev pub key : Shape
 key = one (word (codes "primary")) ⨾ one (word (codes "key")) ⨾ one (mark Open) ⨾ listed a_name ⨾ one (mark Close)
 
+-- the mark of a strict table, or nothing
+abbrev pub strict : Shape
+strict = optional (one (word (codes "strict")))
+
 abbrev pub create : Shape
-create = one (word (codes "create")) ⨾ one (word (codes "table")) ⨾ a_name ⨾ one (mark Open)
+create = one (word (codes "create")) ⨾ strict ⨾ one (word (codes "table")) ⨾ a_name ⨾ one (mark Open)
     ⨾ column ⨾ many (one (mark Comma) ⨾ column) ⨾ one (mark Comma) ⨾ key ⨾ one (mark Close)
+
+-- what is changed of a table: its mark or its key
+abbrev pub change : Shape
+change = one (word (codes "set")) ⨾ one (word (codes "strict")) ∣ one (word (codes "drop")) ⨾ one (word (codes "strict")) ∣ one (word (codes "set")) ⨾ key
+
+abbrev pub alter : Shape
+alter = one (word (codes "alter")) ⨾ one (word (codes "table")) ⨾ a_name ⨾ change
 
 abbrev pub row : Shape
 row = one (mark Open) ⨾ listed literal ⨾ one (mark Close)
@@ -96,4 +107,4 @@ abbrev pub show : Shape
 show = one (word (codes "show")) ⨾ one (word (codes "tables")) ∣ one (word (codes "show")) ⨾ one (word (codes "log"))
 
 abbrev pub statement : Shape
-statement = set ∣ create ∣ insert ∣ delete ∣ copy ∣ one (word (codes "dump")) ∣ show ∣ asking
+statement = set ∣ create ∣ alter ∣ insert ∣ delete ∣ copy ∣ one (word (codes "dump")) ∣ show ∣ asking

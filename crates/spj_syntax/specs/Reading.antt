@@ -18,7 +18,7 @@ use Rattle.script_lex.specs.declared.kinds.Symbol.TheVariants as s
 use Rattle.spj_syntax.specs.Shapes.{Terminal, word, mark, Shape}
 use Rattle.spj_syntax.specs.Parsed.{Fits, AllFit, IsStatement, Refuses, fault_of, lexemes, place_of}
 use Rattle.cqa_model.specs.declared.schema.Column.{Column}
-use Rattle.spj_syntax.specs.Written.{IsWrittenAs, listed_tokens, name_tokens, column_tokens}
+use Rattle.spj_syntax.specs.Written.{IsWrittenAs, column_tokens, key_tokens}
 use Rattle.spj_syntax.specs.declared.tree.Statement.{Statement}
 use Rattle.spj_syntax.specs.declared.fault.SyntaxFault.{SyntaxFault}
 use Rattle.spj_syntax.specs.declared.fault.SyntaxFault.TheVariants.{At}
@@ -75,9 +75,6 @@ separator_lexeme And = Word (codes "and")
 abbrev pub each_before : {A : Type 0} → Lexeme → (A → List Lexeme) → List A → List Lexeme
 each_before l f [] = []
 each_before l f (x ∷ xs) = (f x ++ l ∷ []) ++ each_before l f xs
-
-abbrev pub key_tokens : List (List ℕ) → List Lexeme
-key_tokens names = Word (codes "primary") ∷ Word (codes "key") ∷ Mark s.Open ∷ (listed_tokens name_tokens names ++ Mark s.Close ∷ [])
 
 -- the columns and the key of a table
 abbrev pub body_tokens : List Column × List (List ℕ) → List Lexeme

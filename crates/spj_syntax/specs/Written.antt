@@ -1,5 +1,5 @@
 -- How a statement is written as tokens.
-use Rattle.std.specs.Prelude.{◌≡◌, ◌<◌, ◌≤◌, length, List, [], ◌∷◌, ◌++◌, ℕ, Option, Some, None, codes, pos}
+use Rattle.std.specs.Prelude.{◌≡◌, ◌<◌, ◌≤◌, Bool, true, false, length, List, [], ◌∷◌, ◌++◌, ℕ, Option, Some, None, codes, pos}
 use Rattle.script_lex.specs.declared.kinds.Symbol.{Symbol}
 use Rattle.script_lex.specs.declared.kinds.Symbol.TheVariants as s
 use Rattle.cqa_value.specs.declared.value.Value.{Value}
@@ -15,6 +15,8 @@ use Rattle.spj_syntax.specs.declared.tree.RawCond.{RawCond}
 use Rattle.spj_syntax.specs.declared.tree.RawCond.TheVariants.{Join, Test}
 use Rattle.spj_syntax.specs.declared.lists.RawSide.{RawSide}
 use Rattle.spj_syntax.specs.declared.lists.RawSide.TheVariants as sides
+use Rattle.spj_syntax.specs.declared.tree.Change.{Change}
+use Rattle.spj_syntax.specs.declared.tree.Change.TheVariants as changes
 use Rattle.spj_syntax.specs.declared.tree.Select.{Select}
 use Rattle.spj_syntax.specs.declared.tree.Verb.{Verb}
 use Rattle.spj_syntax.specs.declared.tree.Verb.TheVariants as verbs
@@ -98,6 +100,21 @@ select_tokens q = head_tokens q.columns ++ (Word (codes "from") ∷ (listed_toke
 abbrev pub schema_tokens : RawSchema → List Lexeme
 schema_tokens r = name_tokens r.name ++ (Mark s.Open ∷ (listed_tokens column_tokens r.columns ++ (Mark s.Comma ∷ Word (codes "primary") ∷ Word (codes "key") ∷ Mark s.Open ∷ (listed_tokens name_tokens r.key ++ (Mark s.Close ∷ Mark s.Close ∷ [])))))
 
+-- the mark of a strict table
+abbrev pub strict_tokens : Bool → List Lexeme
+strict_tokens true = Word (codes "strict") ∷ []
+strict_tokens false = []
+
+-- a key by the names of its columns
+abbrev pub key_tokens : List (List ℕ) → List Lexeme
+key_tokens names = Word (codes "primary") ∷ Word (codes "key") ∷ Mark s.Open ∷ (listed_tokens name_tokens names ++ Mark s.Close ∷ [])
+
+-- what is changed of a table
+abbrev pub change_tokens : Change → List Lexeme
+change_tokens changes.SetStrict = Word (codes "set") ∷ Word (codes "strict") ∷ []
+change_tokens changes.DropStrict = Word (codes "drop") ∷ Word (codes "strict") ∷ []
+change_tokens (changes.SetKey names) = Word (codes "set") ∷ key_tokens names
+
 -- what is asked of a query
 abbrev pub verb_tokens : Verb → List Lexeme
 verb_tokens verbs.Ask = Word (codes "ask") ∷ []
@@ -107,7 +124,8 @@ verb_tokens verbs.Plan = Word (codes "plan") ∷ []
 verb_tokens (verbs.Explain row) = Word (codes "explain") ∷ Word (codes "row") ∷ (row_tokens row ++ Word (codes "for") ∷ [])
 
 abbrev pub statement_tokens : Statement → List Lexeme
-statement_tokens (statements.Create r) = Word (codes "create") ∷ Word (codes "table") ∷ schema_tokens r
+statement_tokens (statements.Create r) = Word (codes "create") ∷ (strict_tokens r.strict ++ (Word (codes "table") ∷ schema_tokens r))
+statement_tokens (statements.Alter table change) = Word (codes "alter") ∷ Word (codes "table") ∷ (name_tokens table ++ change_tokens change)
 statement_tokens (statements.Insert table rows) = Word (codes "insert") ∷ Word (codes "into") ∷ (name_tokens table ++ (Word (codes "values") ∷ listed_tokens row_tokens rows))
 statement_tokens (statements.Delete table tests) = Word (codes "delete") ∷ Word (codes "from") ∷ (name_tokens table ++ filtered_tokens test_tokens tests)
 statement_tokens (statements.Asking verb q) = verb_tokens verb ++ select_tokens q
@@ -120,8 +138,14 @@ statement_tokens statements.ShowLog = Word (codes "show") ∷ Word (codes "log")
 abbrev pub IsSome : {A : Type 0} → List A → Type 0
 IsSome xs = 0 < length xs
 
--- Its rows or its tests can be counted.
+-- A key that is set has a column.
+abbrev pub HasKey : Change → Type 0
+HasKey (changes.SetKey names) = IsSome names
+HasKey _ = Unit {0}
+
+-- Its rows or its tests can be counted, and a key that it sets has a column.
 abbrev pub IsSmall : Statement → Type 0
+IsSmall (statements.Alter table change) = HasKey change
 IsSmall (statements.Insert table rows) = length rows ≤ most_items
 IsSmall (statements.Delete table tests) = length tests ≤ most_items
 IsSmall _ = Unit {0}

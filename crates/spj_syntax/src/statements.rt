@@ -3,16 +3,16 @@
 ghost use Rattle.std.specs.Prelude.{◌≡◌, ◌<◌, ◌∷◌, ◌++◌, [], length, IfOk, All, IsTrue, codes};
 ghost use Rattle.cqa_value.specs.Literals.{integer_of, are_digits, without_minus};
 ghost use Rattle.spj_syntax.specs.Lexemes.{Word, Number, Mark};
-ghost use Rattle.spj_syntax.specs.Reading.{Reads, key_tokens, body_tokens};
+ghost use Rattle.spj_syntax.specs.Reading.{Reads, Took, body_tokens};
 ghost use Rattle.spj_syntax.specs.Shapes.{◌⨾◌};
-ghost use Rattle.spj_syntax.specs.Written.{head_tokens, select_tokens, verb_tokens, statement_tokens, listed_tokens, literal_tokens, name_tokens, row_tokens, IsSmall};
+ghost use Rattle.spj_syntax.specs.Written.{strict_tokens, key_tokens, change_tokens, HasKey, head_tokens, select_tokens, verb_tokens, statement_tokens, listed_tokens, literal_tokens, name_tokens, row_tokens, IsSmall};
 ghost use Rattle.cqa_model.specs.Valid.{IsName};
 ghost use Rattle.spj_syntax.specs.Grammar as grammar;
 ghost use Rattle.spj_syntax.specs.Factored as factored;
 
 use crate::lists::{columns, filtered, listed, literals};
 use crate::reader::{Reader, Stop};
-use crate::{RawCol, RawSchema, Select, Statement, Verb};
+use crate::{Change, RawCol, RawSchema, Select, Statement, Verb};
 use cqa_model::Column;
 use cqa_value::{Items, Name, Row};
 use script_lex::Symbol;
@@ -72,12 +72,24 @@ fn body(alloc: Global, reader: &mut Reader<'_>) -> Result<(Items<Column>, Items<
     Ok((columns, key))
 }
 
-/// `create table NAME (NAME KIND, .., KEY)`.
+/// `strict`, or nothing: whether it stands there.
+fn is_strict(reader: &mut Reader<'_>) -> bool
+    ensures { Took grammar.strict (strict_tokens result) reader.old reader.new }
+{
+    if reader.sees_word(b"strict") {
+        reader.advance();
+        return true;
+    }
+    false
+}
+
+/// `create [strict] table NAME (NAME KIND, .., KEY)`.
 fn create(alloc: Global, reader: &mut Reader<'_>) -> Result<Statement, Stop>
     ensures reads { Reads factored.create statement_tokens result reader.old reader.new }
     ensures small { IfOk result (λ s. IsSmall s) }
 {
     reader.word(b"create")?;
+    let strict = is_strict(reader);
     reader.word(b"table")?;
     let name = reader.name(alloc)?;
     let parts = body(alloc, reader)?;
@@ -85,8 +97,40 @@ fn create(alloc: Global, reader: &mut Reader<'_>) -> Result<Statement, Stop>
         name,
         columns: parts.0,
         key: parts.1,
+        strict,
     };
     Ok(Statement::Create { schema })
+}
+
+/// `drop strict`, `set strict` or `set primary key (NAME, ..)`.
+fn change(alloc: Global, reader: &mut Reader<'_>) -> Result<Change, Stop>
+    ensures reads { Reads factored.change change_tokens result reader.old reader.new }
+    ensures some { IfOk result (λ change. HasKey change) }
+{
+    if reader.sees_word(b"drop") {
+        reader.advance();
+        reader.word(b"strict")?;
+        return Ok(Change::DropStrict);
+    }
+    reader.word(b"set")?;
+    if reader.sees_word(b"strict") {
+        reader.advance();
+        return Ok(Change::SetStrict);
+    }
+    let names = key(alloc, reader)?;
+    Ok(Change::SetKey(names))
+}
+
+/// `alter table NAME CHANGE`.
+fn alter(alloc: Global, reader: &mut Reader<'_>) -> Result<Statement, Stop>
+    ensures reads { Reads factored.alter statement_tokens result reader.old reader.new }
+    ensures small { IfOk result (λ s. IsSmall s) }
+{
+    reader.word(b"alter")?;
+    reader.word(b"table")?;
+    let table = reader.name(alloc)?;
+    let change = change(alloc, reader)?;
+    Ok(Statement::Alter { table, change })
 }
 
 /// `insert into NAME values ROW, ..`.
@@ -220,6 +264,9 @@ pub fn plain(alloc: Global, reader: &mut Reader<'_>) -> Result<Statement, Stop>
 {
     if reader.sees_word(b"create") {
         return create(alloc, reader);
+    }
+    if reader.sees_word(b"alter") {
+        return alter(alloc, reader);
     }
     if reader.sees_word(b"insert") {
         return insert(alloc, reader);

@@ -7,15 +7,25 @@ ghost use Rattle.spj_syntax.specs.Names.{AreNames};
 use cqa_model::{Column, Op};
 use cqa_value::{Items, Name, Row, Value};
 
-/// A schema as it is written: a name, one column or more, and a key of one column or more, each by its name.
+/// A schema as it is written: a name, one column or more, a key of one column or more, each by its name, and whether the
+/// table is strict.
 #[derive(Drop)]
 pub struct RawSchema {
     pub name: Name,
     pub columns: Items<Column>,
     pub key: Items<Name>,
+    pub strict: bool,
     pub ghost some_column: { 1 ≤ length columns },
     pub ghost some_key: { 1 ≤ length key },
     pub ghost named: { AreNames name columns key },
+}
+
+/// What an `alter` changes of a table: whether it is strict, or its key, of one column or more, each by its name.
+#[derive(Drop)]
+pub enum Change {
+    SetStrict,
+    DropStrict,
+    SetKey(Items<Name>),
 }
 
 /// A test of a `delete`.
@@ -64,6 +74,7 @@ pub enum Verb {
 #[derive(Drop)]
 pub enum Statement {
     Create { schema: RawSchema },
+    Alter { table: Name, change: Change },
     Insert { table: Name, rows: Items<Row> },
     Delete { table: Name, tests: Items<RawTest> },
     Asking { verb: Verb, select: Select },

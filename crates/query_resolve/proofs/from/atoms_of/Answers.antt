@@ -8,8 +8,8 @@ loop-at-init c = start refl c.in_ok-atoms.ensures.items
 pub loop-at-preserved : goal.loop-at-preserved
 loop-at-preserved c = more c.loop-at.invariant c.loop-at-test.true c.index-names-at.is c.in_ok-atom_of.ensures c.in_ok-push.ensures.items
 
-pub returns-in_err-atom_of : goal.returns-in_err-atom_of
-returns-in_err-atom_of c = stopped c.loop-at.invariant c.loop-at-test.true c.index-names-at.is c.in_err-atom_of.ensures c.from_residual-in_err-atom_of.ensures.1
+pub returns-in_err-atom_of-clause-checked : goal.returns-in_err-atom_of-clause-checked
+returns-in_err-atom_of-clause-checked c = stopped c.loop-at.invariant c.loop-at-test.true c.index-names-at.is c.in_err-atom_of.ensures c.from_residual-in_err-atom_of.ensures.1
 
-pub returns : goal.returns
-returns c = finished c.loop-at.invariant c.loop-at-test.false c.from_vec.ensures
+pub returns-clause-checked : goal.returns-clause-checked
+returns-clause-checked c = finished c.loop-at.invariant c.loop-at-test.false c.from_vec.ensures

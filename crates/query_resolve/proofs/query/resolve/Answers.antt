@@ -8,7 +8,7 @@ invariant_of-result c = record {
       is_query c.args.db.now c.args.select.now c.in_ok-atoms.atoms c.in_ok-conds.conds c.in_ok-answer.answer
       (parts_seen c.args.db.now c.args.select.now c.as_slice-names.result.now c.as_slice-2.result.now c.as_slice-4.result.now c.in_ok-atoms.atoms c.in_ok-conds.conds c.in_ok-answer.answer
       c.as_slice-names.ensures c.as_slice-2.ensures c.as_slice-4.ensures
-      (record { are = c.in_ok-atoms.ensures.is; apart = c.in_ok-atoms.ensures.valid; selected = c.in_ok-answer.ensures.is; meant = c.in_ok-conds.ensures.is; sound = c.in_ok-conds.ensures.valid }))
+      (record { are = c.in_ok-atoms.ensures.checked.is; apart = c.in_ok-atoms.ensures.checked.valid; selected = c.in_ok-answer.ensures.is; meant = c.in_ok-conds.ensures.is; sound = c.in_ok-conds.ensures.valid }))
       c.args.select.now.some_table c.in_ok-check_sizes.ensures.valid;
 }
 
@@ -17,8 +17,8 @@ returns c = record {
   refused = tt;
   valid = search rules;
   is =
-      query_of c.args.db.now c.args.select.now _
+      query_of c.args.db.now c.in_ok-atoms.ensures.database c.args.select.now _
       (parts_seen c.args.db.now c.args.select.now c.as_slice-names.result.now c.as_slice-2.result.now c.as_slice-4.result.now c.in_ok-atoms.atoms c.in_ok-conds.conds c.in_ok-answer.answer
       c.as_slice-names.ensures c.as_slice-2.ensures c.as_slice-4.ensures
-      (record { are = c.in_ok-atoms.ensures.is; apart = c.in_ok-atoms.ensures.valid; selected = c.in_ok-answer.ensures.is; meant = c.in_ok-conds.ensures.is; sound = c.in_ok-conds.ensures.valid }));
+      (record { are = c.in_ok-atoms.ensures.checked.is; apart = c.in_ok-atoms.ensures.checked.valid; selected = c.in_ok-answer.ensures.is; meant = c.in_ok-conds.ensures.is; sound = c.in_ok-conds.ensures.valid }));
 }

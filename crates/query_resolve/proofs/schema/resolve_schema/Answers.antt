@@ -1,4 +1,4 @@
-use Rattle.std.proofs.Common.{◌∙◌, rules}
+use Rattle.std.proofs.Common.{◌∙◌, refl, rules}
 use Rattle.query_resolve.proofs.Schemas.{kept_schema, key_seen, free_name, has_room}
 use Rattle.query_resolve.proofs.schema.resolve_schema.Goals as goal
 
@@ -17,6 +17,7 @@ returns-clause-checked c = record {
     name = c.in_ok-name.ensures;
     columns = c.in_ok-columns.ensures.is ∙ c.as_slice.ensures;
     key = key_seen c.args.raw.now c.as_slice-2.result.now c.as_slice-3.result.now c.in_ok-key.key c.as_slice-2.ensures c.as_slice-3.ensures c.in_ok-key.ensures.is;
+    strict = refl;
   };
 }
 

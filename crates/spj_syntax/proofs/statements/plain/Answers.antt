@@ -7,19 +7,22 @@ pub returns-then-sees_word-clause-reads : goal.returns-then-sees_word-clause-rea
 returns-then-sees_word-clause-reads c = reads_left _ statement_tokens c.create.result _ (opens_then refl c.if-sees_word.ensures) c.create.ensures.reads
 
 pub returns-then-sees_word-2-clause-reads : goal.returns-then-sees_word-2-clause-reads
-returns-then-sees_word-2-clause-reads c = reads_right _ statement_tokens c.insert.result _ refl (opens_then refl c.if-sees_word.ensures) (reads_left _ statement_tokens c.insert.result _ (opens_then refl c.if-sees_word-2.ensures) c.insert.ensures.reads)
+returns-then-sees_word-2-clause-reads c = reads_right _ statement_tokens c.alter.result _ refl (opens_then refl c.if-sees_word.ensures) (reads_left _ statement_tokens c.alter.result _ (opens_then refl c.if-sees_word-2.ensures) c.alter.ensures.reads)
 
 pub returns-then-sees_word-3-clause-reads : goal.returns-then-sees_word-3-clause-reads
-returns-then-sees_word-3-clause-reads c = reads_right _ statement_tokens c.delete.result _ refl (opens_then refl c.if-sees_word.ensures) (reads_right _ statement_tokens c.delete.result _ refl (opens_then refl c.if-sees_word-2.ensures) (reads_left _ statement_tokens c.delete.result _ (opens_then refl c.if-sees_word-3.ensures) c.delete.ensures.reads))
+returns-then-sees_word-3-clause-reads c = reads_right _ statement_tokens c.insert.result _ refl (opens_then refl c.if-sees_word.ensures) (reads_right _ statement_tokens c.insert.result _ refl (opens_then refl c.if-sees_word-2.ensures) (reads_left _ statement_tokens c.insert.result _ (opens_then refl c.if-sees_word-3.ensures) c.insert.ensures.reads))
 
 pub returns-then-sees_word-4-clause-reads : goal.returns-then-sees_word-4-clause-reads
-returns-then-sees_word-4-clause-reads c = reads_right _ statement_tokens c.copy.result _ refl (opens_then refl c.if-sees_word.ensures) (reads_right _ statement_tokens c.copy.result _ refl (opens_then refl c.if-sees_word-2.ensures) (reads_right _ statement_tokens c.copy.result _ refl (opens_then refl c.if-sees_word-3.ensures) (reads_left _ statement_tokens c.copy.result _ (opens_then refl c.if-sees_word-4.ensures) c.copy.ensures.reads)))
+returns-then-sees_word-4-clause-reads c = reads_right _ statement_tokens c.delete.result _ refl (opens_then refl c.if-sees_word.ensures) (reads_right _ statement_tokens c.delete.result _ refl (opens_then refl c.if-sees_word-2.ensures) (reads_right _ statement_tokens c.delete.result _ refl (opens_then refl c.if-sees_word-3.ensures) (reads_left _ statement_tokens c.delete.result _ (opens_then refl c.if-sees_word-4.ensures) c.delete.ensures.reads)))
 
 pub returns-then-sees_word-5-clause-reads : goal.returns-then-sees_word-5-clause-reads
-returns-then-sees_word-5-clause-reads c = took_right refl (opens_then refl c.if-sees_word.ensures) (took_right refl (opens_then refl c.if-sees_word-2.ensures) (took_right refl (opens_then refl c.if-sees_word-3.ensures) (took_right refl (opens_then refl c.if-sees_word-4.ensures) (took_left c.if-sees_word-5.ensures (word_took c.if-sees_word-5.ensures c.advance.ensures)))))
+returns-then-sees_word-5-clause-reads c = reads_right _ statement_tokens c.copy.result _ refl (opens_then refl c.if-sees_word.ensures) (reads_right _ statement_tokens c.copy.result _ refl (opens_then refl c.if-sees_word-2.ensures) (reads_right _ statement_tokens c.copy.result _ refl (opens_then refl c.if-sees_word-3.ensures) (reads_right _ statement_tokens c.copy.result _ refl (opens_then refl c.if-sees_word-4.ensures) (reads_left _ statement_tokens c.copy.result _ (opens_then refl c.if-sees_word-5.ensures) c.copy.ensures.reads))))
 
 pub returns-then-sees_word-6-clause-reads : goal.returns-then-sees_word-6-clause-reads
-returns-then-sees_word-6-clause-reads c = reads_right _ statement_tokens c.show.result _ refl (opens_then refl c.if-sees_word.ensures) (reads_right _ statement_tokens c.show.result _ refl (opens_then refl c.if-sees_word-2.ensures) (reads_right _ statement_tokens c.show.result _ refl (opens_then refl c.if-sees_word-3.ensures) (reads_right _ statement_tokens c.show.result _ refl (opens_then refl c.if-sees_word-4.ensures) (reads_right _ statement_tokens c.show.result _ refl c.if-sees_word-5.ensures (reads_left _ statement_tokens c.show.result _ (opens_then refl c.if-sees_word-6.ensures) c.show.ensures.reads)))))
+returns-then-sees_word-6-clause-reads c = took_right refl (opens_then refl c.if-sees_word.ensures) (took_right refl (opens_then refl c.if-sees_word-2.ensures) (took_right refl (opens_then refl c.if-sees_word-3.ensures) (took_right refl (opens_then refl c.if-sees_word-4.ensures) (took_right refl (opens_then refl c.if-sees_word-5.ensures) (took_left c.if-sees_word-6.ensures (word_took c.if-sees_word-6.ensures c.advance.ensures))))))
+
+pub returns-then-sees_word-7-clause-reads : goal.returns-then-sees_word-7-clause-reads
+returns-then-sees_word-7-clause-reads c = reads_right _ statement_tokens c.show.result _ refl (opens_then refl c.if-sees_word.ensures) (reads_right _ statement_tokens c.show.result _ refl (opens_then refl c.if-sees_word-2.ensures) (reads_right _ statement_tokens c.show.result _ refl (opens_then refl c.if-sees_word-3.ensures) (reads_right _ statement_tokens c.show.result _ refl (opens_then refl c.if-sees_word-4.ensures) (reads_right _ statement_tokens c.show.result _ refl (opens_then refl c.if-sees_word-5.ensures) (reads_right _ statement_tokens c.show.result _ refl c.if-sees_word-6.ensures (reads_left _ statement_tokens c.show.result _ (opens_then refl c.if-sees_word-7.ensures) c.show.ensures.reads))))))
 
 pub returns-clause-reads : goal.returns-clause-reads
-returns-clause-reads c = reads_right _ statement_tokens c.asking.result _ refl (opens_then refl c.if-sees_word.ensures) (reads_right _ statement_tokens c.asking.result _ refl (opens_then refl c.if-sees_word-2.ensures) (reads_right _ statement_tokens c.asking.result _ refl (opens_then refl c.if-sees_word-3.ensures) (reads_right _ statement_tokens c.asking.result _ refl (opens_then refl c.if-sees_word-4.ensures) (reads_right _ statement_tokens c.asking.result _ refl c.if-sees_word-5.ensures (reads_right _ statement_tokens c.asking.result _ refl (opens_then refl c.if-sees_word-6.ensures) c.asking.ensures.reads)))))
+returns-clause-reads c = reads_right _ statement_tokens c.asking.result _ refl (opens_then refl c.if-sees_word.ensures) (reads_right _ statement_tokens c.asking.result _ refl (opens_then refl c.if-sees_word-2.ensures) (reads_right _ statement_tokens c.asking.result _ refl (opens_then refl c.if-sees_word-3.ensures) (reads_right _ statement_tokens c.asking.result _ refl (opens_then refl c.if-sees_word-4.ensures) (reads_right _ statement_tokens c.asking.result _ refl (opens_then refl c.if-sees_word-5.ensures) (reads_right _ statement_tokens c.asking.result _ refl c.if-sees_word-6.ensures (reads_right _ statement_tokens c.asking.result _ refl (opens_then refl c.if-sees_word-7.ensures) c.asking.ensures.reads))))))

@@ -1,6 +1,6 @@
 use Rattle.std.proofs.Common.{refl}
 use Rattle.query_resolve.proofs.Members.{start, more, stopped, finished}
-use Rattle.query_resolve.proofs.schema.key_places.Goals as goal
+use Rattle.query_resolve.proofs.key.key_places.Goals as goal
 
 pub loop-at-init : goal.loop-at-init
 loop-at-init c = start refl c.in_ok-places.ensures.items

@@ -2,7 +2,7 @@ use Rattle.std.proofs.Common.{◌≡◌, Some, ℕ, List}
 use Rattle.query_resolve.specs.Names.{column_named}
 use Rattle.query_resolve.specs.Checks.{key_fault}
 use Rattle.query_resolve.proofs.Members.{SoFar}
-use Rattle.query_resolve.proofs.schema.key_places.Given as goal
+use Rattle.query_resolve.proofs.key.key_places.Given as goal
 
 -- the names so far are different columns
 abbrev pub invariant-loop-at : goal.invariant-loop-at
