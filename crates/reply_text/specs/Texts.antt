@@ -4,9 +4,11 @@ use Rattle.std.specs.Fmt.{decimal}
 use Rattle.std.specs.List.{flat_map}
 use Rattle.cqa_value.specs.Literals.{row_bytes}
 use Rattle.cqa_value.specs.declared.value.Value.{Value}
+use Rattle.cnf_form.specs.Writing.{proof_bytes}
+use Rattle.lrat_check.specs.Writing.{log_bytes}
 use Rattle.cqa_model.specs.Text.{schema_bytes}
 use Rattle.cqa_model.specs.declared.refusal.Refusal.{Refusal}
-use Rattle.cqa_model.specs.declared.refusal.Refusal.TheVariants.{BadByte, Syntax, StatementTooLong, UnknownTable, TableExists, UnknownColumn, AmbiguousColumn, SelfJoin, TypeMismatch, WrongArity, DuplicateColumn, BadKey, OutOfRange, TextTooLong, Unfinished, Limit, WitnessLimit, Spent, BadCsv}
+use Rattle.cqa_model.specs.declared.refusal.Refusal.TheVariants.{BadByte, Syntax, StatementTooLong, UnknownTable, TableExists, UnknownColumn, AmbiguousColumn, SelfJoin, TypeMismatch, WrongArity, DuplicateColumn, BadKey, OutOfRange, TextTooLong, Unfinished, Limit, WitnessLimit, Spent, BadCsv, KeyTaken, KeyBroken}
 use Rattle.cqa_model.specs.declared.refusal.Place.{Place}
 use Rattle.cqa_model.specs.declared.refusal.Place.TheVariants.{Cell, Condition}
 use Rattle.cqa_model.specs.declared.refusal.LimitKind.{LimitKind}
@@ -15,9 +17,11 @@ use Rattle.cqa_model.specs.declared.limits.TheConstants.{LONGEST_NAME, MOST_TABL
 use Rattle.cqa_model.specs.declared.class.Class.{Class}
 use Rattle.cqa_model.specs.declared.class.Class.TheVariants.{FirstOrder, Polynomial, CoNp}
 use Rattle.reply_text.specs.declared.reply.AttackLine.{AttackLine}
+use Rattle.reply_text.specs.declared.reply.KeptRow.{KeptRow}
 use Rattle.reply_text.specs.declared.reply.TableLine.{TableLine}
+use Rattle.reply_text.specs.declared.reply.Proof.{Proof}
 use Rattle.reply_text.specs.declared.reply.Reply.{Reply}
-use Rattle.reply_text.specs.declared.reply.Reply.TheVariants.{Created, Inserted, Deleted, Rows, Classified, Steps, NoPlan, Tables, Refused}
+use Rattle.reply_text.specs.declared.reply.Reply.TheVariants.{Created, Altered, Inserted, Deleted, Copied, Rows, Classified, Steps, NoPlan, Rejected, ByBlock, ByRefutation, Tables, Conflicts, KeptLog, NoLog, Dumped, Refused}
 
 -- row R column C, or condition K
 abbrev pub place_text : Place → List ℕ
@@ -71,10 +75,17 @@ refusal_text (Limit what) = codes "error 16 Limit " ++ limit_text what
 refusal_text (WitnessLimit row) = codes "error 17 WitnessLimit " ++ row_bytes row
 refusal_text (Spent row conflicts) = codes "error 18 Spent " ++ row_bytes row ++ codes " conflicts " ++ decimal conflicts
 refusal_text (BadCsv number) = codes "error 19 BadCsv record " ++ decimal number
+refusal_text (KeyTaken number kept fresh) = codes "error 20 KeyTaken row " ++ decimal number ++ codes " " ++ row_bytes kept ++ codes " " ++ row_bytes fresh
+refusal_text (KeyBroken first second) = codes "error 21 KeyBroken " ++ row_bytes first ++ codes " " ++ row_bytes second
 
--- SCHEMA rows N blocks M
+-- the mark of a strict table
+abbrev pub strict_text : Bool → List ℕ
+strict_text true = codes "strict "
+strict_text false = []
+
+-- SCHEMA rows N blocks M, with the mark before a strict table's
 abbrev pub table_text : TableLine → List ℕ
-table_text line = schema_bytes line.schema ++ codes " rows " ++ decimal line.rows ++ codes " blocks " ++ decimal line.blocks
+table_text line = strict_text line.schema.strict ++ schema_bytes line.schema ++ codes " rows " ++ decimal line.rows ++ codes " blocks " ++ decimal line.blocks
 
 -- each row on a line of its own, then N rows
 abbrev pub rows_text : List (List Value) → List ℕ
@@ -115,21 +126,57 @@ steps_text before (name ∷ names) = step_text before name ++ steps_text (before
 abbrev pub tables_text : List TableLine → List ℕ
 tables_text lines = flat_map (λ line. table_text line ++ codes "\n") lines ++ decimal (length lines) ++ codes " tables"
 
--- the lines of a reply, without the line feed at the end of the last
+-- a formula, the line "lrat", and a log
+abbrev pub proof_text : Proof → List ℕ
+proof_text proof = proof_bytes proof.cnf (log_bytes proof.log.steps)
+
+-- the row that a repair keeps of a block: keep NAME ROW
+abbrev pub kept_text : KeptRow → List ℕ
+kept_text line = codes "keep " ++ line.table ++ codes " " ++ row_bytes line.row
+
+-- rejected, then each row that is kept on a line of its own
+abbrev pub rejected_text : List KeptRow → List ℕ
+rejected_text lines = codes "rejected" ++ flat_map (λ line. codes "\n" ++ kept_text line) lines
+
+-- certain by block NAME KEY
+abbrev pub block_text : List ℕ → List Value → List ℕ
+block_text table key = codes "certain by block " ++ table ++ codes " " ++ row_bytes key
+
+-- certain by refutation, then the proof
+abbrev pub refutation_text : Proof → List ℕ
+refutation_text proof = codes "certain by refutation\n" ++ proof_text proof
+
+-- the lines of a reply, without what ends the last of them
 abbrev pub lines_text : Reply → List ℕ
 lines_text (Created name) = codes "created " ++ name
+lines_text (Altered name) = codes "altered " ++ name
 lines_text (Inserted count) = codes "inserted " ++ decimal count
 lines_text (Deleted count) = codes "deleted " ++ decimal count
+lines_text (Copied count) = codes "copied " ++ decimal count
 lines_text (Rows rows) = rows_text rows
 lines_text (Classified class lines) = classified_text class lines
 lines_text (Steps names) = steps_text 0 names
 lines_text NoPlan = codes "no plan"
+lines_text (Rejected lines) = rejected_text lines
+lines_text (ByBlock table key) = block_text table key
+lines_text (ByRefutation proof) = refutation_text proof
+lines_text (Conflicts budget) = codes "conflicts " ++ decimal budget
 lines_text (Tables lines) = tables_text lines
+lines_text (Dumped script) = script
+lines_text (KeptLog proof) = proof_text proof
+lines_text NoLog = codes "no log"
 lines_text (Refused refusal) = refusal_text refusal
+
+-- what ends the last line of a reply: a line feed, but of a dump and of a proof, whose lines have theirs
+abbrev pub last_end : Reply → List ℕ
+last_end (Dumped script) = []
+last_end (KeptLog proof) = []
+last_end (ByRefutation proof) = []
+last_end _ = codes "\n"
 
 -- the lines of a reply, each with a line feed at its end
 abbrev pub reply_text : Reply → List ℕ
-reply_text reply = lines_text reply ++ codes "\n"
+reply_text reply = lines_text reply ++ last_end reply
 
 -- the reply says that the statement was refused
 abbrev pub is_refusal : Reply → Bool

@@ -7,12 +7,19 @@ ghost use Rattle.cqa_value.specs.Literals.{row_bytes};
 use cqa_value::{Name, NoMemory, Row, row_text};
 use itoa::Buffer;
 
+/// Appends bytes.
+pub fn append_bytes(bytes: &[u8], out: &mut Vec<u8>) -> Result<(), NoMemory>
+    ensures { OnOk result (out.new.items ≡ out.old.items ++ bytes.now) }
+{
+    out.extend_from_slice(bytes)?;
+    Ok(())
+}
+
 /// Appends words.
 pub fn append_words(words: &str, out: &mut Vec<u8>) -> Result<(), NoMemory>
     ensures { OnOk result (out.new.items ≡ out.old.items ++ words.now) }
 {
-    out.extend_from_slice(words.as_bytes())?;
-    Ok(())
+    append_bytes(words.as_bytes(), out)
 }
 
 /// Appends a number in decimal.

@@ -3,10 +3,12 @@
 
 mod append;
 mod classified;
+mod explained;
+mod logged;
 mod planned;
 mod refused;
 mod reply;
 mod text;
 
-pub use reply::{AttackLine, Proof, Reply, TableLine};
+pub use reply::{AttackLine, KeptRow, Proof, Reply, TableLine};
 pub use text::reply_bytes;

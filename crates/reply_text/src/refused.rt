@@ -45,6 +45,19 @@ pub fn append_refusal(refusal: &Refusal, out: &mut Vec<u8>) -> Result<(), NoMemo
         Refusal::WitnessLimit { row } => append_row("error 17 WitnessLimit ", row, out),
         Refusal::Spent { row, conflicts } => append_spent("error 18 Spent ", row, *conflicts, out),
         Refusal::BadCsv { number } => append_numbered("error 19 BadCsv record ", *number, out),
+        Refusal::KeyTaken { row, kept, fresh } => append_taken(
+            "error 20 KeyTaken row ",
+            *row,
+            kept,
+            fresh,
+            out,
+        ),
+        Refusal::KeyBroken { first, second } => append_rows(
+            "error 21 KeyBroken ",
+            first,
+            second,
+            out,
+        ),
     }
 }
 
@@ -115,6 +128,28 @@ fn most(what: LimitKind) -> usize
         LimitKind::Answer => MOST_ANSWER_COLUMNS,
         LimitKind::Rows => MOST_ROWS,
     }
+}
+
+/// Appends words and two rows.
+fn append_rows(words: &str, first: &Row, second: &Row, out: &mut Vec<u8>) -> Result<(), NoMemory>
+    ensures { OnOk result (out.new.items ≡ out.old.items ++ (words.now ++ row_bytes first.now ++ codes " " ++ row_bytes second.now)) }
+{
+    append_row(words, first, out)?;
+    append_row(" ", second, out)
+}
+
+/// Appends words, a row's number, the row that is kept and the row of that number.
+fn append_taken(
+    words: &str,
+    number: u32,
+    kept: &Row,
+    fresh: &Row,
+    out: &mut Vec<u8>,
+) -> Result<(), NoMemory>
+    ensures { OnOk result (out.new.items ≡ out.old.items ++ (words.now ++ decimal number ++ codes " " ++ row_bytes kept.now ++ codes " " ++ row_bytes fresh.now)) }
+{
+    append_numbered(words, number, out)?;
+    append_rows(" ", kept, fresh, out)
 }
 
 /// Appends words, a row and the conflicts that its search used up.

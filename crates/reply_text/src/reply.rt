@@ -1,18 +1,25 @@
 //! What a statement is answered by.
 
+ghost use Rattle.std.specs.Prelude.{◌≡◌, IfOk};
+
 use cnf_form::{Cnf, Log};
 use cqa_model::{Class, Refusal, Schema};
-use cqa_value::{Items, Name, Row};
+use cqa_value::{Items, Name, NoMemory, Row};
+use std::alloc::Global;
 
 /// What a statement is answered by.
 #[derive(Drop)]
 pub enum Reply {
     /// The table of the name was made.
     Created(Name),
+    /// The table of the name has another mark or key, or was to have those that it had.
+    Altered(Name),
     /// So many rows are new.
     Inserted(u32),
     /// So many rows are gone.
     Deleted(u32),
+    /// So many rows of a block are new.
+    Copied(u32),
     /// The rows of an answer.
     Rows(Items<Row>),
     /// The class of a query, and the attacks between its atoms.
@@ -24,8 +31,26 @@ pub enum Reply {
     Steps(Items<Name>),
     /// The query has no plan.
     NoPlan,
+    /// The row is not certain: a repair of the query's tables that holds no witness of it, by its rows in the blocks
+    /// that have a choice.
+    Rejected(Items<KeptRow>),
+    /// The row is certain by the block of a table that has these key values.
+    ByBlock {
+        table: Name,
+        key: Row,
+    },
+    /// The row is certain by its formula, which a log refutes.
+    ByRefutation(Proof),
+    /// A search may take so many conflicts from now on.
+    Conflicts(u32),
     /// The tables in the order in which they were made.
     Tables(Items<TableLine>),
+    /// A script that makes all tables with their rows.
+    Dumped(Items<u8>),
+    /// The log that was kept last, with its formula.
+    KeptLog(Proof),
+    /// No log is kept.
+    NoLog,
     /// The statement was refused and changed nothing.
     Refused(Refusal),
 }
@@ -36,6 +61,13 @@ pub struct TableLine {
     pub schema: Schema,
     pub rows: u32,
     pub blocks: u32,
+}
+
+/// A row of a table that a repair keeps.
+#[derive(Drop)]
+pub struct KeptRow {
+    pub table: Name,
+    pub row: Row,
 }
 
 /// An attack of one of a query's tables on another.
@@ -51,4 +83,20 @@ pub struct AttackLine {
 pub struct Proof {
     pub cnf: Cnf,
     pub log: Log,
+}
+
+impl Proof {
+    /// A second proof that equals this one.
+    ///
+    /// # Errors
+    ///
+    /// `NoMemory` where memory is refused.
+    pub fn copy(&self, alloc: Global) -> Result<Proof, NoMemory>
+        ensures { IfOk result (λ proof. proof ≡ self.now) }
+    {
+        Ok(Proof {
+            cnf: self.cnf.copy(alloc)?,
+            log: self.log.copy(alloc)?,
+        })
+    }
 }

@@ -1,10 +1,12 @@
 //! The text of a reply, a line at a time.
 
 ghost use Rattle.std.specs.Prelude.{◌≡◌, ◌++◌, IfOk, OnOk, codes};
-ghost use Rattle.reply_text.specs.Texts.{lines_text, reply_text, rows_text, table_text, tables_text};
+ghost use Rattle.reply_text.specs.Texts.{lines_text, last_end, reply_text, rows_text, table_text, tables_text};
 
-use crate::append::{append_named, append_number, append_numbered, append_words};
+use crate::append::{append_bytes, append_named, append_number, append_numbered, append_words};
 use crate::classified::append_classified;
+use crate::explained::{append_by_block, append_by_refutation, append_rejected};
+use crate::logged::append_proof;
 use crate::planned::append_steps;
 use crate::refused::append_refusal;
 use crate::{Reply, TableLine};
@@ -21,31 +23,50 @@ pub fn reply_bytes(alloc: Global, reply: &Reply) -> Result<Vec<u8>, NoMemory>
     ensures { IfOk result (λ bytes. bytes.items ≡ reply_text reply.now) }
 {
     let mut out = Vec::new(alloc);
-    append_reply(reply, &mut out)?;
+    append_reply(alloc, reply, &mut out)?;
     Ok(out)
 }
 
 /// Appends the lines of a reply, each with a line feed at its end.
-fn append_reply(reply: &Reply, out: &mut Vec<u8>) -> Result<(), NoMemory>
+fn append_reply(alloc: Global, reply: &Reply, out: &mut Vec<u8>) -> Result<(), NoMemory>
     ensures { OnOk result (out.new.items ≡ out.old.items ++ reply_text reply.now) }
 {
-    append_lines(reply, out)?;
-    append_words("\n", out)
+    append_lines(alloc, reply, out)?;
+    append_words(last_end(reply), out)
 }
 
-/// Appends the lines of a reply without the last line feed.
-fn append_lines(reply: &Reply, out: &mut Vec<u8>) -> Result<(), NoMemory>
+/// What ends the last line of a reply: a line feed, but of a dump and of a proof, whose lines have theirs.
+fn last_end(reply: &Reply) -> &'static str
+    ensures { result.now ≡ last_end reply.now }
+{
+    match reply {
+        Reply::Dumped(_) | Reply::KeptLog(_) | Reply::ByRefutation(_) => "",
+        _ => "\n",
+    }
+}
+
+/// Appends the lines of a reply without what ends the last of them.
+fn append_lines(alloc: Global, reply: &Reply, out: &mut Vec<u8>) -> Result<(), NoMemory>
     ensures { OnOk result (out.new.items ≡ out.old.items ++ lines_text reply.now) }
 {
     match reply {
         Reply::Created(name) => append_named("created ", name, out),
+        Reply::Altered(name) => append_named("altered ", name, out),
         Reply::Inserted(count) => append_numbered("inserted ", *count, out),
         Reply::Deleted(count) => append_numbered("deleted ", *count, out),
+        Reply::Copied(count) => append_numbered("copied ", *count, out),
         Reply::Rows(rows) => append_rows(rows.as_slice(), out),
         Reply::Classified { class, lines } => append_classified(*class, lines.as_slice(), out),
         Reply::Steps(names) => append_steps(names.as_slice(), out),
         Reply::NoPlan => append_words("no plan", out),
+        Reply::Rejected(lines) => append_rejected(lines.as_slice(), out),
+        Reply::ByBlock { table, key } => append_by_block(table, key, out),
+        Reply::ByRefutation(proof) => append_by_refutation(alloc, proof, out),
+        Reply::Conflicts(budget) => append_numbered("conflicts ", *budget, out),
         Reply::Tables(lines) => append_tables(lines.as_slice(), out),
+        Reply::Dumped(script) => append_bytes(script.as_slice(), out),
+        Reply::KeptLog(proof) => append_proof(alloc, proof, out),
+        Reply::NoLog => append_words("no log", out),
         Reply::Refused(refusal) => append_refusal(refusal, out),
     }
 }
@@ -77,6 +98,9 @@ fn append_tables(lines: &[TableLine], out: &mut Vec<u8>) -> Result<(), NoMemory>
 fn append_table(line: &TableLine, out: &mut Vec<u8>) -> Result<(), NoMemory>
     ensures { OnOk result (out.new.items ≡ out.old.items ++ (table_text line.now ++ codes "\n")) }
 {
+    if line.schema.strict {
+        append_words("strict ", out)?;
+    }
     schema_text(&line.schema, out)?;
     append_numbered(" rows ", line.rows, out)?;
     append_numbered(" blocks ", line.blocks, out)?;

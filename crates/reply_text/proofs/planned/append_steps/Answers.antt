@@ -1,4 +1,3 @@
-use Rattle.std.proofs.Common.{rules}
 use Rattle.reply_text.proofs.Pieces.{one_more_step}
 use Rattle.reply_text.proofs.planned.append_steps.Goals as goal
 

@@ -1,0 +1,53 @@
+//! Appends why a row is certain, or why it isn't.
+
+ghost use Rattle.std.specs.Prelude.{◌≡◌, ◌++◌, OnOk, codes};
+ghost use Rattle.std.specs.List.{flat_map};
+ghost use Rattle.reply_text.specs.Texts.{kept_text, rejected_text, block_text, refutation_text};
+
+use crate::append::{append_named, append_row, append_words};
+use crate::logged::append_proof;
+use crate::{KeptRow, Proof};
+use cqa_value::{Name, NoMemory, Row};
+use std::alloc::Global;
+
+/// Appends that a row isn't certain, and a line for each row that a repair keeps.
+pub fn append_rejected(lines: &[KeptRow], out: &mut Vec<u8>) -> Result<(), NoMemory>
+    ensures { OnOk result (out.new.items ≡ out.old.items ++ rejected_text lines.now) }
+{
+    append_words("rejected", out)?;
+    append_kept_rows(lines, out)
+}
+
+/// Appends each row that is kept on a new line.
+fn append_kept_rows(lines: &[KeptRow], out: &mut Vec<u8>) -> Result<(), NoMemory>
+    ensures { OnOk result (out.new.items ≡ out.old.items ++ flat_map (λ line. codes "\n" ++ kept_text line) lines.now) }
+{
+    for line in lines {
+        append_kept(line, out)?;
+    }
+    Ok(())
+}
+
+/// Appends a row that is kept on a new line.
+fn append_kept(line: &KeptRow, out: &mut Vec<u8>) -> Result<(), NoMemory>
+    ensures { OnOk result (out.new.items ≡ out.old.items ++ (codes "\n" ++ kept_text line.now)) }
+{
+    append_named("\nkeep ", &line.table, out)?;
+    append_row(" ", &line.row, out)
+}
+
+/// Appends that a row is certain by the block of a table with these key values.
+pub fn append_by_block(table: &Name, key: &Row, out: &mut Vec<u8>) -> Result<(), NoMemory>
+    ensures { OnOk result (out.new.items ≡ out.old.items ++ block_text table.now key.now) }
+{
+    append_named("certain by block ", table, out)?;
+    append_row(" ", key, out)
+}
+
+/// Appends that a row is certain by a refutation of its formula, and the formula with the log.
+pub fn append_by_refutation(alloc: Global, proof: &Proof, out: &mut Vec<u8>) -> Result<(), NoMemory>
+    ensures { OnOk result (out.new.items ≡ out.old.items ++ refutation_text proof.now) }
+{
+    append_words("certain by refutation\n", out)?;
+    append_proof(alloc, proof, out)
+}
