@@ -1,4 +1,9 @@
 mod Suiting
+mod Spanned
+mod Telling
 mod Parted
-mod Walked
-mod PlanParts
+mod Leading
+mod Passing
+pub mod PlanParts
+mod Gathered
+mod Adding

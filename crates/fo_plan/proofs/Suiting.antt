@@ -7,11 +7,12 @@ use Rattle.cqa_value.specs.declared.value.Value.{Value}
 use Rattle.cqa_model.specs.declared.query.Cond.{Cond}
 use Rattle.cqa_model.specs.declared.query.Query.{Query}
 use Rattle.cqa_model.specs.Query.{atom_at}
+use Rattle.cqa_model.specs.Variables.{AreLinked}
 use Rattle.cqa_model.specs.Plan.{Placed, Fits, TestHolds}
 use Rattle.cqa_model.proofs.Classic.{mem-head, mem-tail, mem-nil, mem-cases}
 use Rattle.cqa_model.proofs.Views.{linked-self}
 use Rattle.cqa_value.specs.Values.{nothing}
-use Rattle.fo_plan.specs.Taking.{AreOfAtoms}
+use Rattle.fo_plan.specs.Taking.{AreOfAtoms, AreAgreed}
 use Rattle.fo_plan.specs.Fitting.{Agrees, AgreesAll, Suits, GivesAt}
 
 pub all_of : {A : Type 0} (P : A → Type 0) (xs : List A) → All P xs → (x : A) → Contains xs x → P x
@@ -54,3 +55,21 @@ module _ (q : Query) (taken : List Placed) (F : ℕ) (x : List Value) where
 
   pub gives-from : (row : List Value) → Fits q row taken F x → GivesAt q F x row
   gives-from row f = f.answers
+
+  -- rows of one atom still agree once a row that fits is taken
+  pub agreed-more : AreAgreed q taken → Suits q taken F x → AreAgreed q (record { atom = F; row = x } ∷ taken)
+  agreed-more h s t u mt mu e i l = elim (mem-cases t (record { atom = F; row = x }) taken mt) [
+    | inl et ↦ here t u mu e i l et
+    | inr nt ↦ elim (mem-cases u (record { atom = F; row = x }) taken mu) [
+      | inl eu ↦ sym (here u t mt (sym e) i (subst (λ z. i < (atom_at q z).width) e l) eu)
+      | inr nu ↦ h t u nt nu e i l
+    ]
+  ]
+    where
+      here : (t u : Placed) → Contains (record { atom = F; row = x } ∷ taken) u → t.atom ≡ u.atom → (i : ℕ) → i < (atom_at q t.atom).width → ◌≡◌ {A = Placed} (record { atom = F; row = x }) t → get_or t.row i nothing ≡ get_or u.row i nothing
+      here t u mu e i l et =
+          let F≡ : F ≡ t.atom = (λ k. (et k).atom) in
+          let lF : i < (atom_at q F).width = subst (λ z. i < (atom_at q z).width) (sym F≡) l in
+          let lu : i < (atom_at q u.atom).width = subst (λ z. i < (atom_at q z).width) e l in
+          subst (λ (z : Placed). get_or z.row i nothing ≡ get_or u.row i nothing) et
+          (s.agrees u mu i lF i lu (subst (λ z. AreLinked q (record { atom = F; col = i }) (record { atom = z; col = i })) (F≡ ∙ e) (linked-self q (record { atom = F; col = i }))))

@@ -1,2 +1,1 @@
-mod Kept
-mod Certainty
+pub mod Certainty

@@ -1,9 +1,8 @@
-use Rattle.std.proofs.Common.{ℕ, ◌+◌, ◌*◌, ◌<◌, [], length, get_or}
+use Rattle.std.proofs.Common.{ℕ, ◌+◌, ◌-◌, ◌*◌, ◌<◌, [], length, get_or}
 use Rattle.cqa_model.specs.Database.{stored}
-use Rattle.row_cursor.specs.Blocks.{blocks_left}
 use Rattle.fo_plan.specs.Taking.{placed}
-use Rattle.fo_plan.specs.Holding.{RowHolds, AllHold}
-use Rattle.fo_plan.proofs.Walked.{NoneSoFar}
+use Rattle.fo_plan.specs.Holding.{RowHolds}
+use Rattle.fo_plan.proofs.Passing.{NoneBefore}
 use Rattle.fo_plan.proofs.holding.+holds.Given as goal
 
 abbrev pub decreases-all_hold : goal.decreases-all_hold
@@ -20,11 +19,11 @@ decreases-some_block l = 4 * length l.rest.now + 3
 
 -- the rows so far hold
 abbrev pub invariant-all_hold-loop-y : goal.invariant-all_hold-loop-y
-invariant-all_hold-loop-y l = (i : ℕ) → i < l.y-index → RowHolds l.query (stored l.db) l.row (placed l.taken) l.atom l.rest (get_or l.block i [])
+invariant-all_hold-loop-y l = (i : ℕ) → i < l.y-index → RowHolds l.setting.query.now (stored l.setting.db.now) l.row (placed l.taken) l.atom l.rest (get_or l.block i [])
 
 -- none of the blocks so far holds
 abbrev pub invariant-some_block-loop-block : goal.invariant-some_block-loop-block
-invariant-some_block-loop-block l = NoneSoFar (blocks_left l.initial.cursor) (blocks_left l.cursor) (AllHold l.query (stored l.db) l.row (placed l.taken) l.atom l.rest)
+invariant-some_block-loop-block l = NoneBefore l.blocks (RowHolds l.setting.query.now (stored l.setting.db.now) l.row (placed l.taken) l.atom l.rest) l.place
 
 abbrev pub decreases-some_block-loop-block : goal.decreases-some_block-loop-block
-decreases-some_block-loop-block l = length (blocks_left l.cursor)
+decreases-some_block-loop-block l = length l.blocks.rows.now - l.place

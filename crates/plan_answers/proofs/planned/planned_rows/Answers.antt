@@ -1,16 +1,16 @@
-use Rattle.std.proofs.Common.{sym, subst}
-use Rattle.cqa_model.specs.Certain.{IsCertainAnswer}
-use Rattle.cqa_model.specs.Plan.{HoldsOver}
-use Rattle.plan_answers.specs.Keeping.{Keeps}
-use Rattle.plan_answers.proofs.Certainty.{certain-kept}
+use Rattle.cqa_model.specs.Variables.{whole}
+use Rattle.fo_rewrite.proofs.Distinct.{plan-atoms}
+use Rattle.plan_answers.proofs.Certainty.{plan-all, certain-result}
 use Rattle.plan_answers.proofs.planned.planned_rows.Goals as goal
 
+pub paths_of-requires-clause-plan : goal.paths_of-requires-clause-plan
+paths_of-requires-clause-plan c = plan-atoms c.args.query.now c.args.plan.now.order c.requires.plan
+
+pub answers-rows-requires-clause-plan : goal.answers-rows-requires-clause-plan
+answers-rows-requires-clause-plan c = plan-atoms c.args.query.now c.args.plan.now.order c.requires.plan
+
+pub answers-rows-requires-clause-all : goal.answers-rows-requires-clause-all
+answers-rows-requires-clause-all c = plan-all c.args.query.now (whole c.args.query.now) c.args.plan.now.order c.requires.plan
+
 pub returns : goal.returns
-returns c =
-    let db = c.args.db.now in
-    let q = c.args.query.now in
-    let plan = c.args.plan.now.order in
-    let kept = c.keep_planned.new.rows.items in
-    let keeps = subst (λ rows. Keeps (λ row. HoldsOver db q row plan) rows kept) c.into_vec-rows.ensures c.keep_planned.ensures in
-    subst (IsCertainAnswer db q) (sym c.from_vec.ensures)
-    (certain-kept db q plan c.in_ok-candidates.field-0 kept c.requires.fits c.requires.exact c.in_ok-candidates.ensures.possible.ascending c.in_ok-candidates.ensures.candidates keeps)
+returns c = certain-result c.args.db.now c.args.query.now c.args.plan.now.order c.answers-rows.result c.requires.fits c.requires.exact c.answers-rows.ensures.ascending c.answers-rows.ensures.exactly

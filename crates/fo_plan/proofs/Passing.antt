@@ -1,0 +1,144 @@
+-- Blocks by the places of their first rows: what holds of those that were passed.
+use Rattle.std.proofs.Common.{◌≡◌, Bool, IsTrue, true, false, not, ◌↔◌, ◌<◌, ◌≤◌, ◌+◌, ◌-◌, ◌⊎◌, ℕ, zero, suc, inl, inr, List, [], ◌∷◌, length, get_or, refl, sym, ap, ◌∙◌, subst, arith, Contains}
+use native.Mathlib.Decide.{dec_lt, ℕ_discrete}
+use Rattle.std.specs.Option.{option_copied}
+use Rattle.std.specs.List.Sorted.{IsStrictlySortedBy}
+use Rattle.std.proofs.lemmas.Bool.{false≢true}
+use Rattle.std.proofs.lemmas.List.{get_or_default}
+use Rattle.std.proofs.lemmas.List.Elements.{Contains-get_or}
+use Rattle.cqa_value.specs.declared.value.Value.{Value}
+use Rattle.cqa_model.specs.Repairs.{SharesKey}
+use Rattle.cqa_model.specs.OneTable.{SomeBlockFits}
+use Rattle.cqa_model.specs.Database.{block_cmp}
+use Rattle.cqa_model.proofs.BlockOrder.{grouped}
+use Rattle.cqa_model.proofs.Repairs.{shares-self, shares-sym, shares-trans, dec_shares}
+use Rattle.fo_plan.specs.Knowing.{HasKnown}
+use Rattle.fo_plan.specs.Enough.{IsEnough, row_of, IsFirst, IsBlockAt, IsPassed, IsNextBlock}
+use Rattle.fo_plan.specs.declared.enough.Blocks.{Blocks}
+
+-- what is enough of a table has a block with a property exactly where the table has one, if rows with it fit
+pub part-some : (key : List ℕ) (rows part : List (List Value)) (fits : List Value → Type 0) → IsEnough key rows fits part → (P : List Value → Type 0) → ((y : List Value) → P y → fits y) →
+    SomeBlockFits key part P ↔ SomeBlockFits key rows P
+part-some key rows part fits h P strong = (
+  (λ s. (s.0, h.stored s.0 s.1, λ y m t. s.2 y (h.whole s.0 y s.1 m t) t)),
+  (λ s. (s.0, h.enough s.0 s.1 (λ y m t. strong y (s.2 y m t)), λ y m t. s.2 y (h.stored y m) t)),
+)
+
+module _ (key : List ℕ) (rows : List (List Value)) where
+  -- all rows of the block that begins at a place have a property
+  abbrev pub WholeHas : (List Value → Type 0) → ℕ → Type 0
+  WholeHas P at = (y : List Value) → Contains rows y → SharesKey key (row_of rows at) y → P y
+
+  -- the block of a row begins somewhere
+  first-place : (d n i : ℕ) → n + d ≡ i → ((j : ℕ) → j < n → SharesKey key (row_of rows j) (row_of rows i) → ⊥) → (at : ℕ) × (at ≤ i) × IsFirst key rows at × SharesKey key (row_of rows at) (row_of rows i)
+  first-place zero n i e none =
+      let same : n ≡ i = omega (arith, e) in
+      (i, omega arith, (λ j l. none j (omega (arith, l, same))), shares-self key (row_of rows i))
+  first-place (suc d) n i e none = go (dec_shares key (row_of rows n) (row_of rows i)) (first-place d (n + 1) i (omega (arith, e)))
+    where
+      before : (SharesKey key (row_of rows n) (row_of rows i) → ⊥) → (j : ℕ) → j < n + 1 → SharesKey key (row_of rows j) (row_of rows i) → Dec (j ≡ n) → ⊥
+      before f j l s (yes same) = f (subst (λ k. SharesKey key (row_of rows k) (row_of rows i)) same s)
+      before f j l s (no other) = none j (omega (arith, l, other)) s
+
+      go : Dec (SharesKey key (row_of rows n) (row_of rows i)) →
+          (((j : ℕ) → j < n + 1 → SharesKey key (row_of rows j) (row_of rows i) → ⊥) → (at : ℕ) × (at ≤ i) × IsFirst key rows at × SharesKey key (row_of rows at) (row_of rows i)) →
+          (at : ℕ) × (at ≤ i) × IsFirst key rows at × SharesKey key (row_of rows at) (row_of rows i)
+      go (yes s) further = (n, omega (arith, e), (λ j l t. none j l (shares-trans key (row_of rows j) (row_of rows n) (row_of rows i) t s)), s)
+      go (no f) further = further (λ j l s. before f j l s (ℕ_discrete j n))
+
+  pub some-at : (P : List Value → Type 0) → SomeBlockFits key rows P → (at : ℕ) × (at < length rows) × IsFirst key rows at × WholeHas P at
+  some-at P (x, (i, li, ei), f) =
+      let is : row_of rows i ≡ x = get_or_default rows i [] x li ∙ ei in
+      let b = first-place i 0 i (omega arith) (λ j l s. absurd (omega (arith, l))) in
+      let low = b.1 in
+      (b.0, omega (arith, low, li), b.2, λ y m s. f y m (shares-trans key x (row_of rows b.0) y (shares-sym key (row_of rows b.0) x (subst (SharesKey key (row_of rows b.0)) is b.3)) s))
+
+  pub at-some : (P : List Value → Type 0) (at : ℕ) → at < length rows → WholeHas P at → SomeBlockFits key rows P
+  at-some P at l h = (row_of rows at, Contains-get_or rows at [] l, h)
+
+module _ (s : Blocks) where
+  -- no block that begins before a place has the property
+  abbrev pub NoneBefore : (List Value → Type 0) → ℕ → Type 0
+  NoneBefore P place = (at : ℕ) → at < place → at < length s.rows.now → IsFirst s.key.now s.rows.now at → WholeHas s.key.now s.rows.now P at → ⊥
+
+  module _ (P : List Value → Type 0) (known : (y : List Value) → P y → HasKnown (option_copied s.index) s.values y) where
+    -- what is passed hasn't the property
+    passed-has : (from to at : ℕ) → IsPassed s from to → from ≤ at → at < to → at < length s.rows.now → IsFirst s.key.now s.rows.now at → WholeHas s.key.now s.rows.now P at → ⊥
+    passed-has from to at h low high there first all =
+        h at low high first (known (row_of s.rows.now at) (all (row_of s.rows.now at) (Contains-get_or s.rows.now at [] there) (shares-self s.key.now (row_of s.rows.now at))))
+
+    pub none-starts : (start : ℕ) → IsPassed s 0 start → NoneBefore P start
+    none-starts start h at l there first all = passed-has 0 start at h (omega arith) l there first all
+
+    pub none-on : (from on : ℕ) (block : List (List Value)) → NoneBefore P from → IsNextBlock s from block on → (((y : List Value) → Contains block y → P y) → ⊥) → NoneBefore P on
+    none-on from on block h n off at l there first all = go (dec_lt at from) (dec_lt at n.at) (dec_lt n.at at)
+      where
+        go : Dec (at < from) → Dec (at < n.at) → Dec (n.at < at) → ⊥
+        go (yes a) b c = h at a there first all
+        go (no a) (yes b) c = passed-has from n.at at n.before (omega (arith, a)) b there first all
+        go (no a) (no b) (yes c) = passed-has (n.at + 1) on at n.behind (omega (arith, c)) l there first all
+        go (no a) (no b) (no c) =
+            let same : at ≡ n.at = omega (arith, b, c) in
+            off (λ y m. let e = (n.is.exactly y).0 m in all y e.0 (subst (λ k. SharesKey s.key.now (row_of s.rows.now k) y) (sym same) e.1))
+
+    pub none-ends : (from : ℕ) → NoneBefore P from → IsPassed s from (length s.rows.now) → SomeBlockFits s.key.now s.rows.now P → ⊥
+    none-ends from h n f = go (some-at s.key.now s.rows.now P f)
+      where
+        go : ((at : ℕ) × (at < length s.rows.now) × IsFirst s.key.now s.rows.now at × WholeHas s.key.now s.rows.now P at) → ⊥
+        go (at, there, first, all) = split (dec_lt at from)
+          where
+            split : Dec (at < from) → ⊥
+            split (yes a) = h at a there first all
+            split (no a) = passed-has from (length s.rows.now) at n (omega (arith, a)) there there first all
+
+  pub passed-on : (from at on : ℕ) → IsPassed s from at → (IsFirst s.key.now s.rows.now at → ⊥) → IsPassed s (at + 1) on → IsPassed s from on
+  passed-on from at on before off behind k low high = go (dec_lt k at) (dec_lt at k)
+    where
+      go : Dec (k < at) → Dec (at < k) → IsFirst s.key.now s.rows.now k → HasKnown (option_copied s.index) s.values (row_of s.rows.now k) → ⊥
+      go (yes a) b = before k low a
+      go (no a) (yes b) = behind k (omega (arith, b)) high
+      go (no a) (no b) = λ first known. off (subst (IsFirst s.key.now s.rows.now) (let e : k ≡ at = omega (arith, a, b) in e) first)
+
+  pub passed-less : (from at to : ℕ) → IsPassed s from at → to ≤ at → IsPassed s from to
+  passed-less from at to h l k low high = h k low (omega (arith, high, l))
+
+  -- a block that is found has the property where all its rows have it
+  pub next-some : (P : List Value → Type 0) (from on : ℕ) (block : List (List Value)) → IsNextBlock s from block on → ((y : List Value) → Contains block y → P y) → SomeBlockFits s.key.now s.rows.now P
+  next-some P from on block n all = at-some s.key.now s.rows.now P n.at n.is.there (λ y m t. all y ((n.is.exactly y).1 (m, t)))
+
+-- a row begins a block where the one before it is of another
+module _ (key : List ℕ) (rows : List (List Value)) (at : ℕ) where
+  pub first-at_start : at ≡ 0 → IsFirst key rows at
+  first-at_start e j l s = absurd (omega (arith, e, l))
+
+  pub first-begins : IsStrictlySortedBy (block_cmp key) rows → at < length rows → (SharesKey key (row_of rows (at - 1)) (row_of rows at) → ⊥) → IsFirst key rows at
+  first-begins sorted there off j l s =
+      let near = grouped key rows sorted j (at - 1) at (omega (arith, l)) (omega (arith, l)) there s in
+      off (shares-trans key (row_of rows (at - 1)) (row_of rows j) (row_of rows at) (shares-sym key (row_of rows j) (row_of rows (at - 1)) near) s)
+
+  pub begins-apart : (at ≡ 0 → ⊥) → IsFirst key rows at → SharesKey key (row_of rows (at - 1)) (row_of rows at) → ⊥
+  begins-apart some leads s = leads (at - 1) (omega (arith, some)) s
+
+  -- so it is tested
+  pub begins : IsStrictlySortedBy (block_cmp key) rows → at < length rows → (at ≡ 0 → ⊥) → (a b : List Value) (same : Bool) → a ≡ row_of rows (at - 1) → b ≡ row_of rows at → IsTrue same ↔ SharesKey key a b →
+      IsTrue (not same) ↔ IsFirst key rows at
+  begins sorted there some a b same ea eb h = go same h
+    where
+      shared : SharesKey key (row_of rows (at - 1)) (row_of rows at) → SharesKey key a b
+      shared s = subst (λ y. SharesKey key a y) (sym eb) (subst (λ x. SharesKey key x (row_of rows at)) (sym ea) s)
+
+      apart : SharesKey key a b → SharesKey key (row_of rows (at - 1)) (row_of rows at)
+      apart s = subst (λ x. SharesKey key x (row_of rows at)) ea (subst (λ y. SharesKey key a y) eb s)
+
+      go : (t : Bool) → IsTrue t ↔ SharesKey key a b → IsTrue (not t) ↔ IsFirst key rows at
+      go true k = ((λ e. absurd (false≢true e)), (λ leads. absurd (begins-apart some leads (apart (k.0 refl)))))
+      go false k = ((λ e. first-begins sorted there (λ s. false≢true (k.1 (shared s)))), (λ leads. refl))
+
+-- the blocks that are gone over have a property exactly where the table has it
+pub found-in-table : (s : Blocks) (key : List ℕ) (rows : List (List Value)) (fits : List Value → Type 0) → s.key.now ≡ key → IsEnough key rows fits s.rows.now → (P : List Value → Type 0) → ((y : List Value) → P y → fits y) →
+    SomeBlockFits s.key.now s.rows.now P ↔ SomeBlockFits key rows P
+found-in-table s key rows fits e h P strong = subst (λ k. SomeBlockFits k s.rows.now P ↔ SomeBlockFits key rows P) (sym e) (part-some key rows s.rows.now fits h P strong)
+
+-- the place from which to go on is nearer to the end
+pub goes-on : (s : Blocks) (from on : ℕ) (block : List (List Value)) → IsNextBlock s from block on → length s.rows.now - on < length s.rows.now - from
+goes-on s from on block n = let there = n.is.there in let low = n.low in let high = n.high in omega (arith, there, low, high)

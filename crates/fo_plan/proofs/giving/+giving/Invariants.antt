@@ -1,0 +1,26 @@
+use Rattle.std.proofs.Common.{ℕ, ◌+◌, ◌-◌, ◌*◌, length}
+use Rattle.cqa_model.specs.Database.{stored}
+use Rattle.fo_plan.specs.Taking.{placed}
+use Rattle.fo_plan.specs.Holding.{RowHolds}
+use Rattle.fo_plan.specs.Giving.{IsAnswer}
+use Rattle.fo_plan.proofs.Adding.{AddedBefore}
+use Rattle.fo_plan.proofs.giving.+giving.Given as goal
+
+abbrev pub decreases-add_given : goal.decreases-add_given
+decreases-add_given l = 4 * length l.plan.now
+
+abbrev pub decreases-add_blocks : goal.decreases-add_blocks
+decreases-add_blocks l = 4 * length l.rest.now + 3
+
+abbrev pub decreases-add_block : goal.decreases-add_block
+decreases-add_block l = 4 * length l.rest.now + 2
+
+abbrev pub decreases-add_tested : goal.decreases-add_tested
+decreases-add_tested l = 4 * length l.rest.now + 1
+
+-- what the blocks so far give has come
+abbrev pub invariant-add_blocks-loop-block : goal.invariant-add_blocks-loop-block
+invariant-add_blocks-loop-block l = AddedBefore l.blocks (IsAnswer l.setting.query.now (placed l.taken)) (λ row y. RowHolds l.setting.query.now (stored l.setting.db.now) row (placed l.taken) l.atom l.rest y) l.place l.fn.found.items l.found.items l.any
+
+abbrev pub decreases-add_blocks-loop-block : goal.decreases-add_blocks-loop-block
+decreases-add_blocks-loop-block l = length l.blocks.rows.now - l.place

@@ -1,0 +1,71 @@
+//! The rows for which a plan of all atoms holds, as a list.
+
+ghost use Rattle.std.specs.Prelude.{◌≡◌, ℕ, ◌<◌, ◌↔◌, Contains, List, IfOk, length};
+ghost use Rattle.std.specs.List.Sorted.{IsStrictlySortedBy};
+ghost use Rattle.cqa_value.specs.declared.value.Value.{Value as Cell};
+ghost use Rattle.cqa_value.specs.Values.{row_cmp};
+ghost use Rattle.cqa_model.specs.Query.{FitsDatabase};
+ghost use Rattle.cqa_model.specs.Plan.{HoldsOver};
+ghost use Rattle.row_cursor.specs.Spots.{ArePaths};
+ghost use Rattle.fo_plan.specs.Holding.{AreAtoms};
+
+use crate::giving::add_given;
+use crate::setting::Setting;
+use crate::taken_rows::Taken;
+use cqa_model::{Plan, Query, variables};
+use cqa_value::{Items, NoMemory, Row};
+use row_cursor::RowIndex;
+use std::alloc::Global;
+use std::cmp::Ordering;
+use table_blocks::Database;
+
+/// Puts rows in ascending order, each once.
+fn sorted(mut rows: Vec<Row>) -> Vec<Row>
+    ensures ascending { IsStrictlySortedBy row_cmp result.items }
+    ensures same { (row : List Cell) → Contains result.items row ↔ Contains rows.items row }
+{
+    rows.sort_unstable_by(
+        |a, b| -> Ordering
+            ensures { result ≡ row_cmp a.now b.now }
+        { a.cmp(b) },
+    );
+    rows.dedup();
+    rows
+}
+
+/// The rows of the answer's length for which a plan of all atoms holds, ascending and each once. Rows are found by the
+/// given indexes, of each atom's table one or none.
+///
+/// # Errors
+///
+/// `NoMemory` where memory is refused.
+pub fn answers<'a>(
+    alloc: Global,
+    plan: &Plan,
+    db: &'a Database,
+    query: &'a Query,
+    paths: &'a [Option<RowIndex<'a>>],
+) -> Result<Items<Row>, NoMemory>
+    requires fits { FitsDatabase query.now db.now }
+    requires plan { AreAtoms query.now plan.now.order }
+    requires all { (F : ℕ) → F < length query.now.atoms → Contains plan.now.order F }
+    requires paths { ArePaths query.now db.now paths.now }
+    ensures ascending { IfOk result (IsStrictlySortedBy row_cmp) }
+    ensures exactly { IfOk result (λ answers. (row : List Cell) → Contains answers row ↔ ((length row ≡ length query.now.answer) × HoldsOver db.now query.now row plan.now.order)) }
+{
+    let setting = Setting {
+        alloc,
+        db,
+        query,
+        variables: variables(query),
+        paths,
+    };
+    let mut found = Vec::new(alloc);
+    match add_given(&setting, &Taken::Nothing, plan.order.as_slice(), &mut found) {
+        Ok(_) => Ok(Items::from_vec(sorted(found))),
+        Err(fault) => {
+            drop(found);
+            Err(fault)
+        }
+    }
+}
