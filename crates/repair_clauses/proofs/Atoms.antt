@@ -1,0 +1,122 @@
+-- The spans of one atom after the other.
+use Rattle.std.proofs.Common.{◌≡◌, ℕ, ◌<◌, ◌≤◌, ◌+◌, ◌↔◌, ◌⊎◌, inl, inr, List, [], ◌∷◌, ◌++◌, length, get_or, refl, sym, ◌∙◌, ap, subst, arith, Contains, Less, slice_get, Some}
+use Rattle.std.specs.Ordering.{nat_cmp}
+use Rattle.std.specs.List.Sorted.{IsStrictlySortedBy}
+use Rattle.std.proofs.lemmas.List.Elements.{Contains-append_left, Contains-append_right, Contains-append_cases, Contains-get_or}
+use Rattle.std.proofs.lemmas.Option.{get_or_from_slice_get}
+use Rattle.cqa_value.specs.declared.value.Value.{Value}
+use Rattle.cqa_model.specs.declared.query.Query.{Query}
+use Rattle.cqa_model.specs.Database.{Table, stored}
+use Rattle.cqa_model.specs.Repairs.{SharesKey}
+use Rattle.cqa_model.specs.Query.{atom_key, rows_of, row_at}
+use Rattle.cqa_model.specs.Formula.{IsRelevant}
+use Rattle.cqa_model.proofs.Classic.{mem-nil, choose}
+use Rattle.cqa_model.proofs.Repairs.{shares-sym, shares-trans}
+use Rattle.repair_clauses.specs.declared.span.Span.{Span}
+use Rattle.repair_clauses.specs.Clauses.{Variable, AreAll, row_of, IsStored}
+use Rattle.repair_clauses.specs.Spans.{at, IsIn, IsSpan, span_cmp, AreBased, AreBasedTo, AreSpans, AreSpansTo, IsPlaced}
+use Rattle.repair_clauses.specs.Runs.{Covers, IsRun, AreRuns}
+use Rattle.repair_clauses.proofs.Numbers.{place_of}
+use Rattle.join_witness.proofs.Sorted.{sorted-joined}
+use Rattle.repair_clauses.proofs.Order.{less_then}
+
+less_cmp : (x y : ℕ) → x < y → nat_cmp x y ≡ Less
+less_cmp x y l = grind (arith, l)
+
+based-joined : (n m k : ℕ) (ss ts : List Span) → AreBasedTo n ss m → AreBasedTo m ts k → AreBasedTo n (ss ++ ts) k
+based-joined n m k [] ts h g = subst (λ z. AreBasedTo z ts k) (sym h) g
+based-joined n m k (s ∷ ss) ts h g = (h.0, based-joined (n + s.count) m k ss ts h.1 g)
+
+based-whole : (n m : ℕ) (ss : List Span) → AreBasedTo n ss m → AreBased n ss
+based-whole n m [] h = tt
+based-whole n m (s ∷ ss) h = (h.0, based-whole (n + s.count) m ss h.1)
+
+none_sorted : IsStrictlySortedBy span_cmp []
+unfolding IsStrictlySortedBy
+none_sorted = tt
+
+cases_eq : (j i : ℕ) → j < i + 1 → (j < i) ⊎ (j ≡ i)
+cases_eq j i l = grind (arith, l)
+
+module _ (q : Query) (db : List Table) (row : List Value) where
+  pub spans-none : AreSpansTo q db row 0 0 []
+  spans-none = record {
+    in_order = none_sorted;
+    based = refl;
+    each = λ s m. absurd (mem-nil s m);
+    every = λ x l. absurd (omega (arith, l));
+  }
+
+  pub spans-all : (m : ℕ) (spans : List Span) → AreSpansTo q db row (length q.atoms) m spans → AreSpans q db row spans
+  spans-all m spans h = record { in_order = h.in_order; based = based-whole 0 m spans h.based; each = λ s k. (h.each s k).1; every = λ x s r. h.every x s.0 s r }
+
+  module _ (places : List (List ℕ)) (all : AreAll (IsPlaced q db row) places) (n m k : ℕ) (spans runs : List Span) (h : AreSpansTo q db row n m spans) (here : n < length q.atoms)
+      (column : List ℕ) (from : (p : ℕ) → Contains column p → (ps : List ℕ) × Contains places ps × (get_or ps n 0 ≡ p)) (to : (ps : List ℕ) → Contains places ps → Contains column (get_or ps n 0))
+      (r : AreRuns (atom_key q n) (rows_of q (stored db) n) n m column runs) (count : AreBasedTo m runs k) where
+    abbrev row_n : ℕ → List Value
+    row_n p = row_of q db (at n p)
+
+    of_run : (s : Span) → IsRun (atom_key q n) (rows_of q (stored db) n) n column s → IsSpan q db row s
+    of_run s g = record {
+      there = subst (λ F. F < length q.atoms) (sym g.of_atom) here;
+      some = g.some;
+      within = subst (λ F. s.start + s.count ≤ length (rows_of q (stored db) F)) (sym g.of_atom) g.within;
+      relevant = subst (λ F. IsRelevant q (stored db) row F (row_of q db (at F s.start))) (sym g.of_atom) relevant;
+      block = subst (λ F. (i : ℕ) → i < length (rows_of q (stored db) F) → SharesKey (atom_key q F) (row_of q db (at F s.start)) (row_of q db (at F i)) ↔ ((s.start ≤ i) × (i < s.start + s.count))) (sym g.of_atom) g.block;
+    }
+      where
+        relevant : IsRelevant q (stored db) row n (row_n s.start)
+        relevant =
+            let i = g.met in
+            let p = get_or column i.0 0 in
+            let f = from p (Contains-get_or column i.0 0 i.1) in
+            let w = (all.exactly f.0).0 f.1 in
+            let e = w.each n here in
+            let inside : p < length (rows_of q (stored db) n) = subst (λ z. z < length (rows_of q (stored db) n)) f.2 e.0 in
+            let is : row_n p ≡ row_at w.rows n = ap row_n (sym f.2) ∙ e.1 in
+            (w.rows, w.witness, subst (λ z. SharesKey (atom_key q n) (row_n s.start) z) is ((g.block p inside).1 i.2))
+
+    abbrev IsPlace : List (List Value) → ℕ → ℕ → Type 0
+    IsPlace w F p = (p < length (rows_of q (stored db) F)) × (row_of q db (at F p) ≡ row_at w F)
+
+    -- the span of a relevant row of the atom
+    found : (p : ℕ) → p < length (rows_of q (stored db) n) → IsRelevant q (stored db) row n (row_n p) → (s : Span) × Contains runs s × Covers s p
+    found p l (w, hw, sh) = go (choose 0 (length q.atoms) (IsPlace w) (λ F lF. placed F (place_of (rows_of q (stored db) F) (row_at w F) (hw.kept F lF))))
+      where
+        placed : (F : ℕ) → ((j : ℕ) × (j < length (rows_of q (stored db) F)) × (slice_get (rows_of q (stored db) F) j ≡ Some (row_at w F))) → (j : ℕ) × IsPlace w F j
+        placed F (j, lj, e) = (j, (lj, get_or_from_slice_get (rows_of q (stored db) F) j (row_at w F) [] e))
+
+        go : ((ps : List ℕ) × (length ps ≡ length q.atoms) × ((F : ℕ) → F < length q.atoms → IsPlace w F (get_or ps F 0))) → (s : Span) × Contains runs s × Covers s p
+        go (ps, size, each) =
+            let mp = to ps ((all.exactly ps).1 (record { rows = w; witness = hw; size = size; each = each })) in
+            let i = place_of column (get_or ps n 0) mp in
+            let ei : get_or column i.0 0 ≡ get_or ps n 0 = get_or_from_slice_get column i.0 (get_or ps n 0) 0 i.2 in
+            let s = r.every i.0 i.1 in
+            let g = r.each s.0 s.1 in
+            let pn = get_or ps n 0 in
+            let covers : Covers s.0 pn = subst (Covers s.0) ei s.2 in
+            let en = each n here in
+            let first : SharesKey (atom_key q n) (row_n s.0.start) (row_at w n) = subst (λ z. SharesKey (atom_key q n) (row_n s.0.start) z) en.1 ((g.block pn en.0).1 covers) in
+            (s.0, s.1, (g.block p l).0 (shares-trans (atom_key q n) (row_n s.0.start) (row_at w n) (row_n p) first (shares-sym (atom_key q n) (row_n p) (row_at w n) sh)))
+
+    pub spans-more : AreSpansTo q db row (n + 1) k (spans ++ runs)
+    spans-more = record {
+      in_order = sorted-joined span_cmp spans runs h.in_order r.in_order (λ s t ms mt.
+          let l = (h.each s ms).0 in
+          let e : t.atom ≡ n = (r.each t mt).of_atom in
+          less_then (nat_cmp s.atom t.atom) (nat_cmp s.start t.start) (less_cmp s.atom t.atom (omega (arith, l, e))));
+      based = based-joined 0 m k spans runs h.based count;
+      each = λ s ms. elim (Contains-append_cases spans runs s ms) [
+        | inl a ↦ let b = h.each s a in let b0 = b.0 in (omega (arith, b0), b.1)
+        | inr a ↦ let g = r.each s a in let e : s.atom ≡ n = g.of_atom in (omega (arith, e), of_run s g)
+      ];
+      every = λ x l st rel. every x (cases_eq x.atom n l) st rel;
+    }
+      where
+        every : (x : Variable) → (x.atom < n) ⊎ (x.atom ≡ n) → IsStored q db x → IsRelevant q (stored db) row x.atom (row_of q db x) → (s : Span) × Contains (spans ++ runs) s × IsIn s x
+        every x (inl l) st rel = let s = h.every x l st rel in (s.0, Contains-append_left spans runs s.0 s.1, s.2)
+        every x (inr e) st rel =
+            let inside : x.place < length (rows_of q (stored db) n) = subst (λ F. x.place < length (rows_of q (stored db) F)) e st.1 in
+            let there : IsRelevant q (stored db) row n (row_n x.place) = subst (λ F. IsRelevant q (stored db) row F (row_of q db (at F x.place))) e rel in
+            let s = found x.place inside there in
+            (s.0, Contains-append_right spans runs s.0 s.1, (e ∙ sym (r.each s.0 s.1).of_atom, s.2.0, s.2.1))

@@ -1,0 +1,34 @@
+-- The places of the rows of an atom in witnesses, sorted.
+use Rattle.std.proofs.Common.{◌≡◌, ℕ, ◌<◌, List, length, get_or, map, sym, ◌∙◌, ap, subst, Contains}
+use Rattle.std.specs.List.Sorted.{IsPermutation, IsSorted}
+use Rattle.std.specs.Ordering.{nat_cmp}
+use Rattle.std.proofs.lemmas.List.{get_or-map}
+use Rattle.std.proofs.lemmas.List.Sorted.{IsNonDecreasingBy-from_sort, Contains-permutation, IsPermutation-sym}
+use Rattle.cqa_model.specs.declared.query.RowId.{RowId}
+use Rattle.join_witness.specs.declared.all_witnesses.Witness.{Witness}
+use Rattle.join_witness.specs.Listing.{names_of}
+use Rattle.repair_clauses.specs.Spans.{place_at}
+use Rattle.repair_clauses.specs.Runs.{AreColumn}
+use Rattle.repair_clauses.proofs.Numbers.{in_map, from_map}
+
+abbrev pub place_in : ℕ → Witness → ℕ
+place_in F w = place_at w.rows F
+
+pub place_is : (names : List RowId) (F : ℕ) (x : RowId) → F < length names → x ≡ get_or names F x → x.place ≡ place_at names F
+place_is names F x l e = ap (λ (y : RowId). y.place) e ∙ sym (get_or-map (λ (y : RowId). y.place) names F x 0 l)
+
+-- a witness that is read has a row of the atom
+pub has_atom : (ws : List Witness) (F i : ℕ) (w : Witness) → ((x : Witness) → Contains ws x → F < length x.rows) → i < length ws → w ≡ get_or ws i w → F < length w.rows
+has_atom ws F i w h l e = h w (i, l, sym e)
+
+pub column_is : (ws : List Witness) (F : ℕ) (raw sorted : List ℕ) → raw ≡ map (place_in F) ws → IsPermutation raw sorted → IsSorted nat_cmp sorted → AreColumn (names_of ws) F sorted
+column_is ws F raw sorted is p up = record {
+  in_order = λ i j le l. IsNonDecreasingBy-from_sort (λ n. n) sorted up i j 0 le l;
+  from = λ n m.
+      let k = from_map (place_in F) ws n (subst (λ ns. Contains ns n) is (Contains-permutation sorted raw n (IsPermutation-sym raw sorted p) m)) in
+      (k.0.rows, in_map (λ (w : Witness). w.rows) ws k.0 k.1, k.2);
+  to = λ names m.
+      let k = from_map (λ (w : Witness). w.rows) ws names m in
+      subst (λ ns. Contains sorted (place_at ns F)) k.2
+      (Contains-permutation raw sorted (place_in F k.0) p (subst (λ ns. Contains ns (place_in F k.0)) (sym is) (in_map (place_in F) ws k.0 k.1)));
+}

@@ -1,0 +1,6 @@
+use Rattle.repair_clauses.proofs.Encoding.{AreNegativesTo}
+use Rattle.repair_clauses.proofs.clauses.witness_clause.Given as goal
+
+-- the literals of the rows so far
+abbrev pub invariant-loop-at : goal.invariant-loop-at
+invariant-loop-at l = AreNegativesTo l.spans l.names l.at l.lits.items

@@ -1,0 +1,10 @@
+use Rattle.std.proofs.Common.{◌∙◌, ap, map, arith}
+use Rattle.std.proofs.lemmas.List.{take_all}
+use Rattle.repair_clauses.proofs.Columns.{place_in, column_is}
+use Rattle.repair_clauses.proofs.column.column.Goals as goal
+
+pub returns : goal.returns
+returns c =
+    column_is c.args.witnesses.now c.args.atom c.loop-witness.places.items c.sort_unstable.new.self.items
+    (c.loop-witness.invariant ∙ ap (map (place_in c.args.atom)) (take_all c.loop-witness.witness-index c.args.witnesses.now (omega arith)))
+    c.sort_unstable.ensures.permutation c.sort_unstable.ensures.sorted

@@ -1,0 +1,39 @@
+-- What is made of the formula of a row: numbered clauses, and the row of each number.
+use Rattle.std.specs.Prelude.{◌≡◌, ℕ, ◌+◌, ◌++◌, ◌<◌, ◌≤◌, ◌^◌, List, length, map, Contains}
+use Rattle.std.specs.List.{AllZip}
+use Rattle.cqa_value.specs.declared.value.Value.{Value}
+use Rattle.cqa_model.specs.declared.query.Query.{Query}
+use Rattle.cqa_model.specs.Database.{Table}
+use Rattle.cnf_form.specs.declared.formula.Lit.{Lit}
+use Rattle.cnf_form.specs.Literals.{literals}
+use Rattle.join_witness.specs.declared.all_witnesses.Witness.{Witness}
+use Rattle.repair_clauses.specs.declared.span.Span.{Span}
+use Rattle.repair_clauses.specs.declared.formula.Encoded.{Encoded}
+use Rattle.repair_clauses.specs.Clauses.{Formula, IsFormula, negative, clauses, name_of}
+use Rattle.repair_clauses.specs.Spans.{AreApart, AreBased, AreCovered, AreNumbers, variables_of}
+
+-- the clauses of witnesses are added, one for each list of places
+pub record AddsWitnesses (spans : List Span) (places : List (List ℕ)) (old new : List (List Lit)) : Type 0 where
+  pub numbers : List (List ℕ)
+  pub numbered : AllZip (AreNumbers (variables_of spans) 0) places numbers
+  pub is : new ≡ old ++ map (map negative) numbers
+
+-- blocks apart from each other, with small numbers
+pub record AreReady (q : Query) (spans : List Span) : Type 0 where
+  pub there : (s : Span) → Contains spans s → s.atom < length q.atoms
+  pub starts : (s : Span) → Contains spans s → s.start + s.count < 2 ^ 32
+  pub bases : (s : Span) → Contains spans s → s.base + s.count < 2 ^ 32
+  pub apart : AreApart spans
+  pub based : AreBased 0 spans
+
+-- the rows of the witnesses are in the blocks
+abbrev pub AreTold : List Span → List Witness → Type 0
+AreTold spans witnesses = (w : Witness) → Contains witnesses w → (length w.rows ≤ 12) × AreCovered spans w.rows
+
+-- the clauses and the rows are those of the formula of a row
+pub record IsEncoded (q : Query) (db : List Table) (row : List Value) (e : Encoded) : Type 0 where
+  pub formula : Formula
+  pub is : IsFormula q db row formula
+  pub vars : e.cnf.vars ≡ length formula.variables
+  pub are : literals e.cnf.clauses ≡ clauses formula
+  pub rows : e.rows ≡ map (name_of q) formula.variables

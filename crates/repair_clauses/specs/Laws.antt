@@ -1,0 +1,69 @@
+-- The laws of the formulas of rows.
+use Rattle.std.specs.Prelude.{◌≡◌, ℕ, ◌+◌, ◌<◌, ◌≤◌, ◌↔◌, List, length, map, Bool, Contains}
+use Rattle.std.specs.List.{AllZip}
+use Rattle.std.specs.List.Sorted.{IsStrictlySortedBy}
+use Rattle.std.specs.Ordering.{nat_cmp}
+use Rattle.cqa_value.specs.declared.value.Value.{Value}
+use Rattle.cqa_model.specs.declared.query.Query.{Query}
+use Rattle.cqa_model.specs.Database.{Table, stored}
+use Rattle.cqa_model.specs.Repairs.{IsRepair}
+use Rattle.cqa_model.specs.Query.{rows_of, IsWitness, FitsDatabase}
+use Rattle.cqa_model.specs.Certain.{IsCertain}
+use Rattle.cqa_model.specs.Formula.{Satisfies}
+use Rattle.cnf_form.specs.declared.formula.Lit.{Lit}
+use Rattle.cnf_form.specs.Literals.{SatisfiesAll}
+use Rattle.repair_clauses.specs.Clauses.{Formula, IsFormula, AreAll, clauses}
+use Rattle.repair_clauses.specs.Alike.{AreClasses, SatisfiesClasses}
+use Rattle.repair_clauses.specs.Models.{IsPicked}
+use Rattle.repair_clauses.specs.declared.span.Span.{Span}
+use Rattle.repair_clauses.specs.Spans.{AreSpans, IsPlaced, AreNumbers, variables_of, formula_of}
+
+-- some assignment satisfies the clauses
+abbrev pub IsSatisfiable : Formula → Type 0
+IsSatisfiable f = (v : ℕ → Bool) × SatisfiesAll v (clauses f)
+
+-- The clauses of a row have a satisfying assignment exactly where the rows have one.
+abbrev pub ClausesAreExact : Type 0
+ClausesAreExact =
+    (db : List Table) (q : Query) (row : List Value) (f : Formula) → IsFormula q db row f →
+    IsSatisfiable f ↔ ((a : ℕ → List Value → Bool) × Satisfies q (stored db) row a)
+
+-- A row is certain exactly where no assignment satisfies its clauses.
+abbrev pub ClausesDecide : Type 0
+ClausesDecide =
+    (db : List Table) (q : Query) (row : List Value) (f : Formula) → FitsDatabase q db → IsFormula q db row f →
+    IsCertain db q row ↔ ((v : ℕ → Bool) → SatisfiesAll v (clauses f) → ⊥)
+
+-- The formula over classes of rows that are alike has a satisfying assignment exactly where the rows have one.
+abbrev pub ClassesAreExact : Type 0
+ClassesAreExact =
+    (db : List Table) (q : Query) (row : List Value) (class : ℕ → List Value → ℕ) → AreClasses q (stored db) row class →
+    ((t : ℕ → Bool) × SatisfiesClasses q (stored db) row class t) ↔ ((a : ℕ → List Value → Bool) × Satisfies q (stored db) row a)
+
+-- The repair of a satisfying assignment holds no witness of the row.
+abbrev pub ModelsReject : Type 0
+ModelsReject =
+    (db : List Table) (q : Query) (row : List Value) (f : Formula) (v : ℕ → Bool) (kept : List (List (List Value))) →
+    FitsDatabase q db → IsFormula q db row f → SatisfiesAll v (clauses f) → IsRepair db kept →
+    ((F : ℕ) → F < length q.atoms → IsPicked q db f.variables v F (rows_of q kept F)) →
+    (w : List (List Value)) → IsWitness q kept row w → ⊥
+
+-- A row has at most one formula.
+abbrev pub OneFormula : Type 0
+OneFormula = (db : List Table) (q : Query) (row : List Value) (f g : Formula) → IsFormula q db row f → IsFormula q db row g → f ≡ g
+
+-- the variables of a clause rise, and are among 1 to a number
+pub record Rises (variables : ℕ) (c : List Lit) : Type 0 where
+  pub rises : IsStrictlySortedBy nat_cmp (map (λ (l : Lit). l.var) c)
+  pub in_range : (l : Lit) → Contains c l → (1 ≤ l.var) × (l.var < 1 + variables)
+
+-- The literals of each clause rise by variable.
+abbrev pub ClausesRise : Type 0
+ClausesRise = (db : List Table) (q : Query) (row : List Value) (f : Formula) → IsFormula q db row f → (c : List Lit) → Contains (clauses f) c → Rises (length f.variables) c
+
+-- The relevant blocks and the numbers of all witnesses' rows give the formula.
+abbrev pub SpansGiveFormula : Type 0
+SpansGiveFormula =
+    (db : List Table) (q : Query) (row : List Value) (spans : List Span) (places numbers : List (List ℕ)) →
+    AreSpans q db row spans → AreAll (IsPlaced q db row) places → AllZip (AreNumbers (variables_of spans) 0) places numbers →
+    IsFormula q db row (formula_of spans numbers)

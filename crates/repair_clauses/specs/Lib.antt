@@ -1,0 +1,9 @@
+pub mod Clauses
+pub mod Alike
+pub mod Models
+pub mod Spans
+pub mod Runs
+pub mod Laws
+pub mod Encodings
+pub mod Deciding
+pub mod Searching

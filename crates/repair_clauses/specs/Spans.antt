@@ -1,0 +1,111 @@
+-- The relevant blocks of a row as runs of places, and the numbers of their rows.
+use Rattle.std.specs.Prelude.{◌⊎◌, Some, slice_get, ◌≡◌, ℕ, suc, ◌+◌, ◌<◌, ◌≤◌, ◌↔◌, ◌^◌, ◌∷◌, List, [], length, map, flat_map, Contains, slice_index}
+use Rattle.std.specs.Ordering.{ordering_then, nat_cmp}
+use Rattle.std.specs.declared.cmp.Ordering.{Ordering}
+use Rattle.std.specs.List.{range_with_len}
+use Rattle.std.specs.List.Sorted.{IsStrictlySortedBy}
+use Rattle.cqa_value.specs.declared.value.Value.{Value}
+use Rattle.cqa_model.specs.declared.query.Query.{Query}
+use Rattle.cqa_model.specs.declared.query.RowId.{RowId}
+use Rattle.cqa_model.specs.Database.{Table, stored}
+use Rattle.cqa_model.specs.Repairs.{SharesKey}
+use Rattle.cqa_model.specs.Query.{atom_key, rows_of, row_at, IsWitness}
+use Rattle.cqa_model.specs.Formula.{IsRelevant}
+use Rattle.repair_clauses.specs.declared.span.Span.{Span}
+use Rattle.cnf_form.specs.declared.formula.Lit.{Lit}
+use Rattle.join_witness.specs.Listing.{places_of}
+use Rattle.repair_clauses.specs.Clauses.{Variable, HasNumber, Formula, row_of, IsStored, negative}
+
+abbrev pub at : ℕ → ℕ → Variable
+at F p = record { atom = F; place = p }
+
+-- the row is in the block
+abbrev pub IsIn : Span → Variable → Type 0
+IsIn s x = (x.atom ≡ s.atom) × (s.start ≤ x.place) × (x.place < s.start + s.count)
+
+-- a whole block, which is relevant
+pub record IsSpan (q : Query) (db : List Table) (row : List Value) (s : Span) : Type 0 where
+  pub there : s.atom < length q.atoms
+  pub some : 0 < s.count
+  pub within : s.start + s.count ≤ length (rows_of q (stored db) s.atom)
+  pub relevant : IsRelevant q (stored db) row s.atom (row_of q db (at s.atom s.start))
+  pub block : (i : ℕ) → i < length (rows_of q (stored db) s.atom) →
+      SharesKey (atom_key q s.atom) (row_of q db (at s.atom s.start)) (row_of q db (at s.atom i)) ↔ ((s.start ≤ i) × (i < s.start + s.count))
+
+-- by atoms, and those of one atom by their first rows
+abbrev pub span_cmp : Span → Span → Ordering
+span_cmp s t = ordering_then (nat_cmp s.atom t.atom) (nat_cmp s.start t.start)
+
+-- so many variables come before each
+abbrev pub AreBased : ℕ → List Span → Type 0
+AreBased n [] = Unit {0}
+AreBased n (s ∷ ss) = (s.base ≡ n) × AreBased (n + s.count) ss
+
+-- so many variables come before each, and so many are there in all
+abbrev pub AreBasedTo : ℕ → List Span → ℕ → Type 0
+AreBasedTo n [] m = n ≡ m
+AreBasedTo n (s ∷ ss) m = (s.base ≡ n) × AreBasedTo (n + s.count) ss m
+
+-- exactly the relevant blocks
+pub record AreSpans (q : Query) (db : List Table) (row : List Value) (spans : List Span) : Type 0 where
+  pub in_order : IsStrictlySortedBy span_cmp spans
+  pub based : AreBased 0 spans
+  pub each : (s : Span) → Contains spans s → IsSpan q db row s
+  pub every : (x : Variable) → IsStored q db x → IsRelevant q (stored db) row x.atom (row_of q db x) → (s : Span) × Contains spans s × IsIn s x
+
+-- the spans of the atoms before n, and how many variables they have
+pub record AreSpansTo (q : Query) (db : List Table) (row : List Value) (n m : ℕ) (spans : List Span) : Type 0 where
+  pub in_order : IsStrictlySortedBy span_cmp spans
+  pub based : AreBasedTo 0 spans m
+  pub each : (s : Span) → Contains spans s → (s.atom < n) × IsSpan q db row s
+  pub every : (x : Variable) → x.atom < n → IsStored q db x → IsRelevant q (stored db) row x.atom (row_of q db x) → (s : Span) × Contains spans s × IsIn s x
+
+abbrev pub variables_in : Span → List Variable
+variables_in s = map (at s.atom) (range_with_len s.start s.count)
+
+abbrev pub variables_of : List Span → List Variable
+variables_of spans = flat_map variables_in spans
+
+abbrev pub numbers_in : Span → List ℕ
+numbers_in s = range_with_len (suc s.base) s.count
+
+-- the places of a witness's rows, atom by atom
+pub record IsPlaced (q : Query) (db : List Table) (row : List Value) (places : List ℕ) : Type 0 where
+  pub rows : List (List Value)
+  pub witness : IsWitness q (stored db) row rows
+  pub size : length places ≡ length q.atoms
+  pub each : (F : ℕ) → F < length q.atoms → (slice_index places F < length (rows_of q (stored db) F)) × (row_of q db (at F (slice_index places F)) ≡ row_at rows F)
+
+-- the places of rows of the atoms from F on, and their numbers
+abbrev pub AreNumbers : List Variable → ℕ → List ℕ → List ℕ → Type 0
+AreNumbers variables F [] [] = Unit {0}
+AreNumbers variables F [] (n ∷ ns) = ⊥
+AreNumbers variables F (p ∷ ps) [] = ⊥
+AreNumbers variables F (p ∷ ps) (n ∷ ns) = HasNumber variables n (at F p) × AreNumbers variables (suc F) ps ns
+
+-- the formula of spans, and of the numbers of the witnesses' rows
+abbrev pub formula_of : List Span → List (List ℕ) → Formula
+formula_of spans witnesses = record { variables = variables_of spans; blocks = map numbers_in spans; witnesses = witnesses }
+
+-- the place of the row of an atom, among named rows
+abbrev pub place_at : List RowId → ℕ → ℕ
+place_at names F = slice_index (places_of names) F
+
+-- each of the named rows is in one of the spans, and its number is small
+abbrev pub AreCovered : List Span → List RowId → Type 0
+AreCovered spans names = (F : ℕ) → F < length names → (s : Span) × Contains spans s × IsIn s (at F (place_at names F)) × (s.base + s.count < 2 ^ 32)
+
+-- the clause of a witness: the numbers of its rows, as negative literals
+abbrev pub IsWitnessClause : List Span → List RowId → List Lit → Type 0
+IsWitnessClause spans names lits = (numbers : List ℕ) × AreNumbers (variables_of spans) 0 (places_of names) numbers × (lits ≡ map negative numbers)
+
+-- of two spans the first is of an earlier atom, or ends before the second begins
+abbrev pub IsBefore : Span → Span → Type 0
+IsBefore s t = (s.atom < t.atom) ⊎ ((s.atom ≡ t.atom) × (s.start + s.count ≤ t.start))
+
+abbrev pub AreApart : List Span → Type 0
+AreApart spans = (i j : ℕ) (s t : Span) → i < j → slice_get spans i ≡ Some s → slice_get spans j ≡ Some t → IsBefore s t
+
+-- the span begins at the place of an atom, or before it
+abbrev pub Begins : Span → ℕ → ℕ → Type 0
+Begins s F p = (s.atom < F) ⊎ ((s.atom ≡ F) × (s.start ≤ p))

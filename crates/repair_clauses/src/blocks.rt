@@ -1,0 +1,54 @@
+//! The first and the last place of the block of a row.
+//! Rows of one block stand side by side, so one looks at its rows, and at one row more on each side.
+
+ghost use Rattle.std.specs.Prelude.{◌<◌, ◌≤◌, ◌↔◌, ℕ, IsTrue, [], length, slice_index_or};
+ghost use Rattle.std.specs.List.Sorted.{IsStrictlySortedBy};
+ghost use Rattle.cqa_model.specs.Database.{block_cmp};
+ghost use Rattle.cqa_model.specs.Repairs.{SharesKey};
+
+use cqa_value::Row;
+use table_blocks::same_value;
+
+/// Whether two rows agree in all key columns.
+fn same_key(key: &[u32], a: &Row, b: &Row) -> bool
+    ensures { IsTrue result ↔ SharesKey key.now a.now b.now }
+{
+    key.iter().all(|place| same_value(a, *place, b, *place))
+}
+
+/// Whether the rows at two places share a key; the other may be behind the last row.
+fn goes_on(rows: &[Row], key: &[u32], at: usize, other: usize) -> bool
+    requires { at < length rows.now }
+    ensures { IsTrue result ↔ ((other < length rows.now) × SharesKey key.now (slice_index_or rows.now at []) (slice_index_or rows.now other [])) }
+{
+    other < rows.len() && same_key(key, &rows[at], &rows[other])
+}
+
+/// The place behind the block of a row.
+pub fn block_end(rows: &[Row], key: &[u32], at: usize) -> usize
+    requires order { IsStrictlySortedBy (block_cmp key.now) rows.now }
+    requires there { at < length rows.now }
+    ensures behind { at < result }
+    ensures within { result ≤ length rows.now }
+    ensures block { (i : ℕ) → at ≤ i → i < length rows.now → SharesKey key.now (slice_index_or rows.now at []) (slice_index_or rows.now i []) ↔ (i < result) }
+{
+    let mut end = at + 1;
+    while goes_on(rows, key, at, end) {
+        end += 1;
+    }
+    end
+}
+
+/// The place of the first row of a row's block.
+pub fn block_start(rows: &[Row], key: &[u32], at: usize) -> usize
+    requires order { IsStrictlySortedBy (block_cmp key.now) rows.now }
+    requires there { at < length rows.now }
+    ensures before { result ≤ at }
+    ensures block { (i : ℕ) → i ≤ at → SharesKey key.now (slice_index_or rows.now at []) (slice_index_or rows.now i []) ↔ (result ≤ i) }
+{
+    let mut start = at;
+    while start > 0 && goes_on(rows, key, at, start - 1) {
+        start -= 1;
+    }
+    start
+}

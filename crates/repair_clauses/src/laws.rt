@@ -1,0 +1,39 @@
+//! The laws of the formulas of rows, over the definitions alone.
+//! Each is what its function ensures.
+
+ghost use Rattle.repair_clauses.specs.Laws.{ClassesAreExact, ClausesAreExact, ClausesDecide, ClausesRise, ModelsReject, OneFormula, SpansGiveFormula};
+
+/// The clauses of a row have a satisfying assignment exactly where the rows have one.
+pub fn clauses_are_exact()
+    ensures { ClausesAreExact }
+{}
+
+/// A row is certain exactly where no assignment satisfies its clauses.
+pub fn clauses_decide()
+    ensures { ClausesDecide }
+{}
+
+/// The formula over classes of rows that are alike has a satisfying assignment exactly where the rows have one.
+pub fn classes_are_exact()
+    ensures { ClassesAreExact }
+{}
+
+/// The repair of a satisfying assignment holds no witness of the row.
+pub fn models_reject()
+    ensures { ModelsReject }
+{}
+
+/// A row has at most one formula.
+pub fn one_formula()
+    ensures { OneFormula }
+{}
+
+/// The literals of each clause rise by variable.
+pub fn clauses_rise()
+    ensures { ClausesRise }
+{}
+
+/// The relevant blocks and the numbers of all witnesses' rows give the formula.
+pub fn spans_give_formula()
+    ensures { SpansGiveFormula }
+{}

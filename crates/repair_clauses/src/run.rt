@@ -1,0 +1,70 @@
+//! The blocks of one atom's table that have a row at one of some places.
+//! They are found one after the other, and their rows are numbered.
+
+ghost use Rattle.std.specs.Prelude.{◌+◌, ◌≤◌, IfOk, length};
+ghost use Rattle.std.specs.List.Sorted.{IsStrictlySortedBy};
+ghost use Rattle.cqa_model.specs.Database.{block_cmp};
+ghost use Rattle.cqa_model.specs.declared.limits.TheConstants.{MOST_ROWS};
+ghost use Rattle.repair_clauses.specs.Runs.{ArePlaces, AreRuns};
+ghost use Rattle.repair_clauses.specs.Spans.{AreBasedTo};
+
+use crate::blocks::{block_end, block_start};
+use crate::span::Span;
+use cqa_value::{Items, NoMemory, Row};
+use std::alloc::Global;
+
+/// Relevant blocks, and how many variables come up to their end.
+#[derive(Drop)]
+pub struct Spans {
+    pub list: Items<Span>,
+    pub vars: u32,
+}
+
+/// The blocks of an atom's rows that have one of these places, in block order; their rows are numbered from `base` on.
+///
+/// It looks at the rows of these blocks, and at no others but one on each side.
+///
+/// # Errors
+///
+/// `NoMemory` where memory is refused.
+pub fn runs(
+    alloc: Global,
+    rows: &[Row],
+    key: &[u32],
+    atom: u32,
+    base: u32,
+    places: &[u32],
+) -> Result<Spans, NoMemory>
+    requires order { IsStrictlySortedBy (block_cmp key.now) rows.now }
+    requires few { length rows.now ≤ MOST_ROWS }
+    requires small { base ≤ 1_000_000_000 }
+    requires places { ArePlaces rows.now places.now }
+    ensures runs { IfOk result (λ spans. AreRuns key.now rows.now atom base places.now spans.list) }
+    ensures based { IfOk result (λ spans. AreBasedTo base spans.list spans.vars) }
+    ensures small { IfOk result (λ spans. spans.vars ≤ base + length rows.now) }
+{
+    let mut spans = Items::new(alloc);
+    let mut end = 0;
+    let mut next = base;
+    let mut i = 0;
+    while i < places.len() {
+        let place = places[i] as usize;
+        if place >= end {
+            let start = block_start(rows, key, place);
+            end = block_end(rows, key, start);
+            let count = (end - start) as u32;
+            spans.push(Span {
+                atom,
+                start: start as u32,
+                count,
+                base: next,
+            })?;
+            next += count;
+        }
+        i += 1;
+    }
+    Ok(Spans {
+        list: spans,
+        vars: next,
+    })
+}

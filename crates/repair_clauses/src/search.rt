@@ -1,0 +1,204 @@
+//! The certain rows of a query that has no plan: each possible row is decided by its formula, ascending.
+//! The first one that can't be decided ends the search.
+
+ghost use Rattle.std.specs.Prelude.{◌≡◌, [], IfOk, IfSome, IsNone, length};
+ghost use Rattle.cqa_model.specs.Query.{FitsDatabase};
+ghost use Rattle.row_cursor.specs.Spots.{ArePaths};
+ghost use Rattle.repair_clauses.specs.Searching.{AreCandidates, IsSearched, IsStop, IsStopAt, IsVerdict, Judges, Sifts, SiftsAll};
+
+use crate::decision::{Decided, decide};
+use cdcl::Outcome;
+use cnf_form::{Cnf, Log};
+use cqa_model::Query;
+use cqa_value::{Fail, Items, NoMemory, Row};
+use join_witness::{TooMany, candidates, row_paths};
+use row_cursor::RowIndex;
+use std::alloc::Global;
+use table_blocks::Database;
+
+/// Why a search ends before all rows are decided.
+#[derive(Debug, Drop)]
+pub enum Stop {
+    /// The row has more than `MOST_WITNESSES` witnesses.
+    Over(Row),
+    /// The budget is used up for the formula of the row.
+    Spent { row: Row, cnf: Cnf, log: Log },
+}
+
+/// What a search for certain rows comes to.
+#[derive(Debug, Drop)]
+pub enum Searched {
+    /// The certain rows, ascending and each once.
+    All(Items<Row>),
+    Stopped(Stop),
+}
+
+/// What is found out of one row.
+#[derive(Debug, Drop)]
+pub enum Verdict {
+    Certain,
+    Rejected,
+    Over,
+    Spent { cnf: Cnf, log: Log },
+}
+
+/// What an outcome says of a row.
+fn judged(decided: Decided) -> Verdict
+    ensures { Judges decided.formula decided.outcome result }
+{
+    let Decided { formula, outcome } = decided;
+    match outcome {
+        Outcome::Sat(values) => {
+            drop(values);
+            drop(formula);
+            Verdict::Rejected
+        }
+        Outcome::Unsat(log) => {
+            drop(log);
+            drop(formula);
+            Verdict::Certain
+        }
+        Outcome::Spent(log) => Verdict::Spent {
+            cnf: formula.cnf,
+            log,
+        },
+    }
+}
+
+/// What is found out of one row, with at most `budget` conflicts.
+fn judge_row<'a>(
+    alloc: Global,
+    db: &'a Database,
+    query: &'a Query,
+    row: &'a Row,
+    paths: &'a [Option<RowIndex<'a>>],
+    budget: u32,
+) -> Result<Verdict, NoMemory>
+    requires fits { FitsDatabase query.now db.now }
+    requires long { length row.now ≡ length query.now.answer }
+    requires paths { ArePaths query.now db.now paths.now }
+    ensures { IfOk result (IsVerdict query.now db.now row.now budget) }
+{
+    match decide(alloc, db, query, row, paths, budget) {
+        Ok(decided) => Ok(judged(decided)),
+        Err(Fail::Refused(TooMany)) => Ok(Verdict::Over),
+        Err(Fail::NoMemory) => Err(NoMemory),
+    }
+}
+
+/// Puts a row behind the certain ones if it is certain. Says why the search ends, if it does.
+fn sift(
+    alloc: Global,
+    db: &Database,
+    query: &Query,
+    paths: &[Option<RowIndex<'_>>],
+    budget: u32,
+    row: Row,
+    answers: &mut Vec<Row>,
+) -> Result<Option<Stop>, NoMemory>
+    requires fits { FitsDatabase query.now db.now }
+    requires long { length row ≡ length query.now.answer }
+    requires paths { ArePaths query.now db.now paths.now }
+    ensures sifted { IfOk result (λ stop. IsNone stop → Sifts query.now db.now row answers.old.items answers.new.items) }
+    ensures stopped { IfOk result (λ stop. IfSome stop (IsStopAt query.now db.now budget row)) }
+{
+    match judge_row(alloc, db, query, &row, paths, budget) {
+        Err(fault) => {
+            drop(row);
+            Err(fault)
+        }
+        Ok(Verdict::Certain) => {
+            answers.push(row)?;
+            Ok(None)
+        }
+        Ok(Verdict::Rejected) => {
+            drop(row);
+            Ok(None)
+        }
+        Ok(Verdict::Over) => Ok(Some(Stop::Over(row))),
+        Ok(Verdict::Spent { cnf, log }) => Ok(Some(Stop::Spent { row, cnf, log })),
+    }
+}
+
+/// Gathers the certain ones of the possible rows, ascending. Says why the search ends before all are decided, if it does.
+fn sift_all(
+    alloc: Global,
+    db: &Database,
+    query: &Query,
+    paths: &[Option<RowIndex<'_>>],
+    budget: u32,
+    rows: Vec<Row>,
+    answers: &mut Vec<Row>,
+) -> Result<Option<Stop>, NoMemory>
+    requires fits { FitsDatabase query.now db.now }
+    requires paths { ArePaths query.now db.now paths.now }
+    requires rows { AreCandidates query.now db.now rows.items }
+    requires none { answers.old.items ≡ [] }
+    ensures all { IfOk result (λ stop. IsNone stop → SiftsAll query.now db.now rows.items answers.new.items) }
+    ensures stopped { IfOk result (λ stop. IfSome stop (IsStop query.now db.now budget)) }
+{
+    for row in rows {
+        let stop = sift(alloc, db, query, paths, budget, row, answers)?;
+        if stop.is_some() {
+            return Ok(stop);
+        }
+    }
+    Ok(None)
+}
+
+/// The same by indexes of the tables, which are made once for all rows.
+fn search_rows(
+    alloc: Global,
+    db: &Database,
+    query: &Query,
+    budget: u32,
+    rows: Vec<Row>,
+    answers: &mut Vec<Row>,
+) -> Result<Option<Stop>, NoMemory>
+    requires fits { FitsDatabase query.now db.now }
+    requires rows { AreCandidates query.now db.now rows.items }
+    requires none { answers.old.items ≡ [] }
+    ensures all { IfOk result (λ stop. IsNone stop → SiftsAll query.now db.now rows.items answers.new.items) }
+    ensures stopped { IfOk result (λ stop. IfSome stop (IsStop query.now db.now budget)) }
+{
+    match row_paths(alloc, db, query) {
+        Ok(paths) => {
+            let stop = sift_all(alloc, db, query, paths.as_slice(), budget, rows, answers);
+            drop(paths);
+            stop
+        }
+        Err(fault) => {
+            drop(rows);
+            Err(fault)
+        }
+    }
+}
+
+/// The certain rows of a query, each possible row decided by its formula with at most `budget` conflicts, ascending.
+///
+/// # Errors
+///
+/// `NoMemory` where memory is refused.
+pub fn certain_by_search(
+    alloc: Global,
+    db: &Database,
+    query: &Query,
+    budget: u32,
+) -> Result<Searched, NoMemory>
+    requires { FitsDatabase query.now db.now }
+    ensures { IfOk result (IsSearched query.now db.now budget) }
+{
+    let rows = candidates(alloc, db, query)?.into_vec();
+    let mut answers = Vec::new(alloc);
+    match search_rows(alloc, db, query, budget, rows, &mut answers) {
+        Ok(None) => Ok(Searched::All(Items::from_vec(answers))),
+        Ok(Some(stop)) => {
+            drop(answers);
+            Ok(Searched::Stopped(stop))
+        }
+        Err(fault) => {
+            drop(answers);
+            Err(fault)
+        }
+    }
+}
