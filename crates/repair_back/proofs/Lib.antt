@@ -1,0 +1,12 @@
+mod Choosing
+mod Keeping
+mod Stepping
+mod BlockEnds
+mod Mended
+mod Settling
+mod Naming
+mod Answering
+mod Beside
+mod Marking
+mod Telling
+mod Starting

@@ -1,0 +1,280 @@
+-- Block by block and row by row: what was mended so far.
+use Rattle.std.proofs.Common.{◌≡◌, ℕ, ◌+◌, ◌<◌, ◌≤◌, ◌≢◌, ◌⊎◌, ◌↔◌, inl, inr, Bool, List, [], ◌∷◌, length, get_or, refl, ap, sym, ◌∙◌, subst, arith, Contains}
+use native.Mathlib.Decide.{ℕ_discrete}
+use Rattle.std.proofs.lemmas.List.{get_or_default}
+use Rattle.std.proofs.lemmas.List.Elements.{Contains-get_or}
+use Rattle.cqa_value.specs.declared.value.Value.{Value}
+use Rattle.cqa_model.specs.declared.query.Query.{Query}
+use Rattle.cqa_model.specs.Database.{Table, stored, keys_of}
+use Rattle.cqa_model.specs.Repairs.{SharesKey}
+use Rattle.cqa_model.specs.Query.{atom_at, atom_key, rows_of, row_at, FitsDatabase}
+use Rattle.cqa_model.specs.Plan.{Placed, Fits, PlanHolds, IsUnattacked, IsPlan}
+use Rattle.cqa_model.specs.Variables.{after}
+use Rattle.cqa_model.specs.Partial.{view_of, AllFit}
+use Rattle.cqa_model.proofs.Fitting.{fits_tables}
+use Rattle.cqa_model.proofs.Classic.{mem-cases}
+use Rattle.cqa_model.proofs.Repairs.{shares-sym, shares-trans, shares-eq}
+use Rattle.cqa_model.proofs.Views.{view-in_range}
+use Rattle.cqa_model.proofs.Reification.{placed}
+use Rattle.cqa_model.proofs.Exactness.{fits_of}
+use Rattle.repair_back.specs.Flags.{IsFlagged, kept_of, kept_tables, flags_of, IsChoice, AreChosen}
+use Rattle.repair_back.specs.Mending.{IsKeptWitness, HasNone, Lacks, IsStep, IsReached, RowHolds}
+use Rattle.repair_back.specs.Walking.{Begins, IsBlock, MayFit}
+use Rattle.repair_back.proofs.Choosing.{flag-there, kept_of-into, kept_of-out, exchanged-choice, exchanged-here}
+use Rattle.repair_back.proofs.Keeping.{kept-atom}
+use Rattle.repair_back.proofs.Stepping.{reached-lacks, reached-joined, reached-self, reached-step, held-witness}
+
+cases_le : (x y : ℕ) → (x ≤ y) ⊎ (y < x)
+cases_le x y = grind arith
+
+-- a place of a row
+pub place-of : (rows : List (List Value)) (x : List Value) → Contains rows x → (i : ℕ) × (i < length rows) × (get_or rows i [] ≡ x)
+place-of rows x m = (m.0, m.1, get_or_default rows m.0 [] x m.1 ∙ m.2)
+
+module _ (q : Query) (db : List Table) (row : List Value) (taken : List Placed) (F : ℕ) where
+  -- rows of one block lack a key together
+  pub lacks-shared : (flags : List (List Bool)) (x y : List Value) → SharesKey (atom_key q F) x y → Lacks db q row taken F flags x → Lacks db q row taken F flags y
+  lacks-shared flags x y s lacks w h sh = lacks w h (shares-trans (atom_key q F) x y (row_at w F) s sh)
+
+  -- the blocks from one place to another were mended
+  pub record BlocksSoFar (old flags : List (List Bool)) (rows : List (List Value)) (start at : ℕ) : Type 0 where
+    pub chosen : AreChosen q db flags
+    pub reached : IsReached db q row taken old flags
+    pub begins : Begins (atom_key q F) rows at
+    pub lacks : (i : ℕ) → start ≤ i → i < at → Lacks db q row taken F flags (get_or rows i [])
+
+  -- rows of a block that were tried
+  pub record RowsSoFar (plan : List ℕ) (old flags : List (List Bool)) (rows : List (List Value)) (start end last next : ℕ) : Type 0 where
+    pub chosen : AreChosen q db flags
+    pub reached : IsReached db q row taken old flags
+    pub after : start ≤ last
+    pub before : last < end
+    pub is_kept : IsFlagged (flags_of q flags F) last
+    pub holds : RowHolds db q row taken F plan (get_or rows last [])
+    pub held : (i : ℕ) → start ≤ i → i < next → RowHolds db q row taken F plan (get_or rows i [])
+
+-- what is read at the place of an atom's table
+pub flags-read : (q : Query) (db : List Table) → FitsDatabase q db → (flags : List (List Bool)) → length flags ≡ length db → (F : ℕ) → F < length q.atoms → (t : ℕ) → t ≡ (atom_at q F).table →
+    (f : List Bool) → f ≡ get_or flags t f → f ≡ flags_of q flags F
+flags-read q db fits flags size F l t is f e =
+    let there = fits.there F l in
+    e ∙ get_or_default flags t f [] (omega (arith, there, is, size)) ∙ ap (λ u. get_or flags u []) is
+
+module _ (q : Query) (db : List Table) (flags : List (List Bool)) (chosen : AreChosen q db flags) (F : ℕ) (lF : F < length q.atoms) where
+  -- a block has a row that is kept
+  pub kept-in-block : (start end : ℕ) → IsBlock (atom_key q F) (rows_of q (stored db) F) start end → (p : ℕ) × (start ≤ p) × (p < end) × IsFlagged (flags_of q flags F) p
+  kept-in-block start end block =
+      let choice = chosen.each F lF in
+      let some = block.some in
+      let within = block.within in
+      let p = choice.some start (omega (arith, some, within)) in
+      let l : p.0 < length (rows_of q (stored db) F) = subst (λ n. p.0 < n) choice.size (flag-there (flags_of q flags F) p.0 p.1) in
+      let b = (block.exactly p.0 l).0 p.2 in
+      (p.0, b.0, b.1, p.1)
+
+  -- the row at a place that is flagged is kept
+  pub kept-row : (p : ℕ) → IsFlagged (flags_of q flags F) p → Contains (rows_of q (kept_tables (stored db) flags) F) (get_or (rows_of q (stored db) F) p [])
+  kept-row p f = subst (λ rows. Contains rows (get_or (rows_of q (stored db) F) p [])) (sym (kept-atom q db flags F))
+      (kept_of-into (rows_of q (stored db) F) (flags_of q flags F) p (subst (λ n. p < n) (chosen.each F lF).size (flag-there (flags_of q flags F) p f)) f)
+
+module _ (q : Query) (db : List Table) (fits : FitsDatabase q db) (row : List Value) (long : length row ≡ length q.answer) (taken : List Placed) (all : AllFit q row taken)
+    (F : ℕ) (hF : (view_of q taken).has F) where
+  -- a row of a witness fits
+  witness-fits : (flags : List (List Bool)) (w : List (List Value)) → IsKeptWitness db q row taken flags w → Fits q row taken F (row_at w F)
+  witness-fits flags w h = fits_of q (keys_of db) (stored db) (fits_tables q db fits) row long taken (kept_tables (stored db) flags) F (row_at w F) w (record {
+    size = h.size;
+    holds = h.holds;
+    answers = h.answers;
+    keeps = λ K p. h.keeps K p.0;
+    extends = λ t m. elim (mem-cases t (placed F (row_at w F)) taken m) [ inl e ↦ subst (λ u. row_at w u.atom ≡ u.row) e refl | inr n ↦ h.extends t n ];
+  })
+
+  pub blocks-none : (old : List (List Bool)) (rows : List (List Value)) (start end : ℕ) → AreChosen q db old → MayFit q row taken F rows start end → BlocksSoFar q db row taken F old old rows start start
+  blocks-none old rows start end chosen may = record {
+    chosen = chosen;
+    reached = reached-self q db fits row long taken old;
+    begins = may.begins;
+    lacks = λ i l b. absurd (omega (arith, l, b));
+  }
+
+  pub blocks-more : IsUnattacked q (view_of q taken) F → (old flags new : List (List Bool)) (rows : List (List Value)) (start at next : ℕ) → BlocksSoFar q db row taken F old flags rows start at →
+      IsBlock (atom_key q F) rows at next → Begins (atom_key q F) rows next → AreChosen q db new → IsReached db q row taken flags new → Lacks db q row taken F new (get_or rows at []) →
+      BlocksSoFar q db row taken F old new rows start next
+  blocks-more free old flags new rows start at next h block begins chosen reached lacks = record {
+    chosen = chosen;
+    reached = reached-joined q db fits row long taken old flags new h.reached reached;
+    begins = begins;
+    lacks = λ i l b. go i l b (cases_le at i);
+  }
+    where
+      go : (i : ℕ) → start ≤ i → i < next → (at ≤ i) ⊎ (i < at) → Lacks db q row taken F new (get_or rows i [])
+      go i l b (inl k) = let within = block.within in lacks-shared q db row taken F new (get_or rows at []) (get_or rows i []) ((block.exactly i (omega (arith, b, within))).1 (k, b)) lacks
+      go i l b (inr k) = reached-lacks q db fits row long taken all F hF free flags new h.chosen reached (get_or rows i []) (h.lacks i l k)
+
+  pub blocks-all : (old flags : List (List Bool)) (rows : List (List Value)) (start end at : ℕ) → rows ≡ rows_of q (stored db) F → MayFit q row taken F rows start end → BlocksSoFar q db row taken F old flags rows start at → end ≤ at →
+      HasNone db q row taken flags
+  blocks-all old flags rows start end at is may h le w hw =
+      go (kept_of-out (rows_of q (stored db) F) (flags_of q flags F) (row_at w F) (subst (λ kept. Contains kept (row_at w F)) (kept-atom q db flags F) (hw.keeps F hF)))
+    where
+      go : ((p : ℕ) × (p < length (rows_of q (stored db) F)) × IsFlagged (flags_of q flags F) p × (get_or (rows_of q (stored db) F) p [] ≡ row_at w F)) → ⊥
+      go (p, l, f, e) = cases (cases_le start p) (cases_le end p)
+        where
+          here : get_or rows p [] ≡ row_at w F
+          here = ap (λ (rs : List (List Value)). get_or rs p []) is ∙ e
+
+          lp : p < length rows
+          lp = subst (λ (rs : List (List Value)). p < length rs) (sym is) l
+
+          off : (p < start) ⊎ (end ≤ p) → ⊥
+          off o = may.others p lp o (subst (λ x. Fits q row taken F x) (sym here) (witness-fits flags w hw))
+
+          cases : (start ≤ p) ⊎ (p < start) → (end ≤ p) ⊎ (p < end) → ⊥
+          cases (inr b) d = off (inl b)
+          cases (inl b) (inl d) = off (inr d)
+          cases (inl b) (inr d) = h.lacks p b (omega (arith, d, le)) w hw (shares-eq (atom_key q F) (get_or rows p []) (row_at w F) here)
+
+  -- all rows of a block hold: so does the plan
+  pub block-holds : (plan : List ℕ) (rows : List (List Value)) (at next : ℕ) → rows ≡ rows_of q (stored db) F → IsBlock (atom_key q F) rows at next →
+      ((i : ℕ) → at ≤ i → i < next → RowHolds db q row taken F plan (get_or rows i [])) → PlanHolds q (stored db) row taken (F ∷ plan)
+  block-holds plan rows at next is block holds = (
+    get_or rows at [],
+    subst (λ (rs : List (List Value)). Contains rs (get_or rows at [])) is (Contains-get_or rows at [] (let some = block.some in let within = block.within in omega (arith, some, within))),
+    λ y my s. let p = place-of rows y (subst (λ (rs : List (List Value)). Contains rs y) (sym is) my) in
+        let b = (block.exactly p.0 p.1).0 (subst (λ z. SharesKey (atom_key q F) (get_or rows at []) z) (sym p.2) s) in
+        subst (λ z. RowHolds db q row taken F plan z) p.2 (holds p.0 b.0 b.1),
+  )
+
+  lF : F < length q.atoms
+  lF = view-in_range q taken F hF
+
+  module _ (plan : List ℕ) (is_plan : IsPlan q (Rattle.cqa_model.specs.Variables.after q (view_of q taken) F) plan) (rows : List (List Value)) (is : rows ≡ rows_of q (stored db) F)
+      (start end : ℕ) (block : IsBlock (atom_key q F) rows start end) where
+    -- one row is kept for another
+    module _ (flags new : List (List Bool)) (chosen : AreChosen q db flags) (last next : ℕ) (ll : start ≤ last) (lb : last < end) (nl : start ≤ next) (nb : next < end)
+        (kept : IsFlagged (flags_of q flags F) last) (holds : RowHolds db q row taken F plan (get_or rows last []))
+        (long_new : length new ≡ length flags) (size : length (flags_of q new F) ≡ length (flags_of q flags F))
+        (is_new : (p : ℕ) → IsFlagged (flags_of q new F) p ↔ ((p ≡ next) ⊎ (IsFlagged (flags_of q flags F) p × (p ≢ last))))
+        (others : (t : ℕ) → t ≢ (atom_at q F).table → get_or new t [] ≡ get_or flags t []) where
+      stored_rows : List (List Value)
+      stored_rows = rows_of q (stored db) F
+
+      block' : IsBlock (atom_key q F) (rows_of q (stored db) F) start end
+      block' = subst (λ rs. IsBlock (atom_key q F) rs start end) is block
+
+      shares : SharesKey (atom_key q F) (get_or (rows_of q (stored db) F) last []) (get_or (rows_of q (stored db) F) next [])
+      shares = let within = block'.within in shares-trans (atom_key q F) (get_or (rows_of q (stored db) F) last []) (get_or (rows_of q (stored db) F) start []) (get_or (rows_of q (stored db) F) next [])
+          (shares-sym (atom_key q F) (get_or (rows_of q (stored db) F) start []) (get_or (rows_of q (stored db) F) last []) ((block'.exactly last (omega (arith, lb, within))).1 (ll, lb)))
+          ((block'.exactly next (omega (arith, nb, within))).1 (nl, nb))
+
+      same : (H : ℕ) → H < length q.atoms → H ≢ F → flags_of q new H ≡ flags_of q flags H
+      same H l ne = others (atom_at q H).table (λ e. ne (q.kept.apart H F l lF e))
+
+      pub kept-chosen : AreChosen q db new
+      kept-chosen = record { size = long_new ∙ chosen.size; each = λ H l. go H l (ℕ_discrete H F) }
+        where
+          go : (H : ℕ) → H < length q.atoms → Dec (H ≡ F) → IsChoice (atom_key q H) (rows_of q (stored db) H) (flags_of q new H)
+          go H l (yes e) = subst (λ G. IsChoice (atom_key q G) (rows_of q (stored db) G) (flags_of q new G)) (sym e)
+              (exchanged-choice (atom_key q F) (rows_of q (stored db) F) (flags_of q flags F) (flags_of q new F) last next size kept shares (chosen.each F lF) is_new)
+          go H l (no ne) = subst (λ f. IsChoice (atom_key q H) (rows_of q (stored db) H) f) (sym (same H l ne)) (chosen.each H l)
+
+      held' : RowHolds db q row taken F plan (get_or (rows_of q (stored db) F) last [])
+      held' = subst (λ (rs : List (List Value)). RowHolds db q row taken F plan (get_or rs last [])) is holds
+
+      kept-step : IsStep db q row taken flags new
+      kept-step = go (held-witness q db fits row long taken all F hF (get_or (rows_of q (stored db) F) last []) flags chosen (kept-row q db flags chosen F lF last kept) plan is_plan held')
+        where
+          go : ((w : List (List Value)) × IsKeptWitness db q row taken flags w × (row_at w F ≡ get_or (rows_of q (stored db) F) last [])) → IsStep db q row taken flags new
+          go (w, hw, e) = record {
+            witness = w;
+            atom = F;
+            into = get_or (rows_of q (stored db) F) next [];
+            is_kept = hw;
+            has = hF;
+            there = Contains-get_or (rows_of q (stored db) F) next [] (let within = block'.within in omega (arith, nb, within));
+            shares = subst (λ z. SharesKey (atom_key q F) z (get_or (rows_of q (stored db) F) next [])) (sym e) shares;
+            here = λ x m. here x (exchanged-here (atom_key q F) (rows_of q (stored db) F) (flags_of q flags F) (flags_of q new F) last next size kept shares (chosen.each F lF) is_new x (subst (λ rs. Contains rs x) (kept-atom q db new F) m));
+            elsewhere = same;
+          }
+            where
+              here : (x : List Value) → (x ≡ get_or (rows_of q (stored db) F) next []) ⊎ Contains (kept_of (rows_of q (stored db) F) (flags_of q flags F)) x →
+                  (x ≡ get_or (rows_of q (stored db) F) next []) ⊎ Contains (rows_of q (kept_tables (stored db) flags) F) x
+              here x (inl e) = inl e
+              here x (inr n) = inr (subst (λ rs. Contains rs x) (sym (kept-atom q db flags F)) n)
+
+      pub kept-reached : IsReached db q row taken flags new
+      kept-reached = reached-step q db fits row long taken flags new kept-step kept-chosen
+
+      pub kept-next : Contains (rows_of q (kept_tables (stored db) new) F) (get_or (rows_of q (stored db) F) next [])
+      kept-next = kept-row q db new kept-chosen F lF next ((is_new next).1 (inl refl))
+
+    -- the same of rows that were tried
+    pub record Turned (old flags new : List (List Bool)) (next : ℕ) : Type 0 where
+      pub chosen : AreChosen q db new
+      pub reached : IsReached db q row taken old new
+      pub next_kept : Contains (rows_of q (kept_tables (stored db) new) F) (get_or rows next [])
+
+    pub turned : (old flags new : List (List Bool)) (last next : ℕ) → RowsSoFar q db row taken F plan old flags rows start end last next → start ≤ next → next < end →
+        length new ≡ length flags → length (flags_of q new F) ≡ length (flags_of q flags F) →
+        ((p : ℕ) → IsFlagged (flags_of q new F) p ↔ ((p ≡ next) ⊎ (IsFlagged (flags_of q flags F) p × (p ≢ last)))) →
+        ((t : ℕ) → t ≢ (atom_at q F).table → get_or new t [] ≡ get_or flags t []) → Turned old flags new next
+    turned old flags new last next h nl nb long_new size is_new others = record {
+      chosen = kept-chosen flags new h.chosen last next h.after h.before nl nb h.is_kept h.holds long_new size is_new others;
+      reached = reached-joined q db fits row long taken old flags new h.reached (kept-reached flags new h.chosen last next h.after h.before nl nb h.is_kept h.holds long_new size is_new others);
+      next_kept = subst (λ (rs : List (List Value)). Contains (rows_of q (kept_tables (stored db) new) F) (get_or rs next [])) (sym is)
+          (kept-next flags new h.chosen last next h.after h.before nl nb h.is_kept h.holds long_new size is_new others);
+    }
+
+    -- a row was mended after it
+    pub rows-turned : (old flags new later : List (List Bool)) (last next : ℕ) → RowsSoFar q db row taken F plan old flags rows start end last next → Turned old flags new next → start ≤ next → next < end →
+        ((p : ℕ) → IsFlagged (flags_of q new F) p ↔ ((p ≡ next) ⊎ (IsFlagged (flags_of q flags F) p × (p ≢ last)))) →
+        AreChosen q db later → IsReached db q row taken new later → flags_of q later F ≡ flags_of q new F → RowHolds db q row taken F plan (get_or rows next []) →
+        RowsSoFar q db row taken F plan old later rows start end next (next + 1)
+    rows-turned old flags new later last next h t nl nb is_new chosen reached same holds = record {
+      chosen = chosen;
+      reached = reached-joined q db fits row long taken old new later t.reached reached;
+      after = nl;
+      before = nb;
+      is_kept = subst (λ f. IsFlagged f next) (sym same) ((is_new next).1 (inl refl));
+      holds = holds;
+      held = λ i l b. held-more i l b (cases_le next i);
+    }
+      where
+        held-more : (i : ℕ) → start ≤ i → i < next + 1 → (next ≤ i) ⊎ (i < next) → RowHolds db q row taken F plan (get_or rows i [])
+        held-more i l b (inr k) = h.held i l k
+        held-more i l b (inl k) = subst (λ j. RowHolds db q row taken F plan (get_or rows j [])) (let e : next ≡ i = omega (arith, k, b) in e) holds
+
+-- what is read of rows
+pub row-read : (rows : List (List Value)) (i : ℕ) (x : List Value) → i < length rows → x ≡ get_or rows i x → x ≡ get_or rows i []
+row-read rows i x l e = e ∙ get_or_default rows i x [] l
+
+module _ (q : Query) (db : List Table) (row : List Value) (taken : List Placed) (F : ℕ) (plan : List ℕ) where
+  -- a row that holds is passed over
+  pub rows-skip : (old flags : List (List Bool)) (rows : List (List Value)) (start end last next : ℕ) → RowsSoFar q db row taken F plan old flags rows start end last next →
+      RowHolds db q row taken F plan (get_or rows next []) → RowsSoFar q db row taken F plan old flags rows start end last (next + 1)
+  rows-skip old flags rows start end last next h holds = record {
+    chosen = h.chosen;
+    reached = h.reached;
+    after = h.after;
+    before = h.before;
+    is_kept = h.is_kept;
+    holds = h.holds;
+    held = λ i l b. held-more i l b (cases_le next i);
+  }
+    where
+      held-more : (i : ℕ) → start ≤ i → i < next + 1 → (next ≤ i) ⊎ (i < next) → RowHolds db q row taken F plan (get_or rows i [])
+      held-more i l b (inr k) = h.held i l k
+      held-more i l b (inl k) = subst (λ j. RowHolds db q row taken F plan (get_or rows j [])) (let e : next ≡ i = omega (arith, k, b) in e) holds
+
+  -- a block lacks its key where one of its rows does
+  pub block-lacks : (flags : List (List Bool)) (rows : List (List Value)) (start end p : ℕ) → IsBlock (atom_key q F) rows start end → start ≤ p → p < end →
+      Lacks db q row taken F flags (get_or rows p []) → Lacks db q row taken F flags (get_or rows start [])
+  block-lacks flags rows start end p block l b lacks =
+      let within = block.within in
+      lacks-shared q db row taken F flags (get_or rows p []) (get_or rows start [])
+      (shares-sym (atom_key q F) (get_or rows start []) (get_or rows p []) ((block.exactly p (omega (arith, b, within))).1 (l, b))) lacks
+
+-- the row at a place that is flagged is kept
+pub kept-read : (q : Query) (db : List Table) (flags : List (List Bool)) → AreChosen q db flags → (F : ℕ) → F < length q.atoms → (rows : List (List Value)) → rows ≡ rows_of q (stored db) F →
+    (p : ℕ) → IsFlagged (flags_of q flags F) p → (x : List Value) → x ≡ get_or rows p [] → Contains (rows_of q (kept_tables (stored db) flags) F) x
+kept-read q db flags chosen F lF rows is p f x e =
+    subst (λ z. Contains (rows_of q (kept_tables (stored db) flags) F) z) (ap (λ (rs : List (List Value)). get_or rs p []) (sym is) ∙ sym e) (kept-row q db flags chosen F lF p f)

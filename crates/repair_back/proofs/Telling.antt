@@ -1,0 +1,83 @@
+-- Rows outside of the span of the told key values don't fit.
+use Rattle.std.proofs.Common.{◌≡◌, ℕ, zero, suc, ◌+◌, ◌<◌, ◌≤◌, ◌⊎◌, inl, inr, List, [], ◌∷◌, ◌++◌, length, get_or, take, refl, ap, sym, ◌∙◌, subst, arith, Contains, length-append}
+use Rattle.std.proofs.lemmas.List.Elements.{All-contains, Contains-get_or}
+use Rattle.cqa_value.specs.declared.value.Value.{Value}
+use Rattle.cqa_value.specs.Values.{nothing}
+use Rattle.cqa_model.specs.declared.query.Query.{Query}
+use Rattle.cqa_model.specs.Database.{key_of}
+use Rattle.cqa_model.specs.Repairs.{SharesKey}
+use Rattle.cqa_model.specs.Query.{atom_key}
+use Rattle.cqa_model.specs.Plan.{Placed, Fits}
+use Rattle.cqa_model.proofs.Classic.{mem-head, mem-tail}
+use Rattle.table_blocks.specs.Spans.{first_key, IsSpan}
+use Rattle.repair_back.specs.Walking.{MayFit}
+
+-- rows of one key have the same first key values
+same-first_key : (key : List ℕ) (probe x y : List Value) → SharesKey key x y → first_key key probe x ≡ first_key key probe y
+same-first_key key probe x y s = go (length probe) key s
+  where
+    go : (n : ℕ) (ks : List ℕ) → SharesKey ks x y → key_of (take n ks) x ≡ key_of (take n ks) y
+    go zero ks h = refl
+    go (suc n) [] h = refl
+    go (suc n) (k ∷ ks) h =
+        let e : get_or x k nothing ≡ get_or y k nothing = h k (mem-head k ks) in
+        let es : key_of (take n ks) x ≡ key_of (take n ks) y = go n ks (λ p m. h p (mem-tail p k ks m)) in
+        cc
+
+at-front : (xs ys : List (List Value)) (i : ℕ) → i < length xs → get_or (xs ++ ys) i [] ≡ get_or xs i []
+at-front [] ys i l = absurd (omega (arith, l))
+at-front (x ∷ xs) ys zero l = refl
+at-front (x ∷ xs) ys (suc i) l = at-front xs ys i (omega (arith, l))
+
+at-back : (xs ys : List (List Value)) (i : ℕ) → get_or (xs ++ ys) (length xs + i) [] ≡ get_or ys i []
+at-back [] ys i = ap (λ k. get_or ys k []) (let e : 0 + i ≡ i = omega arith in e)
+at-back (x ∷ xs) ys i = ap (λ k. get_or (x ∷ xs ++ ys) k []) (let e : length (x ∷ xs) + i ≡ suc (length xs + i) = omega arith in e) ∙ at-back xs ys i
+
+module _ (q : Query) (row : List Value) (taken : List Placed) (F : ℕ) (rows : List (List Value)) (values : List Value) (start : ℕ) (span : List (List Value))
+    (s : IsSpan (atom_key q F) rows values start span) (told : (x : List Value) → Fits q row taken F x → first_key (atom_key q F) values x ≡ values) where
+  key : List ℕ
+  key = atom_key q F
+
+  outside : (i : ℕ) → i < length rows → (i < start) ⊎ (start + length span ≤ i) → first_key (atom_key q F) values (get_or rows i []) ≡ values → ⊥
+  outside i l (inl b) e =
+      let place = s.place in
+      let lb : i < length s.before = omega (arith, b, place) in
+      All-contains (λ r. first_key (atom_key q F) values r ≡ values → ⊥) s.before (get_or s.before i []) s.none_before (Contains-get_or s.before i [] lb)
+      (subst (λ r. first_key (atom_key q F) values r ≡ values) (ap (λ rs. get_or rs i []) s.parts ∙ at-front s.before (span ++ s.behind) i lb) e)
+  outside i l (inr b) e = go (rest i b)
+    where
+      rest : (i : ℕ) → start + length span ≤ i → (k : ℕ) × (i ≡ length s.before + (length span + k))
+      rest i b = let place = s.place in (Rattle.std.proofs.Common.◌-◌ i (start + length span), (let z : i ≡ length s.before + (length span + (Rattle.std.proofs.Common.◌-◌ i (start + length span))) = omega (arith, b, place) in z))
+
+      go : ((k : ℕ) × (i ≡ length s.before + (length span + k))) → ⊥
+      go (k, ek) =
+          let here : get_or rows i [] ≡ get_or s.behind k [] = ap (λ rs. get_or rs i []) s.parts ∙ ap (λ n. get_or (s.before ++ (span ++ s.behind)) n []) ek ∙ at-back s.before (span ++ s.behind) (length span + k) ∙ at-back span s.behind k in
+          let lr = ap length s.parts in
+          let la = length-append s.before (span ++ s.behind) in
+          let lb = length-append span s.behind in
+          let lk : k < length s.behind = omega (arith, l, ek, lr, la, lb) in
+          All-contains (λ r. first_key (atom_key q F) values r ≡ values → ⊥) s.behind (get_or s.behind k []) s.none_behind (Contains-get_or s.behind k [] lk)
+          (subst (λ r. first_key (atom_key q F) values r ≡ values) here e)
+
+  pub span-fits : 0 < length span → MayFit q row taken F rows start (start + length span)
+  span-fits some = record {
+    within = let place = s.place in let lr = ap length s.parts in let la = length-append s.before (span ++ s.behind) in let lb = length-append span s.behind in omega (arith, place, lr, la, lb);
+    begins = λ i b l sh. outside i (omega (arith, b, l)) (inl b) (same-first_key (atom_key q F) values (get_or rows i []) (get_or rows start []) sh ∙ first);
+    others = λ i l o f. outside i l o (told (get_or rows i []) f);
+  }
+    where
+      first : first_key (atom_key q F) values (get_or rows start []) ≡ values
+      first = let place = s.place in
+          let here : get_or rows start [] ≡ get_or span 0 [] = ap (λ rs. get_or rs start []) s.parts
+          ∙ ap (λ n. get_or (s.before ++ (span ++ s.behind)) n []) (let z : start ≡ length s.before + 0 = omega (arith, place) in z) ∙ at-back s.before (span ++ s.behind) 0 ∙ at-front span s.behind 0 some in
+          subst (λ r. first_key (atom_key q F) values r ≡ values) (sym here) (All-contains (λ r. first_key (atom_key q F) values r ≡ values) span (get_or span 0 []) s.these (Contains-get_or span 0 [] some))
+
+  pub none-fits : length span ≡ 0 → MayFit q row taken F rows 0 0
+  none-fits none = record {
+    within = omega arith;
+    begins = λ i b. absurd (omega (arith, b));
+    others = λ i l o f. outside i l (side i) (told (get_or rows i []) f);
+  }
+    where
+      side : (i : ℕ) → (i < start) ⊎ (start + length span ≤ i)
+      side i = grind (arith, none)

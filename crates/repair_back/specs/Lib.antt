@@ -1,0 +1,4 @@
+pub mod Flags
+pub mod Mending
+pub mod Walking
+pub mod Results

@@ -1,0 +1,16 @@
+//! Repairs that hold no witness of a row: by mending, where the query has a plan, or from a model of the row's formula.
+#![tactic(auto)]
+
+mod atoms;
+mod blocks;
+mod choice;
+mod from_models;
+mod kept;
+mod mending;
+mod repair;
+mod rivals;
+
+pub use from_models::from_model;
+pub use mending::mend;
+pub use repair::Repair;
+pub use rivals::contested;

@@ -1,0 +1,57 @@
+//! Which rows of a repair were chosen: those whose blocks have another row.
+
+ghost use Rattle.std.specs.Prelude.{◌≡◌, ◌<◌, IfOk, length, [], slice_index_or};
+ghost use Rattle.std.specs.List.Sorted.{IsStrictlySortedBy};
+ghost use Rattle.cqa_model.specs.Database.{stored, block_cmp};
+ghost use Rattle.repair_back.specs.Results.{is_contested, is_contested_in, contested_of, AreStored};
+
+use crate::blocks::goes_on;
+use crate::repair::Repair;
+use cqa_model::RowId;
+use cqa_value::{Items, NoMemory, Row};
+use std::alloc::Global;
+use table_blocks::Database;
+
+/// Whether another row is of the block of the row at a place.
+fn has_rival(rows: &[Row], key: &[u32], place: usize) -> bool
+    requires order { IsStrictlySortedBy (block_cmp key.now) rows.now }
+    requires there { place < length rows.now }
+    ensures { result ≡ is_contested key.now rows.now (slice_index_or rows.now place []) }
+{
+    if goes_on(rows, key, place, place + 1) {
+        return true;
+    }
+    if place == 0 {
+        return false;
+    }
+    goes_on(rows, key, place, place - 1)
+}
+
+/// Whether another row is of the block of the row with a name.
+fn is_rivalled(db: &Database, name: RowId) -> bool
+    requires table { name.table < length db.now }
+    requires place { name.place < length (slice_index_or (stored db.now) name.table []) }
+    ensures { result ≡ is_contested_in db.now name }
+{
+    let key = db.schema(name.table).key.as_slice();
+    has_rival(db.rows(name.table), key, name.place as usize)
+}
+
+/// The names of the rows that a repair keeps of blocks of two or more rows, in its order.
+///
+/// # Errors
+///
+/// `NoMemory` where memory is refused.
+pub fn contested(alloc: Global, db: &Database, repair: &Repair) -> Result<Items<RowId>, NoMemory>
+    requires { AreStored db.now repair.now.kept }
+    ensures { IfOk result (λ names. names ≡ contested_of db.now repair.now.kept) }
+{
+    let mut names = Items::new(alloc);
+    for name in repair.kept.as_slice() {
+        if !is_rivalled(db, *name) {
+            continue;
+        }
+        names.push(*name)?;
+    }
+    Ok(names)
+}
