@@ -1,0 +1,9 @@
+pub mod Mutual
+pub mod Sharing
+pub mod Parts
+pub mod Begins
+pub mod Walking
+pub mod RowStarts
+pub mod Listing
+pub mod Decided
+pub mod Numbers

@@ -1,0 +1,7 @@
+use Rattle.std.proofs.Common.{◌≡◌, take, map, filter_map}
+use Rattle.cqa_model.specs.Database.{stored}
+use Rattle.pair_answers.specs.Kept.{id_of}
+use Rattle.pair_answers.proofs.deciding.ids.Given as goal
+
+abbrev pub invariant-loop-row : goal.invariant-loop-row
+invariant-loop-row l = l.ids ≡ map (id_of l.query (stored l.db)) (filter_map (λ row. row) (take l.row-index l.own))

@@ -1,0 +1,13 @@
+//! Queries of two tables that attack each other weakly, decided without a search.
+//! A row of one is certain, or a repair is found that holds no witness of it, in a time linear in the tables' rows.
+#![tactic(auto)]
+
+mod deciding;
+mod fits;
+mod lists;
+mod pair;
+mod shared;
+mod starts;
+
+pub use deciding::{Kept, decide};
+pub use pair::is_pair;

@@ -1,0 +1,6 @@
+pub mod Pairs
+pub mod Peeling
+pub mod Numbering
+pub mod Outcomes
+pub mod EdgeNumbers
+pub mod Layout

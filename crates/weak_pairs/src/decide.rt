@@ -1,0 +1,45 @@
+//! Deciding numbered rows.
+//! Edges are numbered, their ends found, and a row is chosen of each block, all in a time linear in the rows but for a map.
+
+ghost use Rattle.std.specs.Prelude.{◌≡◌, ◌+◌, ◌<◌, ◌^◌, IfOk, length};
+ghost use Rattle.weak_pairs.specs.Outcomes.{AreSided, AreStarts, IsDecided};
+
+use crate::edge_map::edge_numbers;
+use crate::layout::edge_ends;
+use crate::peel::{Outcome, choose};
+use cqa_value::{NoMemory, Row};
+use std::alloc::Global;
+
+/// What is decided of a row: it is certain, or these rows, one of each block, are kept in a repair without a witness of it.
+#[derive(Drop)]
+pub enum Decision {
+    Certain,
+    Rejected(Vec<Option<u32>>),
+}
+
+/// `Certain` where some block is left without an edge. Else the row that each
+/// block keeps in a repair without a witness.
+///
+/// # Errors
+///
+/// `NoMemory` where memory is refused.
+pub fn decide_rows(
+    alloc: Global,
+    lists: &[Option<Row>],
+    start: &[u32],
+    blocks: u32,
+    split: u32,
+) -> Result<Decision, NoMemory>
+    requires few { length lists.now < 2 ^ 32 }
+    requires blocks { blocks + 1 ≡ length start.now }
+    requires starts { AreStarts start.now (length lists.now) }
+    requires sided { AreSided lists.now start.now split }
+    ensures { IfOk result (IsDecided lists.now start.now) }
+{
+    let (edge, count) = edge_numbers(alloc, lists)?;
+    let ends = edge_ends(alloc, start, &edge, blocks, split, count)?;
+    match choose(alloc, start, &edge, &ends, blocks)? {
+        Outcome::Blocked(_, _) => Ok(Decision::Certain),
+        Outcome::Chosen(own) => Ok(Decision::Rejected(own)),
+    }
+}
