@@ -1,6 +1,6 @@
 //! The script.
 
-ghost use Rattle.std.specs.Prelude.{◌≡◌, ◌++◌, ◌≤◌, [], IfOk, OnOk};
+ghost use Rattle.std.specs.Prelude.{◌≡◌, ◌++◌, ◌≤◌, [], IfOk, OnOk, length};
 ghost use Rattle.case_maker.specs.Scripts.{script_bytes};
 
 use crate::lines::{Part, append_part};
@@ -51,7 +51,8 @@ fn append_script(size: u32, out: &mut Vec<u8>) -> Result<(), NoMemory>
 pub fn script_of(alloc: Global, size: u32) -> Result<Vec<u8>, NoMemory>
     requires some { 1 ≤ size }
     requires few { size ≤ GREATEST_SIZE }
-    ensures { IfOk result (λ text. text.items ≡ script_bytes size) }
+    ensures text { IfOk result (λ text. text.items ≡ script_bytes size) }
+    ensures short { IfOk result (λ text. length text.items ≤ 268_435_456) }
 {
     let mut out = Vec::new(alloc);
     append_script(size, &mut out)?;

@@ -8,7 +8,7 @@ use Rattle.csv.specs.declared.parser.State.TheVariants.{StartRecord}
 use Rattle.cqa_value.specs.declared.value.Kind.{Kind}
 use Rattle.cqa_value.specs.declared.value.Value.{Value}
 use Rattle.cqa_value.specs.declared.value.Value.TheVariants.{Int, Text}
-use Rattle.csv_rows.specs.Blocks.{HoldsRows, IsFieldOf, IsFirstBad, IsRecordOf, ReadsInOneWay}
+use Rattle.csv_rows.specs.Blocks.{IsFieldOf, IsRecordOf, ReadsInOneWay}
 
 some_same : {A : Type 0} (x y : A) → Some x ≡ Some y → x ≡ y
 some_same x y e = cc e

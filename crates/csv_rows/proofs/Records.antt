@@ -1,5 +1,5 @@
 -- A record and the row of its fields' values.
-use Rattle.std.proofs.Common.{◌≡◌, ◌++◌, ◌∷◌, ◌<◌, ◌≤◌, [], ℕ, zero, suc, List, Some, None, refl, sym, ap, subst, length, take, slice_index_or, arith}
+use Rattle.std.proofs.Common.{◌≡◌, ◌++◌, ◌∷◌, ◌<◌, [], ℕ, zero, suc, List, Some, None, refl, sym, ap, subst, length, take, slice_index_or, arith}
 use Rattle.csv.specs.Records.{field_at}
 use Rattle.cqa_value.specs.declared.value.Value.{Value}
 use Rattle.cqa_model.specs.declared.schema.Column.{Column}

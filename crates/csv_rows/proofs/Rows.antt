@@ -1,5 +1,5 @@
 -- The records of a block and the rows that they are.
-use Rattle.std.proofs.Common.{◌≡◌, ◌++◌, ◌∷◌, [], List}
+use Rattle.std.proofs.Common.{◌++◌, ◌∷◌, [], List}
 use Rattle.std.specs.List.{AllZip}
 
 -- one more pair

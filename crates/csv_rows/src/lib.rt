@@ -2,12 +2,14 @@
 //! same rows.
 #![tactic(auto)]
 
+mod ends;
 mod field;
 mod laws;
 mod reading;
 mod record;
 mod writing;
 
+pub use ends::row_has_end;
 pub use laws::a_block_reads_in_one_way;
 pub use reading::read_rows;
-pub use writing::write_rows;
+pub use writing::{append_block, write_rows};

@@ -18,7 +18,12 @@ fn schema(alloc: Global, kind: Kind) -> Result<Schema, Fault<NameFault>> {
     columns.push(column)?;
     let mut key = Items::new(alloc);
     key.push(0)?;
-    Ok(Schema { name, columns, key })
+    Ok(Schema {
+        name,
+        columns,
+        key,
+        strict: false,
+    })
 }
 
 /// What a block's rows are written as, or the number of its first record that is no row.

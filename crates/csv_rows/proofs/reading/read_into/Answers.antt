@@ -1,6 +1,6 @@
-use Rattle.std.proofs.Common.{◌≡◌, ◌++◌, ◌∷◌, ◌∙◌, ◌+◌, [], Some, length, sym, refl, arith}
+use Rattle.std.proofs.Common.{◌++◌, ◌∷◌, ◌∙◌, [], Some, sym, refl, arith}
 use Rattle.std.proofs.lemmas.List.{length-append}
-use Rattle.csv.specs.Reading.{ReadRecord, Reached, default_config, reader_source, reader_state, strip_bom}
+use Rattle.csv.specs.Reading.{Reached, default_config, reader_source, reader_state, strip_bom}
 use Rattle.csv.specs.Records.{fields_of}
 use Rattle.csv.specs.declared.parser.State.TheVariants.{StartRecord}
 use Rattle.csv.proofs.ReadFacts.{rows-end, rows-more}

@@ -1,4 +1,4 @@
-use Rattle.std.proofs.Common.{◌≡◌, ◌++◌, ◌∷◌, ◌∙◌, ◌+◌, ◌<◌, ◌≤◌, [], ℕ, suc, take, length, sym, ap, subst, arith, rules, refl}
+use Rattle.std.proofs.Common.{◌≡◌, ◌++◌, ◌∷◌, ◌∙◌, ◌+◌, ◌≤◌, [], suc, take, length, sym, subst, arith, refl}
 use Rattle.std.proofs.lemmas.List.{length-append, length-map, take_all}
 use Rattle.csv.specs.Records.{fields_of}
 use Rattle.csv_rows.specs.Blocks.{IsRecordOf, kinds}

@@ -1,4 +1,4 @@
-use Rattle.std.proofs.Common.{◌≡◌, [], map, take, All}
+use Rattle.std.proofs.Common.{◌≡◌, [], map, take}
 use Rattle.csv.specs.Records.{fields_of, partial_of}
 use Rattle.cqa_value.specs.Valid.{IsValidRow}
 use Rattle.csv_rows.specs.Texts.{value_bytes}

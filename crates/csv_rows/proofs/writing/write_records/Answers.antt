@@ -1,7 +1,6 @@
 use Rattle.std.proofs.Common.{◌≡◌, ◌++◌, ◌∷◌, ◌∙◌, ◌+◌, [], All, map, take, sym, ap, subst, arith}
 use Rattle.std.proofs.lemmas.List.{flat_map_more, take_all, take_more}
 use Rattle.std.proofs.lemmas.List.Elements.{All-nil, All-push}
-use Rattle.std.specs.List.{flat_map}
 use Rattle.csv.specs.Records.{fields_of}
 use Rattle.csv.specs.Writing.{row_text}
 use Rattle.cqa_value.specs.Valid.{IsValidRow}
