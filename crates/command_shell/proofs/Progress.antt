@@ -1,12 +1,13 @@
 -- How the answers to an input go on, statement by statement.
-use Rattle.std.proofs.Common.{◌≡◌, ◌⊎◌, inl, inr, ℕ, ◌+◌, Bool, true, false, ◌||◌, List, [], ◌∷◌, ◌++◌, take, drop, Option, Result, Ok, Err, IsErrAnd, refl, sym, ap, ◌∙◌, subst, append_assoc, append-nil}
+use Rattle.std.proofs.Common.{◌≡◌, ◌⊎◌, inl, inr, ℕ, Bool, true, false, ◌||◌, List, [], ◌∷◌, ◌++◌, take, drop, Option, Result, Ok, Err, IsErrAnd, refl, sym, ap, ◌∙◌, subst, append_assoc, append-nil}
 use Rattle.std.proofs.lemmas.List.{take-append-drop}
 use Rattle.std.specs.Io.KnownBytes.{Appends, Keeps}
 use Rattle.std.proofs.KnownBytes.{Appends-nil, Appends-trans, Appends-kept}
 use Rattle.script_lex.specs.declared.kinds.Span.{Span}
 use Rattle.script_lex.specs.declared.cutting.Cut.TheVariants as cuts
+use Rattle.script_lex.specs.declared.modes.Mode.TheVariants.{Outside}
 use Rattle.script_lex.specs.Scripts.{Statement, statement_at, Begins, IsCut, IsSpace, HasNoStatement}
-use Rattle.script_lex.proofs.Statements.{Begins-statement, Cuts-part, space_over}
+use Rattle.script_lex.proofs.Statements.{Begins-push, Cuts-end, Cuts-part, first_statement, space_over}
 use Rattle.cqa_model.specs.declared.refusal.Refusal.TheVariants.{Unfinished}
 use Rattle.reply_text.specs.declared.reply.Reply.{Reply}
 use Rattle.reply_text.specs.declared.reply.Reply.TheVariants.{Refused}
@@ -52,6 +53,9 @@ closes_blank : (e : Bool) (rest : List ℕ) → IsSpace rest → Closes e rest [
 closes_blank true rest blank = blank
 closes_blank false rest blank = refl
 
+empty_space : IsSpace []
+empty_space = record { ends = Outside; leads = refl; whole = λ e. absurd (cc e) }
+
 -- what is written of a text, and what isn't
 parted : (xs : List Reply) (y : Reply) (n : ℕ) → text_of (xs ++ y ∷ []) ≡ (text_of xs ++ take n (reply_text y)) ++ drop n (reply_text y)
 parted xs y n = sym (text_of-push xs y) ∙ ap (λ l. text_of xs ++ l) (sym (take-append-drop n (reply_text y))) ∙ sym (append_assoc (text_of xs) (take n (reply_text y)) (drop n (reply_text y)))
@@ -70,16 +74,16 @@ start old input ended held = record { statements = []; replies = []; begins = re
 
 module _ {old : State} {input : List ℕ} {ended : Bool} {now : State} {refused : Bool} {held_old held_now : Option (List ℕ)} where
   -- one statement more is answered
-  pub more : (place : ℕ) (held_new : Option (List ℕ)) (new : State) (r : Bool) (rose : Type 0) (text : Span) (block : Option Span) (at : ℕ)
-      → SoFar old input ended (drop place input) now refused held_old held_now → IsCut ended (drop place input) (cuts.Statement text block at)
-      → AnswerRow (Ok r) rose held_now held_new now (statement_at (drop place input) text block) new
-      → SoFar old input ended (drop (place + at) input) new (refused || r) held_old held_new
-  more place held_new new r rose text block at s cut row =
-      let statement = statement_at (drop place input) text block in
+  pub more : (rest : List ℕ) (held_new : Option (List ℕ)) (new : State) (r : Bool) (rose : Type 0) (text : Span) (block : Option Span) (at : ℕ)
+      → SoFar old input ended rest now refused held_old held_now → IsCut ended rest (cuts.Statement text block at)
+      → AnswerRow (Ok r) rose held_now held_new now (statement_at rest text block) new
+      → SoFar old input ended (drop at rest) new (refused || r) held_old held_new
+  more rest held_new new r rose text block at s cut row =
+      let statement = statement_at rest text block in
       record {
         statements = s.statements ++ statement ∷ [];
         replies = s.replies ++ row.0 ∷ [];
-        begins = Begins-statement ended input s.statements place text block at s.begins cut;
+        begins = Begins-push ended input s.statements rest (statement_at rest text block) (drop at rest) s.begins (first_statement ended rest text block at cut);
         run = Run-push old s.statements s.replies now statement row.0 new s.run row.1;
         written = subst (Appends held_old held_new) (text_of-push s.replies row.0) (Appends-trans held_old held_now held_new (text_of s.replies) (reply_text row.0) s.written row.2);
         refused_is = ap (λ b. b || r) s.refused_is ∙ ap (λ b. has_refusal s.replies || b) row.3 ∙ sym (has_refusal-push s.replies row.0);
@@ -87,7 +91,7 @@ module _ {old : State} {input : List ℕ} {ended : Bool} {now : State} {refused 
 
   -- nothing is left to answer
   done : (rest : List ℕ) → SoFar old input ended rest now refused held_old held_now → HasNoStatement ended rest → Closes ended rest []
-      → (written : List ℕ) × Appends held_old held_now written × Answers old input ended now written refused
+      → ProgressRow (Ok refused) (Unit {0}) held_old held_now old input ended now rest
   done rest s over closes = (
     text_of s.replies,
     s.written,
@@ -97,17 +101,18 @@ module _ {old : State} {input : List ℕ} {ended : Bool} {now : State} {refused 
       written_is = refl;
       refused_is = s.refused_is;
     },
+    refl,
   )
 
-  pub done_blank : (rest : List ℕ) → SoFar old input ended rest now refused held_old held_now → IsSpace rest → (written : List ℕ) × Appends held_old held_now written × Answers old input ended now written refused
+  pub done_blank : (rest : List ℕ) → SoFar old input ended rest now refused held_old held_now → IsSpace rest → ProgressRow (Ok refused) (Unit {0}) held_old held_now old input ended now rest
   done_blank rest s blank = done rest s (space_over ended rest blank) (closes_blank ended rest blank)
 
   -- a statement found no memory, before it did anything or after it
-  pub short_of_memory : (place : ℕ) (at_end : Type 0) (held_new : Option (List ℕ)) (new : State) (text : Span) (block : Option Span) (at : ℕ) → (ended ≡ true → at_end)
-      → SoFar old input ended (drop place input) now refused held_old held_now → IsCut ended (drop place input) (cuts.Statement text block at)
-      → ((new ≡ now) ⊎ ((reply : Reply) × Step now (statement_at (drop place input) text block).0 (statement_at (drop place input) text block).1 reply new)) → Keeps held_now held_new
+  pub short_of_memory : (rest : List ℕ) (at_end : Type 0) (held_new : Option (List ℕ)) (new : State) (text : Span) (block : Option Span) (at : ℕ) → (ended ≡ true → at_end)
+      → SoFar old input ended rest now refused held_old held_now → IsCut ended rest (cuts.Statement text block at)
+      → ((new ≡ now) ⊎ ((reply : Reply) × Step now (statement_at rest text block).0 (statement_at rest text block).1 reply new)) → Keeps held_now held_new
       → (written : List ℕ) × Appends held_old held_new written × CutShort old input at_end new written
-  short_of_memory place at_end held_new new text block at is_end s cut did kept = (
+  short_of_memory rest at_end held_new new text block at is_end s cut did kept = (
     text_of s.replies,
     Appends-kept held_old held_now held_new (text_of s.replies) s.written kept,
     elim did [
@@ -115,7 +120,7 @@ module _ {old : State} {input : List ℕ} {ended : Bool} {now : State} {refused 
         ended = ended;
         is_end = is_end;
         statements = s.statements;
-        rest = drop place input;
+        rest = rest;
         replies = s.replies;
         last = [];
         more = [];
@@ -127,13 +132,13 @@ module _ {old : State} {input : List ℕ} {ended : Bool} {now : State} {refused 
       | inr step ↦ record {
         ended = ended;
         is_end = is_end;
-        statements = s.statements ++ statement_at (drop place input) text block ∷ [];
-        rest = drop (place + at) input;
+        statements = s.statements ++ statement_at rest text block ∷ [];
+        rest = drop at rest;
         replies = s.replies ++ step.0 ∷ [];
         last = [];
         more = reply_text step.0;
-        begins = Begins-statement ended input s.statements place text block at s.begins cut;
-        run = Run-push old s.statements s.replies now (statement_at (drop place input) text block) step.0 new s.run step.1;
+        begins = Begins-push ended input s.statements rest (statement_at rest text block) (drop at rest) s.begins (first_statement ended rest text block at cut);
+        run = Run-push old s.statements s.replies now (statement_at rest text block) step.0 new s.run step.1;
         tail = inl refl;
         written_is = append-nil (text_of (s.replies ++ step.0 ∷ [])) ∙ sym (text_of-push s.replies step.0);
       }
@@ -141,11 +146,11 @@ module _ {old : State} {input : List ℕ} {ended : Bool} {now : State} {refused 
   )
 
   -- a reply wasn't wholly written
-  pub fault_in_reply : (place : ℕ) (at_end : Type 0) (held_new : Option (List ℕ)) (new : State) (text : Span) (block : Option Span) (at : ℕ) → (ended ≡ true → at_end)
-      → SoFar old input ended (drop place input) now refused held_old held_now → IsCut ended (drop place input) (cuts.Statement text block at)
-      → ((reply : Reply) × (n : ℕ) × Step now (statement_at (drop place input) text block).0 (statement_at (drop place input) text block).1 reply new × Appends held_now held_new (take n (reply_text reply)))
+  pub fault_in_reply : (rest : List ℕ) (at_end : Type 0) (held_new : Option (List ℕ)) (new : State) (text : Span) (block : Option Span) (at : ℕ) → (ended ≡ true → at_end)
+      → SoFar old input ended rest now refused held_old held_now → IsCut ended rest (cuts.Statement text block at)
+      → ((reply : Reply) × (n : ℕ) × Step now (statement_at rest text block).0 (statement_at rest text block).1 reply new × Appends held_now held_new (take n (reply_text reply)))
       → (written : List ℕ) × Appends held_old held_new written × CutShort old input at_end new written
-  fault_in_reply place at_end held_new new text block at is_end s cut row =
+  fault_in_reply rest at_end held_new new text block at is_end s cut row =
       let reply = row.0 in
       let n = row.1 in (
         text_of s.replies ++ take n (reply_text reply),
@@ -153,31 +158,31 @@ module _ {old : State} {input : List ℕ} {ended : Bool} {now : State} {refused 
         record {
           ended = ended;
           is_end = is_end;
-          statements = s.statements ++ statement_at (drop place input) text block ∷ [];
-          rest = drop (place + at) input;
+          statements = s.statements ++ statement_at rest text block ∷ [];
+          rest = drop at rest;
           replies = s.replies ++ reply ∷ [];
           last = [];
           more = drop n (reply_text reply);
-          begins = Begins-statement ended input s.statements place text block at s.begins cut;
-          run = Run-push old s.statements s.replies now (statement_at (drop place input) text block) reply new s.run row.2;
+          begins = Begins-push ended input s.statements rest (statement_at rest text block) (drop at rest) s.begins (first_statement ended rest text block at cut);
+          run = Run-push old s.statements s.replies now (statement_at rest text block) reply new s.run row.2;
           tail = inl refl;
           written_is = append-nil (text_of (s.replies ++ reply ∷ [])) ∙ parted s.replies reply n;
         },
       )
 
   -- an answer that stops
-  stopped_by : (stop : Stop) (place : ℕ) (rose rose_all : Type 0) (held_new : Option (List ℕ)) (new : State) (text : Span) (block : Option Span) (at : ℕ) → (rose → rose_all)
-      → SoFar old input ended (drop place input) now refused held_old held_now → IsCut ended (drop place input) (cuts.Statement text block at)
-      → AnswerRow (Err stop) rose held_now held_new now (statement_at (drop place input) text block) new → ProgressRow (Err stop) rose_all held_old held_new old input ended new
-  stopped_by stops.WriteFault place rose rose_all held_new new text block at up s cut row = (up row.0, fault_in_reply place (ended ≡ true) held_new new text block at (λ e. e) s cut row.1)
-  stopped_by stops.OutOfMemory place rose rose_all held_new new text block at up s cut row = short_of_memory place (ended ≡ true) held_new new text block at (λ e. e) s cut row.0 row.1
+  stopped_by : (stop : Stop) (rest : List ℕ) (rose rose_all : Type 0) (held_new : Option (List ℕ)) (new : State) (text : Span) (block : Option Span) (at : ℕ) → (rose → rose_all)
+      → SoFar old input ended rest now refused held_old held_now → IsCut ended rest (cuts.Statement text block at)
+      → AnswerRow (Err stop) rose held_now held_new now (statement_at rest text block) new → (left : List ℕ) → ProgressRow (Err stop) rose_all held_old held_new old input ended new left
+  stopped_by stops.WriteFault rest rose rose_all held_new new text block at up s cut row left = (up row.0, fault_in_reply rest (ended ≡ true) held_new new text block at (λ e. e) s cut row.1)
+  stopped_by stops.OutOfMemory rest rose rose_all held_new new text block at up s cut row left = short_of_memory rest (ended ≡ true) held_new new text block at (λ e. e) s cut row.0 row.1
 
-  pub stopped : (result : Result Bool Stop) (stop : Stop) → IsErrAnd result (λ e. e ≡ stop) → (place : ℕ) (rose rose_all : Type 0) (held_new : Option (List ℕ)) (new : State) (text : Span) (block : Option Span) (at : ℕ) → (rose → rose_all)
-      → SoFar old input ended (drop place input) now refused held_old held_now → IsCut ended (drop place input) (cuts.Statement text block at)
-      → AnswerRow (Err stop) rose held_now held_new now (statement_at (drop place input) text block) new → ProgressRow result rose_all held_old held_new old input ended new
-  stopped (Ok more) stop is place rose rose_all held_new new text block at up s cut row = absurd is
-  stopped (Err e) stop is place rose rose_all held_new new text block at up s cut row =
-      stopped_by e place rose rose_all held_new new text block at up s cut (subst (λ x. AnswerRow (Err x) rose held_now held_new now (statement_at (drop place input) text block) new) (sym is) row)
+  pub stopped : (result : Result Bool Stop) (stop : Stop) → IsErrAnd result (λ e. e ≡ stop) → (rest : List ℕ) (rose rose_all : Type 0) (held_new : Option (List ℕ)) (new : State) (text : Span) (block : Option Span) (at : ℕ) → (rose → rose_all)
+      → SoFar old input ended rest now refused held_old held_now → IsCut ended rest (cuts.Statement text block at)
+      → AnswerRow (Err stop) rose held_now held_new now (statement_at rest text block) new → (left : List ℕ) → ProgressRow result rose_all held_old held_new old input ended new left
+  stopped (Ok more) stop is rest rose rose_all held_new new text block at up s cut row left = absurd is
+  stopped (Err e) stop is rest rose rose_all held_new new text block at up s cut row left =
+      stopped_by e rest rose rose_all held_new new text block at up s cut (subst (λ x. AnswerRow (Err x) rose held_now held_new now (statement_at rest text block) new) (sym is) row) left
 
 -- what is left at the end of an input that has ended
 module _ {old : State} {input rest : List ℕ} {now : State} {refused : Bool} {held_old held_now : Option (List ℕ)} where
@@ -198,7 +203,7 @@ module _ {old : State} {input rest : List ℕ} {now : State} {refused : Bool} {h
   }
 
   pub close_ended : (held_new : Option (List ℕ)) (result : Result Bool Stop) (rose rose_all : Type 0) → (rose → rose_all) → SoFar old input true rest now refused held_old held_now → IsCut true rest cuts.Part
-      → ReplyRow result rose held_now held_new (Refused Unfinished) → ProgressRow result rose_all held_old held_new old input true now
+      → ReplyRow result rose held_now held_new (Refused Unfinished) → ProgressRow result rose_all held_old held_new old input true now rest
   close_ended held_new (Ok r) rose rose_all up s cut row = (
     text_of (s.replies ++ Refused Unfinished ∷ []),
     subst (Appends held_old held_new) (text_of-push s.replies (Refused Unfinished)) (Appends-trans held_old held_now held_new (text_of s.replies) (reply_text (Refused Unfinished)) s.written row.0),
@@ -208,6 +213,7 @@ module _ {old : State} {input rest : List ℕ} {now : State} {refused : Bool} {h
       written_is = refl;
       refused_is = row.1 ∙ sym (has_refusal-push s.replies (Refused Unfinished) ∙ or_true (has_refusal s.replies));
     },
+    refl,
   )
   close_ended held_new (Err stops.WriteFault) rose rose_all up s cut row =
       let n = row.1.0 in
@@ -228,7 +234,7 @@ module _ {old : State} {input rest : List ℕ} {now : State} {refused : Bool} {h
 
 -- what is left of an input that hasn't ended gets no reply
 pub close_open : {old : State} {input rest : List ℕ} {now : State} {refused : Bool} {held_old held_now : Option (List ℕ)} (held_new : Option (List ℕ)) (rose : Type 0)
-    → SoFar old input false rest now refused held_old held_now → IsCut false rest cuts.Part → Keeps held_now held_new → ProgressRow (Ok refused) rose held_old held_new old input false now
+    → SoFar old input false rest now refused held_old held_now → IsCut false rest cuts.Part → Keeps held_now held_new → ProgressRow (Ok refused) rose held_old held_new old input false now rest
 close_open {old = old} {input = input} {rest = rest} {refused = refused} {held_old = held_old} {held_now = held_now} held_new rose s cut kept = (
   text_of s.replies,
   Appends-kept held_old held_now held_new (text_of s.replies) s.written kept,
@@ -238,10 +244,33 @@ close_open {old = old} {input = input} {rest = rest} {refused = refused} {held_o
     written_is = refl;
     refused_is = s.refused_is;
   },
+  refl,
 )
 
 pub closed : {old : State} {input rest : List ℕ} {now : State} {refused : Bool} {held_old held_now : Option (List ℕ)} (held_new : Option (List ℕ)) (ended : Bool) (result : Result Bool Stop) (rose rose_all : Type 0) → (rose → rose_all)
-    → SoFar old input ended rest now refused held_old held_now → IsCut ended rest cuts.Part → CloseRow result rose held_now held_new ended refused → ProgressRow result rose_all held_old held_new old input ended now
+    → SoFar old input ended rest now refused held_old held_now → IsCut ended rest cuts.Part → CloseRow result rose held_now held_new ended refused → ProgressRow result rose_all held_old held_new old input ended now rest
 closed held_new true result rose rose_all up s cut row = close_ended held_new result rose rose_all up s cut row
-closed {old = old} {input = input} {now = now} {held_old = held_old} held_new false result rose rose_all up s cut row =
-    subst (λ r. ProgressRow r rose_all held_old held_new old input false now) (sym row.0) (close_open held_new rose_all s cut row.1)
+closed {old = old} {input = input} {rest = rest} {now = now} {held_old = held_old} held_new false result rose rose_all up s cut row =
+    subst (λ r. ProgressRow r rose_all held_old held_new old input false now rest) (sym row.0) (close_open held_new rose_all s cut row.1)
+
+-- nothing came, and nothing was answered
+pub nothing_answered : (state : State) (ended : Bool) → (answers : Answers state [] ended state [] false) × (answers.run.rest ≡ [])
+nothing_answered state ended = (
+  record {
+    replies = [];
+    run = record { statements = []; rest = []; answered = []; last = []; cut = Cuts-end ended [] [] refl; run = refl; closes = closes_blank ended [] empty_space; all = refl };
+    written_is = refl;
+    refused_is = refl;
+  },
+  refl,
+)
+
+pub nothing_written : (old : State) (bytes : List ℕ) (at_end : Type 0) → CutShort old bytes at_end old []
+nothing_written old bytes at_end = record { ended = false; is_end = λ e. absurd (cc e); statements = []; rest = bytes; replies = []; last = []; more = []; begins = refl; run = refl; tail = inl refl; written_is = refl }
+
+-- a piece found no memory
+pub unfed : (result : Result Bool Stop) → IsErrAnd result (λ stop. stop ≡ stops.OutOfMemory) → (rose : Type 0) (held : Option (List ℕ)) (old : State) (bytes : List ℕ) (ended : Bool) (rest : List ℕ)
+    → ProgressRow result rose held held old bytes ended old rest
+unfed (Ok more) is rose held old bytes ended rest = absurd is
+unfed (Err stop) is rose held old bytes ended rest =
+    subst (λ s. ProgressRow (Err s) rose held held old bytes ended old rest) (sym is) ([], Appends-nil held, nothing_written old bytes (ended ≡ true))

@@ -1,26 +1,18 @@
 -- The rows of the statuses.
-use Rattle.std.proofs.Common.{◌≡◌, ◌≢◌, inl, inr, ◌≤◌, ◌+◌, ℕ, Bool, true, false, List, [], ◌++◌, length, take, drop, Option, None, Some, Err, refl, sym, ap, ◌∙◌, subst, arith}
+use Rattle.std.proofs.Common.{◌≡◌, ◌≢◌, inl, inr, ◌≤◌, ◌+◌, ℕ, Bool, true, false, List, [], ◌++◌, length, take, drop, Option, None, Some, refl, subst, arith}
 use Rattle.std.proofs.lemmas.List.{take-append-drop, length-append}
-use Rattle.std.specs.Io.KnownBytes.{Consumes, Appends, IsAtEnd}
+use Rattle.std.specs.Io.KnownBytes.{Consumes}
 use Rattle.std.proofs.KnownBytes.{Appends-nil, Consumes-nil}
 use Rattle.cqa_io.specs.Causes.{Rose}
 use Rattle.script_lex.specs.Scripts.{Statement, Begins}
 use Rattle.script_lex.proofs.Statements.{Begins-append}
 use Rattle.command_shell.specs.declared.ending.Command.{Command}
-use Rattle.command_shell.specs.declared.ending.Command.TheVariants.{Run, Check}
-use Rattle.command_shell.specs.declared.ending.ReadEnd.{ReadEnd}
-use Rattle.command_shell.specs.declared.ending.ReadEnd.TheVariants as reading
-use Rattle.command_shell.specs.declared.ending.Stop.{Stop}
-use Rattle.command_shell.specs.declared.ending.Stop.TheVariants as stops
+use Rattle.command_shell.specs.declared.ending.Command.TheVariants.{Run, Check, Demo}
 use Rattle.command_shell.specs.declared.ending.Ending.{Ending}
 use Rattle.command_shell.specs.declared.ending.Ending.TheVariants.{Answered, WithRefusal, BadWords, ReadFault, WriteFault, OutOfMemory, TooLong}
 use Rattle.command_shell.specs.State.{State}
-use Rattle.command_shell.specs.Runs.{Answers, CutShort}
-use Rattle.command_shell.specs.Top.{Call, Ended, Outside, RunRow, CheckRow, CountsReadFault, CountsWriteFault, code_of, limit, IsWithinLimit, IsCompleted}
-use Rattle.command_shell.specs.Parts.{ReadRow, ProgressRow, ending_of}
-
-pub nothing_written : (old : State) (bytes : List ℕ) (at_end : Type 0) → CutShort old bytes at_end old []
-nothing_written old bytes at_end = record { ended = false; is_end = λ e. absurd (cc e); statements = []; rest = bytes; replies = []; last = []; more = []; begins = refl; run = refl; tail = inl refl; written_is = refl }
+use Rattle.command_shell.specs.Runs.{CutShort}
+use Rattle.command_shell.specs.Top.{Call, Ended, Outside, RunRow, CheckRow, DemoRow, CountsReadFault, CountsWriteFault, code_of, limit, IsWithinLimit, IsCompleted}
 
 pub false_true : false ≡ true → ⊥
 false_true e = (cc)
@@ -55,7 +47,7 @@ at_most : (n : ℕ) → n ≤ limit → n ≤ limit + 1
 at_most n h = omega (arith, h)
 
 -- what is answered of bytes that have ended
-at_its_end : {old : State} {bytes : List ℕ} {at_end : Type 0} {new : State} {written : List ℕ} → at_end → CutShort old bytes (true ≡ true) new written → CutShort old bytes at_end new written
+pub at_its_end : {old : State} {bytes : List ℕ} {at_end : Type 0} {new : State} {written : List ℕ} → at_end → CutShort old bytes (true ≡ true) new written → CutShort old bytes at_end new written
 at_its_end end s = record {
   ended = s.ended;
   is_end = λ e. end;
@@ -69,59 +61,6 @@ at_its_end end s = record {
   tail = s.tail;
   written_is = s.written_is;
 }
-
--- how the reading ended: with these bytes
-abbrev pub Took : ReadEnd → (before after : Outside) → List ℕ → Type 0
-Took end before after input = (came : List ℕ) × Consumes before.left after.left came × ReadRow end (IsAtEnd after.left) (Rose before.reads after.reads) came input
-
--- All of some bytes was answered.
-abbrev pub Done : (before after : Outside) → State → List ℕ → Bool → State → Bool → Type 0
-Done before after old bytes ended new refused = (written : List ℕ) × Appends before.held after.held written × Answers old bytes ended new written refused
-
-module _ {before after : Outside} {old : State} where
-  -- memory ran out while the input was read
-  pub unread : (input : List ℕ) → Took reading.OutOfMemory before after input → Appends before.held after.held [] → Ended (Some Run) OutOfMemory before after old old
-  unread input took put = record { came = took.0; written = []; took = took.1; put = put; row = (took.2, nothing_written old took.0 (IsAtEnd after.left)) }
-
-  -- too much came, and what is within the limit was answered
-  pub answered_front : {new : State} {input slice : List ℕ} → Took reading.TooLong before after input → slice ≡ take limit input → (refused : Bool) → Done before after old slice false new refused → Ended (Some Run) TooLong before after old new
-  answered_front {new = new} took is refused done = record {
-    came = took.0;
-    written = done.0;
-    took = took.1;
-    put = done.1;
-    row = (took.2.1, (refused, subst (λ l. Answers old l false new done.0 refused) (is ∙ ap (take limit) took.2.0) done.2));
-  }
-
-  -- all came, and the answers stopped
-  pub stopped_at_end : {new : State} {input : List ℕ} → Took reading.End before after input → (ending : Ending) (stop : Stop) → ending ≡ ending_of stop
-      → ProgressRow (Err stop) (Rose before.writes after.writes) before.held after.held old input true new → Ended (Some Run) ending before after old new
-  stopped_at_end {new = new} {input = input} took ending stop is done = subst (λ e. Ended (Some Run) e before after old new) (sym is) (by_stop stop done)
-    where
-      few : length took.0 ≤ limit + 1
-      few = at_most (length took.0) took.2.2
-
-      short : (written : List ℕ) → CutShort old input (true ≡ true) new written → CutShort old took.0 (IsAtEnd after.left) new written
-      short written s = at_its_end took.2.1 (subst (λ l. CutShort old l (true ≡ true) new written) took.2.0 s)
-
-      by_stop : (stop : Stop) → ProgressRow (Err stop) (Rose before.writes after.writes) before.held after.held old input true new → Ended (Some Run) (ending_of stop) before after old new
-      by_stop stops.WriteFault done = record { came = took.0; written = done.1.0; took = took.1; put = done.1.1; row = (done.0, few, short done.1.0 done.1.2) }
-      by_stop stops.OutOfMemory done = record { came = took.0; written = done.0; took = took.1; put = done.1; row = (few, short done.0 done.2) }
-
-  -- too much came, and the answers stopped
-  pub stopped_in_front : {new : State} {input slice : List ℕ} → Took reading.TooLong before after input → slice ≡ take limit input → (ending : Ending) (stop : Stop) → ending ≡ ending_of stop
-      → ProgressRow (Err stop) (Rose before.writes after.writes) before.held after.held old slice false new → Ended (Some Run) ending before after old new
-  stopped_in_front {new = new} {slice = slice} took in_front ending stop is done = subst (λ e. Ended (Some Run) e before after old new) (sym is) (by_stop stop done)
-    where
-      few : length took.0 ≤ limit + 1
-      few = exactly (length took.0) took.2.1
-
-      short : (written : List ℕ) → CutShort old slice (false ≡ true) new written → CutShort old took.0 (IsAtEnd after.left) new written
-      short written s = of_front took.0 limit (IsAtEnd after.left) (subst (λ l. CutShort old l (false ≡ true) new written) (in_front ∙ ap (take limit) took.2.0) s)
-
-      by_stop : (stop : Stop) → ProgressRow (Err stop) (Rose before.writes after.writes) before.held after.held old slice false new → Ended (Some Run) (ending_of stop) before after old new
-      by_stop stops.WriteFault done = record { came = took.0; written = done.1.0; took = took.1; put = done.1.1; row = (done.0, few, short done.1.0 done.1.2) }
-      by_stop stops.OutOfMemory done = record { came = took.0; written = done.0; took = took.1; put = done.1; row = (few, short done.0 done.2) }
 
 -- words that aren't accepted
 pub refused_words : (outside : Outside) (state : State) → Ended None BadWords outside outside state state
@@ -157,9 +96,19 @@ check_completed WriteFault call status is took row reads writes short = absurd (
 check_completed OutOfMemory call status is took row reads writes short = inr (inr is)
 check_completed TooLong call status is took row reads writes short = absurd (too_long call.before.left call.after.left call.came took short row.0)
 
+demo_completed : (size : ℕ) (ending : Ending) (call : Call) (status : ℕ) → status ≡ code_of ending → DemoRow size ending call → (CountsWriteFault call → ⊥) → IsCompleted status
+demo_completed size Answered call status is row writes = inl is
+demo_completed size WithRefusal call status is row writes = inr (inl is)
+demo_completed size BadWords call status is row writes = absurd row
+demo_completed size ReadFault call status is row writes = absurd row
+demo_completed size WriteFault call status is row writes = absurd (writes row.1)
+demo_completed size OutOfMemory call status is row writes = inr (inr is)
+demo_completed size TooLong call status is row writes = absurd row
+
 -- a call without a fault over an input within the limit
 pub completed : (command : Option Command) (ending : Ending) (before after : Outside) (old new : State) (status : ℕ) → status ≡ code_of ending → Ended command ending before after old new
     → command ≢ None → (Rose before.reads after.reads → ⊥) → (Rose before.writes after.writes → ⊥) → IsWithinLimit before.left → IsCompleted status
 completed (Some Run) ending before after old new status is e some reads writes short = run_completed ending _ status is e.took e.row reads writes short
 completed (Some Check) ending before after old new status is e some reads writes short = check_completed ending _ status is e.took e.row.0 reads writes short
+completed (Some (Demo size)) ending before after old new status is e some reads writes short = demo_completed size ending _ status is e.row writes
 completed None ending before after old new status is e some reads writes short = absurd (some refl)

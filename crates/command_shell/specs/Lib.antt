@@ -5,5 +5,7 @@ pub mod AttackLines
 pub mod Statements
 pub mod Machine
 pub mod Runs
+pub mod Demo
+pub mod Tallying
 pub mod Top
 pub mod Parts

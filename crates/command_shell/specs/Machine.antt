@@ -13,14 +13,19 @@ use Rattle.command_shell.specs.State.{State}
 use Rattle.command_shell.specs.Saying.{Says}
 use Rattle.command_shell.specs.Replying.{Replies}
 use Rattle.command_shell.specs.Statements.Create.{Creates}
+use Rattle.command_shell.specs.Statements.Alter.{alter_fault, Alters}
 use Rattle.command_shell.specs.Statements.Insert.{insert_into_fault, InsertsInto}
 use Rattle.command_shell.specs.Statements.Delete.{delete_from_fault, DeletesFrom}
+use Rattle.command_shell.specs.Statements.Copy.{copy_into_fault, CopiesInto}
 use Rattle.command_shell.specs.Statements.Ask.{AnswersCertain}
 use Rattle.command_shell.specs.Statements.Possible.{AnswersPossible}
 use Rattle.command_shell.specs.Statements.Classify.{Classifies}
 use Rattle.command_shell.specs.Statements.Plan.{ShowsPlan}
+use Rattle.command_shell.specs.Statements.Explain.{Explains}
+use Rattle.command_shell.specs.Statements.SetConflicts.{SetsConflicts}
 use Rattle.command_shell.specs.Statements.ShowTables.{ShowsTables}
-use Rattle.command_shell.specs.Statements.Unanswered.{unanswered_fault, Unanswered}
+use Rattle.command_shell.specs.Statements.Dump.{Dumps}
+use Rattle.command_shell.specs.Statements.ShowLog.{ShowsLog}
 
 -- ---- what is asked of a query: the first of its checks that fails in a state, and what it may do where none fails
 
@@ -29,38 +34,40 @@ asking_fault old verbs.Ask select = query_fault old.tables select
 asking_fault old verbs.Possible select = query_fault old.tables select
 asking_fault old verbs.Classify select = query_fault old.tables select
 asking_fault old verbs.Plan select = query_fault old.tables select
-asking_fault old (verbs.Explain row) select = unanswered_fault
+asking_fault old (verbs.Explain row) select = query_fault old.tables select
 
 abbrev pub Asks : State → Verb → Select → Reply → State → Type 0
 Asks old verbs.Ask select reply new = AnswersCertain old select reply new
 Asks old verbs.Possible select reply new = AnswersPossible old select reply new
 Asks old verbs.Classify select reply new = Classifies old select reply new
 Asks old verbs.Plan select reply new = ShowsPlan old select reply new
-Asks old (verbs.Explain row) select reply new = Unanswered
+Asks old (verbs.Explain row) select reply new = Explains old row select reply new
 
 -- ---- a statement, with the block that follows it: the same
 
 abbrev pub fault_in : State → Statement → Option (List ℕ) → Option Refusal
 fault_in old (statements.Create raw) block = schema_fault old.tables raw
+fault_in old (statements.Alter name change) block = alter_fault old.tables name change
 fault_in old (statements.Insert name rows) block = insert_into_fault old.tables name rows
 fault_in old (statements.Delete name tests) block = delete_from_fault old.tables name tests
+fault_in old (statements.Copy name) block = copy_into_fault old.tables name
 fault_in old (statements.Asking verb select) block = asking_fault old verb select
+fault_in old (statements.SetConflicts conflicts) block = None
 fault_in old statements.ShowTables block = None
-fault_in old (statements.SetConflicts conflicts) block = unanswered_fault
-fault_in old (statements.Copy table) block = unanswered_fault
-fault_in old statements.Dump block = unanswered_fault
-fault_in old statements.ShowLog block = unanswered_fault
+fault_in old statements.Dump block = None
+fault_in old statements.ShowLog block = None
 
 abbrev pub Executes : State → Statement → Option (List ℕ) → Reply → State → Type 0
 Executes old (statements.Create raw) block reply new = Creates old raw reply new
+Executes old (statements.Alter name change) block reply new = Alters old name change reply new
 Executes old (statements.Insert name rows) block reply new = InsertsInto old name rows reply new
 Executes old (statements.Delete name tests) block reply new = DeletesFrom old name tests reply new
+Executes old (statements.Copy name) block reply new = CopiesInto old name block reply new
 Executes old (statements.Asking verb select) block reply new = Asks old verb select reply new
+Executes old (statements.SetConflicts conflicts) block reply new = SetsConflicts old conflicts reply new
 Executes old statements.ShowTables block reply new = ShowsTables old reply new
-Executes old (statements.SetConflicts conflicts) block reply new = Unanswered
-Executes old (statements.Copy table) block reply new = Unanswered
-Executes old statements.Dump block reply new = Unanswered
-Executes old statements.ShowLog block reply new = Unanswered
+Executes old statements.Dump block reply new = Dumps old reply new
+Executes old statements.ShowLog block reply new = ShowsLog old reply new
 
 -- what the machine may do with what a text says, and its block
 abbrev pub Does : State → Result Statement Refusal → Option (List ℕ) → Reply → State → Type 0

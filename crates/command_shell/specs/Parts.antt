@@ -1,5 +1,5 @@
 -- What each part of the top call does.
-use Rattle.std.specs.Prelude.{◌≡◌, ◌⊎◌, ℕ, ◌+◌, ◌≤◌, Bool, true, false, List, length, take, Option, Result, Ok, Err}
+use Rattle.std.specs.Prelude.{◌≡◌, ◌⊎◌, ℕ, ◌+◌, ◌≤◌, ◌||◌, if◌then◌else◌, Bool, true, false, List, length, take, Option, Result, Ok, Err}
 use Rattle.std.specs.Io.KnownBytes.{Appends, Keeps}
 use Rattle.script_lex.specs.Scripts.{Statement}
 use Rattle.reply_text.specs.declared.reply.Reply.{Reply}
@@ -30,6 +30,11 @@ abbrev pub ending_of : Stop → Ending
 ending_of stops.WriteFault = endings.WriteFault
 ending_of stops.OutOfMemory = endings.OutOfMemory
 
+-- how a run ends whose last answers ended so, where something may have been refused before them
+abbrev pub ending_with : Result Bool Stop → (refused : Bool) → Ending
+ending_with (Ok more) refused = if refused || more then endings.WithRefusal else endings.Answered
+ending_with (Err stop) refused = ending_of stop
+
 -- how some bytes were written, with what is answered where all of them were
 abbrev pub WriteRow : Result Bool Stop → (rose : Type 0) → (held_old held_new : Option (List ℕ)) → List ℕ → Bool → Type 0
 WriteRow (Ok answer) rose held_old held_new bytes said = Appends held_old held_new bytes × (answer ≡ said)
@@ -51,11 +56,11 @@ AnswerRow (Ok refused) rose held_old held_new old s new = (reply : Reply) × Ste
 AnswerRow (Err stops.WriteFault) rose held_old held_new old s new = rose × ((reply : Reply) × (n : ℕ) × Step old s.0 s.1 reply new × Appends held_old held_new (take n (reply_text reply)))
 AnswerRow (Err stops.OutOfMemory) rose held_old held_new old s new = ((new ≡ old) ⊎ ((reply : Reply) × Step old s.0 s.1 reply new)) × Keeps held_old held_new
 
--- how an input was answered
-abbrev pub ProgressRow : Result Bool Stop → (rose : Type 0) → (held_old held_new : Option (List ℕ)) → State → List ℕ → Bool → State → Type 0
-ProgressRow (Ok refused) rose held_old held_new old input ended new = (written : List ℕ) × Appends held_old held_new written × Answers old input ended new written refused
-ProgressRow (Err stops.WriteFault) rose held_old held_new old input ended new = rose × ((written : List ℕ) × Appends held_old held_new written × CutShort old input (ended ≡ true) new written)
-ProgressRow (Err stops.OutOfMemory) rose held_old held_new old input ended new = (written : List ℕ) × Appends held_old held_new written × CutShort old input (ended ≡ true) new written
+-- How the statements of some bytes were answered, and the rest of the bytes that stands behind them.
+abbrev pub ProgressRow : Result Bool Stop → (rose : Type 0) → (held_old held_new : Option (List ℕ)) → State → List ℕ → Bool → State → List ℕ → Type 0
+ProgressRow (Ok refused) rose held_old held_new old bytes ended new rest = (written : List ℕ) × Appends held_old held_new written × (answers : Answers old bytes ended new written refused) × (answers.run.rest ≡ rest)
+ProgressRow (Err stops.WriteFault) rose held_old held_new old bytes ended new rest = rose × ((written : List ℕ) × Appends held_old held_new written × CutShort old bytes (ended ≡ true) new written)
+ProgressRow (Err stops.OutOfMemory) rose held_old held_new old bytes ended new rest = (written : List ℕ) × Appends held_old held_new written × CutShort old bytes (ended ≡ true) new written
 
 -- how the line of `check` on an input was written
 abbrev pub VerdictRow : Result Bool Stop → (rose : Type 0) → (held_old held_new : Option (List ℕ)) → List ℕ → Type 0

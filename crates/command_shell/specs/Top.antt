@@ -5,24 +5,26 @@ use Rattle.std.specs.declared.alloc.Global.{Global}
 use Rattle.cqa_io.specs.Causes.{Rose}
 use Rattle.proof_check.specs.Verdicts.{IsVerdict, BeginsVerdict}
 use Rattle.command_shell.specs.declared.ending.Command.{Command}
-use Rattle.command_shell.specs.declared.ending.Command.TheVariants.{Run, Check}
+use Rattle.command_shell.specs.declared.ending.Command.TheVariants.{Run, Check, Demo}
 use Rattle.command_shell.specs.declared.ending.Ending.{Ending}
 use Rattle.command_shell.specs.declared.ending.Ending.TheVariants.{Answered, WithRefusal, BadWords, ReadFault, WriteFault, OutOfMemory, TooLong}
 use Rattle.command_shell.specs.State.{State}
+use Rattle.case_maker.specs.Scripts.{script_bytes}
 use Rattle.command_shell.specs.Runs.{Answers, CutShort}
+use Rattle.command_shell.specs.Demo.{IsSize, IsDemo, BeginsDemo, StopsIn}
 
 -- the most bytes of input that a call answers
 abbrev pub limit : ℕ
 limit = 268_435_456
 
--- the word for a command
-abbrev pub word_for : Command → List ℕ
-word_for Run = codes "run"
-word_for Check = codes "check"
+-- the words that stand for a command: `run` or `check` alone, or `demo` and a size
+abbrev pub StandFor : List (List ℕ) → Command → Type 0
+StandFor words Run = words ≡ codes "run" ∷ []
+StandFor words Check = words ≡ codes "check" ∷ []
+StandFor words (Demo size) = (digits : List ℕ) × (words ≡ codes "demo" ∷ digits ∷ []) × IsSize digits size
 
--- the words are that for a command, alone
 abbrev pub AreWordsFor : List (String Global) → Command → Type 0
-AreWordsFor words command = map string_bytes words ≡ word_for command ∷ []
+AreWordsFor words command = StandFor (map string_bytes words) command
 
 -- the command that the words ask for; where they ask for none they aren't accepted
 abbrev pub IsAskedBy : List (String Global) → Option Command → Type 0
@@ -91,14 +93,29 @@ CheckRow WriteFault call = CountsWriteFault call × IsReadToEnd call × (length 
 CheckRow OutOfMemory call = (length call.came ≤ limit + 1) × (call.written ≡ [])
 CheckRow TooLong call = (length call.came ≡ limit + 1) × (call.written ≡ [])
 
+-- nothing came, and no fault of reading was counted
+abbrev pub IsUnread : Call → Type 0
+IsUnread call = (call.came ≡ []) × (call.after.reads ≡ call.before.reads)
+
+-- The row of each ending of `demo` and a size: the source isn't read, and the statements of the script are run in the session.
+abbrev pub DemoRow : ℕ → Ending → Call → Type 0
+DemoRow size Answered call = IsUnread call × IsDemo size call.old call.written false call.new
+DemoRow size WithRefusal call = IsUnread call × IsDemo size call.old call.written true call.new
+DemoRow size BadWords call = ⊥
+DemoRow size ReadFault call = ⊥
+DemoRow size WriteFault call = IsUnread call × CountsWriteFault call × BeginsDemo size call.old call.written call.new
+DemoRow size OutOfMemory call = IsUnread call × (call.written ≡ []) × StopsIn call.old (script_bytes size) call.new
+DemoRow size TooLong call = ⊥
+
 -- Words that aren't accepted: nothing is read or written, and no fault is counted.
 abbrev pub BadWordsRow : Ending → Call → Type 0
 BadWordsRow ending call = (ending ≡ BadWords) × (call.came ≡ []) × (call.written ≡ []) × (call.after.reads ≡ call.before.reads) × (call.after.writes ≡ call.before.writes)
 
--- The row of each ending for the command that the words are. Only `run` changes the session.
+-- The row of each ending for the command that the words are. Only `run` and `demo` change the session.
 abbrev pub Row : Option Command → Ending → Call → Type 0
 Row (Some Run) ending call = RunRow ending call
 Row (Some Check) ending call = CheckRow ending call × (call.new ≡ call.old)
+Row (Some (Demo size)) ending call = DemoRow size ending call
 Row None ending call = BadWordsRow ending call × (call.new ≡ call.old)
 
 -- The call ended so: with the bytes that came and those that were written, where they are told.

@@ -1,6 +1,6 @@
-//! The answers to the statements of an input, one after another.
+//! The answers to statements, one after another, while the input comes.
 
-ghost use Rattle.std.specs.Prelude.{◌≡◌, ◌≤◌, ◌<◌, IfSome, length, slice_range};
+ghost use Rattle.std.specs.Prelude.{◌≡◌, ◌+◌, ◌≤◌, ◌++◌, IfSome, false, length, slice_range};
 ghost use Rattle.script_lex.specs.Scripts.{statement_at};
 ghost use Rattle.std.specs.Option.{option_copied};
 ghost use Rattle.cqa_io.specs.Causes.{Rose};
@@ -12,10 +12,11 @@ use crate::ending::Stop;
 use cqa_io::{Sink, write_all};
 use cqa_model::Refusal;
 use reply_text::{Reply, reply_bytes};
-use script_lex::{Cut, Span, cut};
+use script_lex::{Cut, Cutter, Span};
 use std::alloc::Global;
 
-fn is_refused(reply: &Reply) -> bool
+/// Whether a reply is a refusal.
+pub fn is_refused(reply: &Reply) -> bool
     ensures { result ≡ is_refusal reply.now }
 {
     match reply {
@@ -42,17 +43,23 @@ fn answer<K: Sink>(
     wrote
 }
 
-/// Writes a reply, and says whether it is a refusal.
+/// Writes a reply, and says whether it is a refusal. The script of a dump is written as it stands, without a copy.
 fn write_reply<K: Sink>(alloc: Global, sink: &mut K, reply: &Reply) -> Result<bool, Stop>
     ensures row { ReplyRow result (Rose (K.faults sink.old) (K.faults sink.new)) (K.held sink.old) (K.held sink.new) reply.now }
     ensures later { K.faults sink.old ≤ K.faults sink.new }
 {
+    // The script of a dump is written as it is, so that it isn't held twice.
+    if let Reply::Dumped(script) = reply {
+        write_all(sink, script.as_slice())?;
+        return Ok(false);
+    }
     let bytes = reply_bytes(alloc, reply)?;
     write_all(sink, bytes.as_slice())?;
     Ok(is_refused(reply))
 }
 
-fn part(bytes: &[u8], span: Span) -> &[u8]
+/// The bytes of a span.
+pub fn part(bytes: &[u8], span: Span) -> &[u8]
     requires order { span.from ≤ span.to }
     requires within { span.to ≤ length bytes.now }
     ensures { result.now ≡ slice_range bytes.now span.from span.to }
@@ -98,29 +105,46 @@ fn close<K: Sink>(alloc: Global, sink: &mut K, ended: bool, refused: bool) -> Re
     write_reply(alloc, sink, &Reply::Refused(Refusal::Unfinished))
 }
 
-/// Answers the statements of an input, and says whether one was refused.
-pub fn answer_all<K: Sink>(
+/// Answers the complete statements of the bytes held and takes them away, and says whether one was refused.
+/// Where the input has ended with these bytes, what is left and isn't blank is refused.
+pub fn answer_held<K: Sink>(
     alloc: Global,
     session: &mut Session,
     sink: &mut K,
-    input: &[u8],
+    held: &mut Cutter,
     ended: bool,
 ) -> Result<bool, Stop>
-    requires { length input.now ≤ 268_435_456 }
-    ensures row { ProgressRow result (Rose (K.faults sink.old) (K.faults sink.new)) (K.held sink.old) (K.held sink.new) session.old input.now ended session.new }
+    requires { length held.old ≤ 268_435_456 }
+    ensures row { ProgressRow result (Rose (K.faults sink.old) (K.faults sink.new)) (K.held sink.old) (K.held sink.new) session.old held.old ended session.new held.new }
+    ensures fewer { length held.new ≤ length held.old }
     ensures later { K.faults sink.old ≤ K.faults sink.new }
 {
-    let mut place = 0;
     let mut refused = false;
     loop {
-        let left = &input[place..];
-        match cut(left, ended) {
+        match held.look(ended) {
             Cut::Statement { text, block, rest } => {
-                refused |= answer_at(alloc, session, sink, left, text, block)?;
-                place += rest;
+                refused |= answer_at(alloc, session, sink, held.bytes(), text, block)?;
+                held.skip(rest);
             }
             Cut::Blank => return Ok(refused),
             Cut::Part => return close(alloc, sink, ended, refused),
         }
     }
+}
+
+/// Answers the statements that a piece of the input completes, and says whether one was refused.
+pub fn answer_piece<K: Sink>(
+    alloc: Global,
+    session: &mut Session,
+    sink: &mut K,
+    held: &mut Cutter,
+    piece: &[u8],
+) -> Result<bool, Stop>
+    requires { length held.old + length piece.now ≤ 268_435_456 }
+    ensures row { ProgressRow result (Rose (K.faults sink.old) (K.faults sink.new)) (K.held sink.old) (K.held sink.new) session.old (held.old ++ piece.now) false session.new held.new }
+    ensures fewer { length held.new ≤ length held.old + length piece.now }
+    ensures later { K.faults sink.old ≤ K.faults sink.new }
+{
+    held.feed(piece)?;
+    answer_held(alloc, session, sink, held, false)
 }

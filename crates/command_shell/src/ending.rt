@@ -15,6 +15,8 @@ pub enum Command {
     Run,
     /// Check that the log in the input refutes the formula in it.
     Check,
+    /// Run the script of a size, and tell the numbers of the run.
+    Demo(u32),
 }
 
 /// How the top call ends.

@@ -7,15 +7,20 @@ ghost use Rattle.command_shell.specs.Machine.{asking_fault, Asks, Does};
 ghost use Rattle.command_shell.specs.Replying.{Replies, IsOutcome};
 
 use crate::Session;
+use crate::statements::alter::alter;
 use crate::statements::ask::ask;
 use crate::statements::classify::classify;
+use crate::statements::copy::copy;
 use crate::statements::create::create;
 use crate::statements::delete::delete;
+use crate::statements::dump::dump;
+use crate::statements::explain::explain;
 use crate::statements::insert::insert;
 use crate::statements::plan::plan;
 use crate::statements::possible::possible;
+use crate::statements::set_conflicts::set_conflicts;
+use crate::statements::show_log::show_log;
 use crate::statements::show_tables::show_tables;
-use crate::statements::unanswered::unanswered;
 use cqa_model::Refusal;
 use cqa_value::Fail;
 use reply_text::Reply;
@@ -25,18 +30,18 @@ use std::alloc::Global;
 /// Answers what is asked of a query.
 fn asked(
     alloc: Global,
-    session: &Session,
+    session: &mut Session,
     verb: &Verb,
     select: &Select,
 ) -> Result<Reply, Fail<Refusal>>
-    ensures { IsOutcome result session.now (Replies (asking_fault session.now verb.now select.now) session.now (Asks session.now verb.now select.now)) session.now }
+    ensures { IsOutcome result session.old (Replies (asking_fault session.old verb.now select.now) session.old (Asks session.old verb.now select.now)) session.new }
 {
     match verb {
         Verb::Ask => ask(alloc, session, select),
         Verb::Possible => possible(alloc, session, select),
         Verb::Classify => classify(alloc, session, select),
         Verb::Plan => plan(alloc, session, select),
-        Verb::Explain { .. } => Err(unanswered()),
+        Verb::Explain { row } => explain(alloc, session, row, select),
     }
 }
 
@@ -60,6 +65,12 @@ pub fn execute(
             drop(schema);
             reply
         }
+        Statement::Alter { table, change } => {
+            let reply = alter(alloc, session, &table, &change);
+            drop(table);
+            drop(change);
+            reply
+        }
         Statement::Insert { table, rows } => {
             let reply = insert(alloc, session, &table, rows);
             drop(table);
@@ -71,17 +82,20 @@ pub fn execute(
             drop(tests);
             reply
         }
+        Statement::Copy { table } => {
+            let reply = copy(alloc, session, &table, block);
+            drop(table);
+            reply
+        }
         Statement::Asking { verb, select } => {
             let reply = asked(alloc, session, &verb, &select);
             drop(verb);
             drop(select);
             reply
         }
+        Statement::SetConflicts(conflicts) => set_conflicts(session, conflicts),
         Statement::ShowTables => show_tables(alloc, session),
-        Statement::Copy { table } => {
-            drop(table);
-            Err(unanswered())
-        }
-        Statement::SetConflicts(_) | Statement::Dump | Statement::ShowLog => Err(unanswered()),
+        Statement::Dump => dump(alloc, session),
+        Statement::ShowLog => show_log(alloc, session),
     }
 }

@@ -1,8 +1,8 @@
 //! The reading of the input.
 
 ghost use Rattle.std.specs.Prelude.{◌≡◌, ◌≤◌, ◌<◌, ℕ, List, [], IfOk, length};
-ghost use Rattle.std.specs.Io.KnownBytes.{Consumes, IsAtEnd};
-ghost use Rattle.cqa_io.specs.Causes.{Rose};
+ghost use Rattle.std.specs.Io.KnownBytes.{Consumes, IsAtEnd, ReadConsumes};
+ghost use Rattle.cqa_io.specs.Causes.{HasCause, Rose};
 ghost use Rattle.command_shell.specs.Parts.{ReadRow};
 
 use crate::ending::ReadEnd;
@@ -13,12 +13,26 @@ use std::alloc::{AllocError, Global};
 pub const LIMIT: usize = 268_435_456;
 
 /// How many bytes a read asks for, where so many are allowed.
-const PIECE: usize = 65_536;
+pub const PIECE: usize = 65_536;
 
-fn zeros(alloc: Global, count: usize) -> Result<Vec<u8>, AllocError>
+/// A buffer of so many bytes.
+pub fn zeros(alloc: Global, count: usize) -> Result<Vec<u8>, AllocError>
     ensures { IfOk result (λ v. length v.items ≡ count) }
 {
     vec![in alloc; 0u8; count]
+}
+
+/// Reads at most so many bytes into the front of a buffer.
+pub fn read_piece<S: Source>(source: &mut S, piece: &mut [u8], most: usize) -> Result<usize, Failed>
+    requires piece { 0 < length piece.old }
+    requires most { 0 < most }
+    ensures within { IfOk result (λ n. (n ≤ most) × (n ≤ length piece.new)) }
+    ensures size { length piece.new ≡ length piece.old }
+    ensures came { ReadConsumes (S.left source.old) (S.left source.new) result piece.new }
+    ensures cause { HasCause (S.faults source.old) (S.faults source.new) result }
+{
+    let want = piece.len().min(most);
+    source.read(&mut piece[..want])
 }
 
 /// Reads to the end, to a fault, or one byte past the limit.
@@ -43,8 +57,7 @@ fn read_by<S: Source>(source: &mut S, input: &mut Vec<u8>, piece: &mut [u8]) -> 
     ensures later { S.faults source.old ≤ S.faults source.new }
 {
     while input.len() <= LIMIT {
-        let want = piece.len().min(LIMIT + 1 - input.len());
-        match source.read(&mut piece[..want]) {
+        match read_piece(source, piece, LIMIT + 1 - input.len()) {
             Err(Failed) => return ReadEnd::Fault,
             Ok(0) => return ReadEnd::End,
             Ok(count) => {

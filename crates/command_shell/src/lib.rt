@@ -2,12 +2,15 @@
 #![tactic(auto)]
 
 mod answers;
+mod demo;
 mod ending;
 mod execute;
 mod input;
+mod pieces;
 mod reading;
 mod session;
 mod statements;
+mod tally;
 mod top;
 mod verdict;
 

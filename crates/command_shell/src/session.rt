@@ -56,6 +56,34 @@ impl Session {
         &self.database
     }
 
+    /// The log that was kept last, with its formula.
+    pub(crate) fn last_log(&self) -> Option<&Proof>
+        ensures { option_copied result ≡ self.now.last_log }
+    {
+        self.last_log.as_ref()
+    }
+
+    /// How many conflicts a search may take.
+    pub(crate) fn budget(&self) -> u32
+        ensures { result ≡ self.now.budget }
+    {
+        self.budget
+    }
+
+    /// Keeps a log with its formula as the last one.
+    pub(crate) fn keep_log(&mut self, proof: Proof)
+        ensures { self.new ≡ record self.old { last_log = Some proof } }
+    {
+        self.last_log = Some(proof);
+    }
+
+    /// Gives the searches that follow another budget.
+    pub(crate) fn set_budget(&mut self, budget: u32)
+        ensures { self.new ≡ record self.old { budget = budget } }
+    {
+        self.budget = budget;
+    }
+
     /// Answers a statement: its text, and the block that follows a `copy`.
     ///
     /// # Errors

@@ -1,12 +1,17 @@
 //! The statements, a room for each: one call that checks the statement and does it.
 
+pub mod alter;
 pub mod ask;
 pub mod classify;
+pub mod copy;
 pub mod create;
 pub mod delete;
+pub mod dump;
+pub mod explain;
 pub mod insert;
 pub mod plan;
 pub mod possible;
+pub mod set_conflicts;
+pub mod show_log;
 pub mod show_tables;
 mod table_place;
-pub mod unanswered;

@@ -1,57 +1,19 @@
 //! The top call: from words and bytes to a status.
 
-ghost use Rattle.std.specs.Prelude.{◌≡◌, ◌≤◌, Option, Some, MatchOption, length, take};
+ghost use Rattle.std.specs.Prelude.{◌≡◌, ◌≤◌, ◌∷◌, [], Option, Some, MatchOption};
 ghost use Rattle.cqa_io.specs.Causes.{Rose};
 ghost use Rattle.command_shell.specs.State.{opening, State};
-ghost use Rattle.command_shell.specs.declared.ending.Command.TheVariants.{Run as RunWord, Check as CheckWord};
-ghost use Rattle.command_shell.specs.Top.{code_of, word_for, AreWordsFor, IsAskedBy, limit, told, Ended, IsWithinLimit, IsCompleted};
+ghost use Rattle.command_shell.specs.declared.ending.Command.TheVariants.{Check as CheckWord, Demo as DemoWord};
+ghost use Rattle.command_shell.specs.Top.{code_of, StandFor, AreWordsFor, IsAskedBy, told, Ended, IsWithinLimit, IsCompleted};
 
 use crate::Session;
-use crate::answers::answer_all;
+use crate::demo::{demo, size_of};
 use crate::ending::{Command, Ending, ReadEnd, code};
-use crate::input::{LIMIT, read_all};
+use crate::input::read_all;
+use crate::pieces::run;
 use crate::verdict::write_verdict;
 use cqa_io::{Sink, Source};
 use std::alloc::Global;
-
-/// The bytes before the limit.
-fn front(input: &[u8]) -> &[u8]
-    requires { limit ≤ length input.now }
-    ensures is { result.now ≡ take limit input.now }
-    ensures short { length result.now ≤ 268_435_456 }
-{
-    &input[..LIMIT]
-}
-
-/// Reads the input and answers its statements.
-fn run<S: Source, K: Sink>(
-    alloc: Global,
-    session: &mut Session,
-    source: &mut S,
-    sink: &mut K,
-) -> Ending
-    ensures row { Ended (Some RunWord) result (told (S.left source.old) (K.held sink.old) (S.faults source.old) (K.faults sink.old)) (told (S.left source.new) (K.held sink.new) (S.faults source.new) (K.faults sink.new)) session.old session.new }
-    ensures reads { S.faults source.old ≤ S.faults source.new }
-    ensures writes { K.faults sink.old ≤ K.faults sink.new }
-{
-    let mut input = Vec::new(alloc);
-    match read_all(alloc, source, &mut input) {
-        ReadEnd::OutOfMemory => Ending::OutOfMemory,
-        ReadEnd::End => match answer_all(alloc, session, sink, input.as_slice(), true) {
-            Ok(false) => Ending::Answered,
-            Ok(true) => Ending::WithRefusal,
-            Err(stop) => Ending::from(stop),
-        },
-        ReadEnd::Fault => match answer_all(alloc, session, sink, input.as_slice(), false) {
-            Ok(_) => Ending::ReadFault,
-            Err(stop) => Ending::from(stop),
-        },
-        ReadEnd::TooLong => match answer_all(alloc, session, sink, front(input.as_slice()), false) {
-            Ok(_) => Ending::TooLong,
-            Err(stop) => Ending::from(stop),
-        },
-    }
-}
 
 /// Reads the input and writes the line on it, as a formula with a log.
 fn check<S: Source, K: Sink>(alloc: Global, source: &mut S, sink: &mut K) -> Ending
@@ -74,7 +36,7 @@ fn check<S: Source, K: Sink>(alloc: Global, source: &mut S, sink: &mut K) -> End
 
 /// The command that a word is.
 fn command_named(word: &str) -> Option<Command>
-    ensures { MatchOption result ((command : Command) → word.now ≡ word_for command → ⊥) (λ command. word.now ≡ word_for command) }
+    ensures { MatchOption result ((command : Command) → StandFor (word.now ∷ []) command → ⊥) (λ command. StandFor (word.now ∷ []) command) }
 {
     if word == "run" {
         return Some(Command::Run);
@@ -85,12 +47,26 @@ fn command_named(word: &str) -> Option<Command>
     None
 }
 
+/// The command that a word and another are.
+fn command_sized(word: &str, digits: &str) -> Option<Command>
+    ensures { MatchOption result ((command : Command) → StandFor (word.now ∷ digits.now ∷ []) command → ⊥) (λ command. StandFor (word.now ∷ digits.now ∷ []) command) }
+{
+    if word != "demo" {
+        return None;
+    }
+    match size_of(digits.as_bytes()) {
+        Some(size) => Some(Command::Demo(size)),
+        None => None,
+    }
+}
+
 /// The command that the words are.
 fn command(words: &[String]) -> Option<Command>
     ensures { IsAskedBy words.now result }
 {
     match words {
         [word] => command_named(word.as_str()),
+        [word, digits] => command_sized(word.as_str(), digits.as_str()),
         _ => None,
     }
 }
@@ -120,5 +96,6 @@ pub fn run_words<S: Source, K: Sink>(
         None => code(Ending::BadWords),
         Some(Command::Run) => code(run(alloc, session, source, sink)),
         Some(Command::Check) => code(check(alloc, source, sink)),
+        Some(Command::Demo(size)) => code(demo(alloc, session, sink, size)),
     }
 }

@@ -47,15 +47,35 @@ fn wanted_output(rt: &HostRuntime, topic: &str) -> io::Result<Vec<u8>> {
     fs::read(rt, name.as_str())
 }
 
-/// Whether a script gives the output that stands beside it.
+/// How many bytes one read gives: few, so that the pieces of a script end anywhere in its words, or the most of today.
+const PIECES: [usize; 4] = [1, 2, 7, 65_536];
+
+/// Whether a script gives the output that stands beside it, in pieces of each size.
 fn gives_its_output(rt: &HostRuntime, name: &str, topic: &str, word: &str) -> io::Result<bool> {
     let Ok(wanted) = wanted_output(rt, topic) else {
         println!(rt; "{name}: no file {topic}.out")?;
         return Ok(false);
     };
+    for piece in PIECES {
+        if !gives(rt, name, word, piece, wanted.as_slice())? {
+            println!(rt; "{name}: in pieces of {piece} bytes")?;
+            return Ok(false);
+        }
+    }
+    Ok(true)
+}
+
+/// Whether a script in pieces of a size gives an output.
+fn gives(
+    rt: &HostRuntime,
+    name: &str,
+    word: &str,
+    piece: usize,
+    wanted: &[u8],
+) -> io::Result<bool> {
     let script = fs::read(rt, name)?;
-    let (status, sink) = run(rt.alloc(), word, script, wanted.len())?;
-    ends_as_wanted(rt, name, wanted.as_slice(), sink.bytes(), status)
+    let (status, sink) = run(rt.alloc(), word, script, piece, wanted.len())?;
+    ends_as_wanted(rt, name, wanted, sink.bytes(), status)
 }
 
 /// Whether a topic has a script.

@@ -7,9 +7,6 @@ use std::alloc::{AllocError, Global};
 /// The most conflicts of a search, as the program has it.
 const CONFLICTS: u32 = 200_000;
 
-/// The most bytes that one read gives: a prime, so that the pieces of a script end anywhere in its words.
-const PIECE: usize = 61;
-
 /// The bytes of an output that are kept beside those that are wanted.
 const MORE_ROOM: usize = 4096;
 
@@ -20,19 +17,20 @@ fn words_of(alloc: Global, word: &str) -> Result<Vec<String>, AllocError> {
     Ok(words)
 }
 
-/// Runs the program on this word and this input, and gives its status and what holds its output: as many bytes as are
-/// wanted, and some more.
+/// Runs the program on this word and this input, of which one read gives so many bytes, and gives its status and what holds
+/// its output: as many bytes as are wanted, and some more.
 pub fn run(
     alloc: Global,
     word: &str,
     input: Vec<u8>,
+    piece: usize,
     wanted: usize,
 ) -> Result<(u8, MemSink), AllocError> {
     let words = words_of(alloc, word)?;
     let room = wanted.saturating_add(MORE_ROOM);
     let mut sink = MemSink::new(alloc, room, Vec::new(alloc)).map_err(|_| AllocError)?;
     let mut session = Session::new(alloc, CONFLICTS);
-    let mut source = MemSource::new(input, PIECE, Vec::new(alloc));
+    let mut source = MemSource::new(input, piece.max(1), Vec::new(alloc));
     let status = run_words(
         alloc,
         words.as_slice(),

@@ -1,5 +1,5 @@
 use Rattle.std.proofs.Common.{None, Some}
-use Rattle.command_shell.specs.declared.ending.Command.TheVariants.{Run, Check}
+use Rattle.command_shell.specs.declared.ending.Command.TheVariants.{Run, Check, Demo}
 use Rattle.command_shell.specs.declared.ending.Ending.TheVariants.{BadWords}
 use Rattle.command_shell.proofs.Statuses.{refused_words, completed}
 use Rattle.command_shell.proofs.top.run_words.Goals as goal
@@ -13,3 +13,7 @@ returns-in-Some-Run-clause-completed g c some words reads writes short = complet
 pub returns-in-Some-Check-clause-completed : goal.returns-in-Some-Check-clause-completed
 returns-in-Some-Check-clause-completed g c some words reads writes short =
     completed (Some Check) c.check.result _ _ c.args.session.now c.args.session.now _ c.code-in-Some-Check.ensures (c.check.ensures.row c.args.session.now) (λ e. (cc)) reads writes short
+
+pub returns-in-Some-Demo-clause-completed : goal.returns-in-Some-Demo-clause-completed
+returns-in-Some-Demo-clause-completed g c some words reads writes short =
+    completed (Some (Demo c.in-Some-Demo.size)) c.demo.result _ _ c.args.session.now _ _ c.code-in-Some-Demo.ensures (c.demo.ensures.row (g.S.Source.left c.args.source.now) (g.S.Source.faults c.args.source.now)) (λ e. (cc)) reads writes short

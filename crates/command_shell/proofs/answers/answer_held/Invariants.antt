@@ -1,0 +1,14 @@
+use Rattle.std.proofs.Common.{length, ◌≤◌}
+use Rattle.command_shell.proofs.Progress.{SoFar}
+use Rattle.command_shell.proofs.answers.answer_held.Given as goal
+
+-- the statements before those held were answered
+abbrev pub invariant-loop-text : goal.invariant-loop-text
+invariant-loop-text g l = record {
+  fewer : length l.held ≤ length l.fn.held;
+  so_far : SoFar l.fn.session l.fn.held l.ended l.held l.session l.refused (g.K.Sink.held l.fn.sink) (g.K.Sink.held l.sink);
+  later : g.K.Sink.faults l.fn.sink ≤ g.K.Sink.faults l.sink;
+}
+
+abbrev pub decreases-loop-text : goal.decreases-loop-text
+decreases-loop-text g l = length l.held
