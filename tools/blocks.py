@@ -1,13 +1,16 @@
 #!/usr/bin/env python3
-"""Runs the blocks of README.md and docs/LANGUAGE.md against the built program, and says where a reply differs.
+"""Runs the blocks of README.md and docs/LANGUAGE.md, and the examples, and says where a reply of the program differs.
 
     tools/blocks.py [PROGRAM]
 
 A block ```cqa is a script, and the block ```reply behind it what the program has to write. In LANGUAGE.md each script is a
 session of its own; in README.md all of them are one, which has to be the stored run of cqa_cli. Rows of a table whose first
-cell is a statement and whose second is its reply, both in back quotes, are run behind the table `staff`.
+cell is a statement and whose second is its reply, both in back quotes, are run behind the table `staff`. An example is a
+script NAME.cqa or a proof NAME.lrat, with its output NAME.out beside it; the proof that search.cqa ends with has to be
+verified.
 """
 
+import glob
 import os
 import re
 import subprocess
@@ -23,8 +26,8 @@ def read(*path):
         return file.read()
 
 
-def replies(script):
-    ran = subprocess.run([PROGRAM, "run"], input=script.encode(), stdout=subprocess.PIPE, check=False)
+def replies(script, word="run"):
+    ran = subprocess.run([PROGRAM, word], input=script.encode(), stdout=subprocess.PIPE, check=False)
     return ran.stdout.decode()
 
 
@@ -49,7 +52,14 @@ def main():
     script, expected = "\n".join(part for part, _ in tour), "".join(reply for _, reply in tour)
     failed += compare("README.md", script, expected, replies(script))
     failed += compare("crates/cqa_cli/stdin", "", read("crates", "cqa_cli", "stdin"), script)
-    print("%d differ" % failed if failed else "all blocks agree")
+    for path in sorted(glob.glob(os.path.join(TOP, "examples", "*.out"))):
+        name = os.path.basename(path)[:-4]
+        is_script = os.path.exists(os.path.join(TOP, "examples", name + ".cqa"))
+        got = replies(read("examples", name + (".cqa" if is_script else ".lrat")), "run" if is_script else "check")
+        failed += compare("examples/" + name, "", read("examples", name + ".out"), got)
+    proof = replies(read("examples", "search.cqa")).partition("certain by refutation\n")[2]
+    failed += compare("examples/search.cqa, its proof", proof, "verified\n", replies(proof, "check"))
+    print("%d differ" % failed if failed else "all blocks and examples agree")
     return 1 if failed else 0
 
 

@@ -1,0 +1,125 @@
+#!/usr/bin/env python3
+"""Whether the program stands inputs that nobody meant.
+
+    differential/hostile.py [--program FILE] [--count N] [--seed N]
+
+Random bytes, random splices of the tests' scripts and proofs, and each of these cut off at each byte: the program has to end
+by itself within a minute, with status 0 or 1, and with 1 exactly where a line of what it wrote is a refusal. The last line
+says whether all did; the status is 0 then. Python 3.9 and its library alone are needed.
+"""
+
+import argparse
+import glob
+import os
+import random
+import subprocess
+import sys
+from concurrent.futures import ThreadPoolExecutor
+
+TOP = os.path.dirname(os.path.dirname(os.path.abspath(__file__)))
+PROGRAM = os.path.join(TOP, "crates", "cqa_cli", "out", "cqa_cli")
+DATA = os.path.join(TOP, "crates", "script_tests", "data")
+
+SECONDS = 60
+"""How long a run may take."""
+
+BYTES = b"\0\t\n\r '\"();,.=<>-_\\aeiou09\x7f\x80\xc3\xff"
+"""Bytes that mean something to the program, and some that don't."""
+
+
+def fault_of(program, word, data):
+    """What is wrong with a run over these bytes, if anything is."""
+    try:
+        ended = subprocess.run([program, word], input=data, stdout=subprocess.PIPE, stderr=subprocess.PIPE, timeout=SECONDS, check=False)
+    except subprocess.TimeoutExpired:
+        return "it doesn't end"
+    refusal = b"error " if word == "run" else b"refused "
+    refused = any(line.startswith(refusal) for line in ended.stdout.split(b"\n"))
+    if ended.returncode not in (0, 1):
+        return "it ends with %d" % ended.returncode
+    if (ended.returncode == 1) != refused:
+        return "it ends with %d, and a line is a refusal: %s" % (ended.returncode, refused)
+    if ended.stdout and not ended.stdout.endswith(b"\n"):
+        return "its last line has no end"
+    if ended.stderr:
+        return "it writes to standard error"
+    return None
+
+
+def read_all(kind):
+    """The files of the tests of a kind."""
+    found = []
+    for name in sorted(glob.glob(os.path.join(DATA, "*." + kind))):
+        with open(name, "rb") as file:
+            found.append(file.read())
+    return found
+
+
+def random_bytes(random_source):
+    """Some bytes."""
+    size = random_source.randint(0, 400)
+    if random_source.random() < 0.3:
+        return bytes(random_source.randrange(256) for _ in range(size))
+    return bytes(random_source.choice(BYTES) for _ in range(size))
+
+
+def spliced(random_source, texts):
+    """Stretches of some texts, one behind another."""
+    parts = []
+    for text in random_source.choices(texts, k=random_source.randint(2, 6)):
+        start = random_source.randint(0, len(text))
+        parts.append(text[start:start + random_source.randint(0, 500)])
+    return b"".join(parts)
+
+
+def changed(random_source, text):
+    """A text with a few bytes put in, taken out or changed."""
+    data = bytearray(text)
+    for _ in range(random_source.randint(1, 4)):
+        place = random_source.randint(0, len(data))
+        data[place:place + random_source.randint(0, 2)] = random_bytes(random_source)[:random_source.randint(0, 3)]
+    return bytes(data)
+
+
+def inputs(random_source, count, truncated):
+    """Pairs of a word and an input."""
+    scripts, proofs = read_all("cqa"), read_all("lrat")
+    for word, texts in (("run", scripts), ("check", proofs)):
+        for _ in range(count):
+            yield word, random_bytes(random_source)
+            yield word, spliced(random_source, texts)
+            yield word, changed(random_source, random_source.choice(texts))
+        for text in texts:
+            if len(text) <= truncated:
+                for end in range(len(text)):
+                    yield word, text[:end]
+    for _ in range(count):
+        yield "check", random_source.choice(scripts)
+        yield "run", random_source.choice(proofs)
+
+
+def main():
+    parser = argparse.ArgumentParser(description=__doc__.splitlines()[0])
+    parser.add_argument("--program", default=PROGRAM)
+    parser.add_argument("--count", type=int, default=300, help="how many inputs of each kind")
+    parser.add_argument("--truncated", type=int, default=600, help="the longest test that is cut off at each byte")
+    parser.add_argument("--seed", type=int, default=1)
+    parser.add_argument("--jobs", type=int, default=2)
+    options = parser.parse_args()
+    cases = list(inputs(random.Random(options.seed), options.count, options.truncated))
+    with ThreadPoolExecutor(options.jobs) as pool:
+        faults = pool.map(lambda case: fault_of(options.program, *case), cases)
+        failed = 0
+        for number, (case, fault) in enumerate(zip(cases, faults)):
+            if fault is not None:
+                failed += 1
+                name = "/tmp/hostile-%d.%s" % (number, case[0])
+                with open(name, "wb") as file:
+                    file.write(case[1])
+                print("%s: %s" % (name, fault))
+    print("%d of %d inputs fail" % (failed, len(cases)) if failed else "%d inputs end as they have to" % len(cases))
+    return 1 if failed else 0
+
+
+if __name__ == "__main__":
+    sys.exit(main())
