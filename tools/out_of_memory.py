@@ -22,8 +22,8 @@ DATA = os.path.join(TOP, "crates", "script_tests", "data")
 
 OUT_OF_MEMORY = 5
 
-SCRIPTS = ["certain_answers.cqa", "certain_rows_of_joins.cqa", "explanations.cqa", "copies.cqa", "plans.cqa"]
-"""Rows through one block and through different ones, explanations, blocks of rows, and plans."""
+SCRIPTS = ["certain_answers.cqa", "searches.cqa", "dumps.cqa", "explains_by_search.cqa", "explains_by_plans.cqa"]
+"""Rows through one block and through different ones, dumps, refutations, and plans with mended repairs."""
 
 SHIM = r"""
 #define _GNU_SOURCE
