@@ -327,6 +327,7 @@ verb_decodes verbs.Ask verbs.Ask r z e = (refl, (cc))
 verb_decodes verbs.Possible verbs.Possible r z e = (refl, (cc))
 verb_decodes verbs.Classify verbs.Classify r z e = (refl, (cc))
 verb_decodes verbs.Plan verbs.Plan r z e = (refl, (cc))
+verb_decodes verbs.Sql verbs.Sql r z e = (refl, (cc))
 verb_decodes (verbs.Explain a) (verbs.Explain b) r z e =
     let g : (row_tokens a ++ Word (codes "for") ∷ []) ++ r ≡ (row_tokens b ++ Word (codes "for") ∷ []) ++ z = cc in
     let i = row_decodes a b (Word (codes "for") ∷ r) (Word (codes "for") ∷ z) (sym (append_assoc (row_tokens a) (Word (codes "for") ∷ []) r) ∙ g ∙ append_assoc (row_tokens b) (Word (codes "for") ∷ []) z) in
@@ -334,7 +335,7 @@ verb_decodes (verbs.Explain a) (verbs.Explain b) r z e =
 verb_decodes _ _ r z e = absurd (omega (arith, ap mark_of e))
 
 verb_marks : List ℕ
-verb_marks = mark_of (verb_tokens verbs.Ask) ∷ mark_of (verb_tokens verbs.Possible) ∷ mark_of (verb_tokens verbs.Classify) ∷ mark_of (verb_tokens verbs.Plan) ∷ mark_of (verb_tokens (verbs.Explain [])) ∷ []
+verb_marks = mark_of (verb_tokens verbs.Ask) ∷ mark_of (verb_tokens verbs.Possible) ∷ mark_of (verb_tokens verbs.Classify) ∷ mark_of (verb_tokens verbs.Plan) ∷ mark_of (verb_tokens verbs.Sql) ∷ mark_of (verb_tokens (verbs.Explain [])) ∷ []
 
 is_verb : List Lexeme → Bool
 is_verb ls = list_any (λ m. nat_eq m (mark_of ls)) verb_marks
@@ -345,6 +346,7 @@ opens_verb verbs.Ask r = refl
 opens_verb verbs.Possible r = refl
 opens_verb verbs.Classify r = refl
 opens_verb verbs.Plan r = refl
+opens_verb verbs.Sql r = refl
 opens_verb (verbs.Explain row) r = refl
 
 -- what is told apart from each verb begins with none

@@ -92,7 +92,7 @@ explain = one (word (codes "explain")) ⨾ one (word (codes "row")) ⨾ any_row 
 
 -- what is asked of a query
 abbrev pub verb : Shape
-verb = one (word (codes "ask")) ∣ one (word (codes "possible")) ∣ one (word (codes "classify")) ∣ one (word (codes "plan")) ∣ explain
+verb = one (word (codes "ask")) ∣ one (word (codes "possible")) ∣ one (word (codes "classify")) ∣ one (word (codes "plan")) ∣ one (word (codes "sql")) ∣ explain
 
 abbrev pub asking : Shape
 asking = verb ⨾ query

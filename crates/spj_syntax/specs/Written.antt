@@ -121,6 +121,7 @@ verb_tokens verbs.Ask = Word (codes "ask") ∷ []
 verb_tokens verbs.Possible = Word (codes "possible") ∷ []
 verb_tokens verbs.Classify = Word (codes "classify") ∷ []
 verb_tokens verbs.Plan = Word (codes "plan") ∷ []
+verb_tokens verbs.Sql = Word (codes "sql") ∷ []
 verb_tokens (verbs.Explain row) = Word (codes "explain") ∷ Word (codes "row") ∷ (row_tokens row ++ Word (codes "for") ∷ [])
 
 abbrev pub statement_tokens : Statement → List Lexeme

@@ -189,7 +189,7 @@ fn explain(alloc: Global, reader: &mut Reader<'_>) -> Result<Verb, Stop>
     Ok(Verb::Explain { row })
 }
 
-/// `ask`, `possible`, `classify`, `plan`, or `explain row ROW for`.
+/// `ask`, `possible`, `classify`, `plan`, `sql`, or `explain row ROW for`.
 fn verb(alloc: Global, reader: &mut Reader<'_>) -> Result<Verb, Stop>
     ensures { Reads grammar.verb verb_tokens result reader.old reader.new }
 {
@@ -208,6 +208,10 @@ fn verb(alloc: Global, reader: &mut Reader<'_>) -> Result<Verb, Stop>
     if reader.sees_word(b"plan") {
         reader.advance();
         return Ok(Verb::Plan);
+    }
+    if reader.sees_word(b"sql") {
+        reader.advance();
+        return Ok(Verb::Sql);
     }
     explain(alloc, reader)
 }

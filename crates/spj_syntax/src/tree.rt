@@ -60,13 +60,15 @@ pub struct Select {
     pub ghost few: { length conds ≤ most_items },
 }
 
-/// What is asked of a query: its certain rows, its possible rows, its class, its plan, or why a row isn't certain.
+/// What is asked of a query: its certain rows, its possible rows, its class, its plan, its certain rows as one query in SQL,
+/// or why a row isn't certain.
 #[derive(Drop)]
 pub enum Verb {
     Ask,
     Possible,
     Classify,
     Plan,
+    Sql,
     Explain { row: Row },
 }
 
