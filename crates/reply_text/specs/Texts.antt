@@ -21,7 +21,7 @@ use Rattle.reply_text.specs.declared.reply.KeptRow.{KeptRow}
 use Rattle.reply_text.specs.declared.reply.TableLine.{TableLine}
 use Rattle.reply_text.specs.declared.reply.Proof.{Proof}
 use Rattle.reply_text.specs.declared.reply.Reply.{Reply}
-use Rattle.reply_text.specs.declared.reply.Reply.TheVariants.{Created, Altered, Inserted, Deleted, Copied, Rows, Classified, Steps, NoPlan, Rejected, ByBlock, ByRefutation, Tables, Conflicts, KeptLog, NoLog, Dumped, Refused}
+use Rattle.reply_text.specs.declared.reply.Reply.TheVariants.{Created, Altered, Inserted, Deleted, Copied, Rows, Classified, Steps, Sql, NoPlan, Rejected, ByBlock, ByRefutation, Tables, Conflicts, KeptLog, NoLog, Dumped, Refused}
 
 -- row R column C, or condition K
 abbrev pub place_text : Place → List ℕ
@@ -156,6 +156,7 @@ lines_text (Copied count) = codes "copied " ++ decimal count
 lines_text (Rows rows) = rows_text rows
 lines_text (Classified class lines) = classified_text class lines
 lines_text (Steps names) = steps_text 0 names
+lines_text (Sql text) = text
 lines_text NoPlan = codes "no plan"
 lines_text (Rejected lines) = rejected_text lines
 lines_text (ByBlock table key) = block_text table key
@@ -167,8 +168,9 @@ lines_text (KeptLog proof) = proof_text proof
 lines_text NoLog = codes "no log"
 lines_text (Refused refusal) = refusal_text refusal
 
--- what ends the last line of a reply: a line feed, but of a dump and of a proof, whose lines have theirs
+-- what ends the last line of a reply: a line feed, but of a query in SQL, a dump and a proof, whose lines have theirs
 abbrev pub last_end : Reply → List ℕ
+last_end (Sql text) = []
 last_end (Dumped script) = []
 last_end (KeptLog proof) = []
 last_end (ByRefutation proof) = []

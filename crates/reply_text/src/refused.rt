@@ -45,13 +45,7 @@ pub fn append_refusal(refusal: &Refusal, out: &mut Vec<u8>) -> Result<(), NoMemo
         Refusal::WitnessLimit { row } => append_row("error 17 WitnessLimit ", row, out),
         Refusal::Spent { row, conflicts } => append_spent("error 18 Spent ", row, *conflicts, out),
         Refusal::BadCsv { number } => append_numbered("error 19 BadCsv record ", *number, out),
-        Refusal::KeyTaken { row, kept, fresh } => append_taken(
-            "error 20 KeyTaken row ",
-            *row,
-            kept,
-            fresh,
-            out,
-        ),
+        Refusal::KeyTaken { row, kept, fresh } => append_taken(*row, kept, fresh, out),
         Refusal::KeyBroken { first, second } => append_rows(
             "error 21 KeyBroken ",
             first,
@@ -138,17 +132,11 @@ fn append_rows(words: &str, first: &Row, second: &Row, out: &mut Vec<u8>) -> Res
     append_row(" ", second, out)
 }
 
-/// Appends words, a row's number, the row that is kept and the row of that number.
-fn append_taken(
-    words: &str,
-    number: u32,
-    kept: &Row,
-    fresh: &Row,
-    out: &mut Vec<u8>,
-) -> Result<(), NoMemory>
-    ensures { OnOk result (out.new.items ≡ out.old.items ++ (words.now ++ decimal number ++ codes " " ++ row_bytes kept.now ++ codes " " ++ row_bytes fresh.now)) }
+/// Appends the line on a taken key: a row's number, the row that is kept and the row of that number.
+fn append_taken(number: u32, kept: &Row, fresh: &Row, out: &mut Vec<u8>) -> Result<(), NoMemory>
+    ensures { OnOk result (out.new.items ≡ out.old.items ++ (codes "error 20 KeyTaken row " ++ decimal number ++ codes " " ++ row_bytes kept.now ++ codes " " ++ row_bytes fresh.now)) }
 {
-    append_numbered(words, number, out)?;
+    append_numbered("error 20 KeyTaken row ", number, out)?;
     append_rows(" ", kept, fresh, out)
 }
 

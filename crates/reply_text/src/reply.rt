@@ -29,6 +29,8 @@ pub enum Reply {
     },
     /// The tables of a query in the order of its plan.
     Steps(Items<Name>),
+    /// The certain rows of a query as one query in SQL.
+    Sql(Items<u8>),
     /// The query has no plan.
     NoPlan,
     /// The row is not certain: a repair of the query's tables that holds no witness of it, by its rows in the blocks

@@ -35,12 +35,12 @@ fn append_reply(alloc: Global, reply: &Reply, out: &mut Vec<u8>) -> Result<(), N
     append_words(last_end(reply), out)
 }
 
-/// What ends the last line of a reply: a line feed, but of a dump and of a proof, whose lines have theirs.
+/// What ends the last line of a reply: a line feed, but of a query in SQL, a dump and a proof, whose lines have theirs.
 fn last_end(reply: &Reply) -> &'static str
     ensures { result.now ≡ last_end reply.now }
 {
     match reply {
-        Reply::Dumped(_) | Reply::KeptLog(_) | Reply::ByRefutation(_) => "",
+        Reply::Sql(_) | Reply::Dumped(_) | Reply::KeptLog(_) | Reply::ByRefutation(_) => "",
         _ => "\n",
     }
 }
@@ -58,6 +58,7 @@ fn append_lines(alloc: Global, reply: &Reply, out: &mut Vec<u8>) -> Result<(), N
         Reply::Rows(rows) => append_rows(rows.as_slice(), out),
         Reply::Classified { class, lines } => append_classified(*class, lines.as_slice(), out),
         Reply::Steps(names) => append_steps(names.as_slice(), out),
+        Reply::Sql(text) => append_bytes(text.as_slice(), out),
         Reply::NoPlan => append_words("no plan", out),
         Reply::Rejected(lines) => append_rejected(lines.as_slice(), out),
         Reply::ByBlock { table, key } => append_by_block(table, key, out),
