@@ -57,16 +57,17 @@ forced_watchful s s' l w same put sound =
     let db = literals s.clauses.items in
     let R = IsListed s.lists.items in
     let t : held s'.trail.items ≡ held s.trail.items ++ put.0.lit ∷ [] = ap held put.2 ∙ held_push s.trail.items put.0 in
-    let watching : IsWatching R db (held s.trail.items ++ put.0.lit ∷ []) s.level_starts.items s.head s.pairs.items =
+    let watching : IsWatching R s.permanent db (held s.trail.items ++ put.0.lit ∷ []) s.level_starts.items s.head s.pairs.items =
     watching_put R db (held s.trail.items) s.level_starts.items s.head s.pairs.items put.0.lit w.watching in
     record {
       sound = sound;
-      watching = subst (λ (x : Vec (List ℕ) Global). IsWatching (IsListed x.items) (literals s'.clauses.items) (held s'.trail.items) s'.level_starts.items s'.head s'.pairs.items) (sym same.lists)
-          (subst (λ (x : Vec Clause Global). IsWatching R (literals x.items) (held s'.trail.items) s'.level_starts.items s'.head s'.pairs.items) (sym same.clauses)
-          (subst (λ (x : Vec ℕ Global). IsWatching R db (held s'.trail.items) x.items s'.head s'.pairs.items) (sym same.level_starts)
-          (subst (λ (h : ℕ). IsWatching R db (held s'.trail.items) s.level_starts.items h s'.pairs.items) (sym same.head)
-          (subst (λ (x : Vec Pair Global). IsWatching R db (held s'.trail.items) s.level_starts.items s.head x.items) (sym same.pairs)
-          (subst (λ (xs : List Lit). IsWatching R db xs s.level_starts.items s.head s.pairs.items) (sym t) watching)))));
+      watching = subst (λ (n : ℕ). IsWatching (IsListed s'.lists.items) n (literals s'.clauses.items) (held s'.trail.items) s'.level_starts.items s'.head s'.pairs.items) (sym same.permanent)
+          (subst (λ (x : Vec (List ℕ) Global). IsWatching (IsListed x.items) s.permanent (literals s'.clauses.items) (held s'.trail.items) s'.level_starts.items s'.head s'.pairs.items) (sym same.lists)
+          (subst (λ (x : Vec Clause Global). IsWatching R s.permanent (literals x.items) (held s'.trail.items) s'.level_starts.items s'.head s'.pairs.items) (sym same.clauses)
+          (subst (λ (x : Vec ℕ Global). IsWatching R s.permanent db (held s'.trail.items) x.items s'.head s'.pairs.items) (sym same.level_starts)
+          (subst (λ (h : ℕ). IsWatching R s.permanent db (held s'.trail.items) s.level_starts.items h s'.pairs.items) (sym same.head)
+          (subst (λ (x : Vec Pair Global). IsWatching R s.permanent db (held s'.trail.items) s.level_starts.items s.head x.items) (sym same.pairs)
+          (subst (λ (xs : List Lit). IsWatching R s.permanent db xs s.level_starts.items s.head s.pairs.items) (sym t) watching))))));
       lists = subst (λ (x : Vec (List ℕ) Global). AreLists x.items (length s'.places.items) (length s'.pairs.items)) (sym same.lists)
           (subst (λ (x : Vec Pair Global). AreLists s.lists.items (length s'.places.items) (length x.items)) (sym same.pairs)
           (subst (λ (n : ℕ). AreLists s.lists.items n (length s.pairs.items)) (sym same.len) w.lists));

@@ -3,7 +3,7 @@ use Rattle.std.proofs.Common.{◌≡◌, ℕ, zero, suc, ◌≤◌, ◌+◌, ℤ
 use Rattle.std.specs.Prelude.{Contains}
 use Rattle.std.proofs.lemmas.Map.{update_here, update_apart}
 use Rattle.std.proofs.lemmas.Option.{slice_get-get_or}
-use Rattle.std.proofs.lemmas.List.{map-append}
+use Rattle.std.proofs.lemmas.List.{map-append, length-append}
 use Rattle.std.proofs.lemmas.List.Elements.{Contains-push}
 use Rattle.cnf_form.specs.declared.formula.Lit.{Lit}
 use Rattle.cnf_form.specs.declared.formula.Cnf.{Cnf}
@@ -91,9 +91,9 @@ follow_adds db (Add id clause hints ∷ steps) h =
     let r = follow_adds (db ++ clause.lits ∷ []) steps h.1 in (r.0, ap (λ (xs : List (List Lit)). clause.lits ∷ xs) r.1)
 follow_adds db (Delete ids ∷ steps) h = absurd h.0
 
-line_follows : (db : List (List Lit)) (n : ℕ) (step : Step) → IsLineStep db n step → StepFollows db step
-line_follows db n (Add id clause hints) l = (l.0, l.1.passes)
-line_follows db n (Delete ids) l = absurd l
+line_follows : (permanent : ℕ) (db : List (List Lit)) (n : ℕ) (step : Step) → IsLineStep permanent db n step → StepFollows db step
+line_follows permanent db n (Add id clause hints) l = (l.0, l.1.passes)
+line_follows permanent db n (Delete ids) l = absurd l
 
 last_follows : (db : List (List Lit)) (step : Step) → IsLastStep db step → StepFollows db step × (added_lits step ≡ [])
 last_follows db (Add id clause hints) l =
@@ -101,9 +101,9 @@ last_follows db (Add id clause hints) l =
     ((l.0, subst (λ (c : List Lit). ChainPasses db c hints) e l.2), l.1)
 last_follows db (Delete ids) l = absurd l
 
-lines_follow : (db : List (List Lit)) (n : ℕ) (steps : List Step) → AreLines db n steps → StepsFollow db steps
-lines_follow db n [] h = tt
-lines_follow db n (step ∷ steps) h = (line_follows db n step h.0, lines_follow (db ++ added_lits step ∷ []) n steps h.1)
+lines_follow : (permanent : ℕ) (db : List (List Lit)) (n : ℕ) (steps : List Step) → AreLines permanent db n steps → StepsFollow db steps
+lines_follow permanent db n [] h = tt
+lines_follow permanent db n (step ∷ steps) h = (line_follows permanent db n step h.0, lines_follow permanent (db ++ added_lits step ∷ []) n steps h.1)
 
 follow_push : (db : List (List Lit)) (steps : List Step) (step : Step) → StepsFollow db steps → StepFollows (db ++ learnt steps) step → StepsFollow db (steps ++ step ∷ [])
 follow_push db [] step a b = (subst (λ (d : List (List Lit)). StepFollows d step) (append_nil db) b, tt)
@@ -116,38 +116,40 @@ follow_push db (x ∷ xs) step a b = (
   follow_push (db ++ added_lits x ∷ []) xs step a.1 (subst (λ (d : List (List Lit)). StepFollows d step) (sym (append_assoc db (added_lits x ∷ []) (learnt xs))) b),
 )
 
-lines_new : (db : List (List Lit)) (vars : ℕ) (steps : List Step) → AreLines db (vars + 1) steps → AreNew vars db (learnt steps)
-lines_new db vars [] h = tt
-lines_new db vars (Add id clause hints ∷ steps) h =
-    let line = h.0.1 in (
+lines_new : (permanent : ℕ) (db : List (List Lit)) (vars : ℕ) (steps : List Step) → length (db ++ learnt steps) ≤ permanent → AreLines permanent db (vars + 1) steps → AreNew vars db (learnt steps)
+lines_new permanent db vars [] whole h = tt
+lines_new permanent db vars (Add id clause hints ∷ steps) whole h =
+    let line = h.0.1 in
+    let len = length-append db (clause.lits ∷ learnt steps) in
+    let same = ap (λ (xs : List (List Lit)). length xs) (append_assoc db (clause.lits ∷ []) (learnt steps)) in (
       record { some = line.some; range = λ l i. (line.low l i, let r = line.range l i in omega (arith, r)); once = line.once },
-      line.fresh,
-      lines_new (db ++ clause.lits ∷ []) vars steps h.1,
+      λ d i. line.fresh i.0 d (omega (arith, i.1, len, whole)) (i.1, i.2),
+      lines_new permanent (db ++ clause.lits ∷ []) vars steps (omega (arith, same, whole)) h.1,
     )
-lines_new db vars (Delete ids ∷ steps) h = absurd h.0
+lines_new permanent db vars (Delete ids ∷ steps) whole h = absurd h.0
 
-pub spent_log : (cnf : Cnf) (budget : ℕ) (log : List Step) → EndsSpent (literals cnf.clauses) (cnf.vars + 1) budget log → IsSpentLog cnf budget log
-spent_log cnf budget log e =
+pub spent_log : (permanent : ℕ) (cnf : Cnf) (budget : ℕ) (log : List Step) → EndsSpent permanent (literals cnf.clauses) (cnf.vars + 1) budget log → IsSpentLog cnf budget log
+spent_log permanent cnf budget log e =
     let db = literals cnf.clauses in
-    let follow = lines_follow db (cnf.vars + 1) log e.lines in
+    let follow = lines_follow permanent db (cnf.vars + 1) log e.lines in
     let adds = follow_adds db log follow in
     let same : db ++ learnt log ≡ db ++ added log = ap (λ (xs : List (List Lit)). db ++ xs) (sym adds.1) in
     record {
       passes = follow_passes cnf log follow;
       adds = adds.0;
       count = e.count;
-      new = subst (λ (xs : List (List Lit)). AreNew cnf.vars db xs) (sym adds.1) (lines_new db cnf.vars log e.lines);
+      new = subst (λ (xs : List (List Lit)). AreNew cnf.vars db xs) (sym adds.1) (lines_new permanent db cnf.vars log e.whole e.lines);
       stuck = subst (λ (d : List (List Lit)). ReachesEmpty d → ⊥) same e.stuck;
       free = (e.free.0, e.free.1, let r = e.free.2 in omega (arith, r), subst (λ (d : List (List Lit)). StaysOpen d e.free.0) same e.free.3);
     }
 
-pub refutation : (cnf : Cnf) (budget : ℕ) (log : List Step) → EndsEmpty (literals cnf.clauses) (cnf.vars + 1) budget log
+pub refutation : (permanent : ℕ) (cnf : Cnf) (budget : ℕ) (log : List Step) → EndsEmpty permanent (literals cnf.clauses) (cnf.vars + 1) budget log
     → Refutes cnf log × AreConsecutive (length cnf.clauses) log × (length log ≤ budget + 1)
-refutation cnf budget log e =
+refutation permanent cnf budget log e =
     let db = literals cnf.clauses in
     let last = last_follows (db ++ learnt e.before) e.last e.ends in
     let follow : StepsFollow db log =
-    subst (λ (xs : List Step). StepsFollow db xs) (sym e.shape) (follow_push db e.before e.last (lines_follow db (cnf.vars + 1) e.before e.lines) last.0) in
+    subst (λ (xs : List Step). StepsFollow db xs) (sym e.shape) (follow_push db e.before e.last (lines_follow permanent db (cnf.vars + 1) e.before e.lines) last.0) in
     let adds = follow_adds db log follow in
     let shape : learnt log ≡ learnt e.before ++ [] ∷ [] =
     ap learnt e.shape ∙ map-append added_lits e.before (e.last ∷ []) ∙ ap (λ (c : List Lit). learnt e.before ++ c ∷ []) last.1 in

@@ -5,18 +5,18 @@ use Rattle.std.specs.Prelude.{Contains}
 use Rattle.std.proofs.lemmas.List.Elements.{Contains-push_cases, Contains-append_left, Contains-push}
 use Rattle.cnf_form.specs.declared.formula.Lit.{Lit}
 use Rattle.cnf_form.specs.Literals.{literals, opposite}
-use Rattle.cdcl.specs.Settled.{IsConsistent, IsOpen, IsSettled, AllSettled}
+use Rattle.cdcl.specs.Settled.{IsConsistent, IsOpen, IsSettled, AllSettledTo}
 use Rattle.cdcl.proofs.SettledLemmas.{new_by_settled}
 use Rattle.cdcl.specs.declared.trail.Entry.{Entry}
 use Rattle.cdcl.specs.Trail.{held, AllInRange, AllLow}
 use Rattle.cdcl.specs.Looks.{IsForced}
 use Rattle.cdcl.specs.Analysis.{IsLearntClause}
-use Rattle.cnf_form.specs.Spent.{IsNew}
 use Rattle.cdcl.specs.State.{IsState, IsSound}
 use Rattle.cdcl.specs.declared.solver.Solver.{Solver}
 use Rattle.cdcl.specs.declared.analysis.LearntClause.{LearntClause}
 use Rattle.cdcl.specs.Visits.{IsPrefix, IsLearnt, LeavesLevel}
-use Rattle.cdcl.specs.Lines.{IsLine}
+use Rattle.cdcl.specs.Lines.{IsLine, IsNewTo}
+use Rattle.cdcl.specs.Looking.{IsWatchful}
 use Rattle.cdcl.proofs.TrailLemmas.{settled_by_open}
 use Rattle.cdcl.proofs.Works.{At-get_or, At-same, At-take, At-in_take, At-contains, contains_taken}
 use Rattle.cdcl.proofs.Places.{IsApart, apart_by_places, consistent}
@@ -51,11 +51,11 @@ pub asserted_inside : (db : List (List Lit)) (t : List Lit) (start : ℕ) (lits 
 asserted_inside db t start lits hints a end w =
     subst (λ (x : Lit). Contains lits x) (sym w.asserts) (subst (λ (xs : List Lit). Contains xs (opposite w.uip)) (sym w.shape) (Contains-push w.lower (opposite w.uip)))
 
--- a learnt clause is new
-pub learnt_new : (db : List (List Lit)) (t : List Lit) (start : ℕ) (lits : List Lit) (hints : List ℤ) (a : Lit) (end : ℕ)
-    → IsConsistent t → AllSettled (take start t) db → IsLearntClause db t start lits hints a end → IsNew db lits
-learnt_new db t start lits hints a end k settled w d i sub =
-    new_by_settled (take start t) d lits a (settled d i) sub
+-- a learnt clause is new beside the clauses that were settled
+pub learnt_new : (permanent : ℕ) (db : List (List Lit)) (t : List Lit) (start : ℕ) (lits : List Lit) (hints : List ℤ) (a : Lit) (end : ℕ)
+    → IsConsistent t → AllSettledTo permanent (take start t) db → IsLearntClause db t start lits hints a end → IsNewTo permanent db lits
+learnt_new permanent db t start lits hints a end k settled w i d f at sub =
+    new_by_settled (take start t) d lits a (settled i d f at) sub
     (λ m j n. elim (lits_cases db t start lits hints a end w m j) [ inl l ↦ w.below m l | inr e ↦ absurd (n (sym e)) ])
     (λ c. k w.uip (At-contains t w.place w.uip w.there) (contains_taken start t (opposite w.uip) (subst (λ (x : Lit). Contains (take start t) x) w.asserts c)))
 
@@ -137,17 +137,17 @@ left_by trail0 trail1 trail2 start s end same e p kept h =
     }
 
 -- all that is known of a learnt clause after the jump back
-pub record Facts (db : List (List Lit)) (n : ℕ) (t : List Lit) (end : ℕ) (lits : List Lit) (hints : List ℤ) (a : Lit) : Type 0 where
+pub record Facts (permanent : ℕ) (db : List (List Lit)) (n : ℕ) (t : List Lit) (end : ℕ) (lits : List Lit) (hints : List ℤ) (a : Lit) : Type 0 where
   pub forced : IsForced t lits a
   pub settled : (s : ℕ) → s < end → IsSettled (take s t) lits
-  pub line : IsLine db n lits hints
+  pub line : IsLine permanent db n lits hints
 
-pub facts : (db : List (List Lit)) (trail0 trail1 trail2 : List Entry) (places : List (Option ℕ)) (starts0 starts1 : List ℕ) (start s end n : ℕ)
+pub facts : (permanent : ℕ) (db : List (List Lit)) (trail0 trail1 trail2 : List Entry) (places : List (Option ℕ)) (starts0 starts1 : List ℕ) (start s end n : ℕ)
     (lits : List Lit) (hints : List ℤ) (a : Lit)
-    → IsState db trail0 places starts0 → starts0 ≡ starts1 ++ s ∷ [] → n ≡ length starts0 → start ≡ get_or starts0 (n - 1) start
+    → IsState db trail0 places starts0 → ((x : ℕ) → Contains starts0 x → AllSettledTo permanent (take x (held trail0)) db) → starts0 ≡ starts1 ++ s ∷ [] → n ≡ length starts0 → start ≡ get_or starts0 (n - 1) start
     → trail1 ≡ take s trail0 → IsPrefix trail2 trail1 → take end (held trail2) ≡ take end (held trail1)
-    → IsLearntClause db (held trail0) start lits hints a end → Facts db (length places) (held trail2) end lits hints a
-facts db trail0 trail1 trail2 places starts0 starts1 start s end n lits hints a st split len at cut p kept w =
+    → IsLearntClause db (held trail0) start lits hints a end → Facts permanent db (length places) (held trail2) end lits hints a
+facts permanent db trail0 trail1 trail2 places starts0 starts1 start s end n lits hints a st ended split len at cut p kept w =
     let same : start ≡ s = last_is starts0 starts1 s n start split len at in
     let apart = apart_by_places (held trail0) places st.places_are in
     let left : IsLeft (held trail0) (held trail2) start end =
@@ -159,7 +159,7 @@ facts db trail0 trail1 trail2 places starts0 starts1 start s end n lits hints a 
       settled = λ x h. settled_after db (held trail0) (held trail2) start lits hints a end x apart left w h;
       line = record {
         passes = w.passes;
-        fresh = learnt_new db (held trail0) start lits hints a end (consistent (held trail0) places st.places_are) (st.ended start last) w;
+        fresh = learnt_new permanent db (held trail0) start lits hints a end (consistent (held trail0) places st.places_are) (ended start last) w;
         once = w.once;
         some = (a, asserted_inside db (held trail0) start lits hints a end w);
         range = learnt_range db (held trail0) start lits hints a end (length places) st.held_in w;
@@ -167,13 +167,13 @@ facts db trail0 trail1 trail2 places starts0 starts1 start s end n lits hints a 
       };
     }
 
-pub learn_facts : (s0 s1 s2 : Solver) (learnt : LearntClause) → IsSound s0 → IsLearnt s0 learnt → LeavesLevel s0 s1 → IsPrefix s2.trail.items s1.trail.items
+pub learn_facts : (s0 s1 s2 : Solver) (learnt : LearntClause) → IsWatchful s0 → IsLearnt s0 learnt → LeavesLevel s0 s1 → IsPrefix s2.trail.items s1.trail.items
     → take learnt.end (held s2.trail.items) ≡ take learnt.end (held s1.trail.items)
-    → Facts (literals s0.clauses.items) (length s0.places.items) (held s2.trail.items) learnt.end learnt.lits.items learnt.hints.items learnt.asserted
-learn_facts s0 s1 s2 learnt sound analyzed left p kept =
-    facts (literals s0.clauses.items) s0.trail.items s1.trail.items s2.trail.items s0.places.items s0.level_starts.items s1.level_starts.items
+    → Facts s0.permanent (literals s0.clauses.items) (length s0.places.items) (held s2.trail.items) learnt.end learnt.lits.items learnt.hints.items learnt.asserted
+learn_facts s0 s1 s2 learnt watchful analyzed left p kept =
+    facts s0.permanent (literals s0.clauses.items) s0.trail.items s1.trail.items s2.trail.items s0.places.items s0.level_starts.items s1.level_starts.items
     analyzed.0 left.0 learnt.end (length s0.level_starts.items) learnt.lits.items learnt.hints.items learnt.asserted
-    sound left.1 refl (At-read s0.level_starts.items (length s0.level_starts.items - 1) analyzed.0 analyzed.1) left.2 p kept analyzed.2
+    watchful.sound watchful.watching.ended left.1 refl (At-read s0.level_starts.items (length s0.level_starts.items - 1) analyzed.0 analyzed.1) left.2 p kept analyzed.2
   where
     At-read : (xs : List ℕ) (k x : ℕ) → At xs k x → x ≡ get_or xs k x
     At-read xs k x a = At-same xs k x (get_or xs k x) a (At-get_or xs k x a.0)

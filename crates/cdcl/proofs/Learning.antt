@@ -1,5 +1,5 @@
 -- How a solver watches a clause that it has learnt.
-use Rattle.std.proofs.Common.{◌≡◌, ℕ, zero, suc, ◌<◌, ◌+◌, ◌-◌, List, [], ◌∷◌, ◌++◌, refl, sym, ◌∙◌, ap, subst, arith, length}
+use Rattle.std.proofs.Common.{take, ◌≡◌, ℕ, zero, suc, ◌<◌, ◌+◌, ◌-◌, List, [], ◌∷◌, ◌++◌, refl, sym, ◌∙◌, ap, subst, arith, length}
 use Rattle.std.specs.Prelude.{Contains, Vec}
 use Rattle.std.specs.declared.alloc.Global.{Global}
 use Rattle.cnf_form.specs.declared.formula.Lit.{Lit}
@@ -9,6 +9,7 @@ use Rattle.cnf_form.proofs.Lits.{opposite-opposite}
 use Rattle.cdcl.specs.declared.watch.Pair.{Pair}
 use Rattle.cdcl.specs.declared.solver.Solver.{Solver}
 use Rattle.cdcl.specs.Trail.{At, held}
+use Rattle.cdcl.specs.Settled.{IsSettled}
 use Rattle.cdcl.specs.Looks.{IsForced}
 use Rattle.cdcl.specs.State.{IsSound}
 use Rattle.cdcl.specs.Watching.{IsListed, IsWatching, IsBase, AreLists}
@@ -19,24 +20,26 @@ use Rattle.cdcl.proofs.States.{held_push, literals_count}
 use Rattle.cdcl.proofs.Watches.{watch_new, watch_learnt}
 use Rattle.cdcl.proofs.WatchState.{watching_more, watching_put}
 
-pub learnt_watchful : (s s' : Solver) (v : Vec Clause Global) (lits : List Lit) (a : Lit) → IsWatchful s → literals v.items ≡ literals s.clauses.items ++ lits ∷ []
+pub learnt_watchful : (s s' : Solver) (v : Vec Clause Global) (lits : List Lit) (a : Lit) → IsWatchful s
+    → ((x : ℕ) → Contains s.level_starts.items x → IsSettled (take x (held s.trail.items)) lits) → literals v.items ≡ literals s.clauses.items ++ lits ∷ []
     → IsSameBeside (record s { clauses = v }) s' → IsEnqueued s.trail.items a s'.trail.items → IsSound s' → IsWatchful s'
-learnt_watchful s s' v lits a w more same put sound =
+learnt_watchful s s' v lits a w settled more same put sound =
     let db = literals s.clauses.items ++ lits ∷ [] in
     let R = IsListed s.lists.items in
     let t : held s'.trail.items ≡ held s.trail.items ++ a ∷ [] =
     ap held put.2 ∙ held_push s.trail.items put.0 ∙ ap (λ (x : Lit). held s.trail.items ++ x ∷ []) put.1 in
-    let watching : IsWatching R db (held s.trail.items ++ a ∷ []) s.level_starts.items s.head s.pairs.items =
-    watching_put R db (held s.trail.items) s.level_starts.items s.head s.pairs.items a (watching_more R (literals s.clauses.items) (held s.trail.items) s.level_starts.items s.head s.pairs.items lits w.watching) in
+    let watching : IsWatching R s.permanent db (held s.trail.items ++ a ∷ []) s.level_starts.items s.head s.pairs.items =
+    watching_put R db (held s.trail.items) s.level_starts.items s.head s.pairs.items a (watching_more R (literals s.clauses.items) (held s.trail.items) s.level_starts.items s.head s.pairs.items lits settled w.watching) in
     record {
       sound = sound;
-      watching = subst (λ (x : Vec (List ℕ) Global). IsWatching (IsListed x.items) (literals s'.clauses.items) (held s'.trail.items) s'.level_starts.items s'.head s'.pairs.items) (sym same.lists)
-          (subst (λ (x : Vec Clause Global). IsWatching R (literals x.items) (held s'.trail.items) s'.level_starts.items s'.head s'.pairs.items) (sym same.clauses)
-          (subst (λ (x : List (List Lit)). IsWatching R x (held s'.trail.items) s'.level_starts.items s'.head s'.pairs.items) (sym more)
-          (subst (λ (x : Vec ℕ Global). IsWatching R db (held s'.trail.items) x.items s'.head s'.pairs.items) (sym same.level_starts)
-          (subst (λ (h : ℕ). IsWatching R db (held s'.trail.items) s.level_starts.items h s'.pairs.items) (sym same.head)
-          (subst (λ (x : Vec Pair Global). IsWatching R db (held s'.trail.items) s.level_starts.items s.head x.items) (sym same.pairs)
-          (subst (λ (xs : List Lit). IsWatching R db xs s.level_starts.items s.head s.pairs.items) (sym t) watching))))));
+      watching = subst (λ (n : ℕ). IsWatching (IsListed s'.lists.items) n (literals s'.clauses.items) (held s'.trail.items) s'.level_starts.items s'.head s'.pairs.items) (sym same.permanent)
+          (subst (λ (x : Vec (List ℕ) Global). IsWatching (IsListed x.items) s.permanent (literals s'.clauses.items) (held s'.trail.items) s'.level_starts.items s'.head s'.pairs.items) (sym same.lists)
+          (subst (λ (x : Vec Clause Global). IsWatching R s.permanent (literals x.items) (held s'.trail.items) s'.level_starts.items s'.head s'.pairs.items) (sym same.clauses)
+          (subst (λ (x : List (List Lit)). IsWatching R s.permanent x (held s'.trail.items) s'.level_starts.items s'.head s'.pairs.items) (sym more)
+          (subst (λ (x : Vec ℕ Global). IsWatching R s.permanent db (held s'.trail.items) x.items s'.head s'.pairs.items) (sym same.level_starts)
+          (subst (λ (h : ℕ). IsWatching R s.permanent db (held s'.trail.items) s.level_starts.items h s'.pairs.items) (sym same.head)
+          (subst (λ (x : Vec Pair Global). IsWatching R s.permanent db (held s'.trail.items) s.level_starts.items s.head x.items) (sym same.pairs)
+          (subst (λ (xs : List Lit). IsWatching R s.permanent db xs s.level_starts.items s.head s.pairs.items) (sym t) watching)))))));
       lists = subst (λ (x : Vec (List ℕ) Global). AreLists x.items (length s'.places.items) (length s'.pairs.items)) (sym same.lists)
           (subst (λ (x : Vec Pair Global). AreLists s.lists.items (length s'.places.items) (length x.items)) (sym same.pairs)
           (subst (λ (n : ℕ). AreLists s.lists.items n (length s.pairs.items)) (sym same.len) w.lists));

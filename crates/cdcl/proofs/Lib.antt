@@ -16,3 +16,4 @@ pub mod Stretches
 pub mod Learning
 pub mod Attaching
 pub mod Marking
+pub mod Thinning

@@ -70,13 +70,13 @@ lists_put lists n count i own small a = record {
 along : (kept rest : List ℕ) (k : ℕ) → kept ++ k ∷ rest ≡ (kept ++ k ∷ []) ++ rest
 along kept rest k = sym (append_assoc kept (k ∷ []) rest)
 
-pub looking_kept : (db : List (List Lit)) (trail : List Entry) (places : List (Option ℕ)) (level_starts : List ℕ) (head : ℕ) (pairs : List Pair) (lists : List (List ℕ))
+pub looking_kept : {permanent : ℕ} (db : List (List Lit)) (trail : List Entry) (places : List (Option ℕ)) (level_starts : List ℕ) (head : ℕ) (pairs : List Pair) (lists : List (List ℕ))
     (lit : Lit) (kept rest : List ℕ) (k : ℕ) → ((c : List Lit) → At db k c → HoldsIn (held trail) c)
-    → IsLooking db trail places level_starts head pairs lists lit kept (k ∷ rest) → IsLooking db trail places level_starts head pairs lists lit (kept ++ k ∷ []) rest
-looking_kept db trail places level_starts head pairs lists lit kept rest k holds l = record {
+    → IsLooking permanent db trail places level_starts head pairs lists lit kept (k ∷ rest) → IsLooking permanent db trail places level_starts head pairs lists lit (kept ++ k ∷ []) rest
+looking_kept {permanent} db trail places level_starts head pairs lists lit kept rest k holds l = record {
   sound = l.sound;
   denied = l.denied;
-  watching = subst (λ (xs : List ℕ). IsWatching (IsListedBut lit xs lists) db (held trail) level_starts head pairs) (along kept rest k) l.watching;
+  watching = subst (λ (xs : List ℕ). IsWatching (IsListedBut lit xs lists) permanent db (held trail) level_starts head pairs) (along kept rest k) l.watching;
   lists_are = l.lists_are;
   entries = subst (λ (xs : List ℕ). (j : ℕ) → Contains xs j → j < length pairs) (along kept rest k) l.entries;
   pending = pending_held db (held trail) pairs lit k rest holds l.pending;
@@ -88,10 +88,10 @@ fewer kept rest k j i = elim (Contains-append_cases kept rest j i) [
   | inr b ↦ Contains-append_right kept (k ∷ rest) j (suc b.0, omega (arith, b.1), b.2)
 ]
 
-pub looking_drop : (db : List (List Lit)) (trail : List Entry) (places : List (Option ℕ)) (level_starts : List ℕ) (head : ℕ) (pairs : List Pair) (lists : List (List ℕ))
+pub looking_drop : {permanent : ℕ} (db : List (List Lit)) (trail : List Entry) (places : List (Option ℕ)) (level_starts : List ℕ) (head : ℕ) (pairs : List Pair) (lists : List (List ℕ))
     (lit : Lit) (kept rest : List ℕ) (k : ℕ) → ((pair : Pair) → At pairs k pair → HasWatch pair lit → ⊥)
-    → IsLooking db trail places level_starts head pairs lists lit kept (k ∷ rest) → IsLooking db trail places level_starts head pairs lists lit kept rest
-looking_drop db trail places level_starts head pairs lists lit kept rest k no_watch l = record {
+    → IsLooking permanent db trail places level_starts head pairs lists lit kept (k ∷ rest) → IsLooking permanent db trail places level_starts head pairs lists lit kept rest
+looking_drop {permanent} db trail places level_starts head pairs lists lit kept rest k no_watch l = record {
   sound = l.sound;
   denied = l.denied;
   watching = watching_drop db (held trail) level_starts head pairs lit kept rest lists k no_watch l.watching;
@@ -100,31 +100,31 @@ looking_drop db trail places level_starts head pairs lists lit kept rest k no_wa
   pending = pending_drop db (held trail) pairs lit k rest no_watch l.pending;
 }
 
-pub looking_force : (db : List (List Lit)) (trail trail' : List Entry) (places places' : List (Option ℕ)) (level_starts : List ℕ) (head : ℕ) (pairs : List Pair)
+pub looking_force : {permanent : ℕ} (db : List (List Lit)) (trail trail' : List Entry) (places places' : List (Option ℕ)) (level_starts : List ℕ) (head : ℕ) (pairs : List Pair)
     (lists : List (List ℕ)) (lit : Lit) (kept rest : List ℕ) (k : ℕ) (e : Entry) → trail' ≡ trail ++ e ∷ [] → IsState db trail' places' level_starts
     → length places' ≡ length places → ((c : List Lit) → At db k c → Contains c e.lit)
-    → IsLooking db trail places level_starts head pairs lists lit kept (k ∷ rest) → IsLooking db trail' places' level_starts head pairs lists lit (kept ++ k ∷ []) rest
-looking_force db trail trail' places places' level_starts head pairs lists lit kept rest k e put sound len inside l =
+    → IsLooking permanent db trail places level_starts head pairs lists lit kept (k ∷ rest) → IsLooking permanent db trail' places' level_starts head pairs lists lit (kept ++ k ∷ []) rest
+looking_force {permanent} db trail trail' places places' level_starts head pairs lists lit kept rest k e put sound len inside l =
     let t : held trail' ≡ held trail ++ e.lit ∷ [] = ap held put ∙ held_push trail e in
     record {
       sound = sound;
       denied = subst (λ (xs : List Lit). Denied xs lit) (sym t) (Contains-append_left (held trail) (e.lit ∷ []) (opposite lit) l.denied);
-      watching = subst (λ (xs : List Lit). IsWatching (IsListedBut lit ((kept ++ k ∷ []) ++ rest) lists) db xs level_starts head pairs) (sym t)
+      watching = subst (λ (xs : List Lit). IsWatching (IsListedBut lit ((kept ++ k ∷ []) ++ rest) lists) permanent db xs level_starts head pairs) (sym t)
           (watching_put (IsListedBut lit ((kept ++ k ∷ []) ++ rest) lists) db (held trail) level_starts head pairs e.lit
-          (subst (λ (xs : List ℕ). IsWatching (IsListedBut lit xs lists) db (held trail) level_starts head pairs) (along kept rest k) l.watching));
+          (subst (λ (xs : List ℕ). IsWatching (IsListedBut lit xs lists) permanent db (held trail) level_starts head pairs) (along kept rest k) l.watching));
       lists_are = subst (λ (n : ℕ). AreLists lists n (length pairs)) (sym len) l.lists_are;
       entries = subst (λ (xs : List ℕ). (j : ℕ) → Contains xs j → j < length pairs) (along kept rest k) l.entries;
-      pending = subst (λ (xs : List Lit). IsPending xs db pairs lit rest) (sym t)
+      pending = subst (λ (xs : List Lit). IsPending permanent xs db pairs lit rest) (sym t)
           (pending_held db (held trail ++ e.lit ∷ []) pairs lit k rest (λ c a. (e.lit, inside c a, Contains-push (held trail) e.lit))
           (pending_put db (held trail) pairs lit (k ∷ rest) e.lit l.pending));
     }
 
-pub looking_move : (db : List (List Lit)) (trail : List Entry) (places : List (Option ℕ)) (level_starts : List ℕ) (head : ℕ) (pairs : List Pair) (lists : List (List ℕ))
+pub looking_move : {permanent : ℕ} (db : List (List Lit)) (trail : List Entry) (places : List (Option ℕ)) (level_starts : List ℕ) (head : ℕ) (pairs : List Pair) (lists : List (List ℕ))
     (lit other new : Lit) (kept rest : List ℕ) (k : ℕ) (c : List Lit) (pair : Pair) → At db k c → At pairs k pair → IsPairOf pair lit other
     → Contains c new → (Denied (held trail) new → ⊥) → new ≢ other
-    → IsLooking db trail places level_starts head pairs lists lit kept (k ∷ rest)
-    → IsLooking db trail places level_starts head (set pairs k (record { first = other; second = new })) (listed_at lists (code_of new) k) lit kept rest
-looking_move db trail places level_starts head pairs lists lit other new kept rest k c pair at pat of inside free apart l =
+    → IsLooking permanent db trail places level_starts head pairs lists lit kept (k ∷ rest)
+    → IsLooking permanent db trail places level_starts head (set pairs k (record { first = other; second = new })) (listed_at lists (code_of new) k) lit kept rest
+looking_move {permanent} db trail places level_starts head pairs lists lit other new kept rest k c pair at pat of inside free apart l =
     let made : Pair = record { first = other; second = new } in
     let len : length (set pairs k made) ≡ length pairs = length-set pairs k made in
     let range = code_small new (length places) (l.sound.db_in c (k, at.0, at.1) new inside) in
@@ -136,9 +136,9 @@ looking_move db trail places level_starts head pairs lists lit other new kept re
           (omega (arith, range, l.lists_are.room)) l.watching;
       lists_are = subst (λ (n : ℕ). AreLists (listed_at lists (code_of new) k) (length places) n) (sym len) (lists_more lists (length places) (length pairs) (code_of new) k small l.lists_are);
       entries = λ j i. let r = l.entries j (fewer kept rest k j i) in omega (arith, r, len);
-      pending = pending_move db (held trail) pairs lit k rest made (λ d a h.
+      pending = pending_move db (held trail) pairs lit k rest made (λ f d a h.
           let same : c ≡ d = At-same db k c d at a in
-          elim (l.watching.each k c pair at pat) [
+          elim (l.watching.each k c pair f at pat) [
             | inl base ↦ subst (λ (xs : List Lit). HoldsIn (held trail) xs) same (base.1, base.2, At-contains (held trail) base.0 base.1 base.3)
             | inr p ↦ absurd (elim h [
               | inl e ↦ elim of [ inl q ↦ p.apart (q.0 ∙ sym e ∙ sym q.1) | inr q ↦ p.apart (q.1 ∙ e ∙ sym q.0) ]
@@ -148,12 +148,12 @@ looking_move db trail places level_starts head pairs lists lit other new kept re
     }
 
 -- the list of a literal is taken out
-pub looking_first : (db : List (List Lit)) (trail : List Entry) (places : List (Option ℕ)) (level_starts : List ℕ) (head : ℕ) (pairs : List Pair) (lists : List (List ℕ))
+pub looking_first : {permanent : ℕ} (db : List (List Lit)) (trail : List Entry) (places : List (Option ℕ)) (level_starts : List ℕ) (head : ℕ) (pairs : List Pair) (lists : List (List ℕ))
     (lit : Lit) (list : List ℕ) → IsState db trail places level_starts → At (held trail) head (opposite lit) → list ≡ get_or lists (code_of lit) []
-    → AreLists lists (length places) (length pairs) → IsWatching (IsListed lists) db (held trail) level_starts head pairs
-    → IsLooking db trail places level_starts head pairs (set lists (code_of lit) []) lit [] list
-looking_first db trail places level_starts head pairs lists lit list sound next own lists_are watching =
-    let w : IsWatching (IsListedBut lit list (set lists (code_of lit) [])) db (held trail) level_starts head pairs =
+    → AreLists lists (length places) (length pairs) → IsWatching (IsListed lists) permanent db (held trail) level_starts head pairs
+    → IsLooking permanent db trail places level_starts head pairs (set lists (code_of lit) []) lit [] list
+looking_first {permanent} db trail places level_starts head pairs lists lit list sound next own lists_are watching =
+    let w : IsWatching (IsListedBut lit list (set lists (code_of lit) [])) permanent db (held trail) level_starts head pairs =
     watching_relist (IsListed lists) (IsListedBut lit list (set lists (code_of lit) [])) db (held trail) level_starts head pairs
     (λ l k r. (
       λ e. subst (λ (xs : List ℕ). Contains xs k) (sym own) (subst (λ (x : Lit). IsListed lists x k) e r),
@@ -169,11 +169,11 @@ looking_first db trail places level_starts head pairs lists lit list sound next 
     }
 
 -- and put back
-pub looking_last : (db : List (List Lit)) (trail : List Entry) (places : List (Option ℕ)) (level_starts : List ℕ) (head : ℕ) (pairs : List Pair) (lists : List (List ℕ))
+pub looking_last : {permanent : ℕ} (db : List (List Lit)) (trail : List Entry) (places : List (Option ℕ)) (level_starts : List ℕ) (head : ℕ) (pairs : List Pair) (lists : List (List ℕ))
     (lit : Lit) (kept rest list : List ℕ) → list ≡ kept ++ rest → code_of lit < length lists
-    → IsLooking db trail places level_starts head pairs lists lit kept rest
-    → AreLists (set lists (code_of lit) list) (length places) (length pairs) × IsWatching (IsListed (set lists (code_of lit) list)) db (held trail) level_starts head pairs
-looking_last db trail places level_starts head pairs lists lit kept rest list own range l = (
+    → IsLooking permanent db trail places level_starts head pairs lists lit kept rest
+    → AreLists (set lists (code_of lit) list) (length places) (length pairs) × IsWatching (IsListed (set lists (code_of lit) list)) permanent db (held trail) level_starts head pairs
+looking_last {permanent} db trail places level_starts head pairs lists lit kept rest list own range l = (
   lists_put lists (length places) (length pairs) (code_of lit) list (λ k i. l.entries k (subst (λ (xs : List ℕ). Contains xs k) own i)) l.lists_are,
   watching_relist (IsListedBut lit (kept ++ rest) lists) (IsListed (set lists (code_of lit) list)) db (held trail) level_starts head pairs
       (λ x k r. elim (equal_or_not x lit) [

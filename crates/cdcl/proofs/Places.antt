@@ -9,7 +9,8 @@ use Rattle.cnf_form.specs.declared.formula.Lit.{Lit}
 use Rattle.cnf_form.specs.Literals.{opposite, negated}
 use Rattle.cdcl.specs.Settled.{IsConsistent, IsOpen}
 use Rattle.cnf_form.proofs.Lits.{nat_cases}
-use Rattle.cdcl.specs.Trail.{ArePlaces, AllInRange, NextIs, held}
+use Rattle.cdcl.specs.Trail.{ArePlaces, AllInRange, held}
+use Rattle.search_heuristics.specs.Open.{NextIs}
 use Rattle.cdcl.specs.declared.solver.Solver.{Solver}
 use Rattle.cdcl.specs.State.{IsSound}
 use Rattle.cdcl.specs.Visits.{OpenVarIs}

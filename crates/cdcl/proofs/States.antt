@@ -7,7 +7,6 @@ use Rattle.std.proofs.lemmas.List.Elements.{Contains-push_cases, Contains-append
 use Rattle.cnf_form.specs.declared.formula.Lit.{Lit}
 use Rattle.cnf_form.specs.declared.formula.Clause.{Clause}
 use Rattle.cnf_form.specs.Literals.{OthersDenied, literals}
-use Rattle.cdcl.specs.Settled.{IsSettled, AllSettled}
 use Rattle.cdcl.specs.declared.trail.Entry.{Entry}
 use Rattle.cdcl.specs.Trail.{held, ArePlaces, AllInRange, AllLow}
 use Rattle.cdcl.specs.Analysis.{IsForcedBy}
@@ -83,8 +82,6 @@ state_back db trail places places' level_starts s st are len =
           let b = At-take s trail p e a in
           forced_by_same db (held trail) (held (take s trail)) p e (sym (take_cut p s trail (omega (arith, b.0))))
           (st.forced p (λ i. elim (Contains-push_cases level_starts s p i) [ inl j ↦ n j | inr q ↦ absurd (omega (arith, q, b.0)) ]) e b.1);
-      ended = λ x i. let r = lower x i in
-          subst (λ (xs : List Lit). AllSettled xs db) (sym (take_cut x s trail (omega (arith, r)))) (st.ended x (Contains-append_left level_starts (s ∷ []) x i));
     }
 
 -- a forced literal is put on the trail
@@ -117,7 +114,6 @@ state_forced db trail places places' level_starts l r c e el er st at inside oth
       others = subst (λ (xs : List Lit). OthersDenied xs c e.lit) (sym (whole p b.0)) (subst (λ (y : Lit). OthersDenied (held trail) c y) (sym el) others);
     })
   ];
-  ended = λ s i. let q = st.under s i in subst (λ (xs : List Lit). AllSettled xs db) (sym (take_put s trail e (omega (arith, q)))) (st.ended s i);
 }
   where
     whole : (p : ℕ) → p ≡ length trail → take p (held (trail ++ e ∷ [])) ≡ held trail
@@ -125,9 +121,9 @@ state_forced db trail places places' level_starts l r c e el er st at inside oth
 
 -- a decision starts a level
 pub state_decided : (db : List (List Lit)) (trail : List Entry) (places places' : List (Option ℕ)) (level_starts : List ℕ) (e : Entry)
-    → IsState db trail places level_starts → AllSettled (held trail) db → 1 ≤ e.lit.var → e.lit.var < length places
+    → IsState db trail places level_starts → 1 ≤ e.lit.var → e.lit.var < length places
     → ArePlaces (held (trail ++ e ∷ [])) places' → length places' ≡ length places → IsState db (trail ++ e ∷ []) places' (level_starts ++ length trail ∷ [])
-state_decided db trail places places' level_starts e st settled low range are len = record {
+state_decided db trail places places' level_starts e st low range are len = record {
   places_are = are;
   held_in = λ m i. elim (Contains-push_cases (held trail) e.lit m (subst (λ (xs : List Lit). Contains xs m) (held_push trail e) i)) [
     | inl j ↦ let q = st.held_in m j in omega (arith, q, len)
@@ -158,20 +154,13 @@ state_decided db trail places places' level_starts e st settled low range are le
         (st.forced p (λ i. n (Contains-append_left level_starts (length trail ∷ []) p i)) x b)
     | inr b ↦ absurd (n (subst (λ (k : ℕ). Contains (level_starts ++ length trail ∷ []) k) (sym b.0) (Contains-push level_starts (length trail))))
   ];
-  ended = λ s i. elim (Contains-push_cases level_starts (length trail) s i) [
-    | inl j ↦ let q = st.under s j in subst (λ (xs : List Lit). AllSettled xs db) (sym (take_put s trail e (omega (arith, q)))) (st.ended s j)
-    | inr q ↦ subst (λ (xs : List Lit). AllSettled xs db) (sym (whole s (sym q))) settled
-  ];
 }
-  where
-    whole : (p : ℕ) → p ≡ length trail → take p (held (trail ++ e ∷ [])) ≡ held trail
-    whole p h = take_put p trail e (omega (arith, h)) ∙ take_all p (held trail) (let k = length_held trail in omega (arith, k, h))
 
 -- a clause is learnt
 pub state_learnt : (db : List (List Lit)) (trail : List Entry) (places : List (Option ℕ)) (level_starts : List ℕ) (c : List Lit)
-    → IsState db trail places level_starts → AllInRange c (length places) → AllLow c → ((s : ℕ) → Contains level_starts s → IsSettled (take s (held trail)) c)
+    → IsState db trail places level_starts → AllInRange c (length places) → AllLow c
     → IsState (db ++ c ∷ []) trail places level_starts
-state_learnt db trail places level_starts c st range low settled = record {
+state_learnt db trail places level_starts c st range low = record {
   places_are = st.places_are;
   held_in = st.held_in;
   held_low = st.held_low;
@@ -187,7 +176,6 @@ state_learnt db trail places level_starts c st range low settled = record {
     inside = f.inside;
     others = f.others;
   };
-  ended = λ s i d j. elim (Contains-push_cases db c d j) [ inl k ↦ st.ended s i d k | inr e ↦ subst (λ (x : List Lit). IsSettled (take s (held trail)) x) e (settled s i) ];
 }
 
 -- the clause at an index

@@ -58,7 +58,6 @@ state_first db n range low =
       rising = λ i j a b h x y. absurd (omega (arith, x.0));
       under = λ s i. absurd (omega (arith, i.1));
       forced = λ p f e a. absurd (omega (arith, a.0));
-      ended = λ s i. absurd (omega (arith, i.1));
     }
   where
     count : (k : ℕ) → length (replicate k (let o : Option ℕ = None in o)) ≡ k
@@ -70,13 +69,14 @@ pub model : (db : List (List Lit)) (s : Solver) (values : List Bool) → IsSound
 model db s values sound m agrees c i =
     let h = m.holds c i in (h.0, h.1, agrees h.0 h.2 (sound.held_low h.0 h.2))
 
-pub watching_first : (R : Lit → ℕ → Type 0) (db : List (List Lit)) → IsWatching R db [] [] 0 []
-watching_first R db = record {
+pub watching_first : {permanent : ℕ} (R : Lit → ℕ → Type 0) (db : List (List Lit)) → IsWatching R permanent db [] [] 0 []
+watching_first {permanent} R db = record {
   head_in = omega arith;
   levels = λ s i. absurd (omega (arith, i.1));
   some = omega arith;
   inside = λ k c pair a b. absurd (omega (arith, b.0));
-  each = λ k c pair a b. absurd (omega (arith, b.0));
+  ended = λ s i. absurd (omega (arith, i.1));
+  each = λ k c pair f a b. absurd (omega (arith, b.0));
 }
 
 empty_push : (xs : List (List ℕ)) → ((i k : ℕ) → Contains (get_or xs i []) k → ⊥) → (i k : ℕ) → Contains (get_or (xs ++ [] ∷ []) i []) k → ⊥

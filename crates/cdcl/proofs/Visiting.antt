@@ -63,15 +63,16 @@ force_at s s' lit other kept rest k pair at of same put sound l =
     let st : IsState (literals s.clauses.items) s'.trail.items s'.places.items s.level_starts.items =
     subst (λ (v : Vec ℕ Global). IsState (literals s.clauses.items) s'.trail.items s'.places.items v.items) same.level_starts
     (subst (λ (v : Vec Clause Global). IsState (literals v.items) s'.trail.items s'.places.items s'.level_starts.items) same.clauses sound) in
-    let r : IsLooking (literals s.clauses.items) s'.trail.items s'.places.items s.level_starts.items s.head s.pairs.items s.lists.items lit (kept ++ k ∷ []) rest =
+    let r : IsLooking s.permanent (literals s.clauses.items) s'.trail.items s'.places.items s.level_starts.items s.head s.pairs.items s.lists.items lit (kept ++ k ∷ []) rest =
     looking_force (literals s.clauses.items) s.trail.items s'.trail.items s.places.items s'.places.items s.level_starts.items s.head s.pairs.items s.lists.items lit kept rest k
     put.0 put.2 st same.len
     (λ c a. subst (λ (x : Lit). Contains c x) (sym put.1) (subst (λ (xs : List Lit). Contains xs other) (At-same (literals s.clauses.items) k d.0 c d.1 a) d.2)) l in
-    subst (λ (v : Vec Clause Global). IsLooking (literals v.items) s'.trail.items s'.places.items s'.level_starts.items s'.head s'.pairs.items s'.lists.items lit (kept ++ k ∷ []) rest) (sym same.clauses)
-    (subst (λ (v : Vec ℕ Global). IsLooking (literals s.clauses.items) s'.trail.items s'.places.items v.items s'.head s'.pairs.items s'.lists.items lit (kept ++ k ∷ []) rest) (sym same.level_starts)
-    (subst (λ (h : ℕ). IsLooking (literals s.clauses.items) s'.trail.items s'.places.items s.level_starts.items h s'.pairs.items s'.lists.items lit (kept ++ k ∷ []) rest) (sym same.head)
-    (subst (λ (v : Vec Pair Global). IsLooking (literals s.clauses.items) s'.trail.items s'.places.items s.level_starts.items s.head v.items s'.lists.items lit (kept ++ k ∷ []) rest) (sym same.pairs)
-    (subst (λ (v : Vec (List ℕ) Global). IsLooking (literals s.clauses.items) s'.trail.items s'.places.items s.level_starts.items s.head s.pairs.items v.items lit (kept ++ k ∷ []) rest) (sym same.lists) r))))
+    subst (λ (n : ℕ). IsLooking n (literals s'.clauses.items) s'.trail.items s'.places.items s'.level_starts.items s'.head s'.pairs.items s'.lists.items lit (kept ++ k ∷ []) rest) (sym same.permanent)
+    (subst (λ (v : Vec Clause Global). IsLooking s.permanent (literals v.items) s'.trail.items s'.places.items s'.level_starts.items s'.head s'.pairs.items s'.lists.items lit (kept ++ k ∷ []) rest) (sym same.clauses)
+    (subst (λ (v : Vec ℕ Global). IsLooking s.permanent (literals s.clauses.items) s'.trail.items s'.places.items v.items s'.head s'.pairs.items s'.lists.items lit (kept ++ k ∷ []) rest) (sym same.level_starts)
+    (subst (λ (h : ℕ). IsLooking s.permanent (literals s.clauses.items) s'.trail.items s'.places.items s.level_starts.items h s'.pairs.items s'.lists.items lit (kept ++ k ∷ []) rest) (sym same.head)
+    (subst (λ (v : Vec Pair Global). IsLooking s.permanent (literals s.clauses.items) s'.trail.items s'.places.items s.level_starts.items s.head v.items s'.lists.items lit (kept ++ k ∷ []) rest) (sym same.pairs)
+    (subst (λ (v : Vec (List ℕ) Global). IsLooking s.permanent (literals s.clauses.items) s'.trail.items s'.places.items s.level_starts.items s.head s.pairs.items v.items lit (kept ++ k ∷ []) rest) (sym same.lists) r)))))
 
 pub code_in : (s : Solver) (lit : Lit) → IsSound s → Denied (held s.trail.items) lit → code_of lit < length s.places.items + length s.places.items
 code_in s lit sound d = code_small lit (length s.places.items) (sound.held_in (opposite lit) d)
@@ -79,7 +80,7 @@ code_in s lit sound d = code_small lit (length s.places.items) (sound.held_in (o
 pub first_at : (s : Solver) (lit : Lit) (lists : Vec (List ℕ) Global) (list : List ℕ) → IsReady s → At (held s.trail.items) s.head (opposite lit)
     → list ≡ get_or s.lists.items (code_of lit) [] → lists.items ≡ set s.lists.items (code_of lit) [] → IsLookingAt (record s { lists = lists }) lit [] list
 first_at s lit lists list ready next own left =
-    subst (λ (ls : List (List ℕ)). IsLooking (literals s.clauses.items) s.trail.items s.places.items s.level_starts.items s.head s.pairs.items ls lit [] list) (sym left)
+    subst (λ (ls : List (List ℕ)). IsLooking s.permanent (literals s.clauses.items) s.trail.items s.places.items s.level_starts.items s.head s.pairs.items ls lit [] list) (sym left)
     (looking_first (literals s.clauses.items) s.trail.items s.places.items s.level_starts.items s.head s.pairs.items s.lists.items lit list
     ready.watchful.sound next own ready.watchful.lists ready.watchful.watching)
 
@@ -104,7 +105,7 @@ last_at s lit lists kept rest list all own put l =
     record {
       watchful = record {
         sound = l.sound;
-        watching = subst (λ (ls : List (List ℕ)). IsWatching (IsListed ls) (literals s.clauses.items) (held s.trail.items) s.level_starts.items s.head s.pairs.items) (sym put) r.1;
+        watching = subst (λ (ls : List (List ℕ)). IsWatching (IsListed ls) s.permanent (literals s.clauses.items) (held s.trail.items) s.level_starts.items s.head s.pairs.items) (sym put) r.1;
         lists = subst (λ (ls : List (List ℕ)). AreLists ls (length s.places.items) (length s.pairs.items)) (sym put) r.0;
       };
       all = all;
@@ -117,11 +118,11 @@ grown_at t u k n l g e a =
 
 -- the list of the next literal was looked through
 pub next_at : (s : Solver) (h : ℕ) (lit : Lit) → h ≡ s.head + 1 → At (held s.trail.items) s.head (opposite lit)
-    → IsPending (held s.trail.items) (literals s.clauses.items) s.pairs.items lit [] → IsReady s → IsReady (record s { head = h })
+    → IsPending s.permanent (held s.trail.items) (literals s.clauses.items) s.pairs.items lit [] → IsReady s → IsReady (record s { head = h })
 next_at s h lit e at pending ready = record {
   watchful = record {
     sound = ready.watchful.sound;
-    watching = subst (λ (n : ℕ). IsWatching (IsListed s.lists.items) (literals s.clauses.items) (held s.trail.items) s.level_starts.items n s.pairs.items) (sym e)
+    watching = subst (λ (n : ℕ). IsWatching (IsListed s.lists.items) s.permanent (literals s.clauses.items) (held s.trail.items) s.level_starts.items n s.pairs.items) (sym e)
         (watching_next (IsListed s.lists.items) (literals s.clauses.items) (held s.trail.items) s.level_starts.items s.head s.pairs.items lit at pending ready.watchful.watching);
     lists = ready.watchful.lists;
   };
@@ -141,6 +142,7 @@ grown_more t u v a b = (a.0 ++ b.0, b.1 ∙ ap (λ (xs : List Lit). xs ++ b.0) a
 pub stays_more : (s s' s'' : Solver) → Stays s s' → Stays s' s'' → Stays s s''
 stays_more s s' s'' a b = record {
   clauses = b.clauses ∙ a.clauses;
+  permanent = b.permanent ∙ a.permanent;
   level_starts = b.level_starts ∙ a.level_starts;
   head = b.head ∙ a.head;
   count = b.count ∙ a.count;
@@ -166,7 +168,7 @@ kept_next s lit kept at kept' x list list' order range e f l =
     ap (λ (xs : List ℕ). drop (at + 1) xs) f ∙ drop_set list kept x (at + 1) (omega (arith, order)) in
     subst (λ (xs : List ℕ). IsLookingAt s lit xs (drop (at + 1) list')) (sym front) (subst (λ (xs : List ℕ). IsLookingAt s lit (take kept list ++ x ∷ []) xs) (sym back) l)
 
--- where the whole trail was looked at, nothing more is forced
+-- where the whole trail was looked at, permanent clauses force nothing more
 pub still_at : (s : Solver) → IsReady s → length s.trail.items ≤ s.head → IsStill s
 still_at s ready whole =
     let n = literals_count s.clauses.items in

@@ -1,19 +1,19 @@
 -- How what is watched changes with the trail, the clauses and the lists.
 use Rattle.std.proofs.Common.{take, set, get_or-set_other, get_or-set_same, ◌≡◌, ◌≢◌, ℕ, zero, suc, ◌<◌, ◌≤◌, ◌+◌, min, Bool, true, false, List, [], ◌∷◌, ◌++◌, ◌⊎◌, inl, inr, refl, sym, ◌∙◌, ap, subst, arith, length, get_or}
 use Rattle.std.specs.Prelude.{Contains}
-use Rattle.std.proofs.lemmas.List.{length-set, length-take}
+use Rattle.std.proofs.lemmas.List.{length-set, length-take, take-append-le, take_all}
 use Rattle.std.proofs.lemmas.List.Elements.{Contains-push_cases, Contains-append_cases, Contains-append_left, Contains-append_right, Contains-push}
 use Rattle.cnf_form.specs.declared.formula.Lit.{Lit}
 use Rattle.cnf_form.specs.Literals.{opposite, Denied}
 use Rattle.cnf_form.proofs.Lits.{nat_cases, equal_or_not, cons_cases, opposite-opposite}
 use Rattle.cdcl.specs.declared.watch.Pair.{Pair}
 use Rattle.cdcl.specs.Trail.{At}
-use Rattle.cdcl.specs.Settled.{IsConsistent, AllSettled}
+use Rattle.cdcl.specs.Settled.{IsConsistent, IsSettled, AllSettledTo}
 use Rattle.cdcl.specs.Watching.{sign_code, code_of, IsListed, listed_at, IsListedBut, HoldsIn, IsBase, WatchIs, IsPaired, IsWatching, HasWatch, IsPairOf, IsPending}
 use Rattle.cdcl.proofs.SettledLemmas.{settled_by_true}
 use Rattle.cdcl.proofs.Works.{At-same, At-contains, At-in_take, At-get_or}
 use Rattle.cdcl.proofs.Places.{At-push_cases, At-push_old}
-use Rattle.cdcl.proofs.States.{length_push}
+use Rattle.cdcl.proofs.States.{length_push, take_of_take}
 use Rattle.cdcl.proofs.Watches.{watches_settle, watch_back, watch_put, watch_level, watch_look, watch_new}
 
 -- the literals of one code are one
@@ -52,14 +52,15 @@ At-set_cases xs k x j y a =
     ]
 
 -- the same over other lists
-pub watching_relist : (R S : Lit → ℕ → Type 0) (db : List (List Lit)) (t : List Lit) (level_starts : List ℕ) (head : ℕ) (pairs : List Pair)
-    → ((l : Lit) (k : ℕ) → R l k → S l k) → IsWatching R db t level_starts head pairs → IsWatching S db t level_starts head pairs
-watching_relist R S db t level_starts head pairs more w = record {
+pub watching_relist : {permanent : ℕ} (R S : Lit → ℕ → Type 0) (db : List (List Lit)) (t : List Lit) (level_starts : List ℕ) (head : ℕ) (pairs : List Pair)
+    → ((l : Lit) (k : ℕ) → R l k → S l k) → IsWatching R permanent db t level_starts head pairs → IsWatching S permanent db t level_starts head pairs
+watching_relist {permanent} R S db t level_starts head pairs more w = record {
   head_in = w.head_in;
   levels = w.levels;
   some = w.some;
   inside = w.inside;
-  each = λ k c pair a b. elim (w.each k c pair a b) [
+  ended = w.ended;
+  each = λ k c pair f a b. elim (w.each k c pair f a b) [
     | inl base ↦ inl base
     | inr p ↦ inr (record {
       apart = p.apart;
@@ -72,9 +73,9 @@ watching_relist R S db t level_starts head pairs more w = record {
 }
 
 -- a clause without a pair is added
-pub watching_more : (R : Lit → ℕ → Type 0) (db : List (List Lit)) (t : List Lit) (level_starts : List ℕ) (head : ℕ) (pairs : List Pair) (c : List Lit)
-    → IsWatching R db t level_starts head pairs → IsWatching R (db ++ c ∷ []) t level_starts head pairs
-watching_more R db t level_starts head pairs c w =
+pub watching_more : {permanent : ℕ} (R : Lit → ℕ → Type 0) (db : List (List Lit)) (t : List Lit) (level_starts : List ℕ) (head : ℕ) (pairs : List Pair) (c : List Lit)
+    → ((s : ℕ) → Contains level_starts s → IsSettled (take s t) c) → IsWatching R permanent db t level_starts head pairs → IsWatching R permanent (db ++ c ∷ []) t level_starts head pairs
+watching_more {permanent} R db t level_starts head pairs c settled w =
     let old : (k : ℕ) (d : List Lit) (pair : Pair) → At (db ++ c ∷ []) k d → At pairs k pair → At db k d = λ k d pair a b. elim (At-push_cases db c k d a) [
       | inl o ↦ o
       | inr e ↦ let s = w.some in absurd (omega (arith, s, e.0, b.0))
@@ -84,18 +85,26 @@ watching_more R db t level_starts head pairs c w =
       levels = w.levels;
       some = let l = length_push db c in let s = w.some in omega (arith, l, s);
       inside = λ k d pair a b. w.inside k d pair (old k d pair a b) b;
-      each = λ k d pair a b. w.each k d pair (old k d pair a b) b;
+      ended = λ s i k d f a. elim (At-push_cases db c k d a) [
+        | inl o ↦ w.ended s i k d f o
+        | inr e ↦ subst (λ (x : List Lit). IsSettled (take s t) x) e.1 (settled s i)
+      ];
+      each = λ k d pair f a b. w.each k d pair f (old k d pair a b) b;
     }
 
 -- a literal is put on the trail
-pub watching_put : (R : Lit → ℕ → Type 0) (db : List (List Lit)) (t : List Lit) (level_starts : List ℕ) (head : ℕ) (pairs : List Pair) (x : Lit)
-    → IsWatching R db t level_starts head pairs → IsWatching R db (t ++ x ∷ []) level_starts head pairs
-watching_put R db t level_starts head pairs x w = record {
+pub watching_put : {permanent : ℕ} (R : Lit → ℕ → Type 0) (db : List (List Lit)) (t : List Lit) (level_starts : List ℕ) (head : ℕ) (pairs : List Pair) (x : Lit)
+    → IsWatching R permanent db t level_starts head pairs → IsWatching R permanent db (t ++ x ∷ []) level_starts head pairs
+watching_put {permanent} R db t level_starts head pairs x w = record {
   head_in = let l = length_push t x in let s = w.head_in in omega (arith, l, s);
   levels = w.levels;
   some = w.some;
   inside = w.inside;
-  each = λ k c pair a b. elim (w.each k c pair a b) [
+  ended = λ s i.
+      let a = w.levels s i in
+      let h = w.head_in in
+      subst (λ (xs : List Lit). AllSettledTo permanent xs db) (sym (take-append-le s t (x ∷ []) (omega (arith, a, h)))) (w.ended s i);
+  each = λ k c pair f a b. elim (w.each k c pair f a b) [
     | inl base ↦ inl (base.0, base.1, base.2, At-push_old t (x ∷ []) base.0 base.1 base.3, base.4)
     | inr p ↦ inr (record {
       apart = p.apart;
@@ -108,14 +117,17 @@ watching_put R db t level_starts head pairs x w = record {
 }
 
 -- the last level is left
-pub watching_back : (R : Lit → ℕ → Type 0) (db : List (List Lit)) (t : List Lit) (level_starts : List ℕ) (s head : ℕ) (pairs : List Pair)
-    → s ≤ length t → ((x : ℕ) → Contains level_starts x → x < s) → IsWatching R db t (level_starts ++ s ∷ []) head pairs → IsWatching R db (take s t) level_starts (min head s) pairs
-watching_back R db t level_starts s head pairs within rising w = record {
+pub watching_back : {permanent : ℕ} (R : Lit → ℕ → Type 0) (db : List (List Lit)) (t : List Lit) (level_starts : List ℕ) (s head : ℕ) (pairs : List Pair)
+    → s ≤ length t → ((x : ℕ) → Contains level_starts x → x < s) → IsWatching R permanent db t (level_starts ++ s ∷ []) head pairs → IsWatching R permanent db (take s t) level_starts (min head s) pairs
+watching_back {permanent} R db t level_starts s head pairs within rising w = record {
   head_in = let l = length-take s t in omega (arith, l, within);
   levels = λ x i. let a = w.levels x (Contains-append_left level_starts (s ∷ []) x i) in let b = rising x i in omega (arith, a, b);
   some = w.some;
   inside = w.inside;
-  each = λ k c pair a b. elim (w.each k c pair a b) [
+  ended = λ x i.
+      let r = rising x i in
+      subst (λ (xs : List Lit). AllSettledTo permanent xs db) (sym (take_of_take x s t (omega (arith, r)))) (w.ended x (Contains-append_left level_starts (s ∷ []) x i));
+  each = λ k c pair f a b. elim (w.each k c pair f a b) [
     | inl base ↦ inl (
       base.0,
       base.1,
@@ -134,14 +146,18 @@ watching_back R db t level_starts s head pairs within rising w = record {
 }
 
 -- a level starts where the whole trail was looked at
-pub watching_level : (R : Lit → ℕ → Type 0) (db : List (List Lit)) (t : List Lit) (level_starts : List ℕ) (head : ℕ) (pairs : List Pair)
-    → length t ≤ head → IsWatching R db t level_starts head pairs → IsWatching R db t (level_starts ++ length t ∷ []) head pairs
-watching_level R db t level_starts head pairs whole w = record {
+pub watching_level : {permanent : ℕ} (R : Lit → ℕ → Type 0) (db : List (List Lit)) (t : List Lit) (level_starts : List ℕ) (head : ℕ) (pairs : List Pair)
+    → length t ≤ head → AllSettledTo permanent t db → IsWatching R permanent db t level_starts head pairs → IsWatching R permanent db t (level_starts ++ length t ∷ []) head pairs
+watching_level {permanent} R db t level_starts head pairs whole still w = record {
   head_in = w.head_in;
   levels = λ s i. elim (Contains-push_cases level_starts (length t) s i) [ inl j ↦ w.levels s j | inr e ↦ omega (arith, e, whole) ];
   some = w.some;
   inside = w.inside;
-  each = λ k c pair a b. elim (w.each k c pair a b) [
+  ended = λ s i. elim (Contains-push_cases level_starts (length t) s i) [
+    | inl j ↦ w.ended s j
+    | inr e ↦ subst (λ (xs : List Lit). AllSettledTo permanent xs db) (sym (take_all s t (omega (arith, e)))) still
+  ];
+  each = λ k c pair f a b. elim (w.each k c pair f a b) [
     | inl base ↦ inl (
       base.0,
       base.1,
@@ -160,10 +176,10 @@ watching_level R db t level_starts head pairs whole w = record {
 }
 
 -- a clause gets its pair
-pub watching_attach : (R : Lit → ℕ → Type 0) (db : List (List Lit)) (t : List Lit) (level_starts : List ℕ) (head : ℕ) (pairs : List Pair) (c : List Lit) (pair : Pair)
+pub watching_attach : {permanent : ℕ} (R : Lit → ℕ → Type 0) (db : List (List Lit)) (t : List Lit) (level_starts : List ℕ) (head : ℕ) (pairs : List Pair) (c : List Lit) (pair : Pair)
     → At db (length pairs) c → Contains c pair.first → Contains c pair.second → IsBase t level_starts c ⊎ IsPaired R t level_starts head (length pairs) c pair
-    → IsWatching R db t level_starts head pairs → IsWatching R db t level_starts head (pairs ++ pair ∷ [])
-watching_attach R db t level_starts head pairs c pair at first second new w = record {
+    → IsWatching R permanent db t level_starts head pairs → IsWatching R permanent db t level_starts head (pairs ++ pair ∷ [])
+watching_attach {permanent} R db t level_starts head pairs c pair at first second new w = record {
   head_in = w.head_in;
   levels = w.levels;
   some = let l = length_push pairs pair in omega (arith, l, at.0);
@@ -174,8 +190,9 @@ watching_attach R db t level_starts head pairs c pair at first second new w = re
         subst (λ (q : Pair). Contains d q.first × Contains d q.second) e.1
         (subst (λ (xs : List Lit). Contains xs pair.first × Contains xs pair.second) same (first, second))
   ];
-  each = λ k d p a b. elim (At-push_cases pairs pair k p b) [
-    | inl o ↦ w.each k d p a o
+  ended = w.ended;
+  each = λ k d p f a b. elim (At-push_cases pairs pair k p b) [
+    | inl o ↦ w.each k d p f a o
     | inr e ↦
         let same : c ≡ d = At-same db (length pairs) c d at (subst (λ (n : ℕ). At db n d) e.0 a) in
         subst (λ (q : Pair). IsBase t level_starts d ⊎ IsPaired R t level_starts head k d q) e.1
@@ -184,15 +201,15 @@ watching_attach R db t level_starts head pairs c pair at first second new w = re
   ];
 }
 
--- where the whole trail was looked at, each clause is settled
-pub watching_settled : (R : Lit → ℕ → Type 0) (db : List (List Lit)) (t : List Lit) (level_starts : List ℕ) (head : ℕ) (pairs : List Pair)
-    → IsConsistent t → length t ≤ head → length pairs ≡ length db → IsWatching R db t level_starts head pairs → AllSettled t db
-watching_settled R db t level_starts head pairs k whole all w c i =
+-- where the whole trail was looked at, each permanent clause is settled
+pub watching_settled : {permanent : ℕ} (R : Lit → ℕ → Type 0) (db : List (List Lit)) (t : List Lit) (level_starts : List ℕ) (head : ℕ) (pairs : List Pair)
+    → IsConsistent t → length t ≤ head → length pairs ≡ length db → IsWatching R permanent db t level_starts head pairs → AllSettledTo permanent t db
+watching_settled {permanent} R db t level_starts head pairs k whole all w i c f at =
     let none : Lit = record { var = 0; positive = false } in
-    let a = At-get_or pairs i.0 (let p : Pair = record { first = none; second = none } in p) (omega (arith, i.1, all)) in
-    let pair = get_or pairs i.0 (record { first = none; second = none }) in
-    let d = w.inside i.0 c pair (i.1, i.2) a in
-    elim (w.each i.0 c pair (i.1, i.2) a) [
+    let a = At-get_or pairs i (let p : Pair = record { first = none; second = none } in p) (omega (arith, at.0, all)) in
+    let pair = get_or pairs i (record { first = none; second = none }) in
+    let d = w.inside i c pair at a in
+    elim (w.each i c pair f at a) [
       | inl base ↦ settled_by_true t c base.1 k base.2 (At-contains t base.0 base.1 base.3)
       | inr p ↦ watches_settle t level_starts head c pair.first pair.second k whole d.0 d.1 p.apart p.first p.second
     ]
@@ -204,15 +221,16 @@ other_contains kept rest k j n i = elim (Contains-append_cases kept (k ∷ rest)
 ]
 
 -- an index whose clause does not watch the literal leaves its list
-pub watching_drop : (db : List (List Lit)) (t : List Lit) (level_starts : List ℕ) (head : ℕ) (pairs : List Pair) (out : Lit) (kept rest : List ℕ) (lists : List (List ℕ)) (k : ℕ)
-    → ((pair : Pair) → At pairs k pair → HasWatch pair out → ⊥) → IsWatching (IsListedBut out (kept ++ k ∷ rest) lists) db t level_starts head pairs
-    → IsWatching (IsListedBut out (kept ++ rest) lists) db t level_starts head pairs
-watching_drop db t level_starts head pairs out kept rest lists k no_watch w = record {
+pub watching_drop : {permanent : ℕ} (db : List (List Lit)) (t : List Lit) (level_starts : List ℕ) (head : ℕ) (pairs : List Pair) (out : Lit) (kept rest : List ℕ) (lists : List (List ℕ)) (k : ℕ)
+    → ((pair : Pair) → At pairs k pair → HasWatch pair out → ⊥) → IsWatching (IsListedBut out (kept ++ k ∷ rest) lists) permanent db t level_starts head pairs
+    → IsWatching (IsListedBut out (kept ++ rest) lists) permanent db t level_starts head pairs
+watching_drop {permanent} db t level_starts head pairs out kept rest lists k no_watch w = record {
   head_in = w.head_in;
   levels = w.levels;
   some = w.some;
   inside = w.inside;
-  each = λ j c pair a b. elim (w.each j c pair a b) [
+  ended = w.ended;
+  each = λ j c pair f a b. elim (w.each j c pair f a b) [
     | inl base ↦ inl base
     | inr p ↦ inr (record {
       apart = p.apart;
@@ -257,12 +275,12 @@ listed_new lists l k range =
     (Contains-push (get_or lists (code_of l) []) k)
 
 -- a clause watches another literal in place of one
-pub watching_move : (db : List (List Lit)) (t : List Lit) (level_starts : List ℕ) (head : ℕ) (pairs : List Pair) (out other new : Lit) (kept rest : List ℕ)
+pub watching_move : {permanent : ℕ} (db : List (List Lit)) (t : List Lit) (level_starts : List ℕ) (head : ℕ) (pairs : List Pair) (out other new : Lit) (kept rest : List ℕ)
     (lists : List (List ℕ)) (k : ℕ) (c : List Lit) (pair : Pair) → At db k c → At pairs k pair → IsPairOf pair out other
     → Denied t out → Contains c new → (Denied t new → ⊥) → new ≢ other → code_of new < length lists
-    → IsWatching (IsListedBut out (kept ++ k ∷ rest) lists) db t level_starts head pairs
-    → IsWatching (IsListedBut out (kept ++ rest) (listed_at lists (code_of new) k)) db t level_starts head (set pairs k (record { first = other; second = new }))
-watching_move db t level_starts head pairs out other new kept rest lists k c pair at pat of denied inside free apart range w =
+    → IsWatching (IsListedBut out (kept ++ k ∷ rest) lists) permanent db t level_starts head pairs
+    → IsWatching (IsListedBut out (kept ++ rest) (listed_at lists (code_of new) k)) permanent db t level_starts head (set pairs k (record { first = other; second = new }))
+watching_move {permanent} db t level_starts head pairs out other new kept rest lists k c pair at pat of denied inside free apart range w =
     let made : Pair = record { first = other; second = new } in
     let S : Lit → ℕ → Type 0 = IsListedBut out (kept ++ rest) (listed_at lists (code_of new) k) in
     let new_out : new ≢ out = λ e. free (subst (λ (x : Lit). Denied t x) (sym e) denied) in
@@ -283,13 +301,14 @@ watching_move db t level_starts head pairs out other new kept rest lists k c pai
             subst (λ (q : Pair). Contains d q.first × Contains d q.second) e.1 (subst (λ (xs : List Lit). Contains xs other × Contains xs new) same (o, inside))
         | inr o ↦ w.inside j d p a o.1
       ];
-      each = λ j d p a b. elim (At-set_cases pairs k made j p b) [
+      ended = w.ended;
+      each = λ j d p f a b. elim (At-set_cases pairs k made j p b) [
         | inl e ↦
             let same : c ≡ d = At-same db k c d at (subst (λ (n : ℕ). At db n d) e.0 a) in
             subst (λ (q : Pair). IsBase t level_starts d ⊎ IsPaired S t level_starts head j d q) e.1
             (subst (λ (n : ℕ). IsBase t level_starts d ⊎ IsPaired S t level_starts head n d made) (sym e.0)
             (subst (λ (xs : List Lit). IsBase t level_starts xs ⊎ IsPaired S t level_starts head k xs made) same
-            (elim (w.each k c pair at pat) [
+            (elim (w.each k c pair (subst (λ (n : ℕ). n < permanent) e.0 f) at pat) [
               | inl base ↦ inl base
               | inr old ↦ inr (elim of [
                 | inl q ↦
@@ -318,7 +337,7 @@ watching_move db t level_starts head pairs out other new kept rest lists k c pai
                     }
               ])
             ])))
-        | inr o ↦ elim (w.each j d p a o.1) [
+        | inr o ↦ elim (w.each j d p f a o.1) [
           | inl base ↦ inl base
           | inr old ↦ inr (record {
             apart = old.apart;
@@ -332,66 +351,67 @@ watching_move db t level_starts head pairs out other new kept rest lists k c pai
     }
 
 -- the next place of the trail was looked at
-pub watching_next : (R : Lit → ℕ → Type 0) (db : List (List Lit)) (t : List Lit) (level_starts : List ℕ) (head : ℕ) (pairs : List Pair) (out : Lit)
-    → At t head (opposite out) → IsPending t db pairs out [] → IsWatching R db t level_starts head pairs → IsWatching R db t level_starts (head + 1) pairs
-watching_next R db t level_starts head pairs out at pending w = record {
+pub watching_next : {permanent : ℕ} (R : Lit → ℕ → Type 0) (db : List (List Lit)) (t : List Lit) (level_starts : List ℕ) (head : ℕ) (pairs : List Pair) (out : Lit)
+    → At t head (opposite out) → IsPending permanent t db pairs out [] → IsWatching R permanent db t level_starts head pairs → IsWatching R permanent db t level_starts (head + 1) pairs
+watching_next {permanent} R db t level_starts head pairs out at pending w = record {
   head_in = omega (arith, at.0);
   levels = λ s i. let l = w.levels s i in omega (arith, l);
   some = w.some;
   inside = w.inside;
-  each = λ k c pair a b. elim (w.each k c pair a b) [
+  ended = w.ended;
+  each = λ k c pair f a b. elim (w.each k c pair f a b) [
     | inl base ↦ inl base
     | inr p ↦ inr (record {
       apart = p.apart;
-      first = watch_look t level_starts head c pair.first (opposite out) at w.levels (cases k c pair a b pair.first (λ e. inl e)) p.first;
-      second = watch_look t level_starts head c pair.second (opposite out) at w.levels (cases k c pair a b pair.second (λ e. inr e)) p.second;
+      first = watch_look t level_starts head c pair.first (opposite out) at w.levels (cases k c pair f a b pair.first (λ e. inl e)) p.first;
+      second = watch_look t level_starts head c pair.second (opposite out) at w.levels (cases k c pair f a b pair.second (λ e. inr e)) p.second;
       first_in = p.first_in;
       second_in = p.second_in;
     })
   ];
 }
   where
-    cases : (k : ℕ) (c : List Lit) (pair : Pair) → At db k c → At pairs k pair → (x : Lit) → (x ≡ out → HasWatch pair out)
+    cases : (k : ℕ) (c : List Lit) (pair : Pair) → k < permanent → At db k c → At pairs k pair → (x : Lit) → (x ≡ out → HasWatch pair out)
         → (opposite out ≢ opposite x) ⊎ ((m : Lit) × Contains c m × Contains t m)
-    cases k c pair a b x has = elim (equal_or_not x out) [
-      | inl e ↦ elim (pending k c pair a b (has e)) [ inl i ↦ absurd (omega (arith, i.1)) | inr h ↦ inr h ]
+    cases k c pair f a b x has = elim (equal_or_not x out) [
+      | inl e ↦ elim (pending k c pair f a b (has e)) [ inl i ↦ absurd (omega (arith, i.1)) | inr h ↦ inr h ]
       | inr n ↦ inl (λ e. n (sym (opposite-opposite x) ∙ ap opposite (sym e) ∙ opposite-opposite out))
     ]
 
-pub pending_first : (db : List (List Lit)) (t : List Lit) (level_starts : List ℕ) (head : ℕ) (pairs : List Pair) (out : Lit) (own : List ℕ) (lists : List (List ℕ))
-    → IsWatching (IsListedBut out own lists) db t level_starts head pairs → IsPending t db pairs out own
-pending_first db t level_starts head pairs out own lists w k c pair a b has = elim (w.each k c pair a b) [
+pub pending_first : {permanent : ℕ} (db : List (List Lit)) (t : List Lit) (level_starts : List ℕ) (head : ℕ) (pairs : List Pair) (out : Lit) (own : List ℕ) (lists : List (List ℕ))
+    → IsWatching (IsListedBut out own lists) permanent db t level_starts head pairs → IsPending permanent t db pairs out own
+pending_first {permanent} db t level_starts head pairs out own lists w k c pair f a b has = elim (w.each k c pair f a b) [
   | inl base ↦ inr (base.1, base.2, At-contains t base.0 base.1 base.3)
   | inr p ↦ elim has [ inl e ↦ inl (p.first_in.0 e) | inr e ↦ inl (p.second_in.0 e) ]
 ]
 
-pub pending_held : (db : List (List Lit)) (t : List Lit) (pairs : List Pair) (out : Lit) (k : ℕ) (rest : List ℕ) → ((c : List Lit) → At db k c → HoldsIn t c)
-    → IsPending t db pairs out (k ∷ rest) → IsPending t db pairs out rest
-pending_held db t pairs out k rest holds p j c pair a b has = elim (p j c pair a b has) [
+pub pending_held : {permanent : ℕ} (db : List (List Lit)) (t : List Lit) (pairs : List Pair) (out : Lit) (k : ℕ) (rest : List ℕ) → ((c : List Lit) → At db k c → HoldsIn t c)
+    → IsPending permanent t db pairs out (k ∷ rest) → IsPending permanent t db pairs out rest
+pending_held {permanent} db t pairs out k rest holds p j c pair f a b has = elim (p j c pair f a b has) [
   | inr h ↦ inr h
   | inl i ↦ elim (cons_cases k rest j i) [ inl e ↦ inr (holds c (subst (λ (n : ℕ). At db n c) (sym e) a)) | inr r ↦ inl r ]
 ]
 
-pub pending_drop : (db : List (List Lit)) (t : List Lit) (pairs : List Pair) (out : Lit) (k : ℕ) (rest : List ℕ) → ((pair : Pair) → At pairs k pair → HasWatch pair out → ⊥)
-    → IsPending t db pairs out (k ∷ rest) → IsPending t db pairs out rest
-pending_drop db t pairs out k rest no_watch p j c pair a b has = elim (p j c pair a b has) [
+pub pending_drop : {permanent : ℕ} (db : List (List Lit)) (t : List Lit) (pairs : List Pair) (out : Lit) (k : ℕ) (rest : List ℕ) → ((pair : Pair) → At pairs k pair → HasWatch pair out → ⊥)
+    → IsPending permanent t db pairs out (k ∷ rest) → IsPending permanent t db pairs out rest
+pending_drop {permanent} db t pairs out k rest no_watch p j c pair f a b has = elim (p j c pair f a b has) [
   | inr h ↦ inr h
   | inl i ↦ elim (cons_cases k rest j i) [ inl e ↦ absurd (no_watch pair (subst (λ (n : ℕ). At pairs n pair) (sym e) b) has) | inr r ↦ inl r ]
 ]
 
-pub pending_move : (db : List (List Lit)) (t : List Lit) (pairs : List Pair) (out : Lit) (k : ℕ) (rest : List ℕ) (made : Pair)
-    → ((c : List Lit) → At db k c → HasWatch made out → HoldsIn t c) → IsPending t db pairs out (k ∷ rest) → IsPending t db (set pairs k made) out rest
-pending_move db t pairs out k rest made holds p j c pair a b has = elim (At-set_cases pairs k made j pair b) [
-  | inl e ↦ inr (holds c (subst (λ (n : ℕ). At db n c) e.0 a) (subst (λ (q : Pair). HasWatch q out) (sym e.1) has))
-  | inr o ↦ elim (p j c pair a o.1 has) [
+pub pending_move : {permanent : ℕ} (db : List (List Lit)) (t : List Lit) (pairs : List Pair) (out : Lit) (k : ℕ) (rest : List ℕ) (made : Pair)
+    → (k < permanent → (c : List Lit) → At db k c → HasWatch made out → HoldsIn t c) → IsPending permanent t db pairs out (k ∷ rest) → IsPending permanent t db (set pairs k made) out rest
+pending_move {permanent} db t pairs out k rest made holds p j c pair f a b has = elim (At-set_cases pairs k made j pair b) [
+  | inl e ↦ inr (holds (subst (λ (n : ℕ). n < permanent) e.0 f) c (subst (λ (n : ℕ). At db n c) e.0 a) (subst (λ (q : Pair). HasWatch q out) (sym e.1) has))
+  | inr o ↦ elim (p j c pair f a o.1 has) [
     | inr h ↦ inr h
     | inl i ↦ elim (cons_cases k rest j i) [ inl e ↦ absurd (o.0 (sym e)) | inr r ↦ inl r ]
   ]
 ]
 
-pub pending_put : (db : List (List Lit)) (t : List Lit) (pairs : List Pair) (out : Lit) (rest : List ℕ) (x : Lit)
-    → IsPending t db pairs out rest → IsPending (t ++ x ∷ []) db pairs out rest
-pending_put db t pairs out rest x p j c pair a b has = elim (p j c pair a b has) [
+pub pending_put : {permanent : ℕ} (db : List (List Lit)) (t : List Lit) (pairs : List Pair) (out : Lit) (rest : List ℕ) (x : Lit)
+    → IsPending permanent t db pairs out rest → IsPending permanent (t ++ x ∷ []) db pairs out rest
+pending_put {permanent} db t pairs out rest x p j c pair f a b has = elim (p j c pair f a b has) [
   | inl i ↦ inl i
   | inr h ↦ inr (h.0, h.1, Contains-append_left t (x ∷ []) h.0 h.2)
 ]

@@ -5,19 +5,23 @@ use Rattle.cnf_form.specs.declared.log.Step.{Step}
 use Rattle.cnf_form.specs.declared.log.Step.TheVariants.{Add, Delete}
 use Rattle.cnf_form.specs.Literals.{opposite}
 use Rattle.cnf_form.specs.Propagation.{ReachesEmpty, StaysOpen}
-use Rattle.cnf_form.specs.Spent.{NoVarTwice, IsNew}
+use Rattle.cnf_form.specs.Spent.{NoVarTwice}
 use Rattle.cdcl.specs.declared.solver.Solver.{Solver}
 use Rattle.cdcl.specs.declared.solver.Verdict.{Verdict}
 use Rattle.cdcl.specs.declared.solver.Verdict.TheVariants.{Sat, Unsat, Spent}
 use Rattle.cdcl.specs.State.{IsSound}
 use Rattle.cdcl.specs.Visits.{IsModelled}
-use Rattle.cdcl.specs.Trail.{AllInRange, AllLow}
+use Rattle.cdcl.specs.Trail.{At, AllInRange, AllLow}
 use Rattle.cdcl.specs.Analysis.{ChainPasses}
 
--- an added clause: its hints pass, and it is new, not empty, and of the formula's variables, each once
-pub record IsLine (db : List (List Lit)) (n : ℕ) (lits : List Lit) (hints : List ℤ) : Type 0 where
+-- no clause below the place is within the other
+abbrev pub IsNewTo : ℕ → List (List Lit) → List Lit → Type 0
+IsNewTo n db c = (k : ℕ) (d : List Lit) → k < n → At db k d → ((m : Lit) → Contains d m → Contains c m) → ⊥
+
+-- an added clause: its hints pass, and it is new beside those that are permanent, not empty, and of the formula's variables, each once
+pub record IsLine (permanent : ℕ) (db : List (List Lit)) (n : ℕ) (lits : List Lit) (hints : List ℤ) : Type 0 where
   pub passes : ChainPasses db (map opposite lits) hints
-  pub fresh : IsNew db lits
+  pub fresh : IsNewTo permanent db lits
   pub once : NoVarTwice lits
   pub some : (l : Lit) × Contains lits l
   pub range : AllInRange lits n
@@ -35,14 +39,14 @@ added_lits (Delete ids) = []
 abbrev pub learnt : List Step → List (List Lit)
 learnt steps = map added_lits steps
 
-abbrev pub IsLineStep : List (List Lit) → ℕ → Step → Type 0
-IsLineStep db n (Add id clause hints) = (id ≡ length db + 1) × IsLine db n clause.lits hints
-IsLineStep db n (Delete ids) = ⊥
+abbrev pub IsLineStep : ℕ → List (List Lit) → ℕ → Step → Type 0
+IsLineStep permanent db n (Add id clause hints) = (id ≡ length db + 1) × IsLine permanent db n clause.lits hints
+IsLineStep permanent db n (Delete ids) = ⊥
 
 -- Each added clause is a line over the clauses before it.
-abbrev pub AreLines : List (List Lit) → ℕ → List Step → Type 0
-AreLines db n [] = Unit {0}
-AreLines db n (step ∷ steps) = IsLineStep db n step × AreLines (db ++ added_lits step ∷ []) n steps
+abbrev pub AreLines : ℕ → List (List Lit) → ℕ → List Step → Type 0
+AreLines permanent db n [] = Unit {0}
+AreLines permanent db n (step ∷ steps) = IsLineStep permanent db n step × AreLines permanent (db ++ added_lits step ∷ []) n steps
 
 -- the empty clause, whose hints pass
 abbrev pub IsLastStep : List (List Lit) → Step → Type 0
@@ -54,23 +58,24 @@ abbrev pub EndsLog : List (List Lit) → List Step → List Step → Type 0
 EndsLog db old new = (last : Step) × (new ≡ old ++ last ∷ []) × IsLastStep db last
 
 -- lines, and then the empty clause
-pub record EndsEmpty (db : List (List Lit)) (n budget : ℕ) (log : List Step) : Type 0 where
+pub record EndsEmpty (permanent : ℕ) (db : List (List Lit)) (n budget : ℕ) (log : List Step) : Type 0 where
   pub before : List Step
   pub last : Step
   pub shape : log ≡ before ++ last ∷ []
-  pub lines : AreLines db n before
+  pub lines : AreLines permanent db n before
   pub ends : IsLastStep (db ++ learnt before) last
   pub count : length before ≤ budget
 
--- as many lines as the budget, and propagation stays short of an answer
-pub record EndsSpent (db : List (List Lit)) (n budget : ℕ) (log : List Step) : Type 0 where
-  pub lines : AreLines db n log
+-- as many lines as the budget, all of them permanent, and propagation stays short of an answer
+pub record EndsSpent (permanent : ℕ) (db : List (List Lit)) (n budget : ℕ) (log : List Step) : Type 0 where
+  pub lines : AreLines permanent db n log
+  pub whole : length (db ++ learnt log) ≤ permanent
   pub count : length log ≡ budget
   pub stuck : ReachesEmpty (db ++ learnt log) → ⊥
   pub free : (v : ℕ) × (1 ≤ v) × (v < n) × StaysOpen (db ++ learnt log) v
 
--- how a search over the clauses ends
-abbrev pub VerdictIs : List (List Lit) → ℕ → ℕ → Solver → List Step → Verdict → Type 0
-VerdictIs db n budget s log Sat = IsSound s × (length s.places.items ≡ n) × IsModelled db s
-VerdictIs db n budget s log Unsat = EndsEmpty db n budget log
-VerdictIs db n budget s log Spent = EndsSpent db n budget log
+-- how a search over the clauses ends; a log that is spent says nothing where some of its clauses may be forgotten
+abbrev pub VerdictIs : ℕ → List (List Lit) → ℕ → ℕ → Solver → List Step → Verdict → Type 0
+VerdictIs permanent db n budget s log Sat = IsSound s × (length s.places.items ≡ n) × IsModelled db s
+VerdictIs permanent db n budget s log Unsat = EndsEmpty permanent db n budget log
+VerdictIs permanent db n budget s log Spent = length s.clauses.items ≤ permanent → EndsSpent permanent db n budget log

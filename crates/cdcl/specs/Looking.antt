@@ -17,7 +17,7 @@ use Rattle.cdcl.specs.Visits.{IsConflict}
 -- the first clauses watch their literals
 pub record IsWatchful (s : Solver) : Type 0 where
   pub sound : IsSound s
-  pub watching : IsWatching (IsListed s.lists.items) (literals s.clauses.items) (held s.trail.items) s.level_starts.items s.head s.pairs.items
+  pub watching : IsWatching (IsListed s.lists.items) s.permanent (literals s.clauses.items) (held s.trail.items) s.level_starts.items s.head s.pairs.items
   pub lists : AreLists s.lists.items (length s.places.items) (length s.pairs.items)
 
 -- all clauses do
@@ -36,18 +36,18 @@ pub record IsUnattached (s : Solver) : Type 0 where
   pub none : s.pairs.items ≡ []
 
 -- The clauses of a literal's list are looked through: those of the indexes kept are done with.
-pub record IsLooking (db : List (List Lit)) (trail : List Entry) (places : List (Option ℕ)) (level_starts : List ℕ) (head : ℕ) (pairs : List Pair) (lists : List (List ℕ))
+pub record IsLooking (permanent : ℕ) (db : List (List Lit)) (trail : List Entry) (places : List (Option ℕ)) (level_starts : List ℕ) (head : ℕ) (pairs : List Pair) (lists : List (List ℕ))
     (lit : Lit) (kept rest : List ℕ) : Type 0 where
   pub sound : IsState db trail places level_starts
   pub denied : Denied (held trail) lit
-  pub watching : IsWatching (IsListedBut lit (kept ++ rest) lists) db (held trail) level_starts head pairs
+  pub watching : IsWatching (IsListedBut lit (kept ++ rest) lists) permanent db (held trail) level_starts head pairs
   pub lists_are : AreLists lists (length places) (length pairs)
   pub entries : (k : ℕ) → Contains (kept ++ rest) k → k < length pairs
-  pub pending : IsPending (held trail) db pairs lit rest
+  pub pending : IsPending permanent (held trail) db pairs lit rest
 
 abbrev pub IsLookingAt : Solver → Lit → List ℕ → List ℕ → Type 0
 IsLookingAt s lit kept rest =
-    IsLooking (literals s.clauses.items) s.trail.items s.places.items s.level_starts.items s.head s.pairs.items s.lists.items lit kept rest
+    IsLooking s.permanent (literals s.clauses.items) s.trail.items s.places.items s.level_starts.items s.head s.pairs.items s.lists.items lit kept rest
 
 abbrev pub VisitIs : Solver → Lit → List ℕ → List ℕ → ℕ → Visit → Type 0
 VisitIs s lit kept rest k Kept = IsLookingAt s lit (kept ++ k ∷ []) rest
@@ -56,7 +56,7 @@ VisitIs s lit kept rest k Conflict = IsLookingAt s lit kept (k ∷ rest) × IsCo
 
 -- all clauses of the list hold or watch other literals, or one is false
 abbrev pub LookedIs : Solver → Lit → Option ℕ → Type 0
-LookedIs s lit None = IsPending (held s.trail.items) (literals s.clauses.items) s.pairs.items lit []
+LookedIs s lit None = IsPending s.permanent (held s.trail.items) (literals s.clauses.items) s.pairs.items lit []
 LookedIs s lit (Some k) = IsConflict s k
 
 abbrev pub FoundIsAt : Solver → ℕ → Lit → Found → Type 0
@@ -75,6 +75,7 @@ IsGrown t u = (more : List Lit) × (u ≡ t ++ more)
 -- of what answers rest on, all but the trail stays
 pub record IsSameBeside (old new : Solver) : Type 0 where
   pub clauses : new.clauses ≡ old.clauses
+  pub permanent : new.permanent ≡ old.permanent
   pub level_starts : new.level_starts ≡ old.level_starts
   pub head : new.head ≡ old.head
   pub pairs : new.pairs ≡ old.pairs
@@ -84,6 +85,7 @@ pub record IsSameBeside (old new : Solver) : Type 0 where
 -- of that, all but what is watched stays
 pub record IsSameAttached (old new : Solver) : Type 0 where
   pub clauses : new.clauses ≡ old.clauses
+  pub permanent : new.permanent ≡ old.permanent
   pub level_starts : new.level_starts ≡ old.level_starts
   pub head : new.head ≡ old.head
   pub trail : new.trail ≡ old.trail
@@ -92,6 +94,7 @@ pub record IsSameAttached (old new : Solver) : Type 0 where
 -- of that, all but the trail and what is watched stays
 pub record Stays (old new : Solver) : Type 0 where
   pub clauses : new.clauses ≡ old.clauses
+  pub permanent : new.permanent ≡ old.permanent
   pub level_starts : new.level_starts ≡ old.level_starts
   pub head : new.head ≡ old.head
   pub count : length new.pairs.items ≡ length old.pairs.items

@@ -1,5 +1,5 @@
 -- What the answers of a solver mean.
-use Rattle.std.specs.Prelude.{◌≡◌, ℕ, ◌≤◌, ◌+◌, ◌-◌, Bool, false, List, [], ◌∷◌, Contains, length, slice_index_or}
+use Rattle.std.specs.Prelude.{◌≡◌, ℕ, ◌≤◌, ◌+◌, ◌-◌, ◌^◌, Bool, false, List, [], ◌∷◌, Contains, length, slice_index_or}
 use Rattle.cnf_form.specs.declared.formula.Lit.{Lit}
 use Rattle.cnf_form.specs.declared.formula.Cnf.{Cnf}
 use Rattle.cnf_form.specs.declared.log.Step.{Step}
@@ -33,3 +33,9 @@ abbrev pub OutcomeIs : Cnf → ℕ → Outcome → Type 0
 OutcomeIs cnf budget (Sat values) = IsModel cnf values
 OutcomeIs cnf budget (Unsat log) = Refutes cnf log.steps × AreConsecutive (length cnf.clauses) log.steps × (length log.steps ≤ budget + 1)
 OutcomeIs cnf budget (Spent log) = IsSpentLog cnf budget log.steps
+
+-- the same of a search that may forget clauses from a place on; where that is a place that a list can have, a spent log says nothing
+abbrev pub AttemptIs : ℕ → Cnf → ℕ → Outcome → Type 0
+AttemptIs permanent cnf budget (Sat values) = OutcomeIs cnf budget (Sat values)
+AttemptIs permanent cnf budget (Unsat log) = OutcomeIs cnf budget (Unsat log)
+AttemptIs permanent cnf budget (Spent log) = 2 ^ 64 - 1 ≤ permanent → OutcomeIs cnf budget (Spent log)

@@ -1,6 +1,7 @@
 -- What a list of literals leaves to be forced.
 use Rattle.cnf_form.specs.Literals.{HasVar}
-use Rattle.std.specs.Prelude.{ℕ, List, Contains}
+use Rattle.std.specs.Prelude.{ℕ, ◌<◌, List, Contains}
+use Rattle.cdcl.specs.Trail.{At}
 use Rattle.cnf_form.specs.declared.formula.Lit.{Lit}
 use Rattle.cnf_form.specs.Literals.{Denied, OthersDenied}
 
@@ -12,6 +13,10 @@ IsConsistent t = (l : Lit) → Contains t l → Denied t l → ⊥
 -- all denied is settled by no consistent list.
 abbrev pub IsSettled : List Lit → List Lit → Type 0
 IsSettled t c = (l : Lit) → OthersDenied t c l → Contains t l
+
+-- those below a place are
+abbrev pub AllSettledTo : ℕ → List Lit → List (List Lit) → Type 0
+AllSettledTo n t f = (k : ℕ) (c : List Lit) → k < n → At f k c → IsSettled t c
 
 abbrev pub AllSettled : List Lit → List (List Lit) → Type 0
 AllSettled t f = (c : List Lit) → Contains f c → IsSettled t c

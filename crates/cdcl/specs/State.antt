@@ -1,9 +1,8 @@
 -- What a solver keeps true.
 use Rattle.cdcl.specs.Trail.{At}
-use Rattle.std.specs.Prelude.{◌<◌, ℕ, List, Option, length, Contains, take}
+use Rattle.std.specs.Prelude.{◌<◌, ℕ, List, Option, length, Contains}
 use Rattle.cnf_form.specs.declared.formula.Lit.{Lit}
 use Rattle.cnf_form.specs.Literals.{literals}
-use Rattle.cdcl.specs.Settled.{AllSettled}
 use Rattle.cdcl.specs.declared.trail.Entry.{Entry}
 use Rattle.cdcl.specs.declared.solver.Solver.{Solver}
 use Rattle.cdcl.specs.Trail.{held, ArePlaces, AllInRange, AllLow}
@@ -19,7 +18,6 @@ pub record IsState (db : List (List Lit)) (trail : List Entry) (places : List (O
   pub rising : (i j a b : ℕ) → i < j → At level_starts i a → At level_starts j b → a < b
   pub under : (s : ℕ) → Contains level_starts s → s < length trail
   pub forced : (p : ℕ) → (Contains level_starts p → ⊥) → IsForcedAt db trail p
-  pub ended : (s : ℕ) → Contains level_starts s → AllSettled (take s (held trail)) db
 
 abbrev pub IsSound : Solver → Type 0
 IsSound s = IsState (literals s.clauses.items) s.trail.items s.places.items s.level_starts.items

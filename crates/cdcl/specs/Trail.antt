@@ -16,15 +16,6 @@ pub record ArePlaces (t : List Lit) (places : List (Option ℕ)) : Type 0 where
   pub right : (v p : ℕ) → slice_index_or places v None ≡ Some p → (p < length t) × ((l : Lit) → At t p l → l.var ≡ v)
   pub every : (p : ℕ) (l : Lit) → At t p l → slice_index_or places l.var None ≡ Some p
 
--- a variable has no place
-abbrev pub IsUnplaced : List (Option ℕ) → ℕ → Type 0
-IsUnplaced places v = (1 ≤ v) × (v < length places) × (slice_index_or places v None ≡ None)
-
--- one that has none, unless each has one
-abbrev pub NextIs : List (Option ℕ) → Option ℕ → Type 0
-NextIs places None = (v : ℕ) → 1 ≤ v → v < length places → (p : ℕ) × (slice_index_or places v None ≡ Some p)
-NextIs places (Some v) = IsUnplaced places v
-
 -- the value is that of the variable's literal, if there is one
 abbrev pub ValueIs : List Lit → ℕ → Bool → Type 0
 ValueIs t v value = (l : Lit) → Contains t l → l.var ≡ v → value ≡ l.positive

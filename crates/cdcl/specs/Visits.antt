@@ -4,7 +4,7 @@ use Rattle.cdcl.specs.Trail.{At}
 use Rattle.std.specs.Prelude.{◌≡◌, ◌<◌, ◌≤◌, ◌-◌, ℕ, Bool, false, slice_index_or, List, length, Contains, Option, None, Some, ◌++◌, ◌∷◌, [], take}
 use Rattle.cnf_form.specs.declared.formula.Lit.{Lit}
 use Rattle.cnf_form.specs.Literals.{literals}
-use Rattle.cdcl.specs.Settled.{AllSettled, IsOpen}
+use Rattle.cdcl.specs.Settled.{AllSettledTo, IsOpen}
 use Rattle.cdcl.specs.declared.analysis.LearntClause.{LearntClause}
 use Rattle.cdcl.specs.declared.solver.Solver.{Solver}
 use Rattle.cdcl.specs.declared.trail.Entry.{Entry}
@@ -15,9 +15,9 @@ use Rattle.cdcl.specs.Analysis.{IsFalse, IsLearntClause}
 abbrev pub IsConflict : Solver → ℕ → Type 0
 IsConflict s k = (k < length s.clauses.items) × IsFalse (held s.trail.items) (literals s.clauses.items) k
 
--- no clause forces anything that is not held
+-- no permanent clause forces anything that is not held
 abbrev pub IsStill : Solver → Type 0
-IsStill s = AllSettled (held s.trail.items) (literals s.clauses.items)
+IsStill s = AllSettledTo s.permanent (held s.trail.items) (literals s.clauses.items)
 
 abbrev pub ConflictIs : Solver → Option ℕ → Type 0
 ConflictIs s None = IsStill s × (length s.trail.items ≤ s.head)

@@ -1,9 +1,10 @@
 -- Watched literals (Moskewicz and others, 2001): each clause watches two, and one that is false excuses it by a true one, or is still to be looked at.
-use Rattle.std.specs.Prelude.{◌≡◌, ◌≢◌, ◌<◌, ◌≤◌, ◌+◌, ◌⊎◌, ℕ, Bool, true, false, List, [], ◌∷◌, ◌++◌, length, slice_index_or, slice_set, Contains}
+use Rattle.std.specs.Prelude.{◌≡◌, ◌≢◌, ◌<◌, ◌≤◌, ◌+◌, ◌⊎◌, ℕ, Bool, true, false, List, [], ◌∷◌, ◌++◌, length, slice_index_or, slice_set, Contains, take}
 use Rattle.cnf_form.specs.declared.formula.Lit.{Lit}
 use Rattle.cnf_form.specs.Literals.{opposite}
 use Rattle.cdcl.specs.declared.watch.Pair.{Pair}
 use Rattle.cdcl.specs.Trail.{At}
+use Rattle.cdcl.specs.Settled.{AllSettledTo}
 
 -- the place of a literal's list among the lists
 abbrev pub sign_code : Bool → ℕ
@@ -49,14 +50,24 @@ pub record IsPaired (R : Lit → ℕ → Type 0) (t : List Lit) (level_starts : 
   pub first_in : R pair.first k
   pub second_in : R pair.second k
 
--- The places below `head` were looked at, and the first clauses have pairs. Each has a true literal below all levels, or
--- watches its pair.
-pub record IsWatching (R : Lit → ℕ → Type 0) (db : List (List Lit)) (t : List Lit) (level_starts : List ℕ) (head : ℕ) (pairs : List Pair) : Type 0 where
+-- The places below `head` were looked at, and the first clauses have pairs. Each that is permanent has a true literal below all
+-- levels, or watches its pair, and was settled at the end of each level.
+pub record IsWatching (R : Lit → ℕ → Type 0) (permanent : ℕ) (db : List (List Lit)) (t : List Lit) (level_starts : List ℕ) (head : ℕ) (pairs : List Pair) : Type 0 where
   pub head_in : head ≤ length t
   pub levels : (s : ℕ) → Contains level_starts s → s ≤ head
   pub some : length pairs ≤ length db
   pub inside : (k : ℕ) (c : List Lit) (pair : Pair) → At db k c → At pairs k pair → Contains c pair.first × Contains c pair.second
-  pub each : (k : ℕ) (c : List Lit) (pair : Pair) → At db k c → At pairs k pair → IsBase t level_starts c ⊎ IsPaired R t level_starts head k c pair
+  pub ended : (s : ℕ) → Contains level_starts s → AllSettledTo permanent (take s t) db
+  pub each : (k : ℕ) (c : List Lit) (pair : Pair) → k < permanent → At db k c → At pairs k pair → IsBase t level_starts c ⊎ IsPaired R t level_starts head k c pair
+
+-- the permanent ones of some indexes are kept, and no others are added
+pub record IsThinned (permanent : ℕ) (old new : List ℕ) : Type 0 where
+  pub kept : (k : ℕ) → k < permanent → Contains old k → Contains new k
+  pub fewer : (k : ℕ) → Contains new k → Contains old k
+
+pub record AreThinned (permanent : ℕ) (old new : List (List ℕ)) : Type 0 where
+  pub room : length new ≡ length old
+  pub each : (i : ℕ) → IsThinned permanent (slice_index_or old i []) (slice_index_or new i [])
 
 abbrev pub HasWatch : Pair → Lit → Type 0
 HasWatch pair l = (pair.first ≡ l) ⊎ (pair.second ≡ l)
@@ -65,9 +76,9 @@ HasWatch pair l = (pair.first ≡ l) ⊎ (pair.second ≡ l)
 abbrev pub IsPairOf : Pair → Lit → Lit → Type 0
 IsPairOf pair l other = ((pair.first ≡ l) × (pair.second ≡ other)) ⊎ ((pair.second ≡ l) × (pair.first ≡ other))
 
--- each clause that watches the literal is among the indexes, or holds
-abbrev pub IsPending : List Lit → List (List Lit) → List Pair → Lit → List ℕ → Type 0
-IsPending t db pairs l rest = (k : ℕ) (c : List Lit) (pair : Pair) → At db k c → At pairs k pair → HasWatch pair l → Contains rest k ⊎ HoldsIn t c
+-- each permanent clause that watches the literal is among the indexes, or holds
+abbrev pub IsPending : ℕ → List Lit → List (List Lit) → List Pair → Lit → List ℕ → Type 0
+IsPending permanent t db pairs l rest = (k : ℕ) (c : List Lit) (pair : Pair) → k < permanent → At db k c → At pairs k pair → HasWatch pair l → Contains rest k ⊎ HoldsIn t c
 
 -- two lists for each variable, of the indexes of clauses that have pairs
 pub record AreLists (lists : List (List ℕ)) (n count : ℕ) : Type 0 where

@@ -2,10 +2,9 @@
 #![tactic(auto)]
 
 mod analysis;
+mod forget;
 mod look;
-pub mod order;
 mod outcome;
-pub mod restart;
 mod seen;
 mod solver;
 mod trail;

@@ -5,11 +5,12 @@ ghost use Rattle.cnf_form.specs.declared.log.Log.{Log};
 ghost use Rattle.cnf_form.specs.Literals.{IsInRange};
 ghost use Rattle.cnf_form.specs.Logs.{Refutes};
 ghost use Rattle.cnf_form.specs.Spent.{IsSpentLog};
-ghost use Rattle.cdcl.specs.Outcomes.{AreConsecutive, IsModel, IsOnce, OutcomeIs};
+ghost use Rattle.cdcl.specs.Outcomes.{AreConsecutive, AttemptIs, IsModel, IsOnce, OutcomeIs};
 
 use crate::solver::{Solver, Verdict};
 use cnf_form::{Cnf, Log};
 use cqa_value::{Items, NoMemory};
+use search_heuristics::usage::FIRST_LIMIT;
 use std::alloc::Global;
 
 /// What a solver finds out of a formula, with evidence.
@@ -23,11 +24,13 @@ pub enum Outcome {
     Spent(Log),
 }
 
-fn outcome_of(alloc: Global, cnf: &Cnf, budget: u32) -> Result<Outcome, NoMemory>
+/// Searches once, where learnt clauses from a place on may be forgotten.
+fn attempt(alloc: Global, cnf: &Cnf, budget: u32, permanent: usize) -> Result<Outcome, NoMemory>
     requires range { IsInRange cnf.now }
-    ensures { IfOk result (λ outcome. OutcomeIs cnf.now budget outcome) }
+    requires permanent { length cnf.now.clauses ≤ permanent }
+    ensures { IfOk result (λ outcome. AttemptIs permanent cnf.now budget outcome) }
 {
-    let mut solver = Solver::new(alloc, cnf)?;
+    let mut solver = Solver::new(alloc, cnf, permanent)?;
     let mut log = Vec::new(alloc);
     let verdict = solver.run(alloc, budget, &mut log)?;
     let steps = Items::from_vec(log);
@@ -36,6 +39,22 @@ fn outcome_of(alloc: Global, cnf: &Cnf, budget: u32) -> Result<Outcome, NoMemory
         Verdict::Unsat => Outcome::Unsat(Log { steps }),
         Verdict::Spent => Outcome::Spent(Log { steps }),
     })
+}
+
+/// Searches with learnt clauses forgotten, and where that comes to no answer, anew with all of them kept: each clause of a
+/// spent log is to be new.
+fn outcome_of(alloc: Global, cnf: &Cnf, budget: u32) -> Result<Outcome, NoMemory>
+    requires range { IsInRange cnf.now }
+    ensures { IfOk result (λ outcome. OutcomeIs cnf.now budget outcome) }
+{
+    let count = cnf.clauses.len();
+    if budget as usize > FIRST_LIMIT {
+        match attempt(alloc, cnf, budget, count)? {
+            Outcome::Spent(log) => drop(log),
+            outcome => return Ok(outcome),
+        }
+    }
+    attempt(alloc, cnf, budget, usize::MAX)
 }
 
 /// Decides whether some assignment satisfies a formula, with at most `budget` conflicts.

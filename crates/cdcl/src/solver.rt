@@ -14,14 +14,16 @@ ghost use Rattle.cdcl.specs.Visits.{ConflictIs, OpenVarIs, SearchIs, IsStill, Le
 ghost use Rattle.cdcl.specs.Lines.{Adds, EndsLog, IsLineStep, VerdictIs, added_lits};
 
 use crate::analysis::{LearntClause, analyze, refute};
+use crate::forget::thin_lists;
 use crate::look::{Found, Watches, literals_at, seek, watches_of};
-use crate::order::{Order, first_open};
-use crate::restart::Restarts;
 use crate::seen::SeenBuffer;
 use crate::trail::{Entry, cut, enqueue, lit_at, truth_of, value_at};
 use crate::watch::{Pair, close_gap, code, other_of, push_index, put_list, take_list};
 use cnf_form::{Clause, Cnf, Lit, Step, Truth};
 use cqa_value::{Items, NoMemory};
+use search_heuristics::order::{Order, first_open};
+use search_heuristics::restart::Restarts;
+use search_heuristics::usage::Usage;
 use std::alloc::Global;
 
 /// How a search ends.
@@ -88,20 +90,24 @@ pub(crate) struct Solver {
     pairs: Vec<Pair>,
     /// The clauses that watch each literal.
     lists: Vec<Items<usize>>,
+    /// The clauses before this one are never forgotten.
+    permanent: usize,
+    usage: Usage,
     seen: SeenBuffer,
     order: Order,
     restarts: Restarts,
 }
 
 impl Solver {
-    /// A solver of a formula's clauses, before any literal is true.
-    pub(crate) fn new(alloc: Global, cnf: &Cnf) -> Result<Solver, NoMemory>
+    /// A solver of a formula's clauses, before any literal is true, that may forget learnt clauses from a place on.
+    pub(crate) fn new(alloc: Global, cnf: &Cnf, permanent: usize) -> Result<Solver, NoMemory>
         requires range { AreAllInRange (literals cnf.now.clauses) (cnf.now.vars + 1) }
         requires low { (c : List Lit) → Contains (literals cnf.now.clauses) c → AllLow c }
         ensures new { IfOk result (λ s. IsUnattached s) }
         ensures clauses { IfOk result (λ s. literals s.clauses.items ≡ literals cnf.now.clauses) }
         ensures len { IfOk result (λ s. length s.places.items ≡ cnf.now.vars + 1) }
         ensures small { IfOk result (λ s. length s.places.items ≤ 2 ^ 32) }
+        ensures permanent { IfOk result (λ s. s.permanent ≡ permanent) }
     {
         Ok(Solver {
             clauses: cnf.copy(alloc)?.clauses.into_vec(),
@@ -111,6 +117,8 @@ impl Solver {
             head: 0,
             pairs: Vec::new(alloc),
             lists: no_lists(alloc, cnf.vars as usize + 1)?,
+            permanent,
+            usage: Usage::new(alloc, permanent),
             seen: SeenBuffer::new(alloc),
             order: Order::new(alloc, cnf.vars)?,
             restarts: Restarts::new(),
@@ -238,6 +246,7 @@ impl Solver {
         ensures level_starts { self.new.level_starts ≡ self.old.level_starts }
         ensures grows { OnOk result (length self.old.trail.items ≤ length self.new.trail.items) }
         ensures len { length self.new.places.items ≡ length self.old.places.items }
+        ensures permanent { self.new.permanent ≡ self.old.permanent }
         ensures conflict { IfOk result (λ r. ConflictIs self.new r) }
     {
         while self.head < self.trail.len() {
@@ -300,6 +309,7 @@ impl Solver {
         ensures ready { OnOk result (IsReady self.new) }
         ensures clauses { self.new.clauses ≡ self.old.clauses }
         ensures len { length self.new.places.items ≡ length self.old.places.items }
+        ensures permanent { self.new.permanent ≡ self.old.permanent }
         ensures trail { OnOk result (length self.old.trail.items < length self.new.trail.items) }
     {
         let start = self.trail.len();
@@ -316,12 +326,29 @@ impl Solver {
         Ok(())
     }
 
+    /// Has half of the learnt clauses watch nothing, those that were used least, where there are many.
+    fn forget(&mut self, alloc: Global) -> Result<(), NoMemory>
+        requires { IsReady self.old }
+        ensures ready { OnOk result (IsReady self.new) }
+        ensures clauses { self.new.clauses ≡ self.old.clauses }
+        ensures len { length self.new.places.items ≡ length self.old.places.items }
+        ensures permanent { self.new.permanent ≡ self.old.permanent }
+    {
+        if self.usage.is_full() {
+            let least = self.usage.median(alloc)?;
+            thin_lists(alloc, &mut self.lists, self.permanent, &self.usage, least)?;
+            self.usage.forget(least);
+        }
+        Ok(())
+    }
+
     /// Leaves all levels, where a restart is due.
     fn restart(&mut self)
         requires { IsReady self.old }
         ensures ready { IsReady self.new }
         ensures clauses { self.new.clauses ≡ self.old.clauses }
         ensures len { length self.new.places.items ≡ length self.old.places.items }
+        ensures permanent { self.new.permanent ≡ self.old.permanent }
     {
         if self.restarts.is_due() {
             self.backjump(0);
@@ -335,8 +362,10 @@ impl Solver {
         ensures ready { OnOk result (IsReady self.new) }
         ensures clauses { self.new.clauses ≡ self.old.clauses }
         ensures len { length self.new.places.items ≡ length self.old.places.items }
+        ensures permanent { self.new.permanent ≡ self.old.permanent }
         ensures found { IfOk result (λ r. SearchIs self.new r) }
     {
+        self.forget(alloc)?;
         self.restart();
         loop {
             if let Some(conflict) = self.propagate(alloc)? {
@@ -356,6 +385,7 @@ impl Solver {
         ensures ready { IsReady self.new }
         ensures clauses { self.new.clauses ≡ self.old.clauses }
         ensures len { length self.new.places.items ≡ length self.old.places.items }
+        ensures permanent { self.new.permanent ≡ self.old.permanent }
         ensures leave { LeavesLevel self.old self.new }
     {
         if let Some(start) = self.level_starts.pop() {
@@ -370,6 +400,7 @@ impl Solver {
         ensures ready { IsReady self.new }
         ensures clauses { self.new.clauses ≡ self.old.clauses }
         ensures len { length self.new.places.items ≡ length self.old.places.items }
+        ensures permanent { self.new.permanent ≡ self.old.permanent }
         ensures below { (s : ℕ) → Contains self.new.level_starts.items s → s < end }
         ensures kept { take end (held self.new.trail.items) ≡ take end (held self.old.trail.items) }
         ensures fewer { IsPrefix self.new.trail.items self.old.trail.items }
@@ -393,6 +424,7 @@ impl Solver {
         ensures ready { OnOk result (IsReady self.new) }
         ensures added { OnOk result (literals self.new.clauses.items ≡ literals self.old.clauses.items ++ lits.items ∷ []) }
         ensures len { length self.new.places.items ≡ length self.old.places.items }
+        ensures permanent { self.new.permanent ≡ self.old.permanent }
     {
         let index = self.clauses.len();
         self.clauses.push(Clause {
@@ -442,13 +474,16 @@ impl Solver {
         requires level { 0 < length self.old.level_starts.items }
         ensures ready { OnOk result (IsReady self.new) }
         ensures len { length self.new.places.items ≡ length self.old.places.items }
+        ensures permanent { self.new.permanent ≡ self.old.permanent }
         ensures added { IfOk result (λ step. literals self.new.clauses.items ≡ literals self.old.clauses.items ++ added_lits step ∷ []) }
-        ensures line { IfOk result (λ step. IsLineStep (literals self.old.clauses.items) (length self.old.places.items) step) }
+        ensures line { IfOk result (λ step. IsLineStep self.old.permanent (literals self.old.clauses.items) (length self.old.places.items) step) }
     {
         let seen = self.seen.take(alloc, self.places.len())?;
         let learnt = self.analyze(alloc, conflict, seen)?;
         self.order.raise(learnt.met.as_slice());
         self.seen.put_back(learnt.seen, learnt.met.as_slice());
+        self.usage.raise(learnt.hints.as_slice());
+        self.usage.push()?;
         let id = self.clauses.len() as u64 + 1;
         let lits = Vec::from_slice(alloc, learnt.lits.as_slice())?;
         self.leave_level();
@@ -485,6 +520,7 @@ impl Solver {
         ensures first { OnOk result (IsFirst self.new) }
         ensures clauses { self.new.clauses ≡ self.old.clauses }
         ensures len { length self.new.places.items ≡ length self.old.places.items }
+        ensures permanent { self.new.permanent ≡ self.old.permanent }
         ensures conflict { IfOk result (λ r. MatchOption r (length self.new.pairs.items ≡ length self.old.pairs.items + 1) (λ k. IsConflict self.new k)) }
     {
         let index = self.pairs.len();
@@ -513,6 +549,7 @@ impl Solver {
         ensures first { OnOk result (IsFirst self.new) }
         ensures clauses { self.new.clauses ≡ self.old.clauses }
         ensures len { length self.new.places.items ≡ length self.old.places.items }
+        ensures permanent { self.new.permanent ≡ self.old.permanent }
         ensures conflict { IfOk result (λ r. MatchOption r (length self.new.pairs.items ≡ length self.new.clauses.items) (λ k. IsConflict self.new k)) }
     {
         for _index in 0..self.clauses.len() {
@@ -531,9 +568,10 @@ impl Solver {
         log: &mut Vec<Step>,
     ) -> Result<Verdict, NoMemory>
         requires ready { IsReady self.old }
+        requires permanent { length (literals self.old.clauses.items) ≤ self.old.permanent }
         requires small { length self.old.places.items ≤ 2 ^ 32 }
         requires log { log.old.items ≡ [] }
-        ensures { IfOk result (λ verdict. VerdictIs (literals self.old.clauses.items) (length self.old.places.items) budget self.new log.new.items verdict) }
+        ensures { IfOk result (λ verdict. VerdictIs self.old.permanent (literals self.old.clauses.items) (length self.old.places.items) budget self.new log.new.items verdict) }
     {
         for _round in 0..budget {
             match self.search(alloc)? {
@@ -568,9 +606,10 @@ impl Solver {
         log: &mut Vec<Step>,
     ) -> Result<Verdict, NoMemory>
         requires new { IsUnattached self.old }
+        requires permanent { length (literals self.old.clauses.items) ≤ self.old.permanent }
         requires small { length self.old.places.items ≤ 2 ^ 32 }
         requires log { log.old.items ≡ [] }
-        ensures { IfOk result (λ verdict. VerdictIs (literals self.old.clauses.items) (length self.old.places.items) budget self.new log.new.items verdict) }
+        ensures { IfOk result (λ verdict. VerdictIs self.old.permanent (literals self.old.clauses.items) (length self.old.places.items) budget self.new log.new.items verdict) }
     {
         match self.attach_all()? {
             None => self.search_and_learn(alloc, budget, log),

@@ -7,9 +7,9 @@ ghost use Rattle.cdcl.specs.Settled.{IsOpen};
 ghost use Rattle.cdcl.specs.Trail.{At, held, ArePlaces, ValueIs, AllInRange};
 ghost use Rattle.cdcl.specs.Analysis.{EndIs, AfterIs};
 
-use crate::order::Order;
 use cnf_form::{Lit, Truth};
 use cqa_value::NoMemory;
+use search_heuristics::order::Order;
 
 /// A literal on the trail, with the clause that forced it.
 #[derive(Clone, Copy)]

@@ -20,7 +20,7 @@ force-requires-clause-sound c =
     let more : literals c.push.new.self.items ≡ literals old ++ lits ∷ [] =
     ap literals c.in_ok-push.ensures.items ∙ map-append (λ (x : Clause). x.lits) old (clause ∷ []) ∙ ap (λ (x : List Lit). literals old ++ x ∷ []) c.from_vec.ensures in
     subst (λ (d : List (List Lit)). IsState d s.trail.items s.places.items s.level_starts.items) (sym more)
-    (state_learnt (literals old) s.trail.items s.places.items s.level_starts.items lits c.requires.ready.watchful.sound c.requires.range c.requires.low c.requires.settled)
+    (state_learnt (literals old) s.trail.items s.places.items s.level_starts.items lits c.requires.ready.watchful.sound c.requires.range c.requires.low)
 
 pub attach_none-requires-clause-watchful : goal.attach_none-requires-clause-watchful
 attach_none-requires-clause-watchful c =
@@ -29,7 +29,7 @@ attach_none-requires-clause-watchful c =
     let clause : Clause = record { lits = c.from_vec.result } in
     let more : literals c.push.new.self.items ≡ literals old ++ lits ∷ [] =
     ap literals c.in_ok-push.ensures.items ∙ map-append (λ (x : Clause). x.lits) old (clause ∷ []) ∙ ap (λ (x : List Lit). literals old ++ x ∷ []) c.from_vec.ensures in
-    learnt_watchful c.args.self.now c.force.new.self c.push.new.self lits c.args.asserted c.requires.ready.watchful more c.force.ensures.same c.in_ok-force.ensures.trail c.in_ok-force.ensures.sound
+    learnt_watchful c.args.self.now c.force.new.self c.push.new.self lits c.args.asserted c.requires.ready.watchful c.requires.settled more c.force.ensures.same c.in_ok-force.ensures.trail c.in_ok-force.ensures.sound
 
 pub attach_none-requires-clause-base : goal.attach_none-requires-clause-base
 attach_none-requires-clause-base c =
@@ -59,7 +59,7 @@ attach-requires-clause-watchful c =
     let clause : Clause = record { lits = c.from_vec.result } in
     let more : literals c.push.new.self.items ≡ literals old ++ lits ∷ [] =
     ap literals c.in_ok-push.ensures.items ∙ map-append (λ (x : Clause). x.lits) old (clause ∷ []) ∙ ap (λ (x : List Lit). literals old ++ x ∷ []) c.from_vec.ensures in
-    learnt_watchful c.args.self.now c.force.new.self c.push.new.self lits c.args.asserted c.requires.ready.watchful more c.force.ensures.same c.in_ok-force.ensures.trail c.in_ok-force.ensures.sound
+    learnt_watchful c.args.self.now c.force.new.self c.push.new.self lits c.args.asserted c.requires.ready.watchful c.requires.settled more c.force.ensures.same c.in_ok-force.ensures.trail c.in_ok-force.ensures.sound
 
 pub attach-requires-clause-pair : goal.attach-requires-clause-pair
 attach-requires-clause-pair c =

@@ -60,8 +60,8 @@ returns-clause-watchful c =
     } in
     record {
       sound = w.sound;
-      watching = subst (λ (ps : List Pair). IsWatching (IsListed c.push_index-2.new.lists.items) (literals self.clauses.items) (held self.trail.items) self.level_starts.items self.head ps) (sym new)
-          (subst (λ (ls : List (List ℕ)). IsWatching (IsListed ls) (literals self.clauses.items) (held self.trail.items) self.level_starts.items self.head (self.pairs.items ++ pair ∷ [])) (sym two)
+      watching = subst (λ (ps : List Pair). IsWatching (IsListed c.push_index-2.new.lists.items) self.permanent (literals self.clauses.items) (held self.trail.items) self.level_starts.items self.head ps) (sym new)
+          (subst (λ (ls : List (List ℕ)). IsWatching (IsListed ls) self.permanent (literals self.clauses.items) (held self.trail.items) self.level_starts.items self.head (self.pairs.items ++ pair ∷ [])) (sym two)
           (watching_attach (IsListed both) (literals self.clauses.items) (held self.trail.items) self.level_starts.items self.head self.pairs.items p.0 pair p.1 p.2 p.3 (inr paired)
           (watching_relist (IsListed self.lists.items) (IsListed both) (literals self.clauses.items) (held self.trail.items) self.level_starts.items self.head self.pairs.items more w.watching)));
       lists = subst (λ (ps : List Pair). AreLists c.push_index-2.new.lists.items n (length ps)) (sym new)

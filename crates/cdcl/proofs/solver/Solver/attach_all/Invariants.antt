@@ -7,6 +7,7 @@ invariant-loop-index l = record {
   watchful : IsWatchful l.self;
   first : IsFirst l.self;
   clauses : l.self.clauses ≡ l.initial.self.clauses;
+  permanent : l.self.permanent ≡ l.initial.self.permanent;
   len : length l.self.places.items ≡ length l.initial.self.places.items;
   count : length l.self.pairs.items ≡ l._index;
 }

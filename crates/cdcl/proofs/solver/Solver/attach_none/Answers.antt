@@ -17,7 +17,7 @@ returns-clause-watchful c =
     let w = c.requires.watchful in
     record {
       sound = w.sound;
-      watching = subst (λ (ps : List Pair). IsWatching (IsListed self.lists.items) (literals self.clauses.items) (held self.trail.items) self.level_starts.items self.head ps) (sym new)
+      watching = subst (λ (ps : List Pair). IsWatching (IsListed self.lists.items) self.permanent (literals self.clauses.items) (held self.trail.items) self.level_starts.items self.head ps) (sym new)
           (watching_attach (IsListed self.lists.items) (literals self.clauses.items) (held self.trail.items) self.level_starts.items self.head self.pairs.items b.0 pair
           b.1 b.2 b.3 (inl b.4) w.watching);
       lists = subst (λ (ps : List Pair). AreLists self.lists.items (length self.places.items) (length ps)) (sym new)

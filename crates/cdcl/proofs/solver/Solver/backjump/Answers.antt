@@ -16,6 +16,7 @@ loop-self-preserved c =
     record {
       ready = c.leave_level.ensures.ready;
       clauses = c.leave_level.ensures.clauses ∙ c.loop-self.invariant.clauses;
+      permanent = c.leave_level.ensures.permanent ∙ c.loop-self.invariant.permanent;
       len = c.leave_level.ensures.len ∙ c.loop-self.invariant.len;
       kept = ap (λ (es : List Entry). take c.args.end (held es)) l.2 ∙ take_cut c.args.end s old.trail.items h ∙ c.loop-self.invariant.kept;
       fewer = prefix_more c.leave_level.new.self.trail.items old.trail.items c.args.self.now.trail.items s l.2 c.loop-self.invariant.fewer;

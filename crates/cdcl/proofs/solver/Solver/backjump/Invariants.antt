@@ -8,6 +8,7 @@ abbrev pub invariant-loop-self : goal.invariant-loop-self
 invariant-loop-self l = record {
   ready : IsReady l.self;
   clauses : l.self.clauses ≡ l.initial.self.clauses;
+  permanent : l.self.permanent ≡ l.initial.self.permanent;
   len : length l.self.places.items ≡ length l.initial.self.places.items;
   kept : take l.end (held l.self.trail.items) ≡ take l.end (held l.initial.self.trail.items);
   fewer : IsPrefix l.self.trail.items l.initial.self.trail.items;

@@ -28,13 +28,13 @@ returns-clause-ready c =
         sound = subst (λ (ss : List ℕ). IsState db c.enqueue.new.trail.items c.enqueue.new.places.items ss) level_starts
             (subst (λ (es : List Entry). IsState db es c.enqueue.new.places.items (self.level_starts.items ++ length trail ∷ [])) (sym e)
             (state_decided db trail self.places.items c.enqueue.new.places.items self.level_starts.items entry
-            ready.watchful.sound c.requires.still c.requires.low c.requires.range
+            ready.watchful.sound c.requires.low c.requires.range
             (subst (λ (es : List Entry). ArePlaces (held es) c.enqueue.new.places.items) e c.in_ok-enqueue.ensures.places) c.enqueue.ensures.len));
-        watching = subst (λ (ss : List ℕ). IsWatching R db (held c.enqueue.new.trail.items) ss self.head self.pairs.items) level_starts
-            (subst (λ (xs : List Lit). IsWatching R db xs (self.level_starts.items ++ length trail ∷ []) self.head self.pairs.items) (sym t)
+        watching = subst (λ (ss : List ℕ). IsWatching R self.permanent db (held c.enqueue.new.trail.items) ss self.head self.pairs.items) level_starts
+            (subst (λ (xs : List Lit). IsWatching R self.permanent db xs (self.level_starts.items ++ length trail ∷ []) self.head self.pairs.items) (sym t)
             (watching_put R db (held trail) (self.level_starts.items ++ length trail ∷ []) self.head self.pairs.items entry.lit
-            (subst (λ (n : ℕ). IsWatching R db (held trail) (self.level_starts.items ++ n ∷ []) self.head self.pairs.items) len
-            (watching_level R db (held trail) self.level_starts.items self.head self.pairs.items (omega (arith, len, c.requires.whole)) ready.watchful.watching))));
+            (subst (λ (n : ℕ). IsWatching R self.permanent db (held trail) (self.level_starts.items ++ n ∷ []) self.head self.pairs.items) len
+            (watching_level R db (held trail) self.level_starts.items self.head self.pairs.items (omega (arith, len, c.requires.whole)) c.requires.still ready.watchful.watching))));
         lists = subst (λ (n : ℕ). AreLists self.lists.items n (length self.pairs.items)) (sym c.enqueue.ensures.len) ready.watchful.lists;
       };
       all = ready.all;

@@ -20,8 +20,8 @@ returns-in-Some-clause-ready c =
     let ready = c.requires.ready in
     let st : IsState db trail self.places.items (level_starts ++ s ∷ []) =
     subst (λ (ss : List ℕ). IsState db trail self.places.items ss) c.in-Some.ensures.items ready.watchful.sound in
-    let w : IsWatching (IsListed self.lists.items) db (held trail) (level_starts ++ s ∷ []) self.head self.pairs.items =
-    subst (λ (ss : List ℕ). IsWatching (IsListed self.lists.items) db (held trail) ss self.head self.pairs.items) c.in-Some.ensures.items ready.watchful.watching in
+    let w : IsWatching (IsListed self.lists.items) self.permanent db (held trail) (level_starts ++ s ∷ []) self.head self.pairs.items =
+    subst (λ (ss : List ℕ). IsWatching (IsListed self.lists.items) self.permanent db (held trail) ss self.head self.pairs.items) c.in-Some.ensures.items ready.watchful.watching in
     let cut : held c.cut.new.trail.items ≡ take s (held trail) = ap held c.cut.ensures.trail ∙ held_take s trail in
     let within : s ≤ length (held trail) = let u = st.under s (Contains-push level_starts s) in let l = length_held trail in omega (arith, u, l) in
     record {
@@ -29,8 +29,8 @@ returns-in-Some-clause-ready c =
         sound = subst (λ (es : List Entry). IsState db es c.cut.new.places.items level_starts) (sym c.cut.ensures.trail)
             (state_back db trail self.places.items c.cut.new.places.items level_starts s st
             (subst (λ (es : List Entry). ArePlaces (held es) c.cut.new.places.items) c.cut.ensures.trail c.cut.ensures.places) c.cut.ensures.len);
-        watching = subst (λ (h : ℕ). IsWatching (IsListed self.lists.items) db (held c.cut.new.trail.items) level_starts h self.pairs.items) (sym c.min-self.ensures)
-            (subst (λ (xs : List Lit). IsWatching (IsListed self.lists.items) db xs level_starts (min self.head s) self.pairs.items) (sym cut)
+        watching = subst (λ (h : ℕ). IsWatching (IsListed self.lists.items) self.permanent db (held c.cut.new.trail.items) level_starts h self.pairs.items) (sym c.min-self.ensures)
+            (subst (λ (xs : List Lit). IsWatching (IsListed self.lists.items) self.permanent db xs level_starts (min self.head s) self.pairs.items) (sym cut)
             (watching_back (IsListed self.lists.items) db (held trail) level_starts s self.head self.pairs.items within (λ x i. below_last level_starts s x st.rising i) w));
         lists = subst (λ (n : ℕ). AreLists self.lists.items n (length self.pairs.items)) (sym c.cut.ensures.len) ready.watchful.lists;
       };

@@ -36,6 +36,7 @@ loop-self-preserved c =
       grows = omega (arith, longer, i.grows);
       clauses = stays.clauses ∙ i.clauses;
       level_starts = stays.level_starts ∙ i.level_starts;
+      permanent = stays.permanent ∙ i.permanent;
       len = stays.len ∙ i.len;
     }
 

@@ -8,6 +8,7 @@ invariant-loop-self l = record {
   grows : length l.initial.self.trail.items ≤ length l.self.trail.items;
   clauses : l.self.clauses ≡ l.initial.self.clauses;
   level_starts : l.self.level_starts ≡ l.initial.self.level_starts;
+  permanent : l.self.permanent ≡ l.initial.self.permanent;
   len : length l.self.places.items ≡ length l.initial.self.places.items;
 }
 

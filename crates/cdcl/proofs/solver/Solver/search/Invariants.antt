@@ -6,6 +6,7 @@ abbrev pub invariant-loop-conflict : goal.invariant-loop-conflict
 invariant-loop-conflict l = record {
   ready : IsReady l.self;
   clauses : l.self.clauses ≡ l.initial.self.clauses;
+  permanent : l.self.permanent ≡ l.initial.self.permanent;
   len : length l.self.places.items ≡ length l.initial.self.places.items;
 }
 

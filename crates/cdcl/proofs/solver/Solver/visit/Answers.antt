@@ -64,7 +64,7 @@ returns-in_ok-push_index-in-Free-clause-visit c kept rest l =
     let f = c.in-Free.ensures d.0 d.1 in
     let lists : c.push_index.new.lists.items ≡ listed_at s.lists.items (code_of c.in-Free.new) c.args.index =
     c.in_ok-push_index-in-Free.ensures ∙ ap (λ (i : ℕ). listed_at s.lists.items i c.args.index) c.code.ensures in
-    subst (λ (ls : List (List ℕ)). IsLooking (literals s.clauses.items) s.trail.items s.places.items s.level_starts.items s.head (set s.pairs.items c.args.index made) ls c.args.lit kept rest) (sym lists)
+    subst (λ (ls : List (List ℕ)). IsLooking s.permanent (literals s.clauses.items) s.trail.items s.places.items s.level_starts.items s.head (set s.pairs.items c.args.index made) ls c.args.lit kept rest) (sym lists)
     (looking_move (literals s.clauses.items) s.trail.items s.places.items s.level_starts.items s.head s.pairs.items s.lists.items c.args.lit c.in-Some.other c.in-Free.new kept rest c.args.index
     d.0 c.index.result.now d.1 at c.in-Some.ensures f.0 f.1 f.2 l)
 

@@ -1,4 +1,4 @@
-use Rattle.cdcl.proofs.order.Order.sift_up.Given as goal
+use Rattle.search_heuristics.proofs.order.Order.sift_up.Given as goal
 
 abbrev pub invariant-loop-place : goal.invariant-loop-place
 invariant-loop-place l = Unit {0}

@@ -1,7 +1,7 @@
 use Rattle.std.proofs.Common.{◌≡◌, ℕ, Option, Some, None, true, inl, inr, refl, sym, subst, arith, rules, get_or}
 use Rattle.std.specs.Option.{is_some}
 use Rattle.cnf_form.proofs.Lits.{nat_cases}
-use Rattle.cdcl.proofs.order.first_open.Goals as goal
+use Rattle.search_heuristics.proofs.order.first_open.Goals as goal
 
 placed : (o : Option ℕ) → is_some o ≡ true → (p : ℕ) × (o ≡ Some p)
 placed (Some p) e = (p, refl)

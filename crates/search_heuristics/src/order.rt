@@ -1,8 +1,8 @@
 //! The order of decisions: first the variable that conflicts met most of late, with the value that it last had (Eén and
-//! Sörensson, 2003; Pipatsrisawat and Darwiche, 2007). It decides how fast an answer is found, and never which.
+//! Sörensson, 2003; Pipatsrisawat and Darwiche, 2007).
 
 ghost use Rattle.std.specs.Prelude.{◌≡◌, ◌<◌, ◌≤◌, ◌^◌, length, true};
-ghost use Rattle.cdcl.specs.Trail.{IsUnplaced, NextIs};
+ghost use Rattle.search_heuristics.specs.Open.{IsUnplaced, NextIs};
 
 use cnf_form::Lit;
 use cqa_value::NoMemory;
@@ -119,7 +119,7 @@ impl Order {
         for var in met {
             self.raise_one(*var);
         }
-        self.step = self.step.saturating_add(self.step / 20);
+        self.step = self.step.saturating_add(self.step / 50);
         if self.step > LARGE_STEP {
             self.scale_down();
         }

@@ -1,5 +1,5 @@
 use Rattle.std.proofs.Common.{◌-◌, ◌<◌, ◌^◌}
-use Rattle.cdcl.proofs.order.Order.sift_down.Given as goal
+use Rattle.search_heuristics.proofs.order.Order.sift_down.Given as goal
 
 abbrev pub invariant-loop-left : goal.invariant-loop-left
 invariant-loop-left l = l.len < 2 ^ 63

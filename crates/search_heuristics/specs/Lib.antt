@@ -1,0 +1,2 @@
+-- What the order of decisions hands out.
+pub mod Open
