@@ -27,7 +27,7 @@ based-joined : (n m k : ℕ) (ss ts : List Span) → AreBasedTo n ss m → AreBa
 based-joined n m k [] ts h g = subst (λ z. AreBasedTo z ts k) (sym h) g
 based-joined n m k (s ∷ ss) ts h g = (h.0, based-joined (n + s.count) m k ss ts h.1 g)
 
-based-whole : (n m : ℕ) (ss : List Span) → AreBasedTo n ss m → AreBased n ss
+pub based-whole : (n m : ℕ) (ss : List Span) → AreBasedTo n ss m → AreBased n ss
 based-whole n m [] h = tt
 based-whole n m (s ∷ ss) h = (h.0, based-whole (n + s.count) m ss h.1)
 

@@ -40,14 +40,14 @@ based-le : (n m : ℕ) (ss : List Span) → AreBasedTo n ss m → n ≤ m
 based-le n m [] h = omega (arith, h)
 based-le n m (s ∷ ss) h = let ih = based-le (n + s.count) m ss h.1 in omega (arith, ih)
 
-based-below : (n m : ℕ) (ss : List Span) → AreBasedTo n ss m → (s : Span) → Contains ss s → s.base + s.count ≤ m
+pub based-below : (n m : ℕ) (ss : List Span) → AreBasedTo n ss m → (s : Span) → Contains ss s → s.base + s.count ≤ m
 based-below n m [] h s k = absurd (mem-nil s k)
 based-below n m (t ∷ ss) h s k = elim (mem-cases s t ss k) [
   | inl e ↦ let le = based-le (n + t.count) m ss h.1 in let b = h.0 in subst (λ (u : Span). u.base + u.count ≤ m) e (omega (arith, le, b))
   | inr i ↦ based-below (n + t.count) m ss h.1 s i
 ]
 
-variables-length : (n m : ℕ) (ss : List Span) → AreBasedTo n ss m → n + length (variables_of ss) ≡ m
+pub variables-length : (n m : ℕ) (ss : List Span) → AreBasedTo n ss m → n + length (variables_of ss) ≡ m
 variables-length n m [] h = omega (arith, h)
 variables-length n m (s ∷ ss) h =
     let ih = variables-length (n + s.count) m ss h.1 in

@@ -15,4 +15,5 @@ pub mod Columns
 pub mod Naming
 pub mod Encoding
 pub mod Deciding
+pub mod FirstLooks
 pub mod Searching

@@ -14,7 +14,7 @@ use Rattle.cqa_model.proofs.Databases.{possible_is_candidate}
 use Rattle.row_cursor.proofs.Extending.{sorted-cons, sorted-nil}
 use Rattle.join_witness.specs.Listing.{HasTooMany}
 use Rattle.join_witness.proofs.Sorted.{each-of, not_less, not_both, sorted-joined}
-use Rattle.repair_clauses.specs.declared.search.Verdict.{Verdict}
+use Rattle.repair_clauses.specs.declared.judging.Verdict.{Verdict}
 use Rattle.repair_clauses.specs.declared.search.Stop.{Stop}
 use Rattle.repair_clauses.specs.declared.search.Stop.TheVariants as stop
 use Rattle.cdcl.specs.declared.outcome.Outcome.{Outcome}

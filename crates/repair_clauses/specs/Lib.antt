@@ -6,4 +6,5 @@ pub mod Runs
 pub mod Laws
 pub mod Encodings
 pub mod Deciding
+pub mod Looking
 pub mod Searching

@@ -15,8 +15,8 @@ use Rattle.cdcl.specs.declared.outcome.Outcome.{Outcome}
 use Rattle.cdcl.specs.declared.outcome.Outcome.TheVariants as outcome
 use Rattle.join_witness.specs.Listing.{HasTooMany}
 use Rattle.repair_clauses.specs.declared.formula.Encoded.{Encoded}
-use Rattle.repair_clauses.specs.declared.search.Verdict.{Verdict}
-use Rattle.repair_clauses.specs.declared.search.Verdict.TheVariants as verdict
+use Rattle.repair_clauses.specs.declared.judging.Verdict.{Verdict}
+use Rattle.repair_clauses.specs.declared.judging.Verdict.TheVariants as verdict
 use Rattle.repair_clauses.specs.declared.search.Stop.{Stop}
 use Rattle.repair_clauses.specs.declared.search.Stop.TheVariants as stop
 use Rattle.repair_clauses.specs.declared.search.Searched.{Searched}

@@ -17,24 +17,60 @@ use cqa_value::{Items, NoMemory};
 use join_witness::Witness;
 use std::alloc::Global;
 
-/// The clause of a block: one of its rows is kept.
-fn block_clause(alloc: Global, span: &Span) -> Result<Clause, NoMemory>
-    requires { span.now.base + span.now.count < 2 ^ 32 }
-    ensures { IfOk result (λ clause. clause.lits ≡ map positive (numbers_in span.now)) }
+/// Puts the literals of a block's clause into a list: one of its rows is kept.
+///
+/// # Errors
+///
+/// `NoMemory` where memory is refused.
+pub fn fill_block(span: &Span, lits: &mut Vec<Lit>) -> Result<(), NoMemory>
+    requires none { lits.old.items ≡ [] }
+    requires small { span.now.base + span.now.count < 2 ^ 32 }
+    ensures { IfOk result (λ done. lits.new.items ≡ map positive (numbers_in span.now)) }
 {
-    let mut lits = Vec::with_capacity(alloc, span.count as usize)?;
     for at in 0..span.count {
         lits.push(Lit {
             var: span.base + 1 + at,
             positive: true,
         })?;
     }
+    Ok(())
+}
+
+/// The clause of a block.
+fn block_clause(alloc: Global, span: &Span) -> Result<Clause, NoMemory>
+    requires { span.now.base + span.now.count < 2 ^ 32 }
+    ensures { IfOk result (λ clause. clause.lits ≡ map positive (numbers_in span.now)) }
+{
+    let mut lits = Vec::with_capacity(alloc, span.count as usize)?;
+    fill_block(span, &mut lits)?;
     Ok(Clause {
         lits: Items::from_vec(lits),
     })
 }
 
-/// The clause of a witness: not all of its rows are kept.
+/// Puts the literals of a witness's clause into a list: not all of its rows are kept.
+///
+/// # Errors
+///
+/// `NoMemory` where memory is refused.
+pub fn fill_witness(spans: &[Span], names: &[RowId], lits: &mut Vec<Lit>) -> Result<(), NoMemory>
+    requires none { lits.old.items ≡ [] }
+    requires few { length names.now ≤ 12 }
+    requires apart { AreApart spans.now }
+    requires based { AreBased 0 spans.now }
+    requires covered { AreCovered spans.now names.now }
+    ensures { IfOk result (λ done. IsWitnessClause spans.now names.now lits.new.items) }
+{
+    for at in 0..names.len() {
+        lits.push(Lit {
+            var: number(spans, at as u32, names[at].place),
+            positive: false,
+        })?;
+    }
+    Ok(())
+}
+
+/// The clause of a witness.
 fn witness_clause(alloc: Global, spans: &[Span], names: &[RowId]) -> Result<Clause, NoMemory>
     requires few { length names.now ≤ 12 }
     requires apart { AreApart spans.now }
@@ -43,12 +79,7 @@ fn witness_clause(alloc: Global, spans: &[Span], names: &[RowId]) -> Result<Clau
     ensures { IfOk result (λ clause. IsWitnessClause spans.now names.now clause.lits) }
 {
     let mut lits = Vec::with_capacity(alloc, names.len())?;
-    for at in 0..names.len() {
-        lits.push(Lit {
-            var: number(spans, at as u32, names[at].place),
-            positive: false,
-        })?;
-    }
+    fill_witness(spans, names, &mut lits)?;
     Ok(Clause {
         lits: Items::from_vec(lits),
     })

@@ -26,7 +26,11 @@ pub struct Decided {
 }
 
 /// Hands a formula to the solver.
-fn solved(alloc: Global, formula: Encoded, budget: u32) -> Result<Decided, NoMemory>
+///
+/// # Errors
+///
+/// `NoMemory` where memory is refused.
+pub(crate) fn solved(alloc: Global, formula: Encoded, budget: u32) -> Result<Decided, NoMemory>
     requires range { IsInRange formula.cnf }
     requires once { IsOnce formula.cnf }
     ensures same { IfOk result (λ decided. decided.formula ≡ formula) }

@@ -75,7 +75,11 @@ fn all_clauses(
 }
 
 /// The formula over blocks that are numbered.
-fn formula_over(
+///
+/// # Errors
+///
+/// `NoMemory` where memory is refused.
+pub(crate) fn formula_over(
     alloc: Global,
     query: &Query,
     spans: &[Span],

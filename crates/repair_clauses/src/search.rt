@@ -4,14 +4,14 @@
 ghost use Rattle.std.specs.Prelude.{◌≡◌, [], IfOk, IfSome, IsNone, length};
 ghost use Rattle.cqa_model.specs.Query.{FitsDatabase};
 ghost use Rattle.row_cursor.specs.Spots.{ArePaths};
-ghost use Rattle.repair_clauses.specs.Searching.{AreCandidates, IsSearched, IsStop, IsStopAt, IsVerdict, Judges, Sifts, SiftsAll};
+ghost use Rattle.repair_clauses.specs.Searching.{AreCandidates, IsSearched, IsStop, IsStopAt, Sifts, SiftsAll};
 
-use crate::decision::{Decided, decide};
-use cdcl::Outcome;
+use crate::first_look::Room;
+use crate::judging::{Verdict, judge_row};
 use cnf_form::{Cnf, Log};
 use cqa_model::Query;
-use cqa_value::{Fail, Items, NoMemory, Row};
-use join_witness::{TooMany, candidates, row_paths};
+use cqa_value::{Items, NoMemory, Row};
+use join_witness::{candidates, row_paths};
 use row_cursor::RowIndex;
 use std::alloc::Global;
 use table_blocks::Database;
@@ -33,59 +33,6 @@ pub enum Searched {
     Stopped(Stop),
 }
 
-/// What is found out of one row.
-#[derive(Debug, Drop)]
-pub enum Verdict {
-    Certain,
-    Rejected,
-    Over,
-    Spent { cnf: Cnf, log: Log },
-}
-
-/// What an outcome says of a row.
-fn judged(decided: Decided) -> Verdict
-    ensures { Judges decided.formula decided.outcome result }
-{
-    let Decided { formula, outcome } = decided;
-    match outcome {
-        Outcome::Sat(values) => {
-            drop(values);
-            drop(formula);
-            Verdict::Rejected
-        }
-        Outcome::Unsat(log) => {
-            drop(log);
-            drop(formula);
-            Verdict::Certain
-        }
-        Outcome::Spent(log) => Verdict::Spent {
-            cnf: formula.cnf,
-            log,
-        },
-    }
-}
-
-/// What is found out of one row, with at most `budget` conflicts.
-fn judge_row<'a>(
-    alloc: Global,
-    db: &'a Database,
-    query: &'a Query,
-    row: &'a Row,
-    paths: &'a [Option<RowIndex<'a>>],
-    budget: u32,
-) -> Result<Verdict, NoMemory>
-    requires fits { FitsDatabase query.now db.now }
-    requires long { length row.now ≡ length query.now.answer }
-    requires paths { ArePaths query.now db.now paths.now }
-    ensures { IfOk result (IsVerdict query.now db.now row.now budget) }
-{
-    match decide(alloc, db, query, row, paths, budget) {
-        Ok(decided) => Ok(judged(decided)),
-        Err(Fail::Refused(TooMany)) => Ok(Verdict::Over),
-        Err(Fail::NoMemory) => Err(NoMemory),
-    }
-}
-
 /// Puts a row behind the certain ones if it is certain. Says why the search ends, if it does.
 fn sift(
     alloc: Global,
@@ -94,6 +41,7 @@ fn sift(
     paths: &[Option<RowIndex<'_>>],
     budget: u32,
     row: Row,
+    room: &mut Room,
     answers: &mut Vec<Row>,
 ) -> Result<Option<Stop>, NoMemory>
     requires fits { FitsDatabase query.now db.now }
@@ -102,7 +50,7 @@ fn sift(
     ensures sifted { IfOk result (λ stop. IsNone stop → Sifts query.now db.now row answers.old.items answers.new.items) }
     ensures stopped { IfOk result (λ stop. IfSome stop (IsStopAt query.now db.now budget row)) }
 {
-    match judge_row(alloc, db, query, &row, paths, budget) {
+    match judge_row(alloc, db, query, &row, paths, budget, room) {
         Err(fault) => {
             drop(row);
             Err(fault)
@@ -128,6 +76,7 @@ fn sift_all(
     paths: &[Option<RowIndex<'_>>],
     budget: u32,
     rows: Vec<Row>,
+    room: &mut Room,
     answers: &mut Vec<Row>,
 ) -> Result<Option<Stop>, NoMemory>
     requires fits { FitsDatabase query.now db.now }
@@ -138,7 +87,7 @@ fn sift_all(
     ensures stopped { IfOk result (λ stop. IfSome stop (IsStop query.now db.now budget)) }
 {
     for row in rows {
-        let stop = sift(alloc, db, query, paths, budget, row, answers)?;
+        let stop = sift(alloc, db, query, paths, budget, row, room, answers)?;
         if stop.is_some() {
             return Ok(stop);
         }
@@ -163,7 +112,12 @@ fn search_rows(
 {
     match row_paths(alloc, db, query) {
         Ok(paths) => {
-            let stop = sift_all(alloc, db, query, paths.as_slice(), budget, rows, answers);
+            let mut room = Room::new(alloc);
+            let paths_now = paths.as_slice();
+            let stop = sift_all(
+                alloc, db, query, paths_now, budget, rows, &mut room, answers,
+            );
+            drop(room);
             drop(paths);
             stop
         }

@@ -1,7 +1,7 @@
 use Rattle.std.proofs.Common.{◌+◌, ◌++◌, ◌∷◌, ◌∙◌, [], suc, ap, sym, arith}
 use Rattle.std.proofs.lemmas.List.FromFn.{map-range_with_len_more}
 use Rattle.repair_clauses.specs.Clauses.{positive}
-use Rattle.repair_clauses.proofs.clauses.block_clause.Goals as goal
+use Rattle.repair_clauses.proofs.clauses.fill_block.Goals as goal
 
 pub loop-at-preserved : goal.loop-at-preserved
 loop-at-preserved c =

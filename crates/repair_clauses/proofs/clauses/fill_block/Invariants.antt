@@ -1,7 +1,7 @@
 use Rattle.std.proofs.Common.{◌≡◌, suc, map}
 use Rattle.std.specs.List.{range_with_len}
 use Rattle.repair_clauses.specs.Clauses.{positive}
-use Rattle.repair_clauses.proofs.clauses.block_clause.Given as goal
+use Rattle.repair_clauses.proofs.clauses.fill_block.Given as goal
 
 -- the literals of the rows so far
 abbrev pub invariant-loop-at : goal.invariant-loop-at

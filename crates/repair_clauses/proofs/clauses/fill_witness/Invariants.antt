@@ -1,5 +1,5 @@
 use Rattle.repair_clauses.proofs.Encoding.{AreNegativesTo}
-use Rattle.repair_clauses.proofs.clauses.witness_clause.Given as goal
+use Rattle.repair_clauses.proofs.clauses.fill_witness.Given as goal
 
 -- the literals of the rows so far
 abbrev pub invariant-loop-at : goal.invariant-loop-at

@@ -2,7 +2,7 @@ use Rattle.std.proofs.Common.{◌≡◌, ◌+◌, ◌-◌, ◌<◌, ◌^◌, suc
 use Rattle.repair_clauses.specs.declared.span.Span.{Span}
 use Rattle.repair_clauses.specs.Spans.{at, IsIn}
 use Rattle.repair_clauses.proofs.Encoding.{negatives-more, place_read}
-use Rattle.repair_clauses.proofs.clauses.witness_clause.Goals as goal
+use Rattle.repair_clauses.proofs.clauses.fill_witness.Goals as goal
 
 pub number-requires-clause-covered : goal.number-requires-clause-covered
 number-requires-clause-covered c =
