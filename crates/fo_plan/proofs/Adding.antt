@@ -1,8 +1,7 @@
 -- What the blocks so far give has come.
-use Rattle.std.proofs.Common.{◌≡◌, ◌↔◌, ◌<◌, ◌≤◌, ◌+◌, ◌⊎◌, ℕ, inl, inr, Bool, IsTrue, IsFalse, true, false, List, [], ◌∷◌, length, sym, ◌∙◌, subst, arith, Contains}
+use Rattle.std.proofs.Common.{◌≡◌, ◌<◌, ◌≤◌, ◌+◌, ◌⊎◌, ℕ, inl, inr, List, [], ◌∷◌, length, sym, subst, arith, Contains}
 use native.Mathlib.Decide.{dec_lt}
 use Rattle.std.specs.Option.{option_copied}
-use Rattle.std.proofs.lemmas.Bool.{false≢true}
 use Rattle.std.proofs.lemmas.List.Elements.{Contains-get_or}
 use Rattle.cqa_value.specs.declared.value.Value.{Value}
 use Rattle.cqa_model.specs.declared.query.Query.{Query}
@@ -15,7 +14,7 @@ use Rattle.fo_plan.specs.Knowing.{HasKnown}
 use Rattle.fo_plan.specs.Enough.{IsEnough, row_of, IsFirst, IsPassed, IsNextBlock}
 use Rattle.fo_plan.specs.Fitting.{Suits}
 use Rattle.fo_plan.specs.Holding.{RowHolds}
-use Rattle.fo_plan.specs.Giving.{IsAnswer, Gives, Adds}
+use Rattle.fo_plan.specs.Giving.{IsAnswer, Gives, IsAdded}
 use Rattle.fo_plan.specs.declared.enough.Blocks.{Blocks}
 use Rattle.fo_plan.proofs.Passing.{WholeHas, some-at, at-some, found-in-table}
 use Rattle.fo_plan.proofs.Suiting.{suits-from}
@@ -25,13 +24,11 @@ use Rattle.fo_plan.proofs.Gathered.{adds-same}
 abbrev pub GivesFrom : Blocks → (List Value → Type 0) → (List Value → List Value → Type 0) → ℕ → List Value → Type 0
 GivesFrom s Q R at row = (at < length s.rows.now) × IsFirst s.key.now s.rows.now at × Q row × WholeHas s.key.now s.rows.now (R row) at
 
--- what the blocks give that begin before a place has come, and it is told whether they give something
-pub record AddedBefore (s : Blocks) (Q : List Value → Type 0) (R : List Value → List Value → Type 0) (place : ℕ) (old new : List (List Value)) (any : Bool) : Type 0 where
+-- what the blocks give that begin before a place has come
+pub record AddedBefore (s : Blocks) (Q : List Value → Type 0) (R : List Value → List Value → Type 0) (place : ℕ) (old new : List (List Value)) : Type 0 where
   pub kept : (row : List Value) → Contains old row → Contains new row
   pub given : (row : List Value) → Contains new row → Contains old row ⊎ ((at : ℕ) × GivesFrom s Q R at row)
   pub all : (row : List Value) (at : ℕ) → at < place → GivesFrom s Q R at row → Contains new row
-  pub some : IsTrue any → (row : List Value) × ((at : ℕ) × GivesFrom s Q R at row)
-  pub none : IsFalse any → (row : List Value) (at : ℕ) → at < place → GivesFrom s Q R at row → ⊥
 
 module _ (s : Blocks) (Q : List Value → Type 0) (R : List Value → List Value → Type 0) (known : (row y : List Value) → R row y → HasKnown (option_copied s.index) s.values y) where
   -- what is passed gives nothing
@@ -39,17 +36,15 @@ module _ (s : Blocks) (Q : List Value → Type 0) (R : List Value → List Value
   passed from to at row h low high g =
       h at low high g.1 (known row (row_of s.rows.now at) (g.3 (row_of s.rows.now at) (Contains-get_or s.rows.now at [] g.0) (shares-self s.key.now (row_of s.rows.now at))))
 
-  pub added-starts : (start : ℕ) (old : List (List Value)) → IsPassed s 0 start → AddedBefore s Q R start old old false
+  pub added-starts : (start : ℕ) (old : List (List Value)) → IsPassed s 0 start → AddedBefore s Q R start old old
   added-starts start old h = record {
     kept = λ row m. m;
     given = λ row m. inl m;
     all = λ row at l g. absurd (passed 0 start at row h (omega arith) l g);
-    some = λ t. absurd (false≢true t);
-    none = λ f row at l g. passed 0 start at row h (omega arith) l g;
   }
 
-  module _ (from on : ℕ) (block old new more : List (List Value)) (any here : Bool) (h : AddedBefore s Q R from old new any) (n : IsNextBlock s from block on)
-      (add : Adds (λ row. Q row × ((y : List Value) → Contains block y → R row y)) new more here) where
+  module _ (from on : ℕ) (block old new more : List (List Value)) (h : AddedBefore s Q R from old new) (n : IsNextBlock s from block on)
+      (add : IsAdded (λ row. Q row × ((y : List Value) → Contains block y → R row y)) new more) where
     -- what begins before the next place begins before this one, or it is the block that was found
     split : (row : List Value) (at : ℕ) → at < on → GivesFrom s Q R at row → (at < from) ⊎ (Q row × ((y : List Value) → Contains block y → R row y))
     split row at l g = go (dec_lt at from) (dec_lt at n.at) (dec_lt n.at at)
@@ -67,59 +62,26 @@ module _ (s : Blocks) (Q : List Value → Type 0) (R : List Value → List Value
     from-block row p = (n.at, (n.is.there, n.is.leads, p.0, λ y m t. p.1 y ((n.is.exactly y).1 (m, t))))
 
     kept-on : (row : List Value) → Contains old row → Contains more row
-    kept-on row m = (add.added row).1 (inl (h.kept row m))
+    kept-on row m = (add row).1 (inl (h.kept row m))
 
     given-on : (row : List Value) → Contains more row → Contains old row ⊎ ((at : ℕ) × GivesFrom s Q R at row)
-    given-on row m = elim ((add.added row).0 m) [ inl k ↦ h.given row k | inr p ↦ inr (from-block row p) ]
+    given-on row m = elim ((add row).0 m) [ inl k ↦ h.given row k | inr p ↦ inr (from-block row p) ]
 
     all-on : (row : List Value) (at : ℕ) → at < on → GivesFrom s Q R at row → Contains more row
-    all-on row at l g = elim (split row at l g) [ inl a ↦ (add.added row).1 (inl (h.all row at a g)) | inr p ↦ (add.added row).1 (inr p) ]
+    all-on row at l g = elim (split row at l g) [ inl a ↦ (add row).1 (inl (h.all row at a g)) | inr p ↦ (add row).1 (inr p) ]
 
-    pub added-some : here ≡ true → AddedBefore s Q R on old more true
-    added-some t = record {
-      kept = kept-on;
-      given = given-on;
-      all = all-on;
-      some = λ u. let r = add.some t in (r.0, from-block r.0 r.1);
-      none = λ f. absurd (false≢true (sym f));
-    }
+    pub added-on : AddedBefore s Q R on old more
+    added-on = record { kept = kept-on; given = given-on; all = all-on }
 
-    pub added-on : here ≡ false → AddedBefore s Q R on old more any
-    added-on f = record {
-      kept = kept-on;
-      given = given-on;
-      all = all-on;
-      some = h.some;
-      none = λ e row at l g. elim (split row at l g) [ inl a ↦ h.none e row at a g | inr p ↦ add.none f row p ];
-    }
-
-    -- where at most one row has the property, one block that gives it is enough
-    pub added-once : here ≡ true → ((a b : List Value) → Q a → Q b → a ≡ b) → Adds (λ row. Q row × SomeBlockFits s.key.now s.rows.now (R row)) old more true
-    added-once t one = record {
-      added = λ row. (
-        (λ m. elim (given-on row m) [ inl k ↦ inl k | inr g ↦ inr (g.1.2, at-some s.key.now s.rows.now (R row) g.0 g.1.0 g.1.3) ]),
-        (λ e. elim e [
-          | inl k ↦ kept-on row k
-          | inr p ↦ (let r = add.some t in subst (Contains more) (one r.0 row r.1.0 p.0) ((add.added r.0).1 (inr r.1)))
-        ]),
-      );
-      some = λ u. let r = add.some t in let g = from-block r.0 r.1 in (r.0, (g.1.2, at-some s.key.now s.rows.now (R r.0) g.0 g.1.0 g.1.3));
-      none = λ f. absurd (false≢true (sym f));
-    }
-
-  pub added-ends : (from : ℕ) (old new : List (List Value)) (any : Bool) → AddedBefore s Q R from old new any → IsPassed s from (length s.rows.now) → Adds (λ row. Q row × SomeBlockFits s.key.now s.rows.now (R row)) old new any
-  added-ends from old new any h n = record {
-    added = λ row. (
-      (λ m. elim (h.given row m) [ inl k ↦ inl k | inr g ↦ inr (g.1.2, at-some s.key.now s.rows.now (R row) g.0 g.1.0 g.1.3) ]),
-      (λ e. elim e [ inl k ↦ h.kept row k | inr p ↦ (let g = begun row p in h.all row g.0 g.1 g.2) ]),
-    );
-    some = λ t. let r = h.some t in (r.0, (r.1.1.2, at-some s.key.now s.rows.now (R r.0) r.1.0 r.1.1.0 r.1.1.3));
-    none = λ f row p. let g = begun row p in h.none f row g.0 g.1 g.2;
-  }
+  pub added-ends : (from : ℕ) (old new : List (List Value)) → AddedBefore s Q R from old new → IsPassed s from (length s.rows.now) → IsAdded (λ row. Q row × SomeBlockFits s.key.now s.rows.now (R row)) old new
+  added-ends from old new h n row = (
+    (λ m. elim (h.given row m) [ inl k ↦ inl k | inr g ↦ inr (g.1.2, at-some s.key.now s.rows.now (R row) g.0 g.1.0 g.1.3) ]),
+    (λ e. elim e [ inl k ↦ h.kept row k | inr p ↦ (let g = begun p in h.all row g.0 g.1 g.2) ]),
+  )
     where
       -- a block that gives something begins before the place that was come to
-      begun : (row : List Value) → Q row × SomeBlockFits s.key.now s.rows.now (R row) → (at : ℕ) × (at < from) × GivesFrom s Q R at row
-      begun row p = go (some-at s.key.now s.rows.now (R row) p.1)
+      begun : Q row × SomeBlockFits s.key.now s.rows.now (R row) → (at : ℕ) × (at < from) × GivesFrom s Q R at row
+      begun p = go (some-at s.key.now s.rows.now (R row) p.1)
         where
           go : ((at : ℕ) × (at < length s.rows.now) × IsFirst s.key.now s.rows.now at × WholeHas s.key.now s.rows.now (R row) at) → (at : ℕ) × (at < from) × GivesFrom s Q R at row
           go b = early (dec_lt b.0 from)
@@ -133,10 +95,10 @@ module _ (s : Blocks) (Q : List Value → Type 0) (R : List Value → List Value
 
 -- what the blocks give that are gone over is what the rows taken and the plan give
 pub gives-table : (q : Query) (tables : List (List (List Value))) (taken : List Placed) (F : ℕ) (plan : List ℕ) (s : Blocks) → s.key.now ≡ atom_key q F → IsEnough (atom_key q F) (rows_of q tables F) (Suits q taken F) s.rows.now →
-    (old new : List (List Value)) (any : Bool) → Adds (λ row. IsAnswer q taken row × SomeBlockFits s.key.now s.rows.now (RowHolds q tables row taken F plan)) old new any → Adds (Gives q tables taken (F ∷ plan)) old new any
-gives-table q tables taken F plan s e h old new any =
+    (old new : List (List Value)) → IsAdded (λ row. IsAnswer q taken row × SomeBlockFits s.key.now s.rows.now (RowHolds q tables row taken F plan)) old new → IsAdded (Gives q tables taken (F ∷ plan)) old new
+gives-table q tables taken F plan s e h old new =
     adds-same (λ row. IsAnswer q taken row × SomeBlockFits s.key.now s.rows.now (RowHolds q tables row taken F plan)) (Gives q tables taken (F ∷ plan))
     (λ row.
     let t = found-in-table s (atom_key q F) (rows_of q tables F) (Suits q taken F) e h (RowHolds q tables row taken F plan) (λ y r. suits-from q taken F y row r.0) in
     ((λ p. (p.0, t.0 p.1)), (λ p. (p.0, t.1 p.1))))
-    old new any
+    old new

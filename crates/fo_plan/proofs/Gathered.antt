@@ -1,6 +1,5 @@
 -- What the rows taken and the rest of a plan give, block by block.
-use Rattle.std.proofs.Common.{◌≡◌, ◌≢◌, ℕ, zero, suc, ◌<◌, ◌≤◌, ◌+◌, ◌-◌, ◌⊎◌, ◌↔◌, inl, inr, Bool, IsTrue, IsFalse, true, false, cond, List, [], ◌∷◌, ◌++◌, length, get_or, map, take, drop, refl, ap, sym, ◌∙◌, subst, arith, Contains, ◌==◌, below_more, Result, Ok, Err, IfOk}
-use native.Mathlib.Decide.{ℕ_discrete}
+use Rattle.std.proofs.Common.{◌≡◌, ◌≢◌, ℕ, zero, suc, ◌<◌, ◌≤◌, ◌+◌, ◌-◌, ◌⊎◌, ◌↔◌, inl, inr, Bool, IsTrue, IsFalse, true, false, cond, List, [], ◌∷◌, ◌++◌, length, get_or, map, take, drop, refl, ap, sym, ◌∙◌, subst, arith, Contains, ◌==◌, below_more, Result, Ok, Err, OnOk}
 use Rattle.std.proofs.lemmas.Bool.{false≢true, eqb-true, eq-eqb}
 use Rattle.std.proofs.lemmas.Grind.{common_steps}
 use Rattle.std.proofs.lemmas.List.{length-map, get_or_default, get_or_read}
@@ -11,16 +10,14 @@ use Rattle.cqa_value.specs.declared.value.Value.{Value}
 use Rattle.cqa_value.specs.Values.{nothing}
 use Rattle.cqa_model.specs.declared.query.ColRef.{ColRef}
 use Rattle.cqa_model.specs.declared.query.Query.{Query}
-use Rattle.cqa_model.specs.Query.{atom_at, atom_key, rows_of}
-use Rattle.cqa_model.specs.OneTable.{SomeBlockFits}
-use Rattle.cqa_model.specs.Plan.{Placed, Fits, PlanHolds, answer_at}
-use Rattle.cqa_model.proofs.Classic.{mem-head, mem-tail, mem-nil, mem-cases, dec_both}
-use Rattle.cqa_model.proofs.Decisions.{dec_fits, dec_plan}
-use Rattle.fo_plan.specs.Taking.{taken_value, AreOfAtoms, AreAgreed}
+use Rattle.cqa_model.specs.Query.{atom_at}
+use Rattle.cqa_model.specs.Plan.{Placed, PlanHolds, answer_at}
+use Rattle.cqa_model.proofs.Classic.{mem-head, mem-tail, mem-nil, mem-cases}
+use Rattle.fo_plan.specs.Taking.{taken_value, AreAgreed}
 use Rattle.fo_plan.specs.Fitting.{Suits, GivesAt}
 use Rattle.fo_plan.specs.Holding.{RowHolds, AllHold}
-use Rattle.fo_plan.specs.Giving.{AreAll, IsSettled, HasAnswers, IsAnswer, Gives, BlockGives, IsAdded, Adds}
-use Rattle.fo_plan.proofs.Suiting.{fits-of, suits-from, gives-from}
+use Rattle.fo_plan.specs.Giving.{AreAll, IsSettled, IsAnswer, Gives, BlockGives, IsAdded}
+use Rattle.fo_plan.proofs.Suiting.{of_all, fits-of, suits-from, gives-from}
 
 module _ (q : Query) (tables : List (List (List Value))) (taken : List Placed) (F : ℕ) (plan : List ℕ) where
   pub all-more : (x : List Value) → AreAll q taken (F ∷ plan) → AreAll q (record { atom = F; row = x } ∷ taken) plan
@@ -30,10 +27,6 @@ module _ (q : Query) (tables : List (List (List Value))) (taken : List Placed) (
   ]
 
   module _ (first : List Value) (others block : List (List Value)) (is : block ≡ first ∷ others) where
-    -- a block gives nothing where its first row doesn't fit
-    pub first-fails : (Suits q taken F first → ⊥) → (row : List Value) → BlockGives q tables taken F plan block row → ⊥
-    first-fails f row g = f (suits-from q taken F first row (g.1 first (subst (λ z. Contains z first) (sym is) (mem-head first others))).0)
-
     -- its first row proposes, and the others test
     pub first-gives : Suits q taken F first → (row : List Value) →
         (Gives q tables (record { atom = F; row = first } ∷ taken) plan row × AllHold q tables row taken F plan others) ↔ BlockGives q tables taken F plan block row
@@ -67,6 +60,10 @@ module _ (q : Query) (tables : List (List (List Value))) (taken : List Placed) (
               λ y m. g.1 y (subst (λ z. Contains z y) (sym is) (mem-tail y first others m)),
             )
 
+-- a block gives nothing where one of its rows doesn't fit
+pub block-fails : (q : Query) (tables : List (List (List Value))) (taken : List Placed) (F : ℕ) (plan : List ℕ) (block : List (List Value)) → (((y : List Value) → Contains block y → Suits q taken F y) → ⊥) → (row : List Value) → BlockGives q tables taken F plan block row → ⊥
+block-fails q tables taken F plan block f row g = f (λ y m. suits-from q taken F y row (g.1 y m).0)
+
 -- a block by its first row
 pub block-split : (block : List (List Value)) (first : List Value) → 0 < length block → first ≡ get_or block 0 first → block ≡ first ∷ drop 1 block
 block-split [] first l e = absurd (omega arith)
@@ -78,23 +75,15 @@ block-one (x ∷ []) first l e = ap (λ z. z ∷ []) (sym e)
 block-one (x ∷ y ∷ ys) first l e = absurd (omega arith)
 
 -- nothing is added where nothing is given
-pub adds-none : (P : List Value → Type 0) (old : List (List Value)) → ((row : List Value) → P row → ⊥) → Adds P old old false
-adds-none P old h = record {
-  added = λ row. (λ m. inl m, λ s. elim s [ inl m ↦ m | inr p ↦ absurd (h row p) ]);
-  some = λ t. absurd (false≢true t);
-  none = λ f row p. h row p;
-}
+pub adds-none : (P : List Value → Type 0) (old : List (List Value)) → ((row : List Value) → P row → ⊥) → IsAdded P old old
+adds-none P old h row = (λ m. inl m, λ s. elim s [ inl m ↦ m | inr p ↦ absurd (h row p) ])
 
 -- the same by a property that says the same
-pub adds-same : (P Q : List Value → Type 0) → ((row : List Value) → P row ↔ Q row) → (old new : List (List Value)) (any : Bool) → Adds P old new any → Adds Q old new any
-adds-same P Q h old new any a = record {
-  added = λ row. (
-    (λ m. elim ((a.added row).0 m) [ inl k ↦ inl k | inr p ↦ inr ((h row).0 p) ]),
-    (λ s. elim s [ inl k ↦ (a.added row).1 (inl k) | inr p ↦ (a.added row).1 (inr ((h row).1 p)) ]),
-  );
-  some = λ t. let r = a.some t in (r.0, (h r.0).0 r.1);
-  none = λ f row p. a.none f row ((h row).1 p);
-}
+pub adds-same : (P Q : List Value → Type 0) → ((row : List Value) → P row ↔ Q row) → (old new : List (List Value)) → IsAdded P old new → IsAdded Q old new
+adds-same P Q h old new a row = (
+  (λ m. elim ((a row).0 m) [ inl k ↦ inl k | inr p ↦ inr ((h row).0 p) ]),
+  (λ s. elim s [ inl k ↦ (a row).1 (inl k) | inr p ↦ (a row).1 (inr ((h row).1 p)) ]),
+)
 
 -- the last taken row of an atom
 pub value-taken : (taken : List Placed) (c : ColRef) (t : Placed) → Contains taken t → t.atom ≡ c.atom → (u : Placed) × Contains taken u × (u.atom ≡ c.atom) × (taken_value taken c ≡ get_or u.row c.col nothing)
@@ -122,30 +111,24 @@ map_at f d [] i l = absurd (omega arith)
 map_at f d (x ∷ xs) zero l = refl
 map_at f d (x ∷ xs) (suc i) l = map_at f d xs i (Rattle.std.proofs.Common.le_of_suc-le-suc l)
 
--- where no atom is left, the rows taken give their answer alone
-module _ (q : Query) (tables : List (List (List Value))) (taken : List Placed) (agreed : AreAgreed q taken) (all : AreAll q taken []) where
+-- the answer of the rows taken, where each answer column is of one of them
+module _ (q : Query) (taken : List Placed) (agreed : AreAgreed q taken) (of_column : (i : ℕ) → i < length q.answer → (t : Placed) × Contains taken t × (t.atom ≡ (answer_at q i).atom)) where
   in_range : (i : ℕ) → i < length q.answer → ((answer_at q i).atom < length q.atoms) × ((answer_at q i).col < (atom_at q (answer_at q i).atom).width)
   in_range i l = q.kept.answer_in_range (answer_at q i) (Contains-get_or q.answer i (record { atom = 0; col = 0 }) l)
 
-  of_atom : (F : ℕ) → F < length q.atoms → (t : Placed) × Contains taken t × (t.atom ≡ F)
-  of_atom F l = elim (all F l) [ inl m ↦ absurd (mem-nil F m) | inr t ↦ t ]
-
-  pub gives-answer : (row : List Value) → Gives q tables taken [] row → map (taken_value taken) q.answer ≡ row
-  gives-answer row g = map_is (taken_value taken) (record { atom = 0; col = 0 }) q.answer row g.0.0 at
+  pub answer-of : (row : List Value) → IsAnswer q taken row → map (taken_value taken) q.answer ≡ row
+  answer-of row g = map_is (taken_value taken) (record { atom = 0; col = 0 }) q.answer row g.0 at
     where
       at : (i : ℕ) → i < length q.answer → taken_value taken (answer_at q i) ≡ get_or row i nothing
       at i l =
-          let t = of_atom (answer_at q i).atom (in_range i l).0 in
+          let t = of_column i l in
           let u = value-taken taken (answer_at q i) t.0 t.1 t.2 in
-          u.3 ∙ g.0.1 u.0 u.1 i l (sym u.2)
+          u.3 ∙ g.1 u.0 u.1 i l (sym u.2)
 
-  pub answer-gives : (row : List Value) → map (taken_value taken) q.answer ≡ row → Gives q tables taken [] row
-  answer-gives row e = (
-    (
-      sym (ap length e) ∙ length-map q.answer (taken_value taken),
-      (λ t m i l f. at t m i l f ∙ sym (map_at (taken_value taken) (record { atom = 0; col = 0 }) q.answer i l) ∙ ap (λ z. get_or z i nothing) e),
-    ),
-    tt,
+  pub is-answer : (row : List Value) → map (taken_value taken) q.answer ≡ row → IsAnswer q taken row
+  is-answer row e = (
+    sym (ap length e) ∙ length-map q.answer (taken_value taken),
+    (λ t m i l f. at t m i l f ∙ sym (map_at (taken_value taken) (record { atom = 0; col = 0 }) q.answer i l) ∙ ap (λ z. get_or z i nothing) e),
   )
     where
       at : (t : Placed) → Contains taken t → (i : ℕ) → i < length q.answer → (answer_at q i).atom ≡ t.atom → get_or t.row (answer_at q i).col nothing ≡ taken_value taken (answer_at q i)
@@ -153,144 +136,142 @@ module _ (q : Query) (tables : List (List (List Value))) (taken : List Placed) (
           let u = value-taken taken (answer_at q i) t m (sym f) in
           agreed t u.0 m u.1 (sym f ∙ sym u.2) (answer_at q i).col (subst (λ z. (answer_at q i).col < (atom_at q z).width) f (in_range i l).1) ∙ sym u.3
 
--- whether a row holds is decided
-pub row_dec : (q : Query) (tables : List (List (List Value))) (taken : List Placed) (F : ℕ) (plan : List ℕ) (y row : List Value) → Dec (RowHolds q tables row taken F plan y)
-row_dec q tables taken F plan y row = dec_both (dec_fits q row taken F y) (dec_plan q tables row (record { atom = F; row = y } ∷ taken) plan)
+-- so it is where no answer column is of an atom that is left
+pub settled-columns : (q : Query) (taken : List Placed) (plan : List ℕ) → AreAll q taken plan → IsSettled q plan → (i : ℕ) → i < length q.answer → (t : Placed) × Contains taken t × (t.atom ≡ (answer_at q i).atom)
+settled-columns q taken plan all settled i l =
+    let column = answer_at q i in
+    let there = Contains-get_or q.answer i (record { atom = 0; col = 0 }) l in
+    elim (all column.atom (q.kept.answer_in_range column there).0) [
+      | inl m ↦ absurd (All-contains (λ c. c.atom ≢ column.atom) q.answer column (All-contains (λ F. All (λ c. c.atom ≢ F) q.answer) plan column.atom settled m) there refl)
+      | inr t ↦ t
+    ]
 
-pub is_yes : {A : Type 0} → Dec A → Bool
-is_yes (yes a) = true
-is_yes (no h) = false
+-- a property of the rows of a block, one after the other
+module _ (P : List Value → Type 0) (block : List (List Value)) (i : ℕ) where
+  pub all-not : (z : List Value) → i < length block → z ≡ get_or block i z → (P z → ⊥) → ((y : List Value) → Contains block y → P y) → ⊥
+  all-not z l e off all = off (subst P (sym (get_or_read block i z l e [])) (all (get_or block i []) (Contains-get_or block i [] l)))
 
-pub yes-is : {A : Type 0} (d : Dec A) → (is_yes d ≡ true) ↔ A
-unfolding is_yes
-yes-is (yes a) = (λ e. a, λ x. refl)
-yes-is (no h) = (λ e. absurd (false≢true e), λ a. absurd (h a))
+  pub all-on : (z : List Value) → i < length block → z ≡ get_or block i z → ((k : ℕ) → k < i → P (get_or block k [])) → P z → (k : ℕ) → k < i + 1 → P (get_or block k [])
+  all-on z l e so p = below_more (λ k. P (get_or block k [])) i so (subst P (get_or_read block i z l e []) p)
 
-pub same_yes : {A : Type 0} (d : Dec A) (b : Bool) → (b ≡ true) ↔ A → b ≡ is_yes d
-unfolding is_yes
-same_yes (yes a) true h = refl
-same_yes (yes a) false h = absurd (false≢true (h.1 a))
-same_yes (no f) true h = absurd (f (h.0 refl))
-same_yes (no f) false h = refl
+  pub all-end : length block ≡ i → ((k : ℕ) → k < i → P (get_or block k [])) → (y : List Value) → Contains block y → P y
+  all-end e so y m = subst P (get_or_default block m.0 [] y m.1 ∙ m.2) (so m.0 (omega (arith, m.1, e)))
 
--- rows that are kept by one item after the other
-module _ (P : List Value → List Value → Type 0) (old mid : List (List Value)) (block : List (List Value)) (i : ℕ)
-    (inv : (row : List Value) → Contains mid row ↔ (Contains old row × ((k : ℕ) → k < i → P row (get_or block k [])))) where
-  pub keep-more : (new : List (List Value)) (z : List Value) → i < length block → z ≡ get_or block i z → ((row : List Value) → Contains new row ↔ (Contains mid row × P row z)) →
-      (row : List Value) → Contains new row ↔ (Contains old row × ((k : ℕ) → k < i + 1 → P row (get_or block k [])))
-  keep-more new z l e step row = (
-    λ m. let a = (step row).0 m in let b = (inv row).0 a.0 in (b.0, below_more (λ k. P row (get_or block k [])) i b.1 (subst (P row) at a.1)),
-    λ h. (step row).1 ((inv row).1 (h.0, λ k lk. h.1 k (omega (arith, lk))), subst (P row) (sym at) (h.1 i (omega arith))),
-  )
-    where
-      at : z ≡ get_or block i []
-      at = get_or_read block i z l e []
+-- of the rows proposed those that were looked at have come if they have a property, and the others are still there
+pub record KeptSoFar (P : List Value → Type 0) (proposed left old new : List (List Value)) : Type 0 where
+  pub within : (row : List Value) → Contains left row → Contains proposed row
+  pub kept : (row : List Value) → Contains old row → Contains new row
+  pub given : (row : List Value) → Contains new row → Contains old row ⊎ (Contains proposed row × P row)
+  pub all : (row : List Value) → Contains proposed row → P row → Contains new row ⊎ Contains left row
 
-  pub keep-end : length block ≡ i → (row : List Value) → Contains mid row ↔ (Contains old row × ((y : List Value) → Contains block y → P row y))
-  keep-end le row = (
-    λ m. let b = (inv row).0 m in (b.0, λ y n. subst (P row) (get_or_default block n.0 [] y n.1 ∙ n.2) (b.1 n.0 (omega (arith, n.1, le)))),
-    λ h. (inv row).1 (h.0, below row h.1),
-  )
-    where
-      below : (row : List Value) → ((y : List Value) → Contains block y → P row y) → (k : ℕ) → k < i → P row (get_or block k [])
-      below row h k lk = h (get_or block k []) (Contains-get_or block k [] (omega (arith, lk, le)))
+pub kept-starts : (P : List Value → Type 0) (proposed old : List (List Value)) → KeptSoFar P proposed proposed old old
+kept-starts P proposed old = record { within = λ row m. m; kept = λ row m. m; given = λ row m. inl m; all = λ row m p. inr m }
+
+pub kept-on : (P : List Value → Type 0) (proposed left later old new more : List (List Value)) (last : List Value) → KeptSoFar P proposed left old new → left ≡ later ++ last ∷ [] → IsAdded (λ r. (r ≡ last) × P r) new more → KeptSoFar P proposed later old more
+kept-on P proposed left later old new more last h is a = record {
+  within = λ row m. h.within row (subst (λ z. Contains z row) (sym is) (Contains-append_left later (last ∷ []) row m));
+  kept = λ row m. (a row).1 (inl (h.kept row m));
+  given = λ row m. elim ((a row).0 m) [
+    | inl k ↦ h.given row k
+    | inr p ↦ inr (h.within row (subst (λ z. Contains z row) (sym is) (Contains-append_right later (last ∷ []) row (subst (Contains (last ∷ [])) (sym p.0) (mem-head last [])))), p.1)
+  ];
+  all = λ row m p. elim (h.all row m p) [
+    | inl k ↦ inl ((a row).1 (inl k))
+    | inr k ↦ elim (Contains-append_cases later (last ∷ []) row (subst (λ z. Contains z row) is k)) [
+      | inl n ↦ inr n
+      | inr n ↦ elim (mem-cases row last [] n) [ inl e ↦ inl ((a row).1 (inr (sym e, p))) | inr none ↦ absurd (mem-nil row none) ]
+    ]
+  ];
+}
+
+pub kept-ends : (P : List Value → Type 0) (proposed left old new : List (List Value)) → KeptSoFar P proposed left old new → left ≡ [] → IsAdded (λ r. Contains proposed r × P r) old new
+kept-ends P proposed left old new h none row = (
+  h.given row,
+  λ s. elim s [
+    | inl k ↦ h.kept row k
+    | inr p ↦ elim (h.all row p.0 p.1) [ inl n ↦ n | inr n ↦ absurd (mem-nil row (subst (λ z. Contains z row) none n)) ]
+  ],
+)
+
+-- one row was added, or not, as it has a property or not
+pub one-added : (P : List Value → Type 0) (old new : List (List Value)) (row : List Value) → P row → new ≡ old ++ row ∷ [] → IsAdded (λ r. (r ≡ row) × P r) old new
+one-added P old new row p is r = (
+  (λ m. elim (Contains-append_cases old (row ∷ []) r (subst (λ z. Contains z r) is m)) [
+    | inl k ↦ inl k
+    | inr k ↦ elim (mem-cases r row [] k) [ inl e ↦ inr (sym e, subst P e p) | inr n ↦ absurd (mem-nil r n) ]
+  ]),
+  (λ s. subst (λ z. Contains z r) (sym is) (elim s [
+    | inl k ↦ Contains-append_left old (row ∷ []) r k
+    | inr k ↦ Contains-append_right old (row ∷ []) r (subst (Contains (row ∷ [])) (sym k.0) (mem-head row []))
+  ])),
+)
+
+pub none-added : (P : List Value → Type 0) (old : List (List Value)) (row : List Value) → (P row → ⊥) → IsAdded (λ r. (r ≡ row) × P r) old old
+none-added P old row off = adds-none (λ r. (r ≡ row) × P r) old (λ r k. off (subst P k.0 k.1))
 
 pub block-rest : (block : List (List Value)) (first : List Value) → 0 < length block → first ≡ get_or block 0 first → block ≡ first ∷ take (length block - 1) (drop 1 block)
 block-rest [] first l e = absurd (omega arith)
 block-rest (x ∷ xs) first l e = let f : first ≡ x = e in grind (arith, common_steps)
 
 -- what a block gives was added, where its first row proposed and the others tested
-pub add-block : (G A P : List Value → Type 0) (old none part kept new : List (List Value)) (proposed any : Bool) → none ≡ [] → Adds G none part proposed → ((row : List Value) → Contains kept row ↔ (Contains part row × A row)) →
-    ((row : List Value) → (G row × A row) ↔ P row) → new ≡ old ++ kept → (IsTrue any → 0 < length kept) → (IsFalse any → kept ≡ []) → Adds P old new any
-add-block G A P old none part kept new proposed any e add keep same is some empty = record {
-  added = λ row. (
-    λ m. elim (Contains-append_cases old kept row (subst (λ z. Contains z row) is m)) [ inl k ↦ inl k | inr k ↦ inr (has row k) ],
-    λ s. subst (λ z. Contains z row) (sym is) (elim s [ inl k ↦ Contains-append_left old kept row k | inr p ↦ Contains-append_right old kept row (in-kept row p) ]),
-  );
-  some = λ t. let row = get_or kept 0 [] in (row, has row (Contains-get_or kept 0 [] (some t)));
-  none = λ f row p. mem-nil row (subst (λ z. Contains z row) (empty f) (in-kept row p));
-}
+pub add-block : (G A P : List Value → Type 0) (old none part new : List (List Value)) → none ≡ [] → IsAdded G none part → IsAdded (λ r. Contains part r × A r) old new → ((row : List Value) → (G row × A row) ↔ P row) → IsAdded P old new
+add-block G A P old none part new e add step same row = (
+  (λ m. elim ((step row).0 m) [ inl k ↦ inl k | inr k ↦ inr ((same row).0 (part-of row ((add row).0 k.0), k.1)) ]),
+  (λ s. elim s [ inl k ↦ (step row).1 (inl k) | inr p ↦ (let g = (same row).1 p in (step row).1 (inr ((add row).1 (inr g.0), g.1))) ]),
+)
   where
     part-of : (row : List Value) → Contains none row ⊎ G row → G row
     part-of row (inl m) = absurd (mem-nil row (subst (λ z. Contains z row) e m))
     part-of row (inr g) = g
 
-    has : (row : List Value) → Contains kept row → P row
-    has row k = let a = (keep row).0 k in (same row).0 (part-of row ((add.added row).0 a.0), a.1)
-
-    in-kept : (row : List Value) → P row → Contains kept row
-    in-kept row p = let g = (same row).1 p in (keep row).1 ((add.added row).1 (inr g.0), g.1)
-
 -- a block of one row
-pub add-one : (q : Query) (tables : List (List (List Value))) (taken : List Placed) (F : ℕ) (plan : List ℕ) (first : List Value) (block : List (List Value)) → block ≡ first ∷ [] → Suits q taken F first → (old new : List (List Value)) (any : Bool) →
-    Adds (Gives q tables (record { atom = F; row = first } ∷ taken) plan) old new any → Adds (BlockGives q tables taken F plan block) old new any
-add-one q tables taken F plan first block is s old new any =
+pub add-one : (q : Query) (tables : List (List (List Value))) (taken : List Placed) (F : ℕ) (plan : List ℕ) (first : List Value) (block : List (List Value)) → block ≡ first ∷ [] → Suits q taken F first → (old new : List (List Value)) →
+    IsAdded (Gives q tables (record { atom = F; row = first } ∷ taken) plan) old new → IsAdded (BlockGives q tables taken F plan block) old new
+add-one q tables taken F plan first block is s old new =
     adds-same (Gives q tables (record { atom = F; row = first } ∷ taken) plan) (BlockGives q tables taken F plan block)
     (λ row. (
       (λ g. (first-gives q tables taken F plan first [] block is s row).0 (g, λ y m. absurd (mem-nil y m))),
       (λ b. ((first-gives q tables taken F plan first [] block is s row).1 b).0),
-    )) old new any
+    )) old new
 
--- the answer of the rows taken
-pub add-answer : (q : Query) (tables : List (List (List Value))) (taken : List Placed) (plan : List ℕ) → plan ≡ [] → AreAgreed q taken → AreAll q taken plan → (old new : List (List Value)) (answer : List Value) →
-    answer ≡ map (taken_value taken) q.answer → new ≡ old ++ answer ∷ [] → Adds (Gives q tables taken plan) old new true
-add-answer q tables taken plan none agreed all old new answer ea en =
-    subst (λ p. Adds (Gives q tables taken p) old new true) (sym none) (record {
-      added = λ row. (
-        (λ m. elim (Contains-append_cases old (answer ∷ []) row (subst (λ z. Contains z row) en m)) [
-          | inl k ↦ inl k
-          | inr k ↦ elim (mem-cases row answer [] k) [ inl e ↦ inr (answer-gives q tables taken agreed all' row (sym ea ∙ e)) | inr n ↦ absurd (mem-nil row n) ]
-        ]),
-        (λ s. subst (λ z. Contains z row) (sym en) (elim s [
-          | inl k ↦ Contains-append_left old (answer ∷ []) row k
-          | inr g ↦ Contains-append_right old (answer ∷ []) row (subst (λ z. Contains (answer ∷ []) z) (ea ∙ gives-answer q tables taken agreed all' row g) (mem-head answer []))
-        ])),
-      );
-      some = λ t. (answer, answer-gives q tables taken agreed all' answer (sym ea));
-      none = λ f. absurd (false≢true (sym f));
-    })
-  where
-    all' : AreAll q taken []
-    all' = subst (λ p. AreAll q taken p) none all
-
--- the rows taken settle the answer where no answer column is of an atom that is left
-pub settled-one : (q : Query) (taken : List Placed) (plan : List ℕ) → AreAll q taken plan → IsSettled q plan → (a b : List Value) → IsAnswer q taken a → IsAnswer q taken b → a ≡ b
-settled-one q taken plan all settled a b ia ib = same-list a b (ia.0 ∙ sym ib.0) at
-  where
-    same-list : (xs ys : List Value) → length xs ≡ length ys → ((i : ℕ) → i < length xs → get_or xs i nothing ≡ get_or ys i nothing) → xs ≡ ys
-    same-list [] [] l h = refl
-    same-list [] (y ∷ ys) l h = absurd (omega (arith, l))
-    same-list (x ∷ xs) [] l h = absurd (omega (arith, l))
-    same-list (x ∷ xs) (y ∷ ys) l h =
-        let e : x ≡ y = h 0 (omega arith) in
-        let es : xs ≡ ys = same-list xs ys (omega (arith, l)) (λ i k. h (suc i) (omega (arith, k))) in
-        cc
-
-    at : (i : ℕ) → i < length a → get_or a i nothing ≡ get_or b i nothing
-    at i l =
-        let there : i < length q.answer = subst (λ n. i < n) ia.0 l in
-        let column = answer_at q i in
-        let inside = (q.kept.answer_in_range column (Contains-get_or q.answer i (record { atom = 0; col = 0 }) there)).0 in
-        elim (all column.atom inside) [
-          | inl m ↦ absurd (All-contains (λ c. c.atom ≢ column.atom) q.answer column (All-contains (λ F. All (λ c. c.atom ≢ F) q.answer) plan column.atom settled m) (Contains-get_or q.answer i (record { atom = 0; col = 0 }) there) refl)
-          | inr t ↦ sym (ia.1 t.0 t.1 i there (sym t.2)) ∙ ib.1 t.0 t.1 i there (sym t.2)
-        ]
+-- the answer of the rows taken was added, where the rest of the plan holds
+pub add-answer : (q : Query) (tables : List (List (List Value))) (taken : List Placed) (plan : List ℕ) → AreAgreed q taken → AreAll q taken plan → IsSettled q plan → ((row : List Value) → PlanHolds q tables row taken plan) → (old new : List (List Value)) (answer : List Value) →
+    answer ≡ map (taken_value taken) q.answer → new ≡ old ++ answer ∷ [] → IsAdded (Gives q tables taken plan) old new
+add-answer q tables taken plan agreed all settled holds old new answer ea en row = (
+  (λ m. elim (Contains-append_cases old (answer ∷ []) row (subst (λ z. Contains z row) en m)) [
+    | inl k ↦ inl k
+    | inr k ↦ elim (mem-cases row answer [] k) [ inl e ↦ inr (is-answer q taken agreed (settled-columns q taken plan all settled) row (sym ea ∙ e), holds row) | inr n ↦ absurd (mem-nil row n) ]
+  ]),
+  (λ s. subst (λ z. Contains z row) (sym en) (elim s [
+    | inl k ↦ Contains-append_left old (answer ∷ []) row k
+    | inr g ↦ Contains-append_right old (answer ∷ []) row (subst (λ z. Contains (answer ∷ []) z) (ea ∙ answer-of q taken agreed (settled-columns q taken plan all settled) row g.0) (mem-head answer []))
+  ])),
+)
 
 pub no-plan : (plan : List ℕ) → length plan < 1 → plan ≡ []
 no-plan [] l = refl
 no-plan (F ∷ plan) l = absurd (omega arith)
 
+-- an empty rest is settled
+pub settled-empty : (q : Query) (plan : List ℕ) → plan ≡ [] → IsSettled q plan
+settled-empty q plan e = of_all (λ F. All (λ c. c.atom ≢ F) q.answer) plan (λ F m. absurd (mem-nil F (subst (λ z. Contains z F) e m)))
+
+-- a rest that isn't settled has an atom
+pub some-plan : (q : Query) (plan : List ℕ) (b : Bool) → IsTrue b ↔ IsSettled q plan → b ≡ false → 1 ≤ length plan
+some-plan q [] b says f = absurd (false≢true (sym f ∙ says.1 (settled-empty q [] refl)))
+some-plan q (F ∷ plan) b says f = omega arith
+
 -- with no row taken
-pub gives-all : (q : Query) (tables : List (List (List Value))) (plan : List ℕ) (found : List (List Value)) (any : Bool) → Adds (Gives q tables [] plan) [] found any →
+pub gives-all : (q : Query) (tables : List (List (List Value))) (plan : List ℕ) (found : List (List Value)) → IsAdded (Gives q tables [] plan) [] found →
     (row : List Value) → Contains found row ↔ ((length row ≡ length q.answer) × PlanHolds q tables row [] plan)
-gives-all q tables plan found any h row = (
-  λ m. elim ((h.added row).0 m) [ inl n ↦ absurd (mem-nil row n) | inr g ↦ (g.0.0, g.1) ],
-  λ p. (h.added row).1 (inr ((p.0, (λ t m. absurd (mem-nil t m))), p.1)),
+gives-all q tables plan found h row = (
+  λ m. elim ((h row).0 m) [ inl n ↦ absurd (mem-nil row n) | inr g ↦ (g.0.0, g.1) ],
+  λ p. (h row).1 (inr ((p.0, (λ t m. absurd (mem-nil t m))), p.1)),
 )
 
-pub if-ok : {A B : Bool → Type 0} (r : Result Bool NoMemory) → ((any : Bool) → A any → B any) → IfOk r A → IfOk r B
-if-ok (Ok any) f a = f any a
-if-ok (Err e) f a = tt
+pub on-ok : {A : Type 0} {P Q : Type 0} (r : Result A NoMemory) → (P → Q) → OnOk r P → OnOk r Q
+on-ok (Ok a) f p = f p
+on-ok (Err e) f p = tt
 
 pub no-rows : (rows : List (List Value)) → length rows ≡ 0 → rows ≡ []
 no-rows [] e = refl

@@ -6,4 +6,7 @@ mod Leading
 mod Passing
 pub mod PlanParts
 mod Gathered
+mod Sharing
+mod Columns
+mod Keeping
 mod Adding

@@ -1,5 +1,5 @@
 -- Blocks by the places of their first rows: what holds of those that were passed.
-use Rattle.std.proofs.Common.{◌≡◌, Bool, IsTrue, true, false, not, ◌↔◌, ◌<◌, ◌≤◌, ◌+◌, ◌-◌, ◌⊎◌, ℕ, zero, suc, inl, inr, List, [], ◌∷◌, length, get_or, refl, sym, ap, ◌∙◌, subst, arith, Contains}
+use Rattle.std.proofs.Common.{◌≡◌, Bool, IsTrue, true, false, not, ◌↔◌, ◌<◌, ◌≤◌, ◌+◌, ◌-◌, ℕ, zero, suc, List, [], length, refl, sym, ◌∙◌, subst, arith, Contains}
 use native.Mathlib.Decide.{dec_lt, ℕ_discrete}
 use Rattle.std.specs.Option.{option_copied}
 use Rattle.std.specs.List.Sorted.{IsStrictlySortedBy}
@@ -13,7 +13,7 @@ use Rattle.cqa_model.specs.Database.{block_cmp}
 use Rattle.cqa_model.proofs.BlockOrder.{grouped}
 use Rattle.cqa_model.proofs.Repairs.{shares-self, shares-sym, shares-trans, dec_shares}
 use Rattle.fo_plan.specs.Knowing.{HasKnown}
-use Rattle.fo_plan.specs.Enough.{IsEnough, row_of, IsFirst, IsBlockAt, IsPassed, IsNextBlock}
+use Rattle.fo_plan.specs.Enough.{IsEnough, row_of, IsFirst, IsPassed, IsNextBlock}
 use Rattle.fo_plan.specs.declared.enough.Blocks.{Blocks}
 
 -- what is enough of a table has a block with a property exactly where the table has one, if rows with it fit

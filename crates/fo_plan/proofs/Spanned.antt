@@ -1,6 +1,6 @@
 -- The rows with some first key values: whole blocks, among which are all whose rows have these values.
 use Rattle.std.proofs.Common.{◌≡◌, ℕ, zero, suc, ◌<◌, ◌≤◌, inl, inr, drop, length-append, List, [], ◌∷◌, ◌++◌, length, take, get_or, refl, sym, ap, ◌∙◌, subst, arith, Contains}
-use Rattle.std.specs.List.{All, AllByRecursion}
+use Rattle.std.specs.List.{AllByRecursion}
 use Rattle.std.specs.declared.cmp.Ordering.{Ordering}
 use Rattle.std.specs.declared.cmp.Ordering.TheVariants.{Less}
 use Rattle.std.specs.List.Sorted.{IsStrictlySortedBy}
@@ -31,11 +31,11 @@ sorted-part cmp [] part behind s = front part s
     front (x ∷ xs) h = (front-all (λ y. cmp x y ≡ Less) xs h.0, front xs h.1)
 sorted-part cmp (b ∷ before) part behind s = sorted-part cmp before part behind s.1
 
-front-of : {A : Type 0} (xs ys : List A) → take (length xs) (xs ++ ys) ≡ xs
+pub front-of : {A : Type 0} (xs ys : List A) → take (length xs) (xs ++ ys) ≡ xs
 front-of [] ys = refl
 front-of (x ∷ xs) ys = ap (λ zs. x ∷ zs) (front-of xs ys)
 
-back-of : {A : Type 0} (xs ys : List A) → drop (length xs) (xs ++ ys) ≡ ys
+pub back-of : {A : Type 0} (xs ys : List A) → drop (length xs) (xs ++ ys) ≡ ys
 back-of [] ys = refl
 back-of (x ∷ xs) ys = back-of xs ys
 

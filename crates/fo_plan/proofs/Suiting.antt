@@ -1,15 +1,14 @@
 -- Rows that fit, part by part.
-use Rattle.std.proofs.Common.{◌≡◌, ℕ, ◌<◌, ◌↔◌, inl, inr, Bool, true, false, List, [], ◌∷◌, length, get_or, sym, ◌∙◌, subst, Contains}
+use Rattle.std.proofs.Common.{◌≡◌, ℕ, ◌<◌, ◌↔◌, inl, inr, Bool, true, false, List, ◌∷◌, length, get_or, sym, ◌∙◌, subst, Contains}
 use Rattle.std.proofs.lemmas.Bool.{false≢true}
 use Rattle.std.specs.List.{All}
 use Rattle.std.proofs.lemmas.List.Elements.{All-contains, All-contains_itself, All-weaker}
 use Rattle.cqa_value.specs.declared.value.Value.{Value}
-use Rattle.cqa_model.specs.declared.query.Cond.{Cond}
 use Rattle.cqa_model.specs.declared.query.Query.{Query}
 use Rattle.cqa_model.specs.Query.{atom_at}
 use Rattle.cqa_model.specs.Variables.{AreLinked}
 use Rattle.cqa_model.specs.Plan.{Placed, Fits, TestHolds}
-use Rattle.cqa_model.proofs.Classic.{mem-head, mem-tail, mem-nil, mem-cases}
+use Rattle.cqa_model.proofs.Classic.{mem-head, mem-tail, mem-cases}
 use Rattle.cqa_model.proofs.Views.{linked-self}
 use Rattle.cqa_value.specs.Values.{nothing}
 use Rattle.fo_plan.specs.Taking.{AreOfAtoms, AreAgreed}

@@ -1,5 +1,5 @@
 -- What a plan holds for, read as a set of rows.
-use Rattle.std.specs.Prelude.{◌≡◌, ◌≢◌, All, ◌⊎◌, ◌↔◌, ℕ, ◌<◌, IsTrue, IsFalse, Bool, List, ◌∷◌, length, Contains}
+use Rattle.std.specs.Prelude.{◌≡◌, ◌≢◌, All, ◌⊎◌, ◌↔◌, ℕ, ◌<◌, List, length, Contains}
 use Rattle.cqa_value.specs.declared.value.Value.{Value}
 use Rattle.cqa_model.specs.declared.query.Query.{Query}
 use Rattle.cqa_model.specs.Plan.{Placed, PlanHolds}
@@ -33,9 +33,3 @@ BlockGives q tables taken F plan block row = IsAnswer q taken row × AllHold q t
 -- the rows with the property have come
 abbrev pub IsAdded : (List Value → Type 0) → List (List Value) → List (List Value) → Type 0
 IsAdded P old new = (row : List Value) → Contains new row ↔ (Contains old row ⊎ P row)
-
--- they have come, and it is told whether there are some
-pub record Adds (P : List Value → Type 0) (old new : List (List Value)) (any : Bool) : Type 0 where
-  pub added : IsAdded P old new
-  pub some : IsTrue any → (row : List Value) × P row
-  pub none : IsFalse any → (row : List Value) → P row → ⊥

@@ -6,3 +6,4 @@ pub mod Enough
 pub mod Holding
 pub mod Giving
 pub mod FirstBlock
+pub mod Underway

@@ -1,5 +1,4 @@
 -- What a plan is evaluated over.
-use Rattle.std.specs.Prelude.{ℕ, List}
 use Rattle.cqa_model.specs.Query.{FitsDatabase}
 use Rattle.cqa_model.specs.Naming.{AreVariables}
 use Rattle.row_cursor.specs.Spots.{ArePaths}

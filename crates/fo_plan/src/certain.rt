@@ -9,8 +9,11 @@ ghost use Rattle.cqa_model.specs.Plan.{HoldsOver};
 ghost use Rattle.row_cursor.specs.Spots.{ArePaths};
 ghost use Rattle.fo_plan.specs.Holding.{AreAtoms};
 
+use crate::course::{Course, turns_before_memo};
 use crate::giving::add_given;
+use crate::memo::Memo;
 use crate::setting::Setting;
+use crate::shared::shared_columns;
 use crate::taken_rows::Taken;
 use cqa_model::{Plan, Query, variables};
 use cqa_value::{Items, NoMemory, Row};
@@ -53,16 +56,26 @@ pub fn answers<'a>(
     ensures ascending { IfOk result (IsStrictlySortedBy row_cmp) }
     ensures exactly { IfOk result (λ answers. (row : List Cell) → Contains answers row ↔ ((length row ≡ length query.now.answer) × HoldsOver db.now query.now row plan.now.order)) }
 {
-    let setting = Setting {
-        alloc,
-        db,
-        query,
-        variables: variables(query),
-        paths,
+    let order = plan.order.as_slice();
+    let variables = variables(query);
+    let shared = shared_columns(alloc, query, &variables, order)?;
+    let course = Course {
+        setting: Setting {
+            alloc,
+            db,
+            query,
+            variables,
+            paths,
+        },
+        order,
+        shared: shared.as_slice(),
     };
+    let mut memo = Memo::new(alloc, turns_before_memo(db, query));
     let mut found = Vec::new(alloc);
-    match add_given(&setting, &Taken::Nothing, plan.order.as_slice(), &mut found) {
-        Ok(_) => Ok(Items::from_vec(sorted(found))),
+    let added = add_given(&course, &Taken::Nothing, order, &mut found, &mut memo);
+    drop(memo);
+    match added {
+        Ok(()) => Ok(Items::from_vec(sorted(found))),
         Err(fault) => {
             drop(found);
             Err(fault)

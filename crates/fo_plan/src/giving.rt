@@ -1,219 +1,211 @@
 //! The rows for which a plan holds, all at once: a plan is gone over with the answer columns as its outputs. The first
 //! row of each block proposes rows, and the block's other rows test them.
 
-ghost use Rattle.std.specs.Prelude.{◌≡◌, ◌≢◌, All, ℕ, ◌<◌, ◌^◌, ◌↔◌, ◌∷◌, IsTrue, Contains, List, IfOk, [], length, map, slice_index_or};
+ghost use Rattle.std.specs.Prelude.{◌≡◌, ◌⊎◌, ◌<◌, ◌↔◌, ◌∷◌, IsTrue, Contains, List, OnOk, [], length, slice_index_or};
 ghost use Rattle.cqa_value.specs.declared.value.Value.{Value as Cell};
 ghost use Rattle.cqa_model.specs.Database.{stored};
-ghost use Rattle.fo_plan.specs.Taking.{placed, taken_value, AreOfAtoms, AreAgreed};
-ghost use Rattle.fo_plan.specs.Over.{IsPrepared};
+ghost use Rattle.fo_plan.specs.Taking.{placed};
 ghost use Rattle.fo_plan.specs.Fitting.{Suits};
-ghost use Rattle.fo_plan.specs.Holding.{AreAtoms, RowHolds, AllHold};
-ghost use Rattle.fo_plan.specs.Giving.{AreAll, IsSettled, Gives, BlockGives, Adds};
+ghost use Rattle.fo_plan.specs.Holding.{AllHold};
+ghost use Rattle.fo_plan.specs.Giving.{AreAll, IsSettled, Gives, BlockGives, IsAdded};
+ghost use Rattle.fo_plan.specs.Underway.{IsUnderway, IsRight};
 
+use crate::course::Course;
 use crate::enough::Blocks;
 use crate::fitting::suits;
-use crate::holding::row_holds;
-use crate::setting::Setting;
-use crate::taken_rows::{Taken, taken_value};
-use cqa_model::{ColRef, Query};
-use cqa_value::{NOTHING, NoMemory, Row};
-use std::alloc::Global;
+use crate::holding::{all_hold, holds_with};
+use crate::memo::Memo;
+use crate::settled::are_settled;
+use crate::taken_rows::{Taken, answer_of};
+use cqa_value::{NoMemory, Row};
 
-/// The answer that the rows taken give.
-fn answer_of(alloc: Global, taken: &Taken<'_>, columns: &[ColRef]) -> Result<Row, NoMemory>
-    requires { length columns.now < 2 ^ 20 }
-    ensures { IfOk result (λ answer. answer ≡ map (taken_value (placed taken.now)) columns.now) }
+/// Whether all rows of a block fit the rows taken, but for a candidate.
+fn all_suit(course: &Course<'_>, taken: &Taken<'_>, atom: u32, rest: &[u32], block: &[Row]) -> bool
+    requires { IsUnderway course.now (placed taken.now) (atom ∷ rest.now) }
+    ensures { IsTrue result ↔ ((y : List Cell) → Contains block.now y → Suits course.now.setting.query.now (placed taken.now) atom y) }
 {
-    let mut answer = Row::new(alloc);
-    for column in columns {
-        answer.push(taken_value(taken, column, &NOTHING).copy(alloc)?)?;
+    let setting = &course.setting;
+    for y in block {
+        if !suits(setting.query, &setting.variables, taken, atom, y) {
+            return false;
+        }
     }
-    Ok(answer)
+    true
 }
 
-/// Whether no answer column is of an atom.
-fn is_settled(columns: &[ColRef], atom: u32) -> bool
-    ensures { IsTrue result ↔ All (λ column. column.atom ≢ atom) columns.now }
-{
-    columns.iter().all(|column| column.atom != atom)
-}
-
-/// Whether no answer column is of one of these atoms.
-fn are_settled(query: &Query, atoms: &[u32]) -> bool
-    ensures { IsTrue result ↔ IsSettled query.now atoms.now }
-{
-    atoms
-        .iter()
-        .all(|atom| is_settled(query.answer.as_slice(), *atom))
-}
-
-/// Keeps those rows for which one more row of a block holds.
-fn keep_holding<'x>(
-    setting: &'x Setting<'x>,
+/// Adds a row if all of these rows of a block hold for it.
+fn keep_one<'x>(
+    course: &'x Course<'x>,
     taken: &'x Taken<'x>,
     atom: u32,
-    z: &'x Row,
+    block: &[Row],
     rest: &[u32],
+    row: Row,
     found: &mut Vec<Row>,
-)
-    requires over { IsPrepared setting.now }
-    requires taken { AreOfAtoms setting.now.query.now (placed taken.now) }
-    requires plan { AreAtoms setting.now.query.now rest.now }
-    requires atom { atom < length setting.now.query.now.atoms }
-    ensures { (row : List Cell) → Contains found.new.items row ↔ (Contains found.old.items row × RowHolds setting.now.query.now (stored setting.now.db.now) row (placed taken.now) atom rest.now z.now) }
+    memo: &mut Memo,
+) -> Result<(), NoMemory>
+    requires here { IsUnderway course.now (placed taken.now) (atom ∷ rest.now) }
+    requires memo { IsRight course.now memo.old }
+    ensures added { OnOk result (IsAdded (λ r. (r ≡ row) × AllHold course.now.setting.query.now (stored course.now.setting.db.now) r (placed taken.now) atom rest.now block.now) found.old.items found.new.items) }
+    ensures memo { IsRight course.now memo.new }
 {
-    found.retain(
-        |row| -> bool
-            requires over { IsPrepared setting.now }
-            requires taken { AreOfAtoms setting.now.query.now (placed taken.now) }
-            requires plan { AreAtoms setting.now.query.now rest.now }
-            requires atom { atom < length setting.now.query.now.atoms }
-            ensures { IsTrue result ↔ RowHolds setting.entry.now.query.now (stored setting.entry.now.db.now) row.now (placed taken.entry.now) atom rest.entry.now z.entry.now }
-        { row_holds(setting, row, taken, atom, z, rest) },
-    );
+    if all_hold(&*course, &row, &*taken, atom, block, rest, memo) {
+        found.push(row)?;
+    } else {
+        drop(row);
+    }
+    Ok(())
 }
 
-/// Keeps those rows for which all of these rows of a block hold.
+/// Adds those of the rows proposed for which all of these rows of a block hold.
 fn keep_all<'x>(
-    setting: &'x Setting<'x>,
+    course: &'x Course<'x>,
     taken: &'x Taken<'x>,
     atom: u32,
-    block: &'x [Row],
+    block: &[Row],
     rest: &[u32],
+    part: &mut Vec<Row>,
     found: &mut Vec<Row>,
-)
-    requires over { IsPrepared setting.now }
-    requires taken { AreOfAtoms setting.now.query.now (placed taken.now) }
-    requires plan { AreAtoms setting.now.query.now rest.now }
-    requires atom { atom < length setting.now.query.now.atoms }
-    ensures { (row : List Cell) → Contains found.new.items row ↔ (Contains found.old.items row × AllHold setting.now.query.now (stored setting.now.db.now) row (placed taken.now) atom rest.now block.now) }
+    memo: &mut Memo,
+) -> Result<(), NoMemory>
+    requires here { IsUnderway course.now (placed taken.now) (atom ∷ rest.now) }
+    requires memo { IsRight course.now memo.old }
+    ensures added { OnOk result (IsAdded (λ r. Contains part.old.items r × AllHold course.now.setting.query.now (stored course.now.setting.db.now) r (placed taken.now) atom rest.now block.now) found.old.items found.new.items) }
+    ensures memo { IsRight course.now memo.new }
 {
-    for z in block {
-        keep_holding(setting, taken, atom, z, rest, found);
+    while let Some(row) = part.pop() {
+        keep_one(course, taken, atom, block, rest, row, found, memo)?;
     }
+    Ok(())
 }
 
-/// Adds the rows that the rows taken and the rest of a plan give. Says whether there are some.
-#[cycle(giving)]
-pub(crate) fn add_given<'x>(
-    setting: &'x Setting<'x>,
+/// Adds the answer of the rows taken if a rest of a plan holds that doesn't change it.
+fn add_settled<'x>(
+    course: &'x Course<'x>,
     taken: &'x Taken<'x>,
     plan: &[u32],
     found: &mut Vec<Row>,
-) -> Result<bool, NoMemory>
-    requires over { IsPrepared setting.now }
-    requires taken { AreOfAtoms setting.now.query.now (placed taken.now) }
-    requires agreed { AreAgreed setting.now.query.now (placed taken.now) }
-    requires plan { AreAtoms setting.now.query.now plan.now }
-    requires all { AreAll setting.now.query.now (placed taken.now) plan.now }
-    ensures { IfOk result (λ any. Adds (Gives setting.now.query.now (stored setting.now.db.now) (placed taken.now) plan.now) found.old.items found.new.items any) }
+    memo: &mut Memo,
+) -> Result<(), NoMemory>
+    requires here { IsUnderway course.now (placed taken.now) plan.now }
+    requires all { AreAll course.now.setting.query.now (placed taken.now) plan.now }
+    requires settled { IsSettled course.now.setting.query.now plan.now }
+    requires memo { IsRight course.now memo.old }
+    ensures added { OnOk result (IsAdded (Gives course.now.setting.query.now (stored course.now.setting.db.now) (placed taken.now) plan.now) found.old.items found.new.items) }
+    ensures memo { IsRight course.now memo.new }
 {
+    let alloc = course.setting.alloc;
+    let none = Row::new(alloc);
+    let held = holds_with(&*course, &none, &*taken, plan, memo);
+    drop(none);
+    if held {
+        found.push(answer_of(alloc, taken, course.setting.query.answer.as_slice())?)?;
+    }
+    Ok(())
+}
+
+/// Adds the rows that the rows taken and the rest of a plan give.
+#[cycle(giving)]
+pub(crate) fn add_given<'x>(
+    course: &'x Course<'x>,
+    taken: &'x Taken<'x>,
+    plan: &[u32],
+    found: &mut Vec<Row>,
+    memo: &mut Memo,
+) -> Result<(), NoMemory>
+    requires here { IsUnderway course.now (placed taken.now) plan.now }
+    requires all { AreAll course.now.setting.query.now (placed taken.now) plan.now }
+    requires memo { IsRight course.now memo.old }
+    ensures added { OnOk result (IsAdded (Gives course.now.setting.query.now (stored course.now.setting.db.now) (placed taken.now) plan.now) found.old.items found.new.items) }
+    ensures memo { IsRight course.now memo.new }
+{
+    if are_settled(course.setting.query, plan) {
+        return add_settled(course, taken, plan, found, memo);
+    }
     match plan {
-        [] => {
-            found.push(answer_of(setting.alloc, taken, setting.query.answer.as_slice())?)?;
-            Ok(true)
-        }
-        [atom, rest @ ..] => {
-            let settled = are_settled(setting.query, plan);
-            add_blocks(setting, taken, *atom, rest, settled, found)
-        }
+        [] => unreachable!(),
+        [atom, rest @ ..] => add_blocks(course, taken, *atom, rest, found, memo),
     }
 }
 
-/// Adds the rows that the blocks of an atom's table give. Where the rows taken settle the answer, one that gives it is
-/// enough.
+/// Adds the rows that the blocks of an atom's table give.
 #[cycle(giving)]
 fn add_blocks<'x>(
-    setting: &'x Setting<'x>,
+    course: &'x Course<'x>,
     taken: &'x Taken<'x>,
     atom: u32,
     rest: &[u32],
-    settled: bool,
     found: &mut Vec<Row>,
-) -> Result<bool, NoMemory>
-    requires over { IsPrepared setting.now }
-    requires taken { AreOfAtoms setting.now.query.now (placed taken.now) }
-    requires agreed { AreAgreed setting.now.query.now (placed taken.now) }
-    requires plan { AreAtoms setting.now.query.now rest.now }
-    requires atom { atom < length setting.now.query.now.atoms }
-    requires all { AreAll setting.now.query.now (placed taken.now) (atom ∷ rest.now) }
-    requires settled { IsTrue settled → IsSettled setting.now.query.now (atom ∷ rest.now) }
-    ensures { IfOk result (λ any. Adds (Gives setting.now.query.now (stored setting.now.db.now) (placed taken.now) (atom ∷ rest.now)) found.old.items found.new.items any) }
+    memo: &mut Memo,
+) -> Result<(), NoMemory>
+    requires here { IsUnderway course.now (placed taken.now) (atom ∷ rest.now) }
+    requires all { AreAll course.now.setting.query.now (placed taken.now) (atom ∷ rest.now) }
+    requires memo { IsRight course.now memo.old }
+    ensures added { OnOk result (IsAdded (Gives course.now.setting.query.now (stored course.now.setting.db.now) (placed taken.now) (atom ∷ rest.now)) found.old.items found.new.items) }
+    ensures memo { IsRight course.now memo.new }
 {
-    let blocks = Blocks::new(setting, None, taken, atom);
+    let blocks = Blocks::new(&course.setting, None, taken, atom);
     let mut place = blocks.start();
-    let mut any = false;
     while let Some((block, next)) = blocks.next_from(place) {
-        if add_block(setting, taken, atom, block, rest, found)? {
-            any = true;
-            if settled {
-                return Ok(true);
-            }
-        }
+        add_block(course, taken, atom, block, rest, found, memo)?;
         place = next;
     }
-    Ok(any)
+    Ok(())
 }
 
-/// Adds the rows that a block gives: the first of its rows proposes, and the others test. Says whether there are some.
+/// Adds the rows that a block gives: the first of its rows proposes, and the others test.
 #[cycle(giving)]
 fn add_block<'x>(
-    setting: &'x Setting<'x>,
+    course: &'x Course<'x>,
     taken: &'x Taken<'x>,
     atom: u32,
     block: &'x [Row],
     rest: &[u32],
     found: &mut Vec<Row>,
-) -> Result<bool, NoMemory>
-    requires over { IsPrepared setting.now }
-    requires taken { AreOfAtoms setting.now.query.now (placed taken.now) }
-    requires agreed { AreAgreed setting.now.query.now (placed taken.now) }
-    requires plan { AreAtoms setting.now.query.now rest.now }
-    requires atom { atom < length setting.now.query.now.atoms }
-    requires all { AreAll setting.now.query.now (placed taken.now) (atom ∷ rest.now) }
+    memo: &mut Memo,
+) -> Result<(), NoMemory>
+    requires here { IsUnderway course.now (placed taken.now) (atom ∷ rest.now) }
+    requires all { AreAll course.now.setting.query.now (placed taken.now) (atom ∷ rest.now) }
     requires some { 0 < length block.now }
-    ensures { IfOk result (λ any. Adds (BlockGives setting.now.query.now (stored setting.now.db.now) (placed taken.now) atom rest.now block.now) found.old.items found.new.items any) }
+    requires memo { IsRight course.now memo.old }
+    ensures added { OnOk result (IsAdded (BlockGives course.now.setting.query.now (stored course.now.setting.db.now) (placed taken.now) atom rest.now block.now) found.old.items found.new.items) }
+    ensures memo { IsRight course.now memo.new }
 {
-    let first = &block[0];
-    if !suits(setting.query, &setting.variables, taken, atom, first) {
-        return Ok(false);
+    if !all_suit(course, taken, atom, rest, block) {
+        return Ok(());
     }
     if block.len() == 1 {
-        let more = Taken::Before(atom, &*first, &*taken);
-        return add_given(&*setting, &more, rest, found);
+        let more = Taken::Before(atom, &block[0], &*taken);
+        return add_given(&*course, &more, rest, found, memo);
     }
-    let mut part = Vec::new(setting.alloc);
-    let any = add_tested(setting, taken, atom, block, rest, &mut part, found);
+    let mut part = Vec::new(course.setting.alloc);
+    let added = add_tested(course, taken, atom, block, rest, &mut part, found, memo);
     drop(part);
-    any
+    added
 }
 
-/// Adds the rows that a block of two or more rows gives, whose first row fits. `part` is where they are tested.
+/// Adds the rows that a block of two or more rows gives, all of which fit. `part` is where they are tested.
 #[cycle(giving)]
 fn add_tested<'x>(
-    setting: &'x Setting<'x>,
+    course: &'x Course<'x>,
     taken: &'x Taken<'x>,
     atom: u32,
     block: &'x [Row],
     rest: &[u32],
     part: &mut Vec<Row>,
     found: &mut Vec<Row>,
-) -> Result<bool, NoMemory>
-    requires over { IsPrepared setting.now }
-    requires taken { AreOfAtoms setting.now.query.now (placed taken.now) }
-    requires agreed { AreAgreed setting.now.query.now (placed taken.now) }
-    requires plan { AreAtoms setting.now.query.now rest.now }
-    requires atom { atom < length setting.now.query.now.atoms }
-    requires all { AreAll setting.now.query.now (placed taken.now) (atom ∷ rest.now) }
+    memo: &mut Memo,
+) -> Result<(), NoMemory>
+    requires here { IsUnderway course.now (placed taken.now) (atom ∷ rest.now) }
+    requires all { AreAll course.now.setting.query.now (placed taken.now) (atom ∷ rest.now) }
     requires some { 0 < length block.now }
-    requires first { Suits setting.now.query.now (placed taken.now) atom (slice_index_or block.now 0 []) }
+    requires first { Suits course.now.setting.query.now (placed taken.now) atom (slice_index_or block.now 0 []) }
     requires none { part.old.items ≡ [] }
-    ensures { IfOk result (λ any. Adds (BlockGives setting.now.query.now (stored setting.now.db.now) (placed taken.now) atom rest.now block.now) found.old.items found.new.items any) }
+    requires memo { IsRight course.now memo.old }
+    ensures added { OnOk result (IsAdded (BlockGives course.now.setting.query.now (stored course.now.setting.db.now) (placed taken.now) atom rest.now block.now) found.old.items found.new.items) }
+    ensures memo { IsRight course.now memo.new }
 {
     let more = Taken::Before(atom, &block[0], &*taken);
-    add_given(&*setting, &more, rest, part)?;
-    keep_all(setting, taken, atom, &block[1..], rest, part);
-    let any = !part.is_empty();
-    found.append(part)?;
-    Ok(any)
+    add_given(&*course, &more, rest, part, memo)?;
+    keep_all(course, taken, atom, &block[1..], rest, part, found, memo)
 }

@@ -1,61 +1,89 @@
 //! Whether a plan holds, atom by atom: some block all of whose rows fit, and for each of them the rest.
 
-ghost use Rattle.std.specs.Prelude.{◌≡◌, ℕ, ◌<◌, ◌↔◌, [], IsTrue, length};
+ghost use Rattle.std.specs.Prelude.{◌↔◌, ◌∷◌, IsTrue};
 ghost use Rattle.cqa_model.specs.Database.{stored};
-ghost use Rattle.cqa_model.specs.Query.{atom_key, rows_of, FitsDatabase};
+ghost use Rattle.cqa_model.specs.Query.{atom_key, rows_of};
 ghost use Rattle.cqa_model.specs.OneTable.{SomeBlockFits};
-ghost use Rattle.cqa_model.specs.Plan.{PlanHolds, HoldsOver};
-ghost use Rattle.fo_plan.specs.Taking.{placed, AreOfAtoms};
-ghost use Rattle.fo_plan.specs.Over.{IsPrepared};
-ghost use Rattle.fo_plan.specs.Holding.{AreAtoms, RowHolds, AllHold};
+ghost use Rattle.cqa_model.specs.Plan.{PlanHolds};
+ghost use Rattle.fo_plan.specs.Taking.{placed};
+ghost use Rattle.fo_plan.specs.Holding.{RowHolds, AllHold};
+ghost use Rattle.fo_plan.specs.Underway.{IsUnderway, IsKey, IsRight};
 
+use crate::course::Course;
 use crate::enough::Blocks;
 use crate::fitting::fits;
-use crate::setting::Setting;
+use crate::memo::Memo;
 use crate::taken_rows::Taken;
-use cqa_model::{Plan, Query, variables};
 use cqa_value::Row;
-use std::alloc::Global;
-use table_blocks::Database;
 
-/// Whether the rest of a plan holds.
+/// Whether the rest of a plan holds, by what is remembered of it where deciding has taken long.
 #[cycle(holds)]
-fn holds_with<'x>(
-    setting: &'x Setting<'x>,
+pub(crate) fn holds_with<'x>(
+    course: &'x Course<'x>,
     row: &'x Row,
     taken: &'x Taken<'x>,
     plan: &[u32],
+    memo: &mut Memo,
 ) -> bool
-    requires over { IsPrepared setting.now }
-    requires taken { AreOfAtoms setting.now.query.now (placed taken.now) }
-    requires plan { AreAtoms setting.now.query.now plan.now }
-    ensures { IsTrue result ↔ PlanHolds setting.now.query.now (stored setting.now.db.now) row.now (placed taken.now) plan.now }
+    requires here { IsUnderway course.now (placed taken.now) plan.now }
+    requires memo { IsRight course.now memo.old }
+    ensures holds { IsTrue result ↔ PlanHolds course.now.setting.query.now (stored course.now.setting.db.now) row.now (placed taken.now) plan.now }
+    ensures memo { IsRight course.now memo.new }
 {
     match plan {
         [] => true,
-        [atom, rest @ ..] => some_block(setting, row, taken, *atom, rest),
+        [atom, rest @ ..] => match memo.key(course, row, taken, plan) {
+            Some(key) => remembered(course, row, taken, *atom, rest, key, memo),
+            None => some_block(course, row, taken, *atom, rest, memo),
+        },
     }
+}
+
+/// Whether the rest of a plan holds, which is looked up by its key, or decided and remembered under it.
+#[cycle(holds)]
+fn remembered<'x>(
+    course: &'x Course<'x>,
+    row: &'x Row,
+    taken: &'x Taken<'x>,
+    atom: u32,
+    rest: &[u32],
+    key: Row,
+    memo: &mut Memo,
+) -> bool
+    requires here { IsUnderway course.now (placed taken.now) (atom ∷ rest.now) }
+    requires memo { IsRight course.now memo.old }
+    requires key { IsKey course.now.setting.query.now course.now.shared.now (placed taken.now) (atom ∷ rest.now) row.now key }
+    ensures holds { IsTrue result ↔ PlanHolds course.now.setting.query.now (stored course.now.setting.db.now) row.now (placed taken.now) (atom ∷ rest.now) }
+    ensures memo { IsRight course.now memo.new }
+{
+    if let Some(held) = memo.told(&key) {
+        drop(key);
+        return held;
+    }
+    let held = some_block(course, row, taken, atom, rest, memo);
+    memo.keep(key, held);
+    held
 }
 
 /// Whether all rows of some block of an atom's table hold.
 #[cycle(holds)]
 fn some_block<'x>(
-    setting: &'x Setting<'x>,
+    course: &'x Course<'x>,
     row: &'x Row,
     taken: &'x Taken<'x>,
     atom: u32,
     rest: &[u32],
+    memo: &mut Memo,
 ) -> bool
-    requires over { IsPrepared setting.now }
-    requires taken { AreOfAtoms setting.now.query.now (placed taken.now) }
-    requires plan { AreAtoms setting.now.query.now rest.now }
-    requires atom { atom < length setting.now.query.now.atoms }
-    ensures { IsTrue result ↔ SomeBlockFits (atom_key setting.now.query.now atom) (rows_of setting.now.query.now (stored setting.now.db.now) atom) (RowHolds setting.now.query.now (stored setting.now.db.now) row.now (placed taken.now) atom rest.now) }
+    requires here { IsUnderway course.now (placed taken.now) (atom ∷ rest.now) }
+    requires memo { IsRight course.now memo.old }
+    ensures holds { IsTrue result ↔ SomeBlockFits (atom_key course.now.setting.query.now atom) (rows_of course.now.setting.query.now (stored course.now.setting.db.now) atom) (RowHolds course.now.setting.query.now (stored course.now.setting.db.now) row.now (placed taken.now) atom rest.now) }
+    ensures memo { IsRight course.now memo.new }
 {
-    let blocks = Blocks::new(setting, Some(row), taken, atom);
+    let blocks = Blocks::new(&course.setting, Some(row), taken, atom);
     let mut place = blocks.start();
     while let Some((block, next)) = blocks.next_from(place) {
-        if all_hold(setting, row, taken, atom, block, rest) {
+        if all_hold(course, row, taken, atom, block, rest, memo) {
             return true;
         }
         place = next;
@@ -66,21 +94,21 @@ fn some_block<'x>(
 /// Whether all of these rows hold.
 #[cycle(holds)]
 pub(crate) fn all_hold<'x>(
-    setting: &'x Setting<'x>,
+    course: &'x Course<'x>,
     row: &'x Row,
     taken: &'x Taken<'x>,
     atom: u32,
     block: &[Row],
     rest: &[u32],
+    memo: &mut Memo,
 ) -> bool
-    requires over { IsPrepared setting.now }
-    requires taken { AreOfAtoms setting.now.query.now (placed taken.now) }
-    requires plan { AreAtoms setting.now.query.now rest.now }
-    requires atom { atom < length setting.now.query.now.atoms }
-    ensures { IsTrue result ↔ AllHold setting.now.query.now (stored setting.now.db.now) row.now (placed taken.now) atom rest.now block.now }
+    requires here { IsUnderway course.now (placed taken.now) (atom ∷ rest.now) }
+    requires memo { IsRight course.now memo.old }
+    ensures holds { IsTrue result ↔ AllHold course.now.setting.query.now (stored course.now.setting.db.now) row.now (placed taken.now) atom rest.now block.now }
+    ensures memo { IsRight course.now memo.new }
 {
     for y in block {
-        if !row_holds(setting, row, taken, atom, y, rest) {
+        if !row_holds(course, row, taken, atom, y, rest, memo) {
             return false;
         }
     }
@@ -89,37 +117,24 @@ pub(crate) fn all_hold<'x>(
 
 /// Whether a row fits, and the rest of the plan holds with it.
 #[cycle(holds)]
-pub(crate) fn row_holds<'x>(
-    setting: &'x Setting<'x>,
+fn row_holds<'x>(
+    course: &'x Course<'x>,
     row: &'x Row,
     taken: &'x Taken<'x>,
     atom: u32,
     y: &Row,
     rest: &[u32],
+    memo: &mut Memo,
 ) -> bool
-    requires over { IsPrepared setting.now }
-    requires taken { AreOfAtoms setting.now.query.now (placed taken.now) }
-    requires plan { AreAtoms setting.now.query.now rest.now }
-    requires atom { atom < length setting.now.query.now.atoms }
-    ensures { IsTrue result ↔ RowHolds setting.now.query.now (stored setting.now.db.now) row.now (placed taken.now) atom rest.now y.now }
+    requires here { IsUnderway course.now (placed taken.now) (atom ∷ rest.now) }
+    requires memo { IsRight course.now memo.old }
+    ensures holds { IsTrue result ↔ RowHolds course.now.setting.query.now (stored course.now.setting.db.now) row.now (placed taken.now) atom rest.now y.now }
+    ensures memo { IsRight course.now memo.new }
 {
-    fits(setting.query, &setting.variables, row, taken, atom, y)
-        && holds_with(&*setting, &*row, &Taken::Before(atom, &*y, &*taken), rest)
-}
-
-/// Whether a plan holds for a row: the plan's first atom has a block all of whose rows fit the row, and for each of them
-/// the rest of the plan holds with that row taken (Koutris and Wijsen, ACM TODS 2017). It takes no memory.
-pub fn holds(alloc: Global, plan: &Plan, db: &Database, query: &Query, row: &Row) -> bool
-    requires fits { FitsDatabase query.now db.now }
-    requires plan { AreAtoms query.now plan.now.order }
-    ensures { IsTrue result ↔ HoldsOver db.now query.now row.now plan.now.order }
-{
-    let setting = Setting {
-        alloc,
-        db,
-        query,
-        variables: variables(query),
-        paths: &[],
-    };
-    holds_with(&setting, row, &Taken::Nothing, plan.order.as_slice())
+    let setting = &course.setting;
+    if !fits(setting.query, &setting.variables, row, taken, atom, y) {
+        return false;
+    }
+    let more = Taken::Before(atom, &*y, &*taken);
+    holds_with(&*course, &*row, &more, rest, memo)
 }

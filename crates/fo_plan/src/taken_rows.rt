@@ -1,11 +1,12 @@
 //! The rows that were taken so far: a list on the stack of the calls.
 
-ghost use Rattle.std.specs.Prelude.{◌≡◌};
+ghost use Rattle.std.specs.Prelude.{◌≡◌, ◌<◌, ◌^◌, IfOk, length, map};
 ghost use Rattle.cqa_value.specs.Values.{nothing};
 ghost use Rattle.fo_plan.specs.Taking.{placed, taken_value};
 
 use cqa_model::ColRef;
-use cqa_value::{Row, Value};
+use cqa_value::{NOTHING, NoMemory, Row, Value};
+use std::alloc::Global;
 
 /// The rows taken so far, each of an atom, the last first.
 #[derive(Clone, Copy)]
@@ -29,4 +30,20 @@ pub(crate) fn taken_value<'a>(taken: &Taken<'a>, column: &ColRef, zero: &'a Valu
             }
         }
     }
+}
+
+/// The values of columns in the rows taken.
+pub(crate) fn answer_of(
+    alloc: Global,
+    taken: &Taken<'_>,
+    columns: &[ColRef],
+) -> Result<Row, NoMemory>
+    requires { length columns.now < 2 ^ 20 }
+    ensures { IfOk result (λ answer. answer ≡ map (taken_value (placed taken.now)) columns.now) }
+{
+    let mut answer = Row::new(alloc);
+    for column in columns {
+        answer.push(taken_value(taken, column, &NOTHING).copy(alloc)?)?;
+    }
+    Ok(answer)
 }

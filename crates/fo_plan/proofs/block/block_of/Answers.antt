@@ -1,19 +1,28 @@
-use Rattle.std.proofs.Common.{◌≡◌, ◌∙◌, subst, sym, MatchOption}
+use Rattle.std.proofs.Common.{rules, subst, sym, refl, Contains, MatchOption}
 use Rattle.cqa_model.specs.Plan.{HoldsOver}
 use Rattle.fo_plan.specs.Holding.{AreAtoms}
 use Rattle.fo_plan.specs.FirstBlock.{IsFirstBlock}
-use Rattle.fo_plan.proofs.PlanParts.{rest-atoms, head-atom, plan-split}
+use Rattle.fo_plan.specs.Underway.{AreShared}
+use Rattle.fo_plan.proofs.Sharing.{underway-starts, none-right}
 use Rattle.fo_plan.proofs.block.block_of.Goals as goal
 
-pub first_block-requires-clause-plan : goal.first_block-requires-clause-plan
-first_block-requires-clause-plan c = rest-atoms c.args.query.now c.as_slice.result.now c.in-len1-up.len_at_least (subst (AreAtoms c.args.query.now) (sym c.as_slice.ensures) c.requires.plan)
+pub shared_or_none-shared-requires-clause-order : goal.shared_or_none-shared-requires-clause-order
+shared_or_none-shared-requires-clause-order c = subst (AreAtoms c.args.query.now) (sym c.as_slice-order.ensures) c.requires.plan
 
-pub first_block-requires-clause-atom : goal.first_block-requires-clause-atom
-first_block-requires-clause-atom c = head-atom c.args.query.now c.as_slice.result.now c.in-len1-up.len_at_least (subst (AreAtoms c.args.query.now) (sym c.as_slice.ensures) c.requires.plan)
+pub found_block-found-requires-clause-here : goal.found_block-found-requires-clause-here
+found_block-found-requires-clause-here c =
+    underway-starts _ c.as_slice-order.result.now (record { fits = c.requires.fits; variables = search rules; paths = c.requires.paths })
+    (subst (AreShared c.args.query.now c.as_slice-order.result.now) (sym c.as_slice.ensures.value) c.shared_or_none-shared.ensures) (subst (AreAtoms c.args.query.now) (sym c.as_slice-order.ensures) c.requires.plan) refl
 
-pub returns-in-len1-up : goal.returns-in-len1-up
-returns-in-len1-up c =
+pub found_block-found-requires-clause-all : goal.found_block-found-requires-clause-all
+found_block-found-requires-clause-all c = λ F l. subst (λ p. Contains p F) (sym c.as_slice-order.ensures) (c.requires.all F l)
+
+pub found_block-found-requires-clause-memo : goal.found_block-found-requires-clause-memo
+found_block-found-requires-clause-memo c = none-right _ c.new-memo.result c.new-memo.ensures
+
+pub returns : goal.returns
+returns c =
     let db = c.args.db.now in
     let q = c.args.query.now in
     let row = c.args.row.now in
-    subst (λ plan. MatchOption c.first_block.result (HoldsOver db q row plan → ⊥) (λ block. HoldsOver db q row plan × IsFirstBlock db q row plan block.now)) (sym (plan-split c.as_slice.result.now c.in-len1-up.len_at_least) ∙ c.as_slice.ensures) c.first_block.ensures
+    subst (λ plan. MatchOption c.found_block-found.result (HoldsOver db q row plan → ⊥) (λ block. HoldsOver db q row plan × IsFirstBlock db q row plan block.now)) c.as_slice-order.ensures c.found_block-found.ensures

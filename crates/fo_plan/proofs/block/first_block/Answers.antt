@@ -1,4 +1,4 @@
-use Rattle.std.proofs.Common.{◌≡◌, ◌∙◌, sym, subst, List, []}
+use Rattle.std.proofs.Common.{◌∙◌, sym, subst, List, [], ◌<◌, length}
 use Rattle.std.proofs.lemmas.Bool.{false≢true}
 use Rattle.cqa_model.specs.Database.{Table, stored}
 use Rattle.cqa_model.specs.Query.{atom_key, rows_of}
@@ -8,32 +8,48 @@ use Rattle.row_cursor.specs.Blocks.{blocks_left}
 use Rattle.fo_plan.specs.Holding.{RowHolds}
 use Rattle.fo_plan.proofs.Leading.{leads-starts, leads-on, leads-found, leads-none}
 use Rattle.fo_plan.proofs.Spanned.{blocks-of-atom}
+use Rattle.fo_plan.proofs.Sharing.{first-atom}
 use Rattle.fo_plan.proofs.block.first_block.Goals as goal
 
+pub table_of-requires : goal.table_of-requires
+table_of-requires c = first-atom c.args.course.now [] c.args.atom c.args.rest.now c.requires.here
+
+pub new-cursor-requires : goal.new-cursor-requires
+new-cursor-requires c =
+    let q = c.args.course.now.setting.query.now in
+    let there = c.requires.here.over.fits.there c.args.atom (first-atom c.args.course.now [] c.args.atom c.args.rest.now c.requires.here) in
+    subst (λ (d : List Table). c.table_of.result < length d) c.requires.db (subst (λ t. t < length c.args.course.now.setting.db.now) (sym c.table_of.ensures) there)
+
 pub loop-block-init : goal.loop-block-init
-loop-block-init c = leads-starts (blocks_left c.new-cursor.result) (RowHolds c.args.setting.now.query.now (stored c.args.setting.now.db.now) c.args.row.now [] c.args.atom c.args.rest.now)
+loop-block-init c = record {
+  leads = leads-starts (blocks_left c.new-cursor.result) (RowHolds c.args.course.now.setting.query.now (stored c.args.course.now.setting.db.now) c.args.row.now [] c.args.atom c.args.rest.now);
+  right = c.requires.memo;
+}
 
 pub loop-block-preserved : goal.loop-block-preserved
-loop-block-preserved c =
-    leads-on (blocks_left c.new-cursor.result) (RowHolds c.args.setting.now.query.now (stored c.args.setting.now.db.now) c.args.row.now [] c.args.atom c.args.rest.now)
-    (blocks_left c.loop-block.cursor) (blocks_left c.next.new.self) c.in-Some.block.now c.loop-block.invariant c.in-Some.ensures.steps (λ h. false≢true (sym c.if-all_hold.false ∙ c.all_hold.ensures.1 h))
+loop-block-preserved c = record {
+  leads =
+      leads-on (blocks_left c.new-cursor.result) (RowHolds c.args.course.now.setting.query.now (stored c.args.course.now.setting.db.now) c.args.row.now [] c.args.atom c.args.rest.now)
+      (blocks_left c.loop-block.cursor) (blocks_left c.next.new.self) c.in-Some.block.now c.loop-block.invariant.leads c.in-Some.ensures.steps (λ h. false≢true (sym c.if-all_hold.false ∙ c.all_hold.ensures.holds.1 h));
+  right = c.all_hold.ensures.memo;
+}
 
 pub returns-then-all_hold : goal.returns-then-all_hold
 returns-then-all_hold c =
-    let q = c.args.setting.now.query.now in
-    let tables = stored c.args.setting.now.db.now in
+    let q = c.args.course.now.setting.query.now in
+    let tables = stored c.args.course.now.setting.db.now in
     let F = c.args.atom in
     leads-found (blocks_left c.new-cursor.result) (RowHolds q tables c.args.row.now [] F c.args.rest.now)
-    (blocks_left c.loop-block.cursor) (blocks_left c.next.new.self) c.in-Some.block.now c.loop-block.invariant c.in-Some.ensures.steps (atom_key q F) (rows_of q tables F)
-    (blocks-of-atom q c.args.setting.now.db.now F c.requires.over.fits c.requires.atom c.table_of.result c.table_of.ensures (blocks_left c.new-cursor.result)
+    (blocks_left c.loop-block.cursor) (blocks_left c.next.new.self) c.in-Some.block.now c.loop-block.invariant.leads c.in-Some.ensures.steps (atom_key q F) (rows_of q tables F)
+    (blocks-of-atom q c.args.course.now.setting.db.now F c.requires.here.over.fits (first-atom c.args.course.now [] c.args.atom c.args.rest.now c.requires.here) c.table_of.result c.table_of.ensures (blocks_left c.new-cursor.result)
     (subst (λ (d : List Table). AreBlocks (key_at d c.table_of.result) (rows_at d c.table_of.result) (blocks_left c.new-cursor.result)) (sym c.requires.db) c.new-cursor.ensures.blocks))
-    (c.all_hold.ensures.0 c.if-all_hold.true)
+    (c.all_hold.ensures.holds.0 c.if-all_hold.true)
 
 pub returns : goal.returns
 returns c =
-    let q = c.args.setting.now.query.now in
-    let tables = stored c.args.setting.now.db.now in
+    let q = c.args.course.now.setting.query.now in
+    let tables = stored c.args.course.now.setting.db.now in
     let F = c.args.atom in
-    leads-none (blocks_left c.new-cursor.result) (RowHolds q tables c.args.row.now [] F c.args.rest.now) (atom_key q F) (rows_of q tables F) (blocks_left c.loop-block.cursor) c.loop-block.invariant c.in_default.ensures.steps.0
-    (blocks-of-atom q c.args.setting.now.db.now F c.requires.over.fits c.requires.atom c.table_of.result c.table_of.ensures (blocks_left c.new-cursor.result)
+    leads-none (blocks_left c.new-cursor.result) (RowHolds q tables c.args.row.now [] F c.args.rest.now) (atom_key q F) (rows_of q tables F) (blocks_left c.loop-block.cursor) c.loop-block.invariant.leads c.in_default.ensures.steps.0
+    (blocks-of-atom q c.args.course.now.setting.db.now F c.requires.here.over.fits (first-atom c.args.course.now [] c.args.atom c.args.rest.now c.requires.here) c.table_of.result c.table_of.ensures (blocks_left c.new-cursor.result)
     (subst (λ (d : List Table). AreBlocks (key_at d c.table_of.result) (rows_at d c.table_of.result) (blocks_left c.new-cursor.result)) (sym c.requires.db) c.new-cursor.ensures.blocks))

@@ -1,4 +1,4 @@
-use Rattle.std.proofs.Common.{◌≡◌, ◌-◌, arith, sym, subst, [], get_or}
+use Rattle.std.proofs.Common.{◌-◌, arith, []}
 use Rattle.std.proofs.lemmas.List.{get_or_read}
 use Rattle.fo_plan.proofs.Passing.{begins}
 use Rattle.fo_plan.proofs.enough.begins_block.Goals as goal

@@ -1,8 +1,9 @@
-use Rattle.std.proofs.Common.{ℕ, ◌+◌, ◌-◌, ◌*◌, length}
+use Rattle.std.proofs.Common.{◌+◌, ◌-◌, ◌*◌, length}
 use Rattle.cqa_model.specs.Database.{stored}
 use Rattle.fo_plan.specs.Taking.{placed}
 use Rattle.fo_plan.specs.Holding.{RowHolds}
 use Rattle.fo_plan.specs.Giving.{IsAnswer}
+use Rattle.fo_plan.specs.Underway.{IsRight}
 use Rattle.fo_plan.proofs.Adding.{AddedBefore}
 use Rattle.fo_plan.proofs.giving.+giving.Given as goal
 
@@ -20,7 +21,10 @@ decreases-add_tested l = 4 * length l.rest.now + 1
 
 -- what the blocks so far give has come
 abbrev pub invariant-add_blocks-loop-block : goal.invariant-add_blocks-loop-block
-invariant-add_blocks-loop-block l = AddedBefore l.blocks (IsAnswer l.setting.query.now (placed l.taken)) (λ row y. RowHolds l.setting.query.now (stored l.setting.db.now) row (placed l.taken) l.atom l.rest y) l.place l.fn.found.items l.found.items l.any
+invariant-add_blocks-loop-block l = record {
+  added : AddedBefore l.blocks (IsAnswer l.course.setting.query.now (placed l.taken)) (λ row y. RowHolds l.course.setting.query.now (stored l.course.setting.db.now) row (placed l.taken) l.atom l.rest y) l.place l.fn.found.items l.found.items;
+  right : IsRight l.course l.memo;
+}
 
 abbrev pub decreases-add_blocks-loop-block : goal.decreases-add_blocks-loop-block
 decreases-add_blocks-loop-block l = length l.blocks.rows.now - l.place

@@ -1,16 +1,18 @@
-use Rattle.std.proofs.Common.{arith}
+use Rattle.std.proofs.Common.{rules}
 use Rattle.cqa_model.specs.Database.{stored}
 use Rattle.fo_plan.specs.Taking.{placed}
-use Rattle.fo_plan.specs.Holding.{RowHolds}
-use Rattle.fo_plan.proofs.Gathered.{keep-more, keep-end}
+use Rattle.fo_plan.specs.Holding.{AllHold}
+use Rattle.fo_plan.proofs.Gathered.{kept-on, kept-ends, no-rows}
 use Rattle.fo_plan.proofs.giving.keep_all.Goals as goal
 
-pub loop-z-preserved : goal.loop-z-preserved
-loop-z-preserved c =
-    keep-more (λ row y. RowHolds c.args.setting.now.query.now (stored c.args.setting.now.db.now) row (placed c.args.taken.now) c.args.atom c.args.rest.now y) c.args.found.now.items c.loop-z.found.items c.args.block.now c.loop-z.z-index c.loop-z.invariant
-    c.keep_holding.new.found.items c.z-item.result c.loop-z-test.true c.z-item.is c.keep_holding.ensures
+pub loop-row-preserved : goal.loop-row-preserved
+loop-row-preserved c = record {
+  kept = kept-on (λ r. AllHold c.args.course.now.setting.query.now (stored c.args.course.now.setting.db.now) r (placed c.args.taken.now) c.args.atom c.args.rest.now c.args.block.now)
+      c.args.part.now.items c.loop-row.part.items c.pop.new.self.items c.args.found.now.items c.loop-row.found.items c.keep_one.new.found.items c.in-Some.row c.loop-row.invariant.kept c.in-Some.ensures.items c.in_ok-keep_one.ensures.added;
+  right = c.keep_one.ensures.memo;
+}
 
-pub returns : goal.returns
-returns c =
-    keep-end (λ row y. RowHolds c.args.setting.now.query.now (stored c.args.setting.now.db.now) row (placed c.args.taken.now) c.args.atom c.args.rest.now y) c.args.found.now.items c.loop-z.found.items c.args.block.now c.loop-z.z-index c.loop-z.invariant
-    (omega (arith, c.loop-z-test.false, c.loop-z.auto.z-index-end))
+pub returns-clause-added : goal.returns-clause-added
+returns-clause-added c =
+    kept-ends (λ r. AllHold c.args.course.now.setting.query.now (stored c.args.course.now.setting.db.now) r (placed c.args.taken.now) c.args.atom c.args.rest.now c.args.block.now)
+    c.args.part.now.items c.loop-row.part.items c.args.found.now.items c.loop-row.found.items c.loop-row.invariant.kept (no-rows c.loop-row.part.items (search rules))

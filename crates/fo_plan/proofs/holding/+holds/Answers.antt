@@ -1,5 +1,4 @@
-use Rattle.std.proofs.Common.{IsTrue, ◌↔◌, ◌≡◌, ◌∙◌, true, refl, subst, sym, arith, length, Some}
-use Rattle.std.specs.Option.{option_copied}
+use Rattle.std.proofs.Common.{IsTrue, ◌↔◌, ◌∙◌, ◌∷◌, refl, subst, sym, arith, Some}
 use Rattle.std.proofs.lemmas.Bool.{false≢true}
 use Rattle.cqa_model.specs.Database.{stored}
 use Rattle.cqa_model.specs.Query.{atom_key, rows_of}
@@ -7,61 +6,116 @@ use Rattle.cqa_model.specs.Plan.{PlanHolds}
 use Rattle.fo_plan.specs.Taking.{placed}
 use Rattle.fo_plan.specs.Knowing.{MayFit}
 use Rattle.fo_plan.specs.Holding.{RowHolds}
-use Rattle.fo_plan.proofs.Suiting.{atoms-more}
+use Rattle.fo_plan.specs.Underway.{IsUnderway, IsKey}
+use Rattle.fo_plan.proofs.Suiting.{suits-from}
 use Rattle.fo_plan.proofs.Passing.{found-in-table, next-some, none-starts, none-on, none-ends}
-use Rattle.fo_plan.proofs.PlanParts.{rest-shorter, rest-atoms, head-atom, plan-split}
+use Rattle.fo_plan.proofs.PlanParts.{rest-shorter, plan-split}
+use Rattle.fo_plan.proofs.Sharing.{first-atom, underway-more, still-right, keeps-right}
 use Rattle.fo_plan.proofs.holding.+holds.Goals as goal
+
+pub holds_with-remembered-requires : goal.holds_with-remembered-requires
+holds_with-remembered-requires t c =
+    let q = c.args.course.now.setting.query.now in
+    let plan = c.args.plan.now in
+    let l = c.in-len1-up.len_at_least in (
+      omega (arith, rest-shorter plan l, c.decreases),
+      (
+        subst (IsUnderway c.args.course.now (placed c.args.taken.now)) (plan-split plan l) c.requires.here,
+        (
+          still-right c.args.course.now c.args.memo.now c.key.new.self c.key.ensures.same c.requires.memo,
+          subst (λ p. IsKey q c.args.course.now.shared.now (placed c.args.taken.now) p c.args.row.now c.in-Some.key) (plan-split plan l) c.in-Some.ensures.key,
+        ),
+      ),
+    )
+
+pub holds_with-returns-in-Some-clause-holds : goal.holds_with-returns-in-Some-clause-holds
+holds_with-returns-in-Some-clause-holds t c =
+    subst (λ plan. IsTrue c.remembered.result ↔ PlanHolds c.args.course.now.setting.query.now (stored c.args.course.now.setting.db.now) c.args.row.now (placed c.args.taken.now) plan)
+    (sym (plan-split c.args.plan.now c.in-len1-up.len_at_least)) c.remembered.ensures.holds
 
 pub holds_with-some_block-requires : goal.holds_with-some_block-requires
 holds_with-some_block-requires t c =
-    let q = c.args.setting.now.query.now in
     let plan = c.args.plan.now in
-    let l = c.in-len1-up.len_at_least in
-    (omega (arith, rest-shorter plan l, c.decreases), (c.requires.over, (c.requires.taken, (rest-atoms q plan l c.requires.plan, head-atom q plan l c.requires.plan))))
+    let l = c.in-len1-up.len_at_least in (
+      omega (arith, rest-shorter plan l, c.decreases),
+      (
+        subst (IsUnderway c.args.course.now (placed c.args.taken.now)) (plan-split plan l) c.requires.here,
+        still-right c.args.course.now c.args.memo.now c.key.new.self c.key.ensures.same c.requires.memo,
+      ),
+    )
+
+pub holds_with-returns-in-None-clause-holds : goal.holds_with-returns-in-None-clause-holds
+holds_with-returns-in-None-clause-holds t c =
+    subst (λ plan. IsTrue c.some_block.result ↔ PlanHolds c.args.course.now.setting.query.now (stored c.args.course.now.setting.db.now) c.args.row.now (placed c.args.taken.now) plan)
+    (sym (plan-split c.args.plan.now c.in-len1-up.len_at_least)) c.some_block.ensures.holds
+
+pub remembered-returns-in-Some-clause-holds : goal.remembered-returns-in-Some-clause-holds
+remembered-returns-in-Some-clause-holds t c =
+    c.requires.memo c.args.key c.in-Some.held (sym c.told.ensures ∙ c.in-Some.is) (placed c.args.taken.now) (c.args.atom ∷ c.args.rest.now) c.args.row.now c.requires.here c.requires.key
+
+pub remembered-returns-clause-memo : goal.remembered-returns-clause-memo
+remembered-returns-clause-memo t c =
+    keeps-right c.args.course.now c.some_block-held.new.memo c.keep.new.self (placed c.args.taken.now) (c.args.atom ∷ c.args.rest.now) c.args.row.now c.args.key c.some_block-held.result
+    c.some_block-held.ensures.memo c.requires.here c.requires.key c.some_block-held.ensures.holds c.keep.ensures
+
+pub row_holds-fits-requires-clause-atom : goal.row_holds-fits-requires-clause-atom
+row_holds-fits-requires-clause-atom t c = first-atom c.args.course.now (placed c.args.taken.now) c.args.atom c.args.rest.now c.requires.here
 
 pub row_holds-holds_with-requires : goal.row_holds-holds_with-requires
-row_holds-holds_with-requires t c = (omega (arith, c.decreases), (c.requires.over, (atoms-more c.args.setting.now.query.now _ (placed c.args.taken.now) c.requires.atom c.requires.taken, c.requires.plan)))
+row_holds-holds_with-requires t c =
+    let q = c.args.course.now.setting.query.now in
+    let taken = placed c.args.taken.now in (
+      omega (arith, c.decreases),
+      (
+        underway-more c.args.course.now taken c.args.atom c.args.rest.now c.args.y.now c.requires.here (suits-from q taken c.args.atom c.args.y.now c.args.row.now (c.fits.ensures.0 c.if-not-fits.false)),
+        c.requires.memo,
+      ),
+    )
 
-pub some_block-returns-then-all_hold : goal.some_block-returns-then-all_hold
-some_block-returns-then-all_hold t c =
-    let q = c.args.setting.now.query.now in
-    let tables = stored c.args.setting.now.db.now in
+pub some_block-new-blocks-requires-clause-atom : goal.some_block-new-blocks-requires-clause-atom
+some_block-new-blocks-requires-clause-atom t c = first-atom c.args.course.now (placed c.args.taken.now) c.args.atom c.args.rest.now c.requires.here
+
+pub some_block-loop-block-init : goal.some_block-loop-block-init
+some_block-loop-block-init t c =
+    let q = c.args.course.now.setting.query.now in
+    let P = RowHolds q (stored c.args.course.now.setting.db.now) c.args.row.now (placed c.args.taken.now) c.args.atom c.args.rest.now in
+    record {
+      none = none-starts c.new-blocks.result P (λ y r. c.new-blocks.ensures.known y r.0) c.start-place.result c.start-place.ensures;
+      right = c.requires.memo;
+    }
+
+pub some_block-returns-then-all_hold-clause-holds : goal.some_block-returns-then-all_hold-clause-holds
+some_block-returns-then-all_hold-clause-holds t c =
+    let q = c.args.course.now.setting.query.now in
+    let tables = stored c.args.course.now.setting.db.now in
     let F = c.args.atom in
     let taken = placed c.args.taken.now in
     let P = RowHolds q tables c.args.row.now taken F c.args.rest.now in
     let s = c.new-blocks.result in (
       (λ e. (found-in-table s (atom_key q F) (rows_of q tables F) (MayFit q (Some c.args.row.now) taken F) c.new-blocks.ensures.key c.new-blocks.ensures.enough P (λ y r. r.0)).0
-          (next-some s P c.loop-block.place c.in-Some.next c.in-Some.block.now c.in-Some.ensures (c.all_hold.ensures.0 c.if-all_hold.true))),
+          (next-some s P c.loop-block.place c.in-Some.next c.in-Some.block.now c.in-Some.ensures (c.all_hold.ensures.holds.0 c.if-all_hold.true))),
       (λ h. refl),
     )
 
-pub some_block-loop-block-init : goal.some_block-loop-block-init
-some_block-loop-block-init t c =
-    let q = c.args.setting.now.query.now in
-    let P = RowHolds q (stored c.args.setting.now.db.now) c.args.row.now (placed c.args.taken.now) c.args.atom c.args.rest.now in
-    none-starts c.new-blocks.result P (λ y r. c.new-blocks.ensures.known y r.0) c.start-place.result c.start-place.ensures
-
 pub some_block-loop-block-preserved : goal.some_block-loop-block-preserved
 some_block-loop-block-preserved t c =
-    let q = c.args.setting.now.query.now in
-    let P = RowHolds q (stored c.args.setting.now.db.now) c.args.row.now (placed c.args.taken.now) c.args.atom c.args.rest.now in
-    none-on c.new-blocks.result P (λ y r. c.new-blocks.ensures.known y r.0) c.loop-block.place c.in-Some.next c.in-Some.block.now c.loop-block.invariant c.in-Some.ensures
-    (λ h. false≢true (sym c.if-all_hold.false ∙ c.all_hold.ensures.1 h))
+    let q = c.args.course.now.setting.query.now in
+    let P = RowHolds q (stored c.args.course.now.setting.db.now) c.args.row.now (placed c.args.taken.now) c.args.atom c.args.rest.now in
+    record {
+      none = none-on c.new-blocks.result P (λ y r. c.new-blocks.ensures.known y r.0) c.loop-block.place c.in-Some.next c.in-Some.block.now c.loop-block.invariant.none c.in-Some.ensures
+          (λ h. false≢true (sym c.if-all_hold.false ∙ c.all_hold.ensures.holds.1 h));
+      right = c.all_hold.ensures.memo;
+    }
 
-pub some_block-returns : goal.some_block-returns
-some_block-returns t c =
-    let q = c.args.setting.now.query.now in
-    let tables = stored c.args.setting.now.db.now in
+pub some_block-returns-clause-holds : goal.some_block-returns-clause-holds
+some_block-returns-clause-holds t c =
+    let q = c.args.course.now.setting.query.now in
+    let tables = stored c.args.course.now.setting.db.now in
     let F = c.args.atom in
     let taken = placed c.args.taken.now in
     let P = RowHolds q tables c.args.row.now taken F c.args.rest.now in
     let s = c.new-blocks.result in (
       (λ e. absurd (false≢true e)),
-      (λ h. absurd (none-ends s P (λ y r. c.new-blocks.ensures.known y r.0) c.loop-block.place c.loop-block.invariant c.in_default.ensures
+      (λ h. absurd (none-ends s P (λ y r. c.new-blocks.ensures.known y r.0) c.loop-block.place c.loop-block.invariant.none c.in_default.ensures
           ((found-in-table s (atom_key q F) (rows_of q tables F) (MayFit q (Some c.args.row.now) taken F) c.new-blocks.ensures.key c.new-blocks.ensures.enough P (λ y r. r.0)).1 h))),
     )
-
-pub holds_with-returns-in-len1-up : goal.holds_with-returns-in-len1-up
-holds_with-returns-in-len1-up t c =
-    subst (λ plan. IsTrue c.some_block.result ↔ PlanHolds c.args.setting.now.query.now (stored c.args.setting.now.db.now) c.args.row.now (placed c.args.taken.now) plan)
-    (sym (plan-split c.args.plan.now c.in-len1-up.len_at_least)) c.some_block.ensures

@@ -2,28 +2,38 @@ use Rattle.std.proofs.Common.{ℕ, ◌+◌, ◌-◌, ◌*◌, ◌<◌, [], lengt
 use Rattle.cqa_model.specs.Database.{stored}
 use Rattle.fo_plan.specs.Taking.{placed}
 use Rattle.fo_plan.specs.Holding.{RowHolds}
+use Rattle.fo_plan.specs.Underway.{IsRight}
 use Rattle.fo_plan.proofs.Passing.{NoneBefore}
 use Rattle.fo_plan.proofs.holding.+holds.Given as goal
 
 abbrev pub decreases-all_hold : goal.decreases-all_hold
-decreases-all_hold l = 4 * length l.rest.now + 2
+decreases-all_hold l = 5 * length l.rest.now + 2
 
 abbrev pub decreases-holds_with : goal.decreases-holds_with
-decreases-holds_with l = 4 * length l.plan.now
+decreases-holds_with l = 5 * length l.plan.now
+
+abbrev pub decreases-remembered : goal.decreases-remembered
+decreases-remembered l = 5 * length l.rest.now + 4
 
 abbrev pub decreases-row_holds : goal.decreases-row_holds
-decreases-row_holds l = 4 * length l.rest.now + 1
+decreases-row_holds l = 5 * length l.rest.now + 1
 
 abbrev pub decreases-some_block : goal.decreases-some_block
-decreases-some_block l = 4 * length l.rest.now + 3
+decreases-some_block l = 5 * length l.rest.now + 3
 
 -- the rows so far hold
 abbrev pub invariant-all_hold-loop-y : goal.invariant-all_hold-loop-y
-invariant-all_hold-loop-y l = (i : ℕ) → i < l.y-index → RowHolds l.setting.query.now (stored l.setting.db.now) l.row (placed l.taken) l.atom l.rest (get_or l.block i [])
+invariant-all_hold-loop-y l = record {
+  held : (i : ℕ) → i < l.y-index → RowHolds l.course.setting.query.now (stored l.course.setting.db.now) l.row (placed l.taken) l.atom l.rest (get_or l.block i []);
+  right : IsRight l.course l.memo;
+}
 
 -- none of the blocks so far holds
 abbrev pub invariant-some_block-loop-block : goal.invariant-some_block-loop-block
-invariant-some_block-loop-block l = NoneBefore l.blocks (RowHolds l.setting.query.now (stored l.setting.db.now) l.row (placed l.taken) l.atom l.rest) l.place
+invariant-some_block-loop-block l = record {
+  none : NoneBefore l.blocks (RowHolds l.course.setting.query.now (stored l.course.setting.db.now) l.row (placed l.taken) l.atom l.rest) l.place;
+  right : IsRight l.course l.memo;
+}
 
 abbrev pub decreases-some_block-loop-block : goal.decreases-some_block-loop-block
 decreases-some_block-loop-block l = length l.blocks.rows.now - l.place

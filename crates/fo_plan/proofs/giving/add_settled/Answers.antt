@@ -1,0 +1,25 @@
+use Rattle.std.proofs.Common.{◌∙◌, sym, ap, map}
+use Rattle.std.proofs.lemmas.Bool.{false≢true}
+use Rattle.cqa_model.specs.Database.{stored}
+use Rattle.fo_plan.specs.Taking.{placed, taken_value}
+use Rattle.fo_plan.specs.Giving.{Gives}
+use Rattle.fo_plan.proofs.Gathered.{add-answer, adds-none}
+use Rattle.fo_plan.proofs.Sharing.{settled-plan}
+use Rattle.fo_plan.proofs.giving.add_settled.Goals as goal
+
+pub returns-in_ok-push-clause-added : goal.returns-in_ok-push-clause-added
+returns-in_ok-push-clause-added c =
+    let q = c.args.course.now.setting.query.now in
+    let tables = stored c.args.course.now.setting.db.now in
+    let taken = placed c.args.taken.now in
+    add-answer q tables taken c.args.plan.now c.requires.here.agreed c.requires.all c.requires.settled
+    (λ row. settled-plan q tables c.new-none.result row taken c.args.plan.now c.requires.settled (c.holds_with-held.ensures.holds.0 c.if-held.true))
+    c.args.found.now.items c.push.new.self.items c.in_ok-answer_of.field-0 (c.in_ok-answer_of.ensures ∙ ap (λ columns. map (taken_value taken) columns) c.as_slice.ensures) c.in_ok-push.ensures.items
+
+pub returns-else-held-clause-added : goal.returns-else-held-clause-added
+returns-else-held-clause-added c =
+    let q = c.args.course.now.setting.query.now in
+    let tables = stored c.args.course.now.setting.db.now in
+    let taken = placed c.args.taken.now in
+    adds-none (Gives q tables taken c.args.plan.now) c.args.found.now.items
+    (λ row g. false≢true (sym c.if-held.false ∙ c.holds_with-held.ensures.holds.1 (settled-plan q tables row c.new-none.result taken c.args.plan.now c.requires.settled g.1)))
