@@ -1,0 +1,8 @@
+use Rattle.std.proofs.Common.{arith}
+use Rattle.std.proofs.lemmas.Grind.{common_steps}
+use Rattle.sql_text.specs.Texts.{answer_text}
+use Rattle.sql_text.proofs.texts.append_answer.Goals as goal
+
+pub returns : goal.returns
+unfolding answer_text
+returns c = grind (arith, common_steps)

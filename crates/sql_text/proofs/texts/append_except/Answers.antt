@@ -1,0 +1,8 @@
+use Rattle.std.proofs.Common.{arith}
+use Rattle.std.proofs.lemmas.Grind.{common_steps}
+use Rattle.sql_text.specs.Texts.{except_text}
+use Rattle.sql_text.proofs.texts.append_except.Goals as goal
+
+pub returns : goal.returns
+unfolding except_text
+returns c = grind (arith, common_steps)

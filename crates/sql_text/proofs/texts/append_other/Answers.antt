@@ -1,0 +1,7 @@
+use Rattle.sql_text.proofs.Steps.{on_ok, two-parts}
+use Rattle.sql_text.specs.Texts.{other_text}
+use Rattle.sql_text.proofs.texts.append_other.Goals as goal
+
+pub returns : goal.returns
+unfolding other_text
+returns c = on_ok c.append_select.result (λ e. two-parts _ _ _ _ _ c.in_ok-append.ensures e) c.append_select.ensures

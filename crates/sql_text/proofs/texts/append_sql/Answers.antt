@@ -1,0 +1,8 @@
+use Rattle.std.proofs.Common.{arith}
+use Rattle.std.proofs.lemmas.Grind.{common_steps}
+use Rattle.sql_text.specs.Texts.{sql_bytes}
+use Rattle.sql_text.proofs.texts.append_sql.Goals as goal
+
+pub returns : goal.returns
+unfolding sql_bytes
+returns c = grind (arith, common_steps)
