@@ -1,0 +1,4 @@
+pub mod Graph
+pub mod Edges
+pub mod Formulas
+pub mod Sifting

@@ -1,0 +1,182 @@
+//! The certain rows of a pair, all of them in a time linear in the witnesses of all possible rows, but for sorting them.
+//! A row with more witnesses than a formula takes is decided over the tables' rows, of which there are fewer.
+
+ghost use Rattle.std.specs.Prelude.{◌≡◌, ◌↔◌, ◌++◌, ◌∷◌, ◌⊎◌, [], IfOk, IsTrue, OnOk, length};
+ghost use Rattle.cqa_model.specs.Query.{FitsDatabase};
+ghost use Rattle.cqa_model.specs.Certain.{IsCertain, IsCertainAnswer};
+ghost use Rattle.row_cursor.specs.Spots.{ArePaths};
+ghost use Rattle.join_witness.specs.Listing.{AreAllNames, names_of};
+ghost use Rattle.repair_clauses.specs.Searching.{AreCandidates};
+ghost use Rattle.weak_pairs.specs.Pairs.{IsPair};
+ghost use Rattle.pair_formula.specs.Sifting.{Sifts, AreSifted};
+
+use crate::decide::is_unsatisfiable;
+use cqa_model::Query;
+use cqa_value::{Fail, Items, NoMemory, Row};
+use join_witness::{TooMany, Witness, candidates, row_paths, witnesses_by_paths};
+use pair_answers::decide;
+use repair_clauses::encode;
+use row_cursor::RowIndex;
+use std::alloc::Global;
+use table_blocks::Database;
+
+/// Whether a row is certain, by the rows of the tables.
+fn by_tables(alloc: Global, db: &Database, query: &Query, row: &Row) -> Result<bool, NoMemory>
+    requires pair { IsPair query.now }
+    requires fits { FitsDatabase query.now db.now }
+    requires long { length row.now ≡ length query.now.answer }
+    ensures { IfOk result (λ certain. IsTrue certain ↔ IsCertain db.now query.now row.now) }
+{
+    match decide(alloc, db, query, row)? {
+        None => Ok(true),
+        Some(_) => Ok(false),
+    }
+}
+
+/// Whether a row is certain, by its formula.
+fn by_formula(
+    alloc: Global,
+    db: &Database,
+    query: &Query,
+    _row: &Row,
+    witnesses: &[Witness],
+) -> Result<bool, NoMemory>
+    requires pair { IsPair query.now }
+    requires fits { FitsDatabase query.now db.now }
+    requires all { AreAllNames query.now db.now _row.now (names_of witnesses.now) }
+    ensures { IfOk result (λ certain. IsTrue certain ↔ IsCertain db.now query.now _row.now) }
+{
+    let formula = encode(alloc, db, query, witnesses)?;
+    let certain = is_unsatisfiable(alloc, &formula.cnf);
+    drop(formula);
+    Ok(certain?)
+}
+
+/// Whether a row is certain. Tables are looked up by indexes where there are some.
+fn is_certain<'a>(
+    alloc: Global,
+    db: &'a Database,
+    query: &'a Query,
+    row: &'a Row,
+    paths: &'a [Option<RowIndex<'a>>],
+) -> Result<bool, NoMemory>
+    requires pair { IsPair query.now }
+    requires fits { FitsDatabase query.now db.now }
+    requires long { length row.now ≡ length query.now.answer }
+    requires paths { ArePaths query.now db.now paths.now }
+    ensures { IfOk result (λ certain. IsTrue certain ↔ IsCertain db.now query.now row.now) }
+{
+    if query.answer.is_empty() {
+        return by_tables(alloc, db, query, row);
+    }
+    match witnesses_by_paths(alloc, db, query, row, paths) {
+        Ok(found) => {
+            let certain = by_formula(alloc, db, query, row, found.as_slice());
+            drop(found);
+            certain
+        }
+        Err(Fail::Refused(TooMany)) => by_tables(alloc, db, query, row),
+        Err(Fail::NoMemory) => Err(NoMemory),
+    }
+}
+
+/// Puts a row behind the certain ones if it is certain.
+fn sift(
+    alloc: Global,
+    db: &Database,
+    query: &Query,
+    paths: &[Option<RowIndex<'_>>],
+    row: Row,
+    answers: &mut Vec<Row>,
+) -> Result<(), NoMemory>
+    requires pair { IsPair query.now }
+    requires fits { FitsDatabase query.now db.now }
+    requires long { length row ≡ length query.now.answer }
+    requires paths { ArePaths query.now db.now paths.now }
+    ensures { OnOk result (Sifts db.now query.now row answers.old.items answers.new.items) }
+{
+    match is_certain(alloc, db, query, &row, paths) {
+        Ok(true) => {
+            answers.push(row)?;
+            Ok(())
+        }
+        Ok(false) => {
+            drop(row);
+            Ok(())
+        }
+        Err(fault) => {
+            drop(row);
+            Err(fault)
+        }
+    }
+}
+
+/// Gathers the certain ones of the possible rows.
+fn sift_all(
+    alloc: Global,
+    db: &Database,
+    query: &Query,
+    paths: &[Option<RowIndex<'_>>],
+    rows: Vec<Row>,
+    answers: &mut Vec<Row>,
+) -> Result<(), NoMemory>
+    requires pair { IsPair query.now }
+    requires fits { FitsDatabase query.now db.now }
+    requires paths { ArePaths query.now db.now paths.now }
+    requires rows { AreCandidates query.now db.now rows.items }
+    requires none { answers.old.items ≡ [] }
+    ensures { OnOk result (AreSifted db.now query.now rows.items answers.new.items) }
+{
+    for row in rows {
+        sift(alloc, db, query, paths, row, answers)?;
+    }
+    Ok(())
+}
+
+/// The same by indexes of the tables, which are made once for all rows.
+fn sift_rows(
+    alloc: Global,
+    db: &Database,
+    query: &Query,
+    rows: Vec<Row>,
+    answers: &mut Vec<Row>,
+) -> Result<(), NoMemory>
+    requires pair { IsPair query.now }
+    requires fits { FitsDatabase query.now db.now }
+    requires rows { AreCandidates query.now db.now rows.items }
+    requires none { answers.old.items ≡ [] }
+    ensures { OnOk result (AreSifted db.now query.now rows.items answers.new.items) }
+{
+    match row_paths(alloc, db, query) {
+        Ok(paths) => {
+            let sifted = sift_all(alloc, db, query, paths.as_slice(), rows, answers);
+            drop(paths);
+            sifted
+        }
+        Err(fault) => {
+            drop(rows);
+            Err(fault)
+        }
+    }
+}
+
+/// The certain rows of a pair, ascending and each once.
+///
+/// # Errors
+///
+/// `NoMemory` where memory is refused.
+pub fn certain_by_pairs(alloc: Global, db: &Database, query: &Query) -> Result<Items<Row>, NoMemory>
+    requires pair { IsPair query.now }
+    requires fits { FitsDatabase query.now db.now }
+    ensures { IfOk result (IsCertainAnswer db.now query.now) }
+{
+    let rows = candidates(alloc, db, query)?.into_vec();
+    let mut answers = Vec::new(alloc);
+    match sift_rows(alloc, db, query, rows, &mut answers) {
+        Ok(()) => Ok(Items::from_vec(answers)),
+        Err(fault) => {
+            drop(answers);
+            Err(fault)
+        }
+    }
+}

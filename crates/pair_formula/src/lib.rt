@@ -1,0 +1,13 @@
+//! The formula of a row of a pair, decided without a search.
+//! It is read as a graph of blocks and pairs, in a time linear in the formula.
+#![tactic(auto)]
+
+mod certain;
+mod decide;
+mod edges;
+mod ends;
+mod graph;
+mod reading;
+
+pub use certain::certain_by_pairs;
+pub use decide::is_unsatisfiable;
