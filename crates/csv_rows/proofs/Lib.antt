@@ -1,6 +1,6 @@
-mod Again
+pub mod Again
 mod Fields
-mod OneWay
+pub mod OneWay
 mod Quoting
 mod Records
 mod Rows

@@ -1,5 +1,6 @@
 -- A block reads in one way.
 use Rattle.std.proofs.Common.{◌≡◌, ◌++◌, ◌∷◌, ◌∙◌, ◌+◌, [], ℕ, suc, List, Some, None, length, refl, sym, ap, subst}
+use Rattle.std.proofs.lemmas.Option.{same_Some}
 use Rattle.std.specs.List.{AllZip}
 use Rattle.csv.specs.Machine.{Read, next_record}
 use Rattle.csv.specs.Reading.{Reached, default_config, strip_bom}
@@ -10,11 +11,8 @@ use Rattle.cqa_value.specs.declared.value.Value.{Value}
 use Rattle.cqa_value.specs.declared.value.Value.TheVariants.{Int, Text}
 use Rattle.csv_rows.specs.Blocks.{IsFieldOf, IsRecordOf, ReadsInOneWay}
 
-some_same : {A : Type 0} (x y : A) → Some x ≡ Some y → x ≡ y
-some_same x y e = cc e
-
 value_once : (kind : Kind) (field : List ℕ) (v w : Value) → IsFieldOf kind field v → IsFieldOf kind field w → v ≡ w
-value_once kind field (Int m) (Int n) a b = ap Int (some_same m n (sym a.1 ∙ b.1))
+value_once kind field (Int m) (Int n) a b = ap Int (same_Some m n (sym a.1 ∙ b.1))
 value_once kind field (Int m) (Text c) a b = cc (a.0, b.0)
 value_once kind field (Text c) (Int n) a b = cc (a.0, b.0)
 value_once kind field (Text c) (Text d) a b = ap Text (a.1 ∙ sym b.1)
@@ -51,7 +49,7 @@ rows_once kinds s s1 s2 xs y1 y2 (r ∷ rs) [] vs ws h n g m a b = absurd (no_re
 rows_once kinds s s1 s2 xs y1 y2 (r ∷ rs) (q ∷ qs) [] ws h n g m a b = absurd a
 rows_once kinds s s1 s2 xs y1 y2 (r ∷ rs) (q ∷ qs) (v ∷ vs) [] h n g m a b = absurd b
 rows_once kinds s s1 s2 xs y1 y2 (r ∷ rs) (q ∷ qs) (v ∷ vs) (w ∷ ws) h n g m a b =
-    let e = some_same h.0 g.0 (sym h.1 ∙ g.1) in
+    let e = same_Some h.0 g.0 (sym h.1 ∙ g.1) in
     let same : r ≡ q = h.2 ∙ ap (λ (p : Read). p.0) e ∙ sym g.2 in
     rw (record_once kinds r v w a.0 (subst (λ f. IsRecordOf kinds f w) (sym same) b.0), rows_once kinds h.0.1 s1 s2 h.0.2 y1 y2 rs qs vs ws h.3 n (follows qs s2 y2 h.0 g.0 e g.3) m a.1 b.1) refl
 
@@ -63,16 +61,16 @@ unfolding Reached
 bad_once kinds s s1 s2 xs y1 y2 [] [] bad worse vs ws h g a b deny refuse = refl
 bad_once kinds s s1 s2 xs y1 y2 [] (q ∷ qs) bad worse vs [] h g a b deny refuse = absurd b
 bad_once kinds s s1 s2 xs y1 y2 [] (q ∷ qs) bad worse vs (w ∷ ws) h g a b deny refuse =
-    let e = some_same h.0 g.0 (sym h.1 ∙ g.1) in
+    let e = same_Some h.0 g.0 (sym h.1 ∙ g.1) in
     absurd (deny w (subst (λ f. IsRecordOf kinds f w) (g.2 ∙ sym (ap (λ (p : Read). p.0) e) ∙ sym h.2) b.0))
 bad_once kinds s s1 s2 xs y1 y2 (r ∷ rs) [] bad worse [] ws h g a b deny refuse = absurd a
 bad_once kinds s s1 s2 xs y1 y2 (r ∷ rs) [] bad worse (v ∷ vs) ws h g a b deny refuse =
-    let e = some_same h.0 g.0 (sym h.1 ∙ g.1) in
+    let e = same_Some h.0 g.0 (sym h.1 ∙ g.1) in
     absurd (refuse v (subst (λ f. IsRecordOf kinds f v) (h.2 ∙ ap (λ (p : Read). p.0) e ∙ sym g.2) a.0))
 bad_once kinds s s1 s2 xs y1 y2 (r ∷ rs) (q ∷ qs) bad worse [] ws h g a b deny refuse = absurd a
 bad_once kinds s s1 s2 xs y1 y2 (r ∷ rs) (q ∷ qs) bad worse (v ∷ vs) [] h g a b deny refuse = absurd b
 bad_once kinds s s1 s2 xs y1 y2 (r ∷ rs) (q ∷ qs) bad worse (v ∷ vs) (w ∷ ws) h g a b deny refuse =
-    let e = some_same h.0 g.0 (sym h.1 ∙ g.1) in
+    let e = same_Some h.0 g.0 (sym h.1 ∙ g.1) in
     ap suc (bad_once kinds h.0.1 s1 s2 h.0.2 y1 y2 rs qs bad worse vs ws h.3 (follows (qs ++ worse ∷ []) s2 y2 h.0 g.0 e g.3) a.1 b.1 deny refuse)
 
 rows_or_bad : (kinds : List Kind) (s s1 s2 : State) (xs y1 y2 : List ℕ) (rs qs : List (List (List ℕ))) (bad : List (List ℕ)) (rows others : List (List Value))
@@ -83,11 +81,11 @@ rows_or_bad kinds s s1 s2 xs y1 y2 [] [] bad vs ws h n g a b deny = no_record s 
 rows_or_bad kinds s s1 s2 xs y1 y2 [] (q ∷ qs) bad vs ws h n g a b deny = no_record s s1 xs y1 g.0 h n g.1
 rows_or_bad kinds s s1 s2 xs y1 y2 (r ∷ rs) qs bad [] ws h n g a b deny = absurd a
 rows_or_bad kinds s s1 s2 xs y1 y2 (r ∷ rs) [] bad (v ∷ vs) ws h n g a b deny =
-    let e = some_same h.0 g.0 (sym h.1 ∙ g.1) in
+    let e = same_Some h.0 g.0 (sym h.1 ∙ g.1) in
     deny v (subst (λ f. IsRecordOf kinds f v) (h.2 ∙ ap (λ (p : Read). p.0) e ∙ sym g.2) a.0)
 rows_or_bad kinds s s1 s2 xs y1 y2 (r ∷ rs) (q ∷ qs) bad (v ∷ vs) [] h n g a b deny = absurd b
 rows_or_bad kinds s s1 s2 xs y1 y2 (r ∷ rs) (q ∷ qs) bad (v ∷ vs) (w ∷ ws) h n g a b deny =
-    let e = some_same h.0 g.0 (sym h.1 ∙ g.1) in
+    let e = same_Some h.0 g.0 (sym h.1 ∙ g.1) in
     rows_or_bad kinds h.0.1 s1 s2 h.0.2 y1 y2 rs qs bad vs ws h.3 n (follows (qs ++ bad ∷ []) s2 y2 h.0 g.0 e g.3) a.1 b.1 deny
 
 pub in_one_way : ReadsInOneWay

@@ -1,12 +1,10 @@
 -- A record and the row of its fields' values.
 use Rattle.std.proofs.Common.{◌≡◌, ◌++◌, ◌∷◌, ◌<◌, [], ℕ, zero, suc, List, Some, None, refl, sym, ap, subst, length, take, slice_index_or, arith}
+use Rattle.std.proofs.lemmas.Option.{same_Some}
 use Rattle.csv.specs.Records.{field_at}
 use Rattle.cqa_value.specs.declared.value.Value.{Value}
 use Rattle.cqa_model.specs.declared.schema.Column.{Column}
 use Rattle.csv_rows.specs.Blocks.{IsFieldOf, IsRecordOf, kinds}
-
-some_same : {A : Type 0} (x y : A) → Some x ≡ Some y → x ≡ y
-some_same x y e = cc e
 
 -- a record has a field for each column
 pub field_count : (columns : List Column) (fields : List (List ℕ)) (row : List Value) → IsRecordOf (kinds columns) fields row → length fields ≡ length columns
@@ -24,7 +22,7 @@ unfolding field_at
 field_value [] fields row i column d field h l e f = absurd (omega (arith, l))
 field_value (c ∷ cs) [] row i column d field h l e f = absurd h
 field_value (c ∷ cs) (f ∷ fs) [] i column d field h l e g = absurd h
-field_value (c ∷ cs) (f ∷ fs) (v ∷ vs) zero column d field h l e g = (v, subst (λ x. IsFieldOf x.kind field v) e (subst (λ x. IsFieldOf c.kind x v) (some_same f field g) h.0))
+field_value (c ∷ cs) (f ∷ fs) (v ∷ vs) zero column d field h l e g = (v, subst (λ x. IsFieldOf x.kind field v) e (subst (λ x. IsFieldOf c.kind x v) (same_Some f field g) h.0))
 field_value (c ∷ cs) (f ∷ fs) (v ∷ vs) (suc i) column d field h l e g = field_value cs fs vs i column d field h.1 (omega (arith, l)) e g
 
 -- a field is there at each place before the end
@@ -47,6 +45,6 @@ record_more [] fields values i column d field value l e g is h = absurd (omega (
 record_more (c ∷ cs) [] values zero column d field value l e g is h = absurd (cc g)
 record_more (c ∷ cs) [] values (suc i) column d field value l e g is h = absurd h
 record_more (c ∷ cs) (f ∷ fs) values zero column d field value l e g is h =
-    rw (none_yet values h) (subst (λ x. IsFieldOf x.kind f value) (sym e) (subst (λ x. IsFieldOf column.kind x value) (sym (some_same f field g)) is), tt)
+    rw (none_yet values h) (subst (λ x. IsFieldOf x.kind f value) (sym e) (subst (λ x. IsFieldOf column.kind x value) (sym (same_Some f field g)) is), tt)
 record_more (c ∷ cs) (f ∷ fs) [] (suc i) column d field value l e g is h = absurd h
 record_more (c ∷ cs) (f ∷ fs) (v ∷ vs) (suc i) column d field value l e g is h = (h.0, record_more cs fs vs i column d field value (omega (arith, l)) e g is h.1)

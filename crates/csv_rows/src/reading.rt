@@ -26,11 +26,12 @@ fn next_record(reader: &mut Reader<&[u8]>, fields: &mut ByteRecord) -> Result<bo
     }
 }
 
-/// Reads all records of a reader that has read none yet, and appends the row of each.
+/// Reads all records of a reader that has read none yet, one after another into the same record, and appends the row of each.
 fn read_into(
     alloc: Global,
     columns: &[Column],
     reader: &mut Reader<&[u8]>,
+    record: &mut ByteRecord,
     rows: &mut Items<Row>,
 ) -> Result<(), Fail<Refusal>>
     requires few { length columns.now ≤ 16 }
@@ -40,12 +41,11 @@ fn read_into(
     ensures refused { IfErr result (λ fault. IsRefusedRecord (kinds columns.now) (reader_source reader.old).now fault) }
     ensures few_rows { OnOk result (length rows.new < 2 ^ 32) }
 {
-    let mut record = ByteRecord::new(alloc);
     for number in 1..=u32::MAX {
-        if !next_record(reader, &mut record)? {
+        if !next_record(reader, record)? {
             return Ok(());
         }
-        match row_of(alloc, columns, &record)? {
+        match row_of(alloc, columns, record)? {
             Some(row) => rows.push(row)?,
             None => return Err(Fail::Refused(Refusal::BadCsv { number })),
         }
@@ -69,8 +69,11 @@ pub fn read_rows(alloc: Global, schema: &Schema, block: &[u8]) -> Result<Items<R
         .has_headers(false)
         .flexible(true)
         .from_reader(alloc, block);
+    let mut record = ByteRecord::new(alloc);
     let mut rows = Items::new(alloc);
-    let read = read_into(alloc, schema.columns.as_slice(), &mut reader, &mut rows);
+    let columns = schema.columns.as_slice();
+    let read = read_into(alloc, columns, &mut reader, &mut record, &mut rows);
+    drop(record);
     drop(reader);
     match read {
         Ok(()) => Ok(rows),

@@ -13,6 +13,7 @@ use Rattle.cqa_model.specs.Repairs.{SharesKey}
 use Rattle.cqa_model.proofs.BlockOrder.{grouped, sorted-less, shares-from_key, key-from_shares, block_total}
 use Rattle.cqa_model.proofs.Repairs.{shares-sym, shares-trans}
 use Rattle.repair_back.specs.Results.{is_of_block, is_contested}
+use Rattle.repair_back.proofs.Numbers.{cases_order}
 
 both-true : (a b : Bool) → (a && b) ≡ true → (a ≡ true) × (b ≡ true)
 both-true true true e = (refl, refl)
@@ -55,9 +56,6 @@ same-bool true false f g = sym (f refl)
 same-bool false true f g = g refl
 same-bool false false f g = refl
 
-cases_lt : (x y : ℕ) → (x < y) ⊎ ((x ≡ y) ⊎ (y < x))
-cases_lt x y = grind arith
-
 turned : (o : Ordering) → o ≡ ordering_reverse o → o ≡ Less → ⊥
 turned Less e l = cc
 turned Equal e l = cc
@@ -89,7 +87,7 @@ module _ (key : List ℕ) (rows : List (List Value)) (order : IsStrictlySortedBy
     where
       go : ((i : ℕ) × (i < length rows) × ((is_of_block key x (get_or rows i []) && not (row_eq x (get_or rows i []))) ≡ true)) →
           ((place + 1 < length rows) × SharesKey key x (get_or rows (place + 1) [])) ⊎ ((0 < place) × SharesKey key x (get_or rows (place - 1) []))
-      go (i, l, e) = side (cases_lt i place)
+      go (i, l, e) = side (cases_order i place)
         where
           b : (is_of_block key x (get_or rows i []) ≡ true) × (not (row_eq x (get_or rows i [])) ≡ true)
           b = both-true (is_of_block key x (get_or rows i [])) (not (row_eq x (get_or rows i []))) e

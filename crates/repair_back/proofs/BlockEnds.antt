@@ -9,6 +9,7 @@ use Rattle.cqa_model.specs.Repairs.{SharesKey}
 use Rattle.cqa_model.proofs.BlockOrder.{grouped}
 use Rattle.cqa_model.proofs.Repairs.{shares-sym, shares-trans}
 use Rattle.repair_back.specs.Walking.{Begins, IsBlock}
+use Rattle.repair_back.proofs.Numbers.{cases_le}
 
 pub goes : (key : List ℕ) (rows : List (List Value)) (at other : ℕ) (a b : List Value) (t : Bool) → at < length rows → other < length rows → a ≡ get_or rows at a → b ≡ get_or rows other b →
     IsTrue t ↔ SharesKey key a b → IsTrue t ↔ ((other < length rows) × SharesKey key (get_or rows at []) (get_or rows other []))
@@ -17,9 +18,6 @@ goes key rows at other a b t some l ra rb same =
     let eb : b ≡ get_or rows other [] = rb ∙ get_or_default rows other b [] l in
     let there : IsTrue t ↔ SharesKey key (get_or rows at []) (get_or rows other []) = subst (λ y. IsTrue t ↔ SharesKey key (get_or rows at []) y) eb (subst (λ x. IsTrue t ↔ SharesKey key x b) ea same) in
     (λ h. (l, there.0 h), λ on. there.1 on.1)
-
-cases_le : (x y : ℕ) → (x ≤ y) ⊎ (y < x)
-cases_le x y = grind arith
 
 module _ (key : List ℕ) (rows : List (List Value)) (order : IsStrictlySortedBy (block_cmp key) rows) (at end : ℕ) (within : end ≤ length rows) (above : at < end)
     (alike : (i : ℕ) → at ≤ i → i < end → SharesKey key (get_or rows at []) (get_or rows i [])) (stop : end < length rows → SharesKey key (get_or rows at []) (get_or rows end []) → ⊥) where

@@ -1,3 +1,4 @@
+mod Numbers
 mod Choosing
 mod Keeping
 mod Stepping

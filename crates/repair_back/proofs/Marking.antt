@@ -6,6 +6,7 @@ use Rattle.std.proofs.lemmas.Option.{slice_get_within, get_or_from_slice_get}
 use Rattle.cqa_model.specs.declared.query.RowId.{RowId}
 use Rattle.repair_back.specs.Flags.{IsFlagged}
 use Rattle.repair_back.specs.Results.{IsListed}
+use Rattle.repair_back.proofs.Numbers.{cases_next}
 
 -- one of the first names
 abbrev IsListedTo : ℕ → List RowId → List Bool → RowId → Type 0
@@ -28,9 +29,6 @@ marked-none old listed model = record {
   is = λ t p l. ((λ f. inl f), (λ f. elim f [ inl g ↦ g | inr (k, lk, e, g) ↦ absurd (omega (arith, lk)) ]));
 }
 
-cases_lt : (k at : ℕ) → k < at + 1 → (k < at) ⊎ (k ≡ at)
-cases_lt k at l = grind (arith, l)
-
 module _ (old flags : List (List Bool)) (listed : List RowId) (model : List Bool) (at : ℕ) (h : MarkedTo old flags listed model at) where
   pub marked-same : (d : Bool) → at < length model → get_or model at d ≡ false → MarkedTo old flags listed model (at + 1)
   marked-same d l e = record {
@@ -38,7 +36,7 @@ module _ (old flags : List (List Bool)) (listed : List RowId) (model : List Bool
     long = h.long;
     is = λ t p lp. (
       (λ f. elim ((h.is t p lp).0 f) [ inl g ↦ inl g | inr (k, lk, n, m) ↦ inr (k, (let z : k < at + 1 = omega (arith, lk) in z), n, m) ]),
-      (λ f. elim f [ inl g ↦ (h.is t p lp).1 (inl g) | inr (k, lk, n, m) ↦ (h.is t p lp).1 (inr (k, before k (cases_lt k at lk) m, n, m)) ]),
+      (λ f. elim f [ inl g ↦ (h.is t p lp).1 (inl g) | inr (k, lk, n, m) ↦ (h.is t p lp).1 (inr (k, before k (cases_next k at lk) m, n, m)) ]),
     );
   }
     where
@@ -87,7 +85,7 @@ module _ (old flags : List (List Bool)) (listed : List RowId) (model : List Bool
         ]),
         (λ m. subst (λ fs. IsFlagged fs p) (sym here) (elim m [
           | inl o ↦ (is_f p).1 (inl (subst (λ fs. IsFlagged fs p) (sym old_here) ((h.is name.table p lp).1 (inl o))))
-          | inr (k, lk, n, j) ↦ from k n j (cases_lt k at lk)
+          | inr (k, lk, n, j) ↦ from k n j (cases_next k at lk)
         ])),
       )
         where
@@ -101,7 +99,7 @@ module _ (old flags : List (List Bool)) (listed : List RowId) (model : List Bool
       marks : (t p : ℕ) → p < length (get_or old t []) → Dec (t ≡ name.table) → IsFlagged (get_or (set flags name.table f) t []) p ↔ (IsFlagged (get_or old t []) p ⊎ IsListedTo (at + 1) listed model (record { table = t; place = p }))
       marks t p lp (no ne) = (
         (λ m. elim ((h.is t p lp).0 (subst (λ fs. IsFlagged fs p) (other t ne) m)) [ inl o ↦ inl o | inr o ↦ inr (wider (record { table = t; place = p }) o) ]),
-        (λ m. subst (λ fs. IsFlagged fs p) (sym (other t ne)) (elim m [ inl o ↦ (h.is t p lp).1 (inl o) | inr (k, lk, n, j) ↦ (h.is t p lp).1 (inr (k, before k (cases_lt k at lk) n, n, j)) ])),
+        (λ m. subst (λ fs. IsFlagged fs p) (sym (other t ne)) (elim m [ inl o ↦ (h.is t p lp).1 (inl o) | inr (k, lk, n, j) ↦ (h.is t p lp).1 (inr (k, before k (cases_next k at lk) n, n, j)) ])),
       )
         where
           before : (k : ℕ) → (k < at) ⊎ (k ≡ at) → slice_get listed k ≡ Some (record { table = t; place = p }) → k < at

@@ -23,13 +23,16 @@ use Rattle.repair_back.specs.Walking.{Begins, IsBlock, MayFit}
 use Rattle.repair_back.proofs.Choosing.{flag-there, kept_of-into, kept_of-out, exchanged-choice, exchanged-here}
 use Rattle.repair_back.proofs.Keeping.{kept-atom}
 use Rattle.repair_back.proofs.Stepping.{reached-lacks, reached-joined, reached-self, reached-step, held-witness}
-
-cases_le : (x y : ℕ) → (x ≤ y) ⊎ (y < x)
-cases_le x y = grind arith
+use Rattle.repair_back.proofs.Numbers.{cases_le, cases_next}
 
 -- a place of a row
 pub place-of : (rows : List (List Value)) (x : List Value) → Contains rows x → (i : ℕ) × (i < length rows) × (get_or rows i [] ≡ x)
 place-of rows x m = (m.0, m.1, get_or_default rows m.0 [] x m.1 ∙ m.2)
+
+-- what holds of the rows before a place, and of the row there, holds of the rows up to it
+held_on : (rows : List (List Value)) (P : List Value → Type 0) (start next : ℕ) → ((i : ℕ) → start ≤ i → i < next → P (get_or rows i [])) → P (get_or rows next [])
+    → (i : ℕ) → start ≤ i → i < next + 1 → P (get_or rows i [])
+held_on rows P start next before at i l b = elim (cases_next i next b) [ inl k ↦ before i l k | inr e ↦ subst (λ j. P (get_or rows j [])) (sym e) at ]
 
 module _ (q : Query) (db : List Table) (row : List Value) (taken : List Placed) (F : ℕ) where
   -- rows of one block lack a key together
@@ -236,12 +239,8 @@ module _ (q : Query) (db : List Table) (fits : FitsDatabase q db) (row : List Va
       before = nb;
       is_kept = subst (λ f. IsFlagged f next) (sym same) ((is_new next).1 (inl refl));
       holds = holds;
-      held = λ i l b. held-more i l b (cases_le next i);
+      held = held_on rows (RowHolds db q row taken F plan) start next h.held holds;
     }
-      where
-        held-more : (i : ℕ) → start ≤ i → i < next + 1 → (next ≤ i) ⊎ (i < next) → RowHolds db q row taken F plan (get_or rows i [])
-        held-more i l b (inr k) = h.held i l k
-        held-more i l b (inl k) = subst (λ j. RowHolds db q row taken F plan (get_or rows j [])) (let e : next ≡ i = omega (arith, k, b) in e) holds
 
 -- what is read of rows
 pub row-read : (rows : List (List Value)) (i : ℕ) (x : List Value) → i < length rows → x ≡ get_or rows i x → x ≡ get_or rows i []
@@ -258,12 +257,8 @@ module _ (q : Query) (db : List Table) (row : List Value) (taken : List Placed) 
     before = h.before;
     is_kept = h.is_kept;
     holds = h.holds;
-    held = λ i l b. held-more i l b (cases_le next i);
+    held = held_on rows (RowHolds db q row taken F plan) start next h.held holds;
   }
-    where
-      held-more : (i : ℕ) → start ≤ i → i < next + 1 → (next ≤ i) ⊎ (i < next) → RowHolds db q row taken F plan (get_or rows i [])
-      held-more i l b (inr k) = h.held i l k
-      held-more i l b (inl k) = subst (λ j. RowHolds db q row taken F plan (get_or rows j [])) (let e : next ≡ i = omega (arith, k, b) in e) holds
 
   -- a block lacks its key where one of its rows does
   pub block-lacks : (flags : List (List Bool)) (rows : List (List Value)) (start end p : ℕ) → IsBlock (atom_key q F) rows start end → start ≤ p → p < end →

@@ -8,6 +8,7 @@ use Rattle.repair_back.specs.Flags.{IsFlagged, IsChoice}
 use Rattle.repair_back.specs.Results.{IsPick}
 use Rattle.repair_back.specs.Walking.{Begins, IsBlock}
 use Rattle.repair_back.proofs.Choosing.{flag-there}
+use Rattle.repair_back.proofs.Numbers.{cases_le, cases_order}
 
 -- two picks of one block are one
 pick_apart : (key : List ℕ) (rows : List (List Value)) (P : ℕ → Type 0) (p r : ℕ) → IsPick key rows P p → IsPick key rows P r → SharesKey key (get_or rows p []) (get_or rows r []) → p < r → ⊥
@@ -15,14 +16,8 @@ pick_apart key rows P p r hp hr s l =
     let f = hr.first p l (shares-sym key (get_or rows p []) (get_or rows r []) s) in
     f.1 (hp.best r hr.there s f.0)
 
-cases_lt : (x y : ℕ) → (x < y) ⊎ ((x ≡ y) ⊎ (y < x))
-cases_lt x y = grind arith
-
-cases_le : (x y : ℕ) → (x ≤ y) ⊎ (y < x)
-cases_le x y = grind arith
-
 pub one_of_picks : (key : List ℕ) (rows : List (List Value)) (P : ℕ → Type 0) (p r : ℕ) → IsPick key rows P p → IsPick key rows P r → SharesKey key (get_or rows p []) (get_or rows r []) → p ≡ r
-one_of_picks key rows P p r hp hr s = elim (cases_lt p r) [
+one_of_picks key rows P p r hp hr s = elim (cases_order p r) [
   | inl l ↦ absurd (pick_apart key rows P p r hp hr s l)
   | inr e ↦ elim e [ inl q ↦ q | inr l ↦ absurd (pick_apart key rows P r p hr hp (shares-sym key (get_or rows p []) (get_or rows r []) s) l) ]
 ]

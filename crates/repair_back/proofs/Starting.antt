@@ -6,6 +6,7 @@ use Rattle.cqa_model.specs.Database.{Table, stored}
 use Rattle.cqa_model.specs.Query.{atom_at, atom_key, rows_of, FitsDatabase}
 use Rattle.repair_back.specs.Flags.{IsFlagged, IsChoice, flags_of, AreLong, AreBlank, AreChosen}
 use Rattle.repair_back.specs.Results.{IsPick}
+use Rattle.repair_back.proofs.Numbers.{cases_next}
 
 -- the tables before one have flags
 pub record BlankTo (q : Query) (db : List Table) (table : ℕ) (flags : List (List Bool)) : Type 0 where
@@ -80,16 +81,13 @@ all-none q db old long = record {
   later = λ F l t. refl;
 }
 
-cases_lt : (F at : ℕ) → F < at + 1 → (F < at) ⊎ (F ≡ at)
-cases_lt F at l = grind (arith, l)
-
 pub all-more : (q : Query) (db : List Table) (old flags : List (List Bool)) (at : ℕ) → at < length q.atoms → AllSettledTo q db old flags at → (f : List Bool) →
     (atom_at q at).table < length flags → IsChoice (atom_key q at) (rows_of q (stored db) at) f →
     ((p : ℕ) → IsFlagged f p → IsPick (atom_key q at) (rows_of q (stored db) at) (IsFlagged (flags_of q flags at)) p) → AllSettledTo q db old (set flags (atom_at q at).table f) (at + 1)
 all-more q db old flags at la h f lt choice picks = record {
   size = length-set flags (atom_at q at).table f ∙ h.size;
-  chosen = λ F l t. chosen F l (cases_lt F at t);
-  picks = λ F l t p m. picked F l (cases_lt F at t) p m;
+  chosen = λ F l t. chosen F l (cases_next F at t);
+  picks = λ F l t p m. picked F l (cases_next F at t) p m;
   later = λ F l t. other F l (λ e. omega (arith, t, e)) ∙ h.later F l (omega (arith, t));
 }
   where

@@ -4,12 +4,13 @@ use Rattle.std.proofs.lemmas.List.Elements.{All-contains, Contains-get_or}
 use Rattle.cqa_value.specs.declared.value.Value.{Value}
 use Rattle.cqa_value.specs.Values.{nothing}
 use Rattle.cqa_model.specs.declared.query.Query.{Query}
-use Rattle.cqa_model.specs.Database.{key_of}
+use Rattle.cqa_model.specs.Database.{Table, key_of, stored}
 use Rattle.cqa_model.specs.Repairs.{SharesKey}
-use Rattle.cqa_model.specs.Query.{atom_key}
+use Rattle.cqa_model.specs.Query.{atom_at, atom_key, rows_of, FitsDatabase}
 use Rattle.cqa_model.specs.Plan.{Placed, Fits}
 use Rattle.cqa_model.proofs.Classic.{mem-head, mem-tail}
 use Rattle.table_blocks.specs.Spans.{first_key, IsSpan}
+use Rattle.table_blocks.specs.Tables.{key_at, rows_at}
 use Rattle.repair_back.specs.Walking.{MayFit}
 
 -- rows of one key have the same first key values
@@ -32,6 +33,12 @@ at-front (x ∷ xs) ys (suc i) l = at-front xs ys i (omega (arith, l))
 at-back : (xs ys : List (List Value)) (i : ℕ) → get_or (xs ++ ys) (length xs + i) [] ≡ get_or ys i []
 at-back [] ys i = ap (λ k. get_or ys k []) (let e : 0 + i ≡ i = omega arith in e)
 at-back (x ∷ xs) ys i = ap (λ k. get_or (x ∷ xs ++ ys) k []) (let e : length (x ∷ xs) + i ≡ suc (length xs + i) = omega arith in e) ∙ at-back xs ys i
+
+-- the span of a table's rows is one of its atom's
+pub span-of : (q : Query) (db : List Table) → FitsDatabase q db → (F t : ℕ) → F < length q.atoms → t ≡ (atom_at q F).table → (values : List Value) (start : ℕ) (span : List (List Value)) →
+    IsSpan (key_at db t) (rows_at db t) values start span → IsSpan (atom_key q F) (rows_of q (stored db) F) values start span
+span-of q db fits F t l is values start span s =
+    subst (λ key. IsSpan key (rows_of q (stored db) F) values start span) (sym (fits.keyed F l)) (subst (λ n. IsSpan (key_at db n) (rows_at db n) values start span) is s)
 
 module _ (q : Query) (row : List Value) (taken : List Placed) (F : ℕ) (rows : List (List Value)) (values : List Value) (start : ℕ) (span : List (List Value))
     (s : IsSpan (atom_key q F) rows values start span) (told : (x : List Value) → Fits q row taken F x → first_key (atom_key q F) values x ≡ values) where

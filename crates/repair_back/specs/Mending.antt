@@ -5,8 +5,11 @@ use Rattle.cqa_model.specs.declared.query.Query.{Query}
 use Rattle.cqa_model.specs.Database.{Table, stored}
 use Rattle.cqa_model.specs.Repairs.{SharesKey}
 use Rattle.cqa_model.specs.Query.{atom_key, rows_of, row_at}
-use Rattle.cqa_model.specs.Plan.{Placed, Fits, PlanHolds}
-use Rattle.cqa_model.specs.Partial.{view_of, IsPartial}
+use Rattle.cqa_model.specs.Plan.{Placed, Fits, IsPlan, PlanHolds}
+use Rattle.cqa_model.specs.Variables.{after}
+use Rattle.cqa_model.specs.Partial.{view_of, AllFit, IsPartial}
+use Rattle.fo_plan.specs.declared.setting.Setting.{Setting}
+use Rattle.fo_plan.specs.Over.{IsPrepared}
 use Rattle.repair_back.specs.Flags.{kept_tables, flags_of, AreChosen}
 
 -- a witness with these rows taken whose other rows are flagged
@@ -44,3 +47,12 @@ IsReached db q row taken old new = (n : ℕ) × IsReachedIn db q row taken n old
 -- a row of F fits, and the rest of the plan holds once it is taken
 abbrev pub RowHolds : List Table → Query → List Value → List Placed → ℕ → List ℕ → List Value → Type 0
 RowHolds db q row taken F plan y = Fits q row taken F y × PlanHolds q (stored db) row (record { atom = F; row = y } ∷ taken) plan
+
+-- Some rows were taken, and an atom comes next, with the rest of a plan behind it.
+pub record IsNext (setting : Setting) (row : List Value) (taken : List Placed) (atom : ℕ) (rest : List ℕ) : Type 0 where
+  pub over : IsPrepared setting
+  pub long : length row ≡ length setting.query.now.answer
+  pub taken_fit : AllFit setting.query.now row taken
+  pub has : (view_of setting.query.now taken).has atom
+  pub plan : IsPlan setting.query.now (after setting.query.now (view_of setting.query.now taken) atom) rest
+  pub there : atom < length setting.query.now.atoms

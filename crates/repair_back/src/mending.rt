@@ -8,14 +8,13 @@ ghost use Rattle.std.specs.Prelude.{◌≡◌, ◌≢◌, ◌⊎◌, ℕ, ◌<�
 ghost use Rattle.cqa_model.specs.Database.{stored};
 ghost use Rattle.cqa_model.specs.Repairs.{SharesKey};
 ghost use Rattle.cqa_model.specs.Query.{atom_at, atom_key, rows_of, FitsDatabase};
-ghost use Rattle.cqa_model.specs.Variables.{after};
 ghost use Rattle.cqa_model.specs.Certain.{IsCertain};
 ghost use Rattle.cqa_model.specs.Plan.{PlanHolds, IsUnattacked, IsPlan, IsPlanOf};
 ghost use Rattle.cqa_model.specs.Partial.{view_of, AllFit};
 ghost use Rattle.fo_plan.specs.Taking.{placed, AreOfAtoms};
 ghost use Rattle.fo_plan.specs.Over.{IsPrepared};
 ghost use Rattle.repair_back.specs.Flags.{IsFlagged, kept_tables, flags_of, AreBlank, AreChosen};
-ghost use Rattle.repair_back.specs.Mending.{HasNone, Lacks, IsReached, RowHolds};
+ghost use Rattle.repair_back.specs.Mending.{HasNone, IsNext, Lacks, IsReached, RowHolds};
 ghost use Rattle.repair_back.specs.Results.{Rejects, AreStored};
 ghost use Rattle.repair_back.specs.Walking.{IsBlock, MayFit};
 
@@ -115,14 +114,9 @@ fn mend_blocks<'x>(
     rest: &[u32],
     kept: &mut [Choice],
 ) -> bool
-    requires over { IsPrepared setting.now }
-    requires long { length row.now ≡ length setting.now.query.now.answer }
-    requires taken { AllFit setting.now.query.now row.now (placed taken.now) }
-    requires has { (view_of setting.now.query.now (placed taken.now)).has atom }
+    requires next { IsNext setting.now row.now (placed taken.now) atom rest.now }
     requires free { IsUnattacked setting.now.query.now (view_of setting.now.query.now (placed taken.now)) atom }
-    requires plan { IsPlan setting.now.query.now (after setting.now.query.now (view_of setting.now.query.now (placed taken.now)) atom) rest.now }
     requires chosen { AreChosen setting.now.query.now setting.now.db.now kept.old }
-    requires atom { atom < length setting.now.query.now.atoms }
     ensures chosen { AreChosen setting.now.query.now setting.now.db.now kept.new }
     ensures reached { IsReached setting.now.db.now setting.now.query.now row.now (placed taken.now) kept.old kept.new }
     ensures mended { IsTrue result → HasNone setting.now.db.now setting.now.query.now row.now (placed taken.now) kept.new }
@@ -155,13 +149,8 @@ fn mend_block<'x>(
     end: usize,
     kept: &mut [Choice],
 ) -> bool
-    requires over { IsPrepared setting.now }
-    requires long { length row.now ≡ length setting.now.query.now.answer }
-    requires taken { AllFit setting.now.query.now row.now (placed taken.now) }
-    requires has { (view_of setting.now.query.now (placed taken.now)).has atom }
-    requires plan { IsPlan setting.now.query.now (after setting.now.query.now (view_of setting.now.query.now (placed taken.now)) atom) rest.now }
+    requires next { IsNext setting.now row.now (placed taken.now) atom rest.now }
     requires chosen { AreChosen setting.now.query.now setting.now.db.now kept.old }
-    requires atom { atom < length setting.now.query.now.atoms }
     requires rows { rows.now ≡ rows_of setting.now.query.now (stored setting.now.db.now) atom }
     requires block { IsBlock (atom_key setting.now.query.now atom) rows.now start end }
     ensures chosen { AreChosen setting.now.query.now setting.now.db.now kept.new }
@@ -198,13 +187,8 @@ fn row_mended<'x>(
     rest: &[u32],
     kept: &mut [Choice],
 ) -> bool
-    requires over { IsPrepared setting.now }
-    requires long { length row.now ≡ length setting.now.query.now.answer }
-    requires taken { AllFit setting.now.query.now row.now (placed taken.now) }
-    requires has { (view_of setting.now.query.now (placed taken.now)).has atom }
-    requires plan { IsPlan setting.now.query.now (after setting.now.query.now (view_of setting.now.query.now (placed taken.now)) atom) rest.now }
+    requires next { IsNext setting.now row.now (placed taken.now) atom rest.now }
     requires chosen { AreChosen setting.now.query.now setting.now.db.now kept.old }
-    requires atom { atom < length setting.now.query.now.atoms }
     requires kept { Contains (rows_of setting.now.query.now (kept_tables (stored setting.now.db.now) kept.old) atom) y.now }
     ensures chosen { AreChosen setting.now.query.now setting.now.db.now kept.new }
     ensures reached { IsReached setting.now.db.now setting.now.query.now row.now (placed taken.now) kept.old kept.new }

@@ -18,26 +18,11 @@ mend_block-row_mended-requires t c =
     let kb = k.before in (
       omega (arith, c.decreases),
       (
-        c.requires.over,
+        c.requires.next,
         (
-          c.requires.long,
-          (
-            c.requires.taken,
-            (
-              c.requires.has,
-              (
-                c.requires.plan,
-                (
-                  c.requires.chosen,
-                  (
-                    c.requires.atom,
-                    kept-read c.args.setting.now.query.now c.args.setting.now.db.now c.args.kept.now c.requires.chosen c.args.atom c.requires.atom c.args.rows.now c.requires.rows c.kept_of-first.result k.kept c.index-rows-first.result
-                        (row-read c.args.rows.now c.kept_of-first.result c.index-rows-first.result (omega (arith, kb, within)) c.index-rows-first.is),
-                  ),
-                ),
-              ),
-            ),
-          ),
+          c.requires.chosen,
+          kept-read c.args.setting.now.query.now c.args.setting.now.db.now c.args.kept.now c.requires.chosen c.args.atom c.requires.next.there c.args.rows.now c.requires.rows c.kept_of-first.result k.kept c.index-rows-first.result
+              (row-read c.args.rows.now c.kept_of-first.result c.index-rows-first.result (omega (arith, kb, within)) c.index-rows-first.is),
         ),
       ),
     )
@@ -67,31 +52,16 @@ mend_block-row_mended-requires-in-loop-next t c =
     let some = c.requires.block.some in
     let test = c.loop-next-test.true in
     let k = c.keep.ensures in
-    let turn = turned c.args.setting.now.query.now c.args.setting.now.db.now c.requires.over.fits c.args.row.now c.requires.long (placed c.args.taken.now) c.requires.taken c.args.atom c.requires.has c.args.rest.now c.requires.plan
+    let turn = turned c.args.setting.now.query.now c.args.setting.now.db.now c.requires.next.over.fits c.args.row.now c.requires.next.long (placed c.args.taken.now) c.requires.next.taken_fit c.args.atom c.requires.next.has c.args.rest.now c.requires.next.plan
     c.args.rows.now c.requires.rows c.args.start c.args.end c.requires.block c.args.kept.now c.loop-next.kept c.keep.new.kept c.loop-next.last c.loop-next.next c.loop-next.invariant c.loop-next.auto.next test
     c.keep.auto.kept k.size k.is k.others in (
       omega (arith, c.decreases),
       (
-        c.requires.over,
+        c.requires.next,
         (
-          c.requires.long,
-          (
-            c.requires.taken,
-            (
-              c.requires.has,
-              (
-                c.requires.plan,
-                (
-                  turn.chosen,
-                  (
-                    c.requires.atom,
-                    kept-read c.args.setting.now.query.now c.args.setting.now.db.now c.keep.new.kept turn.chosen c.args.atom c.requires.atom c.args.rows.now c.requires.rows c.loop-next.next ((k.is c.loop-next.next).1 (Rattle.std.proofs.Common.inl refl)) c.index-rows-next.result
-                        (row-read c.args.rows.now c.loop-next.next c.index-rows-next.result (omega (arith, test, within)) c.index-rows-next.is),
-                  ),
-                ),
-              ),
-            ),
-          ),
+          turn.chosen,
+          kept-read c.args.setting.now.query.now c.args.setting.now.db.now c.keep.new.kept turn.chosen c.args.atom c.requires.next.there c.args.rows.now c.requires.rows c.loop-next.next ((k.is c.loop-next.next).1 (Rattle.std.proofs.Common.inl refl)) c.index-rows-next.result
+              (row-read c.args.rows.now c.loop-next.next c.index-rows-next.result (omega (arith, test, within)) c.index-rows-next.is),
         ),
       ),
     )
@@ -99,10 +69,10 @@ mend_block-row_mended-requires-in-loop-next t c =
 pub mend_block-returns-then-row_mended-2-clause-reached : goal.mend_block-returns-then-row_mended-2-clause-reached
 mend_block-returns-then-row_mended-2-clause-reached t c =
     let k = c.keep.ensures in
-    let turn = turned c.args.setting.now.query.now c.args.setting.now.db.now c.requires.over.fits c.args.row.now c.requires.long (placed c.args.taken.now) c.requires.taken c.args.atom c.requires.has c.args.rest.now c.requires.plan
+    let turn = turned c.args.setting.now.query.now c.args.setting.now.db.now c.requires.next.over.fits c.args.row.now c.requires.next.long (placed c.args.taken.now) c.requires.next.taken_fit c.args.atom c.requires.next.has c.args.rest.now c.requires.next.plan
     c.args.rows.now c.requires.rows c.args.start c.args.end c.requires.block c.args.kept.now c.loop-next.kept c.keep.new.kept c.loop-next.last c.loop-next.next c.loop-next.invariant c.loop-next.auto.next c.loop-next-test.true
     c.keep.auto.kept k.size k.is k.others in
-    reached-joined c.args.setting.now.query.now c.args.setting.now.db.now c.requires.over.fits c.args.row.now c.requires.long (placed c.args.taken.now) c.args.kept.now c.keep.new.kept c.row_mended-in-loop-next.new.kept turn.reached c.row_mended-in-loop-next.ensures.reached
+    reached-joined c.args.setting.now.query.now c.args.setting.now.db.now c.requires.next.over.fits c.args.row.now c.requires.next.long (placed c.args.taken.now) c.args.kept.now c.keep.new.kept c.row_mended-in-loop-next.new.kept turn.reached c.row_mended-in-loop-next.ensures.reached
 
 pub mend_block-returns-then-row_mended-2-clause-lacks : goal.mend_block-returns-then-row_mended-2-clause-lacks
 mend_block-returns-then-row_mended-2-clause-lacks t c =
@@ -118,10 +88,10 @@ mend_block-loop-next-preserved t c =
     let test = c.loop-next-test.true in
     let k = c.keep.ensures in
     let m = c.row_mended-in-loop-next.ensures in
-    let turn = turned c.args.setting.now.query.now c.args.setting.now.db.now c.requires.over.fits c.args.row.now c.requires.long (placed c.args.taken.now) c.requires.taken c.args.atom c.requires.has c.args.rest.now c.requires.plan
+    let turn = turned c.args.setting.now.query.now c.args.setting.now.db.now c.requires.next.over.fits c.args.row.now c.requires.next.long (placed c.args.taken.now) c.requires.next.taken_fit c.args.atom c.requires.next.has c.args.rest.now c.requires.next.plan
     c.args.rows.now c.requires.rows c.args.start c.args.end c.requires.block c.args.kept.now c.loop-next.kept c.keep.new.kept c.loop-next.last c.loop-next.next c.loop-next.invariant c.loop-next.auto.next test
     c.keep.auto.kept k.size k.is k.others in
-    rows-turned c.args.setting.now.query.now c.args.setting.now.db.now c.requires.over.fits c.args.row.now c.requires.long (placed c.args.taken.now) c.requires.taken c.args.atom c.requires.has c.args.rest.now c.requires.plan
+    rows-turned c.args.setting.now.query.now c.args.setting.now.db.now c.requires.next.over.fits c.args.row.now c.requires.next.long (placed c.args.taken.now) c.requires.next.taken_fit c.args.atom c.requires.next.has c.args.rest.now c.requires.next.plan
     c.args.rows.now c.requires.rows c.args.start c.args.end c.requires.block c.args.kept.now c.loop-next.kept c.keep.new.kept c.row_mended-in-loop-next.new.kept c.loop-next.last c.loop-next.next c.loop-next.invariant turn c.loop-next.auto.next test
     k.is m.chosen m.reached m.same
     (subst (λ x. RowHolds c.args.setting.now.db.now c.args.setting.now.query.now c.args.row.now (placed c.args.taken.now) c.args.atom c.args.rest.now x)
@@ -129,18 +99,18 @@ mend_block-loop-next-preserved t c =
 
 pub mend_blocks-returns-then-not-mend_block-clause-reached : goal.mend_blocks-returns-then-not-mend_block-clause-reached
 mend_blocks-returns-then-not-mend_block-clause-reached t c =
-    reached-joined c.args.setting.now.query.now c.args.setting.now.db.now c.requires.over.fits c.args.row.now c.requires.long (placed c.args.taken.now) c.args.kept.now c.loop-at.kept c.mend_block.new.kept c.loop-at.invariant.reached c.mend_block.ensures.reached
+    reached-joined c.args.setting.now.query.now c.args.setting.now.db.now c.requires.next.over.fits c.args.row.now c.requires.next.long (placed c.args.taken.now) c.args.kept.now c.loop-at.kept c.mend_block.new.kept c.loop-at.invariant.reached c.mend_block.ensures.reached
 
 pub mend_blocks-returns-then-not-mend_block-clause-holds : goal.mend_blocks-returns-then-not-mend_block-clause-holds
 mend_blocks-returns-then-not-mend_block-clause-holds t c =
-    λ e. block-holds c.args.setting.now.query.now c.args.setting.now.db.now c.requires.over.fits c.args.row.now c.requires.long (placed c.args.taken.now) c.requires.taken c.args.atom c.requires.has c.args.rest.now c.rows-rows.result.now c.loop-at.at c.block_end-next.result
+    λ e. block-holds c.args.setting.now.query.now c.args.setting.now.db.now c.requires.next.over.fits c.args.row.now c.requires.next.long (placed c.args.taken.now) c.requires.next.taken_fit c.args.atom c.requires.next.has c.args.rest.now c.rows-rows.result.now c.loop-at.at c.block_end-next.result
     (c.rows-rows.ensures.is ∙ ap (λ n. get_or (stored c.args.setting.now.db.now) n []) c.table_of.ensures)
     (subst (λ key. IsBlock key c.rows-rows.result.now c.loop-at.at c.block_end-next.result) c.key_of-key.ensures c.block_end-next.ensures.block)
     (c.mend_block.ensures.holds c.if-not-mend_block.true)
 
 pub mend_blocks-loop-at-preserved : goal.mend_blocks-loop-at-preserved
 mend_blocks-loop-at-preserved t c =
-    blocks-more c.args.setting.now.query.now c.args.setting.now.db.now c.requires.over.fits c.args.row.now c.requires.long (placed c.args.taken.now) c.requires.taken c.args.atom c.requires.has c.requires.free c.args.kept.now c.loop-at.kept c.mend_block.new.kept
+    blocks-more c.args.setting.now.query.now c.args.setting.now.db.now c.requires.next.over.fits c.args.row.now c.requires.next.long (placed c.args.taken.now) c.requires.next.taken_fit c.args.atom c.requires.next.has c.requires.free c.args.kept.now c.loop-at.kept c.mend_block.new.kept
     c.rows-rows.result.now c.span_of-start.result.0 c.loop-at.at c.block_end-next.result c.loop-at.invariant
     (subst (λ key. IsBlock key c.rows-rows.result.now c.loop-at.at c.block_end-next.result) c.key_of-key.ensures c.block_end-next.ensures.block)
     (subst (λ key. Begins key c.rows-rows.result.now c.block_end-next.result) c.key_of-key.ensures c.block_end-next.ensures.begins)
@@ -149,7 +119,7 @@ mend_blocks-loop-at-preserved t c =
 pub mend_blocks-returns-clause-mended : goal.mend_blocks-returns-clause-mended
 mend_blocks-returns-clause-mended t c =
     let is = c.rows-rows.ensures.is ∙ ap (λ n. get_or (stored c.args.setting.now.db.now) n []) c.table_of.ensures in
-    λ e. blocks-all c.args.setting.now.query.now c.args.setting.now.db.now c.requires.over.fits c.args.row.now c.requires.long (placed c.args.taken.now) c.requires.taken c.args.atom c.requires.has c.args.kept.now c.loop-at.kept
+    λ e. blocks-all c.args.setting.now.query.now c.args.setting.now.db.now c.requires.next.over.fits c.args.row.now c.requires.next.long (placed c.args.taken.now) c.requires.next.taken_fit c.args.atom c.requires.next.has c.args.kept.now c.loop-at.kept
     c.rows-rows.result.now c.span_of-start.result.0 c.span_of-start.result.1 c.loop-at.at is
     (subst (λ rows. Rattle.repair_back.specs.Walking.MayFit c.args.setting.now.query.now c.args.row.now (placed c.args.taken.now) c.args.atom rows c.span_of-start.result.0 c.span_of-start.result.1) (sym is) c.span_of-start.ensures)
     c.loop-at.invariant (omega (arith, c.loop-at-test.false))
@@ -159,30 +129,30 @@ mend_rest-mend_blocks-requires t c =
     let q = c.args.setting.now.query.now in
     let l = c.in-len1-up.len_at_least in
     let h = subst (λ p. IsPlan q (view_of q (placed c.args.taken.now)) p) (plan-split c.args.plan.now l) c.requires.plan in
-    (omega (arith, rest-shorter c.args.plan.now l, c.decreases), (c.requires.over, (c.requires.long, (c.requires.taken, (h.0, (h.1, (h.3, (c.requires.chosen, view-in_range q (placed c.args.taken.now) _ h.0))))))))
+    (omega (arith, rest-shorter c.args.plan.now l, c.decreases), (record { over = c.requires.over; long = c.requires.long; taken_fit = c.requires.taken; has = h.0; plan = h.3; there = view-in_range q (placed c.args.taken.now) _ h.0 }, (h.1, c.requires.chosen)))
 
 pub row_mended-fits-requires-clause-taken : goal.row_mended-fits-requires-clause-taken
-row_mended-fits-requires-clause-taken t c = taken-in_range c.args.setting.now.query.now c.args.row.now (placed c.args.taken.now) c.requires.taken
+row_mended-fits-requires-clause-taken t c = taken-in_range c.args.setting.now.query.now c.args.row.now (placed c.args.taken.now) c.requires.next.taken_fit
 
 pub row_mended-returns-then-not-fits-clause-lacks : goal.row_mended-returns-then-not-fits-clause-lacks
 row_mended-returns-then-not-fits-clause-lacks t c =
-    λ e. lacks-unfit c.args.setting.now.query.now c.args.setting.now.db.now c.requires.over.fits c.args.row.now c.requires.long (placed c.args.taken.now) c.requires.taken c.args.atom c.requires.has c.args.y.now c.args.kept.now c.requires.chosen c.requires.kept
+    λ e. lacks-unfit c.args.setting.now.query.now c.args.setting.now.db.now c.requires.next.over.fits c.args.row.now c.requires.next.long (placed c.args.taken.now) c.requires.next.taken_fit c.args.atom c.requires.next.has c.args.y.now c.args.kept.now c.requires.chosen c.requires.kept
     (λ f. true≢false (sym (c.fits.ensures.1 f) ∙ c.if-not-fits.true))
 
 pub row_mended-returns-clause-reached : goal.row_mended-returns-clause-reached
 row_mended-returns-clause-reached t c =
-    reached-forget c.args.setting.now.query.now c.args.setting.now.db.now c.requires.over.fits c.args.row.now c.requires.long (placed c.args.taken.now) c.requires.taken c.args.atom c.requires.has c.args.y.now c.args.kept.now c.mend_rest.new.kept c.requires.kept c.mend_rest.ensures.reached
+    reached-forget c.args.setting.now.query.now c.args.setting.now.db.now c.requires.next.over.fits c.args.row.now c.requires.next.long (placed c.args.taken.now) c.requires.next.taken_fit c.args.atom c.requires.next.has c.args.y.now c.args.kept.now c.mend_rest.new.kept c.requires.kept c.mend_rest.ensures.reached
 
 pub row_mended-returns-clause-same : goal.row_mended-returns-clause-same
 row_mended-returns-clause-same t c =
-    reached-same c.args.setting.now.query.now c.args.setting.now.db.now c.requires.over.fits c.args.row.now c.requires.long (placed c.args.taken.now) c.requires.taken c.args.atom c.requires.has c.args.y.now c.args.kept.now c.mend_rest.new.kept c.mend_rest.ensures.reached
+    reached-same c.args.setting.now.query.now c.args.setting.now.db.now c.requires.next.over.fits c.args.row.now c.requires.next.long (placed c.args.taken.now) c.requires.next.taken_fit c.args.atom c.requires.next.has c.args.y.now c.args.kept.now c.mend_rest.new.kept c.mend_rest.ensures.reached
 
 pub row_mended-returns-clause-lacks : goal.row_mended-returns-clause-lacks
 row_mended-returns-clause-lacks t c =
-    let same = reached-same c.args.setting.now.query.now c.args.setting.now.db.now c.requires.over.fits c.args.row.now c.requires.long (placed c.args.taken.now) c.requires.taken c.args.atom c.requires.has c.args.y.now c.args.kept.now c.mend_rest.new.kept c.mend_rest.ensures.reached in
-    λ e. lacks-none c.args.setting.now.query.now c.args.setting.now.db.now c.requires.over.fits c.args.row.now c.requires.long (placed c.args.taken.now) c.requires.taken c.args.atom c.requires.has c.args.y.now c.mend_rest.new.kept c.mend_rest.ensures.chosen
-    (subst (λ rows. Rattle.std.proofs.Common.Contains rows c.args.y.now) (sym (Rattle.repair_back.proofs.Stepping.same-rows c.args.setting.now.query.now c.args.setting.now.db.now c.requires.over.fits c.args.row.now c.requires.long c.args.kept.now c.mend_rest.new.kept c.args.atom same)) c.requires.kept)
+    let same = reached-same c.args.setting.now.query.now c.args.setting.now.db.now c.requires.next.over.fits c.args.row.now c.requires.next.long (placed c.args.taken.now) c.requires.next.taken_fit c.args.atom c.requires.next.has c.args.y.now c.args.kept.now c.mend_rest.new.kept c.mend_rest.ensures.reached in
+    λ e. lacks-none c.args.setting.now.query.now c.args.setting.now.db.now c.requires.next.over.fits c.args.row.now c.requires.next.long (placed c.args.taken.now) c.requires.next.taken_fit c.args.atom c.requires.next.has c.args.y.now c.mend_rest.new.kept c.mend_rest.ensures.chosen
+    (subst (λ rows. Rattle.std.proofs.Common.Contains rows c.args.y.now) (sym (Rattle.repair_back.proofs.Stepping.same-rows c.args.setting.now.query.now c.args.setting.now.db.now c.requires.next.over.fits c.args.row.now c.requires.next.long c.args.kept.now c.mend_rest.new.kept c.args.atom same)) c.requires.kept)
     (c.mend_rest.ensures.mended e)
 
 pub mend_blocks-span_of-start-requires-clause-taken : goal.mend_blocks-span_of-start-requires-clause-taken
-mend_blocks-span_of-start-requires-clause-taken t c = taken-in_range c.args.setting.now.query.now c.args.row.now (placed c.args.taken.now) c.requires.taken
+mend_blocks-span_of-start-requires-clause-taken t c = taken-in_range c.args.setting.now.query.now c.args.row.now (placed c.args.taken.now) c.requires.next.taken_fit
