@@ -5,8 +5,8 @@ use Rattle.script_lex.specs.Scripts.{Statement, Begins}
 use Rattle.script_lex.proofs.Statements.{Begins-append}
 use Rattle.reply_text.specs.declared.reply.Reply.{Reply}
 use Rattle.reply_text.specs.Texts.{is_refusal}
-use Rattle.command_shell.specs.State.{State}
-use Rattle.command_shell.specs.Runs.{Run, Answers, CutShort, text_of, has_refusal}
+use Rattle.cqa_session.specs.State.{State}
+use Rattle.cqa_session.specs.Runs.{Run, Answers, CutShort, text_of, has_refusal}
 use Rattle.command_shell.proofs.Progress.{text_of-append}
 
 Run-trans : (old : State) (s : List Statement) (a : List Reply) (mid : State) (t : List Statement) (b : List Reply) (new : State) → Run old s a mid → Run mid t b new → Run old (s ++ t) (a ++ b) new

@@ -14,9 +14,9 @@ use Rattle.reply_text.specs.declared.reply.Reply.TheVariants.{Refused}
 use Rattle.reply_text.specs.Texts.{reply_text, is_refusal}
 use Rattle.command_shell.specs.declared.ending.Stop.{Stop}
 use Rattle.command_shell.specs.declared.ending.Stop.TheVariants as stops
-use Rattle.command_shell.specs.State.{State}
-use Rattle.command_shell.specs.Machine.{Step}
-use Rattle.command_shell.specs.Runs.{Run, Closes, Answers, CutShort, text_of, has_refusal}
+use Rattle.cqa_session.specs.State.{State}
+use Rattle.cqa_session.specs.Machine.{Step}
+use Rattle.cqa_session.specs.Runs.{Run, Closes, Answers, CutShort, text_of, has_refusal}
 use Rattle.command_shell.specs.Parts.{AnswerRow, ReplyRow, CloseRow, ProgressRow}
 
 pub Run-push : (old : State) (statements : List Statement) (replies : List Reply) (now : State) (s : Statement) (reply : Reply) (new : State)

@@ -10,8 +10,8 @@ use Rattle.command_shell.specs.declared.ending.Command.{Command}
 use Rattle.command_shell.specs.declared.ending.Command.TheVariants.{Run, Check, Demo}
 use Rattle.command_shell.specs.declared.ending.Ending.{Ending}
 use Rattle.command_shell.specs.declared.ending.Ending.TheVariants.{Answered, WithRefusal, BadWords, ReadFault, WriteFault, OutOfMemory, TooLong}
-use Rattle.command_shell.specs.State.{State}
-use Rattle.command_shell.specs.Runs.{CutShort}
+use Rattle.cqa_session.specs.State.{State}
+use Rattle.cqa_session.specs.Runs.{CutShort}
 use Rattle.command_shell.specs.Top.{Call, Ended, Outside, RunRow, CheckRow, DemoRow, CountsReadFault, CountsWriteFault, code_of, limit, IsWithinLimit, IsCompleted}
 
 pub false_true : false ≡ true → ⊥

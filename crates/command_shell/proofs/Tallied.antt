@@ -13,9 +13,9 @@ use Rattle.reply_text.specs.declared.reply.Reply.{Reply}
 use Rattle.reply_text.specs.declared.reply.Reply.TheVariants.{Refused}
 use Rattle.reply_text.specs.Texts.{is_refusal}
 use Rattle.command_shell.specs.declared.tally.Tally.{Tally}
-use Rattle.command_shell.specs.State.{State}
-use Rattle.command_shell.specs.Machine.{Step}
-use Rattle.command_shell.specs.Runs.{Run, Closes, has_refusal}
+use Rattle.cqa_session.specs.State.{State}
+use Rattle.cqa_session.specs.Machine.{Step}
+use Rattle.cqa_session.specs.Runs.{Run, Closes, has_refusal}
 use Rattle.command_shell.specs.Demo.{rows_after, rows_to, refusals, Tallies, AnswersAll, StopsIn}
 use Rattle.command_shell.specs.Tallying.{Adds, TallyRow, InputRow}
 use Rattle.command_shell.proofs.Progress.{Run-push}

@@ -10,8 +10,8 @@ use Rattle.command_shell.specs.declared.ending.Command.TheVariants.{Run}
 use Rattle.command_shell.specs.declared.ending.Ending.TheVariants as endings
 use Rattle.command_shell.specs.declared.ending.Stop.{Stop}
 use Rattle.command_shell.specs.declared.ending.Stop.TheVariants as reasons
-use Rattle.command_shell.specs.State.{State}
-use Rattle.command_shell.specs.Runs.{Answers, CutShort}
+use Rattle.cqa_session.specs.State.{State}
+use Rattle.cqa_session.specs.Runs.{Answers, CutShort}
 use Rattle.command_shell.specs.Top.{Ended, Outside, limit, told}
 use Rattle.command_shell.specs.Parts.{ProgressRow, ending_of, ending_with}
 use Rattle.command_shell.proofs.Progress.{nothing_answered, nothing_written}

@@ -1,10 +1,3 @@
-pub mod State
-pub mod Saying
-pub mod Replying
-pub mod AttackLines
-pub mod Statements
-pub mod Machine
-pub mod Runs
 pub mod Demo
 pub mod Tallying
 pub mod Top

@@ -5,8 +5,8 @@ use Rattle.script_lex.specs.Scripts.{Statement}
 use Rattle.reply_text.specs.declared.reply.Reply.{Reply}
 use Rattle.reply_text.specs.Texts.{is_refusal}
 use Rattle.command_shell.specs.declared.tally.Tally.{Tally}
-use Rattle.command_shell.specs.State.{State}
-use Rattle.command_shell.specs.Machine.{Step}
+use Rattle.cqa_session.specs.State.{State}
+use Rattle.cqa_session.specs.Machine.{Step}
 use Rattle.command_shell.specs.declared.ending.Stop.{Stop}
 use Rattle.command_shell.specs.declared.ending.Stop.TheVariants as stops
 use Rattle.command_shell.specs.Demo.{rows_after, AnswersAll, StopsIn, IsDemo, BeginsDemo}

@@ -8,9 +8,9 @@ use Rattle.command_shell.specs.declared.ending.Command.{Command}
 use Rattle.command_shell.specs.declared.ending.Command.TheVariants.{Run, Check, Demo}
 use Rattle.command_shell.specs.declared.ending.Ending.{Ending}
 use Rattle.command_shell.specs.declared.ending.Ending.TheVariants.{Answered, WithRefusal, BadWords, ReadFault, WriteFault, OutOfMemory, TooLong}
-use Rattle.command_shell.specs.State.{State}
+use Rattle.cqa_session.specs.State.{State}
 use Rattle.case_maker.specs.Scripts.{script_bytes}
-use Rattle.command_shell.specs.Runs.{Answers, CutShort}
+use Rattle.cqa_session.specs.Runs.{Answers, CutShort}
 use Rattle.command_shell.specs.Demo.{IsSize, IsDemo, BeginsDemo, StopsIn}
 
 -- the most bytes of input that a call answers

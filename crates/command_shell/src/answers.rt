@@ -7,10 +7,10 @@ ghost use Rattle.cqa_io.specs.Causes.{Rose};
 ghost use Rattle.reply_text.specs.Texts.{reply_text, is_refusal};
 ghost use Rattle.command_shell.specs.Parts.{ReplyRow, CloseRow, AnswerRow, ProgressRow};
 
-use crate::Session;
 use crate::ending::Stop;
 use cqa_io::{Sink, write_all};
 use cqa_model::Refusal;
+use cqa_session::Session;
 use reply_text::{Reply, reply_bytes};
 use script_lex::{Cut, Cutter, Span};
 use std::alloc::Global;

@@ -11,13 +11,13 @@ ghost use Rattle.command_shell.specs.Parts.{WriteRow};
 ghost use Rattle.command_shell.specs.Top.{told, Ended};
 ghost use Rattle.command_shell.specs.Tallying.{InputRow, LineRow, TallyRow};
 
-use crate::Session;
 use crate::answers::part;
 use crate::ending::{Ending, Stop};
 use crate::tally::Tally;
 use case_maker::{GREATEST_SIZE, script_of};
 use cqa_io::{Sink, write_all};
 use cqa_model::Refusal;
+use cqa_session::Session;
 use cqa_value::{NoMemory, read_int};
 use itoa::Buffer;
 use reply_text::Reply;

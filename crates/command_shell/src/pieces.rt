@@ -5,11 +5,11 @@ ghost use Rattle.command_shell.specs.declared.ending.Command.TheVariants.{Run as
 ghost use Rattle.command_shell.specs.Top.{told, Ended};
 ghost use Rattle.command_shell.specs.Parts.{ending_with};
 
-use crate::Session;
 use crate::answers::{answer_held, answer_piece};
 use crate::ending::{Ending, Stop};
 use crate::input::{LIMIT, PIECE, read_piece, zeros};
 use cqa_io::{Failed, Sink, Source};
+use cqa_session::Session;
 use script_lex::Cutter;
 use std::alloc::Global;
 

@@ -2,17 +2,17 @@
 
 ghost use Rattle.std.specs.Prelude.{◌≡◌, ◌≤◌, ◌∷◌, [], Option, Some, MatchOption};
 ghost use Rattle.cqa_io.specs.Causes.{Rose};
-ghost use Rattle.command_shell.specs.State.{opening, State};
+ghost use Rattle.cqa_session.specs.State.{opening, State};
 ghost use Rattle.command_shell.specs.declared.ending.Command.TheVariants.{Check as CheckWord, Demo as DemoWord};
 ghost use Rattle.command_shell.specs.Top.{code_of, StandFor, AreWordsFor, IsAskedBy, told, Ended, IsWithinLimit, IsCompleted};
 
-use crate::Session;
 use crate::demo::{demo, size_of};
 use crate::ending::{Command, Ending, ReadEnd, code};
 use crate::input::read_all;
 use crate::pieces::run;
 use crate::verdict::write_verdict;
 use cqa_io::{Sink, Source};
+use cqa_session::Session;
 use std::alloc::Global;
 
 /// Reads the input and writes the line on it, as a formula with a log.
@@ -76,8 +76,6 @@ fn command(words: &[String]) -> Option<Command>
 /// is too long.
 ///
 /// For every list of words and every input, the status and the bytes written are those of a machine that holds its tables as plain lists of rows: each answered ask gives exactly the rows that every repair gives, each once and ascending, each explanation is true by its definition, and each refusal has its named cause and changes nothing, except that a spent search keeps its log.
-///
-/// Nothing is explained or searched yet; until then the sentence has none of these to speak of.
 pub fn run_words<S: Source, K: Sink>(
     alloc: Global,
     words: &[String],

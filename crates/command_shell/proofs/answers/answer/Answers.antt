@@ -1,5 +1,5 @@
 use Rattle.std.specs.Option.{option_copied}
-use Rattle.command_shell.proofs.Doing.{answered}
+use Rattle.command_shell.proofs.Answering.{answered}
 use Rattle.command_shell.proofs.answers.answer.Goals as goal
 
 pub returns-clause-row : goal.returns-clause-row

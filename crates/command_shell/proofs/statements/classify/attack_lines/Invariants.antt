@@ -1,5 +1,0 @@
-use Rattle.command_shell.proofs.LineSteps.{AreLines}
-use Rattle.command_shell.proofs.statements.classify.attack_lines.Given as goal
-
-abbrev pub invariant-loop-pair : goal.invariant-loop-pair
-invariant-loop-pair l = AreLines l.graph l.names l.pair l.lines

@@ -1,7 +1,0 @@
-use Rattle.std.proofs.Common.{◌≡◌, take}
-use Rattle.dump_text.specs.Dumps.{dump_text}
-use Rattle.command_shell.proofs.statements.dump.dump.Given as goal
-
--- the script of the tables so far
-abbrev pub invariant-loop-table : goal.invariant-loop-table
-invariant-loop-table l = l.script.items ≡ dump_text (take l.table l.database)

@@ -1,0 +1,41 @@
+-- How a block is refused.
+use Rattle.std.proofs.Common.{◌≡◌, inl, inr, ℕ, List, Option, Some, None, Result, Ok, Err, IsErrAnd, refl, sym, subst}
+use Rattle.cqa_value.specs.declared.memory.Fail.{Fail}
+use Rattle.cqa_value.specs.declared.memory.Fail.TheVariants as fails
+use Rattle.cqa_value.specs.declared.value.Value.{Value}
+use Rattle.cqa_model.specs.declared.refusal.Refusal.{Refusal}
+use Rattle.cqa_model.specs.Refusal.{IsRefusedAs}
+use Rattle.table_blocks.specs.Tables.{table_named, kinds_at, insert_fault}
+use Rattle.csv_rows.specs.Blocks.{HoldsRows, IsRefusedRecord}
+use Rattle.reply_text.specs.declared.reply.Reply.{Reply}
+use Rattle.cqa_session.specs.State.{State}
+use Rattle.cqa_session.specs.Replying.{Replies, IsOutcome}
+use Rattle.cqa_session.specs.Statements.Copy.{block_bytes, copy_into_fault, CopiesInto}
+use Rattle.cqa_session.proofs.Doing.{on_table-there}
+
+module _ (old new : State) (name : List ℕ) (block : Option (List ℕ)) (table : ℕ) (found : table_named old.tables name ≡ Some table) (keeps : new ≡ old) where
+  -- what the statement may answer
+  abbrev May : Reply → State → Type 0
+  May reply state = Replies (copy_into_fault old.tables name) old (CopiesInto old name block) reply state
+
+  there : copy_into_fault old.tables name ≡ None
+  there = on_table-there old.tables name (λ at. None) table found
+
+  by_record : (fail : Fail Refusal) → IsRefusedRecord (kinds_at old.tables table) (block_bytes block) fail → IsOutcome (Err fail) old May new
+  by_record fails.NoMemory refused = keeps
+  by_record (fails.Refused refusal) refused = inr (there, record { table = table; found = found; told = (inl (record { number = refused.0; first = refused.2; is = refused.1 }), keeps) })
+
+  -- a record is no row
+  pub bad_record : (result : Result Reply (Fail Refusal)) (fail : Fail Refusal) → IsErrAnd result (λ e. e ≡ fail) → IsRefusedRecord (kinds_at old.tables table) (block_bytes block) fail → IsOutcome result old May new
+  bad_record (Ok reply) fail is refused = absurd is
+  bad_record (Err e) fail is refused = subst (λ f. IsOutcome (Err f) old May new) (sym is) (by_record fail refused)
+
+  by_rows : (rows : List (List Value)) → HoldsRows (kinds_at old.tables table) (block_bytes block) rows → (fail : Fail Refusal) → IsRefusedAs fail (insert_fault old.tables table rows) → IsOutcome (Err fail) old May new
+  by_rows rows held fails.NoMemory refused = keeps
+  by_rows rows held (fails.Refused refusal) refused = inr (there, record { table = table; found = found; told = (inr (record { rows = rows; held = held; first = refused }), keeps) })
+
+  -- a check of the rows fails
+  pub bad_rows : (rows : List (List Value)) → HoldsRows (kinds_at old.tables table) (block_bytes block) rows → (result : Result Reply (Fail Refusal)) (fail : Fail Refusal) → IsErrAnd result (λ e. e ≡ fail)
+      → IsRefusedAs fail (insert_fault old.tables table rows) → IsOutcome result old May new
+  bad_rows rows held (Ok reply) fail is refused = absurd is
+  bad_rows rows held (Err e) fail is refused = subst (λ f. IsOutcome (Err f) old May new) (sym is) (by_rows rows held fail refused)

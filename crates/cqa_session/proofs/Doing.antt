@@ -1,0 +1,36 @@
+-- How the rooms of the statements answer.
+use Rattle.std.proofs.Common.{◌≡◌, inl, ℕ, List, Option, Some, None, IsNone, Result, Ok, Err, IsErrAnd, refl, sym, ap, subst}
+use Rattle.std.specs.Option.{option_map_or}
+use Rattle.cqa_value.specs.declared.memory.Fail.{Fail}
+use Rattle.cqa_value.specs.declared.memory.Fail.TheVariants as fails
+use Rattle.cqa_model.specs.declared.refusal.Refusal.{Refusal}
+use Rattle.cqa_model.specs.declared.refusal.Refusal.TheVariants.{UnknownTable}
+use Rattle.cqa_model.specs.Database.{Table}
+use Rattle.cqa_model.specs.Refusal.{IsRefusedAs}
+use Rattle.table_blocks.specs.Tables.{table_named}
+use Rattle.reply_text.specs.declared.reply.Reply.{Reply}
+use Rattle.cqa_session.specs.State.{State}
+use Rattle.cqa_session.specs.Replying.{on_table, Replies, IsOutcome}
+
+-- ---- the ways out of a room
+
+module _ (fault : Option Refusal) (old new : State) (May : Reply → State → Type 0) (keeps : new ≡ old) where
+  -- a check failed, and no state was changed
+  pub refused : (fail : Fail Refusal) → IsRefusedAs fail fault → IsOutcome (Err fail) old (Replies fault old May) new
+  refused fails.NoMemory is = keeps
+  refused (fails.Refused refusal) is = inl (record { refusal = refusal; first = is; replies = refl; keeps = keeps })
+
+  -- at the exit of a `?`
+  pub refused_out : (result : Result Reply (Fail Refusal)) (fail : Fail Refusal) → IsErrAnd result (λ e. e ≡ fail) → IsRefusedAs fail fault → IsOutcome result old (Replies fault old May) new
+  refused_out (Ok reply) fail is cause = absurd is
+  refused_out (Err e) fail is cause = subst (λ f. IsOutcome (Err f) old (Replies fault old May) new) (sym is) (refused fail cause)
+
+-- at the exit of a `let .. else`
+pub none_found : {T : Type 0} (found : Option T) → ((x : T) → found ≡ Some x → ⊥) → IsNone found
+none_found None h = refl
+none_found (Some x) h = absurd (h x refl)
+
+-- ---- the checks
+
+pub on_table-there : (db : List Table) (name : List ℕ) (check : ℕ → Option Refusal) (table : ℕ) → table_named db name ≡ Some table → on_table db name check ≡ check table
+on_table-there db name check table found = ap (λ o. option_map_or check o (Some (UnknownTable name))) found

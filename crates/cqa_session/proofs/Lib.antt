@@ -1,0 +1,12 @@
+pub mod Altering
+pub mod Asking
+pub mod Copying
+pub mod Doing
+pub mod Dumping
+mod Explaining
+mod Modelled
+mod Naming
+mod LineSteps
+pub mod Sayings
+pub mod TableLines
+pub mod Valid

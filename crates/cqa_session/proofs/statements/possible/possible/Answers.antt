@@ -1,0 +1,23 @@
+use Rattle.std.proofs.Common.{◌≡◌, None, inr, refl, subst}
+use Rattle.query_resolve.specs.Checks.{query_fault}
+use Rattle.query_resolve.specs.Resolved.{IsQueryOf}
+use Rattle.cqa_model.specs.Certain.{IsPossibleAnswer}
+use Rattle.cqa_session.proofs.statements.possible.possible.Goals as goal
+
+pub returns : goal.returns
+returns c =
+    let select = c.args.select.now in
+    let query = c.in_ok-query.query in
+    let rows = c.in_ok-rows.field-0 in
+    let tables = c.database-database.ensures.is in
+    inr (
+      subst (λ db. query_fault db select ≡ None) tables c.in_ok-query.ensures.valid,
+      record {
+        query = query;
+        resolved = subst (λ db. IsQueryOf db select query) tables c.in_ok-query.ensures.is;
+        rows = rows;
+        possible = subst (λ db. IsPossibleAnswer db query rows) tables c.in_ok-rows.ensures.possible;
+        replies = refl;
+        keeps = refl;
+      },
+    )

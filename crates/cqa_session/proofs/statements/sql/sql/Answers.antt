@@ -1,0 +1,22 @@
+use Rattle.std.proofs.Common.{◌≡◌, None, inr, refl, subst}
+use Rattle.query_resolve.specs.Checks.{query_fault}
+use Rattle.query_resolve.specs.Resolved.{IsQueryOf}
+use Rattle.cqa_session.specs.Statements.Sql.{names_in, TellsSql}
+use Rattle.cqa_session.proofs.statements.sql.sql.Goals as goal
+
+pub returns : goal.returns
+returns c =
+    let select = c.args.select.now in
+    let query = c.in_ok-query.query in
+    let reply = c.in_ok-reply.field-0 in
+    let tables = c.database-database.ensures.is in
+    let told = subst (λ names. TellsSql query (names_in c.database-database.result.now names query) reply) c.as_slice.ensures c.in_ok-reply.ensures in
+    inr (
+      subst (λ db. query_fault db select ≡ None) tables c.in_ok-query.ensures.valid,
+      record {
+        query = query;
+        resolved = subst (λ db. IsQueryOf db select query) tables c.in_ok-query.ensures.is;
+        told = subst (λ db. TellsSql query (names_in db select.tables query) reply) tables told;
+        keeps = refl;
+      },
+    )

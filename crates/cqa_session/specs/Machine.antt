@@ -1,0 +1,84 @@
+-- One step of the machine: what it replies to a statement, and the state after it.
+use Rattle.std.specs.Prelude.{◌≡◌, ℕ, List, Option, None, Result, Ok, Err}
+use Rattle.spj_syntax.specs.declared.tree.Statement.{Statement}
+use Rattle.spj_syntax.specs.declared.tree.Statement.TheVariants as statements
+use Rattle.spj_syntax.specs.declared.tree.Select.{Select}
+use Rattle.spj_syntax.specs.declared.tree.Verb.{Verb}
+use Rattle.spj_syntax.specs.declared.tree.Verb.TheVariants as verbs
+use Rattle.query_resolve.specs.Checks.{schema_fault, query_fault}
+use Rattle.cqa_model.specs.declared.refusal.Refusal.{Refusal}
+use Rattle.reply_text.specs.declared.reply.Reply.{Reply}
+use Rattle.reply_text.specs.declared.reply.Reply.TheVariants.{Refused}
+use Rattle.cqa_session.specs.State.{State}
+use Rattle.cqa_session.specs.Saying.{Says}
+use Rattle.cqa_session.specs.Replying.{Replies}
+use Rattle.cqa_session.specs.Statements.Create.{Creates}
+use Rattle.cqa_session.specs.Statements.Alter.{alter_fault, Alters}
+use Rattle.cqa_session.specs.Statements.Insert.{insert_into_fault, InsertsInto}
+use Rattle.cqa_session.specs.Statements.Delete.{delete_from_fault, DeletesFrom}
+use Rattle.cqa_session.specs.Statements.Copy.{copy_into_fault, CopiesInto}
+use Rattle.cqa_session.specs.Statements.Ask.{AnswersCertain}
+use Rattle.cqa_session.specs.Statements.Possible.{AnswersPossible}
+use Rattle.cqa_session.specs.Statements.Classify.{Classifies}
+use Rattle.cqa_session.specs.Statements.Plan.{ShowsPlan}
+use Rattle.cqa_session.specs.Statements.Sql.{WritesSql}
+use Rattle.cqa_session.specs.Statements.Explain.{Explains}
+use Rattle.cqa_session.specs.Statements.SetConflicts.{SetsConflicts}
+use Rattle.cqa_session.specs.Statements.ShowTables.{ShowsTables}
+use Rattle.cqa_session.specs.Statements.Dump.{Dumps}
+use Rattle.cqa_session.specs.Statements.ShowLog.{ShowsLog}
+
+-- ---- what is asked of a query: the first of its checks that fails in a state, and what it may do where none fails
+
+abbrev pub asking_fault : State → Verb → Select → Option Refusal
+asking_fault old verbs.Ask select = query_fault old.tables select
+asking_fault old verbs.Possible select = query_fault old.tables select
+asking_fault old verbs.Classify select = query_fault old.tables select
+asking_fault old verbs.Plan select = query_fault old.tables select
+asking_fault old verbs.Sql select = query_fault old.tables select
+asking_fault old (verbs.Explain row) select = query_fault old.tables select
+
+abbrev pub Asks : State → Verb → Select → Reply → State → Type 0
+Asks old verbs.Ask select reply new = AnswersCertain old select reply new
+Asks old verbs.Possible select reply new = AnswersPossible old select reply new
+Asks old verbs.Classify select reply new = Classifies old select reply new
+Asks old verbs.Plan select reply new = ShowsPlan old select reply new
+Asks old verbs.Sql select reply new = WritesSql old select reply new
+Asks old (verbs.Explain row) select reply new = Explains old row select reply new
+
+-- ---- a statement, with the block that follows it: the same
+
+abbrev pub fault_in : State → Statement → Option (List ℕ) → Option Refusal
+fault_in old (statements.Create raw) block = schema_fault old.tables raw
+fault_in old (statements.Alter name change) block = alter_fault old.tables name change
+fault_in old (statements.Insert name rows) block = insert_into_fault old.tables name rows
+fault_in old (statements.Delete name tests) block = delete_from_fault old.tables name tests
+fault_in old (statements.Copy name) block = copy_into_fault old.tables name
+fault_in old (statements.Asking verb select) block = asking_fault old verb select
+fault_in old (statements.SetConflicts conflicts) block = None
+fault_in old statements.ShowTables block = None
+fault_in old statements.Dump block = None
+fault_in old statements.ShowLog block = None
+
+abbrev pub Executes : State → Statement → Option (List ℕ) → Reply → State → Type 0
+Executes old (statements.Create raw) block reply new = Creates old raw reply new
+Executes old (statements.Alter name change) block reply new = Alters old name change reply new
+Executes old (statements.Insert name rows) block reply new = InsertsInto old name rows reply new
+Executes old (statements.Delete name tests) block reply new = DeletesFrom old name tests reply new
+Executes old (statements.Copy name) block reply new = CopiesInto old name block reply new
+Executes old (statements.Asking verb select) block reply new = Asks old verb select reply new
+Executes old (statements.SetConflicts conflicts) block reply new = SetsConflicts old conflicts reply new
+Executes old statements.ShowTables block reply new = ShowsTables old reply new
+Executes old statements.Dump block reply new = Dumps old reply new
+Executes old statements.ShowLog block reply new = ShowsLog old reply new
+
+-- what the machine may do with what a text says, and its block
+abbrev pub Does : State → Result Statement Refusal → Option (List ℕ) → Reply → State → Type 0
+Does old (Err refusal) block reply new = (reply ≡ Refused refusal) × (new ≡ old)
+Does old (Ok statement) block reply new = Replies (fault_in old statement block) old (Executes old statement block) reply new
+
+-- From old, the machine may give this reply to a statement's text, with its block, and go on to new.
+pub record Step (old : State) (text : List ℕ) (block : Option (List ℕ)) (reply : Reply) (new : State) : Type 0 where
+  pub said : Result Statement Refusal
+  pub says : Says text said
+  pub does : Does old said block reply new

@@ -1,0 +1,103 @@
+//! From a statement to the room that answers it.
+
+ghost use Rattle.std.specs.Option.{option_copied};
+ghost use Rattle.std.specs.Prelude.{Ok};
+ghost use Rattle.spj_syntax.specs.Written.{IsSmall};
+ghost use Rattle.cqa_session.specs.Machine.{asking_fault, Asks, Does};
+ghost use Rattle.cqa_session.specs.Replying.{Replies, IsOutcome};
+
+use crate::Session;
+use crate::statements::alter::alter;
+use crate::statements::ask::ask;
+use crate::statements::classify::classify;
+use crate::statements::copy::copy;
+use crate::statements::create::create;
+use crate::statements::delete::delete;
+use crate::statements::dump::dump;
+use crate::statements::explain::explain;
+use crate::statements::insert::insert;
+use crate::statements::plan::plan;
+use crate::statements::possible::possible;
+use crate::statements::set_conflicts::set_conflicts;
+use crate::statements::show_log::show_log;
+use crate::statements::show_tables::show_tables;
+use crate::statements::sql::sql;
+use cqa_model::Refusal;
+use cqa_value::Fail;
+use reply_text::Reply;
+use spj_syntax::{Select, Statement, Verb};
+use std::alloc::Global;
+
+/// Answers what is asked of a query.
+fn asked(
+    alloc: Global,
+    session: &mut Session,
+    verb: &Verb,
+    select: &Select,
+) -> Result<Reply, Fail<Refusal>>
+    ensures { IsOutcome result session.old (Replies (asking_fault session.old verb.now select.now) session.old (Asks session.old verb.now select.now)) session.new }
+{
+    match verb {
+        Verb::Ask => ask(alloc, session, select),
+        Verb::Possible => possible(alloc, session, select),
+        Verb::Classify => classify(alloc, session, select),
+        Verb::Plan => plan(alloc, session, select),
+        Verb::Sql => sql(alloc, session, select),
+        Verb::Explain { row } => explain(alloc, session, row, select),
+    }
+}
+
+/// Does what a statement says, with the block that follows it.
+///
+/// # Errors
+///
+/// The first check of the statement that fails; nothing has changed then.
+pub fn execute(
+    alloc: Global,
+    session: &mut Session,
+    statement: Statement,
+    block: Option<&[u8]>,
+) -> Result<Reply, Fail<Refusal>>
+    requires { IsSmall statement }
+    ensures { IsOutcome result session.old (Does session.old (Ok statement) (option_copied block.entry)) session.new }
+{
+    match statement {
+        Statement::Create { schema } => {
+            let reply = create(alloc, session, &schema);
+            drop(schema);
+            reply
+        }
+        Statement::Alter { table, change } => {
+            let reply = alter(alloc, session, &table, &change);
+            drop(table);
+            drop(change);
+            reply
+        }
+        Statement::Insert { table, rows } => {
+            let reply = insert(alloc, session, &table, rows);
+            drop(table);
+            reply
+        }
+        Statement::Delete { table, tests } => {
+            let reply = delete(alloc, session, &table, tests.as_slice());
+            drop(table);
+            drop(tests);
+            reply
+        }
+        Statement::Copy { table } => {
+            let reply = copy(alloc, session, &table, block);
+            drop(table);
+            reply
+        }
+        Statement::Asking { verb, select } => {
+            let reply = asked(alloc, session, &verb, &select);
+            drop(verb);
+            drop(select);
+            reply
+        }
+        Statement::SetConflicts(conflicts) => set_conflicts(session, conflicts),
+        Statement::ShowTables => show_tables(alloc, session),
+        Statement::Dump => dump(alloc, session),
+        Statement::ShowLog => show_log(alloc, session),
+    }
+}

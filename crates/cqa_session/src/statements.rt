@@ -1,0 +1,18 @@
+//! The statements, a room for each: one call that checks the statement and does it.
+
+pub mod alter;
+pub mod ask;
+pub mod classify;
+pub mod copy;
+pub mod create;
+pub mod delete;
+pub mod dump;
+pub mod explain;
+pub mod insert;
+pub mod plan;
+pub mod possible;
+pub mod set_conflicts;
+pub mod show_log;
+pub mod show_tables;
+pub mod sql;
+mod table_place;

@@ -1,0 +1,29 @@
+//! `dump`: the script that makes the tables with their rows.
+
+ghost use Rattle.std.specs.Prelude.{None};
+ghost use Rattle.cqa_session.specs.Replying.{Replies, IsOutcome};
+ghost use Rattle.cqa_session.specs.Statements.Dump.{Dumps};
+
+use crate::Session;
+use cqa_model::Refusal;
+use cqa_value::{Fail, Items};
+use dump_text::append_table;
+use reply_text::Reply;
+use std::alloc::Global;
+
+/// Answers the script that makes the tables with their rows.
+pub fn dump(alloc: Global, session: &Session) -> Result<Reply, Fail<Refusal>>
+    ensures { IsOutcome result session.now (Replies None session.now (Dumps session.now)) session.now }
+{
+    let database = session.database();
+    let mut script = Vec::new(alloc);
+    for table in 0..database.count() {
+        append_table(
+            alloc,
+            database.schema(table),
+            database.rows(table),
+            &mut script,
+        )?;
+    }
+    Ok(Reply::Dumped(Items::from_vec(script)))
+}

@@ -1,0 +1,32 @@
+//! `insert`: rows are put into a table.
+
+ghost use Rattle.std.specs.Prelude.{◌≤◌, length};
+ghost use Rattle.spj_syntax.specs.Limits.{most_items};
+ghost use Rattle.cqa_session.specs.Replying.{Replies, IsOutcome};
+ghost use Rattle.cqa_session.specs.Statements.Insert.{insert_into_fault, InsertsInto};
+
+use crate::Session;
+use crate::statements::table_place::table_place;
+use cqa_model::Refusal;
+use cqa_value::{Fail, Items, Name, Row};
+use reply_text::Reply;
+use std::alloc::Global;
+
+/// Puts rows into a table.
+///
+/// # Errors
+///
+/// `UnknownTable`, or the first check of the rows that fails.
+pub fn insert(
+    alloc: Global,
+    session: &mut Session,
+    name: &Name,
+    rows: Items<Row>,
+) -> Result<Reply, Fail<Refusal>>
+    requires { length rows ≤ most_items }
+    ensures { IsOutcome result session.old (Replies (insert_into_fault session.old.tables name.now rows) session.old (InsertsInto session.old name.now rows)) session.new }
+{
+    let table = table_place(alloc, &session.database, name)?;
+    let count = session.database.insert(table, rows)?;
+    Ok(Reply::Inserted(count))
+}

@@ -1,0 +1,29 @@
+//! `possible`: the possible rows of a query.
+
+ghost use Rattle.query_resolve.specs.Checks.{query_fault};
+ghost use Rattle.cqa_session.specs.Replying.{Replies, IsOutcome};
+ghost use Rattle.cqa_session.specs.Statements.Possible.{AnswersPossible};
+
+use crate::Session;
+use cqa_model::Refusal;
+use cqa_value::Fail;
+use join_witness::candidates;
+use query_resolve::resolve;
+use reply_text::Reply;
+use spj_syntax::Select;
+use std::alloc::Global;
+
+/// Answers the possible rows of a query.
+///
+/// # Errors
+///
+/// The first check of the query that fails.
+pub fn possible(alloc: Global, session: &Session, select: &Select) -> Result<Reply, Fail<Refusal>>
+    ensures { IsOutcome result session.now (Replies (query_fault session.now.tables select.now) session.now (AnswersPossible session.now select.now)) session.now }
+{
+    let database = session.database();
+    let query = resolve(alloc, database, select)?;
+    let rows = candidates(alloc, database, &query);
+    drop(query);
+    Ok(Reply::Rows(rows?))
+}
