@@ -3,7 +3,5 @@
 
 mod lines;
 mod script;
-#[cfg(test)]
-mod tests;
 
 pub use script::{GREATEST_SIZE, script_of};

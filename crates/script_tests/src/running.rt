@@ -1,7 +1,8 @@
 //! One script, run over a new session and devices in memory.
 
-use command_shell::{Session, run_words};
+use command_shell::run_words;
 use cqa_io::{MemSink, MemSource};
+use cqa_session::Session;
 use std::alloc::{AllocError, Global};
 
 /// The most conflicts of a search, as the program has it.

@@ -1,7 +1,8 @@
 //! Calls of the program over devices in memory, each with its status and what is written.
 
-use command_shell::{Session, run_words};
+use command_shell::run_words;
 use cqa_io::{MemSink, MemSource};
+use cqa_session::Session;
 use std::alloc::{AllocError, Global};
 use std::test::Fail;
 

@@ -1,0 +1,66 @@
+//! A table of one number, its key, that holds the numbers from 1 to 1,000,000.
+//! Each block is looked for once: a look-up that walks would take hours.
+ghost use Rattle.std.specs.Prelude.{◌≡◌, ◌<◌, length};
+ghost use Rattle.table_blocks.specs.Tables.{key_at};
+
+use crate::making::{database, insert, numbers, one_column};
+use cqa_value::{Fail, Items, Kind, NameFault, Value};
+use std::alloc::Global;
+use std::marker::Brand;
+use std::sync::ledger::{Blank, Ledger};
+use table_blocks::{Database, Probe, Steps};
+
+/// How many rows the table has, which are the most of a database.
+const MANY: i64 = 1_000_000;
+
+/// Puts all numbers into the table, and gives how many were new, if they were taken.
+fn fill(alloc: Global, db: &mut Database) -> Result<Option<u32>, Fail<NameFault>> {
+    let mut given = Items::new(alloc);
+    for number in 1..=MANY {
+        given.push(numbers(alloc, &[number])?)?;
+    }
+    Ok(insert(db, given).ok())
+}
+
+/// Whether a number's block has one row.
+fn has_one<L: Ledger>(alloc: Global, db: &Database, number: i64, steps: &mut Steps<L>) -> bool
+    requires there { 0 < length db.now }
+    requires keyed { length (key_at db.now 0) ≡ 1 }
+{
+    let value = Value::Int(number);
+    let mut probe = Probe::new(alloc);
+    probe.put(&value);
+    db.block(0, &probe, steps).len() == 1
+}
+
+/// Whether each number's block has one row.
+fn have_one_each<L: Ledger>(alloc: Global, db: &Database, blank: Blank) -> bool
+    requires name { blank.name ≡ L.name }
+    requires parts { blank.parts ≡ L.parts }
+    requires some { 0 < blank.parts }
+{
+    let mut steps = Steps::<L>::new(blank);
+    if db.count() == 0 || db.schema(0).key.as_slice().len() != 1 {
+        return false;
+    }
+    let mut right = true;
+    for number in 1..=MANY {
+        right = right && has_one(alloc, db, number, &mut steps);
+    }
+    right
+}
+
+fn are_found(alloc: Global, db: &mut Database) -> Result<bool, Fail<NameFault>> {
+    let filled = fill(alloc, db)? == Some(1_000_000);
+    Ok(filled && have_one_each::<Brand>(alloc, db, Blank::new(1)))
+}
+
+#[test]
+fn a_million_blocks_are_found(rt: HostRuntime) {
+    let alloc = rt.alloc();
+    let schema = one_column(alloc, Kind::Int).expect(&rt, "ample memory");
+    let mut db = database(alloc, schema).expect(&rt, "ample memory");
+    let right = are_found(alloc, &mut db);
+    drop(db);
+    assert!(rt; right.is_ok_and(|right| right));
+}
