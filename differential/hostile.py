@@ -14,6 +14,7 @@ import os
 import random
 import subprocess
 import sys
+import tempfile
 from concurrent.futures import ThreadPoolExecutor
 
 TOP = os.path.dirname(os.path.dirname(os.path.abspath(__file__)))
@@ -113,7 +114,7 @@ def main():
         for number, (case, fault) in enumerate(zip(cases, faults)):
             if fault is not None:
                 failed += 1
-                name = "/tmp/hostile-%d.%s" % (number, case[0])
+                name = os.path.join(tempfile.gettempdir(), "hostile-%d.%s") % (number, case[0])
                 with open(name, "wb") as file:
                     file.write(case[1])
                 print("%s: %s" % (name, fault))

@@ -16,6 +16,7 @@ import random
 import select
 import subprocess
 import sys
+import tempfile
 import threading
 import time
 
@@ -143,7 +144,7 @@ def main():
         given = in_pieces(random_source, options.program, word, script)
         if wanted != given:
             failed += 1
-            name = "/tmp/pieces-%d.%s" % (number, word)
+            name = os.path.join(tempfile.gettempdir(), "pieces-%d.%s") % (number, word)
             with open(name, "wb") as file:
                 file.write(script)
             print("%s: status %d in one piece, %d in pieces; the outputs are %s" % (

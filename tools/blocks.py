@@ -1,9 +1,9 @@
 #!/usr/bin/env python3
-"""Runs the blocks of README.md and docs/LANGUAGE.md, and the examples, and says where a reply of the program differs.
+"""Runs the blocks of README.md, docs/LANGUAGE.md and docs/SQL.md, and the examples, and says where a reply of the program differs.
 
     tools/blocks.py [PROGRAM]
 
-A block ```cqa is a script, and the block ```reply behind it what the program has to write. In LANGUAGE.md each script is a
+A block ```cqa is a script, and the block ```reply behind it what the program has to write. In docs/ each script is a
 session of its own; in README.md all of them are one, which has to be the stored run of cqa_cli. Rows of a table whose first
 cell is a statement and whose second is its reply, both in back quotes, are run behind the table `staff`. An example is a
 script NAME.cqa or a proof NAME.lrat, with its output NAME.out beside it; the proof that search.cqa ends with has to be
@@ -44,8 +44,9 @@ def compare(where, script, expected, got):
 
 def main():
     failed, language = 0, read("docs", "LANGUAGE.md")
-    for script, expected in blocks(language):
-        failed += compare("docs/LANGUAGE.md", script, expected, replies(script))
+    for name, text in (("docs/LANGUAGE.md", language), ("docs/SQL.md", read("docs", "SQL.md"))):
+        for script, expected in blocks(text):
+            failed += compare(name, script, expected, replies(script))
     for statement, expected in re.findall(r"^\| `([^`]*;)` \| `([^`]*)` \|", language, flags=re.M):
         failed += compare("docs/LANGUAGE.md", statement + "\n", expected, replies(STAFF + statement).split("\n")[1])
     tour = blocks(read("README.md"))

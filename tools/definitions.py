@@ -1,11 +1,13 @@
 #!/usr/bin/env python3
-"""Compares docs/DEFINITIONS.md with the definitions that it speaks of, and says which of the two lacks a name.
+"""Makes the tables of docs/DEFINITIONS.md from the comments in the crates' specs, so that each definition has its sentence
+at one place.
 
-    tools/definitions.py
+    tools/definitions.py          says whether the page is as it would be made (status 1 if it isn't)
+    tools/definitions.py write    makes it
 
-A section `## CRATE: ..` speaks of `crates/CRATE/specs`. A name in the first column of one of its tables has to be defined
-there, and each public definition has to stand somewhere in the section. The solver and the checker of logs name only what
-their public contracts cite, and the rest of their definitions is read beside the proofs.
+A section `## CRATE: ..` begins with words of its own. All from its first line `**..** [FILE]` on is made: for each file of
+`crates/CRATE/specs` its first comment, and a row for each public definition with the comment right above it. A definition
+without one is so short that it stands there itself, by its equation or its type.
 """
 
 import glob
@@ -14,50 +16,69 @@ import re
 import sys
 
 TOP = os.path.dirname(os.path.dirname(os.path.abspath(__file__)))
-PUBLIC = re.compile(r"^(?:abbrev |unfoldable |inductive )?pub (?:record |data |inductive |abbrev )?([^\s(:]+)", flags=re.M)
-ANY = re.compile(r"^ *(?:(?:abbrev|unfoldable|pub|record|data|inductive) )*([^\s(:]+) *[:(]", flags=re.M)
-CONSTANT = re.compile(r"^pub const (\w+)", flags=re.M)
-IN_PART = {"cdcl", "lrat_check"}
+PAGE = os.path.join(TOP, "docs", "DEFINITIONS.md")
+PUBLIC = re.compile(r"(?:abbrev |unfoldable |inductive )*pub (?!use |mod )(?:record |data |inductive |abbrev )?(([^\s(:]+).*)")
+A_TABLE = re.compile(r"(?m)^\*\*.*\*\* \[")
 
 
-def defined(crate):
-    """The public names of a crate's definitions, and all that may be named: its other definitions and its constants too."""
-    public, all_names = set(), set()
-    for path in glob.glob(os.path.join(TOP, "crates", crate, "specs", "**", "*.antt"), recursive=True):
-        with open(path, encoding="utf-8") as file:
-            text = file.read()
-        public |= set(PUBLIC.findall(text)) - {"mod", "use"}
-        all_names |= set(ANY.findall(text))
-    for path in glob.glob(os.path.join(TOP, "crates", crate, "src", "**", "*.rt"), recursive=True):
-        with open(path, encoding="utf-8") as file:
-            all_names |= set(CONSTANT.findall(file.read()))
-    return public, public | all_names
+def sentence(comment):
+    text = " ".join(line[2:].strip() for line in comment).rstrip(".,")
+    first = text if re.match(r"[B-Zb-z]\b|\w+\(|`", text) else text[:1].upper() + text[1:]
+    return first.replace("|", "\\|") + "."
+
+
+def itself(lines, i, name, declared):
+    """A definition without a comment: its equation if it has one short one, or else its type."""
+    equations = [line for line in lines[i + 1:i + 3] if line.startswith(name + " ")]
+    said = equations[0] if len(equations) == 1 and len(equations[0]) <= 70 and equations[0][-1] != "=" else declared.removesuffix(" where")
+    return "`" + said.replace("|", "\\|") + "`"
+
+
+def table(path, specs):
+    with open(path, encoding="utf-8") as file:
+        lines = file.read().split("\n")
+    comment, rows, head = [], [], ""
+    for i, line in enumerate(lines):
+        public = PUBLIC.match(line)
+        if public:
+            rows.append("| `%s` | %s |" % (public[2], sentence(comment) if comment else itself(lines, i, public[2], public[1])))
+        if line.startswith(("use ", "pub use ")) and comment and not head:
+            head = sentence(comment)
+        comment = comment + [line] if line.startswith("--") else []
+    title = "**%s** [%s]\n\n| Name | Meaning |\n|---|---|\n" % (head, os.path.relpath(path, specs)[:-len(".antt")])
+    return title + "\n".join(rows) + "\n" if rows else ""
+
+
+def tables(crate):
+    specs = os.path.join(TOP, "crates", crate, "specs")
+    made = [table(path, specs) for path in sorted(glob.glob(os.path.join(specs, "**", "*.antt"), recursive=True))]
+    return "\n".join(text for text in made if text)
+
+
+def page(text):
+    first, *sections = re.split(r"(?m)^(?=## )", text)
+    made = [first]
+    for section in sections:
+        crate = section[len("## "):].split(":")[0].strip()
+        is_crate = os.path.isdir(os.path.join(TOP, "crates", crate))
+        made.append(A_TABLE.split(section)[0].rstrip("\n") + "\n\n" + tables(crate) + "\n" if is_crate else section)
+    return re.sub(r"\n\n\n+", "\n\n", "".join(made)).rstrip("\n") + "\n"
 
 
 def main():
-    with open(os.path.join(TOP, "docs", "DEFINITIONS.md"), encoding="utf-8") as file:
-        sections = re.split(r"^## ", file.read(), flags=re.M)[1:]
-    wrong = 0
-    with_section = {section.split(":")[0].split("\n")[0] for section in sections}
-    for path in glob.glob(os.path.join(TOP, "crates", "*", "specs")):
-        crate = os.path.basename(os.path.dirname(path))
-        if crate not in with_section and not crate.endswith("_tests"):
-            wrong += 1
-            print("%s has no section" % crate)
-    for section in sections:
-        crate = section.split(":")[0].split("\n")[0]
-        if not os.path.isdir(os.path.join(TOP, "crates", crate)):
-            continue
-        (public, names), said = defined(crate), set(re.findall(r"`([^`\s]+)`", section))
-        tabled = {name for row in re.findall(r"^\| (`[^|]*`) \|", section, flags=re.M) for name in re.findall(r"`([^`\s]+)`", row)}
-        for name in sorted(tabled - names):
-            wrong += 1
-            print("%s: `%s` isn't defined" % (crate, name))
-        for name in sorted(set() if crate in IN_PART else public - said):
-            wrong += 1
-            print("%s: `%s` isn't named" % (crate, name))
-    print("%d names differ" % wrong if wrong else "all names agree")
-    return 1 if wrong else 0
+    with open(PAGE, encoding="utf-8") as file:
+        text = file.read()
+    crates = [os.path.basename(os.path.dirname(specs)) for specs in glob.glob(os.path.join(TOP, "crates", "*", "specs"))]
+    lacking = [crate for crate in crates if not crate.endswith("_tests") and tables(crate) and "\n## %s: " % crate not in text]
+    for crate in lacking:
+        print("%s has no section" % crate)
+    if sys.argv[1:] == ["write"]:
+        with open(PAGE, "w", encoding="utf-8") as file:
+            file.write(page(text))
+    elif page(text) != text:
+        print("the page isn't what the comments make: tools/definitions.py write")
+        return 1
+    return 1 if lacking else 0
 
 
 if __name__ == "__main__":

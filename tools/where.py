@@ -17,7 +17,7 @@ TEXT = re.compile(rb"(?:[^;'-]|-(?!-)|%s|'[^']*')*;" % COMMENT)
 BLOCK = re.compile(rb"[ \t\r]*\n?(?:.*\n)*?\\\.\r?(?:\n|$)")
 REPLY_END = re.compile(
     r"created |altered |inserted |deleted |copied |conflicts |error |no plan|no log|\d+ rows$|\d+ tables$"
-    r"|class |certain by block|rejected|step 1 ")
+    r"|class |certain by block|rejected|step 1 |WITH \"blocks 1\" AS ")
 
 
 def statements(script):
