@@ -1,0 +1,7 @@
+-- Tests that answer what a function gives.
+use Rattle.std.proofs.Common.{◌≡◌, [], ◌∷◌, Bor}
+use Rattle.std.specs.Fn.{ComputesKey, Called, Mut}
+
+-- what a call answers, and that the test goes on answering so
+pub answers : {F A R : Type 0} {g : Mut F (Bor A × Unit {0}) R} {f f' : F} (h : A → R) {x : Bor A} {r : R} → ComputesKey g h f → Called g f (x, tt) r f' → ComputesKey g h f' × (r ≡ h x.now)
+answers {g} {f} {f'} h {x} {r} k e = (record { at = λ xs. (k.at ((x, tt) ∷ xs) r f' e).1 }, (k.at ((x, tt) ∷ []) r f' e).0)

@@ -1,0 +1,14 @@
+-- Searches by halving, over items that a test parts.
+use Rattle.std.proofs.Common.{◌≡◌, ◌+◌, ◌<◌, ℕ, length, List, Bool, true, false, refl, sym, ◌∙◌, arith, slice_index_or, true≢false}
+use Rattle.std.specs.List.{AllWithin, HoldsAt}
+use Rattle.std.specs.List.Sorted.{IsPartitionedBy}
+
+pub front_passes : {X : Type 0} (p : X → Bool) (xs : List X) (at : ℕ) → IsPartitionedBy p xs → at < length xs → HoldsAt (λ y. p y ≡ true) xs at → AllWithin (λ y. p y ≡ true) xs 0 (at + 1)
+front_passes p xs at h l q k d a b = h k at d (omega (arith, b)) l (q d)
+
+one_of : (b : Bool) → (b ≡ true → ⊥) → b ≡ false
+one_of true h = absurd (h refl)
+one_of false h = refl
+
+pub back_fails : {X : Type 0} (p : X → Bool) (xs : List X) (at : ℕ) → IsPartitionedBy p xs → at < length xs → HoldsAt (λ y. p y ≡ false) xs at → AllWithin (λ y. p y ≡ false) xs at (length xs)
+back_fails p xs at h l q k d a b = one_of (p (slice_index_or xs k d)) (λ t. true≢false (sym (h at k d a b t) ∙ q d))

@@ -1,0 +1,92 @@
+//! Rows that go behind all those of pieces.
+
+ghost use Rattle.std.specs.Prelude.{◌≡◌, ◌++◌, OnOk, OnErr, [], reverse};
+ghost use Rattle.row_pieces.specs.Joined.{joined};
+
+use crate::piece::{MOST_IN_PIECE, Piece};
+use cqa_value::{NoMemory, Row};
+
+/// Cuts rows into pieces, from the last on, until few are left.
+///
+/// # Errors
+///
+/// `NoMemory` where memory is refused.
+fn cut_off(rows: &mut Vec<Row>, cut: &mut Vec<Piece>) -> Result<(), NoMemory>
+    requires { cut.old.items ≡ [] }
+    ensures { OnOk result (rows.new.items ++ joined (reverse cut.new.items) ≡ rows.old.items) }
+{
+    while rows.len() > MOST_IN_PIECE {
+        let rest = rows.split_off(rows.len() - MOST_IN_PIECE)?;
+        cut.push(Piece {
+            start: 0,
+            rows: rest,
+        })?;
+    }
+    Ok(())
+}
+
+/// The same, with those that are left as the last piece.
+fn cut_all(rows: &mut Vec<Row>, cut: &mut Vec<Piece>) -> Result<(), NoMemory>
+    requires { cut.old.items ≡ [] }
+    ensures { OnOk result (joined (reverse cut.new.items) ≡ rows.old.items) }
+{
+    cut_off(rows, cut)?;
+    cut.reserve(1)?;
+    rows.shrink_to_fit();
+    let alloc = *rows.allocator();
+    let first = std::mem::replace(rows, Vec::new(alloc));
+    cut.push_reserved(Piece {
+        start: 0,
+        rows: first,
+    });
+    Ok(())
+}
+
+/// Cuts rows into pieces, and puts these behind others.
+fn move_behind(
+    pieces: &mut Vec<Piece>,
+    rows: &mut Vec<Row>,
+    cut: &mut Vec<Piece>,
+) -> Result<(), NoMemory>
+    requires { cut.old.items ≡ [] }
+    ensures ok { OnOk result (joined pieces.new.items ≡ joined pieces.old.items ++ rows.old.items) }
+    ensures err { OnErr result (joined pieces.new.items ≡ joined pieces.old.items) }
+{
+    cut_all(rows, cut)?;
+    cut.reverse();
+    pieces.append(cut)?;
+    Ok(())
+}
+
+/// Puts rows behind all those of pieces, in pieces of their own.
+///
+/// # Errors
+///
+/// `NoMemory` where memory is refused; nothing has changed then.
+fn add_pieces(pieces: &mut Vec<Piece>, rows: &mut Vec<Row>) -> Result<(), NoMemory>
+    ensures ok { OnOk result (joined pieces.new.items ≡ joined pieces.old.items ++ rows.old.items) }
+    ensures err { OnErr result (joined pieces.new.items ≡ joined pieces.old.items) }
+{
+    let mut cut = Vec::new(*rows.allocator());
+    let done = move_behind(pieces, rows, &mut cut);
+    drop(cut);
+    done
+}
+
+/// Puts rows behind all those of pieces: in the last one if that has room for them.
+///
+/// # Errors
+///
+/// `NoMemory` where memory is refused; nothing has changed then.
+pub fn add_behind(pieces: &mut Vec<Piece>, rows: &mut Vec<Row>) -> Result<(), NoMemory>
+    ensures ok { OnOk result (joined pieces.new.items ≡ joined pieces.old.items ++ rows.old.items) }
+    ensures err { OnErr result (joined pieces.new.items ≡ joined pieces.old.items) }
+{
+    let count = pieces.len();
+    if count == 0 || pieces[count - 1].rows.len() + rows.len() > MOST_IN_PIECE {
+        return add_pieces(pieces, rows);
+    }
+    let last = &mut pieces[count - 1];
+    last.rows.append(rows)?;
+    Ok(())
+}

@@ -1,0 +1,103 @@
+//! Rows that are held, in the order in which they were put.
+
+ghost use Rattle.std.specs.Prelude.{◌≡◌, ◌-◌, ◌≤◌, ◌++◌, Bool, List, OnOk, OnErr, [], length, filter, take, drop};
+ghost use Rattle.std.specs.Fn.{ComputesKey};
+ghost use Rattle.cqa_value.specs.declared.value.Value.{Value as Cell};
+ghost use Rattle.row_pieces.specs.Inserted.{with_items, AreRising};
+
+use crate::piece::{Piece, renumber};
+use crate::put::put;
+use crate::rows::Rows;
+use crate::take::{drop_empty, exchange_each, retain_each};
+use cqa_value::{NoMemory, Row};
+use std::alloc::Global;
+use std::marker::Model;
+
+/// Rows one after the other, in pieces of a few hundred, so that to put one in or to take it out moves those of a piece and
+/// not all behind it. A piece is begun only where another one is full, or has no room for all rows that go behind it, and
+/// goes with the last of its rows. Pieces that removals leave small aren't joined, so there may be as many as rows.
+#[derive(Drop)]
+pub struct Pieces {
+    pieces: Vec<Piece>,
+    count: usize,
+}
+
+impl Model for Pieces {
+    ghost use Rattle.std.specs.Prelude.{◌≡◌, List, length};
+    ghost use Rattle.cqa_value.specs.declared.value.Value.{Value as Cell};
+    ghost use Rattle.row_pieces.specs.Joined.{joined, AreNumbered};
+
+    ghost Value = { List (List Cell) };
+
+    ghost view = { λ p. joined p.pieces.items };
+
+    ghost invariant = { λ p. AreNumbered 0 p.pieces.items × (p.count ≡ length (joined p.pieces.items)) };
+}
+
+impl Pieces {
+    /// No rows.
+    pub fn new(alloc: Global) -> Pieces
+        ensures { result ≡ [] }
+    {
+        Pieces {
+            pieces: Vec::new(alloc),
+            count: 0,
+        }
+    }
+
+    /// The rows.
+    pub fn rows(&self) -> Rows<'_>
+        ensures { result ≡ self.now }
+    {
+        Rows::all(self.pieces.as_slice(), self.count)
+    }
+
+    /// The allocator that it takes memory from.
+    pub fn allocator(&self) -> Global {
+        *self.pieces.allocator()
+    }
+
+    /// Puts rows in, each before the one that stands at its place.
+    ///
+    /// # Errors
+    ///
+    /// `NoMemory` where memory is refused; nothing has changed then.
+    pub fn insert(&mut self, mut rows: Vec<Row>, places: &[usize]) -> Result<(), NoMemory>
+        requires each { length places.now ≡ length rows.items }
+        requires rising { AreRising 0 (length self.old) places.now }
+        ensures ok { OnOk result (self.new ≡ with_items self.old rows.items places.now) }
+        ensures err { OnErr result (self.new ≡ self.old) }
+    {
+        let done = put(&mut self.pieces, self.count, &mut rows, places);
+        let kept = match done {
+            Ok(kept) => kept,
+            Err(_) => 0,
+        };
+        self.count = renumber(self.pieces.as_mut_slice(), kept);
+        done?;
+        Ok(())
+    }
+
+    /// Takes the rows of a stretch away that don't pass a test.
+    pub fn retain_in<P: FnMut(&Row) -> bool>(&mut self, from: usize, to: usize, stays: P)
+        requires callable { P.IsAlwaysCallable stays }
+        requires order { from ≤ to }
+        requires within { to ≤ length self.old }
+        ensures retained { (p : List Cell → Bool) → ComputesKey P.FnMut p stays → self.new ≡ (take from self.old ++ filter p (take (to - from) (drop from self.old))) ++ drop to self.old }
+        ensures fewer { length self.new ≤ length self.old }
+    {
+        retain_each(self.pieces.as_mut_slice(), from, to, stays);
+        drop_empty(&mut self.pieces);
+        self.count = renumber(self.pieces.as_mut_slice(), 0);
+    }
+
+    /// Exchanges all rows for as many others.
+    pub fn exchange(&mut self, rows: &mut [Row])
+        requires { length rows.old ≡ length self.old }
+        ensures held { self.new ≡ rows.old }
+        ensures given { rows.new ≡ self.old }
+    {
+        exchange_each(self.pieces.as_mut_slice(), rows);
+        self.count = renumber(self.pieces.as_mut_slice(), 0);
+    }
+}

@@ -1,0 +1,90 @@
+//! Rows that are taken out of pieces, or exchanged.
+
+ghost use Rattle.std.specs.Prelude.{◌≡◌, ◌≤◌, ◌+◌, ◌-◌, ◌++◌, Bool, List, length, take, drop};
+ghost use Rattle.std.specs.Fn.{ComputesKey};
+ghost use Rattle.cqa_value.specs.declared.value.Value.{Value as Cell};
+ghost use Rattle.row_pieces.specs.Joined.{joined, AreNumbered};
+ghost use Rattle.row_pieces.specs.Retained.{retained};
+
+use crate::keep::retain_range;
+use crate::piece::{Piece, piece_of};
+use cqa_value::Row;
+
+/// Takes the rows of a stretch away that don't pass a test, as far as it goes over these, and gives the test.
+fn retain_some<P: FnMut(&Row) -> bool>(rows: &mut Vec<Row>, from: usize, to: usize, stays: P) -> P
+    requires callable { P.IsAlwaysCallable stays }
+    requires order { from ≤ to }
+    ensures callable { P.IsAlwaysCallable result }
+    ensures kept { (p : List Cell → Bool) (behind : List (List Cell)) → ComputesKey P.FnMut p stays → ComputesKey P.FnMut p result × (retained p from to (rows.old.items ++ behind) ≡ rows.new.items ++ retained p (from - length rows.old.items) (to - length rows.old.items) behind) }
+    ensures fewer { length rows.new.items ≤ length rows.old.items }
+{
+    let len = rows.len();
+    if len <= from {
+        return stays;
+    }
+    retain_range(rows, from, to.min(len), stays)
+}
+
+/// Takes the rows of a stretch away that don't pass a test, from the piece on in which it begins. A piece may have none left.
+pub fn retain_each<P: FnMut(&Row) -> bool>(
+    pieces: &mut [Piece],
+    from: usize,
+    to: usize,
+    mut stays: P,
+)
+    requires callable { P.IsAlwaysCallable stays }
+    requires order { from ≤ to }
+    requires within { from ≤ length (joined pieces.old) }
+    requires numbered { AreNumbered 0 pieces.old }
+    ensures kept { (p : List Cell → Bool) → ComputesKey P.FnMut p stays → joined pieces.new ≡ retained p from to (joined pieces.old) }
+    ensures fewer { length (joined pieces.new) ≤ length (joined pieces.old) }
+{
+    if pieces.is_empty() {
+        return;
+    }
+    let first = piece_of(pieces, from);
+    let start = pieces[first].start;
+    let mut low = from - start;
+    let mut high = to - start;
+    for at in first..pieces.len() {
+        let piece = &mut pieces[at];
+        let len = piece.rows.len();
+        stays = retain_some(&mut piece.rows, low, high, stays);
+        low = low.saturating_sub(len);
+        high = high.saturating_sub(len);
+        if high == 0 {
+            return;
+        }
+    }
+}
+
+/// Takes the pieces without rows away.
+pub fn drop_empty(pieces: &mut Vec<Piece>)
+    ensures { joined pieces.new.items ≡ joined pieces.old.items }
+{
+    pieces.retain(|piece| !piece.rows.is_empty());
+}
+
+/// Exchanges rows for as many others, from a place on.
+fn exchange_some(rows: &mut [Row], others: &mut [Row], start: usize)
+    requires { start + length rows.old ≤ length others.old }
+    ensures held { rows.new ≡ take (length rows.old) (drop start others.old) }
+    ensures given { others.new ≡ take start others.old ++ (rows.old ++ drop (length rows.old) (drop start others.old)) }
+{
+    let end = start + rows.len();
+    rows.swap_with_slice(&mut others[start..end]);
+}
+
+/// Exchanges the rows of pieces for as many others.
+pub fn exchange_each(pieces: &mut [Piece], rows: &mut [Row])
+    requires { length rows.old ≡ length (joined pieces.old) }
+    ensures held { joined pieces.new ≡ rows.old }
+    ensures given { rows.new ≡ joined pieces.old }
+{
+    let mut start = 0;
+    for at in 0..pieces.len() {
+        let piece = &mut pieces[at];
+        exchange_some(piece.rows.as_mut_slice(), rows, start);
+        start += piece.rows.len();
+    }
+}
