@@ -1,27 +1,28 @@
 -- What an insert gives.
-use Rattle.std.proofs.Common.{◌≡◌, ◌≤◌, ◌↔◌, ◌⊎◌, inl, inr, ◌+◌, ℕ, Bool, true, false, nat_le, List, ◌++◌, Option, Some, None, Contains, refl, sym, ap, ◌∙◌, rules, true≢false}
+use Rattle.std.proofs.Common.{◌≡◌, ◌≤◌, ◌↔◌, ◌⊎◌, inl, inr, ◌+◌, ℕ, Bool, true, false, nat_le, List, length, Option, Some, None, Contains, refl, sym, ap, ◌∙◌, rules, true≢false}
 use Rattle.std.specs.Prelude.{if◌then◌else◌}
 use Rattle.cqa_value.specs.declared.value.Kind.{Kind}
 use Rattle.cqa_value.specs.declared.value.Value.{Value}
 use Rattle.cqa_model.specs.declared.refusal.Refusal.{Refusal}
 use Rattle.cqa_model.specs.declared.refusal.Refusal.TheVariants.{Limit}
 use Rattle.cqa_model.specs.declared.refusal.LimitKind.TheVariants.{Rows}
-use Rattle.std.specs.List.Sorted.{IsStrictlySortedBy, IsPermutation}
-use Rattle.std.proofs.lemmas.List.Sorted.{Contains-permutation, IsPermutation-sym}
-use Rattle.std.proofs.lemmas.List.Elements.{Contains-append_cases, Contains-append_left, Contains-append_right}
+use Rattle.row_pieces.specs.Inserted.{with_items, AreRising}
 use Rattle.cqa_model.specs.Database.{Table, row_total, block_cmp}
-use Rattle.table_blocks.specs.Tables.{IsMerged, is_among, first_of, rows_fault, key_fault, limit_fault, insert_fault, rows_at, kinds_at, count_new}
+use Rattle.table_blocks.specs.Tables.{IsMerged, AreMergeable, is_among, first_of, rows_fault, key_fault, limit_fault, insert_fault, rows_at, kinds_at, count_new}
+use Rattle.table_blocks.proofs.BlockOrder.{block_total, block_exact, block_alike}
 use Rattle.table_blocks.proofs.Membership.{among}
+use Rattle.table_blocks.proofs.Placing.{places-long}
+use Rattle.table_blocks.proofs.Merging.{merged_sorted, places_rising, with_items-members}
 
--- sorted rows that are those of two lists
-pub merged_by : (key : List ℕ) (stored given rows : List (List Value)) → IsStrictlySortedBy (block_cmp key) rows → IsPermutation (stored ++ given) rows → IsMerged key stored given rows
-merged_by key stored given rows s same = record {
-  in_order = s;
-  members = λ row. (
-    λ h. Contains-append_cases stored given row (Contains-permutation _ _ row (IsPermutation-sym _ _ same) h),
-    λ h. Contains-permutation (stored ++ given) rows row same (elim h [ inl m ↦ Contains-append_left stored given row m | inr m ↦ Contains-append_right stored given row m ]),
-  );
+-- fresh rows that are put among the stored ones at their places are merged with them
+pub merged_in : (key : List ℕ) (stored fresh : List (List Value)) (places : List ℕ) → AreMergeable key stored fresh places → IsMerged key stored fresh (with_items stored fresh places)
+merged_in key stored fresh places m = record {
+  in_order = merged_sorted (block_cmp key) (block_total key) (block_exact key) (block_alike key) stored fresh places m.ascending m.rising m.apart m.placed;
+  members = with_items-members stored fresh places (places-long (block_cmp key) stored fresh places m.placed);
 }
+
+pub rising_in : (key : List ℕ) (stored fresh : List (List Value)) (places : List ℕ) → AreMergeable key stored fresh places → AreRising 0 (length stored) places
+rising_in key stored fresh places m = places_rising (block_cmp key) (block_total key) (block_exact key) (block_alike key) stored fresh places m.rising m.placed
 
 -- the stored rows with the new ones are the stored rows with the given ones
 pub merged_given : (key : List ℕ) (stored given fresh rows : List (List Value)) → IsMerged key stored fresh rows

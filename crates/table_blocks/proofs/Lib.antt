@@ -2,7 +2,6 @@ pub mod BlockOrder
 pub mod Halving
 pub mod Sorting
 pub mod Placing
-pub mod Turning
 pub mod Membership
 pub mod Merging
 pub mod Counting

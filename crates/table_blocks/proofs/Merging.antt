@@ -1,21 +1,87 @@
--- Merging sorted rows with others, from the greatest on, in room behind them.
-use Rattle.std.proofs.Common.{◌≡◌, inl, inr, zero, suc, ◌≤◌, ◌<◌, ◌+◌, ◌-◌, ℕ, List, [], ◌∷◌, ◌++◌, length, take, drop, get_or, set, Contains, refl, sym, ap, ◌∙◌, subst, arith, append_assoc, length-append}
-use Rattle.std.proofs.lemmas.List.{append-nil}
+-- Sorted rows that are put into others at their places.
+use Rattle.std.proofs.Common.{◌≡◌, ◌⊎◌, ◌↔◌, inl, inr, zero, suc, ◌≤◌, ◌<◌, ◌+◌, ℕ, List, [], ◌∷◌, ◌++◌, length, take, drop, get_or, Contains, refl, sym, ap, ◌∙◌, subst, arith, length-append}
 use Rattle.std.specs.List.{AllByRecursion}
-use Rattle.std.specs.List.Sorted.{IsStrictlySortedBy, IsPermutation}
-use Rattle.std.proofs.lemmas.List.Sorted.{IsPermutation-refl, IsPermutation-trans, IsPermutation-append_left, IsPermutation-append_right, IsPermutation-append_comm}
+use Rattle.std.specs.List.Sorted.{IsStrictlySortedBy}
 use Rattle.std.specs.Cmp.{IsTotalOrder}
 use Rattle.std.specs.Ordering.{ordering_reverse}
 use Rattle.std.specs.declared.cmp.Ordering.{Ordering}
 use Rattle.std.specs.declared.cmp.Ordering.TheVariants.{Less, Equal, Greater}
-use Rattle.std.proofs.lemmas.List.Elements.{Contains-append_cases, Contains-append_left, Contains-append_right, Contains-get_or, Contains-push}
-use Rattle.std.proofs.lemmas.List.{take-append-drop, take_all, length-take-le, get_or-drop, length-drop}
-use Rattle.std.proofs.Math.Seq.{take-append_seam, set-append_seam}
+use Rattle.std.proofs.lemmas.List.Elements.{Contains-append_cases, Contains-append_left, Contains-append_right, Contains-get_or}
+use Rattle.std.proofs.lemmas.List.{take-append-drop, take-append-le, length-take-le, get_or-drop, length-drop}
 use Rattle.std.proofs.lemmas.Option.{slice_get-get_or}
-use Rattle.table_blocks.specs.Tables.{IsPlace}
+use Rattle.row_pieces.specs.Inserted.{with_item, with_items, AreRising}
+use Rattle.table_blocks.specs.Tables.{IsPlace, ArePlaces}
 use Rattle.table_blocks.proofs.Membership.{contains_head, contains_later, contains_cases, contains_none}
-use Rattle.table_blocks.proofs.Placing.{take_of_take, place_in_front}
+use Rattle.table_blocks.proofs.Placing.{take_of_take, places-long, place_order}
 use Rattle.table_blocks.proofs.Sorting.{earlier_below, greater}
+
+-- an item more is there
+with_item-members : {A : Type 0} (at : ℕ) (y : A) (xs : List A) (x : A) → Contains (with_item at y xs) x ↔ ((y ≡ x) ⊎ Contains xs x)
+with_item-members at y xs x =
+    let whole = take-append-drop at xs in (
+      λ h. elim (Contains-append_cases (take at xs) (y ∷ drop at xs) x h) [
+        | inl f ↦ inr (subst (λ l. Contains l x) whole (Contains-append_left (take at xs) (drop at xs) x f))
+        | inr b ↦ elim (contains_cases y (drop at xs) x b) [ inl e ↦ inl e | inr l ↦ inr (subst (λ l. Contains l x) whole (Contains-append_right (take at xs) (drop at xs) x l)) ]
+      ],
+      λ h. elim h [
+        | inl e ↦ Contains-append_right (take at xs) (y ∷ drop at xs) x (subst (Contains (y ∷ drop at xs)) e (contains_head y (drop at xs)))
+        | inr m ↦ elim (Contains-append_cases (take at xs) (drop at xs) x (subst (λ l. Contains l x) (sym whole) m)) [
+          | inl f ↦ Contains-append_left (take at xs) (y ∷ drop at xs) x f
+          | inr b ↦ Contains-append_right (take at xs) (y ∷ drop at xs) x (contains_later y (drop at xs) x b)
+        ]
+      ],
+    )
+
+with_item-long : {A : Type 0} (at : ℕ) (y : A) (xs : List A) → length (with_item at y xs) ≡ length xs + 1
+with_item-long at y xs =
+    let more = length-append (take at xs) (y ∷ drop at xs) in
+    let all = ap length (sym (take-append-drop at xs)) ∙ length-append (take at xs) (drop at xs) in
+    omega (arith, more, all)
+
+-- items that are put in are there beside those that were there, and each counts
+pub with_items-members : {A : Type 0} (xs more : List A) (places : List ℕ) → length places ≡ length more → (x : A) → Contains (with_items xs more places) x ↔ (Contains xs x ⊎ Contains more x)
+with_items-members xs [] places l x = (λ h. inl h, λ h. elim h [ inl m ↦ m | inr n ↦ absurd (contains_none x n) ])
+with_items-members xs (y ∷ more) [] l x = absurd (omega (arith, l))
+with_items-members xs (y ∷ more) (at ∷ places) l x =
+    let here = with_item-members at y (with_items xs more places) x in
+    let rest = with_items-members xs more places (omega (arith, l)) x in (
+      λ h. elim (here.0 h) [ inl e ↦ inr (subst (Contains (y ∷ more)) e (contains_head y more)) | inr m ↦ elim (rest.0 m) [ inl k ↦ inl k | inr k ↦ inr (contains_later y more x k) ] ],
+      λ h. here.1 (elim h [ inl k ↦ inr (rest.1 (inl k)) | inr k ↦ elim (contains_cases y more x k) [ inl e ↦ inl e | inr n ↦ inr (rest.1 (inr n)) ] ]),
+    )
+
+pub with_items-long : {A : Type 0} (xs more : List A) (places : List ℕ) → length places ≡ length more → length (with_items xs more places) ≡ length xs + length more
+with_items-long xs [] places l = omega arith
+with_items-long xs (y ∷ more) [] l = absurd (omega (arith, l))
+with_items-long xs (y ∷ more) (at ∷ places) l =
+    let one = with_item-long at y (with_items xs more places) in
+    let rest = with_items-long xs more places (omega (arith, l)) in
+    omega (arith, one, rest)
+
+-- and none is lost
+none_fewer : {A : Type 0} (xs more : List A) (places : List ℕ) → length xs ≤ length (with_items xs more places)
+none_fewer xs [] places = omega arith
+none_fewer xs (y ∷ more) [] = omega arith
+none_fewer xs (y ∷ more) (at ∷ places) =
+    let one = with_item-long at y (with_items xs more places) in
+    let rest = none_fewer xs more places in
+    omega (arith, one, rest)
+
+rising_within : (from to : ℕ) (places : List ℕ) → AreRising from to places → from ≤ to
+rising_within from to [] rise = rise
+rising_within from to (at ∷ places) rise = let first = rise.0 in let rest = rising_within at to places rise.1 in omega (arith, first, rest)
+
+-- what stands before all places stays
+front_stays : {A : Type 0} (xs more : List A) (places : List ℕ) (from : ℕ) → AreRising from (length xs) places → take from (with_items xs more places) ≡ take from xs
+front_stays xs [] places from rise = refl
+front_stays xs (y ∷ more) [] from rise = refl
+front_stays xs (y ∷ more) (at ∷ places) from rise =
+    let grown = with_items xs more places in
+    let within = rising_within at (length xs) places rise.1 in
+    let more_long = none_fewer xs more places in
+    let front = length-take-le at grown (omega (arith, within, more_long)) in
+    let order = rise.0 in
+    take-append-le from (take at grown) (y ∷ drop at grown) (omega (arith, order, front))
+    ∙ ap (take from) (front_stays xs more places at rise.1) ∙ take_of_take from at xs rise.0
 
 module _ {A : Type 0} (cmp : A → A → Ordering) (total : IsTotalOrder cmp) (exact : (a b : A) → cmp a b ≡ Equal → a ≡ b) (alike : (a : A) → cmp a a ≡ Equal) where
   all_by : (P : A → Type 0) (xs : List A) → ((x : A) → Contains xs x → P x) → AllByRecursion P xs
@@ -73,119 +139,50 @@ module _ {A : Type 0} (cmp : A → A → Ordering) (total : IsTotalOrder cmp) (e
       further zero less here within = subst (λ z. cmp y z ≡ Less) here (subst (λ n. cmp y (get_or xs n x) ≡ Less) (omega arith) less)
       further (suc k) less here within = subst (λ z. cmp y z ≡ Less) here (total.trans y (get_or xs at x) (get_or xs (at + suc k) x) less (earlier_below cmp total exact alike xs s at (at + suc k) x (omega arith) within))
 
-  -- rows that are merged: stored ones, room for the given ones, and those that stand at their place already
-  pub record Merging (old all rows : List A) (end : ℕ) (fresh : List A) : Type 0 where
-    pub before : List A
-    pub room : List A
-    pub tail : List A
-    pub is : rows ≡ before ++ (room ++ tail)
-    pub first : before ≡ take end old
-    pub ends : length before ≡ end
-    pub rooms : length room ≡ length fresh
-    pub ascending : IsStrictlySortedBy cmp (before ++ tail)
-    pub rising : IsStrictlySortedBy cmp (fresh ++ tail)
-    pub apart : (x : A) → Contains before x → Contains fresh x → ⊥
-    pub same : IsPermutation all (before ++ (fresh ++ tail))
+  -- a row put among sorted rows, where those before its place are below it and those behind are above it
+  put_sorted : (xs : List A) (y : A) (at : ℕ) → IsStrictlySortedBy cmp xs → AllByRecursion (λ x. cmp x y ≡ Less) (take at xs) → ((x : A) → Contains (drop at xs) x → cmp y x ≡ Less) → IsStrictlySortedBy cmp (with_item at y xs)
+  put_sorted xs y at s below over =
+      let front = take at xs in
+      let rest = drop at xs in
+      let split : IsStrictlySortedBy cmp (front ++ rest) = subst (IsStrictlySortedBy cmp) (sym (take-append-drop at xs)) s in
+      sorted_join front (y ∷ rest) (sorted_front front rest split) (sorted_cons y rest over (sorted_back front rest split)) (λ u v h k. elim (contains_cases y rest v k) [
+        | inl e ↦ subst (λ z. cmp u z ≡ Less) e (of_all (λ z. cmp z y ≡ Less) front below u h)
+        | inr l ↦ across front rest split u v h l
+      ])
 
-  pub begun : (rows : List A) (end : ℕ) (fresh : List A) → length rows ≡ end + length fresh → IsStrictlySortedBy cmp (take end rows) → IsStrictlySortedBy cmp fresh → ((x : A) → Contains (take end rows) x → Contains fresh x → ⊥) → Merging (take end rows) (take end rows ++ fresh) rows end fresh
-  begun rows end fresh long s t apart = record {
-    before = take end rows;
-    room = drop end rows;
-    tail = [];
-    is = sym (ap (λ l. take end rows ++ l) (append-nil (drop end rows)) ∙ take-append-drop end rows);
-    first = sym (take_of_take end end rows (omega arith));
-    ends = length-take-le end rows (omega (arith, long));
-    rooms = length-drop end rows ∙ omega (arith, long);
-    ascending = subst (IsStrictlySortedBy cmp) (sym (append-nil (take end rows))) s;
-    rising = subst (IsStrictlySortedBy cmp) (sym (append-nil fresh)) t;
-    apart = apart;
-    same = subst (IsPermutation (take end rows ++ fresh)) (ap (λ l. take end rows ++ l) (sym (append-nil fresh))) (IsPermutation-refl (take end rows ++ fresh));
-  }
+  rising_behind : (stored : List A) (x : A) (p : ℕ) (rows : List A) (places : List ℕ) → IsPlace cmp stored x p → IsStrictlySortedBy cmp (x ∷ rows) → ArePlaces cmp stored rows places → AreRising p (length stored) places
+  unfolding IsStrictlySortedBy
+  rising_behind stored x p [] [] is s h = is.within
+  rising_behind stored x p [] (q ∷ places) is s h = absurd h
+  rising_behind stored x p (y ∷ rows) [] is s h = absurd h
+  rising_behind stored x p (y ∷ rows) (q ∷ places) is s h = (place_order cmp total exact alike stored x y p q is h.0 s.0.0, rising_behind stored y q rows places h.0 s.1 h.1)
 
-  -- there is room for the given ones behind the stored ones
-  pub roomy : (old all rows : List A) (end : ℕ) (fresh : List A) → Merging old all rows end fresh → end + length fresh ≤ length rows
-  roomy old all rows end fresh m =
-      let long = ap length m.is ∙ length-append m.before (m.room ++ m.tail) in
-      let more = length-append m.room m.tail in
-      omega (arith, long, more, m.ends, m.rooms)
+  -- the places of sorted rows go up
+  pub places_rising : (stored rows : List A) (places : List ℕ) → IsStrictlySortedBy cmp rows → ArePlaces cmp stored rows places → AreRising 0 (length stored) places
+  places_rising stored [] [] s h = omega arith
+  places_rising stored [] (q ∷ places) s h = absurd h
+  places_rising stored (y ∷ rows) [] s h = absurd h
+  places_rising stored (y ∷ rows) (q ∷ places) s h = (omega arith, rising_behind stored y q rows places h.0 s h.1)
 
-  nil_of : (xs : List A) → length xs ≡ 0 → xs ≡ []
-  nil_of [] e = refl
-  nil_of (x ∷ xs) e = absurd (omega (arith, e))
-
-  merged : (old all rows : List A) (end : ℕ) (m : Merging old all rows end []) → rows ≡ m.before ++ m.tail
-  merged old all rows end m = m.is ∙ ap (λ l. m.before ++ (l ++ m.tail)) (nil_of m.room m.rooms)
-
-  pub ended_sorted : (old all rows : List A) (end : ℕ) → Merging old all rows end [] → IsStrictlySortedBy cmp rows
-  ended_sorted old all rows end m = subst (IsStrictlySortedBy cmp) (sym (merged old all rows end m)) m.ascending
-
-  pub ended_same : (old all rows : List A) (end : ℕ) → Merging old all rows end [] → IsPermutation all rows
-  ended_same old all rows end m = subst (IsPermutation all) (sym (merged old all rows end m)) m.same
-
-  last_of : (xs : List A) (n : ℕ) → length xs ≡ suc n → (ys : List A) × (y : A) × (xs ≡ ys ++ y ∷ []) × (length ys ≡ n)
-  last_of [] n e = absurd (omega (arith, e))
-  last_of (x ∷ []) n e = ([], x, refl, omega (arith, e))
-  last_of (x ∷ z ∷ xs) zero e = absurd (omega (arith, e))
-  last_of (x ∷ z ∷ xs) (suc n) e = let r = last_of (z ∷ xs) n (omega (arith, e)) in (x ∷ r.0, r.1, ap (λ l. x ∷ l) r.2, omega (arith, r.3))
-
-  -- the greatest of the given rows goes to its place
-  pub stepped : (old all rows moved : List A) (end place : ℕ) (fs : List A) (y : A) → Merging old all rows end (fs ++ y ∷ []) → place ≤ end → IsPlace cmp old y place
-      → ((a b c d : List A) → rows ≡ a ++ (b ++ (c ++ d)) → length a ≡ place → length a + length b ≡ end → length c ≡ length fs + 1 → (e : List A) × (length e ≡ length fs + 1) × (moved ≡ a ++ (e ++ (b ++ d))))
-      → Merging old all (set moved (place + length fs) y) place fs
-  stepped old all rows moved end place fs y m no_later p moves =
-      let fresh = fs ++ y ∷ [] in
-      let at : IsPlace cmp m.before y place = subst (λ l. IsPlace cmp l y place) (sym m.first) (place_in_front cmp old y place end no_later (ap length (sym m.first) ∙ m.ends) p) in
-      let a = take place m.before in
-      let b = drop place m.before in
-      let rest = b ++ m.tail in
-      let whole : a ++ b ≡ m.before = take-append-drop place m.before in
-      let long : length a ≡ place = length-take-le place m.before at.within in
-      let short : length b ≡ length m.before - place = length-drop place m.before in
-      let many : length fresh ≡ length fs + 1 = length-append fs (y ∷ []) in
-      let given : Contains fresh y = Contains-push fs y in
-      let over : (x : A) → Contains rest x → cmp y x ≡ Less =
-      λ x h. elim (Contains-append_cases b m.tail x h) [
-        | inl l ↦ above m.before y place (sorted_front m.before m.tail m.ascending) at (λ k. m.apart y k given) x l
-        | inr l ↦ across fresh m.tail m.rising y x given l
-      ] in
-      let split : IsStrictlySortedBy cmp (a ++ rest) = subst (IsStrictlySortedBy cmp) (ap (λ l. l ++ m.tail) (sym whole) ∙ append_assoc a b m.tail) m.ascending in
-      let behind : IsStrictlySortedBy cmp (y ∷ rest) = sorted_cons y rest over (sorted_back a rest split) in
-      let risen : IsStrictlySortedBy cmp (fs ++ y ∷ m.tail) = subst (IsStrictlySortedBy cmp) (append_assoc fs (y ∷ []) m.tail) m.rising in
-      let under : (u : A) → Contains fs u → cmp u y ≡ Less = λ u h. across fs (y ∷ m.tail) risen u y h (contains_head y m.tail) in
-      let gone = moves a b m.room m.tail (m.is ∙ ap (λ l. l ++ (m.room ++ m.tail)) (sym whole) ∙ append_assoc a b (m.room ++ m.tail)) long (omega (arith, long, short, m.ends, at.within)) (m.rooms ∙ many) in
-      let r = last_of gone.0 (length fs) (gone.1 ∙ omega arith) in
-      let es = r.0 in
-      let seam : moved ≡ (a ++ es) ++ r.1 ∷ rest =
-      gone.2 ∙ ap (λ l. a ++ (l ++ rest)) r.2 ∙ ap (λ l. a ++ l) (append_assoc es (r.1 ∷ []) rest) ∙ sym (append_assoc a es (r.1 ∷ rest)) in
-      let far : length (a ++ es) ≡ place + length fs = length-append a es ∙ ap (λ n. n + length es) long ∙ ap (λ n. place + n) r.3 in
-      record {
-        before = a;
-        room = es;
-        tail = y ∷ rest;
-        is = ap (λ n. set moved n y) (sym far) ∙ ap (λ l. set l (length (a ++ es)) y) seam ∙ set-append_seam (a ++ es) r.1 rest y ∙ append_assoc a es (y ∷ rest);
-        first = ap (take place) m.first ∙ take_of_take place end old no_later;
-        ends = long;
-        rooms = r.3;
-        ascending = sorted_join a (y ∷ rest) (sorted_front a rest split) behind (λ u v h k. elim (contains_cases y rest v k) [
-          | inl e ↦ subst (λ z. cmp u z ≡ Less) e (of_all (λ z. cmp z y ≡ Less) a at.below u h)
-          | inr l ↦ across a rest split u v h l
-        ]);
-        rising = sorted_join fs (y ∷ rest) (sorted_front fs (y ∷ m.tail) risen) behind (λ u v h k. elim (contains_cases y rest v k) [
-          | inl e ↦ subst (λ z. cmp u z ≡ Less) e (under u h)
-          | inr l ↦ total.trans u y v (under u h) (over v l)
-        ]);
-        apart = λ x h k. m.apart x (subst (λ l. Contains l x) whole (Contains-append_left a b x h)) (Contains-append_left fs (y ∷ []) x k);
-        same = IsPermutation-trans all (m.before ++ (fresh ++ m.tail)) (a ++ (fs ++ y ∷ rest)) m.same
-            (subst (λ l. IsPermutation l (a ++ (fs ++ y ∷ rest))) (sym (append_assoc a b (fresh ++ m.tail)) ∙ ap (λ l. l ++ (fresh ++ m.tail)) whole)
-            (IsPermutation-append_right a (b ++ (fresh ++ m.tail)) (fs ++ y ∷ rest)
-            (subst (IsPermutation (b ++ (fresh ++ m.tail))) (append_assoc fs (y ∷ []) rest)
-            (subst (λ l. IsPermutation l (fresh ++ rest)) (append_assoc b fresh m.tail)
-            (subst (IsPermutation ((b ++ fresh) ++ m.tail)) (append_assoc fresh b m.tail)
-            (IsPermutation-append_left m.tail (b ++ fresh) (fresh ++ b) (IsPermutation-append_comm b fresh)))))));
-      }
-
--- a list's first part, once it has grown
-pub kept : {A : Type 0} (old more : List A) (m n : ℕ) → m ≡ length old → m ≤ n → take m (take n old ++ more) ≡ old
-kept old more m n e l =
-    let all : take n old ≡ old = take_all n old (omega (arith, e, l)) in
-    ap (λ i. take i (take n old ++ more)) e ∙ ap (λ xs. take (length old) (xs ++ more)) all ∙ take-append_seam old more
+  -- sorted rows that are put into sorted rows at their places: these are sorted then
+  pub merged_sorted : (stored fresh : List A) (places : List ℕ) → IsStrictlySortedBy cmp stored → IsStrictlySortedBy cmp fresh → ((x : A) → Contains stored x → Contains fresh x → ⊥) → ArePlaces cmp stored fresh places → IsStrictlySortedBy cmp (with_items stored fresh places)
+  unfolding IsStrictlySortedBy
+  merged_sorted stored [] [] s t apart h = s
+  merged_sorted stored [] (at ∷ places) s t apart h = absurd h
+  merged_sorted stored (y ∷ more) [] s t apart h = absurd h
+  merged_sorted stored (y ∷ more) (at ∷ places) s t apart h =
+      let xs = with_items stored more places in
+      let sorted = merged_sorted stored more places s t.1 (λ x m k. apart x m (contains_later y more x k)) h.1 in
+      let front : take at xs ≡ take at stored = front_stays stored more places at (rising_behind stored y at more places h.0 t h.1) in
+      let apart_y : Contains stored y → ⊥ = λ m. apart y m (contains_head y more) in
+      put_sorted xs y at sorted (subst (AllByRecursion (λ x. cmp x y ≡ Less)) (sym front) h.0.below)
+      (λ x k. elim ((with_items-members stored more places (places-long cmp stored more places h.1) x).0 (subst (λ l. Contains l x) (take-append-drop at xs) (Contains-append_right (take at xs) (drop at xs) x k))) [
+        | inl m ↦ elim (Contains-append_cases (take at stored) (drop at stored) x (subst (λ l. Contains l x) (sym (take-append-drop at stored)) m)) [
+          | inl f ↦ absurd (not_self x (across (take at xs) (drop at xs) (subst (IsStrictlySortedBy cmp) (sym (take-append-drop at xs)) sorted) x x (subst (λ l. Contains l x) (sym front) f) k))
+          | inr b ↦ above stored y at s h.0 apart_y x b
+        ]
+        | inr m ↦ of_all (λ z. cmp y z ≡ Less) more t.0 x m
+      ])
+    where
+      not_self : (x : A) → cmp x x ≡ Less → ⊥
+      not_self x e = (cc (sym e ∙ alike x))

@@ -1,5 +1,5 @@
 -- Rows that are put in block order: there is one such list of them.
-use Rattle.std.proofs.Common.{◌≡◌, ◌⊎◌, ◌↔◌, inl, inr, ℕ, ◌≤◌, ◌+◌, length, arith, List, [], ◌∷◌, Contains, refl, sym, ap, ◌∙◌, subst}
+use Rattle.std.proofs.Common.{◌≡◌, ◌⊎◌, ◌↔◌, inl, inr, ℕ, ◌+◌, length, arith, List, [], ◌∷◌, Contains, refl, sym, ap, ◌∙◌, subst}
 use Rattle.std.specs.List.Sorted.{IsStrictlySortedBy}
 use Rattle.std.specs.Ordering.{ordering_reverse}
 use Rattle.std.specs.declared.cmp.Ordering.{Ordering}
@@ -114,15 +114,22 @@ module _ (key : List ℕ) where
     λ h. (same x).1 ((order_members rows x).0 h),
   ))
 
-  with_row-count : (row : List Value) (rows : List (List Value)) → length (with_row key row rows) ≤ 1 + length rows
-  with_row-count row [] = omega arith
-  with_row-count row (y ∷ rows) = go (block_cmp key row y) (with_row-count row rows)
+  with_row-long : (row : List Value) (rows : List (List Value)) → (Contains rows row → ⊥) → length (with_row key row rows) ≡ 1 + length rows
+  with_row-long row [] apart = omega arith
+  with_row-long row (y ∷ rows) apart = go (block_cmp key row y) refl (with_row-long row rows (λ m. apart (contains_later y rows row m)))
     where
-      go : (o : Ordering) → length (with_row key row rows) ≤ 1 + length rows → length (by_ordering o (row ∷ (y ∷ rows)) (y ∷ rows) (y ∷ with_row key row rows)) ≤ 1 + length (y ∷ rows)
-      go Less more = omega arith
-      go Equal more = omega arith
-      go Greater more = omega (arith, more)
+      go : (o : Ordering) → block_cmp key row y ≡ o → length (with_row key row rows) ≡ 1 + length rows → length (by_ordering o (row ∷ (y ∷ rows)) (y ∷ rows) (y ∷ with_row key row rows)) ≡ 1 + length (y ∷ rows)
+      go Less e more = omega arith
+      go Equal e more = absurd (apart (subst (Contains (y ∷ rows)) (sym (block_exact key row y e)) (contains_head y rows)))
+      go Greater e more = omega (arith, more)
 
-  pub order_count : (rows : List (List Value)) → length (block_order key rows) ≤ length rows
-  order_count [] = omega arith
-  order_count (row ∷ rows) = let one = with_row-count row (block_order key rows) in let more = order_count rows in omega (arith, one, more)
+-- rows in the block order of one key are as many in that of another
+pub order_long : (key old_key : List ℕ) (rows : List (List Value)) → IsStrictlySortedBy (block_cmp old_key) rows → length (block_order key rows) ≡ length rows
+order_long key old_key [] s = refl
+order_long key old_key (row ∷ rows) s =
+    let more = order_long key old_key rows (tail_sorted old_key row rows s) in
+    let one = with_row-long key row (block_order key rows) (λ m. not_self (head_below old_key row rows s row ((order_members key rows row).0 m))) in
+    omega (arith, one, more)
+  where
+    not_self : block_cmp old_key row row ≡ Less → ⊥
+    not_self e = let r = block_alike old_key row in (cc)

@@ -20,6 +20,7 @@ use crate::test::ColumnTest;
 use cqa_model::{LimitKind, MOST_ROWS, MOST_TABLES, Refusal, Schema};
 use cqa_value::{Fail, Items, Name, NoMemory, Row};
 use indexmap::IndexMap;
+use row_pieces::Rows;
 use std::alloc::Global;
 use std::marker::Model;
 use std::sync::ledger::Ledger;
@@ -93,11 +94,11 @@ impl Database {
     }
 
     /// The rows of a table, in block order.
-    pub fn rows(&self, table: u32) -> &[Row]
+    pub fn rows(&self, table: u32) -> Rows<'_>
         requires { table < length self.now }
-        ensures is { result.now ≡ rows_at self.now table }
-        ensures in_order { IsStrictlySortedBy (block_cmp (key_at self.now table)) result.now }
-        ensures few { length result.now ≤ MOST_ROWS }
+        ensures is { result ≡ rows_at self.now table }
+        ensures in_order { IsStrictlySortedBy (block_cmp (key_at self.now table)) result }
+        ensures few { length result ≤ MOST_ROWS }
     {
         self.table(table).rows()
     }
@@ -127,7 +128,7 @@ impl Database {
         requires { table < length self.now }
         ensures { MatchOption result (Contains (rows_at self.now table) row.now → ⊥) (λ at. slice_get (rows_at self.now table) at ≡ Some row.now) }
     {
-        let at = find_in(self.rows(table), self.key(table), row)?;
+        let at = find_in(&self.rows(table), self.key(table), row)?;
         Some(at as u32)
     }
 
@@ -139,24 +140,24 @@ impl Database {
         table: u32,
         probe: &Probe<'_>,
         steps: &mut Steps<L>,
-    ) -> (u32, &[Row])
+    ) -> (u32, Rows<'_>)
         requires there { table < length self.now }
         requires few { length probe.now ≤ length (key_at self.now table) }
-        ensures span { IsSpan (key_at self.now table) (rows_at self.now table) probe.now result.0 result.1.now }
-        ensures within { result.0 + length result.1.now ≤ MOST_ROWS }
+        ensures span { IsSpan (key_at self.now table) (rows_at self.now table) probe.now result.0 result.1 }
+        ensures within { result.0 + length result.1 ≤ MOST_ROWS }
         ensures cost { (digits : ℕ) → length (rows_at self.now table) < 2 ^ digits → steps.new ≤ steps.old + 2 * digits }
     {
-        let (start, rows) = span_in(self.rows(table), self.key(table), probe, steps);
+        let (start, rows) = span_in(&self.rows(table), self.key(table), probe, steps);
         (start as u32, rows)
     }
 
     /// The block of a table whose key values are a probe's; no rows where there is none.
     ///
     /// It takes at most twice as many comparisons of keys as the number of the table's rows has binary digits.
-    pub fn block<L: Ledger>(&self, table: u32, probe: &Probe<'_>, steps: &mut Steps<L>) -> &[Row]
+    pub fn block<L: Ledger>(&self, table: u32, probe: &Probe<'_>, steps: &mut Steps<L>) -> Rows<'_>
         requires there { table < length self.now }
         requires all { length probe.now ≡ length (key_at self.now table) }
-        ensures block { (start : ℕ) × IsSpan (key_at self.now table) (rows_at self.now table) probe.now start result.now }
+        ensures block { (start : ℕ) × IsSpan (key_at self.now table) (rows_at self.now table) probe.now start result }
         ensures cost { (digits : ℕ) → length (rows_at self.now table) < 2 ^ digits → steps.new ≤ steps.old + 2 * digits }
     {
         let (_, rows) = self.span(table, probe, steps);
@@ -165,13 +166,13 @@ impl Database {
 
     /// The rows of a table whose first key values are a probe's, and the place of the first of them: one search by
     /// halving, and doubling steps to the last of them. No comparison is counted.
-    pub fn rows_with(&self, table: u32, probe: &Probe<'_>) -> (u32, &[Row])
+    pub fn rows_with(&self, table: u32, probe: &Probe<'_>) -> (u32, Rows<'_>)
         requires there { table < length self.now }
         requires few { length probe.now ≤ length (key_at self.now table) }
-        ensures span { IsSpan (key_at self.now table) (rows_at self.now table) probe.now result.0 result.1.now }
-        ensures within { result.0 + length result.1.now ≤ MOST_ROWS }
+        ensures span { IsSpan (key_at self.now table) (rows_at self.now table) probe.now result.0 result.1 }
+        ensures within { result.0 + length result.1 ≤ MOST_ROWS }
     {
-        let (start, rows) = rows_with(self.rows(table), self.key(table), probe);
+        let (start, rows) = rows_with(&self.rows(table), self.key(table), probe);
         (start as u32, rows)
     }
 
@@ -244,7 +245,7 @@ impl Database {
             return Err(Fail::Refused(fault));
         }
         self.check_keys(table, rows.as_slice())?;
-        let fresh = fresh_rows(rows.into_vec(), self.rows(table), self.key(table))?;
+        let fresh = fresh_rows(rows.into_vec(), &self.rows(table), self.key(table))?;
         let count = fresh.rows.len();
         if count > MOST_ROWS - self.row_total() as usize {
             let what = LimitKind::Rows;

@@ -15,6 +15,7 @@ ghost use Rattle.table_blocks.specs.Keys.{AscendByKey, same_key, first_sharing, 
 use crate::order::key_compare;
 use cqa_model::Refusal;
 use cqa_value::{Fail, NoMemory, Row};
+use row_pieces::Rows;
 use std::alloc::Global;
 use std::cmp::Ordering;
 
@@ -26,14 +27,15 @@ fn shares_key(key: &[u32], a: &Row, b: &Row) -> bool
 }
 
 /// The first two rows of the first block of more than one row.
-fn first_broken<'a>(rows: &'a [Row], key: &[u32]) -> Option<(&'a Row, &'a Row)>
+fn first_broken<'a>(rows: &Rows<'a>, key: &[u32]) -> Option<(&'a Row, &'a Row)>
     ensures { MatchOption result (broken_fault key.now rows.now ≡ None) (λ pair. broken_fault key.now rows.now ≡ Some (Broken pair.0.now pair.1.now)) }
 {
-    for at in 1..rows.len() {
-        let (first, second) = (&rows[at - 1], &rows[at]);
+    let (mut first, rest) = rows.split_first()?;
+    for second in rest {
         if shares_key(key, first, second) {
             return Some((first, second));
         }
+        first = second;
     }
     None
 }
@@ -43,7 +45,7 @@ fn first_broken<'a>(rows: &'a [Row], key: &[u32]) -> Option<(&'a Row, &'a Row)>
 /// # Errors
 ///
 /// `NoMemory` where memory is refused; else `KeyBroken` with the first two rows of the first block of more than one row.
-pub fn check_consistent(alloc: Global, rows: &[Row], key: &[u32]) -> Result<(), Fail<Refusal>>
+pub fn check_consistent(alloc: Global, rows: &Rows<'_>, key: &[u32]) -> Result<(), Fail<Refusal>>
     requires { IsStrictlySortedBy (block_cmp key.now) rows.now }
     ensures { Checked result (broken_fault key.now rows.now) (λ _. AreConsistent key.now rows.now) }
 {
@@ -87,7 +89,7 @@ fn first_given<'a>(sorted: &[&'a Row], key: &[u32], row: &Row) -> &'a Row
 }
 
 /// The first of rows in block order that shares a key with a row.
-fn first_stored<'a>(stored: &'a [Row], key: &[u32], row: &Row) -> Option<&'a Row>
+fn first_stored<'a>(stored: &Rows<'a>, key: &[u32], row: &Row) -> Option<&'a Row>
     requires { IsStrictlySortedBy (block_cmp key.now) stored.now }
     ensures { option_copied result ≡ first_sharing key.now stored.now row.now }
 {
@@ -96,14 +98,17 @@ fn first_stored<'a>(stored: &'a [Row], key: &[u32], row: &Row) -> Option<&'a Row
             ensures { result ≡ is_lt (row_cmp (key_of key.entry.now other.now) (key_of key.entry.now row.entry.now)) }
         { key_compare(key, other, row).is_lt() },
     );
-    match stored.get(at) {
-        Some(other) if shares_key(key, row, other) => Some(other),
-        _ => None,
+    if at < stored.len() {
+        let other = stored.get(at);
+        if shares_key(key, row, other) {
+            return Some(other);
+        }
     }
+    None
 }
 
 /// The row that a strict table keeps of a key which a row of the statement has: the stored one, else the first given.
-fn kept_row<'a>(stored: &'a [Row], sorted: &[&'a Row], key: &[u32], row: &Row) -> &'a Row
+fn kept_row<'a>(stored: &Rows<'a>, sorted: &[&'a Row], key: &[u32], row: &Row) -> &'a Row
     requires in_order { IsStrictlySortedBy (block_cmp key.now) stored.now }
     requires ascending { AscendByKey key.now (shown sorted.now) }
     requires there { Contains (shown sorted.now) row.now }
@@ -118,7 +123,7 @@ fn kept_row<'a>(stored: &'a [Row], sorted: &[&'a Row], key: &[u32], row: &Row) -
 /// The place of the first row of a statement that shares its key with a different one, which is stored or stands before
 /// it, and that row.
 fn first_taken<'a>(
-    stored: &'a [Row],
+    stored: &Rows<'a>,
     sorted: &[&'a Row],
     rows: &[Row],
     key: &[u32],
@@ -147,7 +152,7 @@ fn first_taken<'a>(
 /// `NoMemory` where memory is refused; else `KeyTaken` with the first such row and the other one.
 pub fn check_taken(
     alloc: Global,
-    stored: &[Row],
+    stored: &Rows<'_>,
     rows: &[Row],
     key: &[u32],
 ) -> Result<(), Fail<Refusal>>

@@ -6,27 +6,30 @@ ghost use Rattle.std.specs.List.Sorted.{IsPartitionedBy, IsPartitionPoint};
 ghost use Rattle.cqa_value.specs.declared.value.Value.{Value as Cell};
 
 use cqa_value::Row;
+use row_pieces::Rows;
 
 /// How many rows come first that pass a test, where it parts the rows: by doubling steps from the first row on, and by
 /// halving within the last step (Bentley, Yao 1976). Behind the first row a step goes over `reach` rows more: where the end
 /// is expected so far on, few are tested (Hwang, Lin 1972).
-pub fn leading<P: FnMut(&Row) -> bool>(rows: &[Row], reach: usize, mut passes: P) -> usize
+pub fn leading<P: FnMut(&Row) -> bool>(rows: &Rows<'_>, reach: usize, mut passes: P) -> usize
     requires { P.IsAlwaysCallable passes }
     ensures within { result ≤ length rows.now }
     ensures partitioned { (p : List Cell → Bool) → ComputesKey P.FnMut p passes → IsPartitionedBy p rows.now → IsPartitionPoint (λ row. p row ≡ true) (λ row. p row ≡ false) rows.now result }
 {
     let reach = reach.min(rows.len());
-    let mut passed = 0;
+    let mut passed = 0usize;
     let end = loop {
         let step = if passed == 0 { 0 } else { reach };
-        let next = 2 * passed + step;
+        let next = passed.saturating_mul(2).saturating_add(step);
         if next >= rows.len() {
             break rows.len();
         }
-        if !passes(&rows[next]) {
+        if !passes(rows.get(next)) {
             break next;
         }
         passed = next + 1;
     };
-    passed + rows[passed..end].partition_point(passes)
+    let (_, rest) = rows.split_at(passed);
+    let (tried, _) = rest.split_at(end - passed);
+    passed + tried.partition_point(passes)
 }

@@ -9,7 +9,7 @@ use crate::order::compare_key;
 use crate::probe::Probe;
 use crate::search::leading;
 use crate::steps::Steps;
-use cqa_value::Row;
+use row_pieces::Rows;
 use std::cmp::Ordering;
 use std::sync::ledger::Ledger;
 
@@ -26,7 +26,7 @@ fn is_before(with_ties: bool, ordering: Ordering) -> bool
 
 /// How many rows come before those that are looked for, or before those behind them.
 fn bound<L: Ledger>(
-    rows: &[Row],
+    rows: &Rows<'_>,
     key: &[u32],
     probe: &Probe<'_>,
     with_ties: bool,
@@ -43,7 +43,7 @@ fn bound<L: Ledger>(
     while size > 0 {
         let half = size / 2;
         let middle = base + half;
-        if is_before(with_ties, steps.compare(key, probe, &rows[middle])) {
+        if is_before(with_ties, steps.compare(key, probe, rows.get(middle))) {
             base = middle + 1;
             size -= half + 1;
         } else {
@@ -55,27 +55,27 @@ fn bound<L: Ledger>(
 
 /// The rows whose first key values are a probe's, and how many rows come before them.
 pub fn span_in<'a, L: Ledger>(
-    rows: &'a [Row],
+    rows: &Rows<'a>,
     key: &[u32],
     probe: &Probe<'_>,
     steps: &mut Steps<L>,
-) -> (usize, &'a [Row])
+) -> (usize, Rows<'a>)
     requires few { length probe.now ≤ length key.now }
     requires in_order { IsStrictlySortedBy (block_cmp key.now) rows.now }
-    ensures span { IsSpan key.now rows.now probe.now result.0 result.1.now }
+    ensures span { IsSpan key.now rows.now probe.now result.0 result.1 }
     ensures cost { (digits : ℕ) → length rows.now < 2 ^ digits → steps.new ≤ steps.old + 2 * digits }
 {
     let start = bound(rows, key, probe, false, steps);
     let (_, rest) = rows.split_at(start);
-    let (span, _) = rest.split_at(bound(rest, key, probe, true, steps));
+    let (span, _) = rest.split_at(bound(&rest, key, probe, true, steps));
     (start, span)
 }
 
 /// The same rows and the same number, by one search by halving, and by doubling steps to their end.
-pub fn rows_with<'a>(rows: &'a [Row], key: &[u32], probe: &Probe<'_>) -> (usize, &'a [Row])
+pub fn rows_with<'a>(rows: &Rows<'a>, key: &[u32], probe: &Probe<'_>) -> (usize, Rows<'a>)
     requires few { length probe.now ≤ length key.now }
     requires in_order { IsStrictlySortedBy (block_cmp key.now) rows.now }
-    ensures { IsSpan key.now rows.now probe.now result.0 result.1.now }
+    ensures { IsSpan key.now rows.now probe.now result.0 result.1 }
 {
     let start = rows.partition_point(
         |row| -> bool
@@ -85,7 +85,7 @@ pub fn rows_with<'a>(rows: &'a [Row], key: &[u32], probe: &Probe<'_>) -> (usize,
     );
     let (_, rest) = rows.split_at(start);
     let count = leading(
-        rest,
+        &rest,
         0,
         |row| -> bool
             requires { length probe.now ≤ length key.now }

@@ -9,10 +9,11 @@ ghost use Rattle.table_blocks.specs.Keys.{IsKey, block_order, taken_fault, broke
 ghost use Rattle.table_blocks.specs.Tables.{AreMergeable, AreValidRows, IsMerged, IsSpared, IsRekeyed};
 
 use crate::keys::{check_consistent, check_taken};
-use crate::rows::{Fresh, put, remove, reorder};
+use crate::rows::{Fresh, put_in_order_of, remove};
 use crate::test::ColumnTest;
 use cqa_model::{Refusal, Schema};
 use cqa_value::{Fail, Items, NoMemory, Row};
+use row_pieces::{Pieces, Rows};
 use std::alloc::Global;
 use std::marker::Model;
 
@@ -20,7 +21,7 @@ use std::marker::Model;
 #[derive(Drop)]
 pub struct Table {
     schema: Schema,
-    rows: Vec<Row>,
+    rows: Pieces,
 }
 
 impl Model for Table {
@@ -29,9 +30,9 @@ impl Model for Table {
 
     ghost Value = { StoredTable };
 
-    ghost view = { λ t. record { schema = t.schema; rows = t.rows.items } };
+    ghost view = { λ t. record { schema = t.schema; rows = t.rows } };
 
-    ghost invariant = { λ t. IsTable (record { schema = t.schema; rows = t.rows.items }) × AreValidRows t.rows.items };
+    ghost invariant = { λ t. IsTable (record { schema = t.schema; rows = t.rows }) × AreValidRows t.rows };
 }
 
 fn key_places(schema: &Schema) -> &[u32]
@@ -47,7 +48,7 @@ impl Table {
     {
         Table {
             schema,
-            rows: Vec::new(alloc),
+            rows: Pieces::new(alloc),
         }
     }
 
@@ -63,12 +64,12 @@ impl Table {
         key_places(&self.schema)
     }
 
-    pub fn rows(&self) -> &[Row]
-        ensures is { result.now ≡ self.now.rows }
+    pub fn rows(&self) -> Rows<'_>
+        ensures is { result ≡ self.now.rows }
         ensures table { IsTable self.now }
         ensures valid { AreValidRows self.now.rows }
     {
-        self.rows.as_slice()
+        self.rows.rows()
     }
 
     /// Puts in sorted rows that aren't there yet.
@@ -84,7 +85,8 @@ impl Table {
         ensures count { OnOk result (length self.new.rows ≡ length self.old.rows + length fresh.rows.items) }
         ensures err { OnErr result (self.new ≡ self.old) }
     {
-        put(&mut self.rows, fresh)?;
+        let Fresh { rows, places } = fresh;
+        self.rows.insert(rows, places.as_slice())?;
         Ok(())
     }
 
@@ -101,10 +103,9 @@ impl Table {
         if !self.schema.strict {
             return Ok(());
         }
-        let stored = self.rows.as_slice();
         check_taken(
-            *self.rows.allocator(),
-            stored,
+            self.rows.allocator(),
+            &self.rows.rows(),
             rows,
             key_places(&self.schema),
         )
@@ -124,8 +125,8 @@ impl Table {
         ensures name { self.new.schema.name ≡ self.old.schema.name }
         ensures rows { self.new.rows ≡ self.old.rows }
     {
-        let rows = self.rows.as_slice();
-        check_consistent(*self.rows.allocator(), rows, key_places(&self.schema))?;
+        let key = key_places(&self.schema);
+        check_consistent(self.rows.allocator(), &self.rows.rows(), key)?;
         self.schema.strict = true;
         Ok(())
     }
@@ -155,7 +156,7 @@ impl Table {
         ensures no_more { length self.new.rows ≤ length self.old.rows }
     {
         let strict = self.schema.strict;
-        reorder(
+        put_in_order_of(
             &mut self.rows,
             key_places(&self.schema),
             key.as_slice(),

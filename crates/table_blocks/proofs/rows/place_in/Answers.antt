@@ -10,5 +10,5 @@ pub returns-clause-place : goal.returns-clause-place
 returns-clause-place c s =
     let key = c.args.key.now in
     let row = c.args.row.now in
-    place_from_point (block_cmp key) (block_total key) (block_exact key) (block_alike key) c.args.rows.now row c.partition_point.result c.partition_point.ensures.bound
+    place_from_point (block_cmp key) (block_total key) (block_exact key) (block_alike key) c.args.rows.now row c.partition_point.result c.partition_point.ensures.within
     (c.partition_point.ensures.partitioned (λ y. is_lt (block_cmp key y row)) (always_returns_same _ _ _ (λ a r f k. search rules)) (parted (block_cmp key) (block_total key) (block_exact key) (block_alike key) c.args.rows.now row s))

@@ -1,5 +1,6 @@
 use Rattle.std.proofs.Common.{◌≡◌, ◌+◌, ◌/◌, ◌<◌, length, true, false, Bool, List, arith, sym, ap, ◌∙◌}
 use Rattle.std.proofs.lemmas.List.Elements.{at_read}
+use Rattle.std.proofs.lemmas.Option.{get_or_from_slice_get}
 use Rattle.cqa_value.specs.declared.value.Value.{Value}
 use Rattle.table_blocks.specs.Spans.{probe_cmp, comes_before}
 use Rattle.table_blocks.proofs.Halving.{halves, front_passes, back_fails}
@@ -13,8 +14,8 @@ loop-size-preserved-then-is_before g c =
     let within = c.loop-size.invariant.within in
     let some = c.loop-size-test.true in
     let inside : middle < length xs = omega (arith, within, some) in
-    let yes : p c.index-rows-middle.result ≡ true = sym (c.is_before.ensures ∙ ap (comes_before c.args.with_ties) c.compare.ensures.answer) ∙ c.if-is_before.true in
-    let read = at_read xs (λ y. p y ≡ true) middle c.index-rows-middle.result inside c.index-rows-middle.is yes in
+    let yes : p c.get.result.now ≡ true = sym (c.is_before.ensures ∙ ap (comes_before c.args.with_ties) c.compare.ensures.answer) ∙ c.if-is_before.true in
+    let read = at_read xs (λ y. p y ≡ true) middle c.get.result.now inside (sym (get_or_from_slice_get xs middle c.get.result.now c.get.result.now c.get.ensures)) yes in
     record {
       within = omega (arith, within, some);
       front = front_passes p xs middle c.requires.parted inside read;
@@ -32,8 +33,8 @@ loop-size-preserved g c =
     let within = c.loop-size.invariant.within in
     let some = c.loop-size-test.true in
     let inside : middle < length xs = omega (arith, within, some) in
-    let no : p c.index-rows-middle.result ≡ false = sym (c.is_before.ensures ∙ ap (comes_before c.args.with_ties) c.compare.ensures.answer) ∙ c.if-is_before.false in
-    let read = at_read xs (λ y. p y ≡ false) middle c.index-rows-middle.result inside c.index-rows-middle.is no in
+    let no : p c.get.result.now ≡ false = sym (c.is_before.ensures ∙ ap (comes_before c.args.with_ties) c.compare.ensures.answer) ∙ c.if-is_before.false in
+    let read = at_read xs (λ y. p y ≡ false) middle c.get.result.now inside (sym (get_or_from_slice_get xs middle c.get.result.now c.get.result.now c.get.ensures)) no in
     record {
       within = omega (arith, within, some);
       front = c.loop-size.invariant.front;

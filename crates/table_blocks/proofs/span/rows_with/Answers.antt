@@ -12,10 +12,10 @@ returns c =
     let probe = c.args.probe.now in
     let start = c.partition_point-start.result in
     let count = c.leading-count.result in
-    let rest = c.split_at.ensures.back in
-    let span : c.split_at-2.result.0.now ≡ take count (drop start rows) = c.split_at-2.ensures.front ∙ ap (take count) rest in
+    let rest = c.split_at-rest.ensures.rest in
+    let span : c.split_at-span.result.0 ≡ take count (drop start rows) = c.split_at-span.ensures.front ∙ ap (take count) rest in
     subst (λ rows'. IsSpan key rows probe start rows') (sym span)
-    (span-is key rows probe start count c.partition_point-start.ensures.bound (subst (λ xs. count ≤ length xs) rest c.leading-count.ensures.within)
+    (span-is key rows probe start count c.partition_point-start.ensures.within (subst (λ xs. count ≤ length xs) rest c.leading-count.ensures.within)
     (c.partition_point-start.ensures.partitioned (λ row. comes_before false (probe_cmp key probe row)) (always_returns_same _ _ _ (λ a r f k. search rules)) (parted key rows probe c.requires.in_order false))
     (subst (λ xs. IsPartitionedBy (λ row. comes_before true (probe_cmp key probe row)) xs → IsPartitionPoint (λ row. comes_before true (probe_cmp key probe row) ≡ true) (λ row. comes_before true (probe_cmp key probe row) ≡ false) xs count) rest
     (c.leading-count.ensures.partitioned (λ row. comes_before true (probe_cmp key probe row)) (always_returns_same _ _ _ (λ a r f k. search rules)))

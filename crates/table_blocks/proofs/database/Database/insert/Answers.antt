@@ -18,7 +18,7 @@ add-requires-clause-valid c row h = c.in_default.ensures.valid refl row (subst (
 
 count_is : (c : goal.In_ok-add) → c.len-count.result ≡ count_new (rows_at c.args.self.now c.args.table) c.args.rows
 count_is c =
-    count_seen (rows_at c.args.self.now c.args.table) c.rows-2.result.now c.args.rows c.into_vec.result.items c.len-count.result (length c.in_ok-fresh.fresh.rows.items) c.rows-2.ensures.is c.into_vec.ensures
+    count_seen (rows_at c.args.self.now c.args.table) c.rows-2.result c.args.rows c.into_vec.result.items c.len-count.result (length c.in_ok-fresh.fresh.rows.items) c.rows-2.ensures.is c.into_vec.ensures
     (let r = c.len-count.ensures in omega (arith, r)) c.in_ok-fresh.ensures.count
 
 room_left : (total all count new : ℕ) → total ≡ all → count ≡ new → total ≤ 1_000_000 → count ≤ 1_000_000 - total → all + new ≤ 1_000_000
@@ -28,7 +28,7 @@ pub returns-clause-inserted : goal.returns-clause-inserted
 returns-clause-inserted c =
     let new : (row : List Value) → Contains c.in_ok-fresh.fresh.rows.items row ↔ (Contains c.args.rows row × (Contains (rows_at c.args.self.now c.args.table) row → ⊥)) =
     subst (λ stored. (row : List Value) → Contains c.in_ok-fresh.fresh.rows.items row ↔ (Contains c.args.rows row × (Contains stored row → ⊥))) c.rows-2.ensures.is
-    (subst (λ given. (row : List Value) → Contains c.in_ok-fresh.fresh.rows.items row ↔ (Contains given row × (Contains c.rows-2.result.now row → ⊥))) c.into_vec.ensures c.in_ok-fresh.ensures.new) in
+    (subst (λ given. (row : List Value) → Contains c.in_ok-fresh.fresh.rows.items row ↔ (Contains given row × (Contains c.rows-2.result row → ⊥))) c.into_vec.ensures c.in_ok-fresh.ensures.new) in
     record {
       rows = c.in_ok-add.ensures.changed.0;
       merged = merged_given (key_at c.args.self.now c.args.table) (rows_at c.args.self.now c.args.table) c.args.rows c.in_ok-fresh.fresh.rows.items c.in_ok-add.ensures.changed.0 c.in_ok-add.ensures.changed.1 new;

@@ -4,6 +4,6 @@ use Rattle.table_blocks.proofs.database.Database.place_of.Goals as goal
 
 pub overflow_cast-result : goal.overflow_cast-result
 overflow_cast-result c =
-    let inside = slice_get_within c.rows.result.now c.in_ok-at.at c.args.row.now c.in_ok-at.ensures in
+    let inside = slice_get_within c.rows.result c.in_ok-at.at c.args.row.now c.in_ok-at.ensures in
     let few = c.rows.ensures.few in
     omega (arith, inside, few)

@@ -4,6 +4,6 @@ use Rattle.table_blocks.proofs.database.Database.span.Goals as goal
 
 pub returns-clause-within : goal.returns-clause-within
 returns-clause-within g c =
-    let fit = span-within c.key.result.now c.rows.result.now c.args.probe.now c.span_in-start.result.0 c.span_in-start.result.1.now c.span_in-start.ensures.span in
+    let fit = span-within c.key.result.now c.rows.result c.args.probe.now c.span_in-start.result.0 c.span_in-start.result.1 c.span_in-start.ensures.span in
     let few = c.rows.ensures.few in
     omega (arith, fit, few)

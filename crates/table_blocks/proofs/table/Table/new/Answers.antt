@@ -7,6 +7,6 @@ use Rattle.table_blocks.proofs.table.Table.new.Goals as goal
 
 pub invariant_of-result : goal.invariant_of-result
 invariant_of-result c = (
-  subst (λ rows. IsTable (record { schema = c.args.schema; rows = rows })) (sym c.new.ensures.items) (without_rows c.args.schema),
-  subst AreValidRows (sym c.new.ensures.items) (λ row h. absurd (contains_none row h)),
+  subst (λ rows. IsTable (record { schema = c.args.schema; rows = rows })) (sym c.new.ensures) (without_rows c.args.schema),
+  subst AreValidRows (sym c.new.ensures) (λ row h. absurd (contains_none row h)),
 )

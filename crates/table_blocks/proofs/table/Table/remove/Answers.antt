@@ -6,12 +6,12 @@ use Rattle.table_blocks.proofs.Taking.{consistent_within}
 use Rattle.table_blocks.proofs.table.Table.remove.Goals as goal
 use Rattle.table_blocks.proofs.table.Table.remove.Goals.{After-remove}
 
-in_block_order : (c : After-remove) → IsTable (record { schema = c.self.inside.schema; rows = c.remove.new.rows.items }) × AreValidRows c.remove.new.rows.items
+in_block_order : (c : After-remove) → IsTable (record { schema = c.self.inside.schema; rows = c.remove.new.rows }) × AreValidRows c.remove.new.rows
 in_block_order c = (
   record {
-    in_order = subst (λ key. IsStrictlySortedBy (block_cmp key) c.remove.new.rows.items) c.key_places.ensures c.remove.ensures.spared.in_order;
+    in_order = subst (λ key. IsStrictlySortedBy (block_cmp key) c.remove.new.rows) c.key_places.ensures c.remove.ensures.spared.in_order;
     of_schema = λ row h. c.self.invariant.0.of_schema row ((c.remove.ensures.spared.members row).0 h).0;
-    strict = λ t. consistent_within c.self.inside.schema.key c.self.inside.rows.items c.remove.new.rows.items (c.self.invariant.0.strict t) (λ row h. ((c.remove.ensures.spared.members row).0 h).0);
+    strict = λ t. consistent_within c.self.inside.schema.key c.self.inside.rows c.remove.new.rows (c.self.invariant.0.strict t) (λ row h. ((c.remove.ensures.spared.members row).0 h).0);
   },
   λ row h. c.self.invariant.1 row ((c.remove.ensures.spared.members row).0 h).0,
 )
@@ -26,4 +26,4 @@ pub returns-clause-valid : goal.returns-clause-valid
 returns-clause-valid c = (in_block_order c).1
 
 pub returns-clause-spared : goal.returns-clause-spared
-returns-clause-spared c = subst (λ t. IsSpared t.schema.key t.rows c.args.tests.now c.remove.new.rows.items) c.self.view_is (subst (λ key. IsSpared key c.self.inside.rows.items c.args.tests.now c.remove.new.rows.items) c.key_places.ensures c.remove.ensures.spared)
+returns-clause-spared c = subst (λ t. IsSpared t.schema.key t.rows c.args.tests.now c.remove.new.rows) c.self.view_is (subst (λ key. IsSpared key c.self.inside.rows c.args.tests.now c.remove.new.rows) c.key_places.ensures c.remove.ensures.spared)

@@ -7,16 +7,16 @@ use Rattle.table_blocks.proofs.Reordering.{order_sorted, order_members}
 use Rattle.table_blocks.proofs.table.Table.set_key.Goals as goal
 use Rattle.table_blocks.proofs.table.Table.set_key.Goals.{After-drop-self-inside}
 
-ordered : (c : After-drop-self-inside) → (c.reorder.new.rows.items ≡ block_order c.args.key c.self.inside.rows.items) × (IsTrue c.self.inside.schema.strict → AreConsistent c.args.key c.reorder.new.rows.items)
-ordered c = subst (λ key. (c.reorder.new.rows.items ≡ block_order key c.self.inside.rows.items) × (IsTrue c.self.inside.schema.strict → AreConsistent key c.reorder.new.rows.items)) c.as_slice.ensures c.in_ok-reorder.ensures.checked.is
+ordered : (c : After-drop-self-inside) → (c.put_in_order_of.new.rows ≡ block_order c.args.key c.self.inside.rows) × (IsTrue c.self.inside.schema.strict → AreConsistent c.args.key c.put_in_order_of.new.rows)
+ordered c = subst (λ key. (c.put_in_order_of.new.rows ≡ block_order key c.self.inside.rows) × (IsTrue c.self.inside.schema.strict → AreConsistent key c.put_in_order_of.new.rows)) c.as_slice.ensures c.in_ok-put_in_order_of.ensures.checked.is
 
-member : (c : After-drop-self-inside) (row : List Value) → Contains c.reorder.new.rows.items row → Contains c.self.inside.rows.items row
-member c row h = (order_members c.args.key c.self.inside.rows.items row).0 (subst (λ rows. Contains rows row) (ordered c).0 h)
+member : (c : After-drop-self-inside) (row : List Value) → Contains c.put_in_order_of.new.rows row → Contains c.self.inside.rows row
+member c row h = (order_members c.args.key c.self.inside.rows row).0 (subst (λ rows. Contains rows row) (ordered c).0 h)
 
 pub invariant_of-self-2 : goal.invariant_of-self-2
 invariant_of-self-2 c = (
   record {
-    in_order = subst (IsStrictlySortedBy (block_cmp c.args.key)) (sym (ordered c).0) (order_sorted c.args.key c.self.inside.rows.items);
+    in_order = subst (IsStrictlySortedBy (block_cmp c.args.key)) (sym (ordered c).0) (order_sorted c.args.key c.self.inside.rows);
     of_schema = λ row h. c.self.invariant.0.of_schema row (member c row h);
     strict = (ordered c).1;
   },
@@ -25,7 +25,7 @@ invariant_of-self-2 c = (
 
 pub returns-clause-table : goal.returns-clause-table
 returns-clause-table c = record {
-  in_order = subst (IsStrictlySortedBy (block_cmp c.args.key)) (sym (ordered c).0) (order_sorted c.args.key c.self.inside.rows.items);
+  in_order = subst (IsStrictlySortedBy (block_cmp c.args.key)) (sym (ordered c).0) (order_sorted c.args.key c.self.inside.rows);
   of_schema = λ row h. c.self.invariant.0.of_schema row (member c row h);
   strict = (ordered c).1;
 }
