@@ -1,8 +1,7 @@
 -- What the rows taken and the rest of a plan give, block by block.
 use Rattle.std.proofs.Common.{◌≡◌, ◌≢◌, ℕ, zero, suc, ◌<◌, ◌≤◌, ◌+◌, ◌-◌, ◌⊎◌, ◌↔◌, inl, inr, Bool, IsTrue, IsFalse, true, false, cond, List, [], ◌∷◌, ◌++◌, length, get_or, map, take, drop, refl, ap, sym, ◌∙◌, subst, arith, Contains, ◌==◌, below_more, Result, Ok, Err, OnOk}
 use Rattle.std.proofs.lemmas.Bool.{false≢true, eqb-true, eq-eqb}
-use Rattle.std.proofs.lemmas.Grind.{common_steps}
-use Rattle.std.proofs.lemmas.List.{length-map, get_or_default, get_or_read}
+use Rattle.std.proofs.lemmas.List.{length-map}
 use Rattle.std.proofs.lemmas.List.Elements.{All-contains, Contains-get_or, Contains-append_left, Contains-append_right, Contains-append_cases}
 use Rattle.std.specs.List.{All}
 use Rattle.cqa_value.specs.declared.memory.NoMemory.{NoMemory}
@@ -13,11 +12,11 @@ use Rattle.cqa_model.specs.declared.query.Query.{Query}
 use Rattle.cqa_model.specs.Query.{atom_at}
 use Rattle.cqa_model.specs.Plan.{Placed, PlanHolds, answer_at}
 use Rattle.cqa_model.proofs.Classic.{mem-head, mem-tail, mem-nil, mem-cases}
-use Rattle.fo_plan.specs.Taking.{taken_value, AreAgreed}
-use Rattle.fo_plan.specs.Fitting.{Suits, GivesAt}
+use Rattle.plan_rows.specs.Taking.{taken_value, AreAgreed}
+use Rattle.plan_rows.specs.Fitting.{Suits, GivesAt}
 use Rattle.fo_plan.specs.Holding.{RowHolds, AllHold}
 use Rattle.fo_plan.specs.Giving.{AreAll, IsSettled, IsAnswer, Gives, BlockGives, IsAdded}
-use Rattle.fo_plan.proofs.Suiting.{of_all, fits-of, suits-from, gives-from}
+use Rattle.plan_rows.proofs.Suiting.{of_all, fits-of, suits-from, gives-from}
 
 module _ (q : Query) (tables : List (List (List Value))) (taken : List Placed) (F : ℕ) (plan : List ℕ) where
   pub all-more : (x : List Value) → AreAll q taken (F ∷ plan) → AreAll q (record { atom = F; row = x } ∷ taken) plan
@@ -146,16 +145,30 @@ settled-columns q taken plan all settled i l =
       | inr t ↦ t
     ]
 
--- a property of the rows of a block, one after the other
-module _ (P : List Value → Type 0) (block : List (List Value)) (i : ℕ) where
-  pub all-not : (z : List Value) → i < length block → z ≡ get_or block i z → (P z → ⊥) → ((y : List Value) → Contains block y → P y) → ⊥
-  all-not z l e off all = off (subst P (sym (get_or_read block i z l e [])) (all (get_or block i []) (Contains-get_or block i [] l)))
+-- of the rows of a block those that were looked at have a property, and the others are still there
+pub record HeldSoFar (P : List Value → Type 0) (block left : List (List Value)) : Type 0 where
+  pub within : (y : List Value) → Contains left y → Contains block y
+  pub held : (y : List Value) → Contains block y → P y ⊎ Contains left y
 
-  pub all-on : (z : List Value) → i < length block → z ≡ get_or block i z → ((k : ℕ) → k < i → P (get_or block k [])) → P z → (k : ℕ) → k < i + 1 → P (get_or block k [])
-  all-on z l e so p = below_more (λ k. P (get_or block k [])) i so (subst P (get_or_read block i z l e []) p)
+module _ (P : List Value → Type 0) (block : List (List Value)) where
+  pub held-starts : (left : List (List Value)) → left ≡ block → HeldSoFar P block left
+  held-starts left e = record { within = λ y m. subst (λ z. Contains z y) e m; held = λ y m. inr (subst (λ z. Contains z y) (sym e) m) }
 
-  pub all-end : length block ≡ i → ((k : ℕ) → k < i → P (get_or block k [])) → (y : List Value) → Contains block y → P y
-  all-end e so y m = subst P (get_or_default block m.0 [] y m.1 ∙ m.2) (so m.0 (omega (arith, m.1, e)))
+  module _ (left later : List (List Value)) (z : List Value) (h : HeldSoFar P block left) (is : left ≡ z ∷ later) where
+    pub held-not : (P z → ⊥) → ((y : List Value) → Contains block y → P y) → ⊥
+    held-not off all = off (all z (h.within z (subst (λ rows. Contains rows z) (sym is) (mem-head z later))))
+
+    pub held-on : P z → HeldSoFar P block later
+    held-on p = record {
+      within = λ y m. h.within y (subst (λ rows. Contains rows y) (sym is) (mem-tail y z later m));
+      held = λ y m. elim (h.held y m) [
+        | inl k ↦ inl k
+        | inr k ↦ elim (mem-cases y z later (subst (λ rows. Contains rows y) is k)) [ inl e ↦ inl (subst P e p) | inr n ↦ inr n ]
+      ];
+    }
+
+  pub held-ends : (left : List (List Value)) → HeldSoFar P block left → left ≡ [] → (y : List Value) → Contains block y → P y
+  held-ends left h none y m = elim (h.held y m) [ inl p ↦ p | inr n ↦ absurd (mem-nil y (subst (λ rows. Contains rows y) none n)) ]
 
 -- of the rows proposed those that were looked at have come if they have a property, and the others are still there
 pub record KeptSoFar (P : List Value → Type 0) (proposed left old new : List (List Value)) : Type 0 where
@@ -208,10 +221,6 @@ one-added P old new row p is r = (
 
 pub none-added : (P : List Value → Type 0) (old : List (List Value)) (row : List Value) → (P row → ⊥) → IsAdded (λ r. (r ≡ row) × P r) old old
 none-added P old row off = adds-none (λ r. (r ≡ row) × P r) old (λ r k. off (subst P k.0 k.1))
-
-pub block-rest : (block : List (List Value)) (first : List Value) → 0 < length block → first ≡ get_or block 0 first → block ≡ first ∷ take (length block - 1) (drop 1 block)
-block-rest [] first l e = absurd (omega arith)
-block-rest (x ∷ xs) first l e = let f : first ≡ x = e in grind (arith, common_steps)
 
 -- what a block gives was added, where its first row proposed and the others tested
 pub add-block : (G A P : List Value → Type 0) (old none part new : List (List Value)) → none ≡ [] → IsAdded G none part → IsAdded (λ r. Contains part r × A r) old new → ((row : List Value) → (G row × A row) ↔ P row) → IsAdded P old new

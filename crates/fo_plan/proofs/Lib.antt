@@ -1,10 +1,7 @@
-mod Suiting
 mod Spanned
-mod Telling
 mod Parted
 mod Leading
 mod Passing
-pub mod PlanParts
 mod Gathered
 mod Sharing
 mod Columns

@@ -12,7 +12,7 @@ use Rattle.cqa_model.specs.OneTable.{SomeBlockFits}
 use Rattle.cqa_model.specs.Database.{block_cmp}
 use Rattle.cqa_model.proofs.BlockOrder.{grouped}
 use Rattle.cqa_model.proofs.Repairs.{shares-self, shares-sym, shares-trans, dec_shares}
-use Rattle.fo_plan.specs.Knowing.{HasKnown}
+use Rattle.plan_rows.specs.Knowing.{HasKnown}
 use Rattle.fo_plan.specs.Enough.{IsEnough, row_of, IsFirst, IsPassed, IsNextBlock}
 use Rattle.fo_plan.specs.declared.enough.Blocks.{Blocks}
 
@@ -59,13 +59,13 @@ module _ (key : List ℕ) (rows : List (List Value)) where
 module _ (s : Blocks) where
   -- no block that begins before a place has the property
   abbrev pub NoneBefore : (List Value → Type 0) → ℕ → Type 0
-  NoneBefore P place = (at : ℕ) → at < place → at < length s.rows.now → IsFirst s.key.now s.rows.now at → WholeHas s.key.now s.rows.now P at → ⊥
+  NoneBefore P place = (at : ℕ) → at < place → at < length s.rows → IsFirst s.key.now s.rows at → WholeHas s.key.now s.rows P at → ⊥
 
   module _ (P : List Value → Type 0) (known : (y : List Value) → P y → HasKnown (option_copied s.index) s.values y) where
     -- what is passed hasn't the property
-    passed-has : (from to at : ℕ) → IsPassed s from to → from ≤ at → at < to → at < length s.rows.now → IsFirst s.key.now s.rows.now at → WholeHas s.key.now s.rows.now P at → ⊥
+    passed-has : (from to at : ℕ) → IsPassed s from to → from ≤ at → at < to → at < length s.rows → IsFirst s.key.now s.rows at → WholeHas s.key.now s.rows P at → ⊥
     passed-has from to at h low high there first all =
-        h at low high first (known (row_of s.rows.now at) (all (row_of s.rows.now at) (Contains-get_or s.rows.now at [] there) (shares-self s.key.now (row_of s.rows.now at))))
+        h at low high first (known (row_of s.rows at) (all (row_of s.rows at) (Contains-get_or s.rows at [] there) (shares-self s.key.now (row_of s.rows at))))
 
     pub none-starts : (start : ℕ) → IsPassed s 0 start → NoneBefore P start
     none-starts start h at l there first all = passed-has 0 start at h (omega arith) l there first all
@@ -79,32 +79,32 @@ module _ (s : Blocks) where
         go (no a) (no b) (yes c) = passed-has (n.at + 1) on at n.behind (omega (arith, c)) l there first all
         go (no a) (no b) (no c) =
             let same : at ≡ n.at = omega (arith, b, c) in
-            off (λ y m. let e = (n.is.exactly y).0 m in all y e.0 (subst (λ k. SharesKey s.key.now (row_of s.rows.now k) y) (sym same) e.1))
+            off (λ y m. let e = (n.is.exactly y).0 m in all y e.0 (subst (λ k. SharesKey s.key.now (row_of s.rows k) y) (sym same) e.1))
 
-    pub none-ends : (from : ℕ) → NoneBefore P from → IsPassed s from (length s.rows.now) → SomeBlockFits s.key.now s.rows.now P → ⊥
-    none-ends from h n f = go (some-at s.key.now s.rows.now P f)
+    pub none-ends : (from : ℕ) → NoneBefore P from → IsPassed s from (length s.rows) → SomeBlockFits s.key.now s.rows P → ⊥
+    none-ends from h n f = go (some-at s.key.now s.rows P f)
       where
-        go : ((at : ℕ) × (at < length s.rows.now) × IsFirst s.key.now s.rows.now at × WholeHas s.key.now s.rows.now P at) → ⊥
+        go : ((at : ℕ) × (at < length s.rows) × IsFirst s.key.now s.rows at × WholeHas s.key.now s.rows P at) → ⊥
         go (at, there, first, all) = split (dec_lt at from)
           where
             split : Dec (at < from) → ⊥
             split (yes a) = h at a there first all
-            split (no a) = passed-has from (length s.rows.now) at n (omega (arith, a)) there there first all
+            split (no a) = passed-has from (length s.rows) at n (omega (arith, a)) there there first all
 
-  pub passed-on : (from at on : ℕ) → IsPassed s from at → (IsFirst s.key.now s.rows.now at → ⊥) → IsPassed s (at + 1) on → IsPassed s from on
+  pub passed-on : (from at on : ℕ) → IsPassed s from at → (IsFirst s.key.now s.rows at → ⊥) → IsPassed s (at + 1) on → IsPassed s from on
   passed-on from at on before off behind k low high = go (dec_lt k at) (dec_lt at k)
     where
-      go : Dec (k < at) → Dec (at < k) → IsFirst s.key.now s.rows.now k → HasKnown (option_copied s.index) s.values (row_of s.rows.now k) → ⊥
+      go : Dec (k < at) → Dec (at < k) → IsFirst s.key.now s.rows k → HasKnown (option_copied s.index) s.values (row_of s.rows k) → ⊥
       go (yes a) b = before k low a
       go (no a) (yes b) = behind k (omega (arith, b)) high
-      go (no a) (no b) = λ first known. off (subst (IsFirst s.key.now s.rows.now) (let e : k ≡ at = omega (arith, a, b) in e) first)
+      go (no a) (no b) = λ first known. off (subst (IsFirst s.key.now s.rows) (let e : k ≡ at = omega (arith, a, b) in e) first)
 
   pub passed-less : (from at to : ℕ) → IsPassed s from at → to ≤ at → IsPassed s from to
   passed-less from at to h l k low high = h k low (omega (arith, high, l))
 
   -- a block that is found has the property where all its rows have it
-  pub next-some : (P : List Value → Type 0) (from on : ℕ) (block : List (List Value)) → IsNextBlock s from block on → ((y : List Value) → Contains block y → P y) → SomeBlockFits s.key.now s.rows.now P
-  next-some P from on block n all = at-some s.key.now s.rows.now P n.at n.is.there (λ y m t. all y ((n.is.exactly y).1 (m, t)))
+  pub next-some : (P : List Value → Type 0) (from on : ℕ) (block : List (List Value)) → IsNextBlock s from block on → ((y : List Value) → Contains block y → P y) → SomeBlockFits s.key.now s.rows P
+  next-some P from on block n all = at-some s.key.now s.rows P n.at n.is.there (λ y m t. all y ((n.is.exactly y).1 (m, t)))
 
 -- a row begins a block where the one before it is of another
 module _ (key : List ℕ) (rows : List (List Value)) (at : ℕ) where
@@ -135,10 +135,10 @@ module _ (key : List ℕ) (rows : List (List Value)) (at : ℕ) where
       go false k = ((λ e. first-begins sorted there (λ s. false≢true (k.1 (shared s)))), (λ leads. refl))
 
 -- the blocks that are gone over have a property exactly where the table has it
-pub found-in-table : (s : Blocks) (key : List ℕ) (rows : List (List Value)) (fits : List Value → Type 0) → s.key.now ≡ key → IsEnough key rows fits s.rows.now → (P : List Value → Type 0) → ((y : List Value) → P y → fits y) →
-    SomeBlockFits s.key.now s.rows.now P ↔ SomeBlockFits key rows P
-found-in-table s key rows fits e h P strong = subst (λ k. SomeBlockFits k s.rows.now P ↔ SomeBlockFits key rows P) (sym e) (part-some key rows s.rows.now fits h P strong)
+pub found-in-table : (s : Blocks) (key : List ℕ) (rows : List (List Value)) (fits : List Value → Type 0) → s.key.now ≡ key → IsEnough key rows fits s.rows → (P : List Value → Type 0) → ((y : List Value) → P y → fits y) →
+    SomeBlockFits s.key.now s.rows P ↔ SomeBlockFits key rows P
+found-in-table s key rows fits e h P strong = subst (λ k. SomeBlockFits k s.rows P ↔ SomeBlockFits key rows P) (sym e) (part-some key rows s.rows fits h P strong)
 
 -- the place from which to go on is nearer to the end
-pub goes-on : (s : Blocks) (from on : ℕ) (block : List (List Value)) → IsNextBlock s from block on → length s.rows.now - on < length s.rows.now - from
+pub goes-on : (s : Blocks) (from on : ℕ) (block : List (List Value)) → IsNextBlock s from block on → length s.rows - on < length s.rows - from
 goes-on s from on block n = let there = n.is.there in let low = n.low in let high = n.high in omega (arith, there, low, high)

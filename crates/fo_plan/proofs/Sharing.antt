@@ -15,15 +15,15 @@ use Rattle.cqa_model.specs.Query.{atom_at}
 use Rattle.cqa_model.specs.Variables.{AreLinked}
 use Rattle.cqa_model.specs.Plan.{Placed, Fits, PlanHolds, answer_at}
 use Rattle.cqa_model.proofs.Classic.{mem-head, mem-tail, mem-nil, mem-cases, map_agree}
-use Rattle.fo_plan.specs.Taking.{taken_value}
-use Rattle.fo_plan.specs.Fitting.{AgreesAll, Suits}
-use Rattle.fo_plan.specs.Over.{IsPrepared}
+use Rattle.plan_rows.specs.Taking.{taken_value}
+use Rattle.plan_rows.specs.Fitting.{AgreesAll, Suits}
+use Rattle.plan_rows.specs.Over.{IsPrepared}
 use Rattle.fo_plan.specs.Holding.{AreAtoms}
 use Rattle.fo_plan.specs.Giving.{IsSettled}
 use Rattle.fo_plan.specs.Underway.{atoms_of, HasShared, AreShared, IsUnderway, IsKey, IsRight}
 use Rattle.fo_plan.specs.declared.course.Course.{Course}
 use Rattle.fo_plan.specs.declared.memo.Memo.{Memo}
-use Rattle.fo_plan.proofs.Suiting.{atoms-more, agreed-more}
+use Rattle.plan_rows.proofs.Suiting.{atoms-more, agreed-more}
 use Rattle.fo_plan.proofs.Gathered.{value-taken}
 
 -- the parts of lists that are equal

@@ -3,7 +3,7 @@ use Rattle.std.specs.Prelude.{◌≡◌, ◌≢◌, All, ◌⊎◌, ◌↔◌, �
 use Rattle.cqa_value.specs.declared.value.Value.{Value}
 use Rattle.cqa_model.specs.declared.query.Query.{Query}
 use Rattle.cqa_model.specs.Plan.{Placed, PlanHolds}
-use Rattle.fo_plan.specs.Fitting.{GivesAt}
+use Rattle.plan_rows.specs.Fitting.{GivesAt}
 use Rattle.fo_plan.specs.Holding.{AllHold}
 
 -- each atom is in the plan, or a row of it was taken

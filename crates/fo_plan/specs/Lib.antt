@@ -1,7 +1,3 @@
-pub mod Taking
-pub mod Fitting
-pub mod Knowing
-pub mod Over
 pub mod Enough
 pub mod Holding
 pub mod Giving

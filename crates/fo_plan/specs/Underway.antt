@@ -10,8 +10,8 @@ use Rattle.cqa_model.specs.Database.{stored}
 use Rattle.cqa_model.specs.Query.{atom_at}
 use Rattle.cqa_model.specs.Variables.{AreLinked}
 use Rattle.cqa_model.specs.Plan.{Placed, PlanHolds}
-use Rattle.fo_plan.specs.Over.{IsPrepared}
-use Rattle.fo_plan.specs.Taking.{taken_value, AreOfAtoms, AreAgreed}
+use Rattle.plan_rows.specs.Over.{IsPrepared}
+use Rattle.plan_rows.specs.Taking.{taken_value, AreOfAtoms, AreAgreed}
 use Rattle.fo_plan.specs.Holding.{AreAtoms}
 use Rattle.fo_plan.specs.Giving.{IsSettled}
 use Rattle.fo_plan.specs.declared.course.Course.{Course}

@@ -14,12 +14,12 @@ use crate::course::{Course, turns_before_memo};
 use crate::enough::table_of;
 use crate::holding::all_hold;
 use crate::memo::Memo;
-use crate::setting::Setting;
 use crate::shared::shared_or_none;
-use crate::taken_rows::Taken;
 use cqa_model::{Plan, Query, variables};
 use cqa_value::Row;
+use plan_rows::{Setting, Taken};
 use row_cursor::{BlockCursor, RowIndex};
+use row_pieces::Rows;
 use std::alloc::Global;
 use table_blocks::Database;
 
@@ -31,15 +31,15 @@ fn first_block<'a, 'x>(
     atom: u32,
     rest: &[u32],
     memo: &mut Memo,
-) -> Option<&'a [Row]>
+) -> Option<Rows<'a>>
     requires here { IsUnderway course.now [] (atom ∷ rest.now) }
     requires db { course.now.setting.db.now ≡ db.now }
     requires memo { IsRight course.now memo.old }
-    ensures { MatchOption result (SomeBlockFits (atom_key course.now.setting.query.now atom) (rows_of course.now.setting.query.now (stored course.now.setting.db.now) atom) (RowHolds course.now.setting.query.now (stored course.now.setting.db.now) row.now [] atom rest.now) → ⊥) (λ block. SomeBlockFits (atom_key course.now.setting.query.now atom) (rows_of course.now.setting.query.now (stored course.now.setting.db.now) atom) (RowHolds course.now.setting.query.now (stored course.now.setting.db.now) row.now [] atom rest.now) × IsFirstWith (atom_key course.now.setting.query.now atom) (rows_of course.now.setting.query.now (stored course.now.setting.db.now) atom) (RowHolds course.now.setting.query.now (stored course.now.setting.db.now) row.now [] atom rest.now) block.now) }
+    ensures { MatchOption result (SomeBlockFits (atom_key course.now.setting.query.now atom) (rows_of course.now.setting.query.now (stored course.now.setting.db.now) atom) (RowHolds course.now.setting.query.now (stored course.now.setting.db.now) row.now [] atom rest.now) → ⊥) (λ block. SomeBlockFits (atom_key course.now.setting.query.now atom) (rows_of course.now.setting.query.now (stored course.now.setting.db.now) atom) (RowHolds course.now.setting.query.now (stored course.now.setting.db.now) row.now [] atom rest.now) × IsFirstWith (atom_key course.now.setting.query.now atom) (rows_of course.now.setting.query.now (stored course.now.setting.db.now) atom) (RowHolds course.now.setting.query.now (stored course.now.setting.db.now) row.now [] atom rest.now) block) }
 {
     let mut cursor = BlockCursor::new(db, table_of(course.setting.query, atom));
     while let Some(block) = cursor.next() {
-        if all_hold(&*course, &*row, &Taken::Nothing, atom, &*block, rest, memo) {
+        if all_hold(&*course, &*row, &Taken::Nothing, atom, &block, rest, memo) {
             return Some(block);
         }
     }
@@ -53,12 +53,12 @@ fn found_block<'a, 'x>(
     row: &'x Row,
     plan: &[u32],
     memo: &mut Memo,
-) -> Option<&'a [Row]>
+) -> Option<Rows<'a>>
     requires here { IsUnderway course.now [] plan.now }
     requires db { course.now.setting.db.now ≡ db.now }
     requires all { (F : ℕ) → F < length course.now.setting.query.now.atoms → Contains plan.now F }
     requires memo { IsRight course.now memo.old }
-    ensures { MatchOption result (HoldsOver course.now.setting.db.now course.now.setting.query.now row.now plan.now → ⊥) (λ block. HoldsOver course.now.setting.db.now course.now.setting.query.now row.now plan.now × IsFirstBlock course.now.setting.db.now course.now.setting.query.now row.now plan.now block.now) }
+    ensures { MatchOption result (HoldsOver course.now.setting.db.now course.now.setting.query.now row.now plan.now → ⊥) (λ block. HoldsOver course.now.setting.db.now course.now.setting.query.now row.now plan.now × IsFirstBlock course.now.setting.db.now course.now.setting.query.now row.now plan.now block) }
 {
     match plan {
         [] => None,
@@ -69,7 +69,7 @@ fn found_block<'a, 'x>(
 /// The first block, in block order, of the plan's first atom by which the plan holds for a row: all its rows fit the
 /// row, and for each of them the rest of the plan holds with that row taken (Koutris and Wijsen, ACM TODS 2017). `None`
 /// exactly where the plan doesn't hold. Rows are found by the given indexes, of each atom's table one or none. Once
-/// that has taken long, what was decided of rests of the plan is remembered, as far as there is memory for it.
+/// many rows were looked at, what was decided of rests of the plan is remembered, as far as there is memory for it.
 pub fn block_of<'a>(
     alloc: Global,
     plan: &Plan,
@@ -77,12 +77,12 @@ pub fn block_of<'a>(
     query: &Query,
     row: &Row,
     paths: &[Option<RowIndex<'_>>],
-) -> Option<&'a [Row]>
+) -> Option<Rows<'a>>
     requires fits { FitsDatabase query.now db.now }
     requires plan { AreAtoms query.now plan.now.order }
     requires all { (F : ℕ) → F < length query.now.atoms → Contains plan.now.order F }
     requires paths { ArePaths query.now db.now paths.now }
-    ensures { MatchOption result (HoldsOver db.now query.now row.now plan.now.order → ⊥) (λ block. HoldsOver db.now query.now row.now plan.now.order × IsFirstBlock db.now query.now row.now plan.now.order block.now) }
+    ensures { MatchOption result (HoldsOver db.now query.now row.now plan.now.order → ⊥) (λ block. HoldsOver db.now query.now row.now plan.now.order × IsFirstBlock db.now query.now row.now plan.now.order block) }
 {
     let order = plan.order.as_slice();
     let variables = variables(query);

@@ -2,9 +2,9 @@
 
 ghost use Rattle.cqa_model.specs.Query.{FitsDatabase};
 
-use crate::setting::Setting;
 use cqa_model::{ColRef, Query};
 use cqa_value::Items;
+use plan_rows::Setting;
 use table_blocks::Database;
 
 /// What a plan is evaluated over, the order of its atoms, and for each number of first atoms the columns of them that are
@@ -16,7 +16,7 @@ pub(crate) struct Course<'a> {
     pub shared: &'a [Items<ColRef>],
 }
 
-/// The turns that a plan may take before what is decided is remembered: twice the rows of the query's tables.
+/// How many rows a plan may look at before what is decided is remembered: four times those of the query's tables.
 pub(crate) fn turns_before_memo(db: &Database, query: &Query) -> u64
     requires { FitsDatabase query.now db.now }
 {
@@ -24,5 +24,5 @@ pub(crate) fn turns_before_memo(db: &Database, query: &Query) -> u64
     for atom in query.atoms.as_slice() {
         rows += db.rows(atom.table).len() as u64;
     }
-    2 * rows
+    4 * rows
 }

@@ -4,28 +4,34 @@
 ghost use Rattle.std.specs.Prelude.{◌≡◌, ◌⊎◌, ◌<◌, ◌↔◌, ◌∷◌, IsTrue, Contains, List, OnOk, [], length, slice_index_or};
 ghost use Rattle.cqa_value.specs.declared.value.Value.{Value as Cell};
 ghost use Rattle.cqa_model.specs.Database.{stored};
-ghost use Rattle.fo_plan.specs.Taking.{placed};
-ghost use Rattle.fo_plan.specs.Fitting.{Suits};
+ghost use Rattle.plan_rows.specs.Taking.{placed};
+ghost use Rattle.plan_rows.specs.Fitting.{Suits};
 ghost use Rattle.fo_plan.specs.Holding.{AllHold};
 ghost use Rattle.fo_plan.specs.Giving.{AreAll, IsSettled, Gives, BlockGives, IsAdded};
 ghost use Rattle.fo_plan.specs.Underway.{IsUnderway, IsRight};
 
 use crate::course::Course;
 use crate::enough::Blocks;
-use crate::fitting::suits;
 use crate::holding::{all_hold, holds_with};
 use crate::memo::Memo;
 use crate::settled::are_settled;
-use crate::taken_rows::{Taken, answer_of};
 use cqa_value::{NoMemory, Row};
+use plan_rows::{Taken, answer_of, suits};
+use row_pieces::Rows;
 
 /// Whether all rows of a block fit the rows taken, but for a candidate.
-fn all_suit(course: &Course<'_>, taken: &Taken<'_>, atom: u32, rest: &[u32], block: &[Row]) -> bool
+fn all_suit(
+    course: &Course<'_>,
+    taken: &Taken<'_>,
+    atom: u32,
+    rest: &[u32],
+    block: &Rows<'_>,
+) -> bool
     requires { IsUnderway course.now (placed taken.now) (atom ∷ rest.now) }
     ensures { IsTrue result ↔ ((y : List Cell) → Contains block.now y → Suits course.now.setting.query.now (placed taken.now) atom y) }
 {
     let setting = &course.setting;
-    for y in block {
+    for y in block.again() {
         if !suits(setting.query, &setting.variables, taken, atom, y) {
             return false;
         }
@@ -38,7 +44,7 @@ fn keep_one<'x>(
     course: &'x Course<'x>,
     taken: &'x Taken<'x>,
     atom: u32,
-    block: &[Row],
+    block: &Rows<'_>,
     rest: &[u32],
     row: Row,
     found: &mut Vec<Row>,
@@ -62,7 +68,7 @@ fn keep_all<'x>(
     course: &'x Course<'x>,
     taken: &'x Taken<'x>,
     atom: u32,
-    block: &[Row],
+    block: &Rows<'_>,
     rest: &[u32],
     part: &mut Vec<Row>,
     found: &mut Vec<Row>,
@@ -147,7 +153,7 @@ fn add_blocks<'x>(
     let blocks = Blocks::new(&course.setting, None, taken, atom);
     let mut place = blocks.start();
     while let Some((block, next)) = blocks.next_from(place) {
-        add_block(course, taken, atom, block, rest, found, memo)?;
+        add_block(course, taken, atom, &block, rest, found, memo)?;
         place = next;
     }
     Ok(())
@@ -159,7 +165,7 @@ fn add_block<'x>(
     course: &'x Course<'x>,
     taken: &'x Taken<'x>,
     atom: u32,
-    block: &'x [Row],
+    block: &Rows<'x>,
     rest: &[u32],
     found: &mut Vec<Row>,
     memo: &mut Memo,
@@ -175,7 +181,7 @@ fn add_block<'x>(
         return Ok(());
     }
     if block.len() == 1 {
-        let more = Taken::Before(atom, &block[0], &*taken);
+        let more = Taken::Before(atom, block.get(0), &*taken);
         return add_given(&*course, &more, rest, found, memo);
     }
     let mut part = Vec::new(course.setting.alloc);
@@ -190,7 +196,7 @@ fn add_tested<'x>(
     course: &'x Course<'x>,
     taken: &'x Taken<'x>,
     atom: u32,
-    block: &'x [Row],
+    block: &Rows<'x>,
     rest: &[u32],
     part: &mut Vec<Row>,
     found: &mut Vec<Row>,
@@ -205,7 +211,8 @@ fn add_tested<'x>(
     ensures added { OnOk result (IsAdded (BlockGives course.now.setting.query.now (stored course.now.setting.db.now) (placed taken.now) atom rest.now block.now) found.old.items found.new.items) }
     ensures memo { IsRight course.now memo.new }
 {
-    let more = Taken::Before(atom, &block[0], &*taken);
+    let more = Taken::Before(atom, block.get(0), &*taken);
     add_given(&*course, &more, rest, part, memo)?;
-    keep_all(course, taken, atom, &block[1..], rest, part, found, memo)
+    let (_, others) = block.split_at(1);
+    keep_all(course, taken, atom, &others, rest, part, found, memo)
 }

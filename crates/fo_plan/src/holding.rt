@@ -2,19 +2,22 @@
 
 ghost use Rattle.std.specs.Prelude.{◌↔◌, ◌∷◌, IsTrue};
 ghost use Rattle.cqa_model.specs.Database.{stored};
-ghost use Rattle.cqa_model.specs.Query.{atom_key, rows_of};
+ghost use Rattle.cqa_model.specs.Query.{atom_key, rows_of, FitsDatabase};
 ghost use Rattle.cqa_model.specs.OneTable.{SomeBlockFits};
-ghost use Rattle.cqa_model.specs.Plan.{PlanHolds};
-ghost use Rattle.fo_plan.specs.Taking.{placed};
-ghost use Rattle.fo_plan.specs.Holding.{RowHolds, AllHold};
+ghost use Rattle.cqa_model.specs.Plan.{HoldsOver, PlanHolds};
+ghost use Rattle.plan_rows.specs.Taking.{placed};
+ghost use Rattle.fo_plan.specs.Holding.{AreAtoms, RowHolds, AllHold};
 ghost use Rattle.fo_plan.specs.Underway.{IsUnderway, IsKey, IsRight};
 
 use crate::course::Course;
 use crate::enough::Blocks;
-use crate::fitting::fits;
 use crate::memo::Memo;
-use crate::taken_rows::Taken;
+use cqa_model::{Plan, Query, variables};
 use cqa_value::Row;
+use plan_rows::{Setting, Taken, fits};
+use row_pieces::Rows;
+use std::alloc::Global;
+use table_blocks::Database;
 
 /// Whether the rest of a plan holds, by what is remembered of it where deciding has taken long.
 #[cycle(holds)]
@@ -83,7 +86,7 @@ fn some_block<'x>(
     let blocks = Blocks::new(&course.setting, Some(row), taken, atom);
     let mut place = blocks.start();
     while let Some((block, next)) = blocks.next_from(place) {
-        if all_hold(course, row, taken, atom, block, rest, memo) {
+        if all_hold(course, row, taken, atom, &block, rest, memo) {
             return true;
         }
         place = next;
@@ -98,7 +101,7 @@ pub(crate) fn all_hold<'x>(
     row: &'x Row,
     taken: &'x Taken<'x>,
     atom: u32,
-    block: &[Row],
+    block: &Rows<'_>,
     rest: &[u32],
     memo: &mut Memo,
 ) -> bool
@@ -107,7 +110,7 @@ pub(crate) fn all_hold<'x>(
     ensures holds { IsTrue result ↔ AllHold course.now.setting.query.now (stored course.now.setting.db.now) row.now (placed taken.now) atom rest.now block.now }
     ensures memo { IsRight course.now memo.new }
 {
-    for y in block {
+    for y in block.again() {
         if !row_holds(course, row, taken, atom, y, rest, memo) {
             return false;
         }
@@ -131,10 +134,37 @@ fn row_holds<'x>(
     ensures holds { IsTrue result ↔ RowHolds course.now.setting.query.now (stored course.now.setting.db.now) row.now (placed taken.now) atom rest.now y.now }
     ensures memo { IsRight course.now memo.new }
 {
+    memo.turn();
     let setting = &course.setting;
     if !fits(setting.query, &setting.variables, row, taken, atom, y) {
         return false;
     }
     let more = Taken::Before(atom, &*y, &*taken);
     holds_with(&*course, &*row, &more, rest, memo)
+}
+
+/// Whether a plan holds for a row: the plan's first atom has a block all of whose rows fit the row, and for each of them
+/// the rest of the plan holds with that row taken (Koutris and Wijsen, ACM TODS 2017). It takes no memory: rows are found
+/// by the first key values that are known, and nothing is remembered.
+pub fn holds(alloc: Global, plan: &Plan, db: &Database, query: &Query, row: &Row) -> bool
+    requires fits { FitsDatabase query.now db.now }
+    requires plan { AreAtoms query.now plan.now.order }
+    ensures { IsTrue result ↔ HoldsOver db.now query.now row.now plan.now.order }
+{
+    let order = plan.order.as_slice();
+    let course = Course {
+        setting: Setting {
+            alloc,
+            db,
+            query,
+            variables: variables(query),
+            paths: &[],
+        },
+        order,
+        shared: &[],
+    };
+    let mut memo = Memo::new(alloc, 0);
+    let held = holds_with(&course, row, &Taken::Nothing, order, &mut memo);
+    drop(memo);
+    held
 }

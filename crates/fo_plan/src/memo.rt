@@ -1,26 +1,26 @@
 //! What was decided of the rests of a plan. A rest depends on the rows taken only through the values that its atoms
-//! share with them, so it is remembered by these, once deciding has taken long.
+//! share with them, so it is remembered by these, once many rows were looked at.
 
 ghost use Rattle.std.specs.Prelude.{◌≡◌, ◌⊎◌, ◌++◌, ◌∷◌, Bool, IsTrue, IfSome, List, Some, None, [], map, pos, if◌then◌else◌};
 ghost use Rattle.std.specs.BTreeMap.{get};
 ghost use Rattle.cqa_value.specs.declared.value.Value.{Value as Cell};
 ghost use Rattle.cqa_value.specs.declared.value.Value.TheVariants.{Int};
 ghost use Rattle.cqa_value.specs.Values.{row_cmp};
-ghost use Rattle.fo_plan.specs.Taking.{placed, taken_value};
+ghost use Rattle.plan_rows.specs.Taking.{placed, taken_value};
 ghost use Rattle.fo_plan.specs.Underway.{IsUnderway, IsKey};
 
 use crate::course::Course;
 use crate::settled::are_settled;
-use crate::taken_rows::{Taken, answer_of};
 use cqa_model::ColRef;
 use cqa_value::{MOST_VALUES, Row, Value};
+use plan_rows::{Taken, answer_of};
 use std::alloc::Global;
 use std::collections::BTreeMap;
 
 /// How many rests are remembered at most.
 const MOST_KNOWN: usize = 1_000_000;
 
-/// Whether rests of a plan hold, by their keys; nothing is remembered before some turns are used up.
+/// Whether rests of a plan hold, by their keys; nothing is remembered before so many rows were looked at.
 #[derive(Drop)]
 pub(crate) struct Memo {
     turns: u64,
@@ -87,7 +87,7 @@ fn key_of(
 }
 
 impl Memo {
-    /// Nothing remembered, and nothing to be before so many turns.
+    /// Nothing remembered, and nothing to be before so many rows were looked at.
     pub fn new(alloc: Global, turns: u64) -> Memo
         ensures { (key : List Cell) → get row_cmp result.known key ≡ None }
     {
@@ -97,21 +97,26 @@ impl Memo {
         }
     }
 
+    /// Counts a row that is looked at.
+    pub fn turn(&mut self)
+        ensures { self.new.known ≡ self.old.known }
+    {
+        self.turns = self.turns.saturating_sub(1);
+    }
+
     /// By what it is remembered whether a rest of a plan holds; `None` before the turns are used up, and where there is no
     /// key.
     pub fn key(
-        &mut self,
+        &self,
         course: &Course<'_>,
         row: &Row,
         taken: &Taken<'_>,
         plan: &[u32],
     ) -> Option<Row>
         requires { IsUnderway course.now (placed taken.now) plan.now }
-        ensures key { IfSome result (λ key. IsKey course.now.setting.query.now course.now.shared.now (placed taken.now) plan.now row.now key) }
-        ensures same { self.new.known ≡ self.old.known }
+        ensures { IfSome result (λ key. IsKey course.now.setting.query.now course.now.shared.now (placed taken.now) plan.now row.now key) }
     {
         if self.turns > 0 {
-            self.turns -= 1;
             return None;
         }
         let place = course.order.len() - plan.len();

@@ -9,9 +9,9 @@ ghost use Rattle.cqa_model.specs.Variables.{AreLinked};
 ghost use Rattle.fo_plan.specs.Holding.{AreAtoms};
 ghost use Rattle.fo_plan.specs.Underway.{HasShared, AreShared};
 
-use crate::fitting::{linked, width_of};
 use cqa_model::{ColRef, Query, Variables};
 use cqa_value::{Items, NoMemory};
+use plan_rows::{linked, width_of};
 use std::alloc::Global;
 
 /// Whether an atom has a column that is linked to this one.

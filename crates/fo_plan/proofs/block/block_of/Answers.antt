@@ -25,4 +25,4 @@ returns c =
     let db = c.args.db.now in
     let q = c.args.query.now in
     let row = c.args.row.now in
-    subst (λ plan. MatchOption c.found_block-found.result (HoldsOver db q row plan → ⊥) (λ block. HoldsOver db q row plan × IsFirstBlock db q row plan block.now)) c.as_slice-order.ensures c.found_block-found.ensures
+    subst (λ plan. MatchOption c.found_block-found.result (HoldsOver db q row plan → ⊥) (λ block. HoldsOver db q row plan × IsFirstBlock db q row plan block)) c.as_slice-order.ensures c.found_block-found.ensures

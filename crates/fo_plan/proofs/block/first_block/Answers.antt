@@ -30,7 +30,7 @@ pub loop-block-preserved : goal.loop-block-preserved
 loop-block-preserved c = record {
   leads =
       leads-on (blocks_left c.new-cursor.result) (RowHolds c.args.course.now.setting.query.now (stored c.args.course.now.setting.db.now) c.args.row.now [] c.args.atom c.args.rest.now)
-      (blocks_left c.loop-block.cursor) (blocks_left c.next.new.self) c.in-Some.block.now c.loop-block.invariant.leads c.in-Some.ensures.steps (λ h. false≢true (sym c.if-all_hold.false ∙ c.all_hold.ensures.holds.1 h));
+      (blocks_left c.loop-block.cursor) (blocks_left c.next.new.self) c.in-Some.block c.loop-block.invariant.leads c.in-Some.ensures.steps (λ h. false≢true (sym c.if-all_hold.false ∙ c.all_hold.ensures.holds.1 h));
   right = c.all_hold.ensures.memo;
 }
 
@@ -40,7 +40,7 @@ returns-then-all_hold c =
     let tables = stored c.args.course.now.setting.db.now in
     let F = c.args.atom in
     leads-found (blocks_left c.new-cursor.result) (RowHolds q tables c.args.row.now [] F c.args.rest.now)
-    (blocks_left c.loop-block.cursor) (blocks_left c.next.new.self) c.in-Some.block.now c.loop-block.invariant.leads c.in-Some.ensures.steps (atom_key q F) (rows_of q tables F)
+    (blocks_left c.loop-block.cursor) (blocks_left c.next.new.self) c.in-Some.block c.loop-block.invariant.leads c.in-Some.ensures.steps (atom_key q F) (rows_of q tables F)
     (blocks-of-atom q c.args.course.now.setting.db.now F c.requires.here.over.fits (first-atom c.args.course.now [] c.args.atom c.args.rest.now c.requires.here) c.table_of.result c.table_of.ensures (blocks_left c.new-cursor.result)
     (subst (λ (d : List Table). AreBlocks (key_at d c.table_of.result) (rows_at d c.table_of.result) (blocks_left c.new-cursor.result)) (sym c.requires.db) c.new-cursor.ensures.blocks))
     (c.all_hold.ensures.holds.0 c.if-all_hold.true)

@@ -7,9 +7,9 @@ use Rattle.fo_plan.proofs.Parted.{front-block}
 use Rattle.fo_plan.proofs.enough.block_at.Goals as goal
 
 pub over-blocks-requires : goal.over-blocks-requires
-over-blocks-requires c = subst (IsStrictlySortedBy (block_cmp c.args.key.now)) (sym c.split_at.ensures.back) (sorted-drop c.args.key.now c.args.rows.now c.args.at c.requires.in_order)
+over-blocks-requires c = subst (IsStrictlySortedBy (block_cmp c.args.key.now)) (sym c.split_at-rest.ensures.rest) (sorted-drop c.args.key.now c.args.rows.now c.args.at c.requires.in_order)
 
 pub returns : goal.returns
 returns c =
-    front-block c.args.key.now c.args.rows.now c.split_at.result.1.now c.args.at (blocks_left c.over-blocks.result) (blocks_left c.next.new.self) c.in-Some.block.now
-    c.split_at.ensures.back c.over-blocks.ensures.blocks c.in-Some.ensures.steps c.requires.there c.requires.first
+    front-block c.args.key.now c.args.rows.now c.split_at-rest.result.1 c.args.at (blocks_left c.over-blocks.result) (blocks_left c.next.new.self) c.in-Some.block
+    c.split_at-rest.ensures.rest c.over-blocks.ensures.blocks c.in-Some.ensures.steps c.requires.there c.requires.first

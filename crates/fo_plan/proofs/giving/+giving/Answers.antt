@@ -1,16 +1,16 @@
-use Rattle.std.proofs.Common.{◌∙◌, ◌∷◌, subst, sym, arith, length, take, drop, [], ◌-◌, get_or, OnOk}
+use Rattle.std.proofs.Common.{◌∙◌, ◌∷◌, subst, sym, ap, arith, [], get_or, OnOk}
 use Rattle.std.proofs.lemmas.Bool.{false≢true}
-use Rattle.std.proofs.lemmas.List.{get_or_read}
+use Rattle.std.proofs.lemmas.Option.{get_or_from_slice_get}
 use Rattle.std.proofs.lemmas.List.Elements.{Contains-get_or}
 use Rattle.cqa_model.specs.Database.{stored}
-use Rattle.fo_plan.specs.Taking.{placed}
-use Rattle.fo_plan.specs.Fitting.{Suits}
+use Rattle.plan_rows.specs.Taking.{placed}
+use Rattle.plan_rows.specs.Fitting.{Suits}
 use Rattle.fo_plan.specs.Holding.{RowHolds, AllHold}
 use Rattle.fo_plan.specs.Giving.{AreAll, IsAnswer, Gives, BlockGives, IsAdded}
 use Rattle.fo_plan.specs.Underway.{IsUnderway}
-use Rattle.fo_plan.proofs.Suiting.{suits-from}
-use Rattle.fo_plan.proofs.PlanParts.{rest-shorter, plan-split}
-use Rattle.fo_plan.proofs.Gathered.{all-more, block-fails, first-gives, block-one, block-rest, some-plan, adds-none, add-block, add-one, on-ok}
+use Rattle.plan_rows.proofs.Suiting.{suits-from}
+use Rattle.plan_rows.proofs.PlanParts.{rest-shorter, plan-split}
+use Rattle.fo_plan.proofs.Gathered.{all-more, block-fails, first-gives, block-one, block-split, some-plan, adds-none, add-block, add-one, on-ok}
 use Rattle.fo_plan.proofs.Sharing.{first-atom, underway-more}
 use Rattle.fo_plan.proofs.Adding.{added-starts, added-on, added-ends, gives-table}
 use Rattle.fo_plan.proofs.giving.+giving.Goals as goal
@@ -29,8 +29,8 @@ add_block-add_given-requires t c =
     let tables = stored c.args.course.now.setting.db.now in
     let taken = placed c.args.taken.now in
     let block = c.args.block.now in
-    let first = c.index-block-0.result in
-    let suits = subst (Suits q taken c.args.atom) (sym (get_or_read block 0 first c.requires.some c.index-block-0.is [])) (c.all_suit.ensures.0 c.if-not-all_suit.false (get_or block 0 []) (Contains-get_or block 0 [] c.requires.some)) in (
+    let first = c.get.result.now in
+    let suits = subst (Suits q taken c.args.atom) (get_or_from_slice_get block 0 first [] c.get.ensures) (c.all_suit.ensures.0 c.if-not-all_suit.false (get_or block 0 []) (Contains-get_or block 0 [] c.requires.some)) in (
       omega (arith, c.decreases),
       (
         underway-more c.args.course.now taken c.args.atom c.args.rest.now first c.requires.here suits,
@@ -38,16 +38,16 @@ add_block-add_given-requires t c =
       ),
     )
 
-pub add_block-returns-then-block-eq1-clause-added : goal.add_block-returns-then-block-eq1-clause-added
-add_block-returns-then-block-eq1-clause-added t c =
+pub add_block-returns-then-len-eq1-clause-added : goal.add_block-returns-then-len-eq1-clause-added
+add_block-returns-then-len-eq1-clause-added t c =
     let q = c.args.course.now.setting.query.now in
     let tables = stored c.args.course.now.setting.db.now in
     let taken = placed c.args.taken.now in
     let block = c.args.block.now in
-    let first = c.index-block-0.result in
-    let suits = subst (Suits q taken c.args.atom) (sym (get_or_read block 0 first c.requires.some c.index-block-0.is [])) (c.all_suit.ensures.0 c.if-not-all_suit.false (get_or block 0 []) (Contains-get_or block 0 [] c.requires.some)) in
+    let first = c.get.result.now in
+    let suits = subst (Suits q taken c.args.atom) (get_or_from_slice_get block 0 first [] c.get.ensures) (c.all_suit.ensures.0 c.if-not-all_suit.false (get_or block 0 []) (Contains-get_or block 0 [] c.requires.some)) in
     on-ok c.add_given.result
-    (add-one q tables taken c.args.atom c.args.rest.now first block (block-one block first c.if-block-eq1.true c.index-block-0.is) suits c.args.found.now.items c.add_given.new.found.items)
+    (add-one q tables taken c.args.atom c.args.rest.now first block (block-one block first (sym c.len.ensures ∙ c.if-len-eq1.true) (sym (get_or_from_slice_get block 0 first first c.get.ensures))) suits c.args.found.now.items c.add_given.new.found.items)
     c.add_given.ensures.added
 
 pub add_block-add_tested-added-requires : goal.add_block-add_tested-added-requires
@@ -91,8 +91,8 @@ add_tested-add_given-requires t c =
     let q = c.args.course.now.setting.query.now in
     let tables = stored c.args.course.now.setting.db.now in
     let taken = placed c.args.taken.now in
-    let first = c.index-block-0.result in
-    let suits = subst (Suits q taken c.args.atom) (sym (get_or_read c.args.block.now 0 first c.requires.some c.index-block-0.is [])) c.requires.first in (
+    let first = c.get.result.now in
+    let suits = subst (Suits q taken c.args.atom) (get_or_from_slice_get c.args.block.now 0 first [] c.get.ensures) c.requires.first in (
       omega (arith, c.decreases),
       (
         underway-more c.args.course.now taken c.args.atom c.args.rest.now first c.requires.here suits,
@@ -108,13 +108,13 @@ add_tested-returns-clause-added t c =
     let F = c.args.atom in
     let rest = c.args.rest.now in
     let block = c.args.block.now in
-    let first = c.index-block-0.result in
-    let others = take (length block - 1) (drop 1 block) in
-    let suits = subst (Suits q taken F) (sym (get_or_read block 0 first c.requires.some c.index-block-0.is [])) c.requires.first in
+    let first = c.get.result.now in
+    let others = c.split_at-others.result.1 in
+    let suits = subst (Suits q taken F) (get_or_from_slice_get block 0 first [] c.get.ensures) c.requires.first in
     on-ok c.keep_all.result
     (λ kept. add-block (Gives q tables (record { atom = F; row = first } ∷ taken) rest) (λ row. AllHold q tables row taken F rest others) (BlockGives q tables taken F rest block)
     c.args.found.now.items c.args.part.now.items c.add_given.new.found.items c.keep_all.new.found.items c.requires.none c.in_ok-add_given.ensures.added kept
-    (first-gives q tables taken F rest first others block (block-rest block first c.requires.some c.index-block-0.is) suits))
+    (first-gives q tables taken F rest first others block (block-split block first c.requires.some (sym (get_or_from_slice_get block 0 first first c.get.ensures)) ∙ ap (λ z. first ∷ z) (sym c.split_at-others.ensures.rest)) suits))
     c.keep_all.ensures.added
 
 pub add_blocks-new-blocks-requires-clause-atom : goal.add_blocks-new-blocks-requires-clause-atom
@@ -143,7 +143,7 @@ add_blocks-loop-block-preserved t c =
     let plan = c.args.rest.now in
     record {
       added = added-on c.new-blocks.result (IsAnswer q taken) (λ row y. RowHolds q tables row taken F plan y) (λ row y r. c.new-blocks.ensures.known y (suits-from q taken F y row r.0))
-          c.loop-block.place c.in-Some.next c.in-Some.block.now c.args.found.now.items c.loop-block.found.items c.add_block.new.found.items
+          c.loop-block.place c.in-Some.next c.in-Some.block c.args.found.now.items c.loop-block.found.items c.add_block.new.found.items
           c.loop-block.invariant.added c.in-Some.ensures c.in_ok-add_block.ensures.added;
       right = c.add_block.ensures.memo;
     }

@@ -1,6 +1,6 @@
 use Rattle.std.proofs.Common.{◌+◌, ◌-◌, ◌*◌, length}
 use Rattle.cqa_model.specs.Database.{stored}
-use Rattle.fo_plan.specs.Taking.{placed}
+use Rattle.plan_rows.specs.Taking.{placed}
 use Rattle.fo_plan.specs.Holding.{RowHolds}
 use Rattle.fo_plan.specs.Giving.{IsAnswer}
 use Rattle.fo_plan.specs.Underway.{IsRight}
@@ -27,4 +27,4 @@ invariant-add_blocks-loop-block l = record {
 }
 
 abbrev pub decreases-add_blocks-loop-block : goal.decreases-add_blocks-loop-block
-decreases-add_blocks-loop-block l = length l.blocks.rows.now - l.place
+decreases-add_blocks-loop-block l = length l.blocks.rows - l.place

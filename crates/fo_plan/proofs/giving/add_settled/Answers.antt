@@ -1,7 +1,7 @@
 use Rattle.std.proofs.Common.{◌∙◌, sym, ap, map}
 use Rattle.std.proofs.lemmas.Bool.{false≢true}
 use Rattle.cqa_model.specs.Database.{stored}
-use Rattle.fo_plan.specs.Taking.{placed, taken_value}
+use Rattle.plan_rows.specs.Taking.{placed, taken_value}
 use Rattle.fo_plan.specs.Giving.{Gives}
 use Rattle.fo_plan.proofs.Gathered.{add-answer, adds-none}
 use Rattle.fo_plan.proofs.Sharing.{settled-plan}

@@ -1,6 +1,6 @@
 use Rattle.std.proofs.Common.{length}
 use Rattle.cqa_model.specs.Database.{stored}
-use Rattle.fo_plan.specs.Taking.{placed}
+use Rattle.plan_rows.specs.Taking.{placed}
 use Rattle.fo_plan.specs.Holding.{AllHold}
 use Rattle.fo_plan.specs.Underway.{IsRight}
 use Rattle.fo_plan.proofs.Gathered.{KeptSoFar}

@@ -1,7 +1,7 @@
 use Rattle.std.proofs.Common.{◌∙◌, sym}
 use Rattle.std.proofs.lemmas.Bool.{false≢true}
 use Rattle.cqa_model.specs.Database.{stored}
-use Rattle.fo_plan.specs.Taking.{placed}
+use Rattle.plan_rows.specs.Taking.{placed}
 use Rattle.fo_plan.specs.Holding.{AllHold}
 use Rattle.fo_plan.proofs.Gathered.{none-added}
 use Rattle.fo_plan.proofs.giving.keep_one.Goals as goal

@@ -1,15 +1,16 @@
-use Rattle.std.proofs.Common.{IsTrue, ◌↔◌, ◌∙◌, ◌∷◌, refl, subst, sym, arith, Some}
+use Rattle.std.proofs.Common.{rules, IsTrue, ◌↔◌, ◌∙◌, ◌∷◌, refl, subst, sym, arith, Some}
 use Rattle.std.proofs.lemmas.Bool.{false≢true}
 use Rattle.cqa_model.specs.Database.{stored}
 use Rattle.cqa_model.specs.Query.{atom_key, rows_of}
 use Rattle.cqa_model.specs.Plan.{PlanHolds}
-use Rattle.fo_plan.specs.Taking.{placed}
-use Rattle.fo_plan.specs.Knowing.{MayFit}
+use Rattle.plan_rows.specs.Taking.{placed}
+use Rattle.plan_rows.specs.Knowing.{MayFit}
 use Rattle.fo_plan.specs.Holding.{RowHolds}
 use Rattle.fo_plan.specs.Underway.{IsUnderway, IsKey}
-use Rattle.fo_plan.proofs.Suiting.{suits-from}
+use Rattle.plan_rows.proofs.Suiting.{suits-from}
 use Rattle.fo_plan.proofs.Passing.{found-in-table, next-some, none-starts, none-on, none-ends}
-use Rattle.fo_plan.proofs.PlanParts.{rest-shorter, plan-split}
+use Rattle.plan_rows.proofs.PlanParts.{rest-shorter, plan-split}
+use Rattle.fo_plan.proofs.Gathered.{held-starts, held-not, held-on, held-ends}
 use Rattle.fo_plan.proofs.Sharing.{first-atom, underway-more, still-right, keeps-right}
 use Rattle.fo_plan.proofs.holding.+holds.Goals as goal
 
@@ -22,8 +23,8 @@ holds_with-remembered-requires t c =
       (
         subst (IsUnderway c.args.course.now (placed c.args.taken.now)) (plan-split plan l) c.requires.here,
         (
-          still-right c.args.course.now c.args.memo.now c.key.new.self c.key.ensures.same c.requires.memo,
-          subst (λ p. IsKey q c.args.course.now.shared.now (placed c.args.taken.now) p c.args.row.now c.in-Some.key) (plan-split plan l) c.in-Some.ensures.key,
+          c.requires.memo,
+          subst (λ p. IsKey q c.args.course.now.shared.now (placed c.args.taken.now) p c.args.row.now c.in-Some.key) (plan-split plan l) c.in-Some.ensures,
         ),
       ),
     )
@@ -40,7 +41,7 @@ holds_with-some_block-requires t c =
       omega (arith, rest-shorter plan l, c.decreases),
       (
         subst (IsUnderway c.args.course.now (placed c.args.taken.now)) (plan-split plan l) c.requires.here,
-        still-right c.args.course.now c.args.memo.now c.key.new.self c.key.ensures.same c.requires.memo,
+        c.requires.memo,
       ),
     )
 
@@ -58,8 +59,39 @@ remembered-returns-clause-memo t c =
     keeps-right c.args.course.now c.some_block-held.new.memo c.keep.new.self (placed c.args.taken.now) (c.args.atom ∷ c.args.rest.now) c.args.row.now c.args.key c.some_block-held.result
     c.some_block-held.ensures.memo c.requires.here c.requires.key c.some_block-held.ensures.holds c.keep.ensures
 
+pub all_hold-loop-y-init : goal.all_hold-loop-y-init
+all_hold-loop-y-init t c = record {
+  held = held-starts (RowHolds c.args.course.now.setting.query.now (stored c.args.course.now.setting.db.now) c.args.row.now (placed c.args.taken.now) c.args.atom c.args.rest.now) c.args.block.now c.into_iter-y-iterator.result (search rules);
+  right = c.requires.memo;
+}
+
+pub all_hold-returns-then-not-row_holds-clause-holds : goal.all_hold-returns-then-not-row_holds-clause-holds
+all_hold-returns-then-not-row_holds-clause-holds t c =
+    let P = RowHolds c.args.course.now.setting.query.now (stored c.args.course.now.setting.db.now) c.args.row.now (placed c.args.taken.now) c.args.atom c.args.rest.now in (
+      (λ e. absurd (false≢true e)),
+      (λ all. absurd (held-not P c.args.block.now c.loop-y.y-iterator c.next.new.self c.in-Some.y.now c.loop-y.invariant.held c.in-Some.ensures.steps (λ p. false≢true (sym c.if-not-row_holds.true ∙ c.row_holds.ensures.holds.1 p)) all)),
+    )
+
+pub all_hold-loop-y-preserved : goal.all_hold-loop-y-preserved
+all_hold-loop-y-preserved t c =
+    let P = RowHolds c.args.course.now.setting.query.now (stored c.args.course.now.setting.db.now) c.args.row.now (placed c.args.taken.now) c.args.atom c.args.rest.now in
+    record {
+      held = held-on P c.args.block.now c.loop-y.y-iterator c.next.new.self c.in-Some.y.now c.loop-y.invariant.held c.in-Some.ensures.steps (c.row_holds.ensures.holds.0 c.if-not-row_holds.false);
+      right = c.row_holds.ensures.memo;
+    }
+
+pub all_hold-returns-clause-holds : goal.all_hold-returns-clause-holds
+all_hold-returns-clause-holds t c =
+    let P = RowHolds c.args.course.now.setting.query.now (stored c.args.course.now.setting.db.now) c.args.row.now (placed c.args.taken.now) c.args.atom c.args.rest.now in (
+      (λ e. held-ends P c.args.block.now c.loop-y.y-iterator c.loop-y.invariant.held c.in-None.ensures.steps.0),
+      (λ all. refl),
+    )
+
 pub row_holds-fits-requires-clause-atom : goal.row_holds-fits-requires-clause-atom
 row_holds-fits-requires-clause-atom t c = first-atom c.args.course.now (placed c.args.taken.now) c.args.atom c.args.rest.now c.requires.here
+
+pub row_holds-returns-then-not-fits-clause-memo : goal.row_holds-returns-then-not-fits-clause-memo
+row_holds-returns-then-not-fits-clause-memo t c = still-right c.args.course.now c.args.memo.now c.turn.new.self c.turn.ensures c.requires.memo
 
 pub row_holds-holds_with-requires : goal.row_holds-holds_with-requires
 row_holds-holds_with-requires t c =
@@ -68,7 +100,7 @@ row_holds-holds_with-requires t c =
       omega (arith, c.decreases),
       (
         underway-more c.args.course.now taken c.args.atom c.args.rest.now c.args.y.now c.requires.here (suits-from q taken c.args.atom c.args.y.now c.args.row.now (c.fits.ensures.0 c.if-not-fits.false)),
-        c.requires.memo,
+        still-right c.args.course.now c.args.memo.now c.turn.new.self c.turn.ensures c.requires.memo,
       ),
     )
 
@@ -93,7 +125,7 @@ some_block-returns-then-all_hold-clause-holds t c =
     let P = RowHolds q tables c.args.row.now taken F c.args.rest.now in
     let s = c.new-blocks.result in (
       (λ e. (found-in-table s (atom_key q F) (rows_of q tables F) (MayFit q (Some c.args.row.now) taken F) c.new-blocks.ensures.key c.new-blocks.ensures.enough P (λ y r. r.0)).0
-          (next-some s P c.loop-block.place c.in-Some.next c.in-Some.block.now c.in-Some.ensures (c.all_hold.ensures.holds.0 c.if-all_hold.true))),
+          (next-some s P c.loop-block.place c.in-Some.next c.in-Some.block c.in-Some.ensures (c.all_hold.ensures.holds.0 c.if-all_hold.true))),
       (λ h. refl),
     )
 
@@ -102,7 +134,7 @@ some_block-loop-block-preserved t c =
     let q = c.args.course.now.setting.query.now in
     let P = RowHolds q (stored c.args.course.now.setting.db.now) c.args.row.now (placed c.args.taken.now) c.args.atom c.args.rest.now in
     record {
-      none = none-on c.new-blocks.result P (λ y r. c.new-blocks.ensures.known y r.0) c.loop-block.place c.in-Some.next c.in-Some.block.now c.loop-block.invariant.none c.in-Some.ensures
+      none = none-on c.new-blocks.result P (λ y r. c.new-blocks.ensures.known y r.0) c.loop-block.place c.in-Some.next c.in-Some.block c.loop-block.invariant.none c.in-Some.ensures
           (λ h. false≢true (sym c.if-all_hold.false ∙ c.all_hold.ensures.holds.1 h));
       right = c.all_hold.ensures.memo;
     }

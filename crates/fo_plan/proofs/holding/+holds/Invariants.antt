@@ -1,9 +1,10 @@
-use Rattle.std.proofs.Common.{ℕ, ◌+◌, ◌-◌, ◌*◌, ◌<◌, [], length, get_or}
+use Rattle.std.proofs.Common.{◌+◌, ◌-◌, ◌*◌, length}
 use Rattle.cqa_model.specs.Database.{stored}
-use Rattle.fo_plan.specs.Taking.{placed}
+use Rattle.plan_rows.specs.Taking.{placed}
 use Rattle.fo_plan.specs.Holding.{RowHolds}
 use Rattle.fo_plan.specs.Underway.{IsRight}
 use Rattle.fo_plan.proofs.Passing.{NoneBefore}
+use Rattle.fo_plan.proofs.Gathered.{HeldSoFar}
 use Rattle.fo_plan.proofs.holding.+holds.Given as goal
 
 abbrev pub decreases-all_hold : goal.decreases-all_hold
@@ -24,7 +25,7 @@ decreases-some_block l = 5 * length l.rest.now + 3
 -- the rows so far hold
 abbrev pub invariant-all_hold-loop-y : goal.invariant-all_hold-loop-y
 invariant-all_hold-loop-y l = record {
-  held : (i : ℕ) → i < l.y-index → RowHolds l.course.setting.query.now (stored l.course.setting.db.now) l.row (placed l.taken) l.atom l.rest (get_or l.block i []);
+  held : HeldSoFar (RowHolds l.course.setting.query.now (stored l.course.setting.db.now) l.row (placed l.taken) l.atom l.rest) l.block l.y-iterator;
   right : IsRight l.course l.memo;
 }
 
@@ -36,4 +37,4 @@ invariant-some_block-loop-block l = record {
 }
 
 abbrev pub decreases-some_block-loop-block : goal.decreases-some_block-loop-block
-decreases-some_block-loop-block l = length l.blocks.rows.now - l.place
+decreases-some_block-loop-block l = length l.blocks.rows - l.place

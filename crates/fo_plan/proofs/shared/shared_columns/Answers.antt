@@ -1,7 +1,7 @@
 use Rattle.std.proofs.Common.{◌∷◌, [], length, ap, sym, subst, arith, Contains}
 use Rattle.std.proofs.lemmas.List.{length-append}
 use Rattle.fo_plan.specs.Underway.{AreShared}
-use Rattle.fo_plan.proofs.PlanParts.{take-member}
+use Rattle.plan_rows.proofs.PlanParts.{take-member}
 use Rattle.fo_plan.proofs.Columns.{drop-member, shared-more}
 use Rattle.fo_plan.proofs.shared.shared_columns.Goals as goal
 

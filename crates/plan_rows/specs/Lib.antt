@@ -1,0 +1,4 @@
+pub mod Taking
+pub mod Fitting
+pub mod Knowing
+pub mod Over

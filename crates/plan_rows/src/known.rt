@@ -1,0 +1,152 @@
+//! The values that are known of a row before it is looked for: by tests, by the rows taken, by a candidate.
+
+ghost use Rattle.std.specs.Prelude.{◌≡◌, ◌≤◌, ◌<◌, IfSome, All, List, length, slice_index_or};
+ghost use Rattle.std.specs.Option.{option_copied};
+ghost use Rattle.cqa_value.specs.declared.value.Value.{Value as Cell};
+ghost use Rattle.cqa_value.specs.Values.{nothing};
+ghost use Rattle.cqa_model.specs.Shape.{IsInRange};
+ghost use Rattle.cqa_model.specs.Query.{atom_at};
+ghost use Rattle.cqa_model.specs.Plan.{TestHolds};
+ghost use Rattle.table_blocks.specs.Spans.{first_key};
+ghost use Rattle.plan_rows.specs.Taking.{placed, AreOfAtoms};
+ghost use Rattle.plan_rows.specs.Fitting.{ColumnAgrees, AgreesAll, GivesAt};
+ghost use Rattle.plan_rows.specs.Knowing.{MayFit};
+ghost use Rattle.plan_rows.specs.Over.{IsPrepared};
+
+use crate::fitting::{linked, width_of};
+use crate::setting::Setting;
+use crate::taken_rows::Taken;
+use cqa_model::{ColRef, Cond, MOST_COLUMNS, Op, Query};
+use cqa_value::{Row, Value};
+use table_blocks::{Probe, cell};
+
+/// The value that a test tells of a column.
+fn told_by(cond: &Cond, column: ColRef) -> Option<&Value>
+    ensures { IfSome result (λ value. (y : List Cell) → TestHolds column.atom y cond.now → slice_index_or y column.col nothing ≡ value.now) }
+{
+    match cond {
+        Cond::Test {
+            col,
+            op: Op::Eq,
+            value,
+        } if *col == column => Some(value),
+        _ => None,
+    }
+}
+
+/// The value that some test tells of a column.
+fn told(conds: &[Cond], column: ColRef) -> Option<&Value>
+    ensures { IfSome result (λ value. (y : List Cell) → All (TestHolds column.atom y) conds.now → slice_index_or y column.col nothing ≡ value.now) }
+{
+    for cond in conds {
+        if let Some(value) = told_by(cond, column) {
+            return Some(value);
+        }
+    }
+    None
+}
+
+/// The value that a row of an atom tells of a column: that of its own column which is linked to it.
+fn told_by_row<'b>(
+    setting: &Setting<'_>,
+    other: u32,
+    row: &'b Row,
+    column: ColRef,
+) -> Option<&'b Value>
+    requires over { IsPrepared setting.now }
+    requires column { IsInRange setting.now.query.now.atoms column }
+    requires other { other < length setting.now.query.now.atoms }
+    ensures { IfSome result (λ value. (y : List Cell) → ColumnAgrees setting.now.query.now y column row.now other (atom_at setting.now.query.now other).width → slice_index_or y column.col nothing ≡ value.now) }
+{
+    for j in 0..width_of(setting.query, other) {
+        let linked_column = ColRef {
+            atom: other,
+            col: j,
+        };
+        if linked(setting.query, &setting.variables, column, linked_column) {
+            return cell(row, j);
+        }
+    }
+    None
+}
+
+/// The value that some row taken tells of a column.
+fn told_by_taken<'b>(setting: &Setting<'_>, taken: &Taken<'b>, column: ColRef) -> Option<&'b Value>
+    requires over { IsPrepared setting.now }
+    requires column { IsInRange setting.now.query.now.atoms column }
+    requires taken { AreOfAtoms setting.now.query.now (placed taken.now) }
+    ensures { IfSome result (λ value. (y : List Cell) → AgreesAll setting.now.query.now column.atom y (placed taken.now) → slice_index_or y column.col nothing ≡ value.now) }
+{
+    match taken {
+        Taken::Nothing => None,
+        Taken::Before(other, row, before) => match told_by_row(setting, *other, row, column) {
+            Some(value) => Some(value),
+            None => told_by_taken(setting, before, column),
+        },
+    }
+}
+
+/// The value that a candidate tells of a column of the answer.
+fn told_by_answer<'b>(query: &Query, row: &'b Row, column: ColRef) -> Option<&'b Value>
+    ensures { IfSome result (λ value. (y : List Cell) → GivesAt query.now column.atom y row.now → slice_index_or y column.col nothing ≡ value.now) }
+{
+    let columns = query.answer.as_slice();
+    for at in 0..columns.len() as u32 {
+        if columns[at as usize] == column {
+            return cell(row, at);
+        }
+    }
+    None
+}
+
+/// The value that each row of an atom has in a column if it fits.
+fn known<'b>(
+    setting: &'b Setting<'_>,
+    row: Option<&'b Row>,
+    taken: &Taken<'b>,
+    column: ColRef,
+) -> Option<&'b Value>
+    requires over { IsPrepared setting.now }
+    requires column { IsInRange setting.now.query.now.atoms column }
+    requires taken { AreOfAtoms setting.now.query.now (placed taken.now) }
+    ensures { IfSome result (λ value. (y : List Cell) → MayFit setting.now.query.now (option_copied row.entry) (placed taken.now) column.atom y → slice_index_or y column.col nothing ≡ value.now) }
+{
+    if let Some(value) = told(setting.query.conds.as_slice(), column) {
+        return Some(value);
+    }
+    if let Some(value) = told_by_taken(setting, taken, column) {
+        return Some(value);
+    }
+    match row {
+        Some(row) => told_by_answer(setting.query, row, column),
+        None => None,
+    }
+}
+
+/// The values that each row of an atom has in some columns if it fits: those of the first columns, as many as are known.
+pub fn known_values<'b>(
+    setting: &'b Setting<'_>,
+    row: Option<&'b Row>,
+    taken: &Taken<'b>,
+    atom: u32,
+    columns: &[u32],
+) -> Probe<'b>
+    requires over { IsPrepared setting.now }
+    requires atom { atom < length setting.now.query.now.atoms }
+    requires taken { AreOfAtoms setting.now.query.now (placed taken.now) }
+    ensures few { length result ≤ length columns.now }
+    ensures known { (y : List Cell) → MayFit setting.now.query.now (option_copied row.entry) (placed taken.now) atom y → first_key columns.now result y ≡ result }
+{
+    let width = width_of(setting.query, atom);
+    let mut probe = Probe::new(setting.alloc);
+    for col in columns {
+        if *col >= width || probe.len() == MOST_COLUMNS {
+            return probe;
+        }
+        let Some(value) = known(setting, row, taken, ColRef { atom, col: *col }) else {
+            return probe;
+        };
+        probe.put(value);
+    }
+    probe
+}
