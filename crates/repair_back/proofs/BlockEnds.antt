@@ -1,8 +1,8 @@
 -- The ends of blocks of rows in block order.
-use Rattle.std.proofs.Common.{◌≡◌, ℕ, ◌<◌, ◌≤◌, ◌↔◌, ◌⊎◌, inl, inr, Bool, List, [], length, get_or, ◌∙◌, subst, arith}
+use Rattle.std.proofs.Common.{◌≡◌, ℕ, ◌<◌, ◌≤◌, ◌↔◌, ◌⊎◌, inl, inr, Bool, List, Some, [], length, get_or, slice_get, sym, subst, arith}
 use Rattle.std.specs.Bool.{IsTrue}
 use Rattle.std.specs.List.Sorted.{IsStrictlySortedBy}
-use Rattle.std.proofs.lemmas.List.{get_or_default}
+use Rattle.std.proofs.lemmas.Option.{get_or_from_slice_get}
 use Rattle.cqa_value.specs.declared.value.Value.{Value}
 use Rattle.cqa_model.specs.Database.{block_cmp}
 use Rattle.cqa_model.specs.Repairs.{SharesKey}
@@ -11,13 +11,12 @@ use Rattle.cqa_model.proofs.Repairs.{shares-sym, shares-trans}
 use Rattle.repair_back.specs.Walking.{Begins, IsBlock}
 use Rattle.repair_back.proofs.Numbers.{cases_le}
 
-pub goes : (key : List ℕ) (rows : List (List Value)) (at other : ℕ) (a b : List Value) (t : Bool) → at < length rows → other < length rows → a ≡ get_or rows at a → b ≡ get_or rows other b →
-    IsTrue t ↔ SharesKey key a b → IsTrue t ↔ ((other < length rows) × SharesKey key (get_or rows at []) (get_or rows other []))
-goes key rows at other a b t some l ra rb same =
-    let ea : a ≡ get_or rows at [] = ra ∙ get_or_default rows at a [] some in
-    let eb : b ≡ get_or rows other [] = rb ∙ get_or_default rows other b [] l in
-    let there : IsTrue t ↔ SharesKey key (get_or rows at []) (get_or rows other []) = subst (λ y. IsTrue t ↔ SharesKey key (get_or rows at []) y) eb (subst (λ x. IsTrue t ↔ SharesKey key x b) ea same) in
-    (λ h. (l, there.0 h), λ on. there.1 on.1)
+pub shared : (key : List ℕ) (rows : List (List Value)) (at other : ℕ) (a b : List Value) (t : Bool) → slice_get rows at ≡ Some a → slice_get rows other ≡ Some b →
+    IsTrue t ↔ SharesKey key a b → IsTrue t ↔ SharesKey key (get_or rows at []) (get_or rows other [])
+shared key rows at other a b t ra rb same =
+    let ea : a ≡ get_or rows at [] = sym (get_or_from_slice_get rows at a [] ra) in
+    let eb : b ≡ get_or rows other [] = sym (get_or_from_slice_get rows other b [] rb) in
+    subst (λ y. IsTrue t ↔ SharesKey key (get_or rows at []) y) eb (subst (λ x. IsTrue t ↔ SharesKey key x b) ea same)
 
 module _ (key : List ℕ) (rows : List (List Value)) (order : IsStrictlySortedBy (block_cmp key) rows) (at end : ℕ) (within : end ≤ length rows) (above : at < end)
     (alike : (i : ℕ) → at ≤ i → i < end → SharesKey key (get_or rows at []) (get_or rows i [])) (stop : end < length rows → SharesKey key (get_or rows at []) (get_or rows end []) → ⊥) where

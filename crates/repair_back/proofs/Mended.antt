@@ -242,10 +242,6 @@ module _ (q : Query) (db : List Table) (fits : FitsDatabase q db) (row : List Va
       held = held_on rows (RowHolds db q row taken F plan) start next h.held holds;
     }
 
--- what is read of rows
-pub row-read : (rows : List (List Value)) (i : ℕ) (x : List Value) → i < length rows → x ≡ get_or rows i x → x ≡ get_or rows i []
-row-read rows i x l e = e ∙ get_or_default rows i x [] l
-
 module _ (q : Query) (db : List Table) (row : List Value) (taken : List Placed) (F : ℕ) (plan : List ℕ) where
   -- a row that holds is passed over
   pub rows-skip : (old flags : List (List Bool)) (rows : List (List Value)) (start end last next : ℕ) → RowsSoFar q db row taken F plan old flags rows start end last next →

@@ -8,8 +8,8 @@ use Rattle.cqa_model.specs.Query.{atom_key, rows_of, row_at}
 use Rattle.cqa_model.specs.Plan.{Placed, Fits, IsPlan, PlanHolds}
 use Rattle.cqa_model.specs.Variables.{after}
 use Rattle.cqa_model.specs.Partial.{view_of, AllFit, IsPartial}
-use Rattle.fo_plan.specs.declared.setting.Setting.{Setting}
-use Rattle.fo_plan.specs.Over.{IsPrepared}
+use Rattle.plan_rows.specs.declared.setting.Setting.{Setting}
+use Rattle.plan_rows.specs.Over.{IsPrepared}
 use Rattle.repair_back.specs.Flags.{kept_tables, flags_of, AreChosen}
 
 -- a witness with these rows taken whose other rows are flagged

@@ -7,6 +7,7 @@ ghost use Rattle.cqa_model.specs.Repairs.{SharesKey};
 ghost use Rattle.repair_back.specs.Walking.{Begins, IsBlock};
 
 use cqa_value::Row;
+use row_pieces::Rows;
 
 /// Whether two rows agree in all key columns.
 fn same_key(key: &[u32], a: &Row, b: &Row) -> bool
@@ -15,24 +16,26 @@ fn same_key(key: &[u32], a: &Row, b: &Row) -> bool
     key.iter().all(|place| a.agrees(*place, b, *place))
 }
 
-/// Whether the rows at two places share a key; the other may be behind the last row.
-pub(crate) fn goes_on(rows: &[Row], key: &[u32], at: usize, other: usize) -> bool
-    requires { at < length rows.now }
-    ensures { IsTrue result ↔ ((other < length rows.now) × SharesKey key.now (slice_index_or rows.now at []) (slice_index_or rows.now other [])) }
+/// Whether the rows at two places share a key.
+pub(crate) fn share_key(rows: &Rows<'_>, key: &[u32], at: usize, other: usize) -> bool
+    requires at { at < length rows.now }
+    requires other { other < length rows.now }
+    ensures { IsTrue result ↔ SharesKey key.now (slice_index_or rows.now at []) (slice_index_or rows.now other []) }
 {
-    other < rows.len() && same_key(key, &rows[at], &rows[other])
+    same_key(key, rows.get(at), rows.get(other))
 }
 
 /// The place behind the block that begins at a place.
-pub(crate) fn block_end(rows: &[Row], key: &[u32], at: usize) -> usize
+pub(crate) fn block_end(rows: &Rows<'_>, key: &[u32], at: usize) -> usize
     requires order { IsStrictlySortedBy (block_cmp key.now) rows.now }
     requires there { at < length rows.now }
     requires begins { Begins key.now rows.now at }
     ensures block { IsBlock key.now rows.now at result }
     ensures begins { Begins key.now rows.now result }
 {
+    let count = rows.len();
     let mut end = at + 1;
-    while goes_on(rows, key, at, end) {
+    while end < count && share_key(rows, key, at, end) {
         end += 1;
     }
     end

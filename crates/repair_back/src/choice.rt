@@ -8,7 +8,8 @@ ghost use Rattle.repair_back.specs.Flags.{IsFlagged, IsChoice};
 ghost use Rattle.repair_back.specs.Results.{IsPick};
 
 use crate::blocks::block_end;
-use cqa_value::{NoMemory, Row};
+use cqa_value::NoMemory;
+use row_pieces::Rows;
 use std::alloc::Global;
 use std::marker::Model;
 
@@ -116,7 +117,7 @@ impl Choice {
     }
 
     /// Keeps of each block the first row whose flag is set, or else the first row.
-    pub(crate) fn settle(&mut self, rows: &[Row], key: &[u32])
+    pub(crate) fn settle(&mut self, rows: &Rows<'_>, key: &[u32])
         requires order { IsStrictlySortedBy (block_cmp key.now) rows.now }
         requires size { length self.old ≡ length rows.now }
         ensures choice { IsChoice key.now rows.now self.new }

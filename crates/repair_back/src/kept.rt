@@ -70,6 +70,6 @@ pub(crate) fn settle_all(db: &Database, query: &Query, kept: &mut [Choice])
 {
     for atom in 0..query.atoms.len() as u32 {
         let table = table_of(query, atom);
-        kept[table as usize].settle(db.rows(table), key_of(query, atom));
+        kept[table as usize].settle(&db.rows(table), key_of(query, atom));
     }
 }

@@ -11,8 +11,8 @@ ghost use Rattle.cqa_model.specs.Query.{atom_at, atom_key, rows_of, FitsDatabase
 ghost use Rattle.cqa_model.specs.Certain.{IsCertain};
 ghost use Rattle.cqa_model.specs.Plan.{PlanHolds, IsUnattacked, IsPlan, IsPlanOf};
 ghost use Rattle.cqa_model.specs.Partial.{view_of, AllFit};
-ghost use Rattle.fo_plan.specs.Taking.{placed, AreOfAtoms};
-ghost use Rattle.fo_plan.specs.Over.{IsPrepared};
+ghost use Rattle.plan_rows.specs.Taking.{placed, AreOfAtoms};
+ghost use Rattle.plan_rows.specs.Over.{IsPrepared};
 ghost use Rattle.repair_back.specs.Flags.{IsFlagged, kept_tables, flags_of, AreBlank, AreChosen};
 ghost use Rattle.repair_back.specs.Mending.{HasNone, IsNext, Lacks, IsReached, RowHolds};
 ghost use Rattle.repair_back.specs.Results.{Rejects, AreStored};
@@ -25,7 +25,8 @@ use crate::kept::{blank, settle_all};
 use crate::repair::{Repair, named};
 use cqa_model::{Plan, Query, variables};
 use cqa_value::{NoMemory, Row};
-use fo_plan::{Setting, Taken, fits, known_values};
+use plan_rows::{Setting, Taken, fits, known_values};
+use row_pieces::Rows;
 use std::alloc::Global;
 use table_blocks::Database;
 
@@ -127,8 +128,8 @@ fn mend_blocks<'x>(
     let (start, end) = span_of(setting, row, taken, atom);
     let mut at = start;
     while at < end {
-        let next = block_end(rows, key, at);
-        if !mend_block(setting, row, taken, atom, rest, rows, at, next, kept) {
+        let next = block_end(&rows, key, at);
+        if !mend_block(setting, row, taken, atom, rest, &rows, at, next, kept) {
             return false;
         }
         at = next;
@@ -144,7 +145,7 @@ fn mend_block<'x>(
     taken: &'x Taken<'x>,
     atom: u32,
     rest: &[u32],
-    rows: &[Row],
+    rows: &Rows<'_>,
     start: usize,
     end: usize,
     kept: &mut [Choice],
@@ -159,7 +160,7 @@ fn mend_block<'x>(
     ensures holds { result ≡ false → (i : ℕ) → start ≤ i → i < end → RowHolds setting.now.db.now setting.now.query.now row.now (placed taken.now) atom rest.now (slice_index_or rows.now i []) }
 {
     let first = kept_of(setting, atom, start, end, kept);
-    if row_mended(setting, row, taken, atom, &rows[first], rest, kept) {
+    if row_mended(setting, row, taken, atom, rows.get(first), rest, kept) {
         return true;
     }
     let mut last = first;
@@ -169,7 +170,7 @@ fn mend_block<'x>(
         }
         keep(setting, atom, kept, last, next);
         last = next;
-        if row_mended(setting, row, taken, atom, &rows[next], rest, kept) {
+        if row_mended(setting, row, taken, atom, rows.get(next), rest, kept) {
             return true;
         }
     }

@@ -1,28 +1,27 @@
 use Rattle.std.proofs.Common.{◌≡◌, ◌∙◌, ◌<◌, true, false, [], length, get_or, refl, ap, sym, subst, arith, true≢false}
+use Rattle.std.proofs.lemmas.Option.{get_or_from_slice_get}
 use Rattle.cqa_model.specs.Database.{stored}
 use Rattle.cqa_model.specs.Plan.{IsPlan}
 use Rattle.cqa_model.specs.Partial.{view_of}
 use Rattle.cqa_model.proofs.Views.{view-in_range, taken-in_range}
-use Rattle.fo_plan.specs.Taking.{placed}
-use Rattle.fo_plan.proofs.PlanParts.{plan-split, rest-shorter}
+use Rattle.plan_rows.specs.Taking.{placed}
+use Rattle.plan_rows.proofs.PlanParts.{plan-split, rest-shorter}
 use Rattle.repair_back.specs.Mending.{Lacks, RowHolds}
 use Rattle.repair_back.specs.Walking.{IsBlock, Begins}
 use Rattle.repair_back.proofs.Stepping.{reached-joined, reached-same, reached-forget, lacks-none, lacks-unfit}
-use Rattle.repair_back.proofs.Mended.{blocks-more, blocks-all, block-holds, turned, rows-turned, rows-skip, block-lacks, kept-read, row-read}
+use Rattle.repair_back.proofs.Mended.{blocks-more, blocks-all, block-holds, turned, rows-turned, rows-skip, block-lacks, kept-read}
 use Rattle.repair_back.proofs.mending.+mend.Goals as goal
 
 pub mend_block-row_mended-requires : goal.mend_block-row_mended-requires
 mend_block-row_mended-requires t c =
-    let k = c.kept_of-first.ensures in
-    let within = c.requires.block.within in
-    let kb = k.before in (
+    let k = c.kept_of-first.ensures in (
       omega (arith, c.decreases),
       (
         c.requires.next,
         (
           c.requires.chosen,
-          kept-read c.args.setting.now.query.now c.args.setting.now.db.now c.args.kept.now c.requires.chosen c.args.atom c.requires.next.there c.args.rows.now c.requires.rows c.kept_of-first.result k.kept c.index-rows-first.result
-              (row-read c.args.rows.now c.kept_of-first.result c.index-rows-first.result (omega (arith, kb, within)) c.index-rows-first.is),
+          kept-read c.args.setting.now.query.now c.args.setting.now.db.now c.args.kept.now c.requires.chosen c.args.atom c.requires.next.there c.args.rows.now c.requires.rows c.kept_of-first.result k.kept c.get.result.now
+              (sym (get_or_from_slice_get c.args.rows.now c.kept_of-first.result c.get.result.now [] c.get.ensures)),
         ),
       ),
     )
@@ -30,25 +29,20 @@ mend_block-row_mended-requires t c =
 pub mend_block-returns-then-row_mended-clause-lacks : goal.mend_block-returns-then-row_mended-clause-lacks
 mend_block-returns-then-row_mended-clause-lacks t c =
     let k = c.kept_of-first.ensures in
-    let within = c.requires.block.within in
-    let kb = k.before in
     λ e. block-lacks c.args.setting.now.query.now c.args.setting.now.db.now c.args.row.now (placed c.args.taken.now) c.args.atom c.args.rest.now c.row_mended.new.kept c.args.rows.now c.args.start c.args.end c.kept_of-first.result c.requires.block k.after k.before
     (subst (λ x. Lacks c.args.setting.now.db.now c.args.setting.now.query.now c.args.row.now (placed c.args.taken.now) c.args.atom c.row_mended.new.kept x)
-    (row-read c.args.rows.now c.kept_of-first.result c.index-rows-first.result (omega (arith, kb, within)) c.index-rows-first.is) (c.row_mended.ensures.lacks c.if-row_mended.true))
+    (sym (get_or_from_slice_get c.args.rows.now c.kept_of-first.result c.get.result.now [] c.get.ensures)) (c.row_mended.ensures.lacks c.if-row_mended.true))
 
 pub mend_block-loop-next-preserved-then-next-first : goal.mend_block-loop-next-preserved-then-next-first
 mend_block-loop-next-preserved-then-next-first t c =
     let k = c.kept_of-first.ensures in
-    let within = c.requires.block.within in
-    let kb = k.before in
     rows-skip c.args.setting.now.query.now c.args.setting.now.db.now c.args.row.now (placed c.args.taken.now) c.args.atom c.args.rest.now c.args.kept.now c.loop-next.kept c.args.rows.now c.args.start c.args.end c.loop-next.last c.loop-next.next c.loop-next.invariant
     (subst (λ x. RowHolds c.args.setting.now.db.now c.args.setting.now.query.now c.args.row.now (placed c.args.taken.now) c.args.atom c.args.rest.now x)
-    (row-read c.args.rows.now c.kept_of-first.result c.index-rows-first.result (omega (arith, kb, within)) c.index-rows-first.is ∙ ap (λ i. get_or c.args.rows.now i []) (sym c.if-next-first.true))
+    (sym (get_or_from_slice_get c.args.rows.now c.kept_of-first.result c.get.result.now [] c.get.ensures) ∙ ap (λ i. get_or c.args.rows.now i []) (sym c.if-next-first.true))
     (c.row_mended.ensures.holds c.if-row_mended.false))
 
 pub mend_block-row_mended-requires-in-loop-next : goal.mend_block-row_mended-requires-in-loop-next
 mend_block-row_mended-requires-in-loop-next t c =
-    let within = c.requires.block.within in
     let some = c.requires.block.some in
     let test = c.loop-next-test.true in
     let k = c.keep.ensures in
@@ -60,8 +54,8 @@ mend_block-row_mended-requires-in-loop-next t c =
         c.requires.next,
         (
           turn.chosen,
-          kept-read c.args.setting.now.query.now c.args.setting.now.db.now c.keep.new.kept turn.chosen c.args.atom c.requires.next.there c.args.rows.now c.requires.rows c.loop-next.next ((k.is c.loop-next.next).1 (Rattle.std.proofs.Common.inl refl)) c.index-rows-next.result
-              (row-read c.args.rows.now c.loop-next.next c.index-rows-next.result (omega (arith, test, within)) c.index-rows-next.is),
+          kept-read c.args.setting.now.query.now c.args.setting.now.db.now c.keep.new.kept turn.chosen c.args.atom c.requires.next.there c.args.rows.now c.requires.rows c.loop-next.next ((k.is c.loop-next.next).1 (Rattle.std.proofs.Common.inl refl)) c.get-in-loop-next.result.now
+              (sym (get_or_from_slice_get c.args.rows.now c.loop-next.next c.get-in-loop-next.result.now [] c.get-in-loop-next.ensures)),
         ),
       ),
     )
@@ -76,15 +70,13 @@ mend_block-returns-then-row_mended-2-clause-reached t c =
 
 pub mend_block-returns-then-row_mended-2-clause-lacks : goal.mend_block-returns-then-row_mended-2-clause-lacks
 mend_block-returns-then-row_mended-2-clause-lacks t c =
-    let within = c.requires.block.within in
     let test = c.loop-next-test.true in
     λ e. block-lacks c.args.setting.now.query.now c.args.setting.now.db.now c.args.row.now (placed c.args.taken.now) c.args.atom c.args.rest.now c.row_mended-in-loop-next.new.kept c.args.rows.now c.args.start c.args.end c.loop-next.next c.requires.block c.loop-next.auto.next test
     (subst (λ x. Lacks c.args.setting.now.db.now c.args.setting.now.query.now c.args.row.now (placed c.args.taken.now) c.args.atom c.row_mended-in-loop-next.new.kept x)
-    (row-read c.args.rows.now c.loop-next.next c.index-rows-next.result (omega (arith, test, within)) c.index-rows-next.is) (c.row_mended-in-loop-next.ensures.lacks c.if-row_mended-2.true))
+    (sym (get_or_from_slice_get c.args.rows.now c.loop-next.next c.get-in-loop-next.result.now [] c.get-in-loop-next.ensures)) (c.row_mended-in-loop-next.ensures.lacks c.if-row_mended-2.true))
 
 pub mend_block-loop-next-preserved : goal.mend_block-loop-next-preserved
 mend_block-loop-next-preserved t c =
-    let within = c.requires.block.within in
     let test = c.loop-next-test.true in
     let k = c.keep.ensures in
     let m = c.row_mended-in-loop-next.ensures in
@@ -95,7 +87,7 @@ mend_block-loop-next-preserved t c =
     c.args.rows.now c.requires.rows c.args.start c.args.end c.requires.block c.args.kept.now c.loop-next.kept c.keep.new.kept c.row_mended-in-loop-next.new.kept c.loop-next.last c.loop-next.next c.loop-next.invariant turn c.loop-next.auto.next test
     k.is m.chosen m.reached m.same
     (subst (λ x. RowHolds c.args.setting.now.db.now c.args.setting.now.query.now c.args.row.now (placed c.args.taken.now) c.args.atom c.args.rest.now x)
-    (row-read c.args.rows.now c.loop-next.next c.index-rows-next.result (omega (arith, test, within)) c.index-rows-next.is) (m.holds c.if-row_mended-2.false))
+    (sym (get_or_from_slice_get c.args.rows.now c.loop-next.next c.get-in-loop-next.result.now [] c.get-in-loop-next.ensures)) (m.holds c.if-row_mended-2.false))
 
 pub mend_blocks-returns-then-not-mend_block-clause-reached : goal.mend_blocks-returns-then-not-mend_block-clause-reached
 mend_blocks-returns-then-not-mend_block-clause-reached t c =
@@ -103,24 +95,24 @@ mend_blocks-returns-then-not-mend_block-clause-reached t c =
 
 pub mend_blocks-returns-then-not-mend_block-clause-holds : goal.mend_blocks-returns-then-not-mend_block-clause-holds
 mend_blocks-returns-then-not-mend_block-clause-holds t c =
-    λ e. block-holds c.args.setting.now.query.now c.args.setting.now.db.now c.requires.next.over.fits c.args.row.now c.requires.next.long (placed c.args.taken.now) c.requires.next.taken_fit c.args.atom c.requires.next.has c.args.rest.now c.rows-rows.result.now c.loop-at.at c.block_end-next.result
+    λ e. block-holds c.args.setting.now.query.now c.args.setting.now.db.now c.requires.next.over.fits c.args.row.now c.requires.next.long (placed c.args.taken.now) c.requires.next.taken_fit c.args.atom c.requires.next.has c.args.rest.now c.rows-rows.result c.loop-at.at c.block_end-next.result
     (c.rows-rows.ensures.is ∙ ap (λ n. get_or (stored c.args.setting.now.db.now) n []) c.table_of.ensures)
-    (subst (λ key. IsBlock key c.rows-rows.result.now c.loop-at.at c.block_end-next.result) c.key_of-key.ensures c.block_end-next.ensures.block)
+    (subst (λ key. IsBlock key c.rows-rows.result c.loop-at.at c.block_end-next.result) c.key_of-key.ensures c.block_end-next.ensures.block)
     (c.mend_block.ensures.holds c.if-not-mend_block.true)
 
 pub mend_blocks-loop-at-preserved : goal.mend_blocks-loop-at-preserved
 mend_blocks-loop-at-preserved t c =
     blocks-more c.args.setting.now.query.now c.args.setting.now.db.now c.requires.next.over.fits c.args.row.now c.requires.next.long (placed c.args.taken.now) c.requires.next.taken_fit c.args.atom c.requires.next.has c.requires.free c.args.kept.now c.loop-at.kept c.mend_block.new.kept
-    c.rows-rows.result.now c.span_of-start.result.0 c.loop-at.at c.block_end-next.result c.loop-at.invariant
-    (subst (λ key. IsBlock key c.rows-rows.result.now c.loop-at.at c.block_end-next.result) c.key_of-key.ensures c.block_end-next.ensures.block)
-    (subst (λ key. Begins key c.rows-rows.result.now c.block_end-next.result) c.key_of-key.ensures c.block_end-next.ensures.begins)
+    c.rows-rows.result c.span_of-start.result.0 c.loop-at.at c.block_end-next.result c.loop-at.invariant
+    (subst (λ key. IsBlock key c.rows-rows.result c.loop-at.at c.block_end-next.result) c.key_of-key.ensures c.block_end-next.ensures.block)
+    (subst (λ key. Begins key c.rows-rows.result c.block_end-next.result) c.key_of-key.ensures c.block_end-next.ensures.begins)
     c.mend_block.ensures.chosen c.mend_block.ensures.reached (c.mend_block.ensures.lacks c.if-not-mend_block.false)
 
 pub mend_blocks-returns-clause-mended : goal.mend_blocks-returns-clause-mended
 mend_blocks-returns-clause-mended t c =
     let is = c.rows-rows.ensures.is ∙ ap (λ n. get_or (stored c.args.setting.now.db.now) n []) c.table_of.ensures in
     λ e. blocks-all c.args.setting.now.query.now c.args.setting.now.db.now c.requires.next.over.fits c.args.row.now c.requires.next.long (placed c.args.taken.now) c.requires.next.taken_fit c.args.atom c.requires.next.has c.args.kept.now c.loop-at.kept
-    c.rows-rows.result.now c.span_of-start.result.0 c.span_of-start.result.1 c.loop-at.at is
+    c.rows-rows.result c.span_of-start.result.0 c.span_of-start.result.1 c.loop-at.at is
     (subst (λ rows. Rattle.repair_back.specs.Walking.MayFit c.args.setting.now.query.now c.args.row.now (placed c.args.taken.now) c.args.atom rows c.span_of-start.result.0 c.span_of-start.result.1) (sym is) c.span_of-start.ensures)
     c.loop-at.invariant (omega (arith, c.loop-at-test.false))
 

@@ -1,5 +1,5 @@
 use Rattle.std.proofs.Common.{◌+◌, ◌*◌, ◌-◌, length}
-use Rattle.fo_plan.specs.Taking.{placed}
+use Rattle.plan_rows.specs.Taking.{placed}
 use Rattle.repair_back.proofs.Mended.{BlocksSoFar, RowsSoFar}
 use Rattle.repair_back.proofs.mending.+mend.Given as goal
 

@@ -1,4 +1,4 @@
-use Rattle.std.proofs.Common.{◌≡◌, ◌<◌, ◌-◌, false, inl, inr, length, sym, arith, ◌∙◌, true≢false}
+use Rattle.std.proofs.Common.{◌≡◌, ◌<◌, false, inl, inr, sym, arith, ◌∙◌, true≢false}
 use Rattle.repair_back.specs.Results.{is_contested}
 use Rattle.repair_back.proofs.Beside.{same-bool, next-rival, before-rival, beside}
 use Rattle.repair_back.proofs.rivals.has_rival.Goals as goal
@@ -20,11 +20,9 @@ returns-then-place-eq0 c =
 pub returns : goal.returns
 returns c =
     let some : 0 < c.args.place = omega (arith, c.if-place-eq0.false) in
-    let there = c.requires.there in
-    let before : c.args.place - 1 < length c.args.rows.now = omega (arith, there) in
-    same-bool c.goes_on-2.result (is_contested c.args.key.now c.args.rows.now _)
-    (λ e. before-rival c.args.key.now c.args.rows.now c.requires.order c.args.place c.requires.there some (c.goes_on-2.ensures.0 e).1)
+    same-bool c.share_key.result (is_contested c.args.key.now c.args.rows.now _)
+    (λ e. before-rival c.args.key.now c.args.rows.now c.requires.order c.args.place c.requires.there some (c.share_key.ensures.0 e))
     (λ h. elim (beside c.args.key.now c.args.rows.now c.requires.order c.args.place c.requires.there h) [
       | inl g ↦ absurd (true≢false (sym (c.goes_on.ensures.1 g) ∙ c.if-goes_on.false))
-      | inr (l, s) ↦ c.goes_on-2.ensures.1 (before, s)
+      | inr (l, s) ↦ c.share_key.ensures.1 s
     ])
