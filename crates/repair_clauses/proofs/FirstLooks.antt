@@ -1,5 +1,5 @@
 -- What is found out of a row's clauses says whether it is certain.
-use Rattle.std.proofs.Common.{◌≡◌, ℕ, suc, ◌<◌, ◌≤◌, ◌+◌, ◌⊎◌, inl, inr, List, [], ◌∷◌, ◌++◌, length, map, sym, ◌∙◌, ap, subst, arith, Contains, Bool}
+use Rattle.std.proofs.Common.{◌≡◌, ℕ, suc, ◌<◌, ◌+◌, inl, inr, List, [], ◌∷◌, length, map, sym, ap, subst, arith, Contains, Bool}
 use Rattle.std.proofs.lemmas.List.Elements.{Contains-append_cases}
 use Rattle.cqa_value.specs.declared.value.Value.{Value}
 use Rattle.cqa_model.specs.declared.query.Query.{Query}
@@ -17,7 +17,7 @@ use Rattle.flat_formula.specs.Findings.{FoundIs}
 use Rattle.join_witness.specs.Listing.{AreAllNames, places_of}
 use Rattle.join_witness.proofs.Naming.{zip-right}
 use Rattle.repair_clauses.specs.declared.span.Span.{Span}
-use Rattle.repair_clauses.specs.Clauses.{Variable, HasNumber, Formula, IsFormula, positive, negative, clauses}
+use Rattle.repair_clauses.specs.Clauses.{Variable, HasNumber, IsFormula, positive, negative}
 use Rattle.repair_clauses.specs.Spans.{AreBasedTo, AreSpansTo, AreNumbers, numbers_in, variables_of, formula_of}
 use Rattle.repair_clauses.specs.Looking.{AreClausesOf, IsFoundOf}
 use Rattle.repair_clauses.proofs.Numbers.{from_map}

@@ -7,4 +7,5 @@ pub mod Laws
 pub mod Encodings
 pub mod Deciding
 pub mod Looking
+pub mod Lookups
 pub mod Searching

@@ -7,6 +7,7 @@ ghost use Rattle.cqa_model.specs.Database.{block_cmp};
 ghost use Rattle.cqa_model.specs.Repairs.{SharesKey};
 
 use cqa_value::Row;
+use row_pieces::Rows;
 use table_blocks::same_value;
 
 /// Whether two rows agree in all key columns.
@@ -16,31 +17,33 @@ fn same_key(key: &[u32], a: &Row, b: &Row) -> bool
     key.iter().all(|place| same_value(a, *place, b, *place))
 }
 
-/// Whether the rows at two places share a key; the other may be behind the last row.
-fn goes_on(rows: &[Row], key: &[u32], at: usize, other: usize) -> bool
-    requires { at < length rows.now }
-    ensures { IsTrue result ↔ ((other < length rows.now) × SharesKey key.now (slice_index_or rows.now at []) (slice_index_or rows.now other [])) }
+/// Whether the rows at two places share a key.
+fn goes_on(rows: &Rows<'_>, key: &[u32], at: usize, other: usize) -> bool
+    requires there { at < length rows.now }
+    requires other { other < length rows.now }
+    ensures { IsTrue result ↔ SharesKey key.now (slice_index_or rows.now at []) (slice_index_or rows.now other []) }
 {
-    other < rows.len() && same_key(key, &rows[at], &rows[other])
+    same_key(key, rows.get(at), rows.get(other))
 }
 
 /// The place behind the block of a row.
-pub fn block_end(rows: &[Row], key: &[u32], at: usize) -> usize
+pub fn block_end(rows: &Rows<'_>, key: &[u32], at: usize) -> usize
     requires order { IsStrictlySortedBy (block_cmp key.now) rows.now }
     requires there { at < length rows.now }
     ensures behind { at < result }
     ensures within { result ≤ length rows.now }
     ensures block { (i : ℕ) → at ≤ i → i < length rows.now → SharesKey key.now (slice_index_or rows.now at []) (slice_index_or rows.now i []) ↔ (i < result) }
 {
+    let count = rows.len();
     let mut end = at + 1;
-    while goes_on(rows, key, at, end) {
+    while end < count && goes_on(rows, key, at, end) {
         end += 1;
     }
     end
 }
 
 /// The place of the first row of a row's block.
-pub fn block_start(rows: &[Row], key: &[u32], at: usize) -> usize
+pub fn block_start(rows: &Rows<'_>, key: &[u32], at: usize) -> usize
     requires order { IsStrictlySortedBy (block_cmp key.now) rows.now }
     requires there { at < length rows.now }
     ensures before { result ≤ at }

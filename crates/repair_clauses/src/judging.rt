@@ -5,14 +5,15 @@ ghost use Rattle.std.specs.Prelude.{◌≡◌, ◌≤◌, IfOk, List, length};
 ghost use Rattle.cqa_value.specs.declared.value.Value.{Value};
 ghost use Rattle.cqa_model.specs.Database.{Table};
 ghost use Rattle.cqa_model.specs.Query.{FitsDatabase};
-ghost use Rattle.row_cursor.specs.Spots.{ArePaths};
 ghost use Rattle.join_witness.specs.Listing.{AreAllNames, HasTooMany, names_of};
+ghost use Rattle.repair_clauses.specs.Lookups.{IsLookup};
 ghost use Rattle.repair_clauses.specs.Spans.{AreSpansTo};
 ghost use Rattle.repair_clauses.specs.Searching.{IsVerdict, Judges};
 
 use crate::decision::{Decided, solved};
 use crate::first_look::{Room, first_look};
 use crate::formula::formula_over;
+use crate::lookup::Lookup;
 use crate::relevant::relevant_blocks;
 use crate::span::Span;
 use cdcl::Outcome;
@@ -21,7 +22,6 @@ use cqa_model::Query;
 use cqa_value::{Fail, NoMemory, Row};
 use flat_formula::Found;
 use join_witness::{TooMany, Witness, witnesses_by_paths};
-use row_cursor::RowIndex;
 use std::alloc::Global;
 use table_blocks::Database;
 
@@ -108,21 +108,21 @@ fn judge_witnesses(
 /// # Errors
 ///
 /// `NoMemory` where memory is refused.
-pub fn judge_row<'a>(
+pub fn judge_row(
     alloc: Global,
-    db: &'a Database,
-    query: &'a Query,
-    row: &'a Row,
-    paths: &'a [Option<RowIndex<'a>>],
+    db: &Database,
+    query: &Query,
+    row: &Row,
+    lookup: &Lookup<'_>,
     budget: u32,
     room: &mut Room,
 ) -> Result<Verdict, NoMemory>
     requires fits { FitsDatabase query.now db.now }
     requires long { length row.now ≡ length query.now.answer }
-    requires paths { ArePaths query.now db.now paths.now }
+    requires lookup { IsLookup query.now db.now lookup.now }
     ensures { IfOk result (IsVerdict query.now db.now row.now budget) }
 {
-    match witnesses_by_paths(alloc, db, query, row, paths) {
+    match witnesses_by_paths(alloc, db, lookup.linked, row, lookup.paths) {
         Ok(found) => {
             let verdict = judge_witnesses(alloc, db, query, found.as_slice(), budget, room);
             drop(found);

@@ -11,6 +11,7 @@ mod formula;
 mod halve;
 mod judging;
 pub mod laws;
+mod lookup;
 mod relevant;
 mod run;
 mod search;

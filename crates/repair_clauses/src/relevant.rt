@@ -47,7 +47,7 @@ fn runs_of(
     let rows = db.rows(atom.table);
     let more = runs(
         alloc,
-        rows,
+        &rows,
         atom.key.as_slice(),
         at as u32,
         base,

@@ -10,7 +10,8 @@ ghost use Rattle.repair_clauses.specs.Spans.{AreBasedTo};
 
 use crate::blocks::{block_end, block_start};
 use crate::span::Span;
-use cqa_value::{Items, NoMemory, Row};
+use cqa_value::{Items, NoMemory};
+use row_pieces::Rows;
 use std::alloc::Global;
 
 /// Relevant blocks, and how many variables come up to their end.
@@ -29,7 +30,7 @@ pub struct Spans {
 /// `NoMemory` where memory is refused.
 pub fn runs(
     alloc: Global,
-    rows: &[Row],
+    rows: &Rows<'_>,
     key: &[u32],
     atom: u32,
     base: u32,

@@ -3,16 +3,18 @@
 
 ghost use Rattle.std.specs.Prelude.{◌≡◌, [], IfOk, IfSome, IsNone, length};
 ghost use Rattle.cqa_model.specs.Query.{FitsDatabase};
-ghost use Rattle.row_cursor.specs.Spots.{ArePaths};
+ghost use Rattle.linked_query.specs.Linked.{HasSameWitnesses};
+ghost use Rattle.repair_clauses.specs.Lookups.{IsLookup};
 ghost use Rattle.repair_clauses.specs.Searching.{AreCandidates, IsSearched, IsStop, IsStopAt, Sifts, SiftsAll};
 
 use crate::first_look::Room;
 use crate::judging::{Verdict, judge_row};
+use crate::lookup::Lookup;
 use cnf_form::{Cnf, Log};
 use cqa_model::Query;
 use cqa_value::{Items, NoMemory, Row};
 use join_witness::{candidates, row_paths};
-use row_cursor::RowIndex;
+use linked_query::linked;
 use std::alloc::Global;
 use table_blocks::Database;
 
@@ -38,7 +40,7 @@ fn sift(
     alloc: Global,
     db: &Database,
     query: &Query,
-    paths: &[Option<RowIndex<'_>>],
+    lookup: &Lookup<'_>,
     budget: u32,
     row: Row,
     room: &mut Room,
@@ -46,11 +48,11 @@ fn sift(
 ) -> Result<Option<Stop>, NoMemory>
     requires fits { FitsDatabase query.now db.now }
     requires long { length row ≡ length query.now.answer }
-    requires paths { ArePaths query.now db.now paths.now }
+    requires lookup { IsLookup query.now db.now lookup.now }
     ensures sifted { IfOk result (λ stop. IsNone stop → Sifts query.now db.now row answers.old.items answers.new.items) }
     ensures stopped { IfOk result (λ stop. IfSome stop (IsStopAt query.now db.now budget row)) }
 {
-    match judge_row(alloc, db, query, &row, paths, budget, room) {
+    match judge_row(alloc, db, query, &row, lookup, budget, room) {
         Err(fault) => {
             drop(row);
             Err(fault)
@@ -73,21 +75,21 @@ fn sift_all(
     alloc: Global,
     db: &Database,
     query: &Query,
-    paths: &[Option<RowIndex<'_>>],
+    lookup: &Lookup<'_>,
     budget: u32,
     rows: Vec<Row>,
     room: &mut Room,
     answers: &mut Vec<Row>,
 ) -> Result<Option<Stop>, NoMemory>
     requires fits { FitsDatabase query.now db.now }
-    requires paths { ArePaths query.now db.now paths.now }
+    requires lookup { IsLookup query.now db.now lookup.now }
     requires rows { AreCandidates query.now db.now rows.items }
     requires none { answers.old.items ≡ [] }
     ensures all { IfOk result (λ stop. IsNone stop → SiftsAll query.now db.now rows.items answers.new.items) }
     ensures stopped { IfOk result (λ stop. IfSome stop (IsStop query.now db.now budget)) }
 {
     for row in rows {
-        let stop = sift(alloc, db, query, paths, budget, row, room, answers)?;
+        let stop = sift(alloc, db, query, lookup, budget, row, room, answers)?;
         if stop.is_some() {
             return Ok(stop);
         }
@@ -96,6 +98,42 @@ fn sift_all(
 }
 
 /// The same by indexes of the tables, which are made once for all rows.
+fn search_linked(
+    alloc: Global,
+    db: &Database,
+    query: &Query,
+    linked: &Query,
+    budget: u32,
+    rows: Vec<Row>,
+    answers: &mut Vec<Row>,
+) -> Result<Option<Stop>, NoMemory>
+    requires fits { FitsDatabase query.now db.now }
+    requires linked { HasSameWitnesses query.now linked.now }
+    requires rows { AreCandidates query.now db.now rows.items }
+    requires none { answers.old.items ≡ [] }
+    ensures all { IfOk result (λ stop. IsNone stop → SiftsAll query.now db.now rows.items answers.new.items) }
+    ensures stopped { IfOk result (λ stop. IfSome stop (IsStop query.now db.now budget)) }
+{
+    match row_paths(alloc, db, linked) {
+        Ok(paths) => {
+            let mut room = Room::new(alloc);
+            let lookup = Lookup {
+                linked,
+                paths: paths.as_slice(),
+            };
+            let stop = sift_all(alloc, db, query, &lookup, budget, rows, &mut room, answers);
+            drop(room);
+            drop(paths);
+            stop
+        }
+        Err(fault) => {
+            drop(rows);
+            Err(fault)
+        }
+    }
+}
+
+/// The same by conditions that are closed under links, once for all rows.
 fn search_rows(
     alloc: Global,
     db: &Database,
@@ -110,15 +148,10 @@ fn search_rows(
     ensures all { IfOk result (λ stop. IsNone stop → SiftsAll query.now db.now rows.items answers.new.items) }
     ensures stopped { IfOk result (λ stop. IfSome stop (IsStop query.now db.now budget)) }
 {
-    match row_paths(alloc, db, query) {
-        Ok(paths) => {
-            let mut room = Room::new(alloc);
-            let paths_now = paths.as_slice();
-            let stop = sift_all(
-                alloc, db, query, paths_now, budget, rows, &mut room, answers,
-            );
-            drop(room);
-            drop(paths);
+    match linked(alloc, query) {
+        Ok(linked) => {
+            let stop = search_linked(alloc, db, query, &linked, budget, rows, answers);
+            drop(linked);
             stop
         }
         Err(fault) => {

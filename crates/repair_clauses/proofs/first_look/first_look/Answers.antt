@@ -1,8 +1,8 @@
-use Rattle.std.proofs.Common.{◌≡◌, List, map, arith, subst}
+use Rattle.std.proofs.Common.{map, arith}
 use Rattle.join_witness.specs.Listing.{names_of, places_of}
 use Rattle.repair_clauses.proofs.Encoding.{based-below}
 use Rattle.repair_clauses.proofs.Atoms.{based-whole}
-use Rattle.repair_clauses.proofs.FirstLooks.{all_below, found_of}
+use Rattle.repair_clauses.proofs.FirstLooks.{all_below}
 use Rattle.repair_clauses.proofs.first_look.first_look.Goals as goal
 
 pub pool_formula-requires-clause-small : goal.pool_formula-requires-clause-small

@@ -1,4 +1,4 @@
-use Rattle.std.proofs.Common.{◌≡◌, sym, subst, List}
+use Rattle.std.proofs.Common.{◌≡◌, sym, subst}
 use Rattle.cdcl.specs.Outcomes.{OutcomeIs}
 use Rattle.join_witness.specs.Listing.{names_of}
 use Rattle.repair_clauses.specs.declared.formula.Encoded.{Encoded}

@@ -1,4 +1,4 @@
-use Rattle.std.proofs.Common.{◌≡◌, sym, subst, List, length, map, Result, Ok, Err}
+use Rattle.std.proofs.Common.{sym, subst, List, length, map, Result, Ok, Err}
 use Rattle.std.specs.Prelude.{IfOk}
 use Rattle.flat_formula.specs.declared.guess.Found.{Found}
 use Rattle.join_witness.specs.Listing.{names_of, places_of}

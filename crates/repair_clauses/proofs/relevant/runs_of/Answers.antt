@@ -24,4 +24,4 @@ returns-clause-more c = λ row spans all s.
     let places = subst (AreColumn (names_of c.args.witnesses.now) c.args.at) (sym c.as_slice-2.ensures.value) c.in_ok-places.ensures in
     let more = c.in_ok-more.more in
     blocks_more c.args.query.now c.args.db.now row (names_of c.args.witnesses.now) all c.args.at c.args.base more.vars spans more.list c.as_slice-2.result.now s c.requires.there places
-    c.atom_of-atom.result.now c.as_slice.result.now c.rows-rows.result.now c.atom_of-atom.ensures c.as_slice.ensures c.rows-rows.ensures.is c.in_ok-more.ensures.runs c.in_ok-more.ensures.based
+    c.atom_of-atom.result.now c.as_slice.result.now c.rows-rows.result c.atom_of-atom.ensures c.as_slice.ensures c.rows-rows.ensures.is c.in_ok-more.ensures.runs c.in_ok-more.ensures.based
