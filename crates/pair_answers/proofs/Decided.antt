@@ -85,6 +85,7 @@ module _ (db : List Table) (q : Query) (row : List Value) (pair : IsPair q) (fit
     pub are-kept : AreKept q (stored db) kept (taken_rows own)
     are-kept = record {
       ascending = taken-ascend own (λ v. slice_index first v) (λ v l. rise v l) (λ v i e. inside v i e) 0 (omega arith);
+      within = λ i m. let t = taken-from own i m in let h = ch t.0 i t.2 in subst (λ n. i < n) ls.size (numbering.within t.0 i h.0 h.1);
       exactly = λ F l x. (into F l x, from F l x);
     }
       where

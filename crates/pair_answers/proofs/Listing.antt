@@ -1,8 +1,8 @@
 -- One list more, and the lists of both tables.
-use Rattle.std.proofs.Common.{◌≡◌, ℕ, ◌+◌, ◌-◌, ◌<◌, ◌↔◌, List, [], ◌∷◌, ◌++◌, length, get_or, sym, ◌∙◌, ap, subst, arith, Option, Some, None}
+use Rattle.std.proofs.Common.{◌≡◌, ℕ, ◌+◌, ◌-◌, ◌<◌, ◌↔◌, List, [], ◌∷◌, ◌++◌, length, get_or, refl, append_assoc, sym, ◌∙◌, ap, subst, arith, Option, Some, None}
 use native.Mathlib.Decide.{ℕ_discrete, dec_lt}
 use Rattle.std.proofs.Math.ListN.{get_or-map}
-use Rattle.std.proofs.lemmas.List.{length_push, length-append, length-map, get_or_push, get_or_append_left, get_or-append-add, get_or_default}
+use Rattle.std.proofs.lemmas.List.{length_push, append-nil, length-append, length-map, get_or_push, get_or_append_left, get_or-append-add, get_or_default}
 use Rattle.cqa_value.specs.declared.value.Value.{Value}
 use Rattle.cqa_model.specs.declared.query.Query.{Query}
 use Rattle.cqa_model.specs.Query.{rows_of}
@@ -26,6 +26,33 @@ module _ (q : Query) (row : List Value) (cols : List (ℕ × ℕ)) (F : ℕ) (ro
           (subst (λ z. IsListOf q row cols F (get_or rows n []) z) (sym (get_or_push new list None (length old + n) so.size)) is)
       go i l (no ne) = subst (λ z. IsListOf q row cols F (get_or rows i []) z)
           (sym (get_or_append_left new (list ∷ []) None (length old + i) (let s = so.size in omega (arith, l, ne, s)))) (so.added i (omega arith))
+
+-- rows gone over, whose lists were added, and rows left
+pub record AreListedSoFar (q : Query) (row : List Value) (cols : List (ℕ × ℕ)) (F : ℕ) (rows left : List (List Value)) (old new : List (Option (List Value))) : Type 0 where
+  pub gone : List (List Value)
+  pub parts : rows ≡ gone ++ left
+  pub added : AreListsAdded q row cols F rows (length gone) old new
+
+module _ (q : Query) (row : List Value) (cols : List (ℕ × ℕ)) (F : ℕ) (rows : List (List Value)) (old : List (Option (List Value))) where
+  pub listed-none : (left : List (List Value)) → left ≡ rows → AreListedSoFar q row cols F rows left old old
+  listed-none left e = record { gone = []; parts = sym e; added = record { size = omega arith; kept = λ j l. refl; added = λ i l. absurd (omega (arith, l)) } }
+
+  pub listed-more : (left later : List (List Value)) (x : List Value) (new : List (Option (List Value))) (list : Option (List Value)) → AreListedSoFar q row cols F rows left old new → left ≡ x ∷ later → IsListOf q row cols F x list →
+      AreListedSoFar q row cols F rows later old (new ++ list ∷ [])
+  listed-more left later x new list h e is = record {
+    gone = h.gone ++ x ∷ [];
+    parts = all ∙ sym (append_assoc h.gone (x ∷ []) later);
+    added = subst (λ n. AreListsAdded q row cols F rows n old (new ++ list ∷ [])) (sym (length_push h.gone x)) (added-more q row cols F rows (length h.gone) old new h.added list (subst (λ z. IsListOf q row cols F z list) (sym here) is));
+  }
+    where
+      all : rows ≡ h.gone ++ (x ∷ later)
+      all = h.parts ∙ ap (λ z. h.gone ++ z) e
+
+      here : get_or rows (length h.gone) [] ≡ x
+      here = let k : length h.gone ≡ length h.gone + 0 = omega arith in ap (λ z. get_or z (length h.gone) []) all ∙ (ap (λ n. get_or (h.gone ++ (x ∷ later)) n []) k ∙ get_or-append-add h.gone (x ∷ later) 0 [])
+
+  pub listed-all : (left : List (List Value)) (new : List (Option (List Value))) → AreListedSoFar q row cols F rows left old new → left ≡ [] → AreListsAdded q row cols F rows (length rows) old new
+  listed-all left new h e = subst (λ n. AreListsAdded q row cols F rows n old new) (ap (λ (z : List (List Value)). length z) (sym (h.parts ∙ (ap (λ z. h.gone ++ z) e ∙ append-nil h.gone)))) h.added
 
 -- the lists of both tables
 module _ (q : Query) (tables : List (List (List Value))) (row : List Value) (cols : List (ℕ × ℕ)) (shared : AreShared q cols) (one all : List (Option (List Value)))

@@ -9,7 +9,7 @@ use Rattle.cqa_model.specs.Query.{atom_at, rows_of, IsWitness}
 use Rattle.cqa_model.specs.Certain.{IsCertain}
 use Rattle.weak_pairs.specs.declared.decide.Decision.{Decision}
 use Rattle.weak_pairs.specs.declared.decide.Decision.TheVariants.{Certain, Rejected}
-use Rattle.pair_answers.specs.Numbers.{place_of}
+use Rattle.pair_answers.specs.Numbers.{numbered, place_of}
 
 -- the name of the row of a number
 abbrev pub id_of : Query → List (List (List Value)) → ℕ → RowId
@@ -24,6 +24,7 @@ AreAscendingFrom least (n ∷ ns) = (least ≤ n) × AreAscendingFrom (n + 1) ns
 -- the rows of these numbers are what a repair keeps of the query's tables
 pub record AreKept (q : Query) (tables kept : List (List (List Value))) (numbers : List ℕ) : Type 0 where
   pub ascending : AreAscendingFrom 0 numbers
+  pub within : (i : ℕ) → Contains numbers i → i < length (numbered q tables)
   pub exactly : (F : ℕ) → F < length q.atoms → (x : List Value) → Contains (rows_of q kept F) x ↔ ((i : ℕ) × Contains numbers i × (place_of q tables i ≡ record { atom = F; row = x }))
 
 -- the names are those of the rows that a repair keeps of the query's tables, in `from` order and block order, and it holds

@@ -15,6 +15,7 @@ use crate::shared::{Shared, shared_columns};
 use crate::starts::table_of;
 use cqa_model::{Query, Variables, variables};
 use cqa_value::{NoMemory, Row, Value};
+use row_pieces::Rows;
 use std::alloc::Global;
 use table_blocks::Database;
 
@@ -38,9 +39,9 @@ pub(crate) fn row_lists(
     let cols = shared_columns(alloc, query, &names)?;
     let mut lists = Vec::new(alloc);
     let left = db.rows(table_of(query, 0));
-    append_lists(alloc, query, &names, row, &cols, 0, left, &mut lists)?;
+    append_lists(alloc, query, &names, row, &cols, 0, &left, &mut lists)?;
     let right = db.rows(table_of(query, 1));
-    append_lists(alloc, query, &names, row, &cols, 1, right, &mut lists)?;
+    append_lists(alloc, query, &names, row, &cols, 1, &right, &mut lists)?;
     Ok(lists)
 }
 
@@ -56,7 +57,7 @@ fn append_lists(
     row: &Row,
     cols: &[Shared],
     atom: u32,
-    rows: &[Row],
+    rows: &Rows<'_>,
     lists: &mut Vec<Option<Row>>,
 ) -> Result<(), NoMemory>
     requires names { AreVariables query.now names.now }
@@ -64,7 +65,7 @@ fn append_lists(
     requires few { length cols.now ≤ MOST_COLUMNS * MOST_COLUMNS }
     ensures { IfOk result (λ _. AreListsAdded query.now row.now (pairs_of cols.now) atom rows.now (length rows.now) lists.old.items lists.new.items) }
 {
-    for x in rows {
+    for x in rows.again() {
         let list = list_of(alloc, query, names, row, cols, atom, x)?;
         lists.push(list)?;
     }
