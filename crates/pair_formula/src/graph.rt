@@ -13,7 +13,7 @@ use std::alloc::Global;
 
 /// Two variables that are not both to be true: the row of a witness out of the first table, and that out of the second.
 #[derive(Clone, Copy)]
-pub(crate) struct Pair {
+pub struct Pair {
     pub left: u32,
     pub right: u32,
 }
@@ -102,7 +102,7 @@ pub(crate) fn read_pairs(alloc: Global, clauses: &[Clause]) -> Result<Vec<Pair>,
 
 /// The rows of blocks and the pairs of a formula.
 #[derive(Drop)]
-pub(crate) struct Graph {
+pub struct Graph {
     /// Where each block's rows begin, and at last the number of rows.
     pub start: Vec<u32>,
     pub blocks: u32,

@@ -11,3 +11,5 @@ mod reading;
 
 pub use certain::certain_by_pairs;
 pub use decide::is_unsatisfiable;
+pub use graph::{Graph, Pair};
+pub use reading::{outcome, read};

@@ -35,7 +35,11 @@ fn read_clauses(alloc: Global, clauses: &[Clause], vars: u32) -> Result<Graph, N
 }
 
 /// Reads the graph of a formula.
-pub(crate) fn read(alloc: Global, cnf: &Cnf) -> Result<Graph, NoMemory>
+///
+/// # Errors
+///
+/// `NoMemory` where memory is refused.
+pub fn read(alloc: Global, cnf: &Cnf) -> Result<Graph, NoMemory>
     requires { IsPairFormula cnf.now }
     ensures { IfOk result (IsReadTo cnf.now) }
 {
@@ -45,7 +49,11 @@ pub(crate) fn read(alloc: Global, cnf: &Cnf) -> Result<Graph, NoMemory>
 }
 
 /// Chooses a row of each block such that no two have one edge, or finds a block for which there is none.
-pub(crate) fn outcome(alloc: Global, cnf: &Cnf, graph: &Graph) -> Result<Outcome, NoMemory>
+///
+/// # Errors
+///
+/// `NoMemory` where memory is refused.
+pub fn outcome(alloc: Global, cnf: &Cnf, graph: &Graph) -> Result<Outcome, NoMemory>
     requires { IsReadTo cnf.now graph.now }
     ensures { IfOk result (IsOutcome graph.now.start.items graph.now.edge.items) }
 {
