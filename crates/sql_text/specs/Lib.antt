@@ -1,7 +1,2 @@
 pub mod Meaning
-pub mod Shapes
-pub mod Variables
-pub mod Runs
-pub mod Statement
 pub mod Texts
-pub mod Laws

@@ -1,0 +1,12 @@
+pub mod Membership
+pub mod Running
+pub mod Steps
+pub mod Rel
+pub mod Seeing
+pub mod Suiting
+pub mod Witnessing
+pub mod Blocks
+pub mod Base
+pub mod Members
+pub mod Levels
+pub mod Exact

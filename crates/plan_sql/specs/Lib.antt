@@ -1,0 +1,5 @@
+pub mod Shapes
+pub mod Variables
+pub mod Runs
+pub mod Statement
+pub mod Laws

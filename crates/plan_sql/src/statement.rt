@@ -1,0 +1,279 @@
+//! The steps of a plan, and its query.
+
+ghost use Rattle.std.specs.Prelude.{◌≡◌, ◌++◌, ◌+◌, ◌^◌, ◌∷◌, ◌<◌, ◌≤◌, ◌==◌, if◌then◌else◌, [], None, Some, IfOk, OnOk, length};
+ghost use Rattle.cqa_model.specs.Plan.{IsPlanOf};
+ghost use Rattle.sql_text.specs.declared.syntax.Body.TheVariants.{Distinct as DistinctBody};
+ghost use Rattle.sql_text.specs.declared.syntax.StepKind.TheVariants.{Rows as RowsKind};
+ghost use Rattle.plan_sql.specs.Shapes.{AreAtoms};
+ghost use Rattle.plan_sql.specs.Statement.{down, fitting_of, holds_step, last_select, rows_select, sql_of, step, steps_of, up, with_fit};
+
+use crate::fitting::{cells_of, held};
+use crate::level::{Level, fitting_of, level_of, next_context};
+use crate::lists::ascending;
+use crate::runs::run_of;
+use crate::selects::{blocks_select, fails_body, fit_body, good_body, plain, rows_select};
+use crate::shape::{Shape, shape_of};
+use cqa_model::{Plan, Query};
+use cqa_value::{Items, NoMemory};
+use sql_text::{Alias, Body, Listed, Select, Source, Sql, Step, StepKind};
+use std::alloc::Global;
+
+/// The query of a plan: over each database that the query fits, it has exactly the certain rows.
+///
+/// # Errors
+///
+/// `NoMemory` where memory is refused.
+pub fn sql_of(alloc: Global, query: &Query, plan: &Plan) -> Result<Sql, NoMemory>
+    requires { IsPlanOf query.now plan.now.order }
+    ensures { IfOk result (λ sql. sql ≡ sql_of query.now plan.now.order) }
+{
+    let shape = shape_of(alloc, query)?;
+    let answer = shape.answer_variables(alloc)?;
+    let context = ascending(alloc, answer.as_slice())?;
+    let mut steps = Items::new(alloc);
+    push_steps(
+        alloc,
+        &shape,
+        1,
+        None,
+        &[],
+        context.as_slice(),
+        plan.order.as_slice(),
+        &mut steps,
+    )?;
+    let last = last_select(
+        alloc,
+        context.as_slice(),
+        answer.as_slice(),
+        steps.len().saturating_sub(1),
+    )?;
+    Ok(Sql { steps, last })
+}
+
+/// The answer columns of the contexts of the first atom that hold.
+fn last_select(
+    alloc: Global,
+    context: &[u32],
+    answer: &[u32],
+    place: usize,
+) -> Result<Select, NoMemory>
+    ensures { IfOk result (λ select. select ≡ last_select context.now answer.now place) }
+{
+    let known = held(alloc, context)?;
+    let cells = cells_of(alloc, known.as_slice(), answer)?;
+    let source = Source::Step(place);
+    let alias = Alias::Held;
+    let sources = Items::from_slice(alloc, &[Listed { source, alias }])?;
+    Ok(Select {
+        cells,
+        sources,
+        all: Items::new(alloc),
+        but: Items::new(alloc),
+    })
+}
+
+/// Appends the steps of the atoms of a plan.
+fn push_steps(
+    alloc: Global,
+    shape: &Shape<'_>,
+    number: usize,
+    rows: Option<usize>,
+    given: &[u32],
+    context: &[u32],
+    plan: &[u32],
+    steps: &mut Items<Step>,
+) -> Result<(), NoMemory>
+    requires plan { AreAtoms shape.now.query.now plan.now }
+    requires number { number + length plan.now ≤ 2 ^ 63 }
+    ensures { OnOk result (steps.new ≡ steps_of shape.now.query.now number rows given.now context.now steps.old plan.now) }
+{
+    let Some((atom, later)) = plan.split_first() else {
+        return Ok(());
+    };
+    let level = level_of(alloc, shape, number, rows, given, context, *atom)?;
+    let run = run_of(alloc, shape, rows.is_some(), context, plan)?;
+    push_down(alloc, shape, &level, run.as_slice(), steps)?;
+    let blocks = steps.len() - 1;
+    if later.is_empty() {
+        return push_holds(alloc, &level, blocks, steps);
+    }
+    let next = next_context(alloc, shape, &level, later)?;
+    let columns = level.columns(alloc, next.as_slice())?;
+    let taken = steps.len();
+    push_rows(alloc, shape, &level, blocks, columns.as_slice(), steps)?;
+    push_steps(
+        alloc,
+        shape,
+        number + 1,
+        asked_at(next.as_slice(), taken),
+        columns.as_slice(),
+        next.as_slice(),
+        later,
+        steps,
+    )?;
+    push_up(
+        alloc,
+        &level,
+        blocks,
+        taken,
+        columns.as_slice(),
+        next.as_slice(),
+        steps,
+    )
+}
+
+/// Where contexts are asked for: nowhere if they have no variable.
+fn asked_at(context: &[u32], place: usize) -> Option<usize>
+    ensures { result ≡ (if length context.now == 0 then None else Some place) }
+{
+    if context.is_empty() {
+        None
+    } else {
+        Some(place)
+    }
+}
+
+/// Appends a step.
+fn push_step(
+    alloc: Global,
+    kind: StepKind,
+    level: usize,
+    columns: &[u32],
+    body: Body,
+    steps: &mut Items<Step>,
+) -> Result<(), NoMemory>
+    ensures { OnOk result (steps.new ≡ steps.old ++ step kind level columns.now body ∷ []) }
+{
+    let columns = Items::from_slice(alloc, columns)?;
+    steps.push(Step {
+        kind,
+        level,
+        columns,
+        body,
+    })
+}
+
+/// Appends the contexts of the good blocks, which the step at a place has.
+fn push_holds(
+    alloc: Global,
+    level: &Level,
+    place: usize,
+    steps: &mut Items<Step>,
+) -> Result<(), NoMemory>
+    ensures { OnOk result (steps.new ≡ steps.old ++ holds_step level.now place ∷ []) }
+{
+    let select = plain(alloc, level.context.len(), place, Alias::Good)?;
+    let columns = level.context.as_slice();
+    push_step(
+        alloc,
+        StepKind::Holds,
+        level.number,
+        columns,
+        Body::Distinct(select),
+        steps,
+    )
+}
+
+/// Appends the blocks with a row that fits, and those of them all of whose rows fit.
+fn push_down(
+    alloc: Global,
+    shape: &Shape<'_>,
+    level: &Level,
+    run: &[u32],
+    steps: &mut Items<Step>,
+) -> Result<(), NoMemory>
+    requires atom { level.now.atom < length shape.now.query.now.atoms }
+    requires run { AreAtoms shape.now.query.now run.now }
+    requires number { level.now.number ≤ 2 ^ 63 }
+    ensures { OnOk result (steps.new ≡ down shape.now.query.now level.now run.now steps.old) }
+{
+    let place = steps.len();
+    let select = blocks_select(alloc, shape, level, run)?;
+    let columns = level.block.as_slice();
+    push_step(
+        alloc,
+        StepKind::Blocks,
+        level.number,
+        columns,
+        Body::Distinct(select),
+        steps,
+    )?;
+    push_fit(alloc, shape, level, place, steps)
+}
+
+/// Appends the blocks all of whose rows fit, unless each row of a block fits.
+fn push_fit(
+    alloc: Global,
+    shape: &Shape<'_>,
+    level: &Level,
+    place: usize,
+    steps: &mut Items<Step>,
+) -> Result<(), NoMemory>
+    requires { level.now.atom < length shape.now.query.now.atoms }
+    ensures { OnOk result (steps.new ≡ steps.old ++ with_fit shape.now.query.now level.now place) }
+{
+    let but = fitting_of(alloc, shape, level)?;
+    if but.is_empty() {
+        return Ok(());
+    }
+    let body = fit_body(alloc, shape, level, place, but)?;
+    push_step(
+        alloc,
+        StepKind::Fit,
+        level.number,
+        level.block.as_slice(),
+        body,
+        steps,
+    )
+}
+
+/// Appends the rows of the blocks that fit.
+fn push_rows(
+    alloc: Global,
+    shape: &Shape<'_>,
+    level: &Level,
+    blocks: usize,
+    columns: &[u32],
+    steps: &mut Items<Step>,
+) -> Result<(), NoMemory>
+    requires { level.now.atom < length shape.now.query.now.atoms }
+    ensures { OnOk result (steps.new ≡ steps.old ++ step RowsKind level.now.number columns.now (DistinctBody (rows_select shape.now.query.now level.now blocks columns.now)) ∷ []) }
+{
+    let select = rows_select(alloc, shape, level, blocks, columns)?;
+    push_step(
+        alloc,
+        StepKind::Rows,
+        level.number,
+        columns,
+        Body::Distinct(select),
+        steps,
+    )
+}
+
+/// Appends the steps upwards: the rows that fail, the good blocks, and their contexts.
+fn push_up(
+    alloc: Global,
+    level: &Level,
+    blocks: usize,
+    rows: usize,
+    columns: &[u32],
+    next: &[u32],
+    steps: &mut Items<Step>,
+) -> Result<(), NoMemory>
+    ensures { OnOk result (steps.new ≡ up level.now blocks rows columns.now next.now steps.old) }
+{
+    let fails = steps.len();
+    let body = fails_body(alloc, rows, fails.saturating_sub(1), columns, next)?;
+    push_step(alloc, StepKind::Fails, level.number, columns, body, steps)?;
+    let good = steps.len();
+    let body = good_body(alloc, level, blocks, fails)?;
+    push_step(
+        alloc,
+        StepKind::Good,
+        level.number,
+        level.block.as_slice(),
+        body,
+        steps,
+    )?;
+    push_holds(alloc, level, good, steps)
+}

@@ -1,7 +1,0 @@
-use Rattle.std.proofs.Common.{◌≡◌, ◌++◌, drop}
-use Rattle.sql_text.specs.Statement.{held}
-use Rattle.sql_text.proofs.fitting.held.Given as goal
-
--- what is left
-abbrev pub invariant-loop-column : goal.invariant-loop-column
-invariant-loop-column l = l.known ++ held 0 l.column (drop l.column l.vs) ≡ held 0 0 l.vs
