@@ -57,7 +57,8 @@ fn outcome_of(alloc: Global, cnf: &Cnf, budget: u32) -> Result<Outcome, NoMemory
     attempt(alloc, cnf, budget, usize::MAX)
 }
 
-/// Decides whether some assignment satisfies a formula, with at most `budget` conflicts.
+/// Decides whether some assignment satisfies a formula, by at most two searches of at most `budget` conflicts each: the
+/// first may forget learnt clauses, and only where it comes to no answer the second keeps them all.
 ///
 /// A budget of 0 asks for unit propagation alone, without search.
 ///

@@ -4,6 +4,7 @@
 /// How many searches, each up to a conflict, a 1 of the sequence stands for.
 const UNIT: u64 = 100;
 
+/// Where a search stands in the sequence.
 #[derive(Clone, Copy)]
 pub struct Restarts {
     turn: u64,
@@ -13,6 +14,7 @@ pub struct Restarts {
 }
 
 impl Restarts {
+    /// The beginning of the sequence.
     pub fn new() -> Restarts {
         Restarts {
             turn: 1,

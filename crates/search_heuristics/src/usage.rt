@@ -28,6 +28,7 @@ pub struct Usage {
 }
 
 impl Usage {
+    /// No learnt clauses, where those before the place `permanent` are never forgotten; at `usize::MAX` none ever is.
     pub fn new(alloc: Global, permanent: usize) -> Usage {
         Usage {
             permanent,
@@ -60,10 +61,12 @@ impl Usage {
         }
     }
 
+    /// A clause that is forgotten stays so.
     fn raise_one(&mut self, hint: i64) {
         if let Ok(id) = usize::try_from(hint)
             && id > self.permanent
             && let Some(activity) = self.activities.get_mut(id - self.permanent - 1)
+            && *activity > 0
         {
             *activity = activity.saturating_add(self.step);
         }
