@@ -1,7 +1,7 @@
 -- Why rows are certain, and why they aren't.
-use Rattle.std.proofs.Common.{◌≡◌, ◌<◌, ◌≤◌, ◌==◌, inl, inr, cond, ℕ, zero, suc, Bool, true, false, Option, Some, None, IfSome, if◌then◌else◌, List, [], ◌∷◌, length, get_or, slice_get, map, Contains, Result, Ok, Err, IfOk, refl, sym, ap, ◌∙◌, subst, arith, eqb}
+use Rattle.std.proofs.Common.{◌≡◌, ◌<◌, ◌≤◌, ◌==◌, inl, inr, cond, ℕ, zero, suc, Bool, true, false, Option, Some, None, IfSome, if◌then◌else◌, List, [], ◌∷◌, length, get_or, slice_get, Contains, Result, Ok, Err, IfOk, refl, ap, ◌∙◌, subst, arith, eqb}
 use Rattle.std.proofs.lemmas.Bool.{eqb-true, ne_eqb}
-use Rattle.std.specs.List.{IsDistinct, list_any, filter}
+use Rattle.std.specs.List.{IsDistinct, filter}
 use Rattle.std.proofs.lemmas.List.{length-map, get_or_default}
 use Rattle.std.proofs.lemmas.List.Elements.{All-contains, Contains-append_right, recursion_from_All}
 use Rattle.std.proofs.lemmas.Map.Views.{Contains-from_any}
@@ -102,7 +102,7 @@ first-atom db q row (F ∷ plan) block f h = h F (mem-head F plan)
 -- what a plan tells may be told, since it is one of a query that has one
 pub plan-told : (old : State) (q : Query) (row : List Value) (reply : Reply) → TellsWhy old.tables q row reply → (HasNoPlan q → ⊥) → MayTell old q row reply old
 plan-told old q row (replies.ByBlock table key) h plans = (h, refl)
-plan-told old q row (replies.Rejected lines) h plans = (h, (λ c. absurd (plans c)), refl)
+plan-told old q row (replies.Rejected lines) h plans = (h, (λ c. absurd (plans c.0)), refl)
 plan-told old q row (replies.Created name) h plans = absurd h
 plan-told old q row (replies.Altered name) h plans = absurd h
 plan-told old q row (replies.Inserted n) h plans = absurd h

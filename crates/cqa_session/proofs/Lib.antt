@@ -10,3 +10,4 @@ mod LineSteps
 pub mod Sayings
 pub mod TableLines
 pub mod Valid
+mod Pairing

@@ -1,24 +1,24 @@
 -- The repair that a model of a row's formula gives holds no witness of the row.
-use Rattle.std.proofs.Common.{◌≡◌, ◌<◌, ◌-◌, ℕ, zero, suc, Bool, true, false, Some, None, List, [], ◌∷◌, ◌++◌, length, get_or, slice_get, map, flat_map, Contains, inl, inr, refl, sym, ap, ◌∙◌, subst, arith}
+use Rattle.std.proofs.Common.{◌≡◌, ◌<◌, ◌-◌, ℕ, zero, suc, Bool, true, false, Some, None, List, [], ◌∷◌, length, get_or, slice_get, map, flat_map, Contains, inl, inr, refl, sym, ap, ◌∙◌, subst, arith}
 use Rattle.std.proofs.lemmas.List.{length-map}
 use Rattle.std.proofs.lemmas.List.Elements.{Contains-get_or, Contains-append_left, Contains-append_right}
 use Rattle.std.proofs.lemmas.Option.{get_or_from_slice_get}
 use Rattle.cqa_value.specs.declared.value.Value.{Value}
 use Rattle.cqa_model.specs.declared.query.Query.{Query}
 use Rattle.cqa_model.specs.declared.query.RowId.{RowId}
-use Rattle.cqa_model.specs.Database.{Table, stored, keys_of}
+use Rattle.cqa_model.specs.Database.{Table, stored}
 use Rattle.cqa_model.specs.Repairs.{IsRepair, IsTableRepair}
 use Rattle.cqa_model.specs.Query.{atom_at, atom_key, rows_of, FitsDatabase}
 use Rattle.cqa_model.proofs.Classic.{mem-cases, mem-nil}
 use Rattle.cnf_form.specs.Literals.{SatisfiesAll}
 use Rattle.cdcl.specs.Outcomes.{assignment, IsModel}
 use Rattle.repair_clauses.specs.declared.formula.Encoded.{Encoded}
-use Rattle.repair_clauses.specs.Clauses.{Variable, IsStored, HasNumber, clauses, name_of}
+use Rattle.repair_clauses.specs.Clauses.{Variable, IsStored, name_of}
 use Rattle.repair_clauses.specs.Encodings.{IsEncoded}
 use Rattle.repair_clauses.specs.Models.{IsTrueVariable, IsPicked, IsPick as IsPickOf}
 use Rattle.repair_clauses.proofs.Numbers.{at_place, in_map, from_map}
 use Rattle.repair_clauses.proofs.Models.{models_reject}
-use Rattle.repair_back.specs.Results.{names_in, AreKept, AreStored, IsListed, IsPick, ArePicks, IsRepairOf, Rejects}
+use Rattle.repair_back.specs.Results.{names_in, AreKept, AreStored, IsListed, IsPick, ArePicks, Rejects}
 
 module _ {A B : Type 0} (g : A → B) where
   get-map : (xs : List A) (k : ℕ) (x : A) → slice_get xs k ≡ Some x → slice_get (map g xs) k ≡ Some (g x)

@@ -14,6 +14,7 @@ use crate::ends::row_has_end;
 use crate::record::set_record;
 use cqa_value::{NoMemory, Row};
 use csv::{ByteRecord, QuoteStyle, Writer, WriterBuilder};
+use row_pieces::Rows;
 use std::alloc::Global;
 
 /// A writer of records that goes on at the end of a text.
@@ -105,13 +106,13 @@ fn write_row(
 }
 
 /// Writes a record for each row that can stand in a block.
-fn write_plain(alloc: Global, rows: &[Row], writer: &mut Writer<Vec<u8>>) -> Result<(), NoMemory>
+fn write_plain(alloc: Global, rows: &Rows<'_>, writer: &mut Writer<Vec<u8>>) -> Result<(), NoMemory>
     requires setup { writer_setup writer.old ≡ quoting }
     requires between { IsBetween writer.old }
     ensures { OnOk result (written writer.new ≡ written writer.old ++ rows_bytes (plain_rows rows.now)) }
 {
     let mut record = ByteRecord::new(alloc);
-    for row in rows {
+    for row in rows.again() {
         if !row_has_end(row) {
             write_row(row, &mut record, writer)?;
         }
@@ -125,7 +126,7 @@ fn write_plain(alloc: Global, rows: &[Row], writer: &mut Writer<Vec<u8>>) -> Res
 /// # Errors
 ///
 /// `NoMemory` where memory is refused.
-pub fn append_block(alloc: Global, rows: &[Row], text: Vec<u8>) -> Result<Vec<u8>, NoMemory>
+pub fn append_block(alloc: Global, rows: &Rows<'_>, text: Vec<u8>) -> Result<Vec<u8>, NoMemory>
     ensures { IfOk result (λ out. out.items ≡ text.items ++ rows_bytes (plain_rows rows.now)) }
 {
     let mut writer = writer_to(text);

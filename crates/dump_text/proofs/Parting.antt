@@ -1,11 +1,9 @@
 -- The rows that can stand in a block, and the others.
-use Rattle.std.proofs.Common.{◌≡◌, ◌++◌, ◌+◌, ◌<◌, ◌∙◌, ◌∷◌, [], ℕ, Bool, true, false, inl, inr, not, List, codes, length, take, slice_index_or, refl, sym, ap, append_assoc}
-use Rattle.std.proofs.lemmas.List.{append-nil, flat_map_more, take_more}
-use Rattle.std.proofs.lemmas.List.Elements.{filter-append}
+use Rattle.std.proofs.Common.{◌≡◌, ◌++◌, ◌∙◌, ◌∷◌, [], ℕ, Bool, true, false, inl, inr, not, List, codes, refl, ap, append_assoc}
 use Rattle.std.proofs.lemmas.Bool.{cases_Bool}
-use Rattle.std.specs.List.{filter, flat_map, list_any}
+use Rattle.std.specs.List.{filter, list_any}
 use Rattle.cqa_value.specs.declared.value.Value.{Value}
-use Rattle.csv_rows.specs.Ends.{other_rows, plain_rows, row_has_end}
+use Rattle.csv_rows.specs.Ends.{plain_rows, row_has_end}
 use Rattle.csv_rows.specs.Texts.{rows_bytes}
 use Rattle.dump_text.specs.Dumps.{copy_text}
 
@@ -38,19 +36,3 @@ copy_some name (row ∷ rows) some = elim (cases_Bool (not (row_has_end row))) [
   | inl is ↦ rw is refl
   | inr is ↦ rw is (copy_some name rows (rw is at some))
 ]
-
-module _ (piece : List Value → List ℕ) (rows : List (List Value)) (i : ℕ) (row : List Value) (start now new : List ℕ) (within : i < length rows) (at : row ≡ slice_index_or rows i row) (before : now ≡ start ++ flat_map piece (other_rows (take i rows))) where
-  next : other_rows (take (i + 1) rows) ≡ other_rows (take i rows) ++ other_rows (row ∷ [])
-  next = ap other_rows (take_more rows i row within ∙ ap (λ y. take i rows ++ y ∷ []) (sym at)) ∙ filter-append row_has_end (take i rows) (row ∷ [])
-
-  -- one row more that can't stand in a block
-  pub one_other : row_has_end row ≡ true → new ≡ now ++ piece row → new ≡ start ++ flat_map piece (other_rows (take (i + 1) rows))
-  one_other is after =
-      let kept : other_rows (row ∷ []) ≡ row ∷ [] = rw is refl in
-      after ∙ ap (λ l. l ++ piece row) before ∙ flat_map_more piece start (other_rows (take i rows)) row ∙ ap (λ l. start ++ flat_map piece l) (sym (next ∙ ap (λ l. other_rows (take i rows) ++ l) kept))
-
-  -- one row more that can
-  pub one_plain : row_has_end row ≡ false → new ≡ now → new ≡ start ++ flat_map piece (other_rows (take (i + 1) rows))
-  one_plain is after =
-      let kept : other_rows (row ∷ []) ≡ [] = rw is refl in
-      after ∙ before ∙ ap (λ l. start ++ flat_map piece l) (sym (next ∙ ap (λ l. other_rows (take i rows) ++ l) kept ∙ append-nil (other_rows (take i rows))))

@@ -9,6 +9,7 @@ ghost use Rattle.dump_text.specs.Dumps.{copy_text, create_text, create_words, in
 use cqa_model::{Schema, schema_text};
 use cqa_value::{Name, NoMemory, Row, row_text};
 use csv_rows::{append_block, row_has_end};
+use row_pieces::Rows;
 use std::alloc::Global;
 use std::mem;
 
@@ -21,7 +22,7 @@ use std::mem;
 pub fn append_table(
     alloc: Global,
     schema: &Schema,
-    rows: &[Row],
+    rows: &Rows<'_>,
     out: &mut Vec<u8>,
 ) -> Result<(), NoMemory>
     ensures { OnOk result (out.new.items ≡ out.old.items ++ table_text schema.now rows.now) }
@@ -53,7 +54,12 @@ fn words_of(strict: bool) -> &'static str
 }
 
 /// Appends the statement that copies the rows that can stand in a block, where there are any.
-fn append_copy(alloc: Global, name: &Name, rows: &[Row], out: &mut Vec<u8>) -> Result<(), NoMemory>
+fn append_copy(
+    alloc: Global,
+    name: &Name,
+    rows: &Rows<'_>,
+    out: &mut Vec<u8>,
+) -> Result<(), NoMemory>
     ensures { OnOk result (out.new.items ≡ out.old.items ++ copy_text name.now (plain_rows rows.now)) }
 {
     if !has_plain(rows) {
@@ -68,10 +74,10 @@ fn append_copy(alloc: Global, name: &Name, rows: &[Row], out: &mut Vec<u8>) -> R
 }
 
 /// Whether some row can stand in a block.
-fn has_plain(rows: &[Row]) -> bool
+fn has_plain(rows: &Rows<'_>) -> bool
     ensures { result ≡ list_any (λ row. not (row_has_end row)) rows.now }
 {
-    for row in rows {
+    for row in rows.again() {
         if !row_has_end(row) {
             return true;
         }
@@ -80,7 +86,7 @@ fn has_plain(rows: &[Row]) -> bool
 }
 
 /// Appends the records of the rows that can stand in a block.
-fn append_records(alloc: Global, rows: &[Row], out: &mut Vec<u8>) -> Result<(), NoMemory>
+fn append_records(alloc: Global, rows: &Rows<'_>, out: &mut Vec<u8>) -> Result<(), NoMemory>
     ensures { OnOk result (out.new.items ≡ out.old.items ++ rows_bytes (plain_rows rows.now)) }
 {
     let text = mem::replace(out, Vec::new(alloc));
@@ -89,10 +95,10 @@ fn append_records(alloc: Global, rows: &[Row], out: &mut Vec<u8>) -> Result<(), 
 }
 
 /// Appends a statement for each row that can't stand in a block.
-fn append_inserts(name: &Name, rows: &[Row], out: &mut Vec<u8>) -> Result<(), NoMemory>
+fn append_inserts(name: &Name, rows: &Rows<'_>, out: &mut Vec<u8>) -> Result<(), NoMemory>
     ensures { OnOk result (out.new.items ≡ out.old.items ++ flat_map (λ row. insert_text name.now row) (other_rows rows.now)) }
 {
-    for row in rows {
+    for row in rows.again() {
         if row_has_end(row) {
             append_insert(name, row, out)?;
         }

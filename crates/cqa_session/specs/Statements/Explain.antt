@@ -13,6 +13,7 @@ use Rattle.fo_plan.specs.FirstBlock.{IsFirstBlock}
 use Rattle.cnf_form.specs.Logs.{Refutes}
 use Rattle.join_witness.specs.Listing.{HasTooMany}
 use Rattle.repair_clauses.specs.Encodings.{IsEncoded}
+use Rattle.weak_pairs.specs.Pairs.{IsPair}
 use Rattle.repair_back.specs.Results.{Rejects, contested_of}
 use Rattle.spj_syntax.specs.declared.tree.Select.{Select}
 use Rattle.query_resolve.specs.Checks.{answer_fault}
@@ -23,7 +24,7 @@ use Rattle.reply_text.specs.declared.reply.Reply.{Reply}
 use Rattle.reply_text.specs.declared.reply.Reply.TheVariants.{ByBlock, ByRefutation, Rejected, Refused}
 use Rattle.cqa_session.specs.State.{State}
 use Rattle.cqa_session.specs.Replying.{Replies}
-use Rattle.cqa_session.specs.Statements.Spent.{HasNoPlan, SpendsAt}
+use Rattle.cqa_session.specs.Statements.Spent.{HasNoPlan, NeedsSearch, SpendsAt}
 
 -- the name of the table at a place
 abbrev pub name_at : List Table → ℕ → List ℕ
@@ -65,18 +66,20 @@ pub record IsRefuted (db : List Table) (q : Query) (row : List Value) (proof : P
   pub formula : IsEncoded q db row (record { cnf = proof.cnf; rows = rows })
   pub refutes : Refutes proof.cnf proof.log.steps
 
--- what is refused for a query that has no plan: the row has too many witnesses, or the budget is used up for it
+-- What is refused for a query that has no plan: the row has too many witnesses, where of two atoms that attack each other
+-- weakly only a certain row is refused so; or the budget is used up for it, where there is a search.
 abbrev pub StopsFor : State → Query → List Value → Refusal → State → Type 0
-StopsFor old q row (WitnessLimit r) new = (r ≡ row) × HasTooMany q old.tables row × (new ≡ old)
-StopsFor old q row (Spent r conflicts) new = (r ≡ row) × (HasTooMany q old.tables row → ⊥) × SpendsAt old q row conflicts new
+StopsFor old q row (WitnessLimit r) new = (r ≡ row) × HasTooMany q old.tables row × (IsPair q → IsCertain old.tables q row) × (new ≡ old)
+StopsFor old q row (Spent r conflicts) new = (r ≡ row) × (HasTooMany q old.tables row → ⊥) × (IsPair q → ⊥) × SpendsAt old q row conflicts new
 StopsFor old q row _ new = ⊥
 
--- What is told of a row, where it is within the limit of witnesses or the query has a plan: the block by which it is certain,
--- where a plan holds; its formula with a refutation, which are kept as the last log; or a repair without a witness.
+-- What is told of a row: the block by which it is certain, where a plan holds; where it is within the limit of witnesses, its
+-- formula with a refutation, which are kept as the last log; or a repair without a witness, which only a row of a query that
+-- needs search must be within the limit for.
 abbrev pub MayTell : State → Query → List Value → Reply → State → Type 0
 MayTell old q row (ByBlock table key) new = IsByBlock old.tables q row table key × (new ≡ old)
 MayTell old q row (ByRefutation proof) new = HasNoPlan q × (HasTooMany q old.tables row → ⊥) × IsRefuted old.tables q row proof × (new ≡ record old { last_log = Some proof })
-MayTell old q row (Rejected lines) new = IsRejected old.tables q row lines × (HasNoPlan q → HasTooMany q old.tables row → ⊥) × (new ≡ old)
+MayTell old q row (Rejected lines) new = IsRejected old.tables q row lines × (NeedsSearch q → HasTooMany q old.tables row → ⊥) × (new ≡ old)
 MayTell old q row (Refused refusal) new = HasNoPlan q × StopsFor old q row refusal new
 MayTell old q row _ new = ⊥
 

@@ -11,7 +11,7 @@ use Rattle.spj_syntax.specs.declared.tree.Select.{Select}
 use Rattle.query_resolve.specs.Names.{columns_at}
 use Rattle.query_resolve.specs.Resolved.{IsQueryOf}
 use Rattle.sql_text.specs.declared.names.Names.{Names}
-use Rattle.sql_text.specs.Statement.{sql_of}
+use Rattle.plan_sql.specs.Statement.{sql_of}
 use Rattle.sql_text.specs.Texts.{sql_bytes}
 use Rattle.reply_text.specs.declared.reply.Reply.{Reply}
 use Rattle.reply_text.specs.declared.reply.Reply.TheVariants.{Sql, NoPlan}

@@ -21,7 +21,7 @@ pub fn dump(alloc: Global, session: &Session) -> Result<Reply, Fail<Refusal>>
         append_table(
             alloc,
             database.schema(table),
-            database.rows(table),
+            &database.rows(table),
             &mut script,
         )?;
     }

@@ -14,9 +14,11 @@ ghost use Rattle.repair_clauses.specs.Deciding.{IsDecided};
 ghost use Rattle.repair_clauses.specs.Encodings.{IsEncoded};
 ghost use Rattle.reply_text.specs.declared.reply.Reply.TheVariants.{ByRefutation};
 ghost use Rattle.repair_back.specs.Results.{AreStored};
+ghost use Rattle.weak_pairs.specs.Pairs.{IsPair};
+ghost use Rattle.pair_answers.specs.Kept.{Rejects};
 ghost use Rattle.query_resolve.specs.Checks.{query_fault, answer_fault};
 ghost use Rattle.cqa_session.specs.Replying.{Replies, IsOutcome};
-ghost use Rattle.cqa_session.specs.Statements.Spent.{HasNoPlan};
+ghost use Rattle.cqa_session.specs.Statements.Spent.{HasNoPlan, NeedsSearch};
 ghost use Rattle.cqa_session.specs.Statements.Explain.{name_at, kept_line, IsRejected, TellsWhy, MayTell, Explains};
 
 use crate::Session;
@@ -26,8 +28,10 @@ use cqa_value::{Fail, Items, NOTHING, Name, NoMemory, Row};
 use fo_plan::{block_of, paths_of};
 use fo_rewrite::plan_of;
 use join_witness::{TooMany, row_paths};
+use pair_answers::{Kept, decide as decide_pair, is_pair};
+use pair_refutation::{Refuted, refute_row};
 use query_resolve::{check_row, resolve};
-use repair_back::{contested, from_model, mend};
+use repair_back::{Repair, contested, from_model, mend};
 use repair_clauses::{Decided, Encoded, decide};
 use reply_text::{KeptRow, Proof, Reply};
 use row_cursor::RowIndex;
@@ -49,7 +53,7 @@ fn kept_row(alloc: Global, db: &Database, name: RowId) -> Result<KeptRow, NoMemo
     requires place { name.place < length (slice_index_or (stored db.now) name.table []) }
     ensures { IfOk result (λ line. line ≡ kept_line db.now name) }
 {
-    let row = &db.rows(name.table)[name.place as usize];
+    let row = db.rows(name.table).get(name.place as usize);
     Ok(KeptRow {
         table: name_of(alloc, db, name.table)?,
         row: row.copy(alloc)?,
@@ -103,7 +107,7 @@ fn by_block<'a>(
     let first = plan.order.as_slice()[0];
     let atom = &query.atoms.as_slice()[first as usize];
     let table = name_of(alloc, db, atom.table)?;
-    let key = values_of(alloc, atom.key.as_slice(), &block[0])?;
+    let key = values_of(alloc, atom.key.as_slice(), block.get(0))?;
     Ok(Some(Reply::ByBlock { table, key }))
 }
 
@@ -215,6 +219,29 @@ fn spent(alloc: Global, session: &mut Session, row: &Row, proof: Proof) -> Resul
     }
 }
 
+/// The lines of the repair that was found for a row of a pair.
+fn by_choice(
+    alloc: Global,
+    db: &Database,
+    query: &Query,
+    _row: &Row,
+    kept: Kept,
+) -> Result<Items<KeptRow>, NoMemory>
+    requires pair { IsPair query.now }
+    requires fits { FitsDatabase query.now db.now }
+    requires rejects { Rejects query.now db.now _row.now kept.rows }
+    ensures { IfOk result (IsRejected db.now query.now _row.now) }
+{
+    let _tables = db.count();
+    let repair = Repair { kept: kept.rows };
+    let chosen = contested(alloc, db, &repair);
+    drop(repair);
+    let names = chosen?;
+    let lines = kept_rows(alloc, db, names.as_slice());
+    drop(names);
+    lines
+}
+
 /// What the solver's answer to a row's formula tells of the row.
 fn by_outcome(
     alloc: Global,
@@ -224,7 +251,7 @@ fn by_outcome(
     decided: Decided,
 ) -> Result<Reply, Fail<Refusal>>
     requires fits { FitsDatabase query.now session.old.tables }
-    requires cycle { HasNoPlan query.now }
+    requires cycle { NeedsSearch query.now }
     requires within { HasTooMany query.now session.old.tables row.now → ⊥ }
     requires decided { IsDecided query.now session.old.tables row.now session.old.budget decided }
     ensures { IsOutcome result session.old (MayTell session.old query.now row.now) session.new }
@@ -249,7 +276,7 @@ fn by_outcome(
     }
 }
 
-/// Answers for a query whose attacks have a cycle: the row is decided by its formula.
+/// Answers for a query that needs search: the row is decided by its formula.
 fn by_search(
     alloc: Global,
     session: &mut Session,
@@ -258,7 +285,7 @@ fn by_search(
 ) -> Result<Reply, Fail<Refusal>>
     requires fits { FitsDatabase query.now session.old.tables }
     requires long { length row.now ≡ length query.now.answer }
-    requires cycle { HasNoPlan query.now }
+    requires cycle { NeedsSearch query.now }
     ensures { IsOutcome result session.old (MayTell session.old query.now row.now) session.new }
 {
     let paths = row_paths(alloc, session.database(), query)?;
@@ -281,7 +308,78 @@ fn by_search(
     }
 }
 
-/// Answers for a query that fits the tables: by its plan, or by search where its attacks have a cycle.
+/// Answers for a certain row of a query of two atoms that attack each other weakly: its formula is refuted without a search.
+fn by_refutation(
+    alloc: Global,
+    session: &mut Session,
+    query: &Query,
+    row: &Row,
+) -> Result<Reply, Fail<Refusal>>
+    requires fits { FitsDatabase query.now session.old.tables }
+    requires long { length row.now ≡ length query.now.answer }
+    requires cycle { HasNoPlan query.now }
+    requires pair { IsPair query.now }
+    requires certain { IsCertain session.old.tables query.now row.now }
+    ensures { IsOutcome result session.old (MayTell session.old query.now row.now) session.new }
+{
+    let paths = row_paths(alloc, session.database(), query)?;
+    let found = refute_row(alloc, session.database(), query, row, paths.as_slice());
+    drop(paths);
+    match found {
+        Ok(Refuted { formula, log }) => {
+            let cnf = formula.cnf;
+            Ok(refuted(alloc, session, Proof { cnf, log })?)
+        }
+        Err(Fail::Refused(TooMany)) => {
+            let row = row.copy(alloc)?;
+            Err(Fail::Refused(Refusal::WitnessLimit { row }))
+        }
+        Err(Fail::NoMemory) => Err(Fail::NoMemory),
+    }
+}
+
+/// Answers for a query of two atoms that attack each other weakly.
+fn by_pair(
+    alloc: Global,
+    session: &mut Session,
+    query: &Query,
+    row: &Row,
+) -> Result<Reply, Fail<Refusal>>
+    requires fits { FitsDatabase query.now session.old.tables }
+    requires long { length row.now ≡ length query.now.answer }
+    requires cycle { HasNoPlan query.now }
+    requires pair { IsPair query.now }
+    ensures { IsOutcome result session.old (MayTell session.old query.now row.now) session.new }
+{
+    match decide_pair(alloc, session.database(), query, row)? {
+        Some(kept) => {
+            let lines = by_choice(alloc, session.database(), query, row, kept)?;
+            Ok(Reply::Rejected(lines))
+        }
+        None => by_refutation(alloc, session, query, row),
+    }
+}
+
+/// Answers for a query whose attacks have a cycle.
+fn by_cycle(
+    alloc: Global,
+    session: &mut Session,
+    query: &Query,
+    row: &Row,
+) -> Result<Reply, Fail<Refusal>>
+    requires fits { FitsDatabase query.now session.old.tables }
+    requires long { length row.now ≡ length query.now.answer }
+    requires cycle { HasNoPlan query.now }
+    ensures { IsOutcome result session.old (MayTell session.old query.now row.now) session.new }
+{
+    if is_pair(query) {
+        by_pair(alloc, session, query, row)
+    } else {
+        by_search(alloc, session, query, row)
+    }
+}
+
+/// Answers for a query that fits the tables: by its plan, or without one where its attacks have a cycle.
 fn explain_row(
     alloc: Global,
     session: &mut Session,
@@ -295,7 +393,7 @@ fn explain_row(
         return Err(Fail::Refused(refusal));
     }
     let Some(plan) = plan_of(alloc, query)? else {
-        return by_search(alloc, session, query, row);
+        return by_cycle(alloc, session, query, row);
     };
     let reply = by_plan(alloc, session.database(), query, &plan, row);
     drop(plan);
@@ -307,9 +405,10 @@ fn explain_row(
 ///
 /// # Errors
 ///
-/// The first check of the query that fails, and then that of the row. Where the query's attacks have a cycle, also
-/// `WitnessLimit` exactly where the row has too many witnesses, and `Spent` where the budget doesn't suffice; the row's
-/// formula and the spent log are kept then.
+/// The first check of the query that fails, and then that of the row. Where the query needs search, also `WitnessLimit`
+/// exactly where the row has too many witnesses, and `Spent` where the budget doesn't suffice; the row's formula and the
+/// spent log are kept then. Where its two atoms attack each other weakly, also `WitnessLimit` exactly where the row is
+/// certain and has too many.
 pub fn explain(
     alloc: Global,
     session: &mut Session,

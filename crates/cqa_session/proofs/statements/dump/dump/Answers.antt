@@ -1,4 +1,4 @@
-use Rattle.std.proofs.Common.{inr, refl, sym, ap, subst, ◌<◌, ◌∙◌, arith}
+use Rattle.std.proofs.Common.{inr, refl, ap, subst, ◌<◌, ◌∙◌, arith}
 use Rattle.std.proofs.lemmas.List.{take_all}
 use Rattle.dump_text.specs.Dumps.{dump_text}
 use Rattle.reply_text.specs.declared.reply.Reply.TheVariants.{Dumped}
@@ -8,7 +8,7 @@ use Rattle.cqa_session.proofs.statements.dump.dump.Goals as goal
 pub loop-table-preserved : goal.loop-table-preserved
 loop-table-preserved c =
     let db = c.database-database.result.now in
-    next_table db c.loop-table.table c.schema.result.now c.rows.result.now c.loop-table.script.items c.append_table.new.out.items
+    next_table db c.loop-table.table c.schema.result.now c.rows.result c.loop-table.script.items c.append_table.new.out.items
     (subst (λ n. c.loop-table.table < n) c.count-table-end.ensures.count c.loop-table-test.true) c.schema.ensures.is c.rows.ensures.is c.loop-table.invariant c.in_ok-append_table.ensures
 
 pub returns : goal.returns

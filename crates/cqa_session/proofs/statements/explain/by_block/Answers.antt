@@ -1,5 +1,6 @@
 use Rattle.std.proofs.Common.{◌≡◌, ◌<◌, ◌≤◌, ◌∙◌, length, get_or, sym, ap, subst, List, []}
-use Rattle.std.proofs.lemmas.List.{get_or_default, get_or_read}
+use Rattle.std.proofs.lemmas.List.{get_or_default}
+use Rattle.std.proofs.lemmas.Option.{get_or_from_slice_get}
 use Rattle.cqa_model.specs.declared.query.Atom.{Atom}
 use Rattle.cqa_model.specs.Database.{key_of}
 use Rattle.cqa_model.specs.Query.{atom_at, atom_key}
@@ -16,8 +17,8 @@ block_of-requires-clause-plan c = plan-atoms c.args.query.now c.args.plan.now.or
 pub block_of-requires-clause-all : goal.block_of-requires-clause-all
 block_of-requires-clause-all c = plan-all c.args.query.now (whole c.args.query.now) c.args.plan.now.order c.requires.plan
 
-pub bounds-block-0 : goal.bounds-block-0
-bounds-block-0 c = first-some c.args.db.now c.args.query.now c.args.row.now c.args.plan.now.order c.in-Some.block.now c.in-Some.ensures.1
+pub get-requires : goal.get-requires
+get-requires c = first-some c.args.db.now c.args.query.now c.args.row.now c.args.plan.now.order c.in-Some.block c.in-Some.ensures.1
 
 pub values_of-requires : goal.values_of-requires
 values_of-requires c =
@@ -25,7 +26,7 @@ values_of-requires c =
     let order = c.args.plan.now.order in
     let F = get_or c.as_slice.result.now 0 0 in
     let at : F ≡ first_of_plan order = ap (λ xs. get_or xs 0 0) c.as_slice.ensures in
-    let inside : F < length q.atoms = subst (λ G. G < length q.atoms) (sym at) (first-atom c.args.db.now q c.args.row.now order c.in-Some.block.now c.in-Some.ensures.1 (plan-atoms q order c.requires.plan)) in
+    let inside : F < length q.atoms = subst (λ G. G < length q.atoms) (sym at) (first-atom c.args.db.now q c.args.row.now order c.in-Some.block c.in-Some.ensures.1 (plan-atoms q order c.requires.plan)) in
     let is : c.index-as_slice-first.result ≡ atom_at q F = c.index-as_slice-first.is ∙ (ap (λ (atoms : List Atom). get_or atoms F c.index-as_slice-first.result) c.as_slice-2.ensures ∙ get_or_default q.atoms F c.index-as_slice-first.result _ inside) in
     subst (λ ks. length ks ≤ 16) (sym (c.as_slice-3.ensures ∙ ap (λ (a : Atom). a.key) is)) (few-keys q F inside)
 
@@ -35,12 +36,12 @@ returns-clause-found c =
     let db = c.args.db.now in
     let row = c.args.row.now in
     let order = c.args.plan.now.order in
-    let block = c.in-Some.block.now in
+    let block = c.in-Some.block in
     let F = get_or c.as_slice.result.now 0 0 in
     let at : F ≡ first_of_plan order = ap (λ xs. get_or xs 0 0) c.as_slice.ensures in
     let inside : F < length q.atoms = subst (λ G. G < length q.atoms) (sym at) (first-atom db q row order block c.in-Some.ensures.1 (plan-atoms q order c.requires.plan)) in
     let is : c.index-as_slice-first.result ≡ atom_at q F = c.index-as_slice-first.is ∙ (ap (λ (atoms : List Atom). get_or atoms F c.index-as_slice-first.result) c.as_slice-2.ensures ∙ get_or_default q.atoms F c.index-as_slice-first.result _ inside) in
-    let first = get_or_read block 0 c.index-block-0.result (first-some db q row order block c.in-Some.ensures.1) c.index-block-0.is [] in
+    let first = sym (get_or_from_slice_get block 0 c.get.result.now [] c.get.ensures) in
     record {
       certain = (c.requires.exact db row c.requires.fits c.requires.long).0 c.in-Some.ensures.0;
       plan = order;
@@ -48,5 +49,5 @@ returns-clause-found c =
       block = block;
       first = c.in-Some.ensures.1;
       named = c.in_ok-table.ensures ∙ (ap (λ (a : Atom). name_at db a.table) is ∙ ap (λ G. name_at db (atom_at q G).table) at);
-      keyed = c.in_ok-key.ensures ∙ (ap (λ ks. key_of ks c.index-block-0.result) (c.as_slice-3.ensures ∙ (ap (λ (a : Atom). a.key) is ∙ ap (atom_key q) at)) ∙ ap (key_of (atom_key q (first_of_plan order))) first);
+      keyed = c.in_ok-key.ensures ∙ (ap (λ ks. key_of ks c.get.result.now) (c.as_slice-3.ensures ∙ (ap (λ (a : Atom). a.key) is ∙ ap (atom_key q) at)) ∙ ap (key_of (atom_key q (first_of_plan order))) first);
     }

@@ -1,5 +1,4 @@
-use Rattle.std.proofs.Common.{◌≡◌, ◌∙◌}
-use Rattle.cqa_session.specs.Statements.Explain.{name_at}
+use Rattle.std.proofs.Common.{◌∙◌}
 use Rattle.cqa_session.proofs.Explaining.{named, ok-map}
 use Rattle.cqa_session.proofs.statements.explain.name_of.Goals as goal
 

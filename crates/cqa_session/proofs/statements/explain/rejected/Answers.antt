@@ -1,5 +1,4 @@
 use Rattle.std.proofs.Common.{◌∙◌, sym, subst, IfSome}
-use Rattle.cqa_model.specs.declared.query.RowId.{RowId}
 use Rattle.repair_back.specs.declared.repair.Repair.{Repair}
 use Rattle.repair_back.specs.Results.{AreStored}
 use Rattle.cqa_session.proofs.Explaining.{contested-stored}

@@ -1,4 +1,4 @@
-use Rattle.std.proofs.Common.{◌≡◌, ◌∙◌, Option, Some, None, IfSome, IsNone, List, Contains, inr, refl, sym, ap, subst, length, arith}
+use Rattle.std.proofs.Common.{◌≡◌, ◌∙◌, None, IfSome, Contains, inr, refl, ap, subst, length, arith}
 use Rattle.std.proofs.lemmas.Slice.Zip.{AllZip-long}
 use Rattle.cqa_model.specs.declared.query.Plan.{Plan}
 use Rattle.cqa_model.specs.Plan.{IsPlanOf}
