@@ -66,7 +66,7 @@ fn span<L: Ledger>(db: &Database, probe: &Probe<'_>, steps: &mut Steps<L>) -> Op
 {
     let (place, rows) = db.rows_with(0, probe);
     let (start, span) = db.span(0, probe, steps);
-    if place == start && rows == span {
+    if place == start && rows.again().eq(span) {
         Some((place, rows.len()))
     } else {
         None

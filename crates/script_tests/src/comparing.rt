@@ -1,25 +1,47 @@
 //! Outputs, line by line.
 
-/// The number of the first line in which two outputs differ, from 1.
-pub fn first_difference(wanted: &[u8], given: &[u8]) -> Option<u64> {
+ghost use Rattle.std.specs.Prelude.{◌≡◌, ◌↔◌, IsNone};
+
+use crate::running::{Case, run};
+use std::io;
+
+/// The number of the line in which two outputs differ first, from 1; where one is the beginning of the other, that of the
+/// line in which it ends.
+fn first_line(wanted: &[u8], given: &[u8]) -> u64 {
     let mut line = 1u64;
     for (left, right) in wanted.iter().zip(given) {
         if left != right {
-            return Some(line);
+            return line;
         }
         if *left == b'\n' {
             line = line.saturating_add(1);
         }
     }
-    if wanted.len() == given.len() {
-        None
-    } else {
-        Some(line)
-    }
+    line
 }
 
-/// The status that a script is to end with: 1 where a line of its output is a refusal, else 0.
-pub fn wanted_status(wanted: &[u8]) -> u8 {
-    let is_refusal = |line: &[u8]| line.starts_with(b"error ") || line.starts_with(b"refused ");
-    u8::from(wanted.split(|byte| *byte == b'\n').any(is_refusal))
+/// The number of the first line in which two outputs differ, from 1. `None` where they are the same.
+pub fn first_difference(wanted: &[u8], given: &[u8]) -> Option<u64>
+    ensures { IsNone result ↔ (wanted.now ≡ given.now) }
+{
+    if wanted == given {
+        return None;
+    }
+    Some(first_line(wanted, given))
+}
+
+/// Whether a call ends as its case says. A line says how it doesn't.
+pub fn ends_as_wanted(rt: &HostRuntime, name: &str, case: &Case<'_>) -> io::Result<bool> {
+    let end = run(rt.alloc(), case)?;
+    let status = end.status;
+    let difference = first_difference(case.output, end.sink.bytes());
+    drop(end);
+    if let Some(line) = difference {
+        println!(rt; "{name}: line {line} of its output differs")?;
+        return Ok(false);
+    }
+    if status != case.status {
+        println!(rt; "{name}: status {status}, and not {}", case.status)?;
+    }
+    Ok(status == case.status)
 }

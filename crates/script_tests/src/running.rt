@@ -1,4 +1,7 @@
-//! One script, run over a new session and devices in memory.
+//! A call of the program, over a new session and devices in memory.
+
+ghost use Rattle.std.specs.Prelude.{◌≡◌, ◌∷◌, [], IfOk, map, max, string_bytes};
+ghost use Rattle.script_tests.specs.Calls.{Ends, IsCall, outside};
 
 use command_shell::run_words;
 use cqa_io::{MemSink, MemSource};
@@ -8,36 +11,90 @@ use std::alloc::{AllocError, Global};
 /// The most conflicts of a search, as the program has it.
 const CONFLICTS: u32 = 200_000;
 
-/// The bytes of an output that are kept beside those that are wanted.
-const MORE_ROOM: usize = 4096;
+/// A call of the program, and how it has to end.
+#[derive(Drop, Clone, Copy)]
+pub struct Case<'a> {
+    /// The words.
+    pub words: &'a [&'a str],
+    /// The input.
+    pub input: &'a [u8],
+    /// The most bytes that one read gives.
+    pub piece: usize,
+    /// The number of the read that fails, from 1; 0 where none does.
+    pub read: u64,
+    /// The number of the write that fails, from 1; 0 where none does.
+    pub write: u64,
+    /// The most bytes that the output takes.
+    pub room: usize,
+    /// The status that it has to end with.
+    pub status: u8,
+    /// The output that it has to give.
+    pub output: &'a [u8],
+}
 
-/// The words of a call with one word.
-fn words_of(alloc: Global, word: &str) -> Result<Vec<String>, AllocError> {
+/// How a call ended.
+#[derive(Drop)]
+pub struct End {
+    /// The status.
+    pub status: u8,
+    /// What is left of the input.
+    pub source: MemSource,
+    /// What holds the output.
+    pub sink: MemSink,
+}
+
+fn words_of(alloc: Global, case: &Case<'_>) -> Result<Vec<String>, AllocError>
+    ensures { IfOk result (λ words. map string_bytes words.items ≡ map (λ word. word.now) case.now.words.now) }
+{
     let mut words = Vec::new(alloc);
-    words.push(String::from_str(alloc, word)?)?;
+    for word in case.words {
+        words.push(String::from_str(alloc, word)?)?;
+    }
     Ok(words)
 }
 
-/// Runs the program on this word and this input, of which one read gives so many bytes, and gives its status and what holds
-/// its output: as many bytes as are wanted, and some more.
-pub fn run(
+fn source_of(alloc: Global, case: &Case<'_>) -> Result<MemSource, AllocError>
+    ensures { IfOk result (λ source. source ≡ record { left = case.now.input.now; piece = max case.now.piece 1; calls = record { failing = case.now.read ∷ []; done = 0 } }) }
+{
+    let failing = vec![in alloc; case.read]?;
+    let bytes = Vec::from_slice(alloc, case.input)?;
+    Ok(MemSource::new(bytes, case.piece.max(1), failing))
+}
+
+fn sink_of(alloc: Global, case: &Case<'_>) -> Result<MemSink, AllocError>
+    ensures { IfOk result (λ sink. sink ≡ record { held = []; room = case.now.room; calls = record { failing = case.now.write ∷ []; done = 0 }; faults = 0 }) }
+{
+    let failing = vec![in alloc; case.write]?;
+    MemSink::new(alloc, case.room, failing).map_err(|_| AllocError)
+}
+
+/// The status of a call of the program over its devices.
+fn status_of(
     alloc: Global,
-    word: &str,
-    input: Vec<u8>,
-    piece: usize,
-    wanted: usize,
-) -> Result<(u8, MemSink), AllocError> {
-    let words = words_of(alloc, word)?;
-    let room = wanted.saturating_add(MORE_ROOM);
-    let mut sink = MemSink::new(alloc, room, Vec::new(alloc)).map_err(|_| AllocError)?;
+    case: &Case<'_>,
+    source: &mut MemSource,
+    sink: &mut MemSink,
+) -> Result<u8, AllocError>
+    ensures { IfOk result (λ status. IsCall (map (λ word. word.now) case.now.words.now) (outside source.old sink.old) status (outside source.new sink.new)) }
+{
+    let words = words_of(alloc, case)?;
     let mut session = Session::new(alloc, CONFLICTS);
-    let mut source = MemSource::new(input, piece.max(1), Vec::new(alloc));
-    let status = run_words(
-        alloc,
-        words.as_slice(),
-        &mut session,
-        &mut source,
-        &mut sink,
-    );
-    Ok((status, sink))
+    let status = run_words(alloc, words.as_slice(), &mut session, source, sink);
+    drop(session);
+    drop(words);
+    Ok(status)
+}
+
+/// Calls the program.
+pub fn run(alloc: Global, case: &Case<'_>) -> Result<End, AllocError>
+    ensures { IfOk result (Ends case.now) }
+{
+    let mut source = source_of(alloc, case)?;
+    let mut sink = sink_of(alloc, case)?;
+    let status = status_of(alloc, case, &mut source, &mut sink)?;
+    Ok(End {
+        status,
+        source,
+        sink,
+    })
 }

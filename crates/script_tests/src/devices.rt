@@ -1,0 +1,271 @@
+//! The cases that no script can show: devices that fail, words that aren't accepted, how much is read, and a long proof.
+
+use crate::comparing::ends_as_wanted;
+use crate::running::{Case, run};
+use std::alloc::{AllocError, Global};
+use std::io;
+
+/// Two statements and an unfinished one.
+const UNFINISHED: &[u8] =
+    b"create table t (a int, primary key (a));\ninsert into t values (1), (2);\nask";
+
+/// The same two statements, and an answer.
+const WHOLE: &[u8] =
+    b"create table t (a int, primary key (a));\ninsert into t values (1), (2);\nask exists from t;\n";
+
+/// A script of five statements; the first is its first 70 bytes.
+const PEOPLE: &[u8] = b"create table person (id int, name text, city text, primary key (id));
+insert into person values (1, 'Ann', 'Oslo'), (1, 'Ann', 'Bergen'), (2, 'Bo', 'Oslo');
+ask select name from person where id = 1;
+ask select city from person where id = 1;
+ask select name from person where city = 'Oslo';
+";
+
+/// Its first 99 bytes.
+const PEOPLE_CUT: &[u8] = b"create table person (id int, name text, city text, primary key (id));
+insert into person values (1, ";
+
+/// The length of the first statement.
+const FIRST_STATEMENT: usize = 70;
+
+/// A formula that nothing satisfies, and the step that says so.
+const REFUTED: &[u8] = b"c two units\np cnf 1 2\n1 0 -1\n0\nlrat\n3 0 1 2 0\n";
+
+/// A run that is answered whole.
+const ANSWERED: Case<'static> = Case {
+    words: &["run"],
+    input: WHOLE,
+    piece: 7,
+    read: 0,
+    write: 0,
+    room: 1_000,
+    status: 0,
+    output: b"created t\ninserted 2\n()\n1 rows\n",
+};
+
+/// A check of a proof that passes.
+const VERIFIED: Case<'static> = Case {
+    words: &["check"],
+    input: REFUTED,
+    output: b"verified\n",
+    ..ANSWERED
+};
+
+/// A run over the script of people where a read fails.
+const READ_FAILS: Case<'static> = Case {
+    input: PEOPLE,
+    piece: FIRST_STATEMENT,
+    status: 3,
+    ..ANSWERED
+};
+
+/// A run over the script of people where a write fails.
+const WRITE_FAILS: Case<'static> = Case {
+    status: 4,
+    ..READ_FAILS
+};
+
+/// The same where the first write fails.
+const FIRST_WRITE_FAILS: Case<'static> = Case {
+    write: 1,
+    output: b"",
+    ..WRITE_FAILS
+};
+
+/// Each status of `run`, and words that aren't accepted.
+const RUNS: [Case<'static>; 9] = [
+    ANSWERED,
+    Case {
+        input: UNFINISHED,
+        status: 1,
+        output: b"created t\ninserted 2\nerror 15 Unfinished\n",
+        ..ANSWERED
+    },
+    Case {
+        words: &["runs"],
+        status: 2,
+        output: b"",
+        ..ANSWERED
+    },
+    Case {
+        words: &[],
+        status: 2,
+        output: b"",
+        ..ANSWERED
+    },
+    Case {
+        words: &["run", "run"],
+        status: 2,
+        output: b"",
+        ..ANSWERED
+    },
+    Case {
+        read: 1,
+        status: 3,
+        output: b"",
+        ..ANSWERED
+    },
+    Case {
+        read: 9,
+        status: 3,
+        output: b"created t\n",
+        ..ANSWERED
+    },
+    Case {
+        write: 1,
+        status: 4,
+        output: b"",
+        ..ANSWERED
+    },
+    Case {
+        room: 16,
+        status: 4,
+        output: b"created t\ninsert",
+        ..ANSWERED
+    },
+];
+
+/// Each status of `check`.
+const CHECKS: [Case<'static>; 6] = [
+    VERIFIED,
+    Case {
+        input: b"",
+        status: 1,
+        output: b"refused line 1 BadFormula\n",
+        ..VERIFIED
+    },
+    Case {
+        words: &["Check"],
+        status: 2,
+        output: b"",
+        ..VERIFIED
+    },
+    Case {
+        read: 3,
+        status: 3,
+        output: b"",
+        ..VERIFIED
+    },
+    Case {
+        write: 1,
+        status: 4,
+        output: b"",
+        ..VERIFIED
+    },
+    Case {
+        room: 4,
+        status: 4,
+        output: b"veri",
+        ..VERIFIED
+    },
+];
+
+/// Where a device fails, or the input is cut off, what came before is answered.
+const FAILING: [Case<'static>; 9] = [
+    Case {
+        read: 1,
+        output: b"",
+        ..READ_FAILS
+    },
+    Case {
+        read: 2,
+        output: b"created person\n",
+        ..READ_FAILS
+    },
+    Case {
+        piece: 1,
+        read: 100,
+        output: b"created person\n",
+        ..READ_FAILS
+    },
+    Case {
+        input: PEOPLE_CUT,
+        status: 1,
+        output: b"created person\nerror 15 Unfinished\n",
+        ..ANSWERED
+    },
+    FIRST_WRITE_FAILS,
+    Case {
+        write: 2,
+        output: b"created person\n",
+        ..WRITE_FAILS
+    },
+    Case {
+        write: 3,
+        output: b"created person\ninserted 3\n",
+        ..WRITE_FAILS
+    },
+    Case {
+        write: 4,
+        output: b"created person\ninserted 3\n('Ann')\n1 rows\n",
+        ..WRITE_FAILS
+    },
+    Case {
+        write: 5,
+        output: b"created person\ninserted 3\n('Ann')\n1 rows\n0 rows\n",
+        ..WRITE_FAILS
+    },
+];
+
+/// How many cases of a table end otherwise. A line says which.
+fn failures(rt: &HostRuntime, table: &str, cases: &[Case<'static>]) -> io::Result<u64> {
+    let mut failed = 0u64;
+    for (number, case) in cases.iter().enumerate() {
+        if !ends_as_wanted(rt, table, case)? {
+            println!(rt; "{table}: case {number}")?;
+            failed = failed.saturating_add(1);
+        }
+    }
+    Ok(failed)
+}
+
+/// Whether a run whose first write fails reads the first statement alone, which is the first piece: a statement is answered
+/// before the next piece is read.
+fn reads_no_more(alloc: Global) -> Result<bool, AllocError> {
+    let end = run(alloc, &FIRST_WRITE_FAILS)?;
+    let left = end.source.left().len();
+    drop(end);
+    Ok(left.saturating_add(FIRST_STATEMENT) == PEOPLE.len())
+}
+
+/// Appends a step that adds the clause of the step before it again.
+fn append_step(alloc: Global, text: &mut Vec<u8>, id: u32) -> Result<(), AllocError> {
+    let before = id.saturating_sub(1);
+    let step = format!(in alloc; "{id} 1 0 {before} 0\n")?;
+    let done = text.extend_from_slice(step.as_bytes());
+    drop(step);
+    done
+}
+
+/// Appends a refutation of 100,001 steps, each of which stands on the one before it.
+fn append_long_proof(alloc: Global, text: &mut Vec<u8>) -> Result<(), AllocError> {
+    text.extend_from_slice(b"p cnf 1 2\n1 0\n-1 0\nlrat\n3 1 0 1 0\n")?;
+    for id in 4..100_003u32 {
+        append_step(alloc, text, id)?;
+    }
+    text.extend_from_slice(b"100003 0 100002 2 0\n")
+}
+
+/// Whether a long proof is checked: the time that a step takes doesn't grow with the steps before it.
+fn checks_a_long_proof(rt: &HostRuntime) -> io::Result<bool> {
+    let mut text = Vec::new(rt.alloc());
+    append_long_proof(rt.alloc(), &mut text)?;
+    let case = Case {
+        input: text.as_slice(),
+        piece: 65_536,
+        ..VERIFIED
+    };
+    ends_as_wanted(rt, "a long proof", &case)
+}
+
+/// Whether all cases end as they have to. A line says which doesn't.
+pub fn all_pass(rt: &HostRuntime) -> io::Result<bool> {
+    let failed = failures(rt, "a status of run", &RUNS)?
+        .saturating_add(failures(rt, "a status of check", &CHECKS)?)
+        .saturating_add(failures(rt, "a device that fails", &FAILING)?);
+    let reads_no_more = reads_no_more(rt.alloc())?;
+    if !reads_no_more {
+        println!(rt; "more is read behind a reply that fails")?;
+    }
+    Ok(checks_a_long_proof(rt)? && reads_no_more && failed == 0)
+}
