@@ -7,7 +7,7 @@ use Rattle.cqa_model.specs.declared.query.Query.{Query}
 use Rattle.cqa_model.specs.Query.{atom_at, atom_key}
 use Rattle.cqa_model.specs.Variables.{View, whole, after}
 use Rattle.cqa_model.specs.Graph.{Attacks, IsWalk, HasCycle}
-use Rattle.cqa_model.specs.Plan.{IsUnattacked, IsPlan}
+use Rattle.cqa_model.specs.Plan.{IsUnattacked, IsElimination, IsPlan}
 use Rattle.cqa_model.specs.Laws.{PlanOrCycle}
 use Rattle.cqa_model.proofs.Classic.{dec_both}
 use Rattle.cqa_model.proofs.Values.{dec_not}
@@ -47,11 +47,11 @@ module _ (q : Query) where
       let ne_H : H ≢ F = λ e. free A (subst (λ z. Attacks q view A z) e w.0) in
       (kept q view closed F narrow hF free A w.0.0 ne H ne_H w.0, walk-after view closed narrow F hF free H ne_H Hs B w.1)
 
-  -- a view with a plan has no cycle
-  pub planned : (plan : List ℕ) (view : View) → IsClosed q view → IsNarrow view → IsPlan q view plan → HasCycle q view → ⊥
-  planned [] view closed narrow none (A, Hs, w) = none A (walk-start q view A Hs A w)
-  planned (F ∷ plan) view closed narrow (hF, free, first, more) (A, Hs, w) =
-      planned plan (after q view F) (after-closed q view closed F) (λ K hK. narrow K hK.0) more
+  -- a view with an elimination order has no cycle
+  pub eliminated : (order : List ℕ) (view : View) → IsClosed q view → IsNarrow view → IsElimination q view order → HasCycle q view → ⊥
+  eliminated [] view closed narrow none (A, Hs, w) = none A (walk-start q view A Hs A w)
+  eliminated (F ∷ order) view closed narrow (hF, free, more) (A, Hs, w) =
+      eliminated order (after q view F) (after-closed q view closed F) (λ K hK. narrow K hK.0) more
       (A, Hs, walk-after view closed narrow F hF free A (λ e. let z = walk-end q view A Hs A w in free z.0 (subst (λ y. Attacks q view z.0 y) e z.1)) Hs A w)
 
   -- where each atom that is left is attacked, the attackers come round
@@ -146,7 +146,7 @@ whole-narrow q K hK p m = All-contains (λ p. p < (atom_at q K).width) (atom_key
 
 pub plan_or_cycle : PlanOrCycle
 plan_or_cycle = record {
-  not_both = λ q plan h c. planned q plan (whole q) (λ u v l f. f) (whole-narrow q) h c;
+  not_both = λ q order h c. eliminated q order (whole q) (λ u v l f. f) (whole-narrow q) h c;
   some = λ q acyclic. plannable q (length (below (length q.atoms))) (below (length q.atoms)) (omega arith) (whole q) (λ u v l f. f)
       (λ F hF. below-all (length q.atoms) F hF) (λ K hK. hK) (λ K. dec_lt K (length q.atoms)) (λ v. no (λ f. f)) acyclic;
   one = λ q plan other h o. one_plan q (whole q) plan other h o;

@@ -1,17 +1,22 @@
 -- The laws over a database.
 use Rattle.cqa_model.specs.Database.{stored, keys_of}
-use Rattle.cqa_model.specs.Laws.{RewritingIsExact, CertainOrRejected, FormulaIsExact, CertainOverOne, PossibleIsCandidate}
+use Rattle.cqa_model.specs.Variables.{whole}
+use Rattle.cqa_model.specs.Laws.{EliminationIsExact, RewritingIsExact, CertainOrRejected, FormulaIsExact, CertainOverOne, PossibleIsCandidate}
 use Rattle.cqa_model.proofs.Fitting.{fits_tables}
+use Rattle.cqa_model.proofs.Elimination.{plan-eliminates}
 use Rattle.cqa_model.proofs.Mending as mending
 use Rattle.cqa_model.proofs.Formula as formula
 use Rattle.cqa_model.proofs.OverOne.{certain-from_block, block-from_certain}
 use Rattle.cqa_model.proofs.Possible.{candidate-from_certain, candidate-from_possible, possible-from_candidate}
 
+pub elimination_is_exact : EliminationIsExact
+elimination_is_exact db q row order fits long eliminates = mending.elimination_is_exact q (keys_of db) (stored db) row order (fits_tables q db fits) long eliminates
+
 pub rewriting_is_exact : RewritingIsExact
-rewriting_is_exact db q row plan fits long is_plan = mending.rewriting_is_exact q (keys_of db) (stored db) row plan (fits_tables q db fits) long is_plan
+rewriting_is_exact db q row plan fits long is_plan = elimination_is_exact db q row plan fits long (plan-eliminates q (whole q) plan is_plan)
 
 pub certain_or_rejected : CertainOrRejected
-certain_or_rejected db q row plan fits long is_plan = mending.certain_or_rejected q (keys_of db) (stored db) row plan (fits_tables q db fits) long is_plan
+certain_or_rejected db q row order fits long eliminates = mending.certain_or_rejected q (keys_of db) (stored db) row order (fits_tables q db fits) long eliminates
 
 pub formula_is_exact : FormulaIsExact
 formula_is_exact db q row fits = formula.formula_is_exact q (keys_of db) (stored db) row (fits_tables q db fits)

@@ -13,7 +13,7 @@ use Rattle.cqa_model.specs.Repairs.{SharesKey, IsRepairBy}
 use Rattle.cqa_model.proofs.Fitting.{FitsTables}
 use Rattle.cqa_model.specs.Database.{nothing}
 use Rattle.cqa_model.specs.Variables.{AreLinked}
-use Rattle.cqa_model.specs.Plan.{Placed, TestHolds, Fits, PlanHolds, IsPlan}
+use Rattle.cqa_model.specs.Plan.{Placed, TestHolds, Fits, PlanHolds, IsElimination}
 use Rattle.cqa_model.specs.Partial.{view_of, AllFit, IsPartial}
 use Rattle.cqa_model.proofs.Classic.{choose, mem-head, mem-tail, mem-nil, mem-cases}
 use Rattle.cqa_model.proofs.Views.{linked-sym, linked-join, value-linked, view-in_range, view-not_taken, taken-in_range}
@@ -151,11 +151,11 @@ module _ (q : Query) (keys : List (List ℕ)) (tables : List (List (List Value))
       go K has (no ne) = h.keeps K (has, ne)
       go K has (yes e) = subst (λ z. Contains (rows_of q r z) (row_at w z)) (sym e) (subst (λ z. Contains (rows_of q r F) z) (sym (h.extends (placed F y) (mem-head (placed F y) taken))) my)
 
-  -- where the plan holds, each repair has a witness
-  pub sound : (plan : List ℕ) (taken : List Placed) → AllFit q row taken → IsPlan q (view_of q taken) plan → PlanHolds q tables row taken plan →
+  -- where an elimination order holds, each repair has a witness
+  pub sound : (plan : List ℕ) (taken : List Placed) → AllFit q row taken → IsElimination q (view_of q taken) plan → PlanHolds q tables row taken plan →
       (r : List (List (List Value))) → IsRepairBy keys tables r → HasWitness taken r
-  sound [] taken all is_plan holds r hr = full taken all is_plan r
-  sound (F ∷ plan) taken all (has, free, first, rest) (x, mx, block) r hr =
+  sound [] taken all none holds r hr = full taken all none r
+  sound (F ∷ plan) taken all (has, free, rest) (x, mx, block) r hr =
       go (row_of_block q keys tables fits row taken all r hr F lF x mx) (λ y fy hy. sound plan (placed F y ∷ taken) (has, fy, all) rest hy r hr)
     where
       lF : F < length q.atoms

@@ -11,6 +11,7 @@ pub mod Exchange
 pub mod Reification
 pub mod Existence
 pub mod Decisions
+pub mod Elimination
 pub mod Exactness
 pub mod Attacks
 pub mod Cycles

@@ -1,4 +1,4 @@
--- Where a plan doesn't hold, a repair without a witness is found.
+-- Where an elimination order doesn't hold, a repair without a witness is found.
 use Rattle.std.proofs.Common.{◌≡◌, ℕ, zero, suc, ◌<◌, ◌≤◌, ◌⊎◌, ◌↔◌, inl, inr, List, [], ◌∷◌, length, get_or, map, refl, ap, sym, ◌∙◌, subst, arith, Contains}
 use native.Mathlib.Decide.{ℕ_discrete, dec_lt}
 use mathlib.Core.List.{List-discrete}
@@ -8,7 +8,7 @@ use Rattle.cqa_value.specs.declared.value.Value.{Value}
 use Rattle.cqa_model.specs.Query.{atom_key, rows_of, row_at, value, CondHolds, IsWitness}
 use Rattle.cqa_model.specs.Repairs.{SharesKey, IsRepairBy}
 use Rattle.cqa_model.proofs.Fitting.{IsCertainBy, FitsTables}
-use Rattle.cqa_model.specs.Plan.{Placed, Fits, PlanHolds, IsUnattacked, IsPlan, IsPlanOf}
+use Rattle.cqa_model.specs.Plan.{Placed, Fits, PlanHolds, IsUnattacked, IsElimination, IsEliminationOf}
 use Rattle.cqa_model.specs.Partial.{view_of, AllFit, IsPartial}
 use Rattle.cqa_model.proofs.Classic.{mem-head, mem-tail, mem-nil, mem-cases, mem-eq, dec_both, dec_if, dec_each, dec_mem, find_in, find_below}
 use Rattle.cqa_model.proofs.Values.{dec_by, dec_not, value_discrete}
@@ -189,11 +189,11 @@ module _ (q : Query) (keys : List (List ℕ)) (tables : List (List (List Value))
                     (replaced-into q keys tables fits row taken all r hr F lF z y mz my zy y my (inl refl))
                     (shares-trans (atom_key q F) (row_at w F) x y (shares-sym (atom_key q F) x (row_at w F) xw) xy)
 
-  -- where the plan doesn't hold, a repair has no witness
-  mended : (plan : List ℕ) (taken : List Placed) → AllFit q row taken → IsPlan q (view_of q taken) plan → (PlanHolds q tables row taken plan → ⊥) →
+  -- where an elimination order doesn't hold, a repair has no witness
+  mended : (plan : List ℕ) (taken : List Placed) → AllFit q row taken → IsElimination q (view_of q taken) plan → (PlanHolds q tables row taken plan → ⊥) →
       (r : List (List (List Value))) × IsRepairBy keys tables r × ((w : List (List Value)) → IsPartial q row taken r w → ⊥)
-  mended [] taken all is_plan fails = absurd (fails tt)
-  mended (F ∷ plan) taken all (has, free, first, rest) fails =
+  mended [] taken all none fails = absurd (fails tt)
+  mended (F ∷ plan) taken all (has, free, rest) fails =
       finish (without_all taken all F has free (some_repair keys tables).0 (some_repair keys tables).1 (rows_of q tables F) (λ x mx.
       lacking x mx (find_in (Good x) (dec_good x) (rows_of q tables F)) (λ y fy f. mended plan (placed F y ∷ taken) (has, fy, all) rest f)))
     where
@@ -225,33 +225,33 @@ module _ (q : Query) (keys : List (List ℕ)) (tables : List (List (List Value))
       finish : (z : List (List (List Value))) × IsRepairBy keys tables z × ((x : List Value) → Contains (rows_of q tables F) x → Lacks taken all F has free z x) → NoWitness taken
       finish (z, hz, h) = (z, hz, λ w hw. h (row_at w F) (kept-stored q keys tables fits row taken all z hz F (view-in_range q taken F has) (row_at w F) (hw.keeps F has)) w hw (shares-self (atom_key q F) (row_at w F)))
 
--- each row of a query with a plan is certain, or some repair has no witness of it
+-- each row of a query with an elimination order is certain, or some repair has no witness of it
 pub certain_or_rejected : (q : Query) (keys : List (List ℕ)) (tables : List (List (List Value))) (row : List Value) (plan : List ℕ) →
-    FitsTables q keys tables → length row ≡ length q.answer → IsPlanOf q plan →
+    FitsTables q keys tables → length row ≡ length q.answer → IsEliminationOf q plan →
     IsCertainBy keys q tables row ⊎ ((kept : List (List (List Value))) × IsRepairBy keys tables kept × ((w : List (List Value)) → IsWitness q kept row w → ⊥))
-certain_or_rejected q keys tables row plan fits long is_plan = go (dec_plan q tables row [] plan)
+certain_or_rejected q keys tables row plan fits long eliminates = go (dec_plan q tables row [] plan)
   where
     go : Dec (PlanHolds q tables row [] plan) → IsCertainBy keys q tables row ⊎ ((kept : List (List (List Value))) × IsRepairBy keys tables kept × ((w : List (List Value)) → IsWitness q kept row w → ⊥))
-    go (yes h) = inl (λ r hr. let w = sound q keys tables fits row long plan [] tt is_plan h r hr in
+    go (yes h) = inl (λ r hr. let w = sound q keys tables fits row long plan [] tt eliminates h r hr in
         (w.0, record { size = w.1.size; kept = w.1.keeps; holds = w.1.holds; answers = w.1.answers }))
     go (no f) =
-        let m = mended q keys tables fits row long plan [] tt is_plan f in
+        let m = mended q keys tables fits row long plan [] tt eliminates f in
         inr (m.0, m.1, λ w hw. m.2 w (record { size = hw.size; keeps = hw.kept; holds = hw.holds; answers = hw.answers; extends = λ t n. absurd (mem-nil t n) }))
 
--- the plan holds exactly where the row is certain
-pub rewriting_is_exact : (q : Query) (keys : List (List ℕ)) (tables : List (List (List Value))) (row : List Value) (plan : List ℕ) →
-    FitsTables q keys tables → length row ≡ length q.answer → IsPlanOf q plan →
+-- an elimination order holds exactly where the row is certain
+pub elimination_is_exact : (q : Query) (keys : List (List ℕ)) (tables : List (List (List Value))) (row : List Value) (plan : List ℕ) →
+    FitsTables q keys tables → length row ≡ length q.answer → IsEliminationOf q plan →
     PlanHolds q tables row [] plan ↔ IsCertainBy keys q tables row
-rewriting_is_exact q keys tables row plan fits long is_plan = (to, from (dec_plan q tables row [] plan))
+elimination_is_exact q keys tables row plan fits long eliminates = (to, from (dec_plan q tables row [] plan))
   where
     to : PlanHolds q tables row [] plan → IsCertainBy keys q tables row
     to h r hr =
-        let w = sound q keys tables fits row long plan [] tt is_plan h r hr in
+        let w = sound q keys tables fits row long plan [] tt eliminates h r hr in
         (w.0, record { size = w.1.size; kept = w.1.keeps; holds = w.1.holds; answers = w.1.answers })
 
     from : Dec (PlanHolds q tables row [] plan) → IsCertainBy keys q tables row → PlanHolds q tables row [] plan
     from (yes h) certain = h
     from (no f) certain =
-        let m = mended q keys tables fits row long plan [] tt is_plan f in
+        let m = mended q keys tables fits row long plan [] tt eliminates f in
         let w = certain m.0 m.1 in
         absurd (m.2 w.0 (record { size = w.1.size; keeps = w.1.kept; holds = w.1.holds; answers = w.1.answers; extends = λ t n. absurd (mem-nil t n) }))

@@ -8,9 +8,15 @@ use Rattle.cqa_model.specs.Query.{atom_key, rows_of, IsStrict, IsWitness, FitsDa
 use Rattle.cqa_model.specs.Certain.{IsCertain, IsPossible, IsCandidate}
 use Rattle.cqa_model.specs.Variables.{whole}
 use Rattle.cqa_model.specs.Graph.{Attacks, HasCycle}
-use Rattle.cqa_model.specs.Plan.{HoldsOver, IsPlanOf}
+use Rattle.cqa_model.specs.Plan.{HoldsOver, IsEliminationOf, IsPlanOf}
 use Rattle.cqa_model.specs.Formula.{Satisfies}
 use Rattle.cqa_model.specs.OneTable.{FitsRow, SomeBlockFits}
+
+-- Each elimination order of a query holds exactly where the row is certain (Koutris and Wijsen, ACM TODS 2017).
+abbrev pub EliminationIsExact : Type 0
+EliminationIsExact =
+    (db : List Table) (q : Query) (row : List Value) (order : List ℕ) →
+    FitsDatabase q db → length row ≡ length q.answer → IsEliminationOf q order → HoldsOver db q row order ↔ IsCertain db q row
 
 -- The plan of a query holds exactly where the row is certain (Koutris and Wijsen, ACM TODS 2017).
 abbrev pub RewritingIsExact : Type 0
@@ -18,9 +24,10 @@ RewritingIsExact =
     (db : List Table) (q : Query) (row : List Value) (plan : List ℕ) →
     FitsDatabase q db → length row ≡ length q.answer → IsPlanOf q plan → HoldsOver db q row plan ↔ IsCertain db q row
 
--- A query has a plan exactly where its attacks have no cycle, and at most one (Koutris and Wijsen, ACM TODS 2017).
+-- A query has a plan exactly where its attacks have no cycle, and at most one; where they have a cycle, it has no
+-- elimination order either (Koutris and Wijsen, ACM TODS 2017).
 pub record PlanOrCycle : Type 0 where
-  pub not_both : (q : Query) (plan : List ℕ) → IsPlanOf q plan → HasCycle q (whole q) → ⊥
+  pub not_both : (q : Query) (order : List ℕ) → IsEliminationOf q order → HasCycle q (whole q) → ⊥
   pub some : (q : Query) → (HasCycle q (whole q) → ⊥) → (plan : List ℕ) × IsPlanOf q plan
   pub one : (q : Query) (plan other : List ℕ) → IsPlanOf q plan → IsPlanOf q other → plan ≡ other
 
@@ -32,11 +39,11 @@ StrictAttacksNothing = (q : Query) (F G : ℕ) → IsStrict q F → Attacks q (w
 abbrev pub IsRejected : List Table → Query → List Value → Type 0
 IsRejected db q row = (kept : List (List (List Value))) × IsRepair db kept × ((w : List (List Value)) → IsWitness q kept row w → ⊥)
 
--- Each row of a query with a plan is certain, or some repair holds no witness of it.
+-- Each row of a query with an elimination order is certain, or some repair holds no witness of it.
 abbrev pub CertainOrRejected : Type 0
 CertainOrRejected =
-    (db : List Table) (q : Query) (row : List Value) (plan : List ℕ) →
-    FitsDatabase q db → length row ≡ length q.answer → IsPlanOf q plan → IsCertain db q row ⊎ IsRejected db q row
+    (db : List Table) (q : Query) (row : List Value) (order : List ℕ) →
+    FitsDatabase q db → length row ≡ length q.answer → IsEliminationOf q order → IsCertain db q row ⊎ IsRejected db q row
 
 -- A row is certain exactly where no assignment satisfies its formula (Dixit and Kolaitis, SAT 2019).
 abbrev pub FormulaIsExact : Type 0

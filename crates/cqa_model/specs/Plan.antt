@@ -52,7 +52,17 @@ HoldsOver db q row plan = PlanHolds q (stored db) row [] plan
 abbrev pub IsUnattacked : Query → View → ℕ → Type 0
 IsUnattacked q view F = (G : ℕ) → Attacks q view G F → ⊥
 
--- again and again the first atom that no atom attacks in the view after those before it
+-- an elimination order of a view: each atom of it is in the view after those before it, where no atom attacks it, and
+-- none is left (Koutris and Wijsen, ACM TODS 2017)
+abbrev pub IsElimination : Query → View → List ℕ → Type 0
+IsElimination q view [] = (F : ℕ) → view.has F → ⊥
+IsElimination q view (F ∷ order) = view.has F × IsUnattacked q view F × IsElimination q (after q view F) order
+
+-- an elimination order of a query
+abbrev pub IsEliminationOf : Query → List ℕ → Type 0
+IsEliminationOf q order = IsElimination q (whole q) order
+
+-- the elimination order that again and again takes the first atom that no atom attacks in the view after those before it
 abbrev pub IsPlan : Query → View → List ℕ → Type 0
 IsPlan q view [] = (F : ℕ) → view.has F → ⊥
 IsPlan q view (F ∷ plan) =

@@ -3,6 +3,7 @@
 ghost use Rattle.cqa_model.specs.Laws.{
   CertainOrRejected,
   CertainOverOne,
+  EliminationIsExact,
   FormulaIsExact,
   PlanOrCycle,
   PossibleIsCandidate,
@@ -10,12 +11,18 @@ ghost use Rattle.cqa_model.specs.Laws.{
   StrictAttacksNothing,
 };
 
+/// Each elimination order of a query holds exactly where the row is certain.
+pub fn elimination_is_exact()
+    ensures { EliminationIsExact }
+{}
+
 /// The plan of a query holds exactly where the row is certain.
 pub fn rewriting_is_exact()
     ensures { RewritingIsExact }
 {}
 
-/// A query has a plan exactly where its attacks have no cycle, and at most one.
+/// A query has a plan exactly where its attacks have no cycle, and at most one; where they have a cycle, it has no
+/// elimination order either.
 pub fn plan_or_cycle()
     ensures { PlanOrCycle }
 {}
@@ -25,7 +32,7 @@ pub fn strict_attacks_nothing()
     ensures { StrictAttacksNothing }
 {}
 
-/// Each row of a query with a plan is certain, or some repair holds no witness of it.
+/// Each row of a query with an elimination order is certain, or some repair holds no witness of it.
 pub fn certain_or_rejected()
     ensures { CertainOrRejected }
 {}
