@@ -1,6 +1,7 @@
 //! What stands at a place of a query's parts, and what stands for it where there is none.
 
-ghost use Rattle.std.specs.Prelude.{◌≡◌, ◌++◌, OnOk, [], slice_index, slice_index_or};
+ghost use Rattle.std.specs.Prelude.{◌≡◌, ◌++◌, OnOk, OnErr, [], slice_index, slice_index_or};
+ghost use Rattle.std.specs.Io.{StartsWith};
 ghost use Rattle.cqa_model.specs.Plan.{answer_at};
 ghost use Rattle.sql_text.specs.Texts.{cell_at, column_name, listed_at, quoted, step_at, table_name};
 
@@ -82,7 +83,8 @@ pub(crate) fn append_table_name(
     atom: usize,
     out: &mut Vec<u8>,
 ) -> Result<(), NoMemory>
-    ensures { OnOk result (out.new.items ≡ out.old.items ++ table_name names.now atom) }
+    ensures ok { OnOk result (out.new.items ≡ out.old.items ++ table_name names.now atom) }
+    ensures err { OnErr result (StartsWith out.new.items out.old.items) }
 {
     match names.tables.as_slice().get(atom) {
         Some(name) => append_quoted(name.bytes(), out),
@@ -97,7 +99,8 @@ pub(crate) fn append_column_name(
     column: usize,
     out: &mut Vec<u8>,
 ) -> Result<(), NoMemory>
-    ensures { OnOk result (out.new.items ≡ out.old.items ++ column_name names.now atom column) }
+    ensures ok { OnOk result (out.new.items ≡ out.old.items ++ column_name names.now atom column) }
+    ensures err { OnErr result (StartsWith out.new.items out.old.items) }
 {
     match names.columns.as_slice().get(atom) {
         Some(columns) => append_name_at(columns.as_slice(), column, out),
@@ -107,7 +110,8 @@ pub(crate) fn append_column_name(
 
 /// Appends the name at a place between double quotes.
 fn append_name_at(names: &[Name], place: usize, out: &mut Vec<u8>) -> Result<(), NoMemory>
-    ensures { OnOk result (out.new.items ≡ out.old.items ++ quoted (slice_index_or names.now place [])) }
+    ensures ok { OnOk result (out.new.items ≡ out.old.items ++ quoted (slice_index_or names.now place [])) }
+    ensures err { OnErr result (StartsWith out.new.items out.old.items) }
 {
     match names.get(place) {
         Some(name) => append_quoted(name.bytes(), out),

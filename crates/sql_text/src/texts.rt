@@ -1,7 +1,8 @@
 //! Appends the text of a query.
 
-ghost use Rattle.std.specs.Prelude.{◌≡◌, ◌++◌, ◌==◌, ◌<◌, if◌then◌else◌, [], OnOk, codes, length};
-ghost use Rattle.sql_text.specs.Texts.{all_text, answer_text, answer_columns_text, answers_text, body_text, but_text, cell_at, cell_text, cmp_at, cmp_text, cmps_text, column_name, column_text, columns_text, distinct_text, end_text, except_text, joined, last_text, listed_at, listed_text, named_text, other_text, out_text, outs_text, rest_text, select_text, sources_text, source_text, sql_bytes, step_at, step_text, steps_text, table_name, where_text};
+ghost use Rattle.std.specs.Prelude.{◌≡◌, ◌++◌, ◌==◌, ◌<◌, if◌then◌else◌, [], OnOk, OnErr, codes};
+ghost use Rattle.std.specs.Io.{StartsWith};
+ghost use Rattle.sql_text.specs.Texts.{all_text, answer_text, answer_columns_text, answers_text, body_text, but_text, cell_at, cell_text, cmp_at, cmp_text, cmps_text, column_text, columns_text, distinct_text, end_text, except_text, last_text, listed_at, listed_text, named_text, other_text, out_text, outs_text, rest_text, select_text, sources_text, source_text, sql_bytes, step_text, steps_text, step_at, where_text};
 
 use crate::places::{
     answer_at, append_column_name, append_table_name, cell_at, listed_at, number_at, step_name_at,
@@ -16,7 +17,8 @@ use cqa_value::NoMemory;
 
 /// Appends a separator before each item but the first.
 fn separate(before: usize, separator: &str, out: &mut Vec<u8>) -> Result<(), NoMemory>
-    ensures { OnOk result (out.new.items ≡ out.old.items ++ (if before == 0 then [] else separator.now)) }
+    ensures ok { OnOk result (out.new.items ≡ out.old.items ++ (if before == 0 then [] else separator.now)) }
+    ensures err { OnErr result (StartsWith out.new.items out.old.items) }
 {
     if before > 0 {
         append(separator, out)?;
@@ -32,7 +34,8 @@ fn append_column(
     column: usize,
     out: &mut Vec<u8>,
 ) -> Result<(), NoMemory>
-    ensures { OnOk result (out.new.items ≡ out.old.items ++ column_text names.now steps.now source column) }
+    ensures ok { OnOk result (out.new.items ≡ out.old.items ++ column_text names.now steps.now source column) }
+    ensures err { OnErr result (StartsWith out.new.items out.old.items) }
 {
     match source {
         Source::Table(atom) => append_column_name(names, atom as usize, column, out),
@@ -47,7 +50,8 @@ fn append_source(
     source: Source,
     out: &mut Vec<u8>,
 ) -> Result<(), NoMemory>
-    ensures { OnOk result (out.new.items ≡ out.old.items ++ source_text names.now steps.now source) }
+    ensures ok { OnOk result (out.new.items ≡ out.old.items ++ source_text names.now steps.now source) }
+    ensures err { OnErr result (StartsWith out.new.items out.old.items) }
 {
     match source {
         Source::Table(atom) => append_table_name(names, atom as usize, out),
@@ -65,7 +69,8 @@ fn append_listed(
     listed: Listed,
     out: &mut Vec<u8>,
 ) -> Result<(), NoMemory>
-    ensures { OnOk result (out.new.items ≡ out.old.items ++ listed_text names.now steps.now listed) }
+    ensures ok { OnOk result (out.new.items ≡ out.old.items ++ listed_text names.now steps.now listed) }
+    ensures err { OnErr result (StartsWith out.new.items out.old.items) }
 {
     append_source(names, steps, listed.source, out)?;
     append(" AS ", out)?;
@@ -80,7 +85,8 @@ fn append_cell(
     cell: Cell,
     out: &mut Vec<u8>,
 ) -> Result<(), NoMemory>
-    ensures { OnOk result (out.new.items ≡ out.old.items ++ cell_text names.now steps.now sources.now cell) }
+    ensures ok { OnOk result (out.new.items ≡ out.old.items ++ cell_text names.now steps.now sources.now cell) }
+    ensures err { OnErr result (StartsWith out.new.items out.old.items) }
 {
     let listed = listed_at(sources, cell.place);
     append_alias(listed.alias, out)?;
@@ -96,7 +102,8 @@ fn append_cmp(
     cmp: &Cmp,
     out: &mut Vec<u8>,
 ) -> Result<(), NoMemory>
-    ensures { OnOk result (out.new.items ≡ out.old.items ++ cmp_text names.now steps.now sources.now cmp.now) }
+    ensures ok { OnOk result (out.new.items ≡ out.old.items ++ cmp_text names.now steps.now sources.now cmp.now) }
+    ensures err { OnErr result (StartsWith out.new.items out.old.items) }
 {
     match cmp {
         Cmp::Same { left, right } => {
@@ -119,7 +126,8 @@ fn append_cmps(
     cmps: &[Cmp],
     out: &mut Vec<u8>,
 ) -> Result<(), NoMemory>
-    ensures { OnOk result (out.new.items ≡ out.old.items ++ cmps_text names.now steps.now sources.now cmps.now) }
+    ensures ok { OnOk result (out.new.items ≡ out.old.items ++ cmps_text names.now steps.now sources.now cmps.now) }
+    ensures err { OnErr result (StartsWith out.new.items out.old.items) }
 {
     for place in 0..cmps.len() {
         separate(place, " AND ", out)?;
@@ -135,7 +143,8 @@ fn append_all(
     select: &Select,
     out: &mut Vec<u8>,
 ) -> Result<(), NoMemory>
-    ensures { OnOk result (out.new.items ≡ out.old.items ++ all_text names.now steps.now select.now) }
+    ensures ok { OnOk result (out.new.items ≡ out.old.items ++ all_text names.now steps.now select.now) }
+    ensures err { OnErr result (StartsWith out.new.items out.old.items) }
 {
     if select.all.is_empty() {
         return Ok(());
@@ -157,7 +166,8 @@ fn append_but(
     select: &Select,
     out: &mut Vec<u8>,
 ) -> Result<(), NoMemory>
-    ensures { OnOk result (out.new.items ≡ out.old.items ++ but_text names.now steps.now select.now) }
+    ensures ok { OnOk result (out.new.items ≡ out.old.items ++ but_text names.now steps.now select.now) }
+    ensures err { OnErr result (StartsWith out.new.items out.old.items) }
 {
     if select.but.is_empty() {
         return Ok(());
@@ -186,7 +196,8 @@ fn append_sources(
     sources: &[Listed],
     out: &mut Vec<u8>,
 ) -> Result<(), NoMemory>
-    ensures { OnOk result (out.new.items ≡ out.old.items ++ sources_text names.now steps.now sources.now) }
+    ensures ok { OnOk result (out.new.items ≡ out.old.items ++ sources_text names.now steps.now sources.now) }
+    ensures err { OnErr result (StartsWith out.new.items out.old.items) }
 {
     for place in 0..sources.len() {
         separate(place, ", ", out)?;
@@ -202,7 +213,8 @@ fn append_where(
     select: &Select,
     out: &mut Vec<u8>,
 ) -> Result<(), NoMemory>
-    ensures { OnOk result (out.new.items ≡ out.old.items ++ where_text names.now steps.now select.now) }
+    ensures ok { OnOk result (out.new.items ≡ out.old.items ++ where_text names.now steps.now select.now) }
+    ensures err { OnErr result (StartsWith out.new.items out.old.items) }
 {
     append_all(names, steps, select, out)?;
     append_but(names, steps, select, out)
@@ -215,7 +227,8 @@ fn append_rest(
     select: &Select,
     out: &mut Vec<u8>,
 ) -> Result<(), NoMemory>
-    ensures { OnOk result (out.new.items ≡ out.old.items ++ rest_text names.now steps.now select.now) }
+    ensures ok { OnOk result (out.new.items ≡ out.old.items ++ rest_text names.now steps.now select.now) }
+    ensures err { OnErr result (StartsWith out.new.items out.old.items) }
 {
     append(" FROM ", out)?;
     append_sources(names, steps, select.sources.as_slice(), out)?;
@@ -224,7 +237,8 @@ fn append_rest(
 
 /// Appends the name of a column that is a variable's, unless it has it.
 fn append_name(source: Source, variable: u32, out: &mut Vec<u8>) -> Result<(), NoMemory>
-    ensures { OnOk result (out.new.items ≡ out.old.items ++ named_text source variable) }
+    ensures ok { OnOk result (out.new.items ≡ out.old.items ++ named_text source variable) }
+    ensures err { OnErr result (StartsWith out.new.items out.old.items) }
 {
     match source {
         Source::Table(_) => {
@@ -244,7 +258,8 @@ fn append_out(
     place: usize,
     out: &mut Vec<u8>,
 ) -> Result<(), NoMemory>
-    ensures { OnOk result (out.new.items ≡ out.old.items ++ out_text names.now steps.now select.now columns.now place) }
+    ensures ok { OnOk result (out.new.items ≡ out.old.items ++ out_text names.now steps.now select.now columns.now place) }
+    ensures err { OnErr result (StartsWith out.new.items out.old.items) }
 {
     let cell = cell_at(select, place);
     append_cell(names, steps, select.sources.as_slice(), cell, out)?;
@@ -260,7 +275,8 @@ fn append_columns(
     select: &Select,
     out: &mut Vec<u8>,
 ) -> Result<(), NoMemory>
-    ensures { OnOk result (out.new.items ≡ out.old.items ++ columns_text names.now steps.now columns.now select.now) }
+    ensures ok { OnOk result (out.new.items ≡ out.old.items ++ columns_text names.now steps.now columns.now select.now) }
+    ensures err { OnErr result (StartsWith out.new.items out.old.items) }
 {
     for place in 0..select.cells.len() {
         separate(place, ", ", out)?;
@@ -277,7 +293,8 @@ fn append_outs(
     select: &Select,
     out: &mut Vec<u8>,
 ) -> Result<(), NoMemory>
-    ensures { OnOk result (out.new.items ≡ out.old.items ++ outs_text names.now steps.now columns.now select.now) }
+    ensures ok { OnOk result (out.new.items ≡ out.old.items ++ outs_text names.now steps.now columns.now select.now) }
+    ensures err { OnErr result (StartsWith out.new.items out.old.items) }
 {
     if select.cells.is_empty() {
         return append("1 AS one", out);
@@ -293,7 +310,8 @@ fn append_select(
     select: &Select,
     out: &mut Vec<u8>,
 ) -> Result<(), NoMemory>
-    ensures { OnOk result (out.new.items ≡ out.old.items ++ select_text names.now steps.now columns.now select.now) }
+    ensures ok { OnOk result (out.new.items ≡ out.old.items ++ select_text names.now steps.now columns.now select.now) }
+    ensures err { OnErr result (StartsWith out.new.items out.old.items) }
 {
     append_outs(names, steps, columns, select, out)?;
     append_rest(names, steps, select, out)
@@ -307,7 +325,8 @@ fn append_distinct(
     select: &Select,
     out: &mut Vec<u8>,
 ) -> Result<(), NoMemory>
-    ensures { OnOk result (out.new.items ≡ out.old.items ++ distinct_text names.now steps.now columns.now select.now) }
+    ensures ok { OnOk result (out.new.items ≡ out.old.items ++ distinct_text names.now steps.now columns.now select.now) }
+    ensures err { OnErr result (StartsWith out.new.items out.old.items) }
 {
     append("SELECT DISTINCT ", out)?;
     append_select(names, steps, columns, select, out)
@@ -321,7 +340,8 @@ fn append_other(
     other: &Select,
     out: &mut Vec<u8>,
 ) -> Result<(), NoMemory>
-    ensures { OnOk result (out.new.items ≡ out.old.items ++ other_text names.now steps.now columns.now other.now) }
+    ensures ok { OnOk result (out.new.items ≡ out.old.items ++ other_text names.now steps.now columns.now other.now) }
+    ensures err { OnErr result (StartsWith out.new.items out.old.items) }
 {
     append("\n  EXCEPT SELECT ", out)?;
     append_select(names, steps, columns, other, out)
@@ -336,7 +356,8 @@ fn append_except(
     other: &Select,
     out: &mut Vec<u8>,
 ) -> Result<(), NoMemory>
-    ensures { OnOk result (out.new.items ≡ out.old.items ++ except_text names.now steps.now columns.now select.now other.now) }
+    ensures ok { OnOk result (out.new.items ≡ out.old.items ++ except_text names.now steps.now columns.now select.now other.now) }
+    ensures err { OnErr result (StartsWith out.new.items out.old.items) }
 {
     append("SELECT ", out)?;
     append_select(names, steps, columns, select, out)?;
@@ -351,7 +372,8 @@ fn append_body(
     body: &Body,
     out: &mut Vec<u8>,
 ) -> Result<(), NoMemory>
-    ensures { OnOk result (out.new.items ≡ out.old.items ++ body_text names.now steps.now columns.now body.now) }
+    ensures ok { OnOk result (out.new.items ≡ out.old.items ++ body_text names.now steps.now columns.now body.now) }
+    ensures err { OnErr result (StartsWith out.new.items out.old.items) }
 {
     match body {
         Body::Distinct(select) => append_distinct(names, steps, columns, select, out),
@@ -366,7 +388,8 @@ fn append_step(
     step: &Step,
     out: &mut Vec<u8>,
 ) -> Result<(), NoMemory>
-    ensures { OnOk result (out.new.items ≡ out.old.items ++ step_text names.now steps.now step.now) }
+    ensures ok { OnOk result (out.new.items ≡ out.old.items ++ step_text names.now steps.now step.now) }
+    ensures err { OnErr result (StartsWith out.new.items out.old.items) }
 {
     append_step_name(step.kind, step.level, out)?;
     append(" AS (\n  ", out)?;
@@ -376,7 +399,8 @@ fn append_step(
 
 /// Appends all steps.
 fn append_steps(names: &Names, steps: &[Step], out: &mut Vec<u8>) -> Result<(), NoMemory>
-    ensures { OnOk result (out.new.items ≡ out.old.items ++ steps_text names.now steps.now) }
+    ensures ok { OnOk result (out.new.items ≡ out.old.items ++ steps_text names.now steps.now) }
+    ensures err { OnErr result (StartsWith out.new.items out.old.items) }
 {
     for place in 0..steps.len() {
         separate(place, ",\n", out)?;
@@ -394,7 +418,8 @@ fn append_answer(
     place: usize,
     out: &mut Vec<u8>,
 ) -> Result<(), NoMemory>
-    ensures { OnOk result (out.new.items ≡ out.old.items ++ answer_text query.now names.now steps.now select.now place) }
+    ensures ok { OnOk result (out.new.items ≡ out.old.items ++ answer_text query.now names.now steps.now select.now place) }
+    ensures err { OnErr result (StartsWith out.new.items out.old.items) }
 {
     append_cell(
         names,
@@ -416,7 +441,8 @@ fn append_answer_columns(
     select: &Select,
     out: &mut Vec<u8>,
 ) -> Result<(), NoMemory>
-    ensures { OnOk result (out.new.items ≡ out.old.items ++ answer_columns_text query.now names.now steps.now select.now) }
+    ensures ok { OnOk result (out.new.items ≡ out.old.items ++ answer_columns_text query.now names.now steps.now select.now) }
+    ensures err { OnErr result (StartsWith out.new.items out.old.items) }
 {
     for place in 0..select.cells.len() {
         separate(place, ", ", out)?;
@@ -433,7 +459,8 @@ fn append_answers(
     select: &Select,
     out: &mut Vec<u8>,
 ) -> Result<(), NoMemory>
-    ensures { OnOk result (out.new.items ≡ out.old.items ++ answers_text query.now names.now steps.now select.now) }
+    ensures ok { OnOk result (out.new.items ≡ out.old.items ++ answers_text query.now names.now steps.now select.now) }
+    ensures err { OnErr result (StartsWith out.new.items out.old.items) }
 {
     if select.cells.is_empty() {
         append("1 AS ", out)?;
@@ -449,7 +476,8 @@ fn append_end(
     last: &Select,
     out: &mut Vec<u8>,
 ) -> Result<(), NoMemory>
-    ensures { OnOk result (out.new.items ≡ out.old.items ++ end_text names.now steps.now last.now) }
+    ensures ok { OnOk result (out.new.items ≡ out.old.items ++ end_text names.now steps.now last.now) }
+    ensures err { OnErr result (StartsWith out.new.items out.old.items) }
 {
     append_rest(names, steps, last, out)?;
     append(";\n", out)
@@ -463,7 +491,8 @@ fn append_last(
     last: &Select,
     out: &mut Vec<u8>,
 ) -> Result<(), NoMemory>
-    ensures { OnOk result (out.new.items ≡ out.old.items ++ last_text query.now names.now steps.now last.now) }
+    ensures ok { OnOk result (out.new.items ≡ out.old.items ++ last_text query.now names.now steps.now last.now) }
+    ensures err { OnErr result (StartsWith out.new.items out.old.items) }
 {
     append("\nSELECT DISTINCT ", out)?;
     append_answers(query, names, steps, last, out)?;
@@ -474,14 +503,15 @@ fn append_last(
 ///
 /// # Errors
 ///
-/// `NoMemory` where memory is refused.
+/// `NoMemory` where memory is refused; `out` still begins with what it had then.
 pub fn append_sql(
     query: &Query,
     names: &Names,
     sql: &Sql,
     out: &mut Vec<u8>,
 ) -> Result<(), NoMemory>
-    ensures { OnOk result (out.new.items ≡ out.old.items ++ sql_bytes query.now names.now sql.now) }
+    ensures ok { OnOk result (out.new.items ≡ out.old.items ++ sql_bytes query.now names.now sql.now) }
+    ensures err { OnErr result (StartsWith out.new.items out.old.items) }
 {
     append("WITH ", out)?;
     append_steps(names, sql.steps.as_slice(), out)?;

@@ -1,10 +1,10 @@
 //! Numbering the edges of rows.
 //! Rows with one list of values have one edge, and each row without a list has an edge of its own.
 
-ghost use Rattle.std.specs.Prelude.{◌≡◌, ◌+◌, ◌<◌, ◌≤◌, ◌^◌, ℕ, IfOk, length, slice_index};
+ghost use Rattle.std.specs.Prelude.{◌≡◌, ◌+◌, ◌<◌, ◌^◌, ℕ, IfOk, length, slice_index};
 ghost use Rattle.std.specs.BTreeMap.{get};
 ghost use Rattle.cqa_value.specs.Values.{row_cmp};
-ghost use Rattle.weak_pairs.specs.EdgeNumbers.{AreNumbersSoFar, IsNext};
+ghost use Rattle.weak_pairs.specs.EdgeNumbers.{IsNext};
 ghost use Rattle.weak_pairs.specs.Numbering.{AreEdges};
 
 use cqa_value::{NoMemory, Row};
@@ -31,7 +31,7 @@ fn number(
 }
 
 /// The number of each row's edge, and how many numbers there are: rows with one list have one number, and each row without a
-/// list has a number of its own.
+/// list has a number of its own. No number below that is left out.
 ///
 /// # Errors
 ///
@@ -41,6 +41,7 @@ pub fn edge_numbers(alloc: Global, lists: &[Option<Row>]) -> Result<(Vec<u32>, u
     ensures edges { IfOk result (λ r. AreEdges lists.now (length lists.now) r.0.items) }
     ensures size { IfOk result (λ r. length r.0.items ≡ length lists.now) }
     ensures small { IfOk result (λ r. (i : ℕ) → i < length lists.now → slice_index r.0.items i < r.1) }
+    ensures used { IfOk result (λ r. (e : ℕ) → e < r.1 → (i : ℕ) × (i < length lists.now) × (slice_index r.0.items i ≡ e)) }
 {
     let mut map = BTreeMap::new(alloc);
     let mut edge = Vec::new(alloc);

@@ -1,8 +1,8 @@
 //! The ends of edges.
 //! An edge occurs in at most one block of each table.
 
-ghost use Rattle.std.specs.Prelude.{◌≡◌, ◌+◌, ◌<◌, ℕ, IfOk, None, length, slice_index_or};
-ghost use Rattle.weak_pairs.specs.Layout.{AreEndsSoFar, AreRows, IsOneSided, set_end};
+ghost use Rattle.std.specs.Prelude.{◌≡◌, ◌+◌, ◌<◌, ℕ, IfOk, None, length};
+ghost use Rattle.weak_pairs.specs.Layout.{AreRows, IsOneSided, set_end};
 ghost use Rattle.weak_pairs.specs.Peeling.{AreLaidOut, ends_of};
 
 use crate::peel::Ends;

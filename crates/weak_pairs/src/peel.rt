@@ -10,10 +10,8 @@ ghost use Rattle.weak_pairs.specs.Peeling.{
   AreOpen,
   ArePeeled,
   HasOne,
-  HasTwo,
   In,
   IsBlock,
-  IsForced,
   IsFree,
   IsLeft,
   IsOther,
@@ -25,8 +23,6 @@ ghost use Rattle.weak_pairs.specs.Peeling.{
   IsStep,
   IsStuck,
   IsTaken,
-  Occurs,
-  open_count,
   row_of,
 };
 

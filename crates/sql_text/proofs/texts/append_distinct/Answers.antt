@@ -3,6 +3,6 @@ use Rattle.std.proofs.lemmas.Grind.{common_steps}
 use Rattle.sql_text.specs.Texts.{distinct_text}
 use Rattle.sql_text.proofs.texts.append_distinct.Goals as goal
 
-pub returns : goal.returns
+pub returns-clause-ok : goal.returns-clause-ok
 unfolding distinct_text
-returns c = grind (arith, common_steps)
+returns-clause-ok c = grind (arith, common_steps)

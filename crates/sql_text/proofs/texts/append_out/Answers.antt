@@ -3,6 +3,6 @@ use Rattle.std.proofs.lemmas.Grind.{common_steps}
 use Rattle.sql_text.specs.Texts.{out_text}
 use Rattle.sql_text.proofs.texts.append_out.Goals as goal
 
-pub returns : goal.returns
+pub returns-clause-ok : goal.returns-clause-ok
 unfolding out_text
-returns c = grind (arith, common_steps)
+returns-clause-ok c = grind (arith, common_steps)
