@@ -1,7 +1,7 @@
 -- Pieces one after the other, the places at which they begin, and the piece for a place.
 use Rattle.std.proofs.Common.{◌≡◌, ℕ, zero, suc, ◌+◌, ◌-◌, ◌<◌, ◌≤◌, Bool, true, false, List, [], ◌∷◌, ◌++◌, length, take, drop, get_or, set, refl, sym, ap, subst, ◌∙◌, arith, leb, Some, slice_get, not, eqb, cond, filter}
 use Rattle.std.specs.List.Sorted.{IsPartitionedBy, IsPartitionPoint}
-use Rattle.std.proofs.lemmas.List.{append-nil, length-append, length-drop, length-take, nil_from_length, take-append-drop, take-take, take_more, drop_more, take_all, set_split, drop-append-le, drop-take, get_or-append-add, get_or-append_right, get_or_append_left, get_or-take}
+use Rattle.std.proofs.lemmas.List.{append-nil, length-append, length-drop, length-take, nil_from_length, take-append-drop, take-take, take_more, take_more_set, drop_more, take_all, set_split, drop-append-le, drop-take, get_or-append-add, get_or-append_right, get_or_append_left, get_or-take}
 use Rattle.std.proofs.lemmas.List.Concat.{flat_map-append}
 use Rattle.std.proofs.lemmas.Option.{get_or_from_slice_get, slice_get_within, slice_get-get_or}
 use Rattle.std.proofs.lemmas.Bool.{eqb-true, le-leb, leb-true, leb-false}
@@ -93,6 +93,14 @@ numbered_push from [] q n e = (omega (arith, e), tt)
 numbered_push from (p ∷ ps) q n e =
     let a = length-append p.rows.items (joined ps) in
     (n.0, numbered_push (from + length p.rows.items) ps q n.1 (omega (arith, e, a)))
+
+-- the last piece may have other rows
+pub numbered_reset : (from : ℕ) (ps : List Piece) (at : ℕ) (p q : Piece) → length ps ≡ at + 1 → p ≡ get_or ps at p → q.start ≡ p.start → AreNumbered from ps → AreNumbered from (take (length ps) (set ps at q))
+numbered_reset from ps at p q last is e numbered =
+    let there : at < length ps = omega (arith, last) in
+    let start = numbered_at from ps at p numbered there in
+    let front : take (length ps) (set ps at q) ≡ take at ps ++ q ∷ [] = ap (λ n. take n (set ps at q)) last ∙ take_more_set ps at q there in
+    subst (λ qs. AreNumbered from qs) (sym front) (numbered_push from (take at ps) q (numbered_take from ps at numbered) (e ∙ ap (λ z. z.start) is ∙ start))
 
 -- ---- the piece for a place
 

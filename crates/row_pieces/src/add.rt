@@ -1,7 +1,7 @@
 //! Rows that go behind all those of pieces.
 
-ghost use Rattle.std.specs.Prelude.{◌≡◌, ◌++◌, OnOk, OnErr, [], reverse};
-ghost use Rattle.row_pieces.specs.Joined.{joined};
+ghost use Rattle.std.specs.Prelude.{◌≡◌, ◌≤◌, ◌++◌, OnOk, OnErr, [], length, reverse, take};
+ghost use Rattle.row_pieces.specs.Joined.{joined, AreNumbered};
 
 use crate::piece::{MOST_IN_PIECE, Piece};
 use cqa_value::{NoMemory, Row};
@@ -51,6 +51,8 @@ fn move_behind(
     requires { cut.old.items ≡ [] }
     ensures ok { OnOk result (joined pieces.new.items ≡ joined pieces.old.items ++ rows.old.items) }
     ensures err { OnErr result (joined pieces.new.items ≡ joined pieces.old.items) }
+    ensures more { OnOk result (length pieces.old.items ≤ length pieces.new.items) }
+    ensures front { OnOk result (take (length pieces.old.items) pieces.new.items ≡ pieces.old.items) }
 {
     cut_all(rows, cut)?;
     cut.reverse();
@@ -66,6 +68,8 @@ fn move_behind(
 fn add_pieces(pieces: &mut Vec<Piece>, rows: &mut Vec<Row>) -> Result<(), NoMemory>
     ensures ok { OnOk result (joined pieces.new.items ≡ joined pieces.old.items ++ rows.old.items) }
     ensures err { OnErr result (joined pieces.new.items ≡ joined pieces.old.items) }
+    ensures more { OnOk result (length pieces.old.items ≤ length pieces.new.items) }
+    ensures front { OnOk result (take (length pieces.old.items) pieces.new.items ≡ pieces.old.items) }
 {
     let mut cut = Vec::new(*rows.allocator());
     let done = move_behind(pieces, rows, &mut cut);
@@ -73,7 +77,7 @@ fn add_pieces(pieces: &mut Vec<Piece>, rows: &mut Vec<Row>) -> Result<(), NoMemo
     done
 }
 
-/// Puts rows behind all those of pieces: in the last one if that has room for them.
+/// Puts rows behind all those of pieces: in the last one if that has room for them. The pieces keep their places.
 ///
 /// # Errors
 ///
@@ -81,6 +85,8 @@ fn add_pieces(pieces: &mut Vec<Piece>, rows: &mut Vec<Row>) -> Result<(), NoMemo
 pub fn add_behind(pieces: &mut Vec<Piece>, rows: &mut Vec<Row>) -> Result<(), NoMemory>
     ensures ok { OnOk result (joined pieces.new.items ≡ joined pieces.old.items ++ rows.old.items) }
     ensures err { OnErr result (joined pieces.new.items ≡ joined pieces.old.items) }
+    ensures more { OnOk result (length pieces.old.items ≤ length pieces.new.items) }
+    ensures kept { OnOk result (AreNumbered 0 pieces.old.items → AreNumbered 0 (take (length pieces.old.items) pieces.new.items)) }
 {
     let count = pieces.len();
     if count == 0 || pieces[count - 1].rows.len() + rows.len() > MOST_IN_PIECE {

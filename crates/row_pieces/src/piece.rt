@@ -6,7 +6,7 @@ ghost use Rattle.row_pieces.specs.Joined.{joined, AreNumbered, IsPieceOf};
 use cqa_value::Row;
 
 /// The most rows that a piece is left with where memory is had to cut it.
-pub const MOST_IN_PIECE: usize = 1024;
+pub const MOST_IN_PIECE: usize = 256;
 
 /// Some rows one after the other, with the place of the first of them.
 #[derive(Drop)]

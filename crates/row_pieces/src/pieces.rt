@@ -8,14 +8,15 @@ ghost use Rattle.row_pieces.specs.Inserted.{with_items, AreRising};
 use crate::piece::{Piece, renumber};
 use crate::put::put;
 use crate::rows::Rows;
-use crate::take::{drop_empty, exchange_each, retain_each};
+use crate::take::{drop_emptied, exchange_each, retain_each};
 use cqa_value::{NoMemory, Row};
 use std::alloc::Global;
 use std::marker::Model;
 
-/// Rows one after the other, in pieces of a few hundred, so that to put one in or to take it out moves those of a piece and
-/// not all behind it. A piece is begun only where another one is full, or has no room for all rows that go behind it, and
-/// goes with the last of its rows. Pieces that removals leave small aren't joined, so there may be as many as rows.
+/// Rows one after the other, in pieces of up to some hundred, so that to put one in or to take it out moves those of a piece
+/// and not all behind it. A piece is begun only where another one is full, or has no room for all rows that go behind it, and
+/// goes when a removal takes the last of its rows; an insert that is refused may leave one without rows. Pieces that removals
+/// leave small aren't joined, so there may be as many as rows.
 #[derive(Drop)]
 pub struct Pieces {
     pieces: Vec<Piece>,
@@ -86,9 +87,9 @@ impl Pieces {
         ensures retained { (p : List Cell → Bool) → ComputesKey P.FnMut p stays → self.new ≡ (take from self.old ++ filter p (take (to - from) (drop from self.old))) ++ drop to self.old }
         ensures fewer { length self.new ≤ length self.old }
     {
-        retain_each(self.pieces.as_mut_slice(), from, to, stays);
-        drop_empty(&mut self.pieces);
-        self.count = renumber(self.pieces.as_mut_slice(), 0);
+        let (first, emptied) = retain_each(self.pieces.as_mut_slice(), from, to, stays);
+        let kept = drop_emptied(&mut self.pieces, first, emptied);
+        self.count = renumber(self.pieces.as_mut_slice(), kept);
     }
 
     /// Exchanges all rows for as many others.

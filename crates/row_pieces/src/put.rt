@@ -132,7 +132,7 @@ fn put_each(
 ///
 /// # Errors
 ///
-/// `NoMemory` where memory is refused; the rows stay as they are then.
+/// `NoMemory` where memory is refused; the pieces hold the same rows as before then.
 pub fn put(
     pieces: &mut Vec<Piece>,
     count: usize,
@@ -152,8 +152,9 @@ pub fn put(
         return Err(NoMemory);
     }
     if !places.is_empty() && places[0] == count {
+        let kept = pieces.len();
         add_behind(pieces, rows)?;
-        return Ok(0);
+        return Ok(kept);
     }
     if pieces.is_empty() {
         pieces.push(Piece {

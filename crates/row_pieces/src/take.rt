@@ -25,22 +25,26 @@ fn retain_some<P: FnMut(&Row) -> bool>(rows: &mut Vec<Row>, from: usize, to: usi
     retain_range(rows, from, to.min(len), stays)
 }
 
-/// Takes the rows of a stretch away that don't pass a test, from the piece on in which it begins. A piece may have none left.
+/// Takes the rows of a stretch away that don't pass a test, from the piece on in which it begins. Gives the number of pieces
+/// before that one, which have their places still, and whether a piece has none left.
 pub fn retain_each<P: FnMut(&Row) -> bool>(
     pieces: &mut [Piece],
     from: usize,
     to: usize,
     mut stays: P,
-)
+) -> (usize, bool)
     requires callable { P.IsAlwaysCallable stays }
     requires order { from ≤ to }
     requires within { from ≤ length (joined pieces.old) }
     requires numbered { AreNumbered 0 pieces.old }
     ensures kept { (p : List Cell → Bool) → ComputesKey P.FnMut p stays → joined pieces.new ≡ retained p from to (joined pieces.old) }
     ensures fewer { length (joined pieces.new) ≤ length (joined pieces.old) }
+    ensures within { result.0 ≤ length pieces.new }
+    ensures numbered { AreNumbered 0 (take result.0 pieces.new) }
 {
+    let mut emptied = false;
     if pieces.is_empty() {
-        return;
+        return (0, emptied);
     }
     let first = piece_of(pieces, from);
     let start = pieces[first].start;
@@ -50,19 +54,36 @@ pub fn retain_each<P: FnMut(&Row) -> bool>(
         let piece = &mut pieces[at];
         let len = piece.rows.len();
         stays = retain_some(&mut piece.rows, low, high, stays);
+        emptied |= piece.rows.is_empty();
         low = low.saturating_sub(len);
         high = high.saturating_sub(len);
         if high == 0 {
-            return;
+            return (first, emptied);
         }
     }
+    (first, emptied)
 }
 
 /// Takes the pieces without rows away.
-pub fn drop_empty(pieces: &mut Vec<Piece>)
+fn drop_empty(pieces: &mut Vec<Piece>)
     ensures { joined pieces.new.items ≡ joined pieces.old.items }
 {
     pieces.retain(|piece| !piece.rows.is_empty());
+}
+
+/// Takes the pieces without rows away where one was emptied, and gives the number of pieces that have their places still.
+pub fn drop_emptied(pieces: &mut Vec<Piece>, kept: usize, emptied: bool) -> usize
+    requires within { kept ≤ length pieces.old.items }
+    requires numbered { AreNumbered 0 (take kept pieces.old.items) }
+    ensures joined { joined pieces.new.items ≡ joined pieces.old.items }
+    ensures within { result ≤ length pieces.new.items }
+    ensures numbered { AreNumbered 0 (take result pieces.new.items) }
+{
+    if !emptied {
+        return kept;
+    }
+    drop_empty(pieces);
+    0
 }
 
 /// Exchanges rows for as many others, from a place on.

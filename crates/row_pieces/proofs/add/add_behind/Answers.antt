@@ -1,9 +1,9 @@
-use Rattle.std.proofs.Common.{◌≡◌, ◌+◌, ◌-◌, ◌<◌, ◌++◌, length, take, drop, sym, ap, ◌∙◌, arith}
+use Rattle.std.proofs.Common.{◌≡◌, ◌+◌, ◌-◌, ◌<◌, ◌++◌, length, take, drop, refl, sym, ap, ◌∙◌, arith}
 use Rattle.std.proofs.lemmas.List.{append-nil, append_assoc, drop_all}
 use Rattle.std.proofs.lemmas.Result.{err_from_is_err_and}
 use Rattle.row_pieces.specs.declared.piece.Piece.{Piece}
 use Rattle.row_pieces.specs.Joined.{joined}
-use Rattle.row_pieces.proofs.Joining.{joined_at, joined_same, joined_set}
+use Rattle.row_pieces.proofs.Joining.{joined_at, joined_same, joined_set, numbered_reset}
 use Rattle.row_pieces.proofs.add.add_behind.Goals as goal
 
 pub returns-in_err-append-clause-err : goal.returns-in_err-append-clause-err
@@ -42,3 +42,14 @@ returns-clause-ok c =
     ∙ ap (λ xs. before ++ xs) (append-nil new.rows.items ∙ c.in_ok-append.ensures.items)
     ∙ sym (append_assoc before piece.rows.items rows)
     ∙ ap (λ xs. xs ++ rows) (sym whole)
+
+pub returns-clause-kept : goal.returns-clause-kept
+returns-clause-kept c numbered =
+    let ps = c.args.pieces.now.items in
+    let at = c.len-count.result - 1 in
+    let piece = c.index_mut-last.result.now in
+    let count = c.len-count.ensures in
+    let held = c.args.pieces.now.ok.0 in
+    let some = c.if-count-eq0.false in
+    let new : Piece = record { start = piece.start; rows = c.append.new.self } in
+    numbered_reset 0 ps at piece new (omega (arith, count, held, some)) c.index_mut-last.ensures.value refl numbered

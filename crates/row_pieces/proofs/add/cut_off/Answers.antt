@@ -16,6 +16,6 @@ loop-rows-preserved c =
     ∙ ap (λ qs. front ++ joined qs) (reverse-append cut (piece ∷ []))
     ∙ sym (append_assoc front rest behind)
     ∙ ap (λ xs. (xs ++ rest) ++ behind) c.in_ok-rest.ensures.items
-    ∙ ap (λ xs. (take (c.len-in-loop-rows.result - 1024) rows ++ xs) ++ behind) c.in_ok-rest.ensures.tail
-    ∙ ap (λ xs. xs ++ behind) (take-append-drop (c.len-in-loop-rows.result - 1024) rows)
+    ∙ ap (λ xs. (take (c.len-in-loop-rows.result - 256) rows ++ xs) ++ behind) c.in_ok-rest.ensures.tail
+    ∙ ap (λ xs. xs ++ behind) (take-append-drop (c.len-in-loop-rows.result - 256) rows)
     ∙ c.loop-rows.invariant

@@ -1,9 +1,9 @@
-use Rattle.std.proofs.Common.{◌-◌, ◌+◌, ◌<◌, ◌++◌, [], length, take, drop, get_or, set, ap, sym, ◌∙◌, arith}
-use Rattle.std.proofs.lemmas.List.{get_or_default}
+use Rattle.std.proofs.Common.{◌-◌, ◌+◌, ◌<◌, ◌++◌, [], length, take, drop, get_or, set, refl, ap, subst, sym, ◌∙◌, arith}
+use Rattle.std.proofs.lemmas.List.{get_or_default, take-set-le}
 use Rattle.std.proofs.lemmas.Grind.{common_steps}
 use Rattle.row_pieces.specs.declared.piece.Piece.{Piece}
-use Rattle.row_pieces.specs.Joined.{joined}
-use Rattle.row_pieces.proofs.Joining.{joined_parts}
+use Rattle.row_pieces.specs.Joined.{joined, AreNumbered}
+use Rattle.row_pieces.proofs.Joining.{joined_parts, numbered_take}
 use Rattle.row_pieces.proofs.Retaining.{fewer_set, first_begins, retained_first, retained_next, retained_none}
 use Rattle.row_pieces.proofs.take.retain_each.Goals as goal
 
@@ -45,6 +45,19 @@ returns-then-high-eq0-clause-fewer g c =
     let less = fewer_set ps at old new there is c.retain_some-stays.ensures.fewer in
     omega (arith, so_far, less)
 
+pub returns-then-high-eq0-clause-numbered : goal.returns-then-high-eq0-clause-numbered
+returns-then-high-eq0-clause-numbered g c =
+    let ps = c.loop-at.pieces in
+    let at = c.loop-at.at in
+    let old = get_or ps at c.index-pieces-at.result in
+    let new : Piece = record { start = old.start; rows = c.retain_some-stays.new.rows } in
+    let first = c.piece_of-first.result in
+    let front = take-set-le first ps at new c.loop-at.invariant.begun ∙ c.loop-at.invariant.front in
+    subst (λ qs. AreNumbered 0 qs) (sym front) (numbered_take 0 c.args.pieces.now first c.requires.numbered)
+
+pub returns-clause-numbered : goal.returns-clause-numbered
+returns-clause-numbered g c = subst (λ qs. AreNumbered 0 qs) (sym c.loop-at.invariant.front) (numbered_take 0 c.args.pieces.now c.piece_of-first.result c.requires.numbered)
+
 pub loop-at-preserved : goal.loop-at-preserved
 loop-at-preserved g c =
     let ps = c.loop-at.pieces in
@@ -62,7 +75,10 @@ loop-at-preserved g c =
     let order = c.loop-at.invariant.order in
     let so_far = c.loop-at.invariant.fewer in
     let less = fewer_set ps at old new there is c.retain_some-stays.ensures.fewer in
+    let begun = c.loop-at.invariant.begun in
     record {
+      begun = omega (arith, begun);
+      front = take-set-le c.piece_of-first.result ps at new begun ∙ c.loop-at.invariant.front;
       order = omega (arith, low, high, order);
       callable = c.retain_some-stays.ensures.callable;
       fewer = omega (arith, so_far, less);
@@ -106,6 +122,8 @@ loop-at-init g c =
     let start = begins.0 in
     let begun = begins.1 in
     record {
+      begun = omega arith;
+      front = refl;
       order = omega (arith, order);
       callable = c.requires.callable;
       fewer = omega arith;

@@ -9,6 +9,8 @@ use Rattle.row_pieces.proofs.take.retain_each.Given as goal
 -- the pieces so far are done, and the others are as they were
 abbrev pub invariant-loop-at : goal.invariant-loop-at
 invariant-loop-at g l = record {
+  begun : l.first ≤ l.at;
+  front : take l.first l.pieces ≡ take l.first l.initial.pieces;
   order : l.low ≤ l.high;
   callable : always_mut g.P.FnMut l.stays;
   fewer : length (joined l.pieces) ≤ length (joined l.initial.pieces);

@@ -1,23 +1,24 @@
 use Rattle.std.proofs.Common.{◌≡◌, ◌+◌, ◌-◌, ◌/◌, true, false, arith, sym, subst, ◌∙◌}
 use Rattle.std.specs.List.{HoldsAt}
-use Rattle.std.proofs.lemmas.Option.{get_or_from_slice_get}
 use borrow.Author.Rules.{of_calls}
 use Rattle.row_pieces.proofs.Answering.{answers}
-use Rattle.row_pieces.proofs.Halving.{front_passes, back_fails}
+use Rattle.row_pieces.proofs.Halving.{front_passes, back_fails, seen_near}
 use Rattle.row_pieces.proofs.rows.Rows.partition_point.Goals as goal
 
 pub loop-low-preserved-then-passes : goal.loop-low-preserved-then-passes
 loop-low-preserved-then-passes g c =
     let middle = c.loop-low.low + (c.loop-low.high - c.loop-low.low) / 2 in
     let inside = c.loop-low-test.true in
+    let begun = c.loop-low.invariant.begun in
     let within = c.loop-low.invariant.within in
     record {
+      begun = omega (arith, begun, inside);
       order = omega (arith, inside);
       within = within;
       callable = search of_calls;
       halves = λ p k. (let i = c.loop-low.invariant.halves p k in
           let n = answers p i.0 c.passes.ensures in
-          let there : HoldsAt (λ y. p y ≡ true) c.args.self.now middle = λ d. subst (λ y. p y ≡ true) (sym (get_or_from_slice_get c.args.self.now middle c.get.result.now d c.get.ensures)) (sym n.1 ∙ c.if-passes.true) in
+          let there : HoldsAt (λ y. p y ≡ true) c.args.self.now middle = λ d. subst (λ y. p y ≡ true) (sym (seen_near c.args.self.now c.behind-near.result c.narrow-from.result.0 middle c.get.result.now d c.behind-near.ensures (omega (arith, begun)) c.get.ensures)) (sym n.1 ∙ c.if-passes.true) in
           (n.0, λ s. (front_passes p c.args.self.now middle s (omega (arith, inside, within)) there, (i.1 s).1)));
     }
 
@@ -25,13 +26,15 @@ pub loop-low-preserved : goal.loop-low-preserved
 loop-low-preserved g c =
     let middle = c.loop-low.low + (c.loop-low.high - c.loop-low.low) / 2 in
     let inside = c.loop-low-test.true in
+    let begun = c.loop-low.invariant.begun in
     let within = c.loop-low.invariant.within in
     record {
+      begun = omega (arith, begun, inside);
       order = omega (arith, inside);
       within = omega (arith, inside, within);
       callable = search of_calls;
       halves = λ p k. (let i = c.loop-low.invariant.halves p k in
           let n = answers p i.0 c.passes.ensures in
-          let there : HoldsAt (λ y. p y ≡ false) c.args.self.now middle = λ d. subst (λ y. p y ≡ false) (sym (get_or_from_slice_get c.args.self.now middle c.get.result.now d c.get.ensures)) (sym n.1 ∙ c.if-passes.false) in
+          let there : HoldsAt (λ y. p y ≡ false) c.args.self.now middle = λ d. subst (λ y. p y ≡ false) (sym (seen_near c.args.self.now c.behind-near.result c.narrow-from.result.0 middle c.get.result.now d c.behind-near.ensures (omega (arith, begun)) c.get.ensures)) (sym n.1 ∙ c.if-passes.false) in
           (n.0, λ s. ((i.1 s).0, back_fails p c.args.self.now middle s (omega (arith, inside, within)) there)));
     }

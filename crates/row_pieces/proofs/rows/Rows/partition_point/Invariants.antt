@@ -9,6 +9,7 @@ use Rattle.row_pieces.proofs.rows.Rows.partition_point.Given as goal
 -- the test answers as before, holds below the one place and fails from the other on
 abbrev pub invariant-loop-low : goal.invariant-loop-low
 invariant-loop-low g l = record {
+  begun : l.from ≤ l.low;
   order : l.low ≤ l.high;
   within : l.high ≤ length l.self;
   callable : always_mut g.P.FnMut l.passes;
