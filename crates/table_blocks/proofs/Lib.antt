@@ -17,3 +17,4 @@ pub mod Sharing
 pub mod ByKey
 pub mod Reordering
 pub mod Taking
+pub mod BlockEnds

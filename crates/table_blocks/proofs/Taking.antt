@@ -70,12 +70,6 @@ all_kept key stored rows at ended so_far consistent =
 pub consistent_within : (key : List ℕ) (all some : List (List Value)) → AreConsistent key all → ((row : List Value) → Contains some row → Contains all row) → AreConsistent key some
 consistent_within key all some c within x y mx my s = c x y (within x mx) (within y my) s
 
--- at most one row
-pub unbroken_short : (key : List ℕ) (rows : List (List Value)) → length rows ≤ 1 → broken_fault key rows ≡ None
-unbroken_short key [] l = refl
-unbroken_short key (x ∷ []) l = refl
-unbroken_short key (x ∷ y ∷ rows) l = absurd (omega (arith, l))
-
 -- neighbours have different keys where no two are at fault
 neighbours : (key : List ℕ) (rows : List (List Value)) → broken_fault key rows ≡ None → (i : ℕ) (d : List Value) → suc i < length rows → same_key key (get_or rows i d) (get_or rows (suc i) d) ≡ false
 neighbours key [] e i d l = absurd (omega (arith, l))

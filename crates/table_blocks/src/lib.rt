@@ -1,6 +1,7 @@
 //! The tables of a database, each a list of rows in block order.
 #![tactic(auto)]
 
+mod blocks;
 mod cells;
 mod check;
 mod database;
@@ -14,6 +15,7 @@ mod steps;
 mod table;
 mod test;
 
+pub use blocks::{block_end, same_key};
 pub use cells::{cell, same_value, value_or};
 pub use database::Database;
 pub use probe::Probe;
