@@ -21,8 +21,11 @@ IsAttacked q view G = (F : ℕ) × Attacks q view F G
 abbrev pub IsStuck : Query → View → Type 0
 IsStuck q view = (G : ℕ) → view.has G → IsAttacked q view G
 
--- the first atom of the view that none attacks
+-- an atom of the view that none attacks
 pub record IsNext (q : Query) (view : View) (G : ℕ) : Type 0 where
   pub has : view.has G
   pub free : IsUnattacked q view G
-  pub first : (H : ℕ) → H < G → view.has H → IsAttacked q view H
+
+-- each atom of the view before G is attacked
+abbrev pub IsFirst : Query → View → ℕ → Type 0
+IsFirst q view G = (H : ℕ) → H < G → view.has H → IsAttacked q view H

@@ -1,22 +1,31 @@
-//! Which atoms of a view are attacked, and the first that none attacks.
+//! Which atoms of a view are attacked, and which one that none attacks is taken next.
 
-ghost use Rattle.std.specs.Prelude.{ℕ, ◌<◌, ◌↔◌, MatchOption};
+ghost use Rattle.std.specs.Prelude.{◌≡◌, ℕ, ◌<◌, ◌↔◌, IfSome, MatchOption};
 ghost use Rattle.cqa_model.specs.Graph.{Attacks};
 ghost use Rattle.key_closure.specs.Sets.{HasAtom};
 ghost use Rattle.key_closure.specs.Members.{IsLeft, seen};
-ghost use Rattle.fo_rewrite.specs.Planning.{IsAttacked, IsNext, IsStuck};
+ghost use Rattle.fo_rewrite.specs.Planning.{IsAttacked, IsNext, IsFirst, IsStuck};
+ghost use Rattle.fo_rewrite.specs.declared.preference.Choice.TheVariants.{First};
 
+use crate::preference::{Choice, preferred};
 use attack_graph::attack_row;
 use cqa_model::MOST_ATOMS;
 use key_closure::{AtomSet, Named};
 
-/// The first atom of the view that none attacks.
-pub(crate) fn next_atom(named: &Named<'_>, left: &AtomSet) -> Option<u32>
+/// An atom of the view that none attacks: the first, or the one that is preferred.
+pub(crate) fn next_atom(named: &Named<'_>, left: &AtomSet, choice: Choice) -> Option<u32>
     requires { (K : ℕ) → HasAtom left.now K ↔ IsLeft named.now.query.now named.now.view K }
-    ensures { MatchOption result (IsStuck named.now.query.now (seen named.now.query.now named.now.view)) (IsNext named.now.query.now (seen named.now.query.now named.now.view)) }
+    ensures first { choice ≡ First → IfSome result (IsFirst named.now.query.now (seen named.now.query.now named.now.view)) }
+    ensures next { MatchOption result (IsStuck named.now.query.now (seen named.now.query.now named.now.view)) (IsNext named.now.query.now (seen named.now.query.now named.now.view)) }
 {
     let attacked = attacked_atoms(named);
-    first_outside(left, &attacked)
+    let Some(first) = first_outside(left, &attacked) else {
+        return None;
+    };
+    match choice {
+        Choice::First => Some(first),
+        Choice::Preferred => Some(preferred(named.query, left, &attacked, first)),
+    }
 }
 
 /// The atoms that an atom of the view attacks.

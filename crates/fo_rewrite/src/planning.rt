@@ -1,12 +1,14 @@
 //! The order in which the atoms of a query are taken.
 
-ghost use Rattle.std.specs.Prelude.{◌↔◌, IfOk, IfSome, IsNone};
+ghost use Rattle.std.specs.Prelude.{◌≡◌, ◌↔◌, IfOk, IfSome, IsNone};
 ghost use Rattle.cqa_model.specs.Variables.{whole};
 ghost use Rattle.cqa_model.specs.Graph.{HasCycle};
-ghost use Rattle.cqa_model.specs.Plan.{IsPlanOf};
+ghost use Rattle.cqa_model.specs.Plan.{IsEliminationOf, IsPlanOf};
 ghost use Rattle.fo_rewrite.specs.Planning.{IsExact};
+ghost use Rattle.fo_rewrite.specs.declared.preference.Choice.TheVariants.{First};
 
 use crate::attacked::next_atom;
+use crate::preference::Choice;
 use cqa_model::{Plan, Query, variables};
 use cqa_value::{Items, NoMemory};
 use key_closure::{AtomSet, Named, View};
@@ -21,6 +23,32 @@ use std::alloc::Global;
 /// `NoMemory` where memory is refused.
 pub fn plan_of(alloc: Global, query: &Query) -> Result<Option<Plan>, NoMemory>
     ensures plan { IfOk result (λ found. IfSome found (λ plan. IsPlanOf query.now plan.order)) }
+    ensures cycle { IfOk result (λ found. IsNone found ↔ HasCycle query.now (whole query.now)) }
+    ensures exact { IfOk result (λ found. IfSome found (λ plan. IsExact query.now plan.order)) }
+{
+    eliminated(alloc, query, Choice::First)
+}
+
+/// An elimination order of a query that is good for evaluation: again and again an atom that no atom attacks once those
+/// before it are taken, those that joins link to an answer column before all others; `None` exactly where the attacks have
+/// a cycle. Over each database that the query fits, the order holds for a row exactly where the row is certain (Koutris and
+/// Wijsen, ACM TODS 2017).
+///
+/// # Errors
+///
+/// `NoMemory` where memory is refused.
+pub fn elimination_of(alloc: Global, query: &Query) -> Result<Option<Plan>, NoMemory>
+    ensures order { IfOk result (λ found. IfSome found (λ plan. IsEliminationOf query.now plan.order)) }
+    ensures cycle { IfOk result (λ found. IsNone found ↔ HasCycle query.now (whole query.now)) }
+    ensures exact { IfOk result (λ found. IfSome found (λ plan. IsExact query.now plan.order)) }
+{
+    eliminated(alloc, query, Choice::Preferred)
+}
+
+/// The elimination order of a query that the choice of each next atom makes.
+fn eliminated(alloc: Global, query: &Query, choice: Choice) -> Result<Option<Plan>, NoMemory>
+    ensures plan { choice ≡ First → IfOk result (λ found. IfSome found (λ plan. IsPlanOf query.now plan.order)) }
+    ensures order { IfOk result (λ found. IfSome found (λ plan. IsEliminationOf query.now plan.order)) }
     ensures cycle { IfOk result (λ found. IsNone found ↔ HasCycle query.now (whole query.now)) }
     ensures exact { IfOk result (λ found. IfSome found (λ plan. IsExact query.now plan.order)) }
 {
@@ -40,6 +68,7 @@ pub fn plan_of(alloc: Global, query: &Query) -> Result<Option<Plan>, NoMemory>
             view,
         },
         &left,
+        choice,
     ) {
         order.push(atom)?;
         left.remove(atom);

@@ -1,6 +1,5 @@
--- The rows for which a query's plan holds are the certain ones.
-use Rattle.std.proofs.Common.{◌≡◌, ◌↔◌, inl, inr, ℕ, List, [], ◌∷◌, length, Contains, Result, Ok, Err, IfOk, sym, ap, ◌∙◌, subst}
-use native.Mathlib.Decide.{ℕ_discrete}
+-- The rows for which an exact order holds are the certain ones.
+use Rattle.std.proofs.Common.{◌≡◌, ◌↔◌, ℕ, List, length, Contains, Result, Ok, Err, IfOk, sym, ap, ◌∙◌}
 use Rattle.std.specs.List.Sorted.{IsStrictlySortedBy}
 use Rattle.std.proofs.lemmas.List.{length-map}
 use Rattle.cqa_value.specs.declared.memory.NoMemory.{NoMemory}
@@ -10,20 +9,9 @@ use Rattle.cqa_model.specs.declared.query.Query.{Query}
 use Rattle.cqa_model.specs.Database.{Table}
 use Rattle.cqa_model.specs.Query.{value, FitsDatabase}
 use Rattle.cqa_model.specs.Certain.{IsCandidate, IsCertainAnswer}
-use Rattle.cqa_model.specs.Variables.{View, after}
-use Rattle.cqa_model.specs.Plan.{HoldsOver, IsPlan}
-use Rattle.cqa_model.proofs.Classic.{mem-head, mem-tail}
+use Rattle.cqa_model.specs.Plan.{HoldsOver}
 use Rattle.cqa_model.proofs.Databases.{possible_is_candidate}
 use Rattle.fo_rewrite.specs.Planning.{IsExact}
-
--- a plan has all atoms of its view
-pub plan-all : (q : Query) (view : View) (plan : List ℕ) → IsPlan q view plan → (F : ℕ) → view.has F → Contains plan F
-plan-all q view [] h F has = absurd (h F has)
-plan-all q view (G ∷ plan) h F has = go (ℕ_discrete F G) (λ ne. plan-all q (after q view G) plan h.3 F (has, ne))
-  where
-    go : Dec (F ≡ G) → ((F ≡ G → ⊥) → Contains plan F) → Contains (G ∷ plan) F
-    go (yes e) next = subst (λ z. Contains (G ∷ plan) z) (sym e) (mem-head G plan)
-    go (no ne) next = mem-tail F G plan (next ne)
 
 -- a candidate has the answer's length
 candidate-length : (db : List Table) (q : Query) (row : List Value) → IsCandidate db q row → length row ≡ length q.answer

@@ -1,0 +1,42 @@
+use Rattle.std.proofs.Common.{◌≡◌, refl, true≢false}
+use Rattle.cqa_model.specs.Variables.{whole}
+use Rattle.cqa_model.proofs.Cycles.{plan_or_cycle}
+use Rattle.cqa_model.proofs.Databases.{elimination_is_exact}
+use Rattle.fo_rewrite.proofs.Distinct.{plan-distinct}
+use Rattle.fo_rewrite.proofs.PlanSteps.{planned-start, planned-more, planned-none, planned-some, planned-first}
+use Rattle.fo_rewrite.specs.declared.preference.Choice.TheVariants.{First}
+use Rattle.fo_rewrite.proofs.planning.eliminated.Goals as goal
+
+pub take-init : goal.take-init
+take-init c = rw c.new-order.ensures (planned-start c.args.query.now (c.args.choice ≡ First) c.whole-view.result c.left-left.result c.whole-view.ensures.is c.left-left.ensures)
+
+pub take-preserved : goal.take-preserved
+take-preserved c = rw c.in_ok-push.ensures.ok
+    (planned-more c.args.query.now (c.args.choice ≡ First) c.take.view c.take.left c.remove.new.self c.take.order c.in-Some.atom c.after-view.result c.take.invariant c.in-Some.ensures.next c.in-Some.ensures.first c.after-view.ensures.is c.remove.ensures.is)
+
+pub invariant_of-result : goal.invariant_of-result
+invariant_of-result c = record {
+  apart = plan-distinct c.args.query.now c.take.order (whole c.args.query.now) (planned-some c.args.query.now (c.args.choice ≡ First) c.take.view c.take.left c.full.result c.take.order c.take.invariant c.full.ensures c.in-None.ensures);
+}
+
+pub returns-in-None-clause-plan : goal.returns-in-None-clause-plan
+returns-in-None-clause-plan c = λ first. planned-first c.args.query.now (c.args.choice ≡ First) c.take.view c.take.left c.full.result c.take.order c.take.invariant c.full.ensures c.in-None.ensures first
+
+pub returns-in-None-clause-order : goal.returns-in-None-clause-order
+returns-in-None-clause-order c = planned-some c.args.query.now (c.args.choice ≡ First) c.take.view c.take.left c.full.result c.take.order c.take.invariant c.full.ensures c.in-None.ensures
+
+pub returns-in-None-clause-cycle : goal.returns-in-None-clause-cycle
+returns-in-None-clause-cycle c = (
+  (λ e. absurd (true≢false e)),
+  (λ h. absurd (plan_or_cycle.not_both c.args.query.now c.take.order (planned-some c.args.query.now (c.args.choice ≡ First) c.take.view c.take.left c.full.result c.take.order c.take.invariant c.full.ensures c.in-None.ensures) h)),
+)
+
+pub returns-in-None-clause-exact : goal.returns-in-None-clause-exact
+returns-in-None-clause-exact c = λ db row fits long.
+    elimination_is_exact db c.args.query.now row c.take.order fits long (planned-some c.args.query.now (c.args.choice ≡ First) c.take.view c.take.left c.full.result c.take.order c.take.invariant c.full.ensures c.in-None.ensures)
+
+pub returns-in-Some-first_shared-clause-cycle : goal.returns-in-Some-first_shared-clause-cycle
+returns-in-Some-first_shared-clause-cycle c = (
+  (λ e. planned-none c.args.query.now (c.args.choice ≡ First) c.take.view c.take.left c.take.order c.take.invariant c.in_default.ensures.next c.in-Some-first_shared.field-0 c.in-Some-first_shared.ensures.1),
+  (λ h. refl),
+)

@@ -1,0 +1,12 @@
+use Rattle.std.proofs.Common.{◌≡◌}
+use Rattle.fo_rewrite.specs.declared.preference.Choice.TheVariants.{First}
+use Rattle.key_closure.specs.Sets.{size}
+use Rattle.fo_rewrite.proofs.PlanSteps.{Planned}
+use Rattle.fo_rewrite.proofs.planning.eliminated.Given as goal
+
+abbrev pub decreases-take : goal.decreases-take
+decreases-take l = size l.left
+
+-- the atoms so far begin an elimination order of the query, its plan where each was the first
+abbrev pub invariant-take : goal.invariant-take
+invariant-take l = Planned l.query (l.choice ≡ First) l.view l.left l.order
