@@ -15,8 +15,10 @@ use Rattle.cqa_model.specs.Variables.{View, whole, after}
 use Rattle.cqa_model.specs.Plan.{answer_at, PlanHolds, IsPlan, IsPlanOf}
 use Rattle.cqa_model.proofs.Classic.{mem-head, mem-tail, mem-nil, mem-cases}
 use Rattle.cqa_model.proofs.Databases.{rewriting_is_exact}
+use Rattle.cqa_model.proofs.Elimination.{plan-eliminates}
 use Rattle.cqa_model.proofs.Fitting.{FitsTables, fits_tables}
 use Rattle.cqa_model.proofs.Views.{view-in_range}
+use Rattle.fo_rewrite.proofs.Distinct.{plan-all}
 use Rattle.sql_text.specs.Meaning.{cell_value, Means}
 use Rattle.plan_sql.specs.Variables.{has, all_below, ascending, variables_of, answer_variables}
 use Rattle.plan_sql.specs.Statement.{cell, held, find, cell_of, cells_of, steps_of, sql_of}
@@ -96,15 +98,6 @@ module _ (q : Query) where
       let r = answer-range a.0 a.1 in
       ascending-into (answer_variables q) v (subst (λ z. z < 192) (sym a.2) (variable-small q (answer_at q a.0).atom r.0 (answer_at q a.0).col r.1)) m
 
-  -- each atom is in the plan
-  plan-all : (plan : List ℕ) (view : View) → IsPlan q view plan → (G : ℕ) → view.has G → Contains plan G
-  plan-all [] view h G has = absurd (h G has)
-  plan-all (F ∷ plan) view h G has = go (ℕ_discrete G F) (λ f. plan-all plan (after q view F) h.3 G (has, f))
-    where
-      go : Dec (G ≡ F) → ((G ≡ F → ⊥) → Contains plan G) → Contains (F ∷ plan) G
-      go (yes e) next = subst (λ z. Contains (F ∷ plan) z) (sym e) (mem-head F plan)
-      go (no f) next = mem-tail G F plan (next f)
-
   module _ (keys : List (List ℕ)) (tables : List (List (List Value))) (fits : FitsTables q keys tables) (row : List Value) (long : length row ≡ length q.answer) where
     fine : (plan : List ℕ) → IsFine q keys tables fits row long [] [] (ascending (answer_variables q)) plan
     fine plan = record {
@@ -124,7 +117,7 @@ module _ (q : Query) where
             let a = answer-of v (ascending-from (answer_variables q) v m) in
             let r = answer-range a.0 a.1 in
             run-has q (ascending (answer_variables q)) (F ∷ plan) v m
-            (flat-into (λ G. variables_of q G) (F ∷ plan) (answer_at q a.0).atom v (plan-all (F ∷ plan) (whole q) is_plan (answer_at q a.0).atom r.0)
+            (flat-into (λ G. variables_of q G) (F ∷ plan) (answer_at q a.0).atom v (plan-all q (whole q) (F ∷ plan) (plan-eliminates q (whole q) (F ∷ plan) is_plan) (answer_at q a.0).atom r.0)
             (subst (λ z. Contains (variables_of q (answer_at q a.0).atom) z) (sym a.2) (variables-into q (answer_at q a.0).atom (answer_at q a.0).col r.1)));
         asked = tt;
       }

@@ -16,7 +16,9 @@ use Rattle.std.proofs.lemmas.Bool.{false≢true}
 use Rattle.std.proofs.lemmas.Bool.Decides.{nat_tests}
 use Rattle.cqa_model.specs.Query.{atom_at, atom_key}
 use Rattle.cqa_model.specs.Labels.{label}
+use Rattle.cqa_model.specs.Variables.{whole}
 use Rattle.cqa_model.specs.Plan.{IsPlanOf}
+use Rattle.cqa_model.proofs.Elimination.{plan-eliminates}
 use Rattle.fo_rewrite.proofs.Distinct.{plan-atoms}
 use Rattle.sql_text.specs.declared.syntax.Body.TheVariants.{Distinct}
 use Rattle.sql_text.specs.declared.syntax.StepKind.TheVariants.{Rows}
@@ -60,7 +62,7 @@ key-within q F columns l e = subst (λ z. All (λ i. i < (atom_at q F).width) z)
 -- the atoms of lists
 pub atoms-of-plan : (q r : Query) (plan order : List ℕ) → r ≡ q → plan ≡ order → IsPlanOf q order → AreAtoms r plan
 atoms-of-plan q r plan order eq e h i l =
-    subst (λ z. get_or plan i 0 < length z.atoms) (sym eq) (plan-atoms q order h (get_or plan i 0) (subst (λ z. Contains z (get_or plan i 0)) e (Contains-get_or plan i 0 l)))
+    subst (λ z. get_or plan i 0 < length z.atoms) (sym eq) (plan-atoms q order (plan-eliminates q (whole q) order h) (get_or plan i 0) (subst (λ z. Contains z (get_or plan i 0)) e (Contains-get_or plan i 0 l)))
 
 pub atoms-head : (q : Query) (plan : List ℕ) (F : ℕ) (later : List ℕ) → plan ≡ F ∷ later → AreAtoms q plan → F < length q.atoms
 atoms-head q plan F later e h = subst (AreAtoms q) e h 0 (omega arith)

@@ -19,6 +19,7 @@ use Rattle.cqa_model.proofs.Classic.{mem-head, mem-tail, mem-cases}
 use Rattle.cqa_model.proofs.Columns.{range-small, least-of}
 use Rattle.cqa_model.proofs.Decisions.{column_eq}
 use Rattle.cqa_model.proofs.Existence.{some_repair}
+use Rattle.cqa_model.proofs.Elimination.{plan-eliminates}
 use Rattle.cqa_model.proofs.Exactness.{sound}
 use Rattle.cqa_model.proofs.Fitting.{FitsTables}
 use Rattle.cqa_model.proofs.Labels.{label-linked}
@@ -91,7 +92,7 @@ module _ (q : Query) (row : List Value) where
     witness taken all plan is_plan holds = make (some_repair keys tables)
       where
         make : (r : List (List (List Value))) × IsRepairBy keys tables r → (e : ℕ → Value) × Witnessed taken e
-        make (r, hr) = from (sound q keys tables fits row long plan taken all is_plan holds r hr)
+        make (r, hr) = from (sound q keys tables fits row long plan taken all (plan-eliminates q (view_of q taken) plan is_plan) holds r hr)
           where
             from : (w : List (List Value)) × IsPartial q row taken r w → (e : ℕ → Value) × Witnessed taken e
             from (w, h) = (e, record { agrees = agrees; left = left })

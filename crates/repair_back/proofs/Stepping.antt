@@ -16,6 +16,7 @@ use Rattle.cqa_model.proofs.Views.{view-in_range}
 use Rattle.cqa_model.proofs.Agreement.{one_of_atom}
 use Rattle.cqa_model.proofs.Exchange.{exchanged}
 use Rattle.cqa_model.proofs.Reification.{placed, kept-stored}
+use Rattle.cqa_model.proofs.Elimination.{plan-eliminates}
 use Rattle.cqa_model.proofs.Exactness.{forget, sound, fits_of}
 use Rattle.repair_back.specs.Flags.{kept_of, kept_tables, flags_of, AreChosen}
 use Rattle.repair_back.specs.Mending.{IsKeptWitness, HasNone, Lacks, IsStep, IsReachedIn, IsReached, RowHolds}
@@ -152,7 +153,7 @@ module _ (q : Query) (db : List Table) (fits : FitsDatabase q db) (row : List Va
           where
             go : ((r : List (List (List Value))) × IsRepair db r × ((H : ℕ) → H < length q.atoms → rows_of q r H ≡ rows_of q (Kept flags) H)) → (w : List (List Value)) × IsKeptWitness db q row taken flags w × (row_at w F ≡ y)
             go (r, hr, same) =
-                let s = sound q (keys_of db) (stored db) tables row long plan (placed F y ∷ taken) (hF, fy, all) is_plan holds r hr in
+                let s = sound q (keys_of db) (stored db) tables row long plan (placed F y ∷ taken) (hF, fy, all) (plan-eliminates q (view_of q (placed F y ∷ taken)) plan is_plan) holds r hr in
                 let k = partial-same q row (placed F y ∷ taken) r (Kept flags) s.0 (λ H l. sym (same H l)) s.1 in
                 (s.0, forget q (keys_of db) (stored db) tables row long taken (Kept flags) F y my s.0 k, k.extends (placed F y) (mem-head (placed F y) taken))
 
