@@ -6,7 +6,6 @@ ghost use Rattle.cqa_model.specs.declared.query.ColRef.{ColRef as Column};
 ghost use Rattle.weak_pairs.specs.Pairs.{FitsAlone};
 ghost use Rattle.cqa_model.specs.Database.{nothing};
 ghost use Rattle.cqa_model.specs.Naming.{AreVariables};
-ghost use Rattle.cqa_model.specs.Query.{atom_at};
 ghost use Rattle.cqa_model.specs.Plan.{TestHolds};
 ghost use Rattle.cqa_model.specs.Shape.{IsInRange, columns_of};
 ghost use Rattle.cqa_model.specs.Variables.{AreLinked};
@@ -15,24 +14,7 @@ ghost use Rattle.pair_answers.specs.Fitting.{AnswerFits, GivenBy, GivenFits, IsG
 use crate::shared::{are_linked, width};
 use cqa_model::{ColRef, Cond, Op, Query, Variables};
 use cqa_value::{Row, Value};
-
-/// The value at a place, or another where there is none.
-pub(crate) fn value_or<'a>(row: &'a Row, place: u32, other: &'a Value) -> &'a Value
-    ensures { result.now ≡ slice_index_or row.now place other.now }
-{
-    if place < row.len() {
-        row.get(place)
-    } else {
-        other
-    }
-}
-
-/// Whether two rows have one value in two columns.
-fn same_value(a: &Row, left: u32, b: &Row, right: u32) -> bool
-    ensures { IsTrue result ↔ (slice_index_or a.now left nothing ≡ slice_index_or b.now right nothing) }
-{
-    value_or(a, left, &Value::Int(0)) == value_or(b, right, &Value::Int(0))
-}
+use table_blocks::{same_value, value_or};
 
 /// Whether two columns have these values alike, if they are linked.
 fn agrees(

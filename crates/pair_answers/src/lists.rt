@@ -10,14 +10,14 @@ ghost use Rattle.weak_pairs.specs.Numbering.{values_in};
 ghost use Rattle.pair_answers.specs.Shared.{pairs_of};
 ghost use Rattle.pair_answers.specs.Lists.{AreListsAdded, AreRowLists, IsListOf};
 
-use crate::fits::{fits_alone, value_or};
+use crate::fits::fits_alone;
 use crate::shared::{Shared, shared_columns};
 use crate::starts::table_of;
 use cqa_model::{Query, Variables, variables};
 use cqa_value::{NoMemory, Row, Value};
 use row_pieces::Rows;
 use std::alloc::Global;
-use table_blocks::Database;
+use table_blocks::{Database, value_or};
 
 /// The list of each row of both tables, atom by atom in block order.
 ///

@@ -1,7 +1,7 @@
 //! Which queries are pairs.
 //! The graph of attacks tells them: there are two atoms, and each attacks the other weakly.
 
-ghost use Rattle.std.specs.Prelude.{◌↔◌, ◌<◌, ◌≡◌, IsTrue};
+ghost use Rattle.std.specs.Prelude.{◌↔◌, ◌<◌, IsTrue};
 ghost use Rattle.cqa_model.specs.declared.limits.TheConstants.{MOST_ATOMS};
 ghost use Rattle.attack_graph.specs.Attacking.{HasAttack, HasWeakAttack};
 ghost use Rattle.weak_pairs.specs.Pairs.{IsPair};

@@ -8,7 +8,7 @@ ghost use Rattle.cqa_model.specs.Query.{atom_at};
 ghost use Rattle.cqa_model.specs.Shape.{IsInRange};
 ghost use Rattle.cqa_model.specs.Variables.{AreLinked};
 ghost use Rattle.weak_pairs.specs.Numbering.{AreShared};
-ghost use Rattle.pair_answers.specs.Shared.{AreSharedSoFar, pairs_of};
+ghost use Rattle.pair_answers.specs.Shared.{pairs_of};
 
 use cqa_model::{ColRef, Query, Variables};
 use cqa_value::NoMemory;

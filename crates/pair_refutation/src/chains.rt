@@ -1,7 +1,7 @@
 //! The pairs of each variable, from its last one back.
 //! Each pair leads to the one before it that has the same left variable, and to the one that has the same right one.
 
-ghost use Rattle.std.specs.Prelude.{◌≡◌, ◌⊎◌, ◌+◌, ◌++◌, ◌∷◌, ◌<◌, ℕ, [], IfOk, None, false, OnOk, Some, length, slice_set};
+ghost use Rattle.std.specs.Prelude.{◌≡◌, ◌⊎◌, ◌+◌, ◌++◌, ◌∷◌, ◌<◌, ◌↔◌, ℕ, [], IfOk, IsFalse, None, OnOk, Some, length, slice_set};
 ghost use Rattle.pair_formula.specs.Graph.{ArePaired};
 ghost use Rattle.pair_formula.specs.Edges.{pair_at};
 ghost use Rattle.pair_refutation.specs.Refuting.{AreChained, AreChains, IsLastOf, IsOf, option_at};
@@ -91,7 +91,7 @@ pub(crate) fn chain_pairs(alloc: Global, pairs: &[Pair], vars: u32) -> Result<Ch
 /// Whether a variable has a pair.
 pub(crate) fn has_pair(chains: &Chains, x: u32) -> bool
     requires { x < length chains.now.last.items }
-    ensures { result ≡ false → option_at chains.now.last.items x ≡ None }
+    ensures { IsFalse result ↔ (option_at chains.now.last.items x ≡ None) }
 {
     chains.last[x as usize].is_some()
 }

@@ -1,7 +1,7 @@
 //! Refuting the formula of a certain row: the rows that were forced tell which variables are false, until a block has none left.
 //! A step is added for each variable that is found to be false, and one for each block that had some before it was forced.
 
-ghost use Rattle.std.specs.Prelude.{◌≡◌, ◌+◌, ◌++◌, ◌∷◌, ◌<◌, ◌≤◌, ◌↔◌, ℕ, [], IfOk, IsTrue, None, OnOk, Some, false, length, pos, slice_index};
+ghost use Rattle.std.specs.Prelude.{◌≡◌, ◌+◌, ◌++◌, ◌∷◌, ◌<◌, ◌≤◌, ◌↔◌, ℕ, [], IfOk, IsFalse, IsTrue, None, OnOk, Some, length, pos, slice_index};
 ghost use Rattle.cnf_form.specs.declared.log.Step.TheVariants.{Add};
 ghost use Rattle.cnf_form.specs.Logs.{Refutes};
 ghost use Rattle.cdcl.specs.Outcomes.{AreConsecutive};
@@ -92,7 +92,7 @@ fn is_open(lost: &[Option<u64>], x: u32) -> bool
 fn has_lost(var: &[u32], lost: &[Option<u64>], first: u32, end: u32) -> bool
     requires within { end ≤ length var.now }
     requires small { (i : ℕ) → i < length var.now → slice_index var.now i < length lost.now }
-    ensures { result ≡ false → (i : ℕ) → first ≤ i → i < end → option_at lost.now (slice_index var.now i) ≡ None }
+    ensures { IsFalse result ↔ ((i : ℕ) → first ≤ i → i < end → option_at lost.now (slice_index var.now i) ≡ None) }
 {
     for i in first..end {
         if lost[var[i as usize] as usize].is_some() {

@@ -37,7 +37,7 @@ returns-then-not-has_pair-clause-marked c =
     let s = row-var-small cnf g c.requires.chained.read c.args.row l in
     let z = c.requires.chained.size in
     let is : c.index-x.result.now ≡ slice_index var (slice_index order c.args._place) = x ∙ ap (λ k. slice_index var k) c.requires.row_is in
-    let none = subst (λ o. IsLastOf g.pairs.items c.index-x.result.now (length g.pairs.items) o) (c.has_pair.ensures c.if-not-has_pair.true) (c.requires.chained.chains_are.of_last c.index-x.result.now (omega (arith, x, s, z))) in
+    let none = subst (λ o. IsLastOf g.pairs.items c.index-x.result.now (length g.pairs.items) o) (c.has_pair.ensures.0 c.if-not-has_pair.true) (c.requires.chained.chains_are.of_last c.index-x.result.now (omega (arith, x, s, z))) in
     marked-more g order lost lost c.args._place c.requires.marked (λ y k. k)
     (λ b a. absurd (alone cnf g c.requires.chained.read c.index-x.result.now 0 [] c.args.steps.now.items lost none b (subst (λ k. AreAdjacent g.pairs.items k b) (sym is) a)))
 

@@ -23,7 +23,7 @@ returns-then-not-has_lost-clause-left c =
     let f = read-at start v c.index-first.result.now (let b = c.requires.block in omega (arith, b)) c.index-first.ensures in
     let e = read-at start (v + 1) c.index-end.result.now c.requires.block c.index-end.ensures in
     own-left c.args.cnf.now c.args.graph.now c.requires.read c.args.steps.now.items c.args.lost.now c.requires.so_far v c.requires.block
-    (λ i lo hi. subst (λ z. option_at c.args.lost.now (slice_index z i) ≡ None) c.deref.ensures.value (c.has_lost.ensures c.if-not-has_lost.true i (omega (arith, lo, f)) (omega (arith, hi, e))))
+    (λ i lo hi. subst (λ z. option_at c.args.lost.now (slice_index z i) ≡ None) c.deref.ensures.value (c.has_lost.ensures.0 c.if-not-has_lost.true i (omega (arith, lo, f)) (omega (arith, hi, e))))
 
 pub lost_hints-requires-clause-rising : goal.lost_hints-requires-clause-rising
 lost_hints-requires-clause-rising c =
