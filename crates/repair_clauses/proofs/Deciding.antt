@@ -27,7 +27,7 @@ use Rattle.repair_clauses.proofs.Spans.{from_less}
 use Rattle.repair_clauses.proofs.Order.{clauses_rise}
 use Rattle.repair_clauses.proofs.Exact.{clauses_decide}
 
-no-var-twice : (c : List Lit) → IsStrictlySortedBy nat_cmp (map (λ (l : Lit). l.var) c) → NoVarTwice c
+pub no-var-twice : (c : List Lit) → IsStrictlySortedBy nat_cmp (map (λ (l : Lit). l.var) c) → NoVarTwice c
 unfolding IsStrictlySortedBy
 no-var-twice [] s = tt
 no-var-twice (l ∷ c) s = (

@@ -114,6 +114,24 @@ module _ (q : Query) (db : List Table) (row : List Value) where
               (s.0, s.1, s.2, base_small s.0 s.1),
         )
 
+    -- the row at a named place is in a block
+    pub named_in : (all : List (List RowId)) → AreAllNames q db row all → (F : ℕ) → F < length q.atoms → (p : ℕ) → ((names : List RowId) × Contains all names × (place_at names F ≡ p)) →
+        (p < length (rows_of q (stored db) F)) × ((s : Span) × Contains spans s × IsIn s (at F p) × (s.base + s.count < 2 ^ 32))
+    named_in all a F l p (names, mn, e) = subst (λ r. (r < length (rows_of q (stored db) F)) × ((s : Span) × Contains spans s × IsIn s (at F r) × (s.base + s.count < 2 ^ 32))) e (each.0, (s.0, s.1, s.2, base_small s.0 s.1))
+      where
+        b : IsPlaced q db row (places_of names)
+        b = of_names q db row names ((a.exactly names).0 mn)
+
+        each : (place_at names F < length (rows_of q (stored db) F)) × (row_of q db (at F (place_at names F)) ≡ row_at b.rows F)
+        each = b.each F l
+
+        s : (t : Span) × Contains spans t × IsIn t (at F (place_at names F))
+        s = h.every (at F (place_at names F)) l (l, each.0) (
+          b.rows,
+          b.witness,
+          subst (λ x. SharesKey (atom_key q F) (row_of q db (at F (place_at names F))) x) each.1 (shares-self (atom_key q F) (row_of q db (at F (place_at names F)))),
+        )
+
     pub encoded : (all : List (List RowId)) → AreAllNames q db row all → (e : Encoded) → e.cnf.vars ≡ m → e.rows ≡ map (name_of q) (variables_of spans) →
         AddsWitnesses spans (map places_of all) (map (map positive) (map numbers_in spans)) (literals e.cnf.clauses) → IsEncoded q db row e
     encoded all a e vars rows c = record {

@@ -16,4 +16,7 @@ pub mod Naming
 pub mod Encoding
 pub mod Deciding
 pub mod FirstLooks
+pub mod Quotient
+pub mod Marking
+pub mod ClassLists
 pub mod Searching

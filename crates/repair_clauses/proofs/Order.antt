@@ -75,7 +75,7 @@ module _ (q : Query) (db : List Table) (row : List Value) (variables : List Vari
           let r = numbers_rise variables s (get_or numbers i 0) (get_or numbers j 0) x.0 y.0 x.1 y.1 (atom_less x.0 y.0 lt) in
           grind (arith, r)
 
-map_var : (lit : ℕ → Lit) → ((n : ℕ) → (lit n).var ≡ n) → (numbers : List ℕ) → map (λ (l : Lit). l.var) (map lit numbers) ≡ numbers
+pub map_var : (lit : ℕ → Lit) → ((n : ℕ) → (lit n).var ≡ n) → (numbers : List ℕ) → map (λ (l : Lit). l.var) (map lit numbers) ≡ numbers
 map_var lit h [] = refl
 map_var lit h (n ∷ numbers) = let e = h n in let es = map_var lit h numbers in cc
 

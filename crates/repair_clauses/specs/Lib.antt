@@ -1,5 +1,6 @@
 pub mod Clauses
 pub mod Alike
+pub mod Classing
 pub mod Models
 pub mod Spans
 pub mod Runs

@@ -1,5 +1,5 @@
-//! The first and the last place of the block of a row.
-//! Rows of one block stand side by side, so one looks at its rows, and at one row more on each side.
+//! The first place of the block of a row.
+//! Rows of one block stand side by side, so one looks at its rows, and at one row more.
 
 ghost use Rattle.std.specs.Prelude.{◌<◌, ◌≤◌, ◌↔◌, ℕ, IsTrue, [], length, slice_index_or};
 ghost use Rattle.std.specs.List.Sorted.{IsStrictlySortedBy};
@@ -8,38 +8,15 @@ ghost use Rattle.cqa_model.specs.Repairs.{SharesKey};
 
 use cqa_value::Row;
 use row_pieces::Rows;
-use table_blocks::same_value;
-
-/// Whether two rows agree in all key columns.
-fn same_key(key: &[u32], a: &Row, b: &Row) -> bool
-    ensures { IsTrue result ↔ SharesKey key.now a.now b.now }
-{
-    key.iter().all(|place| same_value(a, *place, b, *place))
-}
+use table_blocks::same_key;
 
 /// Whether the rows at two places share a key.
-fn goes_on(rows: &Rows<'_>, key: &[u32], at: usize, other: usize) -> bool
+pub fn goes_on(rows: &Rows<'_>, key: &[u32], at: usize, other: usize) -> bool
     requires there { at < length rows.now }
     requires other { other < length rows.now }
     ensures { IsTrue result ↔ SharesKey key.now (slice_index_or rows.now at []) (slice_index_or rows.now other []) }
 {
     same_key(key, rows.get(at), rows.get(other))
-}
-
-/// The place behind the block of a row.
-pub fn block_end(rows: &Rows<'_>, key: &[u32], at: usize) -> usize
-    requires order { IsStrictlySortedBy (block_cmp key.now) rows.now }
-    requires there { at < length rows.now }
-    ensures behind { at < result }
-    ensures within { result ≤ length rows.now }
-    ensures block { (i : ℕ) → at ≤ i → i < length rows.now → SharesKey key.now (slice_index_or rows.now at []) (slice_index_or rows.now i []) ↔ (i < result) }
-{
-    let count = rows.len();
-    let mut end = at + 1;
-    while end < count && goes_on(rows, key, at, end) {
-        end += 1;
-    }
-    end
 }
 
 /// The place of the first row of a row's block.

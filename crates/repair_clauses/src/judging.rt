@@ -15,6 +15,7 @@ use crate::first_look::{Room, first_look};
 use crate::formula::formula_over;
 use crate::lookup::Lookup;
 use crate::relevant::relevant_blocks;
+use crate::second_look::second_look;
 use crate::span::Span;
 use cdcl::Outcome;
 use cnf_form::{Cnf, Log};
@@ -79,6 +80,30 @@ fn judge_blocks(
     Ok(judged(decided))
 }
 
+/// What is found out of the row whose relevant blocks are numbered, with at most `budget` conflicts of each of two searches:
+/// the first is over classes of rows that are alike, and the second, where the first comes to nothing, over rows.
+fn judge_classes(
+    alloc: Global,
+    db: &Database,
+    query: &Query,
+    spans: &[Span],
+    vars: u32,
+    witnesses: &[Witness],
+    budget: u32,
+) -> Result<Verdict, NoMemory>
+    requires fits { FitsDatabase query.now db.now }
+    requires small { vars ≤ 12_000_000 }
+    requires blocks { (row : List Value) × AreAllNames query.now db.now row (names_of witnesses.now) × AreSpansTo query.now db.now row (length query.now.atoms) vars spans.now }
+    ensures { IfOk result (λ verdict. (row : List Value) → AreAllNames query.now db.now row (names_of witnesses.now) → AreSpansTo query.now db.now row (length query.now.atoms) vars spans.now →
+        (HasTooMany query.now db.now row → ⊥) → IsVerdict query.now db.now row budget verdict) }
+{
+    match second_look(alloc, db, query, spans, vars, witnesses, budget)? {
+        Found::Satisfiable => Ok(Verdict::Rejected),
+        Found::Unsatisfiable => Ok(Verdict::Certain),
+        Found::Unclear => judge_blocks(alloc, db, query, spans, vars, witnesses, budget),
+    }
+}
+
 /// What is found out of the row whose witnesses these are, all of them and in order.
 fn judge_witnesses(
     alloc: Global,
@@ -99,7 +124,15 @@ fn judge_witnesses(
     match found {
         Found::Satisfiable => Ok(Verdict::Rejected),
         Found::Unsatisfiable => Ok(Verdict::Certain),
-        Found::Unclear => judge_blocks(alloc, db, query, spans.as_slice(), vars, witnesses, budget),
+        Found::Unclear => judge_classes(
+            alloc,
+            db,
+            query,
+            spans.as_slice(),
+            vars,
+            witnesses,
+            budget,
+        ),
     }
 }
 

@@ -3,6 +3,8 @@
 #![tactic(auto)]
 
 mod blocks;
+mod class_clauses;
+mod classing;
 mod clauses;
 mod column;
 mod decision;
@@ -15,7 +17,9 @@ mod lookup;
 mod relevant;
 mod run;
 mod search;
+mod second_look;
 mod span;
+mod spoken;
 
 pub use decision::{Decided, decide};
 pub use formula::{Encoded, encode};

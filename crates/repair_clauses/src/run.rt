@@ -8,11 +8,12 @@ ghost use Rattle.cqa_model.specs.declared.limits.TheConstants.{MOST_ROWS};
 ghost use Rattle.repair_clauses.specs.Runs.{ArePlaces, AreRuns};
 ghost use Rattle.repair_clauses.specs.Spans.{AreBasedTo};
 
-use crate::blocks::{block_end, block_start};
+use crate::blocks::block_start;
 use crate::span::Span;
 use cqa_value::{Items, NoMemory};
 use row_pieces::Rows;
 use std::alloc::Global;
+use table_blocks::block_end;
 
 /// Relevant blocks, and how many variables come up to their end.
 #[derive(Drop)]

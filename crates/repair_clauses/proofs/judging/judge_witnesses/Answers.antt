@@ -47,8 +47,8 @@ returns-in-Unsatisfiable c = λ row all few.
     let s = subst (λ (f : Found). IsFoundOf spans (map places_of (names_of ws)) f) c.in-Unsatisfiable.is c.in_ok-found.ensures in
     (certain q db row c.in_ok-vars.vars spans blocks (names_of ws) all c.requires.fits s.0 s.1 s.2, few)
 
-pub judge_blocks-requires-clause-blocks : goal.judge_blocks-requires-clause-blocks
-judge_blocks-requires-clause-blocks c =
+pub judge_classes-requires-clause-blocks : goal.judge_classes-requires-clause-blocks
+judge_classes-requires-clause-blocks c =
     let q = c.args.query.now in
     let db = c.args.db.now in
     let row = c.requires.all.0 in
@@ -62,7 +62,7 @@ pub returns : goal.returns
 returns c =
     let q = c.args.query.now in
     let db = c.args.db.now in
-    if-ok c.judge_blocks.result
+    if-ok c.judge_classes.result
     (λ verdict says row all few. says row all
     (subst (λ (ss : List Span). AreSpansTo q db row (length q.atoms) c.in_ok-vars.vars ss) (sym c.as_slice-in-Unclear.ensures.value) (c.in_ok-vars.ensures.blocks row all)) few)
-    c.judge_blocks.ensures
+    c.judge_classes.ensures
