@@ -1,4 +1,4 @@
-//! `ask`: the certain rows of a query, by its plan, or over pairs of rows, or by search.
+//! `ask`: the certain rows of a query, by an elimination order, or over pairs of rows, or by search.
 //! A search that used up its budget keeps its log.
 
 ghost use Rattle.cqa_model.specs.Query.{FitsDatabase};

@@ -5,17 +5,17 @@ use Rattle.cqa_model.specs.declared.query.Atom.{Atom}
 use Rattle.cqa_model.specs.Database.{key_of}
 use Rattle.cqa_model.specs.Query.{atom_at, atom_key}
 use Rattle.cqa_model.specs.Variables.{whole}
-use Rattle.fo_rewrite.proofs.Distinct.{plan-atoms}
-use Rattle.plan_answers.proofs.Certainty.{plan-all}
+use Rattle.cqa_model.proofs.Elimination.{plan-eliminates}
+use Rattle.fo_rewrite.proofs.Distinct.{plan-all, plan-atoms}
 use Rattle.cqa_session.specs.Statements.Explain.{name_at, first_of_plan}
 use Rattle.cqa_session.proofs.Explaining.{first-some, few-keys, first-atom}
 use Rattle.cqa_session.proofs.statements.explain.by_block.Goals as goal
 
 pub block_of-requires-clause-plan : goal.block_of-requires-clause-plan
-block_of-requires-clause-plan c = plan-atoms c.args.query.now c.args.plan.now.order c.requires.plan
+block_of-requires-clause-plan c = plan-atoms c.args.query.now c.args.plan.now.order (plan-eliminates c.args.query.now (whole c.args.query.now) c.args.plan.now.order c.requires.plan)
 
 pub block_of-requires-clause-all : goal.block_of-requires-clause-all
-block_of-requires-clause-all c = plan-all c.args.query.now (whole c.args.query.now) c.args.plan.now.order c.requires.plan
+block_of-requires-clause-all c = plan-all c.args.query.now (whole c.args.query.now) c.args.plan.now.order (plan-eliminates c.args.query.now (whole c.args.query.now) c.args.plan.now.order c.requires.plan)
 
 pub get-requires : goal.get-requires
 get-requires c = first-some c.args.db.now c.args.query.now c.args.row.now c.args.plan.now.order c.in-Some.block c.in-Some.ensures.1
@@ -26,7 +26,7 @@ values_of-requires c =
     let order = c.args.plan.now.order in
     let F = get_or c.as_slice.result.now 0 0 in
     let at : F ≡ first_of_plan order = ap (λ xs. get_or xs 0 0) c.as_slice.ensures in
-    let inside : F < length q.atoms = subst (λ G. G < length q.atoms) (sym at) (first-atom c.args.db.now q c.args.row.now order c.in-Some.block c.in-Some.ensures.1 (plan-atoms q order c.requires.plan)) in
+    let inside : F < length q.atoms = subst (λ G. G < length q.atoms) (sym at) (first-atom c.args.db.now q c.args.row.now order c.in-Some.block c.in-Some.ensures.1 (plan-atoms q order (plan-eliminates q (whole q) order c.requires.plan))) in
     let is : c.index-as_slice-first.result ≡ atom_at q F = c.index-as_slice-first.is ∙ (ap (λ (atoms : List Atom). get_or atoms F c.index-as_slice-first.result) c.as_slice-2.ensures ∙ get_or_default q.atoms F c.index-as_slice-first.result _ inside) in
     subst (λ ks. length ks ≤ 16) (sym (c.as_slice-3.ensures ∙ ap (λ (a : Atom). a.key) is)) (few-keys q F inside)
 
@@ -39,7 +39,7 @@ returns-clause-found c =
     let block = c.in-Some.block in
     let F = get_or c.as_slice.result.now 0 0 in
     let at : F ≡ first_of_plan order = ap (λ xs. get_or xs 0 0) c.as_slice.ensures in
-    let inside : F < length q.atoms = subst (λ G. G < length q.atoms) (sym at) (first-atom db q row order block c.in-Some.ensures.1 (plan-atoms q order c.requires.plan)) in
+    let inside : F < length q.atoms = subst (λ G. G < length q.atoms) (sym at) (first-atom db q row order block c.in-Some.ensures.1 (plan-atoms q order (plan-eliminates q (whole q) order c.requires.plan))) in
     let is : c.index-as_slice-first.result ≡ atom_at q F = c.index-as_slice-first.is ∙ (ap (λ (atoms : List Atom). get_or atoms F c.index-as_slice-first.result) c.as_slice-2.ensures ∙ get_or_default q.atoms F c.index-as_slice-first.result _ inside) in
     let first = sym (get_or_from_slice_get block 0 c.get.result.now [] c.get.ensures) in
     record {

@@ -1,7 +1,9 @@
 use Rattle.std.proofs.Common.{◌≡◌, ◌∙◌, None, IfSome, Contains, inr, refl, ap, subst, length, arith}
 use Rattle.std.proofs.lemmas.Slice.Zip.{AllZip-long}
 use Rattle.cqa_model.specs.declared.query.Plan.{Plan}
+use Rattle.cqa_model.specs.Variables.{whole}
 use Rattle.cqa_model.specs.Plan.{IsPlanOf}
+use Rattle.cqa_model.proofs.Elimination.{plan-eliminates}
 use Rattle.fo_rewrite.proofs.Distinct.{plan-atoms}
 use Rattle.query_resolve.specs.Checks.{query_fault}
 use Rattle.query_resolve.specs.Resolved.{IsAtomOf, IsQueryOf}
@@ -30,7 +32,7 @@ names_of-steps-requires c = λ F m.
     let tables = c.args.select.now.tables in
     let order = c.in-Some.plan.order in
     let is_plan = subst (λ found. IfSome found (λ (plan : Plan). IsPlanOf query plan.order)) c.in-Some.is c.in_ok-plan.ensures.plan in
-    let within = plan-atoms query order is_plan F (subst (λ atoms. Contains atoms F) c.as_slice-2.ensures m) in
+    let within = plan-atoms query order (plan-eliminates query (whole query) order is_plan) F (subst (λ atoms. Contains atoms F) c.as_slice-2.ensures m) in
     let size : length query.atoms ≡ length tables = AllZip-long (IsAtomOf c.database.result.now) tables query.atoms c.in_ok-query.ensures.is.atoms in
     let names : length c.as_slice.result.now ≡ length tables = ap (λ xs. length xs) c.as_slice.ensures in
     omega (arith, within, size, names)
