@@ -7,6 +7,7 @@ use Rattle.reply_text.specs.declared.reply.Reply.{Reply}
 use Rattle.reply_text.specs.Texts.{is_refusal}
 use Rattle.cqa_session.specs.State.{State}
 use Rattle.cqa_session.specs.Runs.{Run, Answers, CutShort, text_of, has_refusal}
+use Rattle.command_shell.specs.Taking.{Takes, TakesLast, TakesRun, HandsAnswers}
 use Rattle.command_shell.proofs.Progress.{text_of-append}
 
 Run-trans : (old : State) (s : List Statement) (a : List Reply) (mid : State) (t : List Statement) (b : List Reply) (new : State) → Run old s a mid → Run mid t b new → Run old (s ++ t) (a ++ b) new
@@ -15,21 +16,28 @@ Run-trans old [] (r ∷ a) mid t b new h k = absurd h
 Run-trans old (x ∷ s) [] mid t b new h k = absurd h
 Run-trans old (x ∷ s) (r ∷ a) mid t b new h k = (h.0, h.1, Run-trans h.0 s a mid t b new h.2 k)
 
+Takes-trans : {T : Type 0} (took : T → List ℕ → Reply → T → Type 0) (old : T) (s : List Statement) (a : List Reply) (mid : T) (t : List Statement) (b : List Reply) (new : T) → Takes took old s a mid → Takes took mid t b new → Takes took old (s ++ t) (a ++ b) new
+Takes-trans took old [] [] mid t b new h k = subst (λ taker. Takes took taker t b new) h k
+Takes-trans took old [] (r ∷ a) mid t b new h k = absurd h
+Takes-trans took old (x ∷ s) [] mid t b new h k = absurd h
+Takes-trans took old (x ∷ s) (r ∷ a) mid t b new h k = (h.0, h.1, Takes-trans took h.0 s a mid t b new h.2 k)
+
 Begins-trans : (ended : Bool) (input : List ℕ) (s : List Statement) (mid : List ℕ) (t : List Statement) (rest : List ℕ) → Begins ended input s mid → Begins ended mid t rest → Begins ended input (s ++ t) rest
 Begins-trans ended input [] mid t rest h k = subst (λ l. Begins ended l t rest) (sym h) k
 Begins-trans ended input (x ∷ s) mid t rest h k = (h.0, h.1, Begins-trans ended h.0 s mid t rest h.2 k)
 
 -- what was answered of bytes that go on: the replies to complete statements alone
-pub record Open (old : State) (bytes : List ℕ) (mid : State) (written : List ℕ) (refused : Bool) (rest : List ℕ) : Type 0 where
+pub record Open {T : Type 0} (took : T → List ℕ → Reply → T → Type 0) (t_old t_mid : T) (old : State) (bytes : List ℕ) (mid : State) (written : List ℕ) (refused : Bool) (rest : List ℕ) : Type 0 where
   pub statements : List Statement
   pub replies : List Reply
   pub begins : Begins false bytes statements rest
   pub run : Run old statements replies mid
   pub written_is : written ≡ text_of replies
   pub refused_is : refused ≡ has_refusal replies
+  pub taken : Takes took t_old statements replies t_mid
 
-pub opened : {old : State} {bytes : List ℕ} {mid : State} {written : List ℕ} {refused : Bool} (a : Answers old bytes false mid written refused) → Open old bytes mid written refused a.run.rest
-opened a =
+pub opened : {T : Type 0} {took : T → List ℕ → Reply → T → Type 0} {t_old t_mid : T} {old : State} {bytes : List ℕ} {mid : State} {written : List ℕ} {refused : Bool} (a : Answers old bytes false mid written refused) → TakesRun took t_old a.run.statements a.run.answered a.run.last t_mid → Open took t_old t_mid old bytes mid written refused a.run.rest
+opened {took = took} {t_old = t_old} {t_mid = t_mid} a k =
     let alone : a.replies ≡ a.run.answered = a.run.all ∙ ap (λ l. a.run.answered ++ l) a.run.closes ∙ append-nil a.run.answered in
     record {
       statements = a.run.statements;
@@ -38,13 +46,14 @@ opened a =
       run = a.run.run;
       written_is = a.written_is ∙ ap text_of alone;
       refused_is = a.refused_is ∙ ap has_refusal alone;
+      taken = subst (Takes took t_old a.run.statements a.run.answered) (sym (subst (λ last. TakesLast took k.mid last t_mid) a.run.closes k.closing)) k.each;
     }
 
-module _ {old : State} {bytes : List ℕ} {mid : State} {written : List ℕ} {refused : Bool} {held : List ℕ} (o : Open old bytes mid written refused held) (piece : List ℕ) where
+module _ {T : Type 0} {took : T → List ℕ → Reply → T → Type 0} {t_old t_mid : T} {old : State} {bytes : List ℕ} {mid : State} {written : List ℕ} {refused : Bool} {held : List ℕ} (o : Open took t_old t_mid old bytes mid written refused held) (piece : List ℕ) where
   -- the answers to what is held and a piece are answers to all
-  pub goes_on : (ended : Bool) (new : State) (more : List ℕ) (again : Bool) → (a : Answers mid (held ++ piece) ended new more again)
-      → (b : Answers old (bytes ++ piece) ended new (written ++ more) (refused || again)) × (b.run.rest ≡ a.run.rest)
-  goes_on ended new more again a = (
+  pub goes_on : (ended : Bool) (new : State) (t_new : T) (more : List ℕ) (again : Bool) → (a : Answers mid (held ++ piece) ended new more again) → TakesRun took t_mid a.run.statements a.run.answered a.run.last t_new
+      → HandsAnswers took t_old t_new old (bytes ++ piece) ended new (written ++ more) (refused || again) a.run.rest
+  goes_on ended new t_new more again a k = (
     record {
       replies = o.replies ++ a.replies;
       run = record {
@@ -64,6 +73,7 @@ module _ {old : State} {bytes : List ℕ} {mid : State} {written : List ℕ} {re
       refused_is = ap (λ b. b || again) o.refused_is ∙ ap (λ b. has_refusal o.replies || b) a.refused_is ∙ sym (list_any-append is_refusal o.replies a.replies);
     },
     refl,
+    record { mid = k.mid; each = Takes-trans took t_old o.statements o.replies t_mid a.run.statements a.run.answered k.mid o.taken k.each; closing = k.closing },
   )
 
   -- so are those that stop

@@ -1,5 +1,5 @@
 -- How the answers to an input go on, statement by statement.
-use Rattle.std.proofs.Common.{◌≡◌, ◌⊎◌, inl, inr, ℕ, Bool, true, false, ◌||◌, List, [], ◌∷◌, ◌++◌, take, drop, Option, Result, Ok, Err, IsErrAnd, refl, sym, ap, ◌∙◌, subst, append_assoc, append-nil}
+use Rattle.std.proofs.Common.{◌≡◌, ◌⊎◌, inl, inr, ℕ, Bool, true, false, ◌||◌, List, [], ◌∷◌, ◌++◌, take, drop, Option, Result, Ok, Err, IsErrAnd, OnOk, refl, sym, ap, ◌∙◌, subst, append_assoc, append-nil}
 use Rattle.std.proofs.lemmas.List.{take-append-drop}
 use Rattle.std.specs.Io.KnownBytes.{Appends, Keeps}
 use Rattle.std.proofs.KnownBytes.{Appends-nil, Appends-trans, Appends-kept}
@@ -16,8 +16,9 @@ use Rattle.command_shell.specs.declared.ending.Stop.{Stop}
 use Rattle.command_shell.specs.declared.ending.Stop.TheVariants as stops
 use Rattle.cqa_session.specs.State.{State}
 use Rattle.cqa_session.specs.Machine.{Step}
-use Rattle.cqa_session.specs.Runs.{Run, Closes, Answers, CutShort, text_of, has_refusal}
+use Rattle.cqa_session.specs.Runs.{Run, Closes, CutShort, text_of, has_refusal}
 use Rattle.command_shell.specs.Parts.{AnswerRow, ReplyRow, CloseRow, ProgressRow}
+use Rattle.command_shell.specs.Taking.{Takes, HandsAnswers}
 
 pub Run-push : (old : State) (statements : List Statement) (replies : List Reply) (now : State) (s : Statement) (reply : Reply) (new : State)
     → Run old statements replies now → Step now s.0 s.1 reply new → Run old (statements ++ s ∷ []) (replies ++ reply ∷ []) new
@@ -25,6 +26,13 @@ Run-push old [] [] now s reply new run step = (new, subst (λ state. Step state 
 Run-push old [] (r ∷ replies) now s reply new run step = absurd run
 Run-push old (t ∷ statements) [] now s reply new run step = absurd run
 Run-push old (t ∷ statements) (r ∷ replies) now s reply new run step = (run.0, run.1, Run-push run.0 statements replies now s reply new run.2 step)
+
+Takes-push : {T : Type 0} (took : T → List ℕ → Reply → T → Type 0) (old : T) (statements : List Statement) (replies : List Reply) (now : T) (s : Statement) (reply : Reply) (new : T)
+    → Takes took old statements replies now → took now s.0 reply new → Takes took old (statements ++ s ∷ []) (replies ++ reply ∷ []) new
+Takes-push took old [] [] now s reply new taken one = (new, subst (λ t. took t s.0 reply new) taken one, refl)
+Takes-push took old [] (r ∷ replies) now s reply new taken one = absurd taken
+Takes-push took old (t ∷ statements) [] now s reply new taken one = absurd taken
+Takes-push took old (t ∷ statements) (r ∷ replies) now s reply new taken one = (taken.0, taken.1, Takes-push took taken.0 statements replies now s reply new taken.2 one)
 
 pub text_of-append : (xs ys : List Reply) → text_of (xs ++ ys) ≡ text_of xs ++ text_of ys
 text_of-append [] ys = refl
@@ -61,24 +69,25 @@ parted : (xs : List Reply) (y : Reply) (n : ℕ) → text_of (xs ++ y ∷ []) �
 parted xs y n = sym (text_of-push xs y) ∙ ap (λ l. text_of xs ++ l) (sym (take-append-drop n (reply_text y))) ∙ sym (append_assoc (text_of xs) (take n (reply_text y)) (drop n (reply_text y)))
 
 -- the statements before the rest were answered
-pub record SoFar (old : State) (input : List ℕ) (ended : Bool) (rest : List ℕ) (now : State) (refused : Bool) (held_old held_now : Option (List ℕ)) : Type 0 where
+pub record SoFar {T : Type 0} (took : T → List ℕ → Reply → T → Type 0) (t_old t_now : T) (old : State) (input : List ℕ) (ended : Bool) (rest : List ℕ) (now : State) (refused : Bool) (held_old held_now : Option (List ℕ)) : Type 0 where
   pub statements : List Statement
   pub replies : List Reply
   pub begins : Begins ended input statements rest
   pub run : Run old statements replies now
   pub written : Appends held_old held_now (text_of replies)
   pub refused_is : refused ≡ has_refusal replies
+  pub taken : Takes took t_old statements replies t_now
 
-pub start : (old : State) (input : List ℕ) (ended : Bool) (held : Option (List ℕ)) → SoFar old input ended input old false held held
-start old input ended held = record { statements = []; replies = []; begins = refl; run = refl; written = Appends-nil held; refused_is = refl }
+pub start : {T : Type 0} {took : T → List ℕ → Reply → T → Type 0} (t : T) (old : State) (input : List ℕ) (ended : Bool) (held : Option (List ℕ)) → SoFar took t t old input ended input old false held held
+start t old input ended held = record { statements = []; replies = []; begins = refl; run = refl; written = Appends-nil held; refused_is = refl; taken = refl }
 
-module _ {old : State} {input : List ℕ} {ended : Bool} {now : State} {refused : Bool} {held_old held_now : Option (List ℕ)} where
+module _ {T : Type 0} {took : T → List ℕ → Reply → T → Type 0} {t_old t_now : T} {old : State} {input : List ℕ} {ended : Bool} {now : State} {refused : Bool} {held_old held_now : Option (List ℕ)} where
   -- one statement more is answered
-  pub more : (rest : List ℕ) (held_new : Option (List ℕ)) (new : State) (r : Bool) (rose : Type 0) (text : Span) (block : Option Span) (at : ℕ)
-      → SoFar old input ended rest now refused held_old held_now → IsCut ended rest (cuts.Statement text block at)
-      → AnswerRow (Ok r) rose held_now held_new now (statement_at rest text block) new
-      → SoFar old input ended (drop at rest) new (refused || r) held_old held_new
-  more rest held_new new r rose text block at s cut row =
+  pub more : (rest : List ℕ) (held_new : Option (List ℕ)) (t_new : T) (new : State) (r : Bool) (rose : Type 0) (text : Span) (block : Option Span) (at : ℕ)
+      → SoFar took t_old t_now old input ended rest now refused held_old held_now → IsCut ended rest (cuts.Statement text block at)
+      → AnswerRow took t_now t_new (Ok r) rose held_now held_new now (statement_at rest text block) new
+      → SoFar took t_old t_new old input ended (drop at rest) new (refused || r) held_old held_new
+  more rest held_new t_new new r rose text block at s cut row =
       let statement = statement_at rest text block in
       record {
         statements = s.statements ++ statement ∷ [];
@@ -87,29 +96,33 @@ module _ {old : State} {input : List ℕ} {ended : Bool} {now : State} {refused 
         run = Run-push old s.statements s.replies now statement row.0 new s.run row.1;
         written = subst (Appends held_old held_new) (text_of-push s.replies row.0) (Appends-trans held_old held_now held_new (text_of s.replies) (reply_text row.0) s.written row.2);
         refused_is = ap (λ b. b || r) s.refused_is ∙ ap (λ b. has_refusal s.replies || b) row.3 ∙ sym (has_refusal-push s.replies row.0);
+        taken = Takes-push took t_old s.statements s.replies t_now statement row.0 t_new s.taken row.4;
       }
 
   -- nothing is left to answer
-  done : (rest : List ℕ) → SoFar old input ended rest now refused held_old held_now → HasNoStatement ended rest → Closes ended rest []
-      → ProgressRow (Ok refused) (Unit {0}) held_old held_now old input ended now rest
+  done : (rest : List ℕ) → SoFar took t_old t_now old input ended rest now refused held_old held_now → HasNoStatement ended rest → Closes ended rest []
+      → ProgressRow took t_old t_now (Ok refused) (Unit {0}) held_old held_now old input ended now rest
   done rest s over closes = (
     text_of s.replies,
     s.written,
-    record {
-      replies = s.replies;
-      run = record { statements = s.statements; rest = rest; answered = s.replies; last = []; cut = record { begins = s.begins; over = over }; run = s.run; closes = closes; all = sym (append-nil s.replies) };
-      written_is = refl;
-      refused_is = s.refused_is;
-    },
-    refl,
+    (
+      record {
+        replies = s.replies;
+        run = record { statements = s.statements; rest = rest; answered = s.replies; last = []; cut = record { begins = s.begins; over = over }; run = s.run; closes = closes; all = sym (append-nil s.replies) };
+        written_is = refl;
+        refused_is = s.refused_is;
+      },
+      refl,
+      record { mid = t_now; each = s.taken; closing = refl },
+    ),
   )
 
-  pub done_blank : (rest : List ℕ) → SoFar old input ended rest now refused held_old held_now → IsSpace rest → ProgressRow (Ok refused) (Unit {0}) held_old held_now old input ended now rest
+  pub done_blank : (rest : List ℕ) → SoFar took t_old t_now old input ended rest now refused held_old held_now → IsSpace rest → ProgressRow took t_old t_now (Ok refused) (Unit {0}) held_old held_now old input ended now rest
   done_blank rest s blank = done rest s (space_over ended rest blank) (closes_blank ended rest blank)
 
   -- a statement found no memory, before it did anything or after it
   pub short_of_memory : (rest : List ℕ) (at_end : Type 0) (held_new : Option (List ℕ)) (new : State) (text : Span) (block : Option Span) (at : ℕ) → (ended ≡ true → at_end)
-      → SoFar old input ended rest now refused held_old held_now → IsCut ended rest (cuts.Statement text block at)
+      → SoFar took t_old t_now old input ended rest now refused held_old held_now → IsCut ended rest (cuts.Statement text block at)
       → ((new ≡ now) ⊎ ((reply : Reply) × Step now (statement_at rest text block).0 (statement_at rest text block).1 reply new)) → Keeps held_now held_new
       → (written : List ℕ) × Appends held_old held_new written × CutShort old input at_end new written
   short_of_memory rest at_end held_new new text block at is_end s cut did kept = (
@@ -147,7 +160,7 @@ module _ {old : State} {input : List ℕ} {ended : Bool} {now : State} {refused 
 
   -- a reply wasn't wholly written
   pub fault_in_reply : (rest : List ℕ) (at_end : Type 0) (held_new : Option (List ℕ)) (new : State) (text : Span) (block : Option Span) (at : ℕ) → (ended ≡ true → at_end)
-      → SoFar old input ended rest now refused held_old held_now → IsCut ended rest (cuts.Statement text block at)
+      → SoFar took t_old t_now old input ended rest now refused held_old held_now → IsCut ended rest (cuts.Statement text block at)
       → ((reply : Reply) × (n : ℕ) × Step now (statement_at rest text block).0 (statement_at rest text block).1 reply new × Appends held_now held_new (take n (reply_text reply)))
       → (written : List ℕ) × Appends held_old held_new written × CutShort old input at_end new written
   fault_in_reply rest at_end held_new new text block at is_end s cut row =
@@ -171,22 +184,22 @@ module _ {old : State} {input : List ℕ} {ended : Bool} {now : State} {refused 
       )
 
   -- an answer that stops
-  stopped_by : (stop : Stop) (rest : List ℕ) (rose rose_all : Type 0) (held_new : Option (List ℕ)) (new : State) (text : Span) (block : Option Span) (at : ℕ) → (rose → rose_all)
-      → SoFar old input ended rest now refused held_old held_now → IsCut ended rest (cuts.Statement text block at)
-      → AnswerRow (Err stop) rose held_now held_new now (statement_at rest text block) new → (left : List ℕ) → ProgressRow (Err stop) rose_all held_old held_new old input ended new left
-  stopped_by stops.WriteFault rest rose rose_all held_new new text block at up s cut row left = (up row.0, fault_in_reply rest (ended ≡ true) held_new new text block at (λ e. e) s cut row.1)
-  stopped_by stops.OutOfMemory rest rose rose_all held_new new text block at up s cut row left = short_of_memory rest (ended ≡ true) held_new new text block at (λ e. e) s cut row.0 row.1
+  stopped_by : (stop : Stop) (rest : List ℕ) (rose rose_all : Type 0) (held_new : Option (List ℕ)) (t_new : T) (new : State) (text : Span) (block : Option Span) (at : ℕ) → (rose → rose_all)
+      → SoFar took t_old t_now old input ended rest now refused held_old held_now → IsCut ended rest (cuts.Statement text block at)
+      → AnswerRow took t_now t_new (Err stop) rose held_now held_new now (statement_at rest text block) new → (left : List ℕ) → ProgressRow took t_old t_new (Err stop) rose_all held_old held_new old input ended new left
+  stopped_by stops.WriteFault rest rose rose_all held_new t_new new text block at up s cut row left = (up row.0, fault_in_reply rest (ended ≡ true) held_new new text block at (λ e. e) s cut row.1)
+  stopped_by stops.OutOfMemory rest rose rose_all held_new t_new new text block at up s cut row left = short_of_memory rest (ended ≡ true) held_new new text block at (λ e. e) s cut row.0 row.1
 
-  pub stopped : (result : Result Bool Stop) (stop : Stop) → IsErrAnd result (λ e. e ≡ stop) → (rest : List ℕ) (rose rose_all : Type 0) (held_new : Option (List ℕ)) (new : State) (text : Span) (block : Option Span) (at : ℕ) → (rose → rose_all)
-      → SoFar old input ended rest now refused held_old held_now → IsCut ended rest (cuts.Statement text block at)
-      → AnswerRow (Err stop) rose held_now held_new now (statement_at rest text block) new → (left : List ℕ) → ProgressRow result rose_all held_old held_new old input ended new left
-  stopped (Ok more) stop is rest rose rose_all held_new new text block at up s cut row left = absurd is
-  stopped (Err e) stop is rest rose rose_all held_new new text block at up s cut row left =
-      stopped_by e rest rose rose_all held_new new text block at up s cut (subst (λ x. AnswerRow (Err x) rose held_now held_new now (statement_at rest text block) new) (sym is) row) left
+  pub stopped : (result : Result Bool Stop) (stop : Stop) → IsErrAnd result (λ e. e ≡ stop) → (rest : List ℕ) (rose rose_all : Type 0) (held_new : Option (List ℕ)) (t_new : T) (new : State) (text : Span) (block : Option Span) (at : ℕ) → (rose → rose_all)
+      → SoFar took t_old t_now old input ended rest now refused held_old held_now → IsCut ended rest (cuts.Statement text block at)
+      → AnswerRow took t_now t_new (Err stop) rose held_now held_new now (statement_at rest text block) new → (left : List ℕ) → ProgressRow took t_old t_new result rose_all held_old held_new old input ended new left
+  stopped (Ok more) stop is rest rose rose_all held_new t_new new text block at up s cut row left = absurd is
+  stopped (Err e) stop is rest rose rose_all held_new t_new new text block at up s cut row left =
+      stopped_by e rest rose rose_all held_new t_new new text block at up s cut (subst (λ x. AnswerRow took t_now t_new (Err x) rose held_now held_new now (statement_at rest text block) new) (sym is) row) left
 
 -- what is left at the end of an input that has ended
-module _ {old : State} {input rest : List ℕ} {now : State} {refused : Bool} {held_old held_now : Option (List ℕ)} where
-  last_begins : (s : SoFar old input true rest now refused held_old held_now) → HasNoStatement true rest → (IsSpace rest → ⊥) → (written left : List ℕ)
+module _ {T : Type 0} {took : T → List ℕ → Reply → T → Type 0} {t_old t_now : T} {old : State} {input rest : List ℕ} {now : State} {refused : Bool} {held_old held_now : Option (List ℕ)} where
+  last_begins : (s : SoFar took t_old t_now old input true rest now refused held_old held_now) → HasNoStatement true rest → (IsSpace rest → ⊥) → (written left : List ℕ)
       → text_of s.replies ++ text_of (Refused Unfinished ∷ []) ≡ written ++ left → CutShort old input (true ≡ true) now written
   last_begins s over some written left is = record {
     ended = true;
@@ -202,20 +215,23 @@ module _ {old : State} {input rest : List ℕ} {now : State} {refused : Bool} {h
     written_is = is;
   }
 
-  pub close_ended : (held_new : Option (List ℕ)) (result : Result Bool Stop) (rose rose_all : Type 0) → (rose → rose_all) → SoFar old input true rest now refused held_old held_now → IsCut true rest cuts.Part
-      → ReplyRow result rose held_now held_new (Refused Unfinished) → ProgressRow result rose_all held_old held_new old input true now rest
-  close_ended held_new (Ok r) rose rose_all up s cut row = (
+  pub close_ended : (t_new : T) (held_new : Option (List ℕ)) (result : Result Bool Stop) (rose rose_all : Type 0) → (rose → rose_all) → SoFar took t_old t_now old input true rest now refused held_old held_now → IsCut true rest cuts.Part
+      → ReplyRow result rose held_now held_new (Refused Unfinished) → OnOk result (took t_now [] (Refused Unfinished) t_new) → ProgressRow took t_old t_new result rose_all held_old held_new old input true now rest
+  close_ended t_new held_new (Ok r) rose rose_all up s cut row one = (
     text_of (s.replies ++ Refused Unfinished ∷ []),
     subst (Appends held_old held_new) (text_of-push s.replies (Refused Unfinished)) (Appends-trans held_old held_now held_new (text_of s.replies) (reply_text (Refused Unfinished)) s.written row.0),
-    record {
-      replies = s.replies ++ Refused Unfinished ∷ [];
-      run = record { statements = s.statements; rest = rest; answered = s.replies; last = Refused Unfinished ∷ []; cut = Cuts-part true input s.statements rest s.begins cut; run = s.run; closes = (cut.0, refl, refl); all = refl };
-      written_is = refl;
-      refused_is = row.1 ∙ sym (has_refusal-push s.replies (Refused Unfinished) ∙ or_true (has_refusal s.replies));
-    },
-    refl,
+    (
+      record {
+        replies = s.replies ++ Refused Unfinished ∷ [];
+        run = record { statements = s.statements; rest = rest; answered = s.replies; last = Refused Unfinished ∷ []; cut = Cuts-part true input s.statements rest s.begins cut; run = s.run; closes = (cut.0, refl, refl); all = refl };
+        written_is = refl;
+        refused_is = row.1 ∙ sym (has_refusal-push s.replies (Refused Unfinished) ∙ or_true (has_refusal s.replies));
+      },
+      refl,
+      record { mid = t_now; each = s.taken; closing = (t_new, one, refl) },
+    ),
   )
-  close_ended held_new (Err stops.WriteFault) rose rose_all up s cut row =
+  close_ended t_new held_new (Err stops.WriteFault) rose rose_all up s cut row one =
       let n = row.1.0 in
       let last = reply_text (Refused Unfinished) in (
         up row.0,
@@ -226,36 +242,39 @@ module _ {old : State} {input rest : List ℕ} {now : State} {refused : Bool} {h
               (ap (λ l. text_of s.replies ++ l) (append-nil last ∙ sym (take-append-drop n last)) ∙ sym (append_assoc (text_of s.replies) (take n last) (drop n last))),
         ),
       )
-  close_ended held_new (Err stops.OutOfMemory) rose rose_all up s cut row = (
+  close_ended t_new held_new (Err stops.OutOfMemory) rose rose_all up s cut row one = (
     text_of s.replies,
     Appends-kept held_old held_now held_new (text_of s.replies) s.written row,
     last_begins s cut.1 cut.0 (text_of s.replies) (text_of (Refused Unfinished ∷ [])) refl,
   )
 
 -- what is left of an input that hasn't ended gets no reply
-pub close_open : {old : State} {input rest : List ℕ} {now : State} {refused : Bool} {held_old held_now : Option (List ℕ)} (held_new : Option (List ℕ)) (rose : Type 0)
-    → SoFar old input false rest now refused held_old held_now → IsCut false rest cuts.Part → Keeps held_now held_new → ProgressRow (Ok refused) rose held_old held_new old input false now rest
-close_open {old = old} {input = input} {rest = rest} {refused = refused} {held_old = held_old} {held_now = held_now} held_new rose s cut kept = (
+pub close_open : {T : Type 0} {took : T → List ℕ → Reply → T → Type 0} {t_old t_now : T} {old : State} {input rest : List ℕ} {now : State} {refused : Bool} {held_old held_now : Option (List ℕ)} (t_new : T) (held_new : Option (List ℕ)) (rose : Type 0)
+    → SoFar took t_old t_now old input false rest now refused held_old held_now → IsCut false rest cuts.Part → Keeps held_now held_new → t_new ≡ t_now → ProgressRow took t_old t_new (Ok refused) rose held_old held_new old input false now rest
+close_open {t_now = t_now} {old = old} {input = input} {rest = rest} {refused = refused} {held_old = held_old} {held_now = held_now} t_new held_new rose s cut kept same = (
   text_of s.replies,
   Appends-kept held_old held_now held_new (text_of s.replies) s.written kept,
-  record {
-    replies = s.replies;
-    run = record { statements = s.statements; rest = rest; answered = s.replies; last = []; cut = Cuts-part false input s.statements rest s.begins cut; run = s.run; closes = refl; all = sym (append-nil s.replies) };
-    written_is = refl;
-    refused_is = s.refused_is;
-  },
-  refl,
+  (
+    record {
+      replies = s.replies;
+      run = record { statements = s.statements; rest = rest; answered = s.replies; last = []; cut = Cuts-part false input s.statements rest s.begins cut; run = s.run; closes = refl; all = sym (append-nil s.replies) };
+      written_is = refl;
+      refused_is = s.refused_is;
+    },
+    refl,
+    record { mid = t_now; each = s.taken; closing = same },
+  ),
 )
 
-pub closed : {old : State} {input rest : List ℕ} {now : State} {refused : Bool} {held_old held_now : Option (List ℕ)} (held_new : Option (List ℕ)) (ended : Bool) (result : Result Bool Stop) (rose rose_all : Type 0) → (rose → rose_all)
-    → SoFar old input ended rest now refused held_old held_now → IsCut ended rest cuts.Part → CloseRow result rose held_now held_new ended refused → ProgressRow result rose_all held_old held_new old input ended now rest
-closed held_new true result rose rose_all up s cut row = close_ended held_new result rose rose_all up s cut row
-closed {old = old} {input = input} {rest = rest} {now = now} {held_old = held_old} held_new false result rose rose_all up s cut row =
-    subst (λ r. ProgressRow r rose_all held_old held_new old input false now rest) (sym row.0) (close_open held_new rose_all s cut row.1)
+pub closed : {T : Type 0} {took : T → List ℕ → Reply → T → Type 0} {t_old t_now : T} {old : State} {input rest : List ℕ} {now : State} {refused : Bool} {held_old held_now : Option (List ℕ)} (t_new : T) (held_new : Option (List ℕ)) (ended : Bool) (result : Result Bool Stop) (rose rose_all : Type 0) → (rose → rose_all)
+    → SoFar took t_old t_now old input ended rest now refused held_old held_now → IsCut ended rest cuts.Part → CloseRow took t_now t_new result rose held_now held_new ended refused → ProgressRow took t_old t_new result rose_all held_old held_new old input ended now rest
+closed t_new held_new true result rose rose_all up s cut row = close_ended t_new held_new result rose rose_all up s cut row.0 row.1
+closed {took = took} {t_old = t_old} {old = old} {input = input} {rest = rest} {now = now} {held_old = held_old} t_new held_new false result rose rose_all up s cut row =
+    subst (λ r. ProgressRow took t_old t_new r rose_all held_old held_new old input false now rest) (sym row.0) (close_open t_new held_new rose_all s cut row.1 row.2)
 
 -- nothing came, and nothing was answered
-pub nothing_answered : (state : State) (ended : Bool) → (answers : Answers state [] ended state [] false) × (answers.run.rest ≡ [])
-nothing_answered state ended = (
+pub nothing_answered : {T : Type 0} {took : T → List ℕ → Reply → T → Type 0} (t : T) (state : State) (ended : Bool) → HandsAnswers took t t state [] ended state [] false []
+nothing_answered t state ended = (
   record {
     replies = [];
     run = record { statements = []; rest = []; answered = []; last = []; cut = Cuts-end ended [] [] refl; run = refl; closes = closes_blank ended [] empty_space; all = refl };
@@ -263,14 +282,15 @@ nothing_answered state ended = (
     refused_is = refl;
   },
   refl,
+  record { mid = t; each = refl; closing = refl },
 )
 
 pub nothing_written : (old : State) (bytes : List ℕ) (at_end : Type 0) → CutShort old bytes at_end old []
 nothing_written old bytes at_end = record { ended = false; is_end = λ e. absurd (cc e); statements = []; rest = bytes; replies = []; last = []; more = []; begins = refl; run = refl; tail = inl refl; written_is = refl }
 
 -- a piece found no memory
-pub unfed : (result : Result Bool Stop) → IsErrAnd result (λ stop. stop ≡ stops.OutOfMemory) → (rose : Type 0) (held : Option (List ℕ)) (old : State) (bytes : List ℕ) (ended : Bool) (rest : List ℕ)
-    → ProgressRow result rose held held old bytes ended old rest
-unfed (Ok more) is rose held old bytes ended rest = absurd is
-unfed (Err stop) is rose held old bytes ended rest =
-    subst (λ s. ProgressRow (Err s) rose held held old bytes ended old rest) (sym is) ([], Appends-nil held, nothing_written old bytes (ended ≡ true))
+pub unfed : {T : Type 0} (took : T → List ℕ → Reply → T → Type 0) (t : T) (result : Result Bool Stop) → IsErrAnd result (λ stop. stop ≡ stops.OutOfMemory) → (rose : Type 0) (held : Option (List ℕ)) (old : State) (bytes : List ℕ) (ended : Bool) (rest : List ℕ)
+    → ProgressRow took t t result rose held held old bytes ended old rest
+unfed took t (Ok more) is rose held old bytes ended rest = absurd is
+unfed took t (Err stop) is rose held old bytes ended rest =
+    subst (λ s. ProgressRow took t t (Err s) rose held held old bytes ended old rest) (sym is) ([], Appends-nil held, nothing_written old bytes (ended ≡ true))

@@ -1,126 +1,77 @@
--- How the numbers of replies go on, statement by statement.
-use Rattle.std.proofs.Common.{◌≡◌, ◌⊎◌, inl, inr, ℕ, suc, ◌+◌, Bool, true, false, ◌||◌, nat_lt, List, [], ◌∷◌, ◌++◌, drop, length, Option, Result, Ok, Err, IsErrAnd, codes, if◌then◌else◌, refl, sym, ap, ◌∙◌, subst, append-nil, arith}
-use Rattle.std.specs.Result.{IfOk}
+-- The numbers of a run's replies, where a tally took them.
+use Rattle.std.proofs.Common.{◌≡◌, ◌⊎◌, inl, inr, ℕ, ◌+◌, ◌≤◌, Bool, true, false, ◌||◌, nat_lt, List, [], ◌∷◌, ◌++◌, length, None, Some, codes, if◌then◌else◌, refl, sym, ap, ◌∙◌, subst, append-nil, arith}
 use Rattle.std.proofs.lemmas.Bool.Decides.{Decides-ltb}
 use Rattle.std.proofs.lemmas.List.{length-append}
-use Rattle.cqa_value.specs.declared.memory.NoMemory.{NoMemory}
-use Rattle.script_lex.specs.declared.kinds.Span.{Span}
-use Rattle.script_lex.specs.declared.cutting.Cut.TheVariants as cuts
-use Rattle.script_lex.specs.Scripts.{Statement, statement_at, Begins, IsCut, IsSpace, HasNoStatement}
-use Rattle.script_lex.proofs.Statements.{Begins-statement, Cuts-part, space_over}
-use Rattle.cqa_model.specs.declared.refusal.Refusal.TheVariants.{Unfinished}
+use Rattle.script_lex.specs.Scripts.{Statement, Begins}
+use Rattle.script_lex.proofs.Statements.{Begins-append}
 use Rattle.reply_text.specs.declared.reply.Reply.{Reply}
-use Rattle.reply_text.specs.declared.reply.Reply.TheVariants.{Refused}
 use Rattle.reply_text.specs.Texts.{is_refusal}
+use Rattle.command_shell.specs.declared.ending.Ending.{Ending}
+use Rattle.command_shell.specs.declared.ending.Ending.TheVariants as endings
 use Rattle.command_shell.specs.declared.tally.Tally.{Tally}
 use Rattle.cqa_session.specs.State.{State}
-use Rattle.cqa_session.specs.Machine.{Step}
-use Rattle.cqa_session.specs.Runs.{Run, Closes, has_refusal}
-use Rattle.command_shell.specs.Demo.{rows_after, rows_to, refusals, Tallies, AnswersAll, StopsIn}
-use Rattle.command_shell.specs.Tallying.{Adds, TallyRow, InputRow}
-use Rattle.command_shell.proofs.Progress.{Run-push}
+use Rattle.cqa_session.specs.Runs.{Run, RunsOver, Answers, has_refusal}
+use Rattle.command_shell.specs.Demo.{rows_to, refusals, AnswersAll, StopsIn}
+use Rattle.command_shell.specs.Tallying.{Adds}
+use Rattle.command_shell.specs.Taking.{Takes, TakesLast, TakesRun, HandsOn}
+use Rattle.command_shell.specs.Top.{told}
 
-as_many : (old : State) (statements : List Statement) (replies : List Reply) (new : State) → Run old statements replies new → length statements ≡ length replies
-as_many old [] [] new run = refl
-as_many old [] (reply ∷ replies) new run = absurd run
-as_many old (statement ∷ statements) [] new run = absurd run
-as_many old (statement ∷ statements) (reply ∷ replies) new run = ap suc (as_many run.0 statements replies new run.2)
+-- a tally has grown by the numbers of these replies
+record Grown (before : Tally) (statements : List Statement) (answered replies : List Reply) (now : Tally) : Type 0 where
+  pub replied : now.replies ≡ before.replies + length replies
+  pub certain : now.certain ≡ before.certain + rows_to (codes "ask ") statements answered
+  pub possible : now.possible ≡ before.possible + rows_to (codes "possible ") statements answered
+  pub refused : now.refused ≡ before.refused + refusals replies
 
-rows_to-push : (word : List ℕ) (statements : List Statement) (replies : List Reply) (s : Statement) (reply : Reply) → length statements ≡ length replies
-    → rows_to word (statements ++ s ∷ []) (replies ++ reply ∷ []) ≡ rows_to word statements replies + rows_after word s.0 reply
-rows_to-push word [] [] s reply same = omega arith
-rows_to-push word [] (r ∷ replies) s reply same = absurd (omega (arith, same))
-rows_to-push word (t ∷ statements) [] s reply same = absurd (omega (arith, same))
-rows_to-push word (t ∷ statements) (r ∷ replies) s reply same =
-    let later = rows_to-push word statements replies s reply (omega (arith, same)) in
+by_each : (before : Tally) (statements : List Statement) (replies : List Reply) (now : Tally) → Takes Adds before statements replies now → Grown before statements replies replies now
+by_each before [] [] now same =
+    let a = ap (λ t. t.replies) same in
+    let b = ap (λ t. t.certain) same in
+    let c = ap (λ t. t.possible) same in
+    let d = ap (λ t. t.refused) same in
+    record { replied = omega (arith, a); certain = omega (arith, b); possible = omega (arith, c); refused = omega (arith, d) }
+by_each before [] (reply ∷ replies) now taken = absurd taken
+by_each before (statement ∷ statements) [] now taken = absurd taken
+by_each before (statement ∷ statements) (reply ∷ replies) now taken =
+    let one = taken.1 in
+    let later = by_each taken.0 statements replies now taken.2 in
+    record { replied = omega (arith, one.replied, later.replied); certain = omega (arith, one.certain, later.certain); possible = omega (arith, one.possible, later.possible); refused = omega (arith, one.refused, later.refused) }
+
+by_last : (before : Tally) (last : List Reply) (now : Tally) → TakesLast Adds before last now → Grown before [] [] last now
+by_last before [] now same =
+    let a = ap (λ t. t.replies) same in
+    let b = ap (λ t. t.certain) same in
+    let c = ap (λ t. t.possible) same in
+    let d = ap (λ t. t.refused) same in
+    record { replied = omega (arith, a); certain = omega (arith, b); possible = omega (arith, c); refused = omega (arith, d) }
+by_last before (reply ∷ last) now taken =
+    let one = taken.1 in
+    let later = by_last taken.0 last now taken.2 in
+    record { replied = omega (arith, one.replied, later.replied); certain = omega (arith, one.certain, later.certain); possible = omega (arith, one.possible, later.possible); refused = omega (arith, one.refused, later.refused) }
+
+refusals-append : (a b : List Reply) → refusals (a ++ b) ≡ refusals a + refusals b
+refusals-append [] b = omega arith
+refusals-append (reply ∷ a) b =
+    let later = refusals-append a b in
     omega (arith, later)
 
-refusals-push : (replies : List Reply) (reply : Reply) → refusals (replies ++ reply ∷ []) ≡ refusals replies + (if is_refusal reply then 1 else 0)
-refusals-push [] reply = omega arith
-refusals-push (r ∷ replies) reply =
-    let later = refusals-push replies reply in
-    omega (arith, later)
-
-length-push : (replies : List Reply) (reply : Reply) → length (replies ++ reply ∷ []) ≡ length replies + 1
-length-push replies reply = length-append replies (reply ∷ [])
-
--- the statements before the rest were answered, and these are the numbers of the replies
-pub record Tallied (old : State) (input rest : List ℕ) (now : State) (tally : Tally) : Type 0 where
-  pub statements : List Statement
-  pub replies : List Reply
-  pub begins : Begins true input statements rest
-  pub run : Run old statements replies now
-  pub tallies : Tallies statements replies replies tally
-
-pub start : (old : State) (input : List ℕ) (tally : Tally) → tally ≡ record { replies = 0; certain = 0; possible = 0; refused = 0 } → Tallied old input input old tally
-start old input tally is = record {
-  statements = [];
-  replies = [];
-  begins = refl;
-  run = refl;
-  tallies = rw is (record { replied = refl; certain = refl; possible = refl; refused = refl });
-}
-
-module _ {old : State} {input : List ℕ} {now : State} {tally : Tally} where
-  -- one statement more
-  pub more : (place : ℕ) (new : State) (after : Tally) (text : Span) (block : Option Span) (at : ℕ) → Tallied old input (drop place input) now tally → IsCut true (drop place input) (cuts.Statement text block at)
-      → TallyRow (Ok after) now (statement_at (drop place input) text block) new tally → Tallied old input (drop (place + at) input) new after
-  more place new after text block at t cut row =
-      let statement = statement_at (drop place input) text block in
-      let same = as_many old t.statements t.replies now t.run in
-      record {
-        statements = t.statements ++ statement ∷ [];
-        replies = t.replies ++ row.0 ∷ [];
-        begins = Begins-statement true input t.statements place text block at t.begins cut;
-        run = Run-push old t.statements t.replies now statement row.0 new t.run row.1;
-        tallies = record {
-          replied = row.2.replied ∙ ap (λ n. n + 1) t.tallies.replied ∙ sym (length-push t.replies row.0);
-          certain = row.2.certain ∙ ap (λ n. n + rows_after (codes "ask ") statement.0 row.0) t.tallies.certain ∙ sym (rows_to-push (codes "ask ") t.statements t.replies statement row.0 same);
-          possible = row.2.possible ∙ ap (λ n. n + rows_after (codes "possible ") statement.0 row.0) t.tallies.possible ∙ sym (rows_to-push (codes "possible ") t.statements t.replies statement row.0 same);
-          refused = row.2.refused ∙ ap (λ n. n + (if is_refusal row.0 then 1 else 0)) t.tallies.refused ∙ sym (refusals-push t.replies row.0);
-        };
-      }
-
-  -- a statement found no memory, before it did anything or after it
-  pub stopped : (result : Result Tally NoMemory) (fault : NoMemory) → IsErrAnd result (λ e. e ≡ fault) → (place : ℕ) (new : State) (text : Span) (block : Option Span) (at : ℕ) → Tallied old input (drop place input) now tally → IsCut true (drop place input) (cuts.Statement text block at)
-      → TallyRow (Err fault) now (statement_at (drop place input) text block) new tally → InputRow result old input new
-  stopped (Ok after) fault is place new text block at t cut row = absurd is
-  stopped (Err e) fault is place new text block at t cut row = elim row [
-    | inl same ↦ record { statements = t.statements; rest = drop place input; replies = t.replies; begins = t.begins; run = subst (Run old t.statements t.replies) (sym same) t.run }
-    | inr step ↦ record {
-      statements = t.statements ++ statement_at (drop place input) text block ∷ [];
-      rest = drop (place + at) input;
-      replies = t.replies ++ step.0 ∷ [];
-      begins = Begins-statement true input t.statements place text block at t.begins cut;
-      run = Run-push old t.statements t.replies now (statement_at (drop place input) text block) step.0 new t.run step.1;
+-- a run whose replies a new tally took
+tallied : {old : State} {input : List ℕ} {replies : List Reply} {new : State} (before tally : Tally) → before ≡ record { replies = 0; certain = 0; possible = 0; refused = 0 } → (run : RunsOver old input true replies new)
+    → TakesRun Adds before run.statements run.answered run.last tally → AnswersAll old input tally new
+tallied {replies = replies} before tally none run taken =
+    let each = by_each before run.statements run.answered taken.mid taken.each in
+    let last = by_last taken.mid run.last tally taken.closing in
+    let a = ap (λ t. t.replies) none in
+    let b = ap (λ t. t.certain) none in
+    let c = ap (λ t. t.possible) none in
+    let d = ap (λ t. t.refused) none in
+    let long = ap length run.all ∙ length-append run.answered run.last in
+    let all = ap refusals run.all ∙ refusals-append run.answered run.last in
+    record {
+      replies = replies;
+      run = run;
+      tallies = record { replied = omega (arith, each.replied, last.replied, a, long); certain = omega (arith, each.certain, last.certain, b); possible = omega (arith, each.possible, last.possible, c); refused = omega (arith, each.refused, last.refused, d, all) };
     }
-  ]
-
-module _ {old : State} {input : List ℕ} {now : State} {tally : Tally} (rest : List ℕ) (t : Tallied old input rest now tally) where
-  -- nothing is left to answer
-  pub done_blank : IsSpace rest → AnswersAll old input tally now
-  done_blank blank = record {
-    replies = t.replies;
-    run = record { statements = t.statements; rest = rest; answered = t.replies; last = []; cut = record { begins = t.begins; over = space_over true rest blank }; run = t.run; closes = blank; all = sym (append-nil t.replies) };
-    tallies = t.tallies;
-  }
-
-  -- what is left is refused
-  pub done_part : IsCut true rest cuts.Part → (result : Result Tally NoMemory) → IfOk result (λ after. Adds tally [] (Refused Unfinished) after) → InputRow result old input now
-  done_part cut (Ok after) add = record {
-    replies = t.replies ++ Refused Unfinished ∷ [];
-    run = record { statements = t.statements; rest = rest; answered = t.replies; last = Refused Unfinished ∷ []; cut = Cuts-part true input t.statements rest t.begins cut; run = t.run; closes = (cut.0, refl, refl); all = refl };
-    tallies = record {
-      replied = add.replied ∙ ap (λ n. n + 1) t.tallies.replied ∙ sym (length-push t.replies (Refused Unfinished));
-      certain = add.certain ∙ ap (λ n. n + 0) t.tallies.certain ∙ no_more (rows_to (codes "ask ") t.statements t.replies);
-      possible = add.possible ∙ ap (λ n. n + 0) t.tallies.possible ∙ no_more (rows_to (codes "possible ") t.statements t.replies);
-      refused = add.refused ∙ ap (λ n. n + 1) t.tallies.refused ∙ sym (refusals-push t.replies (Refused Unfinished));
-    };
-  }
-    where
-      no_more : (n : ℕ) → n + 0 ≡ n
-      no_more n = omega arith
-  done_part cut (Err fault) adds = record { statements = t.statements; rest = rest; replies = t.replies; begins = t.begins; run = t.run }
 
 -- some reply is a refusal exactly where their number isn't zero
 pub some_refused : (replies : List Reply) → nat_lt 0 (refusals replies) ≡ has_refusal replies
@@ -131,11 +82,6 @@ some_refused (reply ∷ replies) = by_first (is_refusal reply) (refusals replies
     by_first true count later is = (Decides-ltb 0 (1 + count)).1 (omega arith)
     by_first false count later is = let same : 0 + count ≡ count = omega arith in ap (nat_lt 0) same ∙ is
 
--- a reply was added, or there was no room for a number
-pub added : (result : Result Tally NoMemory) (old new : State) (s : Statement) (before : Tally) (reply : Reply) → Step old s.0 s.1 reply new → IfOk result (λ now. Adds before s.0 reply now) → TallyRow result old s new before
-added (Ok now) old new s before reply step adds = (reply, step, adds)
-added (Err fault) old new s before reply step adds = inr (reply, step)
-
 -- all statements are first statements
 pub at_its_end : (old new : State) (input : List ℕ) (tally : Tally) → AnswersAll old input tally new → StopsIn old input new
 at_its_end old new input tally a = record { statements = a.run.statements; rest = a.run.rest; replies = a.run.answered; begins = a.run.cut.begins; run = a.run.run }
@@ -143,3 +89,54 @@ at_its_end old new input tally a = record { statements = a.run.statements; rest 
 -- before the first statement
 pub at_its_start : (state : State) (input : List ℕ) → StopsIn state input state
 at_its_start state input = record { statements = []; rest = input; replies = []; begins = refl; run = refl }
+
+-- how a run ended over these bytes from a source that never fails, into a tally
+abbrev Ends : (before tally : Tally) (source left : List ℕ) (old new : State) → Ending → Type 0
+Ends before tally source left old new ending = HandsOn Adds before tally ending (told (Some source) None 0 0) (told (Some left) None 0 0) old new
+
+-- where nothing is left, all has come
+whole : (source came left : List ℕ) → source ≡ came ++ left → left ≡ [] → came ≡ source
+whole source came left took none = sym (took ∙ ap (λ l. came ++ l) none ∙ append-nil came)
+
+-- all was answered
+answered : (before tally : Tally) (source left script : List ℕ) (old new : State) → source ≡ script → before ≡ record { replies = 0; certain = 0; possible = 0; refused = 0 } → Ends before tally source left old new endings.Answered → AnswersAll old script tally new
+answered before tally source left script old new is none h =
+    subst (λ input. AnswersAll old input tally new) (whole source h.call.came left h.call.took h.call.row.0 ∙ is) (tallied before tally none h.call.row.2.run h.taken)
+
+with_refusal : (before tally : Tally) (source left script : List ℕ) (old new : State) → source ≡ script → before ≡ record { replies = 0; certain = 0; possible = 0; refused = 0 } → Ends before tally source left old new endings.WithRefusal → AnswersAll old script tally new
+with_refusal before tally source left script old new is none h =
+    subst (λ input. AnswersAll old input tally new) (whole source h.call.came left h.call.took h.call.row.0 ∙ is) (tallied before tally none h.call.row.2.run h.taken)
+
+pub all_answered : (before tally : Tally) (source left script : List ℕ) (old new : State) → source ≡ script → before ≡ record { replies = 0; certain = 0; possible = 0; refused = 0 } → (ending : Ending) → (ending ≡ endings.Answered) ⊎ (ending ≡ endings.WithRefusal)
+    → Ends before tally source left old new ending → AnswersAll old script tally new
+all_answered before tally source left script old new is none ending by h = elim by [
+  | inl same ↦ answered before tally source left script old new is none (subst (Ends before tally source left old new) same h)
+  | inr same ↦ with_refusal before tally source left script old new is none (subst (Ends before tally source left old new) same h)
+]
+
+-- the first statements of what came are those of the whole
+first : (ended : Bool) (source came left : List ℕ) (old new : State) → source ≡ came ++ left → (ended ≡ true → left ≡ []) → (s : List Statement) (rest : List ℕ) (replies : List Reply) → Begins ended came s rest → Run old s replies new → StopsIn old source new
+first true source came left old new took end s rest replies begins run = record { statements = s; rest = rest; replies = replies; begins = subst (λ input. Begins true input s rest) (whole source came left took (end refl)) begins; run = run }
+first false source came left old new took end s rest replies begins run = record { statements = s; rest = rest ++ left; replies = replies; begins = subst (λ input. Begins true input s (rest ++ left)) (sym took) (Begins-append true came left s rest begins); run = run }
+
+over : {written : List ℕ} {refused : Bool} (source came left : List ℕ) (old new : State) → source ≡ came ++ left → left ≡ [] → Answers old came true new written refused → StopsIn old source new
+over source came left old new took none a = first true source came left old new took (λ e. none) a.run.statements a.run.rest a.run.answered a.run.cut.begins a.run.run
+
+-- However it ended, the state is that after the first statements.
+stops : (before tally : Tally) (source left : List ℕ) (old new : State) → length source ≤ 268_435_456 → (ending : Ending) → Ends before tally source left old new ending → StopsIn old source new
+stops before tally source left old new few endings.Answered h = over source h.call.came left old new h.call.took h.call.row.0 h.call.row.2
+stops before tally source left old new few endings.WithRefusal h = over source h.call.came left old new h.call.took h.call.row.0 h.call.row.2
+stops before tally source left old new few endings.BadWords h = absurd h.call.row
+stops before tally source left old new few endings.ReadFault h = let rose = h.call.row.0 in absurd (omega (arith, rose))
+stops before tally source left old new few endings.WriteFault h = let rose = h.call.row.0 in absurd (omega (arith, rose))
+stops before tally source left old new few endings.OutOfMemory h =
+    let c = h.call.row.1 in
+    first c.ended source h.call.came left old new h.call.took c.is_end c.statements c.rest c.replies c.begins c.run
+stops before tally source left old new few endings.TooLong h =
+    let long = h.call.row.0 in
+    let all = ap length h.call.took ∙ length-append h.call.came left in
+    absurd (omega (arith, long, all, few))
+
+pub stopped : (before tally : Tally) (source left script : List ℕ) (old new : State) → source ≡ script → length script ≤ 268_435_456 → (ending : Ending) → Ends before tally source left old new ending → StopsIn old script new
+stopped before tally source left script old new is few ending h =
+    subst (λ input. StopsIn old input new) is (stops before tally source left old new (subst (λ input. length input ≤ 268_435_456) (sym is) few) ending h)

@@ -1,4 +1,5 @@
 pub mod Demo
+pub mod Taking
 pub mod Tallying
 pub mod Top
 pub mod Parts

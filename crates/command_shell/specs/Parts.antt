@@ -1,5 +1,5 @@
 -- What each part of the top call does.
-use Rattle.std.specs.Prelude.{◌≡◌, ◌⊎◌, ℕ, ◌+◌, ◌≤◌, ◌||◌, if◌then◌else◌, Bool, true, false, List, length, take, Option, Result, Ok, Err}
+use Rattle.std.specs.Prelude.{◌≡◌, ◌⊎◌, ℕ, ◌+◌, ◌≤◌, ◌||◌, if◌then◌else◌, Bool, true, false, List, [], length, take, Option, Result, Ok, Err, OnOk}
 use Rattle.std.specs.Io.KnownBytes.{Appends, Keeps}
 use Rattle.script_lex.specs.Scripts.{Statement}
 use Rattle.reply_text.specs.declared.reply.Reply.{Reply}
@@ -15,8 +15,9 @@ use Rattle.command_shell.specs.declared.ending.Ending.TheVariants as endings
 use Rattle.proof_check.specs.Verdicts.{IsVerdict, BeginsVerdict}
 use Rattle.cqa_session.specs.State.{State}
 use Rattle.cqa_session.specs.Machine.{Step}
-use Rattle.cqa_session.specs.Runs.{Answers, CutShort}
+use Rattle.cqa_session.specs.Runs.{CutShort}
 use Rattle.command_shell.specs.Top.{limit}
+use Rattle.command_shell.specs.Taking.{HandsAnswers}
 
 -- how the reading ended: with these bytes
 abbrev pub ReadRow : ReadEnd → (at_end rose : Type 0) → (came input : List ℕ) → Type 0
@@ -46,21 +47,21 @@ abbrev pub ReplyRow : Result Bool Stop → (rose : Type 0) → (held_old held_ne
 ReplyRow result rose held_old held_new reply = WriteRow result rose held_old held_new (reply_text reply) (is_refusal reply)
 
 -- how what is left at the end was answered
-abbrev pub CloseRow : Result Bool Stop → (rose : Type 0) → (held_old held_new : Option (List ℕ)) → Bool → Bool → Type 0
-CloseRow result rose held_old held_new false refused = (result ≡ Ok refused) × Keeps held_old held_new
-CloseRow result rose held_old held_new true refused = ReplyRow result rose held_old held_new (Refused Unfinished)
+abbrev pub CloseRow : {Taker : Type 0} (took : Taker → List ℕ → Reply → Taker → Type 0) → Taker → Taker → Result Bool Stop → (rose : Type 0) → (held_old held_new : Option (List ℕ)) → Bool → Bool → Type 0
+CloseRow took taker_old taker_new result rose held_old held_new false refused = (result ≡ Ok refused) × Keeps held_old held_new × (taker_new ≡ taker_old)
+CloseRow took taker_old taker_new result rose held_old held_new true refused = ReplyRow result rose held_old held_new (Refused Unfinished) × OnOk result (took taker_old [] (Refused Unfinished) taker_new)
 
 -- how one statement was answered
-abbrev pub AnswerRow : Result Bool Stop → (rose : Type 0) → (held_old held_new : Option (List ℕ)) → State → Statement → State → Type 0
-AnswerRow (Ok refused) rose held_old held_new old s new = (reply : Reply) × Step old s.0 s.1 reply new × Appends held_old held_new (reply_text reply) × (refused ≡ is_refusal reply)
-AnswerRow (Err stops.WriteFault) rose held_old held_new old s new = rose × ((reply : Reply) × (n : ℕ) × Step old s.0 s.1 reply new × Appends held_old held_new (take n (reply_text reply)))
-AnswerRow (Err stops.OutOfMemory) rose held_old held_new old s new = ((new ≡ old) ⊎ ((reply : Reply) × Step old s.0 s.1 reply new)) × Keeps held_old held_new
+abbrev pub AnswerRow : {Taker : Type 0} (took : Taker → List ℕ → Reply → Taker → Type 0) → Taker → Taker → Result Bool Stop → (rose : Type 0) → (held_old held_new : Option (List ℕ)) → State → Statement → State → Type 0
+AnswerRow took taker_old taker_new (Ok refused) rose held_old held_new old s new = (reply : Reply) × Step old s.0 s.1 reply new × Appends held_old held_new (reply_text reply) × (refused ≡ is_refusal reply) × took taker_old s.0 reply taker_new
+AnswerRow took taker_old taker_new (Err stops.WriteFault) rose held_old held_new old s new = rose × ((reply : Reply) × (n : ℕ) × Step old s.0 s.1 reply new × Appends held_old held_new (take n (reply_text reply)))
+AnswerRow took taker_old taker_new (Err stops.OutOfMemory) rose held_old held_new old s new = ((new ≡ old) ⊎ ((reply : Reply) × Step old s.0 s.1 reply new)) × Keeps held_old held_new
 
 -- How the statements of some bytes were answered, and the rest of the bytes that stands behind them.
-abbrev pub ProgressRow : Result Bool Stop → (rose : Type 0) → (held_old held_new : Option (List ℕ)) → State → List ℕ → Bool → State → List ℕ → Type 0
-ProgressRow (Ok refused) rose held_old held_new old bytes ended new rest = (written : List ℕ) × Appends held_old held_new written × (answers : Answers old bytes ended new written refused) × (answers.run.rest ≡ rest)
-ProgressRow (Err stops.WriteFault) rose held_old held_new old bytes ended new rest = rose × ((written : List ℕ) × Appends held_old held_new written × CutShort old bytes (ended ≡ true) new written)
-ProgressRow (Err stops.OutOfMemory) rose held_old held_new old bytes ended new rest = (written : List ℕ) × Appends held_old held_new written × CutShort old bytes (ended ≡ true) new written
+abbrev pub ProgressRow : {Taker : Type 0} (took : Taker → List ℕ → Reply → Taker → Type 0) → Taker → Taker → Result Bool Stop → (rose : Type 0) → (held_old held_new : Option (List ℕ)) → State → List ℕ → Bool → State → List ℕ → Type 0
+ProgressRow took taker_old taker_new (Ok refused) rose held_old held_new old bytes ended new rest = (written : List ℕ) × Appends held_old held_new written × HandsAnswers took taker_old taker_new old bytes ended new written refused rest
+ProgressRow took taker_old taker_new (Err stops.WriteFault) rose held_old held_new old bytes ended new rest = rose × ((written : List ℕ) × Appends held_old held_new written × CutShort old bytes (ended ≡ true) new written)
+ProgressRow took taker_old taker_new (Err stops.OutOfMemory) rose held_old held_new old bytes ended new rest = (written : List ℕ) × Appends held_old held_new written × CutShort old bytes (ended ≡ true) new written
 
 -- how the line of `check` on an input was written
 abbrev pub VerdictRow : Result Bool Stop → (rose : Type 0) → (held_old held_new : Option (List ℕ)) → List ℕ → Type 0

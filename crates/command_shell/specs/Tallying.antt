@@ -1,12 +1,10 @@
 -- How the numbers of a run's replies go on.
-use Rattle.std.specs.Prelude.{◌≡◌, ◌⊎◌, ℕ, ◌+◌, Bool, if◌then◌else◌, List, Option, Result, Ok, Err, codes}
+use Rattle.std.specs.Prelude.{◌≡◌, ℕ, ◌+◌, Bool, if◌then◌else◌, List, Option, Result, Ok, Err, codes}
 use Rattle.cqa_value.specs.declared.memory.NoMemory.{NoMemory}
-use Rattle.script_lex.specs.Scripts.{Statement}
 use Rattle.reply_text.specs.declared.reply.Reply.{Reply}
 use Rattle.reply_text.specs.Texts.{is_refusal}
 use Rattle.command_shell.specs.declared.tally.Tally.{Tally}
 use Rattle.cqa_session.specs.State.{State}
-use Rattle.cqa_session.specs.Machine.{Step}
 use Rattle.command_shell.specs.declared.ending.Stop.{Stop}
 use Rattle.command_shell.specs.declared.ending.Stop.TheVariants as stops
 use Rattle.command_shell.specs.Demo.{rows_after, AnswersAll, StopsIn, IsDemo, BeginsDemo}
@@ -19,11 +17,6 @@ pub record Adds (before : Tally) (text : List ℕ) (reply : Reply) (now : Tally)
   pub certain : now.certain ≡ before.certain + rows_after (codes "ask ") text reply
   pub possible : now.possible ≡ before.possible + rows_after (codes "possible ") text reply
   pub refused : now.refused ≡ before.refused + (if is_refusal reply then 1 else 0)
-
--- a statement was answered, and its reply added
-abbrev pub TallyRow : Result Tally NoMemory → State → Statement → State → Tally → Type 0
-TallyRow (Ok now) old s new before = (reply : Reply) × Step old s.0 s.1 reply new × Adds before s.0 reply now
-TallyRow (Err fault) old s new before = (new ≡ old) ⊎ ((reply : Reply) × Step old s.0 s.1 reply new)
 
 -- an input that has ended was answered, and these are the numbers of its replies
 abbrev pub InputRow : Result Tally NoMemory → State → List ℕ → State → Type 0

@@ -1,27 +1,22 @@
 //! `demo`: the script of a size is run, and a line tells the numbers of the run.
 
-ghost use Rattle.std.specs.Prelude.{◌≡◌, ◌≤◌, ◌++◌, ℕ, List, Option, Some, IfSome, IfOk, OnOk, MatchOption, length, nat_lt};
-ghost use Rattle.std.specs.Option.{option_copied};
+ghost use Rattle.std.specs.Prelude.{◌≡◌, ◌≤◌, ◌++◌, ℕ, List, Option, Some, IfOk, OnOk, MatchOption, length, nat_lt};
 ghost use Rattle.cqa_io.specs.Causes.{Rose};
-ghost use Rattle.script_lex.specs.Scripts.{statement_at};
 ghost use Rattle.command_shell.specs.Demo.{counted, line_text, IsSize};
 ghost use Rattle.command_shell.specs.declared.ending.Command.TheVariants.{Demo as DemoWord};
 ghost use Rattle.case_maker.specs.declared.script.TheConstants.{GREATEST_SIZE};
 ghost use Rattle.command_shell.specs.Parts.{WriteRow};
 ghost use Rattle.command_shell.specs.Top.{told, Ended};
-ghost use Rattle.command_shell.specs.Tallying.{InputRow, LineRow, TallyRow};
+ghost use Rattle.command_shell.specs.Tallying.{InputRow, LineRow};
 
-use crate::answers::part;
 use crate::ending::{Ending, Stop};
+use crate::pieces::run;
 use crate::tally::Tally;
 use case_maker::{GREATEST_SIZE, script_of};
-use cqa_io::{Sink, write_all};
-use cqa_model::Refusal;
+use cqa_io::{CalmSource, Sink, write_all};
 use cqa_session::Session;
 use cqa_value::{NoMemory, read_int};
 use itoa::Buffer;
-use reply_text::Reply;
-use script_lex::{Cut, Span, cut};
 use std::alloc::Global;
 
 /// The most digits of a size.
@@ -41,66 +36,19 @@ pub fn size_of(digits: &[u8]) -> Option<u32>
     Some(number as u32)
 }
 
-/// Answers a statement, and adds its reply to the numbers.
-fn tally(
-    alloc: Global,
-    session: &mut Session,
-    text: &[u8],
-    block: Option<&[u8]>,
-    before: Tally,
-) -> Result<Tally, NoMemory>
-    requires { length text.now ≤ 268_435_456 }
-    ensures { TallyRow result session.old (text.now, option_copied block.entry) session.new before }
+/// Answers the statements of a script, and gives the numbers of its replies.
+fn tally_script(alloc: Global, session: &mut Session, script: Vec<u8>) -> Result<Tally, NoMemory>
+    requires { length script.items ≤ 268_435_456 }
+    ensures { InputRow result session.old script.items session.new }
 {
-    let reply = session.run(alloc, text, block)?;
-    let now = before.with(text, &reply);
-    drop(reply);
-    now
-}
-
-/// Answers the statement at its places in some bytes, and adds its reply to the numbers.
-fn tally_at(
-    alloc: Global,
-    session: &mut Session,
-    bytes: &[u8],
-    text: Span,
-    block: Option<Span>,
-    before: Tally,
-) -> Result<Tally, NoMemory>
-    requires short { length bytes.now ≤ 268_435_456 }
-    requires text { (text.from ≤ text.to) × (text.to ≤ length bytes.now) }
-    requires block { IfSome block (λ b. (b.from ≤ b.to) × (b.to ≤ length bytes.now)) }
-    ensures { TallyRow result session.old (statement_at bytes.now text block) session.new before }
-{
-    match block {
-        None => tally(alloc, session, part(bytes, text), None, before),
-        Some(span) => tally(
-            alloc,
-            session,
-            part(bytes, text),
-            Some(part(bytes, span)),
-            before,
-        ),
-    }
-}
-
-/// Answers the statements of an input that has ended, and gives the numbers of its replies.
-fn tally_all(alloc: Global, session: &mut Session, input: &[u8]) -> Result<Tally, NoMemory>
-    requires { length input.now ≤ 268_435_456 }
-    ensures { InputRow result session.old input.now session.new }
-{
-    let mut place = 0;
-    let mut now = Tally::new();
-    loop {
-        let left = &input[place..];
-        match cut(left, true) {
-            Cut::Statement { text, block, rest } => {
-                now = tally_at(alloc, session, left, text, block, now)?;
-                place += rest;
-            }
-            Cut::Blank => return Ok(now),
-            Cut::Part => return now.with(b"", &Reply::Refused(Refusal::Unfinished)),
-        }
+    let mut tally = Tally::new();
+    let mut source = CalmSource::new(script);
+    let ending = run(alloc, session, &mut source, &mut tally);
+    drop(source);
+    match ending {
+        Ending::Answered | Ending::WithRefusal => Ok(tally),
+        // Neither the source nor the tally fails, and the script is within the limit.
+        _ => Err(NoMemory),
     }
 }
 
@@ -157,7 +105,7 @@ fn run_script<K: Sink>(
     ensures later { K.faults sink.old ≤ K.faults sink.new }
 {
     let script = script_of(alloc, size)?;
-    let tally = tally_all(alloc, session, script.as_slice())?;
+    let tally = tally_script(alloc, session, script)?;
     let rows = session.database().row_total();
     write_line(alloc, sink, size, rows, &tally)
 }

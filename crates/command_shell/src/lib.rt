@@ -6,6 +6,7 @@ mod demo;
 mod ending;
 mod input;
 mod pieces;
+mod taker;
 mod tally;
 mod top;
 mod verdict;

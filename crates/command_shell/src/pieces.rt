@@ -1,14 +1,15 @@
-//! The command `run`: each statement is answered as soon as its bytes have come.
+//! The loop of `run` and `demo`: each statement is answered as soon as its bytes have come.
 
-ghost use Rattle.std.specs.Prelude.{◌≡◌, ◌≤◌, ◌<◌, Some, [], length};
-ghost use Rattle.command_shell.specs.declared.ending.Command.TheVariants.{Run as RunWord};
-ghost use Rattle.command_shell.specs.Top.{told, Ended};
+ghost use Rattle.std.specs.Prelude.{◌≡◌, ◌≤◌, ◌<◌, [], length};
+ghost use Rattle.command_shell.specs.Top.{told};
+ghost use Rattle.command_shell.specs.Taking.{HandsOn};
 ghost use Rattle.command_shell.specs.Parts.{ending_with};
 
 use crate::answers::{answer_held, answer_piece};
 use crate::ending::{Ending, Stop};
 use crate::input::{LIMIT, PIECE, read_piece, zeros};
-use cqa_io::{Failed, Sink, Source};
+use crate::taker::Taker;
+use cqa_io::{Failed, Source};
 use cqa_session::Session;
 use script_lex::Cutter;
 use std::alloc::Global;
@@ -30,29 +31,29 @@ fn ending_with(last: Result<bool, Stop>, refused: bool) -> Ending
 }
 
 /// Answers the input piece by piece. What isn't answered yet is held.
-fn answer_pieces<S: Source, K: Sink>(
+fn answer_pieces<S: Source, T: Taker>(
     alloc: Global,
     session: &mut Session,
     source: &mut S,
-    sink: &mut K,
+    taker: &mut T,
     held: &mut Cutter,
     piece: &mut [u8],
 ) -> Ending
     requires empty { held.old ≡ [] }
     requires piece { 0 < length piece.old }
-    ensures row { Ended (Some RunWord) result (told (S.left source.old) (K.held sink.old) (S.faults source.old) (K.faults sink.old)) (told (S.left source.new) (K.held sink.new) (S.faults source.new) (K.faults sink.new)) session.old session.new }
+    ensures row { HandsOn T.took taker.old taker.new result (told (S.left source.old) (T.written taker.old) (S.faults source.old) (T.faults taker.old)) (told (S.left source.new) (T.written taker.new) (S.faults source.new) (T.faults taker.new)) session.old session.new }
     ensures reads { S.faults source.old ≤ S.faults source.new }
-    ensures writes { K.faults sink.old ≤ K.faults sink.new }
+    ensures writes { T.faults taker.old ≤ T.faults taker.new }
 {
     let mut came = 0;
     let mut refused = false;
     while came <= LIMIT {
         match read_piece(source, piece, LIMIT + 1 - came) {
             Err(Failed) => return Ending::ReadFault,
-            Ok(0) => return ending_with(answer_held(alloc, session, sink, held, true), refused),
+            Ok(0) => return ending_with(answer_held(alloc, session, taker, held, true), refused),
             Ok(count) => {
                 let kept = count.min(LIMIT - came);
-                match answer_piece(alloc, session, sink, held, &piece[..kept]) {
+                match answer_piece(alloc, session, taker, held, &piece[..kept]) {
                     Ok(more) => refused |= more,
                     Err(stop) => return Ending::from(stop),
                 }
@@ -63,16 +64,16 @@ fn answer_pieces<S: Source, K: Sink>(
     Ending::TooLong
 }
 
-/// Reads the input and answers each statement as soon as it is complete.
-pub fn run<S: Source, K: Sink>(
+/// Reads the input, answers each statement as soon as it is complete, and hands the reply to the taker.
+pub fn run<S: Source, T: Taker>(
     alloc: Global,
     session: &mut Session,
     source: &mut S,
-    sink: &mut K,
+    taker: &mut T,
 ) -> Ending
-    ensures row { Ended (Some RunWord) result (told (S.left source.old) (K.held sink.old) (S.faults source.old) (K.faults sink.old)) (told (S.left source.new) (K.held sink.new) (S.faults source.new) (K.faults sink.new)) session.old session.new }
+    ensures row { HandsOn T.took taker.old taker.new result (told (S.left source.old) (T.written taker.old) (S.faults source.old) (T.faults taker.old)) (told (S.left source.new) (T.written taker.new) (S.faults source.new) (T.faults taker.new)) session.old session.new }
     ensures reads { S.faults source.old ≤ S.faults source.new }
-    ensures writes { K.faults sink.old ≤ K.faults sink.new }
+    ensures writes { T.faults taker.old ≤ T.faults taker.new }
 {
     let Ok(mut piece) = zeros(alloc, PIECE) else {
         return Ending::OutOfMemory;
@@ -82,7 +83,7 @@ pub fn run<S: Source, K: Sink>(
         alloc,
         session,
         source,
-        sink,
+        taker,
         &mut held,
         piece.as_mut_slice(),
     );

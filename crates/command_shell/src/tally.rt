@@ -1,12 +1,17 @@
 //! The numbers of a run's replies.
 
-ghost use Rattle.std.specs.Prelude.{◌≡◌, ◌+◌, IfOk};
+ghost use Rattle.std.specs.Prelude.{◌≡◌, ◌+◌, None, IfOk, OnOk};
+ghost use Rattle.cqa_io.specs.Causes.{Rose};
+ghost use Rattle.command_shell.specs.Parts.{ReplyRow};
 ghost use Rattle.command_shell.specs.Demo.{rows_after, rows_in};
 ghost use Rattle.command_shell.specs.Tallying.{Adds};
 
 use crate::answers::is_refused;
+use crate::ending::Stop;
+use crate::taker::Taker;
 use cqa_value::NoMemory;
 use reply_text::Reply;
+use std::alloc::Global;
 
 /// How many replies there were, how many rows those to `ask` and those to `possible` list, and how many are refusals.
 #[derive(Clone, Copy, Debug, PartialEq, Eq)]
@@ -44,6 +49,23 @@ impl Tally {
             possible: sum(self.possible, rows_after(b"possible ", text, reply))?,
             refused: sum(self.refused, u64::from(is_refused(reply)))?,
         })
+    }
+}
+
+/// The numbers take each reply, and write nothing.
+impl Taker for Tally {
+    ghost written = { λ _. None };
+
+    ghost faults = { λ _. 0 };
+
+    ghost took = { Adds };
+
+    fn take(&mut self, _alloc: Global, text: &[u8], reply: &Reply) -> Result<bool, Stop>
+        ensures row { ReplyRow result (Rose 0 0) None None reply.now }
+        ensures took { OnOk result (Adds self.old text.now reply.now self.new) }
+    {
+        *self = self.with(text, reply)?;
+        Ok(is_refused(reply))
     }
 }
 

@@ -3,7 +3,7 @@
 ghost use Rattle.std.specs.Prelude.{◌≡◌, ◌≤◌, ◌∷◌, [], Option, Some, MatchOption};
 ghost use Rattle.cqa_io.specs.Causes.{Rose};
 ghost use Rattle.cqa_session.specs.State.{opening, State};
-ghost use Rattle.command_shell.specs.declared.ending.Command.TheVariants.{Check as CheckWord, Demo as DemoWord};
+ghost use Rattle.command_shell.specs.declared.ending.Command.TheVariants.{Check as CheckWord};
 ghost use Rattle.command_shell.specs.Top.{code_of, StandFor, AreWordsFor, IsAskedBy, told, Ended, IsWithinLimit, IsCompleted};
 
 use crate::demo::{demo, size_of};

@@ -1,6 +1,6 @@
 //! The line of `check` on an input.
 
-ghost use Rattle.std.specs.Prelude.{◌≡◌, ◌≤◌};
+ghost use Rattle.std.specs.Prelude.{◌≤◌};
 ghost use Rattle.cqa_io.specs.Causes.{Rose};
 ghost use Rattle.proof_check.specs.Verdicts.{is_verified, line_of};
 ghost use Rattle.command_shell.specs.Parts.{WriteRow, VerdictRow};

@@ -6,8 +6,8 @@ use Rattle.command_shell.proofs.answers.answer_held.Given as goal
 abbrev pub invariant-loop-text : goal.invariant-loop-text
 invariant-loop-text g l = record {
   fewer : length l.held ≤ length l.fn.held;
-  so_far : SoFar l.fn.session l.fn.held l.ended l.held l.session l.refused (g.K.Sink.held l.fn.sink) (g.K.Sink.held l.sink);
-  later : g.K.Sink.faults l.fn.sink ≤ g.K.Sink.faults l.sink;
+  so_far : SoFar g.T.Taker.took l.fn.taker l.taker l.fn.session l.fn.held l.ended l.held l.session l.refused (g.T.Taker.written l.fn.taker) (g.T.Taker.written l.taker);
+  later : g.T.Taker.faults l.fn.taker ≤ g.T.Taker.faults l.taker;
 }
 
 abbrev pub decreases-loop-text : goal.decreases-loop-text

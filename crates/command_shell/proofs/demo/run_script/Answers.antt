@@ -16,16 +16,16 @@ returns-in_err-script-clause-row g c =
 pub returns-in_err-tally-clause-row : goal.returns-in_err-tally-clause-row
 returns-in_err-tally-clause-row g c =
     let old = c.args.session.now in
-    let new = c.tally_all.new.session in
-    let script = c.as_slice.ensures.value ∙ c.in_ok-script.ensures.text in
+    let new = c.tally_script.new.session in
+    let script = c.in_ok-script.ensures.text in
     out_of_memory c.from_residual-in_err-tally.result _ (g.K.Sink.held c.args.sink.now) c.args.size old new c.from_residual-in_err-tally.ensures.1 (subst (λ text. StopsIn old text new) script c.in_err-tally.ensures)
 
 pub returns-clause-row : goal.returns-clause-row
 returns-clause-row g c =
     let old = c.args.session.now in
-    let new = c.tally_all.new.session in
+    let new = c.tally_script.new.session in
     let tally = c.in_ok-tally.tally in
-    let script = c.as_slice.ensures.value ∙ c.in_ok-script.ensures.text in
+    let script = c.in_ok-script.ensures.text in
     let rows = c.row_total-rows.ensures.total ∙ ap row_total c.database.ensures.is in
     let faults_old = g.K.Sink.faults c.args.sink.now in
     let faults_new = g.K.Sink.faults c.write_line.new.sink in

@@ -9,7 +9,7 @@ invariant-loop-came g l = record {
   within : l.came ≤ 268_435_457;
   few : length l.held ≤ l.came;
   piece : 0 < length l.piece;
-  underway : Underway (told (g.S.Source.left l.fn.source) (g.K.Sink.held l.fn.sink) (g.S.Source.faults l.fn.source) (g.K.Sink.faults l.fn.sink)) (told (g.S.Source.left l.source) (g.K.Sink.held l.sink) (g.S.Source.faults l.source) (g.K.Sink.faults l.sink)) l.fn.session l.session l.came l.held l.refused;
+  underway : Underway g.T.Taker.took l.fn.taker l.taker (told (g.S.Source.left l.fn.source) (g.T.Taker.written l.fn.taker) (g.S.Source.faults l.fn.source) (g.T.Taker.faults l.fn.taker)) (told (g.S.Source.left l.source) (g.T.Taker.written l.taker) (g.S.Source.faults l.source) (g.T.Taker.faults l.taker)) l.fn.session l.session l.came l.held l.refused;
 }
 
 abbrev pub decreases-loop-came : goal.decreases-loop-came

@@ -2,4 +2,4 @@ use Rattle.command_shell.proofs.Underway.{unread}
 use Rattle.command_shell.proofs.pieces.run.Goals as goal
 
 pub returns-in_default-clause-row : goal.returns-in_default-clause-row
-returns-in_default-clause-row g c = unread _ c.args.session.now
+returns-in_default-clause-row g c = unread c.args.taker.now _ c.args.session.now

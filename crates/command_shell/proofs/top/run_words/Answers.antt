@@ -8,7 +8,7 @@ pub returns-in-None-clause-row : goal.returns-in-None-clause-row
 returns-in-None-clause-row g c = (None, c.in-None.ensures, (BadWords, c.code.ensures, refused_words _ _))
 
 pub returns-in-Some-Run-clause-completed : goal.returns-in-Some-Run-clause-completed
-returns-in-Some-Run-clause-completed g c some words reads writes short = completed (Some Run) c.run.result _ _ _ _ _ c.code-in-Some-Run.ensures c.run.ensures.row (λ e. (cc)) reads writes short
+returns-in-Some-Run-clause-completed g c some words reads writes short = completed (Some Run) c.run.result _ _ _ _ _ c.code-in-Some-Run.ensures c.run.ensures.row.call (λ e. (cc)) reads writes short
 
 pub returns-in-Some-Check-clause-completed : goal.returns-in-Some-Check-clause-completed
 returns-in-Some-Check-clause-completed g c some words reads writes short =
