@@ -1,11 +1,13 @@
-//! Tests of what no clause says of answers: searches by formulas, weak pairs, repairs and logs. Each call succeeds with ample
-//! memory, and with the answer that was worked out by hand.
+//! Tests of what no clause says of answers: searches by formulas, weak pairs, repairs, orders of atoms and logs. Each call
+//! succeeds with ample memory, and with the answer that was worked out by hand.
 #![tactic(auto)]
 
 pub mod fit;
 #[cfg(test)]
 mod formulas;
 pub mod making;
+#[cfg(test)]
+mod orders;
 #[cfg(test)]
 mod questions;
 #[cfg(test)]

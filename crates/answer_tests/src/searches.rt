@@ -62,8 +62,9 @@ const JOINED: &str = "ask exists from r, s where r.z = s.z";
 const CYCLIC: &str = "ask exists from r, s where r.x = s.z and r.z = s.y";
 
 /// Two blocks in which a witness can be avoided, one through different rows in different repairs, and a formula that no
-/// propagation decides, without and with a search; and one row more than the witnesses of each value of an answer.
-const CASES: [Case; 5] = [
+/// propagation decides, without and with a search; one row more than the witnesses of each value of an answer; and blocks
+/// whose rows are alike, so that no search is needed.
+const CASES: [Case; 6] = [
     Case {
         rows: [
             "insert into r values (1, 0), (1, 1)",
@@ -107,6 +108,15 @@ const CASES: [Case; 5] = [
         ],
         query: "ask select r.x from r, s where r.z = s.z",
         budget: 200_000,
+        wanted: Shown::Rows(1),
+    },
+    Case {
+        rows: [
+            "insert into r values (1, 0), (1, 1)",
+            "insert into s values (1, 0), (1, 1)",
+        ],
+        query: "ask exists from r, s where r.x = s.y",
+        budget: 0,
         wanted: Shown::Rows(1),
     },
 ];

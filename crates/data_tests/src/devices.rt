@@ -1,6 +1,6 @@
 //! Devices: calls that fail by their number or for want of room, and writers that are flushed.
 
-use cqa_io::{Failed, MemSink, MemSource, Sink, Source, StdSink, write_all};
+use cqa_io::{CalmSource, CountSink, Failed, MemSink, MemSource, Sink, Source, StdSink, write_all};
 use std::io;
 use std::io::Write;
 use std::test::Fail;
@@ -31,6 +31,31 @@ fn a_sink_in_memory_takes_what_there_is_room_for(rt: HostRuntime) -> Result<(), 
     assert!(rt; answers == (Ok(()), Err(Failed)));
     assert!(rt; held);
     Ok(())
+}
+
+#[test]
+fn a_calm_source_gives_what_there_is_room_for(rt: HostRuntime) -> Result<(), Fail> {
+    let mut source = CalmSource::new(Vec::from_slice(rt.alloc(), b"abcde")?);
+    let mut into = [0u8; 4];
+    let answers = (
+        source.read(&mut into),
+        source.read(&mut into),
+        source.read(&mut into),
+    );
+    drop(source);
+    assert!(rt; answers == (Ok(4), Ok(1), Ok(0)));
+    assert!(rt; into == *b"ebcd");
+    Ok(())
+}
+
+#[test]
+fn a_sink_that_counts_takes_whole_pieces(rt: HostRuntime) {
+    let mut sink = CountSink::new();
+    let answers = (write_all(&mut sink, b"abc"), sink.write(b"de"));
+    let count = sink.count();
+    drop(sink);
+    assert!(rt; answers == (Ok(()), Ok(2)));
+    assert!(rt; count == 5);
 }
 
 /// A writer of std that takes each byte, and fails where it is flushed.

@@ -1,7 +1,7 @@
 //! The cases that no script can show: devices that fail, words that aren't accepted, how much is read, and a long proof.
 
 use crate::comparing::ends_as_wanted;
-use crate::running::{Case, run};
+use crate::running::{Case, run, run_calm};
 use std::alloc::{AllocError, Global};
 use std::io;
 
@@ -20,6 +20,10 @@ ask select name from person where id = 1;
 ask select city from person where id = 1;
 ask select name from person where city = 'Oslo';
 ";
+
+/// How many bytes its answers have: `created person`, `inserted 3`, `('Ann')`, `1 rows`, `0 rows`, `('Bo')` and `1 rows`,
+/// a line each.
+const PEOPLE_ANSWERS: u64 = 15 + 11 + 8 + 7 + 7 + 7 + 7;
 
 /// Its first 99 bytes.
 const PEOPLE_CUT: &[u8] = b"create table person (id int, name text, city text, primary key (id));
@@ -228,6 +232,16 @@ fn reads_no_more(alloc: Global) -> Result<bool, AllocError> {
     Ok(left.saturating_add(FIRST_STATEMENT) == PEOPLE.len())
 }
 
+/// Whether the bytes of the answers to the script of people are as many as they have to be.
+fn counts_bytes(alloc: Global) -> Result<bool, AllocError> {
+    let case = Case {
+        input: PEOPLE,
+        ..ANSWERED
+    };
+    let (status, written) = run_calm(alloc, &case)?;
+    Ok(status == case.status && written == PEOPLE_ANSWERS)
+}
+
 /// Appends a step that adds the clause of the step before it again.
 fn append_step(alloc: Global, text: &mut Vec<u8>, id: u32) -> Result<(), AllocError> {
     let before = id.saturating_sub(1);
@@ -267,5 +281,9 @@ pub fn all_pass(rt: &HostRuntime) -> io::Result<bool> {
     if !reads_no_more {
         println!(rt; "more is read behind a reply that fails")?;
     }
-    Ok(checks_a_long_proof(rt)? && reads_no_more && failed == 0)
+    let counts_bytes = counts_bytes(rt.alloc())?;
+    if !counts_bytes {
+        println!(rt; "another number of bytes is written")?;
+    }
+    Ok(checks_a_long_proof(rt)? && reads_no_more && counts_bytes && failed == 0)
 }

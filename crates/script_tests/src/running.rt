@@ -4,7 +4,7 @@ ghost use Rattle.std.specs.Prelude.{◌≡◌, ◌∷◌, [], IfOk, map, max, st
 ghost use Rattle.script_tests.specs.Calls.{Ends, IsCall, outside};
 
 use command_shell::run_words;
-use cqa_io::{MemSink, MemSource};
+use cqa_io::{CalmSource, CountSink, MemSink, MemSource};
 use cqa_session::Session;
 use std::alloc::{AllocError, Global};
 
@@ -97,4 +97,25 @@ pub fn run(alloc: Global, case: &Case<'_>) -> Result<End, AllocError>
         source,
         sink,
     })
+}
+
+/// Calls the program over devices that never fail, and tells its status and how many bytes it wrote.
+pub fn run_calm(alloc: Global, case: &Case<'_>) -> Result<(u8, u64), AllocError> {
+    let mut source = CalmSource::new(Vec::from_slice(alloc, case.input)?);
+    let mut sink = CountSink::new();
+    let words = words_of(alloc, case)?;
+    let mut session = Session::new(alloc, CONFLICTS);
+    let status = run_words(
+        alloc,
+        words.as_slice(),
+        &mut session,
+        &mut source,
+        &mut sink,
+    );
+    drop(session);
+    drop(words);
+    drop(source);
+    let written = sink.count();
+    drop(sink);
+    Ok((status, written))
 }

@@ -1,0 +1,64 @@
+//! The elimination orders by which asks go.
+
+use crate::making::{Wanted, is_answered};
+use cqa_model::Query;
+use fo_rewrite::elimination_of;
+use std::alloc::Global;
+use table_blocks::Database;
+
+/// A query, and the places of its atoms in the order in which they are taken.
+struct Case {
+    query: &'static str,
+    order: &'static [u32],
+}
+
+impl Wanted for Case {
+    fn comes(&self, alloc: Global, _db: &Database, query: &Query) -> bool {
+        match elimination_of(alloc, query) {
+            Ok(Some(plan)) => {
+                let right = plan.order.as_slice() == self.order;
+                drop(plan);
+                right
+            }
+            other => {
+                drop(other);
+                false
+            }
+        }
+    }
+}
+
+const TABLES: [&str; 3] = [
+    "create table a (k int, x int, primary key (k))",
+    "create table b (k int, z int, primary key (k))",
+    "create table c (k int, z int, primary key (k))",
+];
+
+/// Tables that nothing links, with the answer in the later one, and without answer columns; a table that joins link to
+/// none, before those that they link; one that is joined to a table taken, before one that has answer columns.
+const CASES: [Case; 4] = [
+    Case {
+        query: "ask select b.z from a, b",
+        order: &[1, 0],
+    },
+    Case {
+        query: "ask exists from a, b",
+        order: &[0, 1],
+    },
+    Case {
+        query: "ask select c.z from b, a, c where a.x = c.k",
+        order: &[1, 2, 0],
+    },
+    Case {
+        query: "ask select a.k, b.k from a, b, c where a.k = c.k",
+        order: &[0, 2, 1],
+    },
+];
+
+#[test]
+fn orders_begin_with_answers(rt: HostRuntime) {
+    let alloc = rt.alloc();
+    for case in &CASES {
+        assert!(rt; is_answered(alloc, &TABLES, &[], case.query, case));
+    }
+}
