@@ -3,6 +3,7 @@
 ghost use Rattle.std.specs.Prelude.{◌≡◌, ◌≤◌, ◌++◌, OnOk, OnErr, [], length, reverse, take};
 ghost use Rattle.row_pieces.specs.Joined.{joined, AreNumbered};
 
+use crate::mark::first_mark;
 use crate::piece::{MOST_IN_PIECE, Piece};
 use cqa_value::{NoMemory, Row};
 
@@ -17,8 +18,10 @@ fn cut_off(rows: &mut Vec<Row>, cut: &mut Vec<Piece>) -> Result<(), NoMemory>
 {
     while rows.len() > MOST_IN_PIECE {
         let rest = rows.split_off(rows.len() - MOST_IN_PIECE)?;
+        let mark = first_mark(rest.as_slice());
         cut.push(Piece {
             start: 0,
+            mark,
             rows: rest,
         })?;
     }
@@ -35,8 +38,10 @@ fn cut_all(rows: &mut Vec<Row>, cut: &mut Vec<Piece>) -> Result<(), NoMemory>
     rows.shrink_to_fit();
     let alloc = *rows.allocator();
     let first = std::mem::replace(rows, Vec::new(alloc));
+    let mark = first_mark(first.as_slice());
     cut.push_reserved(Piece {
         start: 0,
+        mark,
         rows: first,
     });
     Ok(())
@@ -77,7 +82,7 @@ fn add_pieces(pieces: &mut Vec<Piece>, rows: &mut Vec<Row>) -> Result<(), NoMemo
     done
 }
 
-/// Puts rows behind all those of pieces: in the last one if that has room for them. The pieces keep their places.
+/// Puts rows behind all those of pieces: in the last one if that has room for them. The pieces that were there keep their places.
 ///
 /// # Errors
 ///

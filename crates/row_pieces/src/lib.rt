@@ -3,6 +3,7 @@
 
 mod add;
 mod keep;
+mod mark;
 mod piece;
 mod pieces;
 mod put;

@@ -8,10 +8,12 @@ use cqa_value::Row;
 /// The most rows that a piece is left with where memory is had to cut it.
 pub const MOST_IN_PIECE: usize = 256;
 
-/// Some rows one after the other, with the place of the first of them.
+/// Some rows one after the other, with the place of the first of them, and a mark: that of the first row, or of one that stood
+/// before it.
 #[derive(Drop)]
 pub struct Piece {
     pub start: usize,
+    pub mark: u64,
     pub rows: Vec<Row>,
 }
 

@@ -1,12 +1,13 @@
 //! Rows that are put among those of pieces.
 
-ghost use Rattle.std.specs.Prelude.{◌≡◌, ℕ, ◌≤◌, ◌<◌, ◌+◌, ◌++◌, ◌^◌, List, IfOk, OnOk, OnErr, [], length, take, drop, slice_index_or};
+ghost use Rattle.std.specs.Prelude.{◌≡◌, ◌≤◌, ◌<◌, ◌+◌, ◌++◌, ◌^◌, List, IfOk, OnOk, OnErr, length, take, drop, slice_index_or};
 ghost use Rattle.cqa_value.specs.declared.value.Value.{Value as Cell};
 ghost use Rattle.row_pieces.specs.declared.piece.Piece.{Piece as PieceOfRows};
 ghost use Rattle.row_pieces.specs.Inserted.{with_item, with_items, AreRising};
 ghost use Rattle.row_pieces.specs.Joined.{joined, AreNumbered, IsOpen};
 
 use crate::add::add_behind;
+use crate::mark::{first_mark, mark_of};
 use crate::piece::{MOST_IN_PIECE, Piece, piece_of};
 use cqa_value::{NoMemory, Row};
 
@@ -29,7 +30,8 @@ fn cut(pieces: &mut Vec<Piece>, at: usize, middle: usize) -> usize
     let start = piece.start + middle;
     match piece.rows.split_off(middle) {
         Ok(rows) => {
-            drop(pieces.insert(at + 1, Piece { start, rows }));
+            let mark = first_mark(rows.as_slice());
+            drop(pieces.insert(at + 1, Piece { start, mark, rows }));
             at + 2
         }
         Err(_) => at + 1,
@@ -61,7 +63,9 @@ fn put_in(pieces: &mut Vec<Piece>, end: usize, place: usize, row: Row) -> Result
 {
     let (front, _) = pieces.as_slice().split_at(end);
     let at = piece_of(front, place);
+    let mark = mark_of(&row);
     let piece = &mut pieces[at];
+    piece.mark = piece.mark.min(mark);
     piece.rows.insert(place - piece.start, row)?;
     Ok(at + 1)
 }
@@ -159,6 +163,7 @@ pub fn put(
     if pieces.is_empty() {
         pieces.push(Piece {
             start: 0,
+            mark: 0,
             rows: Vec::new(*rows.allocator()),
         })?;
     }

@@ -7,6 +7,7 @@ ghost use Rattle.row_pieces.specs.Joined.{joined, AreNumbered};
 ghost use Rattle.row_pieces.specs.Retained.{retained};
 
 use crate::keep::retain_range;
+use crate::mark::first_mark;
 use crate::piece::{Piece, piece_of};
 use cqa_value::Row;
 
@@ -106,6 +107,7 @@ pub fn exchange_each(pieces: &mut [Piece], rows: &mut [Row])
     for at in 0..pieces.len() {
         let piece = &mut pieces[at];
         exchange_some(piece.rows.as_mut_slice(), rows, start);
+        piece.mark = first_mark(piece.rows.as_slice());
         start += piece.rows.len();
     }
 }

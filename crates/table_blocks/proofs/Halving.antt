@@ -1,5 +1,5 @@
 -- Searches by halving and by doubling steps, over items that a test parts.
-use Rattle.std.proofs.Common.{◌≡◌, ◌+◌, ◌-◌, ◌/◌, ◌<◌, ◌≤◌, ◌^◌, ℕ, suc, zero, length, List, Bool, true, false, refl, sym, subst, ◌∙◌, arith, slice_index_or, take, drop, ◌∷◌, [], Bor, true≢false}
+use Rattle.std.proofs.Common.{◌≡◌, ◌+◌, ◌-◌, ◌/◌, ◌<◌, ◌≤◌, ◌^◌, ℕ, suc, zero, length, List, Bool, true, false, refl, sym, subst, ◌∙◌, arith, slice_index_or, take, drop, ◌∷◌, [], Bor, true≢false, not}
 use Rattle.std.proofs.Math.Nat.{pow-suc}
 use Rattle.std.specs.List.{AllWithin, HoldsAt}
 use Rattle.std.specs.List.Sorted.{IsPartitionedBy, IsPartitionPoint}
@@ -18,6 +18,10 @@ front_passes p xs at h l q k d a b = h k at d (omega (arith, b)) l (q d)
 one_of : (b : Bool) → (b ≡ true → ⊥) → b ≡ false
 one_of true h = absurd (h refl)
 one_of false h = refl
+
+pub denied : (b : Bool) → not b ≡ true → b ≡ false
+denied true h = absurd (true≢false (sym h))
+denied false h = refl
 
 pub back_fails : {X : Type 0} (p : X → Bool) (xs : List X) (at : ℕ) → IsPartitionedBy p xs → at < length xs → HoldsAt (λ y. p y ≡ false) xs at → AllWithin (λ y. p y ≡ false) xs at (length xs)
 back_fails p xs at h l q k d a b = one_of (p (slice_index_or xs k d)) (λ t. true≢false (sym (h at k d a b t) ∙ q d))

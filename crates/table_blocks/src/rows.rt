@@ -15,7 +15,7 @@ ghost use Rattle.table_blocks.specs.Tables.{IsPlace, ArePlaces, AreMergeable, Is
 use crate::keys::check_consistent;
 use crate::order::block_compare;
 use crate::probe::Probe;
-use crate::search::leading;
+use crate::search::leading_at;
 use crate::span::rows_with;
 use crate::test::{ColumnTest, known_key, passes_all};
 use cqa_model::Refusal;
@@ -118,9 +118,15 @@ fn place_from(rows: &Rows<'_>, from: usize, reach: usize, key: &[u32], row: &Row
     ensures place { IsStrictlySortedBy (block_cmp key.now) rows.now → AllByRecursion (λ other. block_cmp key.now other row.now ≡ Less) (take from rows.now) → IsPlace (block_cmp key.now) rows.now row.now result }
 {
     prove!(from <= rows.len());
+    let near = if key.first() == Some(&0) {
+        Some(row)
+    } else {
+        None
+    };
     let (_, rest) = rows.split_at(from);
-    from + leading(
+    from + leading_at(
         &rest,
+        near,
         reach,
         |other| -> bool
             ensures { result ≡ is_lt (block_cmp key.entry.now other.now row.entry.now) }

@@ -14,7 +14,7 @@ returns-in_err-append-clause-err c =
     let count = c.len-count.ensures in
     let held = c.args.pieces.now.ok.0 in
     let some = c.if-count-eq0.false in
-    let new : Piece = record { start = piece.start; rows = c.append.new.self } in
+    let new : Piece = record { start = piece.start; mark = piece.mark; rows = c.append.new.self } in
     let p = err_from_is_err_and c.from_residual.result c.from_residual.ensures.1 in
     rw (p.1) (joined_same ps at piece new (omega (arith, count, held, some)) (c.in_err-append.ensures.items ∙ ap (λ (z : Piece). z.rows.items) c.index_mut-last.ensures.value))
 
@@ -28,7 +28,7 @@ returns-clause-ok c =
     let held = c.args.pieces.now.ok.0 in
     let some = c.if-count-eq0.false in
     let there : at < length ps = omega (arith, count, held, some) in
-    let new : Piece = record { start = piece.start; rows = c.append.new.self } in
+    let new : Piece = record { start = piece.start; mark = piece.mark; rows = c.append.new.self } in
     let before = joined (take at ps) in
     let none = drop_all (at + 1) ps (omega (arith, count, held, some)) in
     let whole : joined ps ≡ before ++ piece.rows.items =
@@ -51,5 +51,5 @@ returns-clause-kept c numbered =
     let count = c.len-count.ensures in
     let held = c.args.pieces.now.ok.0 in
     let some = c.if-count-eq0.false in
-    let new : Piece = record { start = piece.start; rows = c.append.new.self } in
+    let new : Piece = record { start = piece.start; mark = piece.mark; rows = c.append.new.self } in
     numbered_reset 0 ps at piece new (omega (arith, count, held, some)) c.index_mut-last.ensures.value refl numbered

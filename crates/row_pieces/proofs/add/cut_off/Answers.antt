@@ -10,7 +10,7 @@ loop-rows-preserved c =
     let cut = c.loop-rows.cut.items in
     let front = c.split_off.new.self.items in
     let rest = c.in_ok-rest.rest.items in
-    let piece : Piece = record { start = 0; rows = c.in_ok-rest.rest } in
+    let piece : Piece = record { start = 0; mark = c.first_mark-mark.result; rows = c.in_ok-rest.rest } in
     let behind = joined (reverse cut) in
     ap (λ (qs : List Piece). front ++ joined (reverse qs)) c.in_ok-push.ensures.items
     ∙ ap (λ qs. front ++ joined qs) (reverse-append cut (piece ∷ []))

@@ -40,7 +40,7 @@ loop-at-preserved c =
     let long = c.loop-at.auto.pieces in
     let inside : at < length ps = omega (arith, test, long) in
     let old = get_or ps at c.index-pieces-at.result in
-    let new : Piece = record { start = c.loop-at.start; rows = old.rows } in
+    let new : Piece = record { start = c.loop-at.start; mark = old.mark; rows = old.rows } in
     let front = take_more_set ps at new inside in
     let more : joined (take (at + 1) (set ps at new)) ≡ joined (take (at + 1) ps) =
     ap joined front

@@ -21,8 +21,8 @@ returns-in-Ok-clause-joined c =
     let p = c.index_mut-piece.result.now in
     let is = c.index_mut-piece.ensures.value ∙ ap (λ qs. get_or qs at p) c.reserve.ensures.items in
     let fits : c.args.middle ≤ length p.rows.items = subst (λ (z : Piece). c.args.middle ≤ length z.rows.items) (sym is) (c.requires.within p) in
-    let q : Piece = record { start = p.start; rows = c.split_off.new.self } in
-    let r : Piece = record { start = p.start + c.args.middle; rows = c.in-Ok.rows } in
+    let q : Piece = record { start = p.start; mark = p.mark; rows = c.split_off.new.self } in
+    let r : Piece = record { start = p.start + c.args.middle; mark = c.first_mark-mark.result; rows = c.in-Ok.rows } in
     let room = at_ok c.reserve.result (sym c.is_err.ensures.value ∙ c.if-is_err.false) c.reserve.ensures.ok in
     let put = c.insert.ensures.succeeds (omega (arith, room)) in
     let new_is = c.insert.ensures.items ∙ ap (λ b. cond b (insert (set c.reserve.new.self.items at q) (at + 1) r) (set c.reserve.new.self.items at q)) put ∙ ap (λ (zs : List Piece). insert (set zs at q) (at + 1) r) c.reserve.ensures.items in
@@ -35,8 +35,8 @@ returns-in-Ok-clause-front c =
     let p = c.index_mut-piece.result.now in
     let is = c.index_mut-piece.ensures.value ∙ ap (λ qs. get_or qs at p) c.reserve.ensures.items in
     let fits : c.args.middle ≤ length p.rows.items = subst (λ (z : Piece). c.args.middle ≤ length z.rows.items) (sym is) (c.requires.within p) in
-    let q : Piece = record { start = p.start; rows = c.split_off.new.self } in
-    let r : Piece = record { start = p.start + c.args.middle; rows = c.in-Ok.rows } in
+    let q : Piece = record { start = p.start; mark = p.mark; rows = c.split_off.new.self } in
+    let r : Piece = record { start = p.start + c.args.middle; mark = c.first_mark-mark.result; rows = c.in-Ok.rows } in
     let room = at_ok c.reserve.result (sym c.is_err.ensures.value ∙ c.if-is_err.false) c.reserve.ensures.ok in
     let put = c.insert.ensures.succeeds (omega (arith, room)) in
     let new_is = c.insert.ensures.items ∙ ap (λ b. cond b (insert (set c.reserve.new.self.items at q) (at + 1) r) (set c.reserve.new.self.items at q)) put ∙ ap (λ (zs : List Piece). insert (set zs at q) (at + 1) r) c.reserve.ensures.items in
@@ -49,8 +49,8 @@ returns-in-Ok-clause-numbered c =
     let p = c.index_mut-piece.result.now in
     let is = c.index_mut-piece.ensures.value ∙ ap (λ qs. get_or qs at p) c.reserve.ensures.items in
     let fits : c.args.middle ≤ length p.rows.items = subst (λ (z : Piece). c.args.middle ≤ length z.rows.items) (sym is) (c.requires.within p) in
-    let q : Piece = record { start = p.start; rows = c.split_off.new.self } in
-    let r : Piece = record { start = p.start + c.args.middle; rows = c.in-Ok.rows } in
+    let q : Piece = record { start = p.start; mark = p.mark; rows = c.split_off.new.self } in
+    let r : Piece = record { start = p.start + c.args.middle; mark = c.first_mark-mark.result; rows = c.in-Ok.rows } in
     let room = at_ok c.reserve.result (sym c.is_err.ensures.value ∙ c.if-is_err.false) c.reserve.ensures.ok in
     let put = c.insert.ensures.succeeds (omega (arith, room)) in
     let new_is = c.insert.ensures.items ∙ ap (λ b. cond b (insert (set c.reserve.new.self.items at q) (at + 1) r) (set c.reserve.new.self.items at q)) put ∙ ap (λ (zs : List Piece). insert (set zs at q) (at + 1) r) c.reserve.ensures.items in

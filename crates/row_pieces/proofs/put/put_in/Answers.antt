@@ -32,7 +32,7 @@ returns-in_err-insert-clause-err c =
     let piece = c.index_mut-piece.result.now in
     let found = found_open ps c.split_at.result.0.now end c.args.place at c.requires.opened (c.split_at.ensures.front ∙ ap (take end) c.as_slice.ensures.value) c.piece_of-at.ensures in
     let there = inside ps end c.args.place at c.requires.opened found piece c.index_mut-piece.ensures.value in
-    let q : Piece = record { start = piece.start; rows = c.insert.new.self } in
+    let q : Piece = record { start = piece.start; mark = c.min-piece.result; rows = c.insert.new.self } in
     let p = err_from_is_err_and c.from_residual.result c.from_residual.ensures.1 in
     rw (p.1) (joined_same ps at piece q there (c.in_err-insert.ensures.items ∙ ap (λ (z : Piece). z.rows.items) c.index_mut-piece.ensures.value))
 
@@ -42,7 +42,7 @@ returns-clause-opened c =
     let end = c.args.end in
     let at = c.piece_of-at.result in
     let found = found_open ps c.split_at.result.0.now end c.args.place at c.requires.opened (c.split_at.ensures.front ∙ ap (take end) c.as_slice.ensures.value) c.piece_of-at.ensures in
-    let q : Piece = record { start = c.index_mut-piece.result.now.start; rows = c.insert.new.self } in
+    let q : Piece = record { start = c.index_mut-piece.result.now.start; mark = c.min-piece.result; rows = c.insert.new.self } in
     open_put ps end c.args.place at c.requires.opened found c.index_mut-piece.result.now c.index_mut-piece.ensures.value q c.args.row refl c.in_ok-insert.ensures.items (sym (length-set ps at q))
 
 pub returns-clause-put : goal.returns-clause-put
@@ -51,5 +51,5 @@ returns-clause-put c =
     let end = c.args.end in
     let at = c.piece_of-at.result in
     let found = found_open ps c.split_at.result.0.now end c.args.place at c.requires.opened (c.split_at.ensures.front ∙ ap (take end) c.as_slice.ensures.value) c.piece_of-at.ensures in
-    let q : Piece = record { start = c.index_mut-piece.result.now.start; rows = c.insert.new.self } in
+    let q : Piece = record { start = c.index_mut-piece.result.now.start; mark = c.min-piece.result; rows = c.insert.new.self } in
     joined_put ps end c.args.place at c.requires.opened found c.index_mut-piece.result.now c.index_mut-piece.ensures.value q c.args.row refl c.in_ok-insert.ensures.items

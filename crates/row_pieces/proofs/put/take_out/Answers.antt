@@ -10,7 +10,7 @@ returns-then-left-len c there =
     let ps = c.loop-at.pieces in
     let at = c.loop-at.at in
     let p = c.index-pieces-at.result in
-    let q : Piece = record { start = (get_or ps at p).start; rows = c.remove.new.self } in
+    let q : Piece = record { start = (get_or ps at p).start; mark = (get_or ps at p).mark; rows = c.remove.new.self } in
     let test = c.loop-at-test.true in
     let long = c.loop-at.auto.pieces in
     let same = c.loop-at.invariant.same in

@@ -31,7 +31,7 @@ loop-at-preserved c =
     let there : at < length ps = omega (arith, test, long) in
     let old = get_or ps at c.index-pieces-at.result in
     let is = get_or_default ps at c.index-pieces-at.result old there in
-    let new : Piece = record { start = old.start; rows = with_items old.rows c.exchange_some.new.rows } in
+    let new : Piece = record { start = old.start; mark = c.first_mark-piece.result; rows = with_items old.rows c.exchange_some.new.rows } in
     let i = c.loop-at.invariant in
     let start = c.loop-at.start in
     let rows = c.loop-at.rows in

@@ -16,7 +16,7 @@ returns-then-high-eq0-clause-kept g c p k =
     let there : at < length ps = omega (arith, test, long) in
     let old = get_or ps at c.index-pieces-at.result in
     let is = get_or_default ps at c.index-pieces-at.result old there in
-    let new : Piece = record { start = old.start; rows = c.retain_some-stays.new.rows } in
+    let new : Piece = record { start = old.start; mark = old.mark; rows = c.retain_some-stays.new.rows } in
     let i = c.loop-at.invariant.kept p k in
     let len = c.len-len.ensures in
     let held = old.rows.ok.0 in
@@ -40,7 +40,7 @@ returns-then-high-eq0-clause-fewer g c =
     let there : at < length ps = omega (arith, test, long) in
     let old = get_or ps at c.index-pieces-at.result in
     let is = get_or_default ps at c.index-pieces-at.result old there in
-    let new : Piece = record { start = old.start; rows = c.retain_some-stays.new.rows } in
+    let new : Piece = record { start = old.start; mark = old.mark; rows = c.retain_some-stays.new.rows } in
     let so_far = c.loop-at.invariant.fewer in
     let less = fewer_set ps at old new there is c.retain_some-stays.ensures.fewer in
     omega (arith, so_far, less)
@@ -50,7 +50,7 @@ returns-then-high-eq0-clause-numbered g c =
     let ps = c.loop-at.pieces in
     let at = c.loop-at.at in
     let old = get_or ps at c.index-pieces-at.result in
-    let new : Piece = record { start = old.start; rows = c.retain_some-stays.new.rows } in
+    let new : Piece = record { start = old.start; mark = old.mark; rows = c.retain_some-stays.new.rows } in
     let first = c.piece_of-first.result in
     let front = take-set-le first ps at new c.loop-at.invariant.begun ∙ c.loop-at.invariant.front in
     subst (λ qs. AreNumbered 0 qs) (sym front) (numbered_take 0 c.args.pieces.now first c.requires.numbered)
@@ -67,7 +67,7 @@ loop-at-preserved g c =
     let there : at < length ps = omega (arith, test, long) in
     let old = get_or ps at c.index-pieces-at.result in
     let is = get_or_default ps at c.index-pieces-at.result old there in
-    let new : Piece = record { start = old.start; rows = c.retain_some-stays.new.rows } in
+    let new : Piece = record { start = old.start; mark = old.mark; rows = c.retain_some-stays.new.rows } in
     let len = c.len-len.ensures in
     let held = old.rows.ok.0 in
     let low = c.saturating_sub-low.ensures in
