@@ -1,6 +1,7 @@
 //! The graph of attacks, a row for each atom: those that it attacks, and those whose key its own key derives.
 
 ghost use Rattle.std.specs.Prelude.{◌≡◌, ◌≢◌, ℕ, ◌<◌, ◌↔◌, IsTrue, length};
+ghost use Rattle.cqa_model.specs.declared.limits.TheConstants.{MOST_ATOMS};
 ghost use Rattle.cqa_model.specs.Variables.{IsKeyVar, whole};
 ghost use Rattle.cqa_model.specs.Closures.{InClosure};
 ghost use Rattle.cqa_model.specs.Graph.{Attacks as IsAttack, IsReached, IsWeak};
@@ -11,7 +12,7 @@ ghost use Rattle.attack_graph.specs.Attacking.{AreAttacks};
 
 use crate::Attacks;
 use crate::spreading::{is_touched, reached_from};
-use cqa_model::{Query, variables};
+use cqa_model::{MOST_ATOMS, Query, variables};
 use key_closure::{AtomSet, Named, VarSet, View};
 
 /// The attacks between the atoms of a view.
@@ -30,10 +31,10 @@ pub fn attacks(query: &Query, view: &View) -> Attacks
 }
 
 /// For each atom those that it attacks.
-fn attack_rows(named: &Named<'_>) -> [AtomSet; 12]
+fn attack_rows(named: &Named<'_>) -> [AtomSet; MOST_ATOMS as usize]
     ensures { (F G : ℕ) → HasPair result F G ↔ IsAttack named.now.query.now (seen named.now.query.now named.now.view) F G }
 {
-    let mut rows = [AtomSet::new(); 12];
+    let mut rows = [AtomSet::new(); MOST_ATOMS as usize];
     for atom in 0..named.query.atoms.len() as u32 {
         rows[atom as usize] = attack_row(named, atom);
     }
@@ -77,17 +78,17 @@ fn is_attacked(named: &Named<'_>, from: u32, reached: &VarSet, atom: u32) -> boo
 
 /// Is the atom another one, and not gone?
 fn is_another(view: &View, from: u32, atom: u32) -> bool
-    requires { atom < 12 }
+    requires { atom < MOST_ATOMS }
     ensures { IsTrue result ↔ ((from ≢ atom) × (HasAtom view.now.gone atom → ⊥)) }
 {
     from != atom && !view.gone.has(atom)
 }
 
 /// For each atom those whose key its own key derives.
-fn weak_rows(named: &Named<'_>) -> [AtomSet; 12]
+fn weak_rows(named: &Named<'_>) -> [AtomSet; MOST_ATOMS as usize]
     ensures { (F G : ℕ) → HasPair result F G ↔ ((F < length named.now.query.now.atoms) × (G < length named.now.query.now.atoms) × IsWeak named.now.query.now (seen named.now.query.now named.now.view) F G) }
 {
-    let mut rows = [AtomSet::new(); 12];
+    let mut rows = [AtomSet::new(); MOST_ATOMS as usize];
     for atom in 0..named.query.atoms.len() as u32 {
         rows[atom as usize] = weak_row(named, atom);
     }

@@ -1,16 +1,18 @@
 //! The attacks of a query, once they are found.
 
 ghost use Rattle.std.specs.Prelude.{ℕ, ◌<◌};
+ghost use Rattle.cqa_model.specs.declared.limits.TheConstants.{MOST_ATOMS};
 ghost use Rattle.attack_graph.specs.Pairs.{HasPair};
 
+use cqa_model::MOST_ATOMS;
 use key_closure::AtomSet;
 
 /// The attacks between atoms, for each atom those that it attacks, and those of them that it attacks weakly.
 #[derive(Clone, Copy)]
 pub struct Attacks {
-    pub(crate) by: [AtomSet; 12],
-    pub(crate) weak: [AtomSet; 12],
-    pub ghost small: { (F G : ℕ) → HasPair by F G → (F < 12) × (G < 12) },
+    pub(crate) by: [AtomSet; MOST_ATOMS as usize],
+    pub(crate) weak: [AtomSet; MOST_ATOMS as usize],
+    pub ghost small: { (F G : ℕ) → HasPair by F G → (F < MOST_ATOMS) × (G < MOST_ATOMS) },
 }
 
 impl Attacks {
@@ -20,8 +22,8 @@ impl Attacks {
 
     /// Does an atom attack another?
     pub fn has(&self, attacker: u32, attacked: u32) -> bool
-        requires attacker { attacker < 12 }
-        requires attacked { attacked < 12 }
+        requires attacker { attacker < MOST_ATOMS }
+        requires attacked { attacked < MOST_ATOMS }
         ensures { IsTrue result ↔ HasAttack self.now attacker attacked }
     {
         self.by[attacker as usize].has(attacked)
@@ -29,8 +31,8 @@ impl Attacks {
 
     /// Is this attack of an atom on another weak?
     pub fn weak(&self, attacker: u32, attacked: u32) -> bool
-        requires attacker { attacker < 12 }
-        requires attacked { attacked < 12 }
+        requires attacker { attacker < MOST_ATOMS }
+        requires attacked { attacked < MOST_ATOMS }
         requires attack { HasAttack self.now attacker attacked }
         ensures { IsTrue result ↔ HasWeakAttack self.now attacker attacked }
     {
@@ -39,7 +41,7 @@ impl Attacks {
 
     /// The atoms that an atom attacks.
     pub fn attacked_by(&self, attacker: u32) -> AtomSet
-        requires { attacker < 12 }
+        requires { attacker < MOST_ATOMS }
         ensures { (G : ℕ) → HasAtom result G ↔ HasAttack self.now attacker G }
     {
         self.by[attacker as usize]

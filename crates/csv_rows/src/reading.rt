@@ -1,6 +1,7 @@
 //! Reading a block: the rows that its records are.
 
 ghost use Rattle.std.specs.Prelude.{◌≡◌, ◌≤◌, ◌<◌, ◌^◌, [], Some, IfOk, IfErr, OnOk, length};
+ghost use Rattle.cqa_model.specs.declared.limits.TheConstants.{MOST_COLUMNS};
 ghost use Rattle.cqa_model.specs.Database.{kinds_of};
 ghost use Rattle.csv.specs.Reading.{ReadRecord, Ready, reader_source, reader_trim};
 ghost use Rattle.csv.specs.Records.{fields_of};
@@ -34,7 +35,7 @@ fn read_into(
     record: &mut ByteRecord,
     rows: &mut Items<Row>,
 ) -> Result<(), Fail<Refusal>>
-    requires few { length columns.now ≤ 16 }
+    requires few { length columns.now ≤ MOST_COLUMNS }
     requires start { IsAtStart reader.old }
     requires empty { rows.old ≡ [] }
     ensures rows { OnOk result (HoldsRows (kinds columns.now) (reader_source reader.old).now rows.new) }

@@ -1,6 +1,7 @@
 //! Records as rows, and rows as records.
 
 ghost use Rattle.std.specs.Prelude.{◌≡◌, ◌≤◌, All, List, IfOk, OnOk, MatchOption, length, map};
+ghost use Rattle.cqa_model.specs.declared.limits.TheConstants.{MOST_COLUMNS};
 ghost use Rattle.cqa_value.specs.declared.value.Value.{Value as Cell};
 ghost use Rattle.csv.specs.Records.{fields_of};
 ghost use Rattle.cqa_value.specs.Valid.{IsValidRow};
@@ -24,7 +25,7 @@ pub fn row_of(
     columns: &[Column],
     fields: &ByteRecord,
 ) -> Result<Option<Row>, NoMemory>
-    requires { length columns.now ≤ 16 }
+    requires { length columns.now ≤ MOST_COLUMNS }
     ensures { IfOk result (λ found. MatchOption found ((row : List Cell) → IsRecordOf (kinds columns.now) (fields_of fields.now) row → ⊥) (λ row. IsRecordOf (kinds columns.now) (fields_of fields.now) row)) }
 {
     if fields.len() != columns.len() {

@@ -9,7 +9,7 @@ use Rattle.cqa_model.specs.Variables.{View}
 use Rattle.cqa_model.specs.Graph.{Attacks}
 use Rattle.cqa_model.specs.Plan.{HoldsOver, IsUnattacked}
 
--- over each database that the query fits, the plan holds for a row of the answer's length exactly where the row is certain
+-- over each database that the query fits, an order holds for a row of the answer's length exactly where the row is certain
 abbrev pub IsExact : Query → List ℕ → Type 0
 IsExact q plan = (db : List Table) (row : List Value) → FitsDatabase q db → length row ≡ length q.answer → HoldsOver db q row plan ↔ IsCertain db q row
 

@@ -1,7 +1,7 @@
 //! Which atoms of a view are attacked, and which one that none attacks is taken next.
 
 ghost use Rattle.std.specs.Prelude.{◌≡◌, ℕ, ◌<◌, ◌↔◌, IfSome, MatchOption};
-ghost use Rattle.cqa_model.specs.Graph.{Attacks};
+ghost use Rattle.cqa_model.specs.declared.limits.TheConstants.{MOST_ATOMS};
 ghost use Rattle.key_closure.specs.Sets.{HasAtom};
 ghost use Rattle.key_closure.specs.Members.{IsLeft, seen};
 ghost use Rattle.fo_rewrite.specs.Planning.{IsAttacked, IsNext, IsFirst, IsStuck};
@@ -42,8 +42,8 @@ fn attacked_atoms(named: &Named<'_>) -> AtomSet
 
 /// The first atom of a set that is outside another.
 fn first_outside(set: &AtomSet, other: &AtomSet) -> Option<u32>
-    ensures { MatchOption result ((G : ℕ) → G < 12 → HasAtom set.now G → HasAtom other.now G)
-        (λ G. (G < 12) × HasAtom set.now G × (HasAtom other.now G → ⊥) × ((H : ℕ) → H < G → HasAtom set.now H → HasAtom other.now H)) }
+    ensures { MatchOption result ((G : ℕ) → G < MOST_ATOMS → HasAtom set.now G → HasAtom other.now G)
+        (λ G. (G < MOST_ATOMS) × HasAtom set.now G × (HasAtom other.now G → ⊥) × ((H : ℕ) → H < G → HasAtom set.now H → HasAtom other.now H)) }
 {
     for atom in 0..MOST_ATOMS {
         if set.has(atom) && !other.has(atom) {

@@ -1,6 +1,7 @@
 //! Which of the atoms that none attacks is best taken next.
 
-ghost use Rattle.std.specs.Prelude.{ℕ, ◌<◌};
+ghost use Rattle.std.specs.Prelude.{◌<◌};
+ghost use Rattle.cqa_model.specs.declared.limits.TheConstants.{MOST_ATOMS};
 ghost use Rattle.key_closure.specs.Sets.{HasAtom};
 
 use cqa_model::{Cond, MOST_ATOMS, Query};
@@ -15,8 +16,8 @@ pub(crate) enum Choice {
 
 /// The atom of a set outside another that ranks first; of those that rank alike the first.
 pub(crate) fn preferred(query: &Query, left: &AtomSet, attacked: &AtomSet, first: u32) -> u32
-    requires { (first < 12) × HasAtom left.now first × (HasAtom attacked.now first → ⊥) }
-    ensures { (result < 12) × HasAtom left.now result × (HasAtom attacked.now result → ⊥) }
+    requires { (first < MOST_ATOMS) × HasAtom left.now first × (HasAtom attacked.now first → ⊥) }
+    ensures { (result < MOST_ATOMS) × HasAtom left.now result × (HasAtom attacked.now result → ⊥) }
 {
     let linked = linked_to_answer(query);
     let taken = outside(left);

@@ -1,32 +1,39 @@
 //! Sets of the atoms of a query.
 
-/// A set of a query's atoms, each by its place, 0 to 11.
+use cqa_model::MOST_ATOMS;
+
+/// A set of a query's atoms, each by its place, below `MOST_ATOMS`.
 #[derive(Clone, Copy)]
 pub struct AtomSet {
-    bits: [bool; 12],
+    bits: [bool; MOST_ATOMS as usize],
 }
 
 impl AtomSet {
     ghost use Rattle.std.specs.Prelude.{◌≡◌, ◌≢◌, ℕ, ◌<◌, ◌↔◌, ◌⊎◌, IsTrue, MatchOption};
+    ghost use Rattle.cqa_model.specs.declared.limits.TheConstants.{MOST_ATOMS};
     ghost use Rattle.key_closure.specs.Sets.{HasAtom, size};
 
     /// The empty set.
     pub fn new() -> AtomSet
         ensures { (k : ℕ) → HasAtom result k → ⊥ }
     {
-        AtomSet { bits: [false; 12] }
+        AtomSet {
+            bits: [false; MOST_ATOMS as usize],
+        }
     }
 
     /// All places that an atom can have.
     pub fn full() -> AtomSet
-        ensures { (k : ℕ) → HasAtom result k ↔ (k < 12) }
+        ensures { (k : ℕ) → HasAtom result k ↔ (k < MOST_ATOMS) }
     {
-        AtomSet { bits: [true; 12] }
+        AtomSet {
+            bits: [true; MOST_ATOMS as usize],
+        }
     }
 
     /// Is the atom in the set?
     pub fn has(&self, atom: u32) -> bool
-        requires { atom < 12 }
+        requires { atom < MOST_ATOMS }
         ensures { IsTrue result ↔ HasAtom self.now atom }
     {
         self.bits[atom as usize]
@@ -34,7 +41,7 @@ impl AtomSet {
 
     /// Adds an atom if it is wanted.
     pub fn insert_if(&mut self, atom: u32, wanted: bool)
-        requires { atom < 12 }
+        requires { atom < MOST_ATOMS }
         ensures { (k : ℕ) → HasAtom self.new k ↔ (HasAtom self.old k ⊎ (IsTrue wanted × (k ≡ atom))) }
     {
         if wanted {
@@ -47,7 +54,7 @@ impl AtomSet {
         ensures { (k : ℕ) → HasAtom result k ↔ (HasAtom self.now k ⊎ HasAtom other.now k) }
     {
         let mut set = *self;
-        for atom in 0..12u32 {
+        for atom in 0..MOST_ATOMS {
             set.insert_if(atom, other.has(atom));
         }
         set
@@ -56,9 +63,9 @@ impl AtomSet {
     /// The first atom that is in both sets.
     pub fn first_shared(&self, other: &AtomSet) -> Option<u32>
         ensures { MatchOption result ((k : ℕ) → HasAtom self.now k → HasAtom other.now k → ⊥)
-            (λ k. (k < 12) × HasAtom self.now k × HasAtom other.now k × ((j : ℕ) → j < k → HasAtom self.now j → HasAtom other.now j → ⊥)) }
+            (λ k. (k < MOST_ATOMS) × HasAtom self.now k × HasAtom other.now k × ((j : ℕ) → j < k → HasAtom self.now j → HasAtom other.now j → ⊥)) }
     {
-        for atom in 0..12u32 {
+        for atom in 0..MOST_ATOMS {
             if self.has(atom) && other.has(atom) {
                 return Some(atom);
             }
@@ -68,7 +75,7 @@ impl AtomSet {
 
     /// Takes an atom out.
     pub fn remove(&mut self, atom: u32)
-        requires within { atom < 12 }
+        requires within { atom < MOST_ATOMS }
         requires there { HasAtom self.old atom }
         ensures is { (k : ℕ) → HasAtom self.new k ↔ (HasAtom self.old k × (k ≢ atom)) }
         ensures fewer { size self.new < size self.old }

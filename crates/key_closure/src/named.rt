@@ -16,6 +16,7 @@ pub struct Named<'q> {
 
 impl Named<'_> {
     ghost use Rattle.std.specs.Prelude.{◌≡◌, ℕ, ◌<◌, ◌↔◌, IsTrue, MatchOption, length};
+    ghost use Rattle.cqa_model.specs.declared.limits.TheConstants.{COLUMN_NUMBERS};
     ghost use Rattle.cqa_model.specs.Query.{atom_at, atom_key};
     ghost use Rattle.cqa_model.specs.Variables.{IsKeyVar, IsVar, after as view_after};
     ghost use Rattle.cqa_model.specs.Closures.{InClosure};
@@ -144,7 +145,7 @@ impl Named<'_> {
 
     /// Is the class neither a constant's nor fixed?
     fn is_free(&self, class: u8) -> bool
-        requires { class < 192 }
+        requires { class < COLUMN_NUMBERS }
         ensures { IsTrue result ↔ IsFreeClass self.now.variables self.now.view class }
     {
         !self.variables.is_constant(class) && !self.view.fixed.has(class)

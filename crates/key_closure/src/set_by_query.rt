@@ -6,7 +6,7 @@ ghost use Rattle.cqa_model.specs.Closures.{InClosure};
 ghost use Rattle.key_closure.specs.Members.{IsAmong, IsIn, IsProper, IsSetOf, IsUsed, seen};
 
 use crate::{AtomSet, Named, VarSet, View};
-use cqa_model::{Query, variables};
+use cqa_model::{MOST_ATOMS, Query, variables};
 
 /// key(F): the variables of an atom's key columns that are neither constants nor fixed.
 pub fn key_set(query: &Query, view: &View, atom: u32) -> VarSet
@@ -56,7 +56,7 @@ fn used(named: &Named<'_>, without: Option<u32>) -> AtomSet
 {
     let mut atoms = named.left();
     if let Some(atom) = without {
-        if atom < 12 && atoms.has(atom) {
+        if atom < MOST_ATOMS && atoms.has(atom) {
             atoms.remove(atom);
         }
     }

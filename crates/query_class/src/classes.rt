@@ -1,6 +1,7 @@
 //! The class of a graph of attacks: whether there is a cycle, and whether one has a strong attack.
 
 ghost use Rattle.std.specs.Prelude.{ℕ, ◌<◌, ◌↔◌, IsTrue};
+ghost use Rattle.cqa_model.specs.declared.limits.TheConstants.{MOST_ATOMS};
 ghost use Rattle.cqa_model.specs.declared.query.Query.{Query};
 ghost use Rattle.cqa_model.specs.Variables.{whole};
 ghost use Rattle.cqa_model.specs.Graph.{IsCyclic, IsStronglyCyclic};
@@ -60,7 +61,7 @@ fn has_strong_cycle(graph: &Attacks) -> bool
 
 /// Does an atom that is reached from this one attack it strongly?
 fn is_on_strong_cycle(graph: &Attacks, to: u32) -> bool
-    requires { to < 12 }
+    requires { to < MOST_ATOMS }
     ensures { IsTrue result ↔ ((F : ℕ) × IsStrong graph.now F to × Reaches graph.now to F) }
 {
     let reached = reach(graph, to);
@@ -74,8 +75,8 @@ fn is_on_strong_cycle(graph: &Attacks, to: u32) -> bool
 
 /// Is there a strong attack of an atom on another?
 fn is_strong(graph: &Attacks, from: u32, to: u32) -> bool
-    requires from { from < 12 }
-    requires to { to < 12 }
+    requires from { from < MOST_ATOMS }
+    requires to { to < MOST_ATOMS }
     ensures { IsTrue result ↔ IsStrong graph.now from to }
 {
     graph.has(from, to) && !graph.weak(from, to)

@@ -39,7 +39,7 @@ by_number check before x = check (length before + 1) x
 abbrev pub kinds_fault : ℕ → Kind → Kind → Option Refusal
 kinds_fault number a b = fault_unless (same_kind a b) (TypeMismatch (Condition number))
 
--- a table can be made: its name is free, fewer than 64 tables are there, and it has at most 16 columns
+-- a table can be made: its name is free, fewer than `MOST_TABLES` tables are there, and it has at most `MOST_COLUMNS` columns
 abbrev pub table_fault : List Table → RawSchema → Option Refusal
 table_fault db raw =
     first_of (fault_unless (is_none (table_named db raw.name)) (TableExists raw.name))
@@ -101,7 +101,7 @@ cond_fault db names number (Join left right) =
     first_of (column_fault db names left.table left.name) (first_of (column_fault db names right.table right.name) (kinds_fault number (column_kind db names left) (column_kind db names right)))
 cond_fault db names number (Test col op value) = first_of (column_fault db names col.table col.name) (kinds_fault number (column_kind db names col) (kind_of value))
 
--- a query names at most 12 tables and 192 columns
+-- a query names at most `MOST_ATOMS` tables and `MOST_ANSWER_COLUMNS` columns
 abbrev pub size_fault : Select → Option Refusal
 size_fault select = first_of (fault_unless (nat_le (length select.tables) MOST_ATOMS) (Limit Atoms)) (fault_unless (nat_le (length select.columns) MOST_ANSWER_COLUMNS) (Limit Answer))
 

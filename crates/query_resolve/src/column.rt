@@ -2,6 +2,7 @@
 
 ghost use Rattle.std.specs.Prelude.{◌≡◌, ◌<◌, ◌≤◌, [], Some, None, MatchOption, All, length, drop};
 ghost use Rattle.std.specs.List.{AllZip};
+ghost use Rattle.cqa_model.specs.declared.limits.TheConstants.{MOST_ATOMS};
 ghost use Rattle.cqa_model.specs.Shape.{column_at, nth_atom};
 ghost use Rattle.cqa_model.specs.Refusal.{Checked};
 ghost use Rattle.query_resolve.specs.Names.{columns_at, atom_scope, having, IsNextOwner};
@@ -25,7 +26,7 @@ pub fn columns_of(
     columns: &[RawCol],
 ) -> Result<Items<ColRef>, Fail<Refusal>>
     requires atoms { AllZip (IsAtomOf db.now) names.now atoms.now }
-    requires few { length names.now ≤ 12 }
+    requires few { length names.now ≤ MOST_ATOMS }
     ensures { Checked result (select_fault db.now names.now columns.now) (AllZip (IsColumnOf db.now names.now) columns.now) }
 {
     let mut resolved = Vec::with_capacity(alloc, columns.len())?;
@@ -44,7 +45,7 @@ fn column_of(
     column: &RawCol,
 ) -> Result<ColRef, Fail<Refusal>>
     requires atoms { AllZip (IsAtomOf db.now) names.now atoms.now }
-    requires few { length names.now ≤ 12 }
+    requires few { length names.now ≤ MOST_ATOMS }
     ensures { Checked result (column_fault db.now names.now column.now.table column.now.name) (IsColumnOf db.now names.now column.now) }
 {
     match &column.table {
@@ -63,7 +64,7 @@ fn column_of_table(
     name: &Name,
 ) -> Result<ColRef, Fail<Refusal>>
     requires atoms { AllZip (IsAtomOf db.now) names.now atoms.now }
-    requires few { length names.now ≤ 12 }
+    requires few { length names.now ≤ MOST_ATOMS }
     ensures { Checked result (column_fault db.now names.now (Some table.now) name.now) (IsColumnOf db.now names.now (record { table = Some table.now; name = name.now })) }
 {
     let Some(atom) = place_of_name(names, table) else {
@@ -89,7 +90,7 @@ fn column_of_any(
     name: &Name,
 ) -> Result<ColRef, Fail<Refusal>>
     requires atoms { AllZip (IsAtomOf db.now) names.now atoms.now }
-    requires few { length names.now ≤ 12 }
+    requires few { length names.now ≤ MOST_ATOMS }
     ensures { Checked result (column_fault db.now names.now None name.now) (IsColumnOf db.now names.now (record { table = None; name = name.now })) }
 {
     let Some(col) = owner_from(db, atoms, name, 0) else {
@@ -107,7 +108,7 @@ fn column_of_any(
 /// The first column of a name in the tables of the atoms from a place on.
 fn owner_from(db: &Database, atoms: &[Atom], name: &Name, start: usize) -> Option<ColRef>
     requires there { All (λ atom. atom.table < length db.now) atoms.now }
-    requires few { length atoms.now ≤ 12 }
+    requires few { length atoms.now ≤ MOST_ATOMS }
     requires within { start ≤ length atoms.now }
     ensures { MatchOption result (having name.now (drop start (atom_scope db.now atoms.now)) ≡ []) (λ col. IsNextOwner (atom_scope db.now atoms.now) name.now start col) }
 {
@@ -131,7 +132,7 @@ pub fn typed_column(
     column: &RawCol,
 ) -> Result<(ColRef, Kind), Fail<Refusal>>
     requires atoms { AllZip (IsAtomOf db.now) names.now atoms.now }
-    requires few { length names.now ≤ 12 }
+    requires few { length names.now ≤ MOST_ATOMS }
     ensures { Checked result (column_fault db.now names.now column.now.table column.now.name) (λ found. IsColumnOf db.now names.now column.now found.0 × (found.1 ≡ column_kind db.now names.now column.now)) }
 {
     let col = column_of(alloc, db, names, atoms, column)?;

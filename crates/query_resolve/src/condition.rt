@@ -2,6 +2,7 @@
 
 ghost use Rattle.std.specs.Prelude.{◌<◌, ◌≤◌, ◌^◌, ⊤, length};
 ghost use Rattle.std.specs.List.{AllZip};
+ghost use Rattle.cqa_model.specs.declared.limits.TheConstants.{MOST_ATOMS};
 ghost use Rattle.cqa_model.specs.Refusal.{Checked};
 ghost use Rattle.query_resolve.specs.Checks.{kinds_fault, cond_fault, where_fault};
 ghost use Rattle.query_resolve.specs.Resolved.{IsAtomOf, IsCondOf};
@@ -23,7 +24,7 @@ pub fn conds_of(
     conds: &[RawCond],
 ) -> Result<Items<Cond>, Fail<Refusal>>
     requires atoms { AllZip (IsAtomOf db.now) names.now atoms.now }
-    requires few { length names.now ≤ 12 }
+    requires few { length names.now ≤ MOST_ATOMS }
     requires numbered { length conds.now < 2 ^ 32 }
     ensures { Checked result (where_fault db.now names.now conds.now) (AllZip (IsCondOf db.now names.now) conds.now) }
 {
@@ -44,7 +45,7 @@ fn cond_of(
     number: u32,
 ) -> Result<Cond, Fail<Refusal>>
     requires atoms { AllZip (IsAtomOf db.now) names.now atoms.now }
-    requires few { length names.now ≤ 12 }
+    requires few { length names.now ≤ MOST_ATOMS }
     ensures { Checked result (cond_fault db.now names.now number cond.now) (IsCondOf db.now names.now cond.now) }
 {
     match cond {

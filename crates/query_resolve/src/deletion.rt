@@ -2,6 +2,7 @@
 
 ghost use Rattle.std.specs.Prelude.{◌<◌, ◌≤◌, ◌^◌, [], length};
 ghost use Rattle.std.specs.List.{AllZip};
+ghost use Rattle.cqa_model.specs.declared.limits.TheConstants.{MOST_COLUMNS};
 ghost use Rattle.cqa_model.specs.Refusal.{Checked};
 ghost use Rattle.query_resolve.specs.Checks.{first_fault, by_number, test_fault, tests_fault};
 ghost use Rattle.query_resolve.specs.Resolved.{IsTestOf, AreTestsOf};
@@ -39,7 +40,7 @@ fn tests_of(
     columns: &[Column],
     tests: &[RawTest],
 ) -> Result<Items<ColumnTest>, Fail<Refusal>>
-    requires narrow { length columns.now ≤ 16 }
+    requires narrow { length columns.now ≤ MOST_COLUMNS }
     requires few { length tests.now < 2 ^ 32 }
     ensures { Checked result (first_fault (by_number (test_fault columns.now)) [] tests.now) (AllZip (IsTestOf columns.now) tests.now) }
 {
@@ -57,7 +58,7 @@ fn column_test(
     test: &RawTest,
     number: u32,
 ) -> Result<ColumnTest, Fail<Refusal>>
-    requires { length columns.now ≤ 16 }
+    requires { length columns.now ≤ MOST_COLUMNS }
     ensures { Checked result (test_fault columns.now number test.now) (IsTestOf columns.now test.now) }
 {
     let Some(place) = place_of_column(columns, &test.col) else {

@@ -1,16 +1,17 @@
 //! The tables of a query: each is there, and named once.
 
-ghost use Rattle.std.specs.Prelude.{[]};
+ghost use Rattle.std.specs.Prelude.{◌≡◌, ◌<◌, ℕ, List, [], Some, IfOk, length};
 ghost use Rattle.std.specs.List.{AllZip};
 ghost use Rattle.cqa_model.specs.Database.{IsDatabase};
 ghost use Rattle.cqa_model.specs.Refusal.{Checked};
+ghost use Rattle.table_blocks.specs.Tables.{table_named};
 ghost use Rattle.query_resolve.specs.Checks.{first_fault, from_fault};
 ghost use Rattle.query_resolve.specs.Resolved.{IsAtomOf};
 
 use crate::faults::unknown_table;
 use crate::names::place_of_name;
 use cqa_model::{Atom, Refusal};
-use cqa_value::{Fail, Items, Name};
+use cqa_value::{Fail, Items, Name, NoMemory};
 use std::alloc::Global;
 use table_blocks::Database;
 
@@ -27,14 +28,14 @@ pub fn atoms_of(alloc: Global, db: &Database, names: &[Name]) -> Result<Items<At
     Ok(Items::from_vec(atoms))
 }
 
-/// The atom of a table whose name hasn't stood before.
-fn atom_of(
+/// The table of a name, where the query hasn't named it before.
+fn named_table(
     alloc: Global,
     db: &Database,
     name: &Name,
     before: &[Name],
-) -> Result<Atom, Fail<Refusal>>
-    ensures { Checked result (from_fault db.now before.now name.now) (IsAtomOf db.now name.now) }
+) -> Result<u32, Fail<Refusal>>
+    ensures { Checked result (from_fault db.now before.now name.now) (λ table. table_named db.now name.now ≡ Some table) }
 {
     let Some(table) = db.find(name) else {
         return Err(unknown_table(alloc, name));
@@ -43,6 +44,14 @@ fn atom_of(
         let name = name.copy(alloc)?;
         return Err(Fail::Refused(Refusal::SelfJoin { name }));
     }
+    Ok(table)
+}
+
+/// The atom of a table.
+fn atom_at(alloc: Global, db: &Database, table: u32) -> Result<Atom, NoMemory>
+    requires { table < length db.now }
+    ensures { IfOk result (λ atom. (name : List ℕ) → table_named db.now name ≡ Some table → IsAtomOf db.now name atom) }
+{
     let schema = db.schema(table);
     let key = Items::from_slice(alloc, schema.key.as_slice())?;
     Ok(Atom {
@@ -51,4 +60,18 @@ fn atom_of(
         key,
         strict: schema.strict,
     })
+}
+
+/// The atom of a name, where the query hasn't named its table before.
+fn atom_of(
+    alloc: Global,
+    db: &Database,
+    name: &Name,
+    before: &[Name],
+) -> Result<Atom, Fail<Refusal>>
+    ensures { Checked result (from_fault db.now before.now name.now) (IsAtomOf db.now name.now) }
+{
+    let table = named_table(alloc, db, name, before)?;
+    let atom = atom_at(alloc, db, table)?;
+    Ok(atom)
 }

@@ -1,6 +1,7 @@
 //! Keys by the names of their columns: of a new table, and of one that is there.
 
 ghost use Rattle.std.specs.Prelude.{◌≡◌, ◌<◌, ◌≤◌, Some, IfOk, length};
+ghost use Rattle.cqa_model.specs.declared.limits.TheConstants.{MOST_COLUMNS};
 ghost use Rattle.cqa_model.specs.Refusal.{Checked};
 ghost use Rattle.table_blocks.specs.Keys.{IsKey};
 ghost use Rattle.table_blocks.specs.Tables.{kinds_at};
@@ -41,7 +42,7 @@ pub fn key_places(
     columns: &[Column],
     key: &[Name],
 ) -> Result<Items<u32>, Fail<Refusal>>
-    requires { length columns.now ≤ 16 }
+    requires { length columns.now ≤ MOST_COLUMNS }
     ensures { Checked result (names_fault columns.now key.now) (ArePlacesOf columns.now key.now) }
 {
     let mut places = Vec::with_capacity(alloc, key.len())?;
@@ -58,7 +59,7 @@ fn key_place(
     name: &Name,
     before: &[Name],
 ) -> Result<u32, Fail<Refusal>>
-    requires { length columns.now ≤ 16 }
+    requires { length columns.now ≤ MOST_COLUMNS }
     ensures { Checked result (key_fault columns.now before.now name.now) (λ place. column_named columns.now name.now ≡ Some place) }
 {
     match place_of_column(columns, name) {

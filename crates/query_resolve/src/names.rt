@@ -1,6 +1,7 @@
 //! Where names stand: in a list, among columns, among tables.
 
 ghost use Rattle.std.specs.Prelude.{◌≡◌, ◌<◌, ◌≤◌, length};
+ghost use Rattle.cqa_model.specs.declared.limits.TheConstants.{MOST_COLUMNS};
 ghost use Rattle.query_resolve.specs.Names.{name_place, column_named, columns_at};
 
 use cqa_model::Column;
@@ -25,7 +26,7 @@ pub fn place_of_column(columns: &[Column], name: &Name) -> Option<usize>
 pub fn table_columns(db: &Database, table: u32) -> &[Column]
     requires { table < length db.now }
     ensures is { result.now ≡ columns_at db.now table }
-    ensures few { length result.now ≤ 16 }
+    ensures few { length result.now ≤ MOST_COLUMNS }
 {
     db.schema(table).columns.as_slice()
 }

@@ -1,6 +1,7 @@
 //! The schema of a new table, check by check.
 
 ghost use Rattle.std.specs.Prelude.{◌≡◌, ◌<◌, ⊤, [], OnOk, Contains, length};
+ghost use Rattle.cqa_model.specs.declared.limits.TheConstants.{MOST_TABLES};
 ghost use Rattle.cqa_model.specs.Database.{names_of};
 ghost use Rattle.cqa_model.specs.Refusal.{Checked};
 ghost use Rattle.query_resolve.specs.Checks.{first_fault, table_fault, duplicate_fault, schema_fault};
@@ -29,7 +30,7 @@ pub fn resolve_schema(
     ensures checked { Checked result (schema_fault db.now raw.now) (IsSchemaOf raw.now) }
 
     // The table can be made.
-    ensures room { OnOk result (length db.now < 64) }
+    ensures room { OnOk result (length db.now < MOST_TABLES) }
     ensures free { OnOk result (Contains (names_of db.now) raw.now.name → ⊥) }
 {
     check_table(alloc, db, raw)?;

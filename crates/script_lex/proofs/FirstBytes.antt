@@ -26,7 +26,7 @@ pub or_left : (b c : Bool) → b ≡ true → (b || c) ≡ true
 or_left true c h = refl
 or_left false c h = (cc)
 
-or_right : (b c : Bool) → c ≡ true → (b || c) ≡ true
+pub or_right : (b c : Bool) → c ≡ true → (b || c) ≡ true
 or_right true c h = refl
 or_right false c h = h
 

@@ -5,6 +5,7 @@ use Rattle.std.specs.Str.{IsValidUpTo}
 use Rattle.cqa_value.specs.Literals.{doubled}
 use Rattle.cqa_value.specs.declared.memory.Fail.{Fail}
 use Rattle.cqa_value.specs.declared.memory.Fail.TheVariants.{NoMemory, Refused}
+use Rattle.script_lex.specs.declared.lexer.TheConstants.{LONGEST_TEXT}
 use Rattle.script_lex.specs.declared.kinds.Span.{Span}
 use Rattle.script_lex.specs.declared.kinds.Symbol.{Symbol}
 use Rattle.script_lex.specs.declared.kinds.Symbol.TheVariants.{Open, Close, Comma, Dot, Eq, Ne, Lt, Le, Gt, Ge}
@@ -139,7 +140,7 @@ pub record IsBadByte (text : List ℕ) (at : ℕ) : Type 0 where
 
 -- the most bytes of a statement's text
 abbrev pub longest_text : ℕ
-longest_text = 1_048_576
+longest_text = LONGEST_TEXT
 
 -- why a text has no tokens
 abbrev pub IsFault : List ℕ → LexFault → Type 0

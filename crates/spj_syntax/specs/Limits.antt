@@ -1,5 +1,6 @@
 -- The limits of a statement's parts.
 use Rattle.std.specs.Prelude.{ℕ}
+use Rattle.script_lex.specs.Tokens.{longest_text}
 
 -- the most conflicts that a search may be given
 abbrev pub most_conflicts : ℕ
@@ -7,4 +8,4 @@ most_conflicts = 4_294_967_295
 
 -- A statement has no more items in a list than the longest text has bytes.
 abbrev pub most_items : ℕ
-most_items = 1_048_576
+most_items = longest_text
