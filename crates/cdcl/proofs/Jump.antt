@@ -8,7 +8,7 @@ use Rattle.cnf_form.specs.Literals.{literals, opposite}
 use Rattle.cdcl.specs.Settled.{IsConsistent, IsOpen, IsSettled, AllSettledTo}
 use Rattle.cdcl.proofs.SettledLemmas.{new_by_settled}
 use Rattle.cdcl.specs.declared.trail.Entry.{Entry}
-use Rattle.cdcl.specs.Trail.{held, AllInRange, AllLow}
+use Rattle.cdcl.specs.Trail.{held, AllInRange, AllLow, IsApart}
 use Rattle.cdcl.specs.Looks.{IsForced}
 use Rattle.cdcl.specs.Analysis.{IsLearntClause}
 use Rattle.cdcl.specs.State.{IsState, IsSound}
@@ -19,7 +19,7 @@ use Rattle.cdcl.specs.Lines.{IsLine, IsNewTo}
 use Rattle.cdcl.specs.Looking.{IsWatchful}
 use Rattle.cdcl.proofs.TrailLemmas.{settled_by_open}
 use Rattle.cdcl.proofs.Works.{At-get_or, At-same, At-take, At-in_take, At-contains, contains_taken}
-use Rattle.cdcl.proofs.Places.{IsApart, apart_by_places, consistent}
+use Rattle.cdcl.proofs.Places.{apart_by_places, consistent}
 use Rattle.cdcl.proofs.States.{held_take, take_of_take, last_is}
 
 pub end_within : (db : List (List Lit)) (t : List Lit) (start : ℕ) (lits : List Lit) (hints : List ℤ) (a : Lit) (end : ℕ)

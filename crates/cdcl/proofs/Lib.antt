@@ -17,3 +17,4 @@ pub mod Learning
 pub mod Attaching
 pub mod Marking
 pub mod Thinning
+pub mod Shortening

@@ -9,7 +9,7 @@ use Rattle.cnf_form.specs.declared.formula.Lit.{Lit}
 use Rattle.cnf_form.specs.Literals.{opposite, negated}
 use Rattle.cdcl.specs.Settled.{IsConsistent, IsOpen}
 use Rattle.cnf_form.proofs.Lits.{nat_cases}
-use Rattle.cdcl.specs.Trail.{ArePlaces, AllInRange, held}
+use Rattle.cdcl.specs.Trail.{ArePlaces, AllInRange, held, IsApart}
 use Rattle.search_heuristics.specs.Open.{NextIs}
 use Rattle.cdcl.specs.declared.solver.Solver.{Solver}
 use Rattle.cdcl.specs.State.{IsSound}
@@ -109,10 +109,6 @@ consistent t places are l i d =
 
     apart : (x : Lit) → x ≡ opposite x → ⊥
     apart x e = clash x.positive (ap (λ (y : Lit). y.positive) e)
-
--- no two places have one variable
-abbrev pub IsApart : List Lit → Type 0
-IsApart t = (p q : ℕ) (l m : Lit) → At t p l → At t q m → l.var ≡ m.var → p ≡ q
 
 pub apart_by_places : (t : List Lit) (places : List (Option ℕ)) → ArePlaces t places → IsApart t
 apart_by_places t places are p q l m a b e =

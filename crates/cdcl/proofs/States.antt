@@ -1,6 +1,6 @@
 -- How a solver's state changes.
 use Rattle.cdcl.specs.Trail.{At}
-use Rattle.std.proofs.Common.{take, ◌≡◌, ℕ, zero, suc, ◌<◌, ◌≤◌, ◌+◌, ◌-◌, List, [], ◌∷◌, ◌++◌, ◌⊎◌, inl, inr, refl, sym, ◌∙◌, ap, subst, arith, length, get_or, Option, Some}
+use Rattle.std.proofs.Common.{take, ◌≡◌, ℕ, zero, suc, ◌<◌, ◌≤◌, ◌+◌, ◌-◌, List, [], ◌∷◌, ◌++◌, ◌⊎◌, inl, inr, refl, sym, ◌∙◌, ap, subst, arith, length, get_or, Option, Some, None}
 use Rattle.std.specs.Prelude.{Contains}
 use Rattle.std.proofs.lemmas.List.{length-map, map-append, take-append-le, length-take, take_all}
 use Rattle.std.proofs.lemmas.List.Elements.{Contains-push_cases, Contains-append_left, Contains-push}
@@ -82,6 +82,9 @@ state_back db trail places places' level_starts s st are len =
           let b = At-take s trail p e a in
           forced_by_same db (held trail) (held (take s trail)) p e (sym (take_cut p s trail (omega (arith, b.0))))
           (st.forced p (λ i. elim (Contains-push_cases level_starts s p i) [ inl j ↦ n j | inr q ↦ absurd (omega (arith, q, b.0)) ]) e b.1);
+      reasons = λ p e r a is.
+          let b = At-take s trail p e a in
+          forced_by_same db (held trail) (held (take s trail)) p e (sym (take_cut p s trail (omega (arith, b.0)))) (st.reasons p e r b.1 is);
     }
 
 -- a forced literal is put on the trail
@@ -105,25 +108,32 @@ state_forced db trail places places' level_starts l r c e el er st at inside oth
   under = λ s i. let q = st.under s i in let w = length_push trail e in omega (arith, q, w);
   forced = λ p n x a. elim (At-push_cases trail e p x a) [
     | inl b ↦ forced_by_same db (held trail) (held (trail ++ e ∷ [])) p x (sym (take_put p trail e (omega (arith, b.0)))) (st.forced p n x b)
-    | inr b ↦ subst (λ (y : Entry). IsForcedBy db (held (trail ++ e ∷ [])) p y) b.1 (record {
-      reason = r;
-      clause = c;
-      is = er;
-      there = at;
-      inside = subst (λ (y : Lit). Contains c y) (sym el) inside;
-      others = subst (λ (xs : List Lit). OthersDenied xs c e.lit) (sym (whole p b.0)) (subst (λ (y : Lit). OthersDenied (held trail) c y) (sym el) others);
-    })
+    | inr b ↦ subst (λ (y : Entry). IsForcedBy db (held (trail ++ e ∷ [])) p y) b.1 (last p b.0)
+  ];
+  reasons = λ p x k a is. elim (At-push_cases trail e p x a) [
+    | inl b ↦ forced_by_same db (held trail) (held (trail ++ e ∷ [])) p x (sym (take_put p trail e (omega (arith, b.0)))) (st.reasons p x k b is)
+    | inr b ↦ subst (λ (y : Entry). IsForcedBy db (held (trail ++ e ∷ [])) p y) b.1 (last p b.0)
   ];
 }
   where
     whole : (p : ℕ) → p ≡ length trail → take p (held (trail ++ e ∷ [])) ≡ held trail
     whole p h = take_put p trail e (omega (arith, h)) ∙ take_all p (held trail) (let k = length_held trail in omega (arith, k, h))
 
+    last : (p : ℕ) → p ≡ length trail → IsForcedBy db (held (trail ++ e ∷ [])) p e
+    last p h = record {
+      reason = r;
+      clause = c;
+      is = er;
+      there = at;
+      inside = subst (λ (y : Lit). Contains c y) (sym el) inside;
+      others = subst (λ (xs : List Lit). OthersDenied xs c e.lit) (sym (whole p h)) (subst (λ (y : Lit). OthersDenied (held trail) c y) (sym el) others);
+    }
+
 -- a decision starts a level
 pub state_decided : (db : List (List Lit)) (trail : List Entry) (places places' : List (Option ℕ)) (level_starts : List ℕ) (e : Entry)
-    → IsState db trail places level_starts → 1 ≤ e.lit.var → e.lit.var < length places
+    → IsState db trail places level_starts → e.reason ≡ None → 1 ≤ e.lit.var → e.lit.var < length places
     → ArePlaces (held (trail ++ e ∷ [])) places' → length places' ≡ length places → IsState db (trail ++ e ∷ []) places' (level_starts ++ length trail ∷ [])
-state_decided db trail places places' level_starts e st low range are len = record {
+state_decided db trail places places' level_starts e st free low range are len = record {
   places_are = are;
   held_in = λ m i. elim (Contains-push_cases (held trail) e.lit m (subst (λ (xs : List Lit). Contains xs m) (held_push trail e) i)) [
     | inl j ↦ let q = st.held_in m j in omega (arith, q, len)
@@ -154,6 +164,23 @@ state_decided db trail places places' level_starts e st low range are len = reco
         (st.forced p (λ i. n (Contains-append_left level_starts (length trail ∷ []) p i)) x b)
     | inr b ↦ absurd (n (subst (λ (k : ℕ). Contains (level_starts ++ length trail ∷ []) k) (sym b.0) (Contains-push level_starts (length trail))))
   ];
+  reasons = λ p x r a is. elim (At-push_cases trail e p x a) [
+    | inl b ↦ forced_by_same db (held trail) (held (trail ++ e ∷ [])) p x (sym (take_put p trail e (omega (arith, b.0)))) (st.reasons p x r b is)
+    | inr b ↦ absurd (none_some r (sym free ∙ ap (λ (y : Entry). y.reason) b.1 ∙ is))
+  ];
+}
+  where
+    none_some : (r : ℕ) → (let o : Option ℕ = None in o) ≡ Some r → ⊥
+    none_some r h = cc
+
+more_forced : (db : List (List Lit)) (c : List Lit) (t : List Lit) (p : ℕ) (e : Entry) → IsForcedBy db t p e → IsForcedBy (db ++ c ∷ []) t p e
+more_forced db c t p e f = record {
+  reason = f.reason;
+  clause = f.clause;
+  is = f.is;
+  there = At-push_old db (c ∷ []) f.reason f.clause f.there;
+  inside = f.inside;
+  others = f.others;
 }
 
 -- a clause is learnt
@@ -168,14 +195,8 @@ state_learnt db trail places level_starts c st range low = record {
   db_in = λ d i. elim (Contains-push_cases db c d i) [ inl j ↦ st.db_in d j | inr e ↦ subst (λ (x : List Lit). AllInRange x (length places)) e range ];
   rising = st.rising;
   under = st.under;
-  forced = λ p n e a. let f = st.forced p n e a in record {
-    reason = f.reason;
-    clause = f.clause;
-    is = f.is;
-    there = At-push_old db (c ∷ []) f.reason f.clause f.there;
-    inside = f.inside;
-    others = f.others;
-  };
+  forced = λ p n e a. more_forced db c (held trail) p e (st.forced p n e a);
+  reasons = λ p e r a is. more_forced db c (held trail) p e (st.reasons p e r a is);
 }
 
 -- the clause at an index

@@ -1,5 +1,5 @@
 -- How clauses that aren't permanent leave the lists.
-use Rattle.std.proofs.Common.{set, get_or, get_or-set_other, get_or-set_same, ◌≡◌, ℕ, ◌<◌, List, [], ◌∷◌, ◌++◌, inl, inr, refl, sym, ◌∙◌, subst, length}
+use Rattle.std.proofs.Common.{set, get_or, get_or-set_other, get_or-set_same, ℕ, ◌<◌, List, [], ◌∷◌, ◌++◌, inl, inr, refl, sym, ◌∙◌, subst, length}
 use Rattle.std.specs.Prelude.{Contains}
 use Rattle.std.proofs.lemmas.List.{length-set}
 use Rattle.std.proofs.lemmas.List.Elements.{Contains-push_cases, Contains-append_left, Contains-push}

@@ -58,6 +58,7 @@ state_first db n range low =
       rising = λ i j a b h x y. absurd (omega (arith, x.0));
       under = λ s i. absurd (omega (arith, i.1));
       forced = λ p f e a. absurd (omega (arith, a.0));
+      reasons = λ p e r a is. absurd (omega (arith, a.0));
     }
   where
     count : (k : ℕ) → length (replicate k (let o : Option ℕ = None in o)) ≡ k

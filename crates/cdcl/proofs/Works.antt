@@ -15,7 +15,7 @@ use Rattle.cnf_form.proofs.Lits.{nat_cases, opposite-opposite, cons_cases, conta
 use Rattle.cdcl.specs.declared.trail.Entry.{Entry}
 use Rattle.cdcl.specs.Trail.{held, ArePlaces}
 use Rattle.cnf_form.specs.Spent.{NoVarTwice}
-use Rattle.cdcl.specs.Analysis.{ChainPasses, AreMarks, Grow, IsLearntClause, AllSeen, NoneSeen, Works, EndIs, AfterIs}
+use Rattle.cdcl.specs.Analysis.{AreMarks, Grow, AllSeen, Works, EndIs, AfterIs}
 use Rattle.cdcl.specs.Marks.{IsSeen}
 use Rattle.cdcl.proofs.TrailLemmas.{At-map}
 use Rattle.std.proofs.Common.{set, get_or-set_other, get_or-set_same}
@@ -134,27 +134,6 @@ Contains-from_map f (z ∷ zs) y i = elim (cons_cases (f z) (map f zs) y i) [
 pub contains_taken : (n : ℕ) (t : List Lit) (l : Lit) → Contains (take n t) l → Contains t l
 contains_taken n t l i = let a = At-take n t i.0 l (i.1, i.2) in At-contains t i.0 l a.1
 
-pub works_finish : (db : List (List Lit)) (t : List Lit) (start : ℕ) (seen : List Bool) (lower : List Lit) (place : ℕ) (hints : List ℤ) (u : Lit)
-    → At t place u → AreMarks t start seen lower → ((p : ℕ) (l : Lit) → start ≤ p → p < place → At t p l → IsSeen seen l.var → ⊥)
-    → Works db t start seen lower (place + 1) hints → ChainPasses db (map opposite (lower ++ opposite u ∷ [])) hints
-works_finish db t start seen lower place hints u a marks none w =
-    w.chain (map opposite (lower ++ opposite u ∷ []))
-    (λ l i. let q = Contains-from_map opposite (lower ++ opposite u ∷ []) l i in
-    elim (Contains-push_cases lower (opposite u) q.0 q.1) [
-      | inl j ↦ subst (λ (x : Lit). Contains t x) q.2 (contains_taken start t (opposite q.0) (marks.below q.0 j))
-      | inr e ↦ subst (λ (x : Lit). Contains t x) (sym (opposite-opposite u) ∙ ap opposite e ∙ q.2) (At-contains t place u a)
-    ])
-    (λ m j. Contains-map opposite (lower ++ opposite u ∷ []) m (Contains-append_left lower (opposite u ∷ []) m j))
-    (λ p l g h b s. elim (cases p place h) [
-      | inl lt ↦ absurd (none p l g lt b s)
-      | inr e ↦ subst (λ (x : Lit). Contains (map opposite (lower ++ opposite u ∷ [])) x)
-          (opposite-opposite u ∙ At-same t place u l a (subst (λ (n : ℕ). At t n l) e b))
-          (Contains-map opposite (lower ++ opposite u ∷ []) (opposite u) (Contains-push lower (opposite u)))
-    ])
-  where
-    cases : (p q : ℕ) → p < q + 1 → (p < q) ⊎ (p ≡ q)
-    cases p q h = grind arith
-
 pub once_more : (c : List Lit) (x : Lit) → NoVarTwice c → (HasVar c x.var → ⊥) → NoVarTwice (c ++ x ∷ [])
 once_more [] x o n = ((λ h. omega (arith, h.1.1)), tt)
 once_more (l ∷ c) x o n = (
@@ -241,33 +220,6 @@ literals_length cs k h = let e = length-map cs (λ (c : Clause). c.lits) in omeg
 
 pub reverse_push : {X : Type 0} (xs : List X) (x : X) → reverse (xs ++ x ∷ []) ≡ x ∷ reverse xs
 reverse_push xs x = reverse-append xs (x ∷ [])
-
-below_apart : (t : List Lit) (places : List (Option ℕ)) (start place : ℕ) (u : Lit) (lower : List Lit) → ArePlaces t places → start ≤ place
-    → At t place u → ((m : Lit) → Contains lower m → Denied (take start t) m) → HasVar lower (opposite u).var → ⊥
-below_apart t places start place u lower are after at below h =
-    let d = below h.0 h.1 in
-    let a : (d.0 < start) × At t d.0 (opposite h.0) = At-take start t d.0 (opposite h.0) (d.1, d.2) in
-    let p : get_or places u.var None ≡ Some d.0 = subst (λ (n : ℕ). get_or places n None ≡ Some d.0) h.2 (are.every d.0 (opposite h.0) a.1) in
-    let q : get_or places u.var None ≡ Some place = are.every place u at in
-    let e : d.0 ≡ place = some_same _ _ (sym p ∙ q) in
-    omega (arith, a.0)
-
-pub learnt_clause : (db : List (List Lit)) (t : List Lit) (places : List (Option ℕ)) (start : ℕ) (seen : List Bool) (lower : List Lit) (place : ℕ) (hints : List ℤ) (u : Lit) (end : ℕ)
-    → ArePlaces t places → start ≤ place → At t place u → AreMarks t start seen lower → NoneSeen t start place seen → EndIs t lower end
-    → Works db t start seen lower (place + 1) hints → IsLearntClause db t start (lower ++ opposite u ∷ []) hints (opposite u) end
-learnt_clause db t places start seen lower place hints u end are after at marks none ends w = record {
-  asserts = refl;
-  ends = ends;
-  place = place;
-  uip = u;
-  lower = lower;
-  shape = refl;
-  there = at;
-  after = after;
-  below = marks.below;
-  once = once_more lower (opposite u) marks.once (below_apart t places start place u lower are after at marks.below);
-  passes = works_finish db t start seen lower place hints u at marks none w;
-}
 
 pub take_wider : (n m : ℕ) (t : List Lit) (l : Lit) → n ≤ m → Contains (take n t) l → Contains (take m t) l
 take_wider n m t l h i = let a = At-take n t i.0 l (i.1, i.2) in At-contains (take m t) i.0 l (At-in_take m t i.0 l (omega (arith, a.0)) a.1)

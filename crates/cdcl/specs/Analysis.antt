@@ -57,6 +57,10 @@ AreForcedAfter db trail start = (p : ℕ) (e : Entry) → start < p → At trail
 abbrev pub IsForcedAt : List (List Lit) → List Entry → ℕ → Type 0
 IsForcedAt db trail p = (e : Entry) → At trail p e → IsForcedBy db (held trail) p e
 
+-- an entry that names a reason was forced by it
+abbrev pub AreReasons : List (List Lit) → List Entry → Type 0
+AreReasons db trail = (p : ℕ) (e : Entry) (r : ℕ) → At trail p e → e.reason ≡ Some r → IsForcedBy db (held trail) p e
+
 abbrev pub AreAllInRange : List (List Lit) → ℕ → Type 0
 AreAllInRange db n = (c : List Lit) → Contains db c → AllInRange c n
 
@@ -97,3 +101,12 @@ pub record IsLearntClause (db : List (List Lit)) (t : List Lit) (start : ℕ) (l
 pub record Works (db : List (List Lit)) (t : List Lit) (start : ℕ) (seen : List Bool) (lower : List Lit) (place : ℕ) (hints : List ℤ) : Type 0 where
   pub chain : (have' : List Lit) → ((l : Lit) → Contains have' l → Contains t l) → ((m : Lit) → Contains lower m → Denied have' m)
       → ((p : ℕ) (l : Lit) → start ≤ p → p < place → At t p l → IsSeen seen l.var → Contains have' l) → ChainPasses db have' hints
+
+-- The clause at the place forced the literal at a place of the trail, and all its variables are marked.
+abbrev pub IsImpliedBy : List (List Lit) → List Lit → List Bool → ℕ → ℕ → Type 0
+IsImpliedBy db t seen at reason = (x : Lit) → At t at x → (c : List Lit) × At db reason c × Contains c x × OthersDenied (take at t) c x × AllSeen seen c
+
+-- denied literals of the trail, kept on a walk from the one place down to the other
+pub record AreKept (t : List Lit) (start place : ℕ) (lits : List Lit) : Type 0 where
+  pub from : (m : Lit) → Contains lits m → (p : ℕ) × (place ≤ p) × (p < start) × At t p (opposite m)
+  pub once : NoVarTwice lits

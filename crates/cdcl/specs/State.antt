@@ -6,7 +6,7 @@ use Rattle.cnf_form.specs.Literals.{literals}
 use Rattle.cdcl.specs.declared.trail.Entry.{Entry}
 use Rattle.cdcl.specs.declared.solver.Solver.{Solver}
 use Rattle.cdcl.specs.Trail.{held, ArePlaces, AllInRange, AllLow}
-use Rattle.cdcl.specs.Analysis.{AreAllInRange, IsForcedAt}
+use Rattle.cdcl.specs.Analysis.{AreAllInRange, IsForcedAt, AreReasons}
 
 -- The trail, the places of variables, and where levels start, over clauses.
 pub record IsState (db : List (List Lit)) (trail : List Entry) (places : List (Option ℕ)) (level_starts : List ℕ) : Type 0 where
@@ -18,6 +18,7 @@ pub record IsState (db : List (List Lit)) (trail : List Entry) (places : List (O
   pub rising : (i j a b : ℕ) → i < j → At level_starts i a → At level_starts j b → a < b
   pub under : (s : ℕ) → Contains level_starts s → s < length trail
   pub forced : (p : ℕ) → (Contains level_starts p → ⊥) → IsForcedAt db trail p
+  pub reasons : AreReasons db trail
 
 abbrev pub IsSound : Solver → Type 0
 IsSound s = IsState (literals s.clauses.items) s.trail.items s.places.items s.level_starts.items

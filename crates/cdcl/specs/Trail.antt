@@ -16,6 +16,10 @@ pub record ArePlaces (t : List Lit) (places : List (Option ℕ)) : Type 0 where
   pub right : (v p : ℕ) → slice_index_or places v None ≡ Some p → (p < length t) × ((l : Lit) → At t p l → l.var ≡ v)
   pub every : (p : ℕ) (l : Lit) → At t p l → slice_index_or places l.var None ≡ Some p
 
+-- no variable stands at two places
+abbrev pub IsApart : List Lit → Type 0
+IsApart t = (p q : ℕ) (l m : Lit) → At t p l → At t q m → l.var ≡ m.var → p ≡ q
+
 -- the value is that of the variable's literal, if there is one
 abbrev pub ValueIs : List Lit → ℕ → Bool → Type 0
 ValueIs t v value = (l : Lit) → Contains t l → l.var ≡ v → value ≡ l.positive

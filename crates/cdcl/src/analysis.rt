@@ -5,11 +5,12 @@ ghost use Rattle.std.specs.Prelude.{◌≡◌, ◌<◌, ◌≤◌, ◌+◌, ◌�
 ghost use Rattle.cnf_form.specs.Literals.{literals};
 ghost use Rattle.cdcl.specs.Settled.{IsConsistent};
 ghost use Rattle.cdcl.specs.Trail.{held, ArePlaces, AllInRange};
-ghost use Rattle.cdcl.specs.Analysis.{AreMarksOf, AtMostSeen, Grow, IsLearntClause, AllSeen, NoneSeen, AreForcedAfter, AreAllInRange, Works, IsFalse, IsForcedAt, ChainPasses};
+ghost use Rattle.cdcl.specs.Analysis.{AreMarksOf, AtMostSeen, Grow, IsLearntClause, AllSeen, NoneSeen, AreForcedAfter, AreReasons, AreAllInRange, Works, IsFalse, IsForcedAt, ChainPasses};
 ghost use Rattle.cdcl.specs.Marks.{IsSeen, AllClear, AllMet};
 
 use crate::look::literals_at;
 use crate::seen::all_clear;
+use crate::shorten::shorten;
 use crate::trail::{Entry, end_of, lit_at};
 use cnf_form::{Clause, Lit};
 use cqa_value::NoMemory;
@@ -121,7 +122,11 @@ pub(crate) fn is_last(trail: &[Entry], marks: &SeenMarks, at: usize) -> bool
 }
 
 /// Appends the id of the clause at an index.
-fn push_hint(clauses: &[Clause], hints: &mut Vec<i64>, index: usize) -> Result<(), NoMemory>
+pub(crate) fn push_hint(
+    clauses: &[Clause],
+    hints: &mut Vec<i64>,
+    index: usize,
+) -> Result<(), NoMemory>
     requires { index < length clauses.now }
     ensures { OnOk result (hints.new.items ≡ hints.old.items ++ pos (index + 1) ∷ []) }
 {
@@ -129,7 +134,7 @@ fn push_hint(clauses: &[Clause], hints: &mut Vec<i64>, index: usize) -> Result<(
     Ok(())
 }
 
-fn push_lit(lits: &mut Vec<Lit>, lit: Lit) -> Result<(), NoMemory>
+pub(crate) fn push_lit(lits: &mut Vec<Lit>, lit: Lit) -> Result<(), NoMemory>
     ensures { OnOk result (lits.new.items ≡ lits.old.items ++ lit ∷ []) }
 {
     lits.push(lit)?;
@@ -175,8 +180,8 @@ pub(crate) fn resolve(
     Ok(())
 }
 
-/// Walks back from a conflict to the first unique implication point, by marks of which none is made yet. Gives the hints, the
-/// literal that is asserted, and how much of the trail denies the others; the literals are those below the level and this one.
+/// Walks back from a conflict to the first unique implication point, by marks of which none is made yet, and then over what
+/// stands before the level. Gives the hints, the literal that is asserted, and how much of the trail denies the others.
 fn walk_back(
     alloc: Global,
     clauses: &[Clause],
@@ -188,7 +193,8 @@ fn walk_back(
 ) -> Result<(Vec<i64>, Lit, usize), NoMemory>
     requires consistent { IsConsistent (held trail.now) }
     requires places { ArePlaces (held trail.now) places.now }
-    requires reasons { AreForcedAfter (literals clauses.now) trail.now start }
+    requires forced { AreForcedAfter (literals clauses.now) trail.now start }
+    requires reasons { AreReasons (literals clauses.now) trail.now }
     requires range { AreAllInRange (literals clauses.now) (length places.now) }
     requires held { AllInRange (held trail.now) (length places.now) }
     requires start { start < length trail.now }
@@ -209,6 +215,15 @@ fn walk_back(
         resolve(clauses, trail, places, start, at, marks, &mut hints)?;
         at -= 1;
     }
+    marks.lower.clear();
+    shorten(
+        clauses,
+        trail,
+        marks.seen.as_slice(),
+        start,
+        &mut marks.lower,
+        &mut hints,
+    )?;
     let end = end_of(trail, places, marks.lower.as_slice());
     let asserted = lit_at(trail, at).opposite();
     push_lit(&mut marks.lower, asserted)?;
@@ -228,7 +243,8 @@ pub(crate) fn analyze(
 ) -> Result<LearntClause, NoMemory>
     requires consistent { IsConsistent (held trail.now) }
     requires places { ArePlaces (held trail.now) places.now }
-    requires reasons { AreForcedAfter (literals clauses.now) trail.now start }
+    requires forced { AreForcedAfter (literals clauses.now) trail.now start }
+    requires reasons { AreReasons (literals clauses.now) trail.now }
     requires range { AreAllInRange (literals clauses.now) (length places.now) }
     requires held { AllInRange (held trail.now) (length places.now) }
     requires start { start < length trail.now }

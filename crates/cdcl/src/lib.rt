@@ -6,6 +6,7 @@ mod forget;
 mod look;
 mod outcome;
 mod seen;
+mod shorten;
 mod solver;
 mod trail;
 mod watch;

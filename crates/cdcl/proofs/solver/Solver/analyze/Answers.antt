@@ -5,6 +5,7 @@ use Rattle.cnf_form.specs.declared.formula.Clause.{Clause}
 use Rattle.cnf_form.specs.Literals.{literals, Denied}
 use Rattle.cdcl.specs.declared.trail.Entry.{Entry}
 use Rattle.cdcl.specs.Trail.{held}
+use Rattle.cdcl.specs.Analysis.{AreReasons}
 use Rattle.cdcl.proofs.solver.Solver.analyze.Goals as goal
 
 pub analyze-requires-clause-range : goal.analyze-requires-clause-range
@@ -23,3 +24,8 @@ pub analyze-requires-clause-empty : goal.analyze-requires-clause-empty
 analyze-requires-clause-empty c d a m i =
     let r = c.requires.conflict.1 d (subst (λ (cs : List Clause). At (literals cs) c.args.conflict d) c.as_slice.ensures.value a) m i in
     subst (λ (es : List Entry). Denied (held es) m) (sym c.as_slice-2.ensures.value) r
+
+pub analyze-requires-clause-reasons : goal.analyze-requires-clause-reasons
+analyze-requires-clause-reasons c =
+    subst (λ (es : List Entry). AreReasons (literals c.as_slice.result.now) es) (sym c.as_slice-2.ensures.value)
+    (subst (λ (cs : List Clause). AreReasons (literals cs) c.args.self.now.trail.items) (sym c.as_slice.ensures.value) c.requires.sound.reasons)

@@ -1,4 +1,4 @@
-use Rattle.std.proofs.Common.{◌≡◌, ◌++◌, ◌∷◌, [], ℕ, None, List, sym, subst, ap, length, ◌∙◌, arith}
+use Rattle.std.proofs.Common.{◌≡◌, ◌++◌, ◌∷◌, [], ℕ, None, refl, List, sym, subst, ap, length, ◌∙◌, arith}
 use Rattle.cnf_form.specs.declared.formula.Lit.{Lit}
 use Rattle.cnf_form.specs.Literals.{literals}
 use Rattle.cdcl.specs.declared.trail.Entry.{Entry}
@@ -28,7 +28,7 @@ returns-clause-ready c =
         sound = subst (λ (ss : List ℕ). IsState db c.enqueue.new.trail.items c.enqueue.new.places.items ss) level_starts
             (subst (λ (es : List Entry). IsState db es c.enqueue.new.places.items (self.level_starts.items ++ length trail ∷ [])) (sym e)
             (state_decided db trail self.places.items c.enqueue.new.places.items self.level_starts.items entry
-            ready.watchful.sound c.requires.low c.requires.range
+            ready.watchful.sound refl c.requires.low c.requires.range
             (subst (λ (es : List Entry). ArePlaces (held es) c.enqueue.new.places.items) e c.in_ok-enqueue.ensures.places) c.enqueue.ensures.len));
         watching = subst (λ (ss : List ℕ). IsWatching R self.permanent db (held c.enqueue.new.trail.items) ss self.head self.pairs.items) level_starts
             (subst (λ (xs : List Lit). IsWatching R self.permanent db xs (self.level_starts.items ++ length trail ∷ []) self.head self.pairs.items) (sym t)
