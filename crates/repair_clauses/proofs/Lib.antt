@@ -15,8 +15,4 @@ pub mod Columns
 pub mod Naming
 pub mod Encoding
 pub mod Deciding
-pub mod FirstLooks
-pub mod Quotient
-pub mod Marking
-pub mod ClassLists
-pub mod Searching
+pub mod Candidates

@@ -1,12 +1,9 @@
 pub mod Clauses
 pub mod Alike
-pub mod Classing
 pub mod Models
 pub mod Spans
 pub mod Runs
 pub mod Laws
 pub mod Encodings
 pub mod Deciding
-pub mod Looking
-pub mod Lookups
-pub mod Searching
+pub mod Candidates

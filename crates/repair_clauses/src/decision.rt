@@ -30,7 +30,7 @@ pub struct Decided {
 /// # Errors
 ///
 /// `NoMemory` where memory is refused.
-pub(crate) fn solved(alloc: Global, formula: Encoded, budget: u32) -> Result<Decided, NoMemory>
+pub fn solved(alloc: Global, formula: Encoded, budget: u32) -> Result<Decided, NoMemory>
     requires range { IsInRange formula.cnf }
     requires once { IsOnce formula.cnf }
     ensures same { IfOk result (λ decided. decided.formula ≡ formula) }

@@ -79,7 +79,7 @@ fn all_clauses(
 /// # Errors
 ///
 /// `NoMemory` where memory is refused.
-pub(crate) fn formula_over(
+pub fn formula_over(
     alloc: Global,
     query: &Query,
     spans: &[Span],

@@ -3,24 +3,19 @@
 #![tactic(auto)]
 
 mod blocks;
-mod class_clauses;
-mod classing;
 mod clauses;
-mod column;
+pub mod column;
 mod decision;
-mod first_look;
 mod formula;
 mod halve;
-mod judging;
 pub mod laws;
-mod lookup;
 mod relevant;
 mod run;
-mod search;
-mod second_look;
-mod span;
-mod spoken;
+pub mod span;
 
-pub use decision::{Decided, decide};
-pub use formula::{Encoded, encode};
-pub use search::{Searched, Stop, certain_by_search};
+pub use blocks::goes_on;
+pub use clauses::{fill_block, fill_witness};
+pub use decision::{Decided, decide, solved};
+pub use formula::{Encoded, encode, formula_over};
+pub use halve::number;
+pub use relevant::{atom_of, relevant_blocks};

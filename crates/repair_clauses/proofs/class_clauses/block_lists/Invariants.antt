@@ -1,8 +1,0 @@
-use Rattle.std.proofs.Common.{take}
-use Rattle.repair_clauses.specs.Classing.{AreBlockLists}
-use Rattle.repair_clauses.specs.Spans.{variables_of}
-use Rattle.repair_clauses.proofs.class_clauses.block_lists.Given as goal
-
--- the lists of the blocks so far
-abbrev pub invariant-loop-at : goal.invariant-loop-at
-invariant-loop-at l = AreBlockLists (variables_of l.spans) l.classes (take l.at l.spans) l.lists.items

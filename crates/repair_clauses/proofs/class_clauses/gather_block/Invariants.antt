@@ -1,7 +1,0 @@
-use Rattle.std.proofs.Common.{◌+◌}
-use Rattle.repair_clauses.specs.Classing.{AreRange}
-use Rattle.repair_clauses.proofs.class_clauses.gather_block.Given as goal
-
--- the classes of the rows so far
-abbrev pub invariant-loop-at : goal.invariant-loop-at
-invariant-loop-at l = AreRange l.classes l.span.base (l.span.base + l.at) l.numbers.items

@@ -1,9 +1,0 @@
-use Rattle.std.proofs.Common.{take}
-use Rattle.join_witness.specs.Listing.{names_of}
-use Rattle.repair_clauses.specs.Classing.{AreNameLists}
-use Rattle.repair_clauses.specs.Spans.{variables_of}
-use Rattle.repair_clauses.proofs.class_clauses.witness_lists.Given as goal
-
--- the lists of the witnesses so far
-abbrev pub invariant-loop-witness : goal.invariant-loop-witness
-invariant-loop-witness l = AreNameLists (variables_of l.spans) l.classes (names_of (take l.witness-index l.witnesses)) l.lists.items

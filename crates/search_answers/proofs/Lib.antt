@@ -1,0 +1,5 @@
+pub mod FirstLooks
+pub mod Quotient
+pub mod Marking
+pub mod ClassLists
+pub mod Searching

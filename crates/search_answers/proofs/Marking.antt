@@ -1,0 +1,119 @@
+-- Rows get the class of a row that is alike.
+use Rattle.std.proofs.Common.{◌≡◌, ℕ, ◌<◌, ◌+◌, ◌⊎◌, inl, inr, List, [], ◌∷◌, ◌++◌, length, get_or, set, Option, Some, None, refl, sym, ◌∙◌, ap, subst, arith, Contains, slice_get, slice_index_or}
+use Rattle.std.proofs.lemmas.Option.{get_or_from_slice_get, slice_get_within, slice_get-get_or}
+use Rattle.std.proofs.lemmas.List.{get_or-set_same, get_or-set_other, length-set, take_more, take_all}
+use Rattle.std.proofs.lemmas.List.Elements.{Contains-get_or, Contains-push, Contains-push_cases}
+use native.Mathlib.Decide.{ℕ_discrete}
+use Rattle.cqa_value.specs.declared.value.Value.{Value}
+use Rattle.cqa_model.specs.declared.query.ColRef.{ColRef}
+use Rattle.cqa_model.specs.declared.query.Query.{Query}
+use Rattle.cqa_model.specs.declared.query.RowId.{RowId}
+use Rattle.cqa_model.specs.Database.{Table, stored}
+use Rattle.cqa_model.specs.Repairs.{SharesKey}
+use Rattle.cqa_model.specs.Query.{rows_of}
+use Rattle.repair_clauses.specs.Alike.{AreAlike, IsSpokenOf}
+use Rattle.repair_clauses.specs.Clauses.{Variable, HasNumber, row_of}
+use Rattle.repair_clauses.specs.Spans.{at}
+use Rattle.search_answers.specs.Classing.{HasColumn, HasClass, IsNamed, AreClassedTo, Marks}
+
+get-set_same : {A : Type 0} (xs : List A) (k : ℕ) (x : A) → k < length xs → slice_get (set xs k x) k ≡ Some x
+get-set_same xs k x l = slice_get-get_or (set xs k x) k x (let e = length-set xs k x in omega (arith, e, l)) ∙ ap Some (get_or-set_same xs k x x l)
+
+get-set_other : {A : Type 0} (xs : List A) (k j : ℕ) (x y : A) → (j ≡ k → ⊥) → slice_get xs j ≡ Some y → slice_get (set xs k x) j ≡ Some y
+get-set_other xs k j x y n e =
+    let l = slice_get_within xs j y e in
+    slice_get-get_or (set xs k x) j y (let s = length-set xs k x in omega (arith, s, l)) ∙ ap Some (get_or-set_other xs k j x y n ∙ get_or_from_slice_get xs j y y e)
+
+get-unset : {A : Type 0} (xs : List A) (k j : ℕ) (x y : A) → (j ≡ k → ⊥) → slice_get (set xs k x) j ≡ Some y → slice_get xs j ≡ Some y
+get-unset xs k j x y n e =
+    let l = slice_get_within (set xs k x) j y e in
+    slice_get-get_or xs j y (let s = length-set xs k x in omega (arith, s, l)) ∙ ap Some (sym (get_or-set_other xs k j x y n) ∙ get_or_from_slice_get (set xs k x) j y y e)
+
+some_same : {A : Type 0} (x y : A) → Some x ≡ Some y → x ≡ y
+some_same x y e = cc
+
+module _ (variables : List Variable) (columns : List ℕ) (rows : List (List Value)) (atom : ℕ) (old : List (Option ℕ)) where
+  pub marks-none : Marks variables columns rows atom [] old old
+  marks-none = record {
+    size = refl;
+    each = λ F p n h. inl h;
+    kept = λ F p n h. (n, h);
+    added = λ p m. absurd (Rattle.cqa_model.proofs.Classic.mem-nil p m);
+  }
+
+  -- one row more
+  pub marks-more : (places : List ℕ) (mid : List (Option ℕ)) (p r k n : ℕ) → Marks variables columns rows atom places old mid → slice_get variables k ≡ Some (at atom p) → k < length mid →
+      HasNumber variables n (at atom r) → SharesKey columns (slice_index_or rows r []) (slice_index_or rows p []) → Marks variables columns rows atom (places ++ p ∷ []) old (set mid k (Some n))
+  marks-more places mid p r k n h ek lk hn sh = record {
+    size = length-set mid k (Some n) ∙ h.size;
+    each = λ F s i c. each F s i c (ℕ_discrete c.0 k);
+    kept = λ F s i c. let b = h.kept F s i c in still F s b.0 b.1 (ℕ_discrete b.1.0 k);
+    added = λ s ms. elim (Contains-push_cases places p s ms) [
+      | inl i ↦ let b = h.added s i in still atom s b.0 b.1 (ℕ_discrete b.1.0 k)
+      | inr e ↦ (n, (k, ek ∙ ap (λ z. Some (at atom z)) e, get-set_same mid k (Some n) lk))
+    ];
+  }
+    where
+      each : (F s i : ℕ) (c : HasClass variables (set mid k (Some n)) F s i) → Dec (c.0 ≡ k) → HasClass variables old F s i ⊎ ((F ≡ atom) × Contains (places ++ p ∷ []) s ×
+          ((z : ℕ) × HasNumber variables i (at atom z) × SharesKey columns (slice_index_or rows z []) (slice_index_or rows s [])))
+      each F s i (j, ej, ei) (yes e) =
+          let is : at F s ≡ at atom p = some_same (at F s) (at atom p) (sym ej ∙ (ap (slice_get variables) e ∙ ek)) in
+          let ni : n ≡ i = some_same n i (some_same (Some n) (Some i) (sym (get-set_same mid k (Some n) lk) ∙ (ap (slice_get (set mid k (Some n))) (sym e) ∙ ei))) in
+          let sp : p ≡ s = ap (λ (z : Variable). z.place) (sym is) in
+          inr (
+            ap (λ (z : Variable). z.atom) is,
+            subst (Contains (places ++ p ∷ [])) sp (Contains-push places p),
+            (r, subst (λ z. HasNumber variables z (at atom r)) ni hn, subst (λ z. SharesKey columns (slice_index_or rows r []) (slice_index_or rows z [])) sp sh),
+          )
+      each F s i (j, ej, ei) (no f) = elim (h.each F s i (j, ej, get-unset mid k j (Some n) (Some i) f ei)) [
+        | inl o ↦ inl o
+        | inr o ↦ inr (o.0, Rattle.std.proofs.lemmas.List.Elements.Contains-append_left places (p ∷ []) s o.1, o.2)
+      ]
+
+      still : (F s i : ℕ) (c : HasClass variables mid F s i) → Dec (c.0 ≡ k) → (m : ℕ) × HasClass variables (set mid k (Some n)) F s m
+      still F s i (j, ej, ei) (yes e) = (n, (k, subst (λ z. slice_get variables z ≡ Some (at F s)) e ej, get-set_same mid k (Some n) lk))
+      still F s i (j, ej, ei) (no f) = (i, (j, ej, get-set_other mid k j (Some n) (Some i) f ei))
+
+-- no row has a class yet
+none_some : (n : ℕ) → None ≡ Some n → ⊥
+none_some n e = cc
+
+module _ (q : Query) (db : List Table) (variables : List Variable) (all : List (List RowId)) where
+  pub classed-none : (classes : List (Option ℕ)) → length classes ≡ length variables → ((k : ℕ) → k < length classes → get_or classes k None ≡ None) → AreClassedTo q db variables all 0 classes
+  classed-none classes size none = record {
+    size = size;
+    alike = λ F p n c. absurd (clash F p n c);
+    from = λ F p n c. absurd (clash F p n c);
+    to = λ F p b. let l = b.0 in absurd (omega (arith, l));
+  }
+    where
+      clash : (F p n : ℕ) → HasClass variables classes F p n → ⊥
+      clash F p n (k, ek, en) = none_some n (sym (none k (slice_get_within classes k (Some n) en)) ∙ get_or_from_slice_get classes k (Some n) None en)
+
+  -- the rows of one atom more have classes
+  pub classed-more : (n : ℕ) (columns places : List ℕ) (rows : List (List Value)) (old new : List (Option ℕ)) → AreClassedTo q db variables all n old → rows ≡ rows_of q (stored db) n →
+      ((c : ColRef) → IsSpokenOf q c → HasColumn n columns c) → ((p : ℕ) → Contains places p → IsNamed all n p) → ((p : ℕ) → IsNamed all n p → Contains places p) →
+      Marks variables columns rows n places old new → AreClassedTo q db variables all (n + 1) new
+  classed-more n columns places rows old new h is spoken from to m = record {
+    size = m.size ∙ h.size;
+    alike = λ F p i c. elim (m.each F p i c) [
+      | inl o ↦ h.alike F p i o
+      | inr o ↦ let r = o.2 in (r.0, subst (λ G. HasNumber variables i (at G r.0)) (sym o.0) r.1, alike F p r.0 o.0 r.2)
+    ];
+    from = λ F p i c. elim (m.each F p i c) [
+      | inl o ↦ let b = h.from F p i o in let l = b.0 in (omega (arith, l), b.1)
+      | inr o ↦ let e = o.0 in (omega (arith, e), subst (λ G. IsNamed all G p) (sym o.0) (from p o.1))
+    ];
+    to = λ F p b. go F p b.1 (cases F n b.0);
+  }
+    where
+      cases : (i j : ℕ) → i < j + 1 → (i < j) ⊎ (i ≡ j)
+      cases i j l = grind (arith, l)
+
+      go : (F p : ℕ) → IsNamed all F p → (F < n) ⊎ (F ≡ n) → (i : ℕ) × HasClass variables new F p i
+      go F p b (inl l) = let o = h.to F p (l, b) in m.kept F p o.0 o.1
+      go F p b (inr e) = subst (λ G. (i : ℕ) × HasClass variables new G p i) (sym e) (m.added p (to p (subst (λ G. IsNamed all G p) e b)))
+
+      alike : (F p r : ℕ) → F ≡ n → SharesKey columns (slice_index_or rows r []) (slice_index_or rows p []) → AreAlike q F (row_of q db (at F r)) (row_of q db (at F p))
+      alike F p r e sh = subst (λ G. AreAlike q G (row_of q db (at G r)) (row_of q db (at G p))) (sym e)
+          (λ c s ec. subst (λ xs. slice_index_or (slice_index_or xs r []) c.col Rattle.cqa_model.specs.Database.nothing ≡ slice_index_or (slice_index_or xs p []) c.col Rattle.cqa_model.specs.Database.nothing) is (sh c.col (spoken c s ec)))

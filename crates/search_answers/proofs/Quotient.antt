@@ -1,0 +1,351 @@
+-- The clauses over classes of rows that are alike decide the row.
+use Rattle.std.proofs.Common.{◌≡◌, ℕ, suc, ◌<◌, ◌≤◌, ◌+◌, inl, inr, List, [], length, get_or, map, Option, Some, None, refl, sym, ◌∙◌, ap, subst, arith, Contains, slice_get, slice_index_or, Bool, true, false}
+use Rattle.std.specs.List.Sorted.{IsStrictlySortedBy}
+use Rattle.std.specs.Ordering.{nat_cmp}
+use Rattle.std.proofs.lemmas.Option.{get_or_from_slice_get, slice_get_within, slice_get-get_or}
+use Rattle.std.proofs.lemmas.List.Elements.{Contains-get_or, Contains-append_left, Contains-append_right, Contains-append_cases}
+use native.Mathlib.Decide.{ℕ_discrete}
+use Rattle.cqa_value.specs.declared.value.Value.{Value}
+use Rattle.cqa_model.specs.declared.query.Query.{Query}
+use Rattle.cqa_model.specs.declared.query.RowId.{RowId}
+use Rattle.cqa_model.specs.Database.{Table, IsDatabase, nothing, stored}
+use Rattle.cqa_model.specs.Repairs.{SharesKey}
+use Rattle.cqa_model.specs.Query.{FitsDatabase, atom_at, atom_key, rows_of, row_at, IsWitness}
+use Rattle.cqa_model.specs.Certain.{IsCertain}
+use Rattle.cqa_model.specs.Formula.{IsRelevant}
+use Rattle.cqa_model.proofs.Classic.{dec_both, choose}
+use Rattle.cqa_model.proofs.Values.{row_discrete}
+use Rattle.cqa_model.proofs.Repairs.{shares-self, shares-eq, shares-sym, shares-trans}
+use Rattle.cqa_model.proofs.Databases as databases
+use Rattle.cnf_form.specs.declared.formula.Lit.{Lit}
+use Rattle.cnf_form.specs.declared.formula.Cnf.{Cnf}
+use Rattle.cnf_form.specs.Literals.{IsInRange, Satisfies, SatisfiesAll, literals}
+use Rattle.cdcl.specs.Outcomes.{IsOnce}
+use Rattle.flat_formula.specs.declared.guess.Found.{Found}
+use Rattle.flat_formula.specs.declared.guess.Found.TheVariants.{Satisfiable, Unsatisfiable, Unclear}
+use Rattle.flat_formula.specs.Findings.{FoundIs}
+use Rattle.join_witness.specs.Listing.{AreAllNames, places_of}
+use Rattle.join_witness.proofs.Naming.{stand-once}
+use Rattle.join_witness.proofs.Sorted.{one_place}
+use Rattle.repair_clauses.specs.declared.span.Span.{Span}
+use Rattle.repair_clauses.specs.Alike.{AreClasses, IsInWitness, IsCovered, SatisfiesClasses}
+use Rattle.repair_clauses.specs.Clauses.{Variable, HasNumber, IsStored, row_of, positive, negative, variable_cmp}
+use Rattle.repair_clauses.specs.Spans.{at, place_at, IsIn, AreSpans, AreSpansTo, variables_of}
+use Rattle.search_answers.specs.Classing.{HasClass, IsNamed, AreClassedTo, IsWhole, AreOfBlock, AreOfNames, AreClassClauses, AreQuotient, FoundSays}
+use Rattle.repair_clauses.proofs.Truths.{some_below}
+use Rattle.repair_clauses.proofs.Numbers.{place_of, in_map, from_map}
+use Rattle.repair_clauses.proofs.Rows.{number_below, one_variable, dec_number, is_stored}
+use Rattle.repair_clauses.proofs.Order.{map_var, variable_total}
+use Rattle.repair_clauses.proofs.Spans.{are_variables}
+use Rattle.repair_clauses.proofs.Atoms.{spans-all}
+use Rattle.repair_clauses.proofs.Naming.{named-size, of_names, placed}
+use Rattle.repair_clauses.proofs.Alike.{classes_are_exact}
+use Rattle.repair_clauses.proofs.Deciding.{no-var-twice}
+
+some_same : {A : Type 0} (x y : A) → Some x ≡ Some y → x ≡ y
+some_same x y e = cc
+
+some_some : (m n : ℕ) → Some (Some m) ≡ Some (Some n) → m ≡ n
+some_some m n e = some_same m n (some_same (Some m) (Some n) e)
+
+none_some : (n : ℕ) → None ≡ Some (Some n) → ⊥
+none_some n e = cc
+
+dec_class : (o : Option (Option ℕ)) → Dec ((n : ℕ) × (o ≡ Some (Some n)))
+dec_class None = no (λ h. none_some h.0 h.1)
+dec_class (Some None) = no (λ h. no_none h.0 h.1)
+  where
+    no_none : (n : ℕ) → Some None ≡ Some (Some n) → ⊥
+    no_none n e = cc
+dec_class (Some (Some n)) = yes (n, refl)
+
+one_at : (x : Variable) (F : ℕ) → x.atom ≡ F → x ≡ at F x.place
+one_at x F e = ap (λ G. at G x.place) e
+
+module _ (q : Query) (db : List Table) (d : IsDatabase db) (fits : FitsDatabase q db) (row : List Value) (m : ℕ) (spans : List Span) (h : AreSpansTo q db row (length q.atoms) m spans)
+    (all : List (List RowId)) (a : AreAllNames q db row all) where
+  abbrev vars : List Variable
+  vars = variables_of spans
+
+  are_spans : AreSpans q db row spans
+  are_spans = spans-all q db row m spans h
+
+  pub sorted : IsStrictlySortedBy variable_cmp vars
+  sorted = (are_variables q db row spans are_spans).in_order
+
+  -- a row stands at one place
+  one_row : (F p r : ℕ) → F < length q.atoms → p < length (rows_of q (stored db) F) → r < length (rows_of q (stored db) F) → row_of q db (at F p) ≡ row_of q db (at F r) → p ≡ r
+  one_row F p r l lp lr e =
+      let rows = rows_of q (stored db) F in
+      stand-once db d (atom_at q F).table p r (row_of q db (at F r)) (slice_get-get_or rows p [] lp ∙ ap Some e) (slice_get-get_or rows r [] lr)
+
+  -- the names of a witness
+  abbrev HasPlaceOf : List (List Value) → ℕ → ℕ → Type 0
+  HasPlaceOf w F p = (p < length (rows_of q (stored db) F)) × (row_of q db (at F p) ≡ row_at w F)
+
+  names_for : (w : List (List Value)) → IsWitness q (stored db) row w → (names : List RowId) × Contains all names × ((F : ℕ) → F < length q.atoms → HasPlaceOf w F (place_at names F))
+  names_for w hw = go (choose 0 (length q.atoms) (HasPlaceOf w) (λ F l. place F (place_of (rows_of q (stored db) F) (row_at w F) (hw.kept F l))))
+    where
+      place : (F : ℕ) → ((j : ℕ) × (j < length (rows_of q (stored db) F)) × (slice_get (rows_of q (stored db) F) j ≡ Some (row_at w F))) → (j : ℕ) × HasPlaceOf w F j
+      place F (j, l, e) = (j, (l, get_or_from_slice_get (rows_of q (stored db) F) j (row_at w F) [] e))
+
+      go : ((ps : List ℕ) × (length ps ≡ length q.atoms) × ((F : ℕ) → F < length q.atoms → HasPlaceOf w F (get_or ps F 0))) →
+          (names : List RowId) × Contains all names × ((F : ℕ) → F < length q.atoms → HasPlaceOf w F (place_at names F))
+      go (ps, size, each) =
+          let mp = ((placed q db row all a).exactly ps).1 (record { rows = w; witness = hw; size = size; each = each }) in
+          let n = from_map places_of all ps mp in
+          (n.0, n.1, λ F l. subst (λ xs. HasPlaceOf w F (get_or xs F 0)) (sym n.2) (each F l))
+
+  named : (F : ℕ) → F < length q.atoms → (x : List Value) → IsInWitness q (stored db) row F x → (p : ℕ) × (p < length (rows_of q (stored db) F)) × (row_of q db (at F p) ≡ x) × IsNamed all F p
+  named F l x (w, hw, e) =
+      let n = names_for w hw in
+      let b = n.2 F l in
+      (place_at n.0 F, b.0, b.1 ∙ e, (n.0, n.1, refl))
+
+  in_witness : (F : ℕ) → F < length q.atoms → (p : ℕ) → IsNamed all F p → (p < length (rows_of q (stored db) F)) × IsInWitness q (stored db) row F (row_of q db (at F p))
+  in_witness F l p (names, mn, e) =
+      let b = of_names q db row names ((a.exactly names).0 mn) in
+      let c = b.each F l in
+      (subst (λ r. r < length (rows_of q (stored db) F)) e c.0, (b.rows, b.witness, sym c.1 ∙ ap (λ r. row_of q db (at F r)) e))
+
+  module _ (classes : List (Option ℕ)) (c : AreClassedTo q db vars all (length q.atoms) classes) where
+    -- the class of a row
+    abbrev IsOf : ℕ → List Value → Variable → Type 0
+    IsOf F x y = (y.atom ≡ F) × (row_of q db y ≡ x)
+
+    abbrev IsHit : ℕ → List Value → ℕ → Type 0
+    IsHit F x k = ((y : Variable) × HasNumber vars (suc k) y × IsOf F x y) × ((n : ℕ) × (slice_get classes k ≡ Some (Some n)))
+
+    dec_hit : (F : ℕ) (x : List Value) → Dec ((k : ℕ) × (k < length vars) × IsHit F x k)
+    dec_hit F x = some_below (IsHit F x)
+        (λ k. dec_both (dec_number vars (IsOf F x) (λ y. dec_both (ℕ_discrete y.atom F) (row_discrete (row_of q db y) x)) (suc k)) (dec_class (slice_get classes k))) (length vars)
+
+    abbrev chosen : (F : ℕ) (x : List Value) → Dec ((k : ℕ) × (k < length vars) × IsHit F x k) → ℕ
+    chosen F x (yes p) = p.2.1.0
+    chosen F x (no f) = 0
+
+    abbrev class : ℕ → List Value → ℕ
+    class F x = chosen F x (dec_hit F x)
+
+    is_class : (F p n : ℕ) → HasClass vars classes F p n → class F (row_of q db (at F p)) ≡ n
+    is_class F p n (k, ek, en) = go (dec_hit F (row_of q db (at F p)))
+      where
+        st : (y : Variable) (j : ℕ) → HasNumber vars (suc j) y → IsStored q db y
+        st y j e = is_stored q db row vars (are_variables q db row spans are_spans) y (Rattle.repair_clauses.proofs.Numbers.at_place vars j y e)
+
+        go : (dec : Dec ((j : ℕ) × (j < length vars) × IsHit F (row_of q db (at F p)) j)) → chosen F (row_of q db (at F p)) dec ≡ n
+        go (yes (j, l, ((y, ey, (ya, yr)), (i, ei)))) =
+            let sp = st (at F p) k ek in
+            let sy = st y j ey in
+            let is : y ≡ at F y.place = one_at y F ya in
+            let ly : y.place < length (rows_of q (stored db) F) = subst (λ G. y.place < length (rows_of q (stored db) G)) ya sy.1 in
+            let same : y.place ≡ p = one_row F y.place p sp.0 ly sp.1 (ap (row_of q db) (sym is) ∙ yr) in
+            let whole : y ≡ at F p = is ∙ ap (at F) same in
+            let jk : j ≡ k = one_place variable_cmp variable_total vars j k (at F p) sorted (subst (λ z. slice_get vars j ≡ Some z) whole ey) ek in
+            some_some i n (sym ei ∙ (ap (slice_get classes) jk ∙ en))
+        go (no f) = absurd (f (k, slice_get_within vars k (at F p) ek, ((at F p, ek, (refl, refl)), (n, en))))
+
+    are_classes : AreClasses q (stored db) row class
+    are_classes F G lF lG x y ix iy e =
+        let p = named F lF x ix in
+        let r = named G lG y iy in
+        let cp = c.to F p.0 (lF, p.3) in
+        let cr = c.to G r.0 (lG, r.3) in
+        let ep : class F x ≡ cp.0 = ap (class F) (sym p.2) ∙ is_class F p.0 cp.0 cp.1 in
+        let er : class G y ≡ cr.0 = ap (class G) (sym r.2) ∙ is_class G r.0 cr.0 cr.1 in
+        let same : cp.0 ≡ cr.0 = sym ep ∙ (e ∙ er) in
+        let ap1 = c.alike F p.0 cp.0 cp.1 in
+        let ar1 = c.alike G r.0 cr.0 cr.1 in
+        let one : at F ap1.0 ≡ at G ar1.0 = one_variable vars cr.0 (at F ap1.0) (at G ar1.0) (subst (λ k. HasNumber vars k (at F ap1.0)) same ap1.1) ar1.1 in
+        let FG : F ≡ G = ap (λ (z : Variable). z.atom) one in (
+          FG,
+          λ col s ea.
+              ap (λ z. slice_index_or z col.col nothing) (sym p.2) ∙ (sym (ap1.2 col s ea) ∙ (ap (λ z. slice_index_or (row_of q db z) col.col nothing) one
+              ∙ (ar1.2 col s (ea ∙ FG) ∙ ap (λ z. slice_index_or z col.col nothing) r.2))),
+        )
+
+    -- the rows of a span are those of its block
+    in_block : (s : Span) → Contains spans s → (p r : ℕ) → IsIn s (at s.atom p) → r < length (rows_of q (stored db) s.atom) → SharesKey (atom_key q s.atom) (row_of q db (at s.atom p)) (row_of q db (at s.atom r)) → IsIn s (at s.atom r)
+    in_block s ms p r i l sh =
+        let t = (h.each s ms).1 in
+        let w = t.within in
+        let u = i.2 in
+        let key = atom_key q s.atom in
+        let first = (t.block p (omega (arith, u, w))).1 (i.1, i.2) in
+        let b = (t.block r l).0 (shares-trans key (row_of q db (at s.atom s.start)) (row_of q db (at s.atom p)) (row_of q db (at s.atom r)) first sh) in
+        (refl, b.0, b.1)
+
+    of_block : (s : Span) → Contains spans s → (p r : ℕ) → IsIn s (at s.atom p) → IsIn s (at s.atom r) → SharesKey (atom_key q s.atom) (row_of q db (at s.atom p)) (row_of q db (at s.atom r))
+    of_block s ms p r i j =
+        let t = (h.each s ms).1 in
+        let w = t.within in
+        let u = i.2 in
+        let v = j.2 in
+        let key = atom_key q s.atom in
+        shares-trans key (row_of q db (at s.atom p)) (row_of q db (at s.atom s.start)) (row_of q db (at s.atom r))
+        (shares-sym key (row_of q db (at s.atom s.start)) (row_of q db (at s.atom p)) ((t.block p (omega (arith, u, w))).1 (i.1, i.2))) ((t.block r (omega (arith, v, w))).1 (j.1, j.2))
+
+    in_rows : (s : Span) → Contains spans s → (p : ℕ) → IsIn s (at s.atom p) → (p < length (rows_of q (stored db) s.atom)) × Contains (rows_of q (stored db) s.atom) (row_of q db (at s.atom p))
+    in_rows s ms p i =
+        let w = (h.each s ms).1.within in
+        let u = i.2 in
+        let l : p < length (rows_of q (stored db) s.atom) = omega (arith, u, w) in
+        (l, Contains-get_or (rows_of q (stored db) s.atom) p [] l)
+
+    module _ (cs : List (List Lit)) (k : AreClassClauses vars classes spans all cs) where
+      block_in : (numbers : List ℕ) → Contains k.blocks numbers → Contains cs (map positive numbers)
+      block_in numbers mn = subst (λ ds. Contains ds (map positive numbers)) (sym k.is)
+          (Contains-append_left (map (map positive) k.blocks) (map (map negative) k.witnesses) (map positive numbers) (in_map (map positive) k.blocks numbers mn))
+
+      witness_in : (numbers : List ℕ) → Contains k.witnesses numbers → Contains cs (map negative numbers)
+      witness_in numbers mn = subst (λ ds. Contains ds (map negative numbers)) (sym k.is)
+          (Contains-append_right (map (map positive) k.blocks) (map (map negative) k.witnesses) (map negative numbers) (in_map (map negative) k.witnesses numbers mn))
+
+      -- from clauses to classes
+      from_sat : ((v : ℕ → Bool) × SatisfiesAll v cs) → (t : ℕ → Bool) × SatisfiesClasses q (stored db) row class t
+      from_sat (v, sat) = (v, record { blocks = blocks; witnesses = witnesses })
+        where
+          some_true : (numbers : List ℕ) → Satisfies v (map positive numbers) → (n : ℕ) × Contains numbers n × (v n ≡ true)
+          some_true numbers (l, ml, e) = let p = from_map positive numbers l ml in (p.0, p.1, subst (λ (z : Lit). v z.var ≡ z.positive) (sym p.2) e)
+
+          some_false : (numbers : List ℕ) → Satisfies v (map negative numbers) → (n : ℕ) × Contains numbers n × (v n ≡ false)
+          some_false numbers (l, ml, e) = let p = from_map negative numbers l ml in (p.0, p.1, subst (λ (z : Lit). v z.var ≡ z.positive) (sym p.2) e)
+
+          Goal : ℕ → List Value → Type 0
+          Goal F x = (y : List Value) × Contains (rows_of q (stored db) F) y × SharesKey (atom_key q F) x y × (v (class F y) ≡ true)
+
+          whole : (s : Span) → Contains spans s → (p : ℕ) → IsIn s (at s.atom p) → IsCovered q (stored db) row s.atom (row_of q db (at s.atom p)) → IsWhole vars classes s
+          whole s ms p i cov r j =
+              let l = (h.each s ms).0 in
+              let b = in_rows s ms r j in
+              let g = named s.atom l (row_of q db (at s.atom r)) (cov (row_of q db (at s.atom r)) b.1 (of_block s ms p r i j)) in
+              let same : g.0 ≡ r = one_row s.atom g.0 r l g.1 b.0 g.2 in
+              c.to s.atom r (l, subst (IsNamed all s.atom) same g.3)
+
+          of_span : (s : Span) → Contains spans s → (p : ℕ) → IsIn s (at s.atom p) → IsCovered q (stored db) row s.atom (row_of q db (at s.atom p)) → Goal s.atom (row_of q db (at s.atom p))
+          of_span s ms p i cov =
+              let lst = k.of_blocks.every s ms (whole s ms p i cov) in
+              let n = some_true lst.0 (sat (map positive lst.0) (block_in lst.0 lst.1)) in
+              let f = (lst.2.exactly n.0).0 n.1 in
+              (row_of q db (at s.atom f.0), (in_rows s ms f.0 f.1).1, of_block s ms p f.0 i f.1, ap v (is_class s.atom f.0 n.0 f.2) ∙ n.2)
+
+          blocks : (F : ℕ) → F < length q.atoms → (x : List Value) → Contains (rows_of q (stored db) F) x → IsCovered q (stored db) row F x → Goal F x
+          blocks F l x mx cov =
+              let ix = cov x mx (shares-self (atom_key q F) x) in
+              let p = named F l x ix in
+              let rel : IsRelevant q (stored db) row F (row_of q db (at F p.0)) = (ix.0, ix.1, shares-eq (atom_key q F) (row_of q db (at F p.0)) (row_at ix.0 F) (p.2 ∙ sym ix.2)) in
+              let s = h.every (at F p.0) l (l, p.1) rel in
+              let e : F ≡ s.0.atom = s.2.0 in
+              subst (Goal F) p.2 (subst (λ G. IsCovered q (stored db) row G (row_of q db (at G p.0)) → Goal G (row_of q db (at G p.0))) (sym e) (of_span s.0 s.1 p.0 (refl, s.2.1, s.2.2))
+              (subst (IsCovered q (stored db) row F) (sym p.2) cov))
+
+          witnesses : (w : List (List Value)) → IsWitness q (stored db) row w → (F : ℕ) × (F < length q.atoms) × (v (class F (row_at w F)) ≡ false)
+          witnesses w hw =
+              let ns = names_for w hw in
+              let lst = k.of_names.every ns.0 ns.1 in
+              let n = some_false lst.0 (sat (map negative lst.0) (witness_in lst.0 lst.1)) in
+              let f = (lst.2.exactly n.0).0 n.1 in
+              let l = (c.from f.0 (place_at ns.0 f.0) n.0 f.2).0 in
+              (f.0, l, ap v (ap (class f.0) (sym (ns.2 f.0 l).1) ∙ is_class f.0 (place_at ns.0 f.0) n.0 f.2) ∙ n.2)
+
+      -- from classes to clauses
+      to_sat : ((t : ℕ → Bool) × SatisfiesClasses q (stored db) row class t) → (v : ℕ → Bool) × SatisfiesAll v cs
+      to_sat (t, s) = (
+        t,
+        λ cl mc. elim (Contains-append_cases (map (map positive) k.blocks) (map (map negative) k.witnesses) cl (subst (λ ds. Contains ds cl) k.is mc)) [
+          | inl b ↦ let p = from_map (map positive) k.blocks cl b in subst (Satisfies t) p.2 (of_list p.0 (k.of_blocks.each p.0 p.1))
+          | inr w ↦ let p = from_map (map negative) k.witnesses cl w in subst (Satisfies t) p.2 (of_witness p.0 (k.of_names.each p.0 p.1))
+        ],
+      )
+        where
+          of_list : (numbers : List ℕ) → ((b : Span) × Contains spans b × AreOfBlock vars classes b numbers) → Satisfies t (map positive numbers)
+          of_list numbers (b, mb, o) = go (s.blocks b.atom l (row_of q db (at b.atom b.start)) (in_rows b mb b.start first).1 covered)
+            where
+              l : b.atom < length q.atoms
+              l = (h.each b mb).0
+
+              first : IsIn b (at b.atom b.start)
+              first = let n = (h.each b mb).1.some in (refl, omega arith, omega (arith, n))
+
+              place : (y : List Value) → Contains (rows_of q (stored db) b.atom) y → SharesKey (atom_key q b.atom) (row_of q db (at b.atom b.start)) y →
+                  (r : ℕ) × IsIn b (at b.atom r) × (row_of q db (at b.atom r) ≡ y)
+              place y my sh =
+                  let r = place_of (rows_of q (stored db) b.atom) y my in
+                  let e : row_of q db (at b.atom r.0) ≡ y = get_or_from_slice_get (rows_of q (stored db) b.atom) r.0 y [] r.2 in
+                  (r.0, in_block b mb b.start r.0 first r.1 (subst (λ z. SharesKey (atom_key q b.atom) (row_of q db (at b.atom b.start)) z) (sym e) sh), e)
+
+              covered : IsCovered q (stored db) row b.atom (row_of q db (at b.atom b.start))
+              covered y my sh =
+                  let r = place y my sh in
+                  let n = o.whole r.0 r.1 in
+                  subst (IsInWitness q (stored db) row b.atom) r.2 (in_witness b.atom l r.0 (c.from b.atom r.0 n.0 n.1).1).1
+
+              go : ((y : List Value) × Contains (rows_of q (stored db) b.atom) y × SharesKey (atom_key q b.atom) (row_of q db (at b.atom b.start)) y × (t (class b.atom y) ≡ true)) → Satisfies t (map positive numbers)
+              go (y, my, sh, e) =
+                  let r = place y my sh in
+                  let n = o.whole r.0 r.1 in
+                  let is : class b.atom y ≡ n.0 = ap (class b.atom) (sym r.2) ∙ is_class b.atom r.0 n.0 n.1 in
+                  (positive n.0, in_map positive numbers n.0 ((o.exactly n.0).1 (r.0, r.1, n.1)), ap t (sym is) ∙ e)
+
+          of_witness : (numbers : List ℕ) → ((names : List RowId) × Contains all names × AreOfNames vars classes names numbers) → Satisfies t (map negative numbers)
+          of_witness numbers (names, mn, o) =
+              let an = (a.exactly names).0 mn in
+              let b = of_names q db row names an in
+              let p = s.witnesses b.rows b.witness in
+              let n = c.to p.0 (place_at names p.0) (p.1, (names, mn, refl)) in
+              let is : class p.0 (row_at b.rows p.0) ≡ n.0 = ap (class p.0) (sym (b.each p.0 p.1).1) ∙ is_class p.0 (place_at names p.0) n.0 n.1 in
+              let l : p.0 < length names = subst (λ z. p.0 < z) (sym (named-size db q.atoms names an.0 an.2)) p.1 in
+              (negative n.0, in_map negative numbers n.0 ((o.exactly n.0).1 (p.0, l, n.1)), ap t (sym is) ∙ p.2)
+
+      rejected : ((v : ℕ → Bool) × SatisfiesAll v cs) → IsCertain db q row → ⊥
+      rejected s certain =
+          let r = (classes_are_exact db q row class are_classes).0 (from_sat s) in
+          (databases.formula_is_exact db q row fits).0 certain r.0 r.1
+
+      certain_of : ((v : ℕ → Bool) → SatisfiesAll v cs → ⊥) → IsCertain db q row
+      certain_of none = (databases.formula_is_exact db q row fits).1 (λ b s. let r = to_sat ((classes_are_exact db q row class are_classes).1 (b, s)) in none r.0 r.1)
+
+  pub found_says : (cs : List (List Lit)) → AreQuotient q db spans all cs → (f : Found) → FoundIs cs f → FoundSays q db row f
+  found_says cs (classes, c, k) Satisfiable s = rejected classes c cs k s
+  found_says cs (classes, c, k) Unsatisfiable s = certain_of classes c cs k s
+  found_says cs (classes, c, k) Unclear s = tt
+
+-- ---- the clauses are well formed
+
+module _ (q : Query) (db : List Table) (spans : List Span) (all : List (List RowId)) (cs : List (List Lit)) where
+  class_number : (classes : List (Option ℕ)) → AreClassedTo q db (variables_of spans) all (length q.atoms) classes → (F p n : ℕ) → HasClass (variables_of spans) classes F p n → (1 ≤ n) × (n < 1 + length (variables_of spans))
+  class_number classes c F p n hc = let r = c.alike F p n hc in number_below (variables_of spans) n (at F r.0) r.1
+
+  -- the numbers of a clause rise, and are those of variables
+  pub record RisesTo (cl : List Lit) : Type 0 where
+    pub rises : IsStrictlySortedBy nat_cmp (map (λ (l : Lit). l.var) cl)
+    pub in_range : (l : Lit) → Contains cl l → (1 ≤ l.var) × (l.var < 1 + length (variables_of spans))
+
+  of_numbers : (lit : ℕ → Lit) → ((n : ℕ) → (lit n).var ≡ n) → (numbers : List ℕ) (cl : List Lit) → map lit numbers ≡ cl → IsStrictlySortedBy nat_cmp numbers →
+      ((n : ℕ) → Contains numbers n → (1 ≤ n) × (n < 1 + length (variables_of spans))) → RisesTo cl
+  of_numbers lit is numbers cl e s b = subst RisesTo e (record {
+    rises = subst (IsStrictlySortedBy nat_cmp) (sym (map_var lit is numbers)) s;
+    in_range = λ l ml. let p = from_map lit numbers l ml in
+        let v : l.var ≡ p.0 = ap (λ (z : Lit). z.var) (sym p.2) ∙ is p.0 in
+        subst (λ n. (1 ≤ n) × (n < 1 + length (variables_of spans))) (sym v) (b p.0 p.1);
+  })
+
+  pub rises_to : AreQuotient q db spans all cs → (cl : List Lit) → Contains cs cl → RisesTo cl
+  rises_to (classes, c, k) cl mc = elim (Contains-append_cases (map (map positive) k.blocks) (map (map negative) k.witnesses) cl (subst (λ ds. Contains ds cl) k.is mc)) [
+    | inl b ↦ let p = from_map (map positive) k.blocks cl b in
+        let o = k.of_blocks.each p.0 p.1 in
+        of_numbers positive (λ n. refl) p.0 cl p.2 o.2.rises (λ n mn. let f = (o.2.exactly n).0 mn in class_number classes c o.0.atom f.0 n f.2)
+    | inr w ↦ let p = from_map (map negative) k.witnesses cl w in
+        let o = k.of_names.each p.0 p.1 in
+        of_numbers negative (λ n. refl) p.0 cl p.2 o.2.rises (λ n mn. let f = (o.2.exactly n).0 mn in class_number classes c f.0 (place_at o.0 f.0) n f.2)
+  ]
+
+  pub quotient_range : (cnf : Cnf) → literals cnf.clauses ≡ cs → cnf.vars ≡ length (variables_of spans) → AreQuotient q db spans all cs → IsInRange cnf
+  quotient_range cnf e v h cl mc l ml =
+      let r = (rises_to h cl (subst (λ ds. Contains ds cl) e mc)).in_range l ml in
+      let low = r.0 in
+      let high = r.1 in
+      (low, omega (arith, high, v))
+
+  pub quotient_once : (cnf : Cnf) → literals cnf.clauses ≡ cs → AreQuotient q db spans all cs → IsOnce cnf
+  quotient_once cnf e h cl mc = no-var-twice cl (rises_to h cl (subst (λ ds. Contains ds cl) e mc)).rises

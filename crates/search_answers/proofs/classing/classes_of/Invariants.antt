@@ -1,0 +1,8 @@
+use Rattle.join_witness.specs.Listing.{names_of}
+use Rattle.search_answers.specs.Classing.{AreClassedTo}
+use Rattle.repair_clauses.specs.Spans.{variables_of}
+use Rattle.search_answers.proofs.classing.classes_of.Given as goal
+
+-- the rows of the atoms so far have classes
+abbrev pub invariant-loop-at : goal.invariant-loop-at
+invariant-loop-at l = AreClassedTo l.query l.db (variables_of l.spans) (names_of l.witnesses) l.at l.classes.items

@@ -1,0 +1,4 @@
+pub mod Classing
+pub mod Looking
+pub mod Lookups
+pub mod Searching

@@ -1,0 +1,73 @@
+-- The certain rows of a query, found candidate by candidate, ascending.
+use Rattle.std.specs.Prelude.{◌≡◌, ◌↔◌, ◌⊎◌, ℕ, List, [], ◌∷◌, ◌++◌, Contains}
+use Rattle.std.specs.List.Sorted.{IsStrictlySortedBy}
+use Rattle.std.specs.declared.cmp.Ordering.TheVariants.{Less}
+use Rattle.cqa_value.specs.declared.value.Value.{Value}
+use Rattle.cqa_value.specs.Values.{row_cmp}
+use Rattle.cqa_model.specs.declared.query.Query.{Query}
+use Rattle.cqa_model.specs.declared.query.RowId.{RowId}
+use Rattle.cqa_model.specs.Database.{Table}
+use Rattle.cqa_model.specs.Certain.{IsCertain, IsCandidate, IsCertainAnswer}
+use Rattle.cnf_form.specs.declared.formula.Cnf.{Cnf}
+use Rattle.cnf_form.specs.declared.log.Log.{Log}
+use Rattle.cnf_form.specs.Spent.{IsSpentLog}
+use Rattle.cdcl.specs.declared.outcome.Outcome.{Outcome}
+use Rattle.cdcl.specs.declared.outcome.Outcome.TheVariants as outcome
+use Rattle.join_witness.specs.Listing.{HasTooMany}
+use Rattle.repair_clauses.specs.declared.formula.Encoded.{Encoded}
+use Rattle.search_answers.specs.declared.judging.Verdict.{Verdict}
+use Rattle.search_answers.specs.declared.judging.Verdict.TheVariants as verdict
+use Rattle.search_answers.specs.declared.search.Stop.{Stop}
+use Rattle.search_answers.specs.declared.search.Stop.TheVariants as stop
+use Rattle.search_answers.specs.declared.search.Searched.{Searched}
+use Rattle.search_answers.specs.declared.search.Searched.TheVariants.{All, Stopped}
+use Rattle.repair_clauses.specs.Encodings.{IsEncoded}
+
+-- the row is a candidate, and its formula has a spent log for the budget
+pub record IsSpentFor (q : Query) (db : List Table) (budget : ℕ) (row : List Value) (cnf : Cnf) (log : Log) : Type 0 where
+  pub candidate : IsCandidate db q row
+  pub rows : List RowId
+  pub formula : IsEncoded q db row (record { cnf = cnf; rows = rows })
+  pub spent : IsSpentLog cnf budget log.steps
+
+-- what is found out of a row
+abbrev pub IsVerdict : Query → List Table → List Value → ℕ → Verdict → Type 0
+IsVerdict q db row budget verdict.Certain = IsCertain db q row × (HasTooMany q db row → ⊥)
+IsVerdict q db row budget verdict.Rejected = (IsCertain db q row → ⊥) × (HasTooMany q db row → ⊥)
+IsVerdict q db row budget verdict.Over = HasTooMany q db row
+IsVerdict q db row budget (verdict.Spent cnf log) = IsSpentFor q db budget row cnf log × (HasTooMany q db row → ⊥)
+
+-- the verdict of an outcome
+abbrev pub Judges : Encoded → Outcome → Verdict → Type 0
+Judges formula (outcome.Sat values) v = v ≡ verdict.Rejected
+Judges formula (outcome.Unsat log) v = v ≡ verdict.Certain
+Judges formula (outcome.Spent log) v = v ≡ verdict.Spent formula.cnf log
+
+-- a search stops at this row
+abbrev pub IsStopAt : Query → List Table → ℕ → List Value → Stop → Type 0
+IsStopAt q db budget row (stop.Over r) = (r ≡ row) × HasTooMany q db row
+IsStopAt q db budget row (stop.Spent r cnf log) = (r ≡ row) × IsSpentFor q db budget row cnf log × (HasTooMany q db row → ⊥)
+
+-- no candidate before a row has too many witnesses
+abbrev pub NoneBefore : Query → List Table → List Value → Type 0
+NoneBefore q db row = (other : List Value) → IsCandidate db q other → row_cmp other row ≡ Less → HasTooMany q db other → ⊥
+
+-- a search stops at the first candidate with too many witnesses, or before it where the budget is used up
+abbrev pub IsStop : Query → List Table → ℕ → Stop → Type 0
+IsStop q db budget (stop.Over row) = IsCandidate db q row × HasTooMany q db row × NoneBefore q db row
+IsStop q db budget (stop.Spent row cnf log) = IsSpentFor q db budget row cnf log × (HasTooMany q db row → ⊥) × NoneBefore q db row
+
+-- the certain answer, where no candidate has too many witnesses; or the search stopped
+abbrev pub IsSearched : Query → List Table → ℕ → Searched → Type 0
+IsSearched q db budget (All answers) = IsCertainAnswer db q answers × ((row : List Value) → IsCandidate db q row → HasTooMany q db row → ⊥)
+IsSearched q db budget (Stopped why) = IsStop q db budget why
+
+-- a decided row is put behind the certain ones exactly where it is certain
+abbrev pub Sifts : Query → List Table → List Value → List (List Value) → List (List Value) → Type 0
+Sifts q db row old new = (((new ≡ old ++ row ∷ []) × IsCertain db q row) ⊎ ((new ≡ old) × (IsCertain db q row → ⊥))) × (HasTooMany q db row → ⊥)
+
+-- the certain ones of decided rows, ascending
+pub record SiftsAll (q : Query) (db : List Table) (rows answers : List (List Value)) : Type 0 where
+  pub ascending : IsStrictlySortedBy row_cmp answers
+  pub exactly : (row : List Value) → Contains answers row ↔ (Contains rows row × IsCertain db q row)
+  pub within : (row : List Value) → Contains rows row → HasTooMany q db row → ⊥

@@ -1,0 +1,157 @@
+//! The classes of a row's variables: variables of rows that are alike have one. A class is the number of one of them.
+//! Rows are sorted by what a query speaks of, so that those that are alike stand side by side.
+
+ghost use Rattle.std.specs.Prelude.{◌≡◌, ◌+◌, ◌<◌, ◌^◌, ◌↔◌, ◌⊎◌, ℕ, IfOk, Contains, length, slice_index_or, []};
+ghost use Rattle.cqa_model.specs.Repairs.{SharesKey};
+ghost use Rattle.cqa_model.specs.Query.{FitsDatabase};
+ghost use Rattle.join_witness.specs.Listing.{names_of};
+ghost use Rattle.repair_clauses.specs.declared.span.Span.{Span as Run};
+ghost use Rattle.repair_clauses.specs.Spans.{AreApart, AreBased, IsIn, at, variables_of};
+ghost use Rattle.search_answers.specs.Classing.{AreClassedTo, AreWitnessed, Marks};
+
+use crate::spoken::spoken_columns;
+use cqa_model::Query;
+use cqa_value::{NOTHING, NoMemory, Row, compare};
+use join_witness::Witness;
+use repair_clauses::column::column;
+use repair_clauses::span::Span;
+use repair_clauses::{atom_of, goes_on, number};
+use row_pieces::Rows;
+use std::alloc::Global;
+use std::cmp::Ordering;
+use table_blocks::Database;
+
+/// Compares two rows in some columns.
+fn compare_columns(columns: &[u32], a: &Row, b: &Row) -> Ordering {
+    for column in columns {
+        let ordering = compare(a.at_or(*column, &NOTHING), b.at_or(*column, &NOTHING));
+        if ordering != Ordering::Equal {
+            return ordering;
+        }
+    }
+    Ordering::Equal
+}
+
+/// Compares the rows at two places in some columns. A place without a row comes where its number is.
+fn compare_places(rows: &Rows<'_>, columns: &[u32], a: u32, b: u32) -> Ordering {
+    let (a, b) = (a as usize, b as usize);
+    if a < rows.len() && b < rows.len() {
+        compare_columns(columns, rows.get(a), rows.get(b))
+    } else {
+        a.cmp(&b)
+    }
+}
+
+/// Puts places in the order of their rows' columns. A place that stands several times in a row is kept once.
+fn put_by_columns(rows: &Rows<'_>, columns: &[u32], places: &mut Vec<u32>)
+    ensures { (p : ℕ) → Contains places.new.items p ↔ Contains places.old.items p }
+{
+    places.dedup();
+    places.sort_unstable_by(|a, b| -> Ordering { compare_places(rows, columns, *a, *b) });
+}
+
+/// The first of two places if their rows are alike, or else the second.
+fn first_alike(rows: &Rows<'_>, columns: &[u32], first: u32, place: u32) -> u32
+    requires first { first < length rows.now }
+    requires place { place < length rows.now }
+    ensures one { (result ≡ first) ⊎ (result ≡ place) }
+    ensures alike { SharesKey columns.now (slice_index_or rows.now result []) (slice_index_or rows.now place []) }
+{
+    if goes_on(rows, columns, first as usize, place as usize) {
+        first
+    } else {
+        place
+    }
+}
+
+/// Gives the rows at places the class of the first of those that are alike and stand side by side.
+fn mark_rows(
+    rows: &Rows<'_>,
+    columns: &[u32],
+    spans: &[Span],
+    atom: u32,
+    places: &[u32],
+    classes: &mut [Option<u32>],
+)
+    requires apart { AreApart spans.now }
+    requires based { AreBased 0 spans.now }
+    requires there { (p : ℕ) → Contains places.now p → p < length rows.now }
+    requires covered { (p : ℕ) → Contains places.now p → (s : Run) × Contains spans.now s × IsIn s (at atom p) × (s.base + s.count < 2 ^ 32) }
+    requires size { length classes.old ≡ length (variables_of spans.now) }
+    ensures { Marks (variables_of spans.now) columns.now rows.now atom places.now classes.old classes.new }
+{
+    if places.is_empty() {
+        return;
+    }
+    let mut first = places[0];
+    for place in places {
+        first = first_alike(rows, columns, first, *place);
+        let at = number(spans, atom, *place) - 1;
+        classes[at as usize] = Some(number(spans, atom, first));
+    }
+}
+
+/// Gives the rows of one atom that are in witnesses their classes.
+fn mark_atom(
+    alloc: Global,
+    db: &Database,
+    query: &Query,
+    spans: &[Span],
+    witnesses: &[Witness],
+    at: usize,
+    classes: &mut [Option<u32>],
+) -> Result<(), NoMemory>
+    requires fits { FitsDatabase query.now db.now }
+    requires there { at < length query.now.atoms }
+    requires blocks { AreWitnessed query.now db.now witnesses.now spans.now }
+    requires so_far { AreClassedTo query.now db.now (variables_of spans.now) (names_of witnesses.now) at classes.old }
+    ensures { IfOk result (λ done. AreClassedTo query.now db.now (variables_of spans.now) (names_of witnesses.now) (at + 1) classes.new) }
+{
+    let columns = spoken_columns(alloc, query, at)?;
+    let mut places = column(alloc, witnesses, at)?;
+    let rows = db.rows(atom_of(query, at).table);
+    put_by_columns(&rows, columns.as_slice(), &mut places);
+    mark_rows(
+        &rows,
+        columns.as_slice(),
+        spans,
+        at as u32,
+        places.as_slice(),
+        classes,
+    );
+    Ok(())
+}
+
+/// The class of each variable: the number of one whose row is alike, and none where its row is in no witness.
+///
+/// # Errors
+///
+/// `NoMemory` where memory is refused.
+pub fn classes_of(
+    alloc: Global,
+    db: &Database,
+    query: &Query,
+    spans: &[Span],
+    vars: u32,
+    witnesses: &[Witness],
+) -> Result<Vec<Option<u32>>, NoMemory>
+    requires fits { FitsDatabase query.now db.now }
+    requires blocks { AreWitnessed query.now db.now witnesses.now spans.now }
+    requires vars { vars ≡ length (variables_of spans.now) }
+    ensures { IfOk result (λ classes. AreClassedTo query.now db.now (variables_of spans.now) (names_of witnesses.now) (length query.now.atoms) classes.items) }
+{
+    let mut classes = Vec::new(alloc);
+    classes.resize(vars as usize, None)?;
+    for at in 0..query.atoms.len() {
+        mark_atom(
+            alloc,
+            db,
+            query,
+            spans,
+            witnesses,
+            at,
+            classes.as_mut_slice(),
+        )?;
+    }
+    Ok(classes)
+}

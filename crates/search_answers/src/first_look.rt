@@ -1,0 +1,118 @@
+//! A row's formula in one pool of literals, and what is found out of it without the solver.
+//! It is made anew for each row in the same room, so that a small formula takes no memory of its own.
+
+ghost use Rattle.std.specs.Prelude.{◌≡◌, ◌+◌, ◌<◌, ◌≤◌, ◌^◌, [], IfOk, Contains, length, map};
+ghost use Rattle.join_witness.specs.Listing.{names_of, places_of};
+ghost use Rattle.repair_clauses.specs.declared.span.Span.{Span as Run};
+ghost use Rattle.repair_clauses.specs.Clauses.{positive};
+ghost use Rattle.repair_clauses.specs.Spans.{AreApart, AreBased, AreBasedTo, numbers_in};
+ghost use Rattle.repair_clauses.specs.Encodings.{AddsWitnesses, AreTold};
+ghost use Rattle.search_answers.specs.Looking.{IsFoundOf};
+
+use cnf_form::{Lit, Truth};
+use cqa_value::NoMemory;
+use flat_formula::{FlatFormula, Found, glance};
+use join_witness::Witness;
+use repair_clauses::span::Span;
+use repair_clauses::{fill_block, fill_witness};
+use std::alloc::Global;
+
+/// Room for one formula after the other.
+#[derive(Drop)]
+pub struct Room {
+    pub formula: FlatFormula,
+    pub lits: Vec<Lit>,
+    pub values: Vec<Truth>,
+}
+
+impl Room {
+    /// Room in which nothing is yet.
+    pub fn new(alloc: Global) -> Room {
+        Room {
+            formula: FlatFormula::new(alloc),
+            lits: Vec::new(alloc),
+            values: Vec::new(alloc),
+        }
+    }
+}
+
+/// Adds the clause of each block.
+fn pool_blocks(
+    spans: &[Span],
+    lits: &mut Vec<Lit>,
+    formula: &mut FlatFormula,
+) -> Result<(), NoMemory>
+    requires none { formula.old ≡ [] }
+    requires small { (s : Run) → Contains spans.now s → s.base + s.count < 2 ^ 32 }
+    ensures { IfOk result (λ done. formula.new ≡ map (map positive) (map numbers_in spans.now)) }
+{
+    for span in spans {
+        lits.clear();
+        fill_block(span, lits)?;
+        formula.add(lits.as_slice())?;
+    }
+    Ok(())
+}
+
+/// Adds the clause of each witness.
+fn pool_witnesses(
+    spans: &[Span],
+    witnesses: &[Witness],
+    lits: &mut Vec<Lit>,
+    formula: &mut FlatFormula,
+) -> Result<(), NoMemory>
+    requires apart { AreApart spans.now }
+    requires based { AreBased 0 spans.now }
+    requires told { AreTold spans.now witnesses.now }
+    ensures { IfOk result (λ done. AddsWitnesses spans.now (map places_of (names_of witnesses.now)) formula.old formula.new) }
+{
+    for witness in witnesses {
+        lits.clear();
+        fill_witness(spans, witness.rows.as_slice(), lits)?;
+        formula.add(lits.as_slice())?;
+    }
+    Ok(())
+}
+
+/// Puts the formula over numbered blocks into a room.
+fn pool_formula(spans: &[Span], witnesses: &[Witness], room: &mut Room) -> Result<(), NoMemory>
+    requires small { (s : Run) → Contains spans.now s → s.base + s.count < 2 ^ 32 }
+    requires apart { AreApart spans.now }
+    requires based { AreBased 0 spans.now }
+    requires told { AreTold spans.now witnesses.now }
+    ensures { IfOk result (λ done. AddsWitnesses spans.now (map places_of (names_of witnesses.now)) (map (map positive) (map numbers_in spans.now)) room.new.formula) }
+{
+    room.formula.clear();
+    pool_blocks(spans, &mut room.lits, &mut room.formula)?;
+    pool_witnesses(spans, witnesses, &mut room.lits, &mut room.formula)?;
+    Ok(())
+}
+
+/// So many witnesses may a row have whose formula is looked at without the solver.
+const FEW_WITNESSES: usize = 64;
+
+/// What is found out of the formula over numbered blocks without the solver. With a budget of 0 there is no guess either,
+/// so nothing is looked at.
+///
+/// # Errors
+///
+/// `NoMemory` where memory is refused.
+pub fn first_look(
+    spans: &[Span],
+    vars: u32,
+    witnesses: &[Witness],
+    budget: u32,
+    room: &mut Room,
+) -> Result<Found, NoMemory>
+    requires small { vars ≤ 12_000_000 }
+    requires apart { AreApart spans.now }
+    requires based { AreBasedTo 0 spans.now vars }
+    requires told { AreTold spans.now witnesses.now }
+    ensures { IfOk result (IsFoundOf spans.now (map places_of (names_of witnesses.now))) }
+{
+    if budget == 0 || witnesses.len() > FEW_WITNESSES {
+        return Ok(Found::Unclear);
+    }
+    pool_formula(spans, witnesses, room)?;
+    glance(&room.formula, vars, &mut room.values)
+}

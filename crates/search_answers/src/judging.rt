@@ -1,0 +1,165 @@
+//! What is found out of one possible row: whether it is certain, and if that takes too long, why.
+//! Most small formulas are decided by a first look, and the solver gets what is left.
+
+ghost use Rattle.std.specs.Prelude.{◌≡◌, ◌≤◌, IfOk, List, length};
+ghost use Rattle.cqa_value.specs.declared.value.Value.{Value};
+ghost use Rattle.cqa_model.specs.Database.{Table};
+ghost use Rattle.cqa_model.specs.Query.{FitsDatabase};
+ghost use Rattle.join_witness.specs.Listing.{AreAllNames, HasTooMany, names_of};
+ghost use Rattle.search_answers.specs.Lookups.{IsLookup};
+ghost use Rattle.repair_clauses.specs.Spans.{AreSpansTo};
+ghost use Rattle.search_answers.specs.Searching.{IsVerdict, Judges};
+
+use crate::first_look::{Room, first_look};
+use crate::lookup::Lookup;
+use crate::second_look::second_look;
+use cdcl::Outcome;
+use cnf_form::{Cnf, Log};
+use cqa_model::Query;
+use cqa_value::{Fail, NoMemory, Row};
+use flat_formula::Found;
+use join_witness::{TooMany, Witness, witnesses_by_paths};
+use repair_clauses::span::Span;
+use repair_clauses::{Decided, formula_over, relevant_blocks, solved};
+use std::alloc::Global;
+use table_blocks::Database;
+
+/// What is found out of one row.
+#[derive(Debug, Drop)]
+pub enum Verdict {
+    Certain,
+    Rejected,
+    Over,
+    Spent { cnf: Cnf, log: Log },
+}
+
+/// What an outcome says of a row.
+fn judged(decided: Decided) -> Verdict
+    ensures { Judges decided.formula decided.outcome result }
+{
+    let Decided { formula, outcome } = decided;
+    match outcome {
+        Outcome::Sat(values) => {
+            drop(values);
+            drop(formula);
+            Verdict::Rejected
+        }
+        Outcome::Unsat(log) => {
+            drop(log);
+            drop(formula);
+            Verdict::Certain
+        }
+        Outcome::Spent(log) => Verdict::Spent {
+            cnf: formula.cnf,
+            log,
+        },
+    }
+}
+
+/// What the solver finds out of the row whose relevant blocks are numbered, with at most `budget` conflicts.
+fn judge_blocks(
+    alloc: Global,
+    db: &Database,
+    query: &Query,
+    spans: &[Span],
+    vars: u32,
+    witnesses: &[Witness],
+    budget: u32,
+) -> Result<Verdict, NoMemory>
+    requires fits { FitsDatabase query.now db.now }
+    requires small { vars ≤ 12_000_000 }
+    requires blocks { (row : List Value) × AreAllNames query.now db.now row (names_of witnesses.now) × AreSpansTo query.now db.now row (length query.now.atoms) vars spans.now }
+    ensures { IfOk result (λ verdict. (row : List Value) → AreAllNames query.now db.now row (names_of witnesses.now) → AreSpansTo query.now db.now row (length query.now.atoms) vars spans.now →
+        (HasTooMany query.now db.now row → ⊥) → IsVerdict query.now db.now row budget verdict) }
+{
+    let _tables = db.count();
+    let formula = formula_over(alloc, query, spans, vars, witnesses)?;
+    let decided = solved(alloc, formula, budget)?;
+    Ok(judged(decided))
+}
+
+/// What is found out of the row whose relevant blocks are numbered, with at most `budget` conflicts of each of two searches:
+/// the first is over classes of rows that are alike, and the second, where the first comes to nothing, over rows.
+fn judge_classes(
+    alloc: Global,
+    db: &Database,
+    query: &Query,
+    spans: &[Span],
+    vars: u32,
+    witnesses: &[Witness],
+    budget: u32,
+) -> Result<Verdict, NoMemory>
+    requires fits { FitsDatabase query.now db.now }
+    requires small { vars ≤ 12_000_000 }
+    requires blocks { (row : List Value) × AreAllNames query.now db.now row (names_of witnesses.now) × AreSpansTo query.now db.now row (length query.now.atoms) vars spans.now }
+    ensures { IfOk result (λ verdict. (row : List Value) → AreAllNames query.now db.now row (names_of witnesses.now) → AreSpansTo query.now db.now row (length query.now.atoms) vars spans.now →
+        (HasTooMany query.now db.now row → ⊥) → IsVerdict query.now db.now row budget verdict) }
+{
+    match second_look(alloc, db, query, spans, vars, witnesses, budget)? {
+        Found::Satisfiable => Ok(Verdict::Rejected),
+        Found::Unsatisfiable => Ok(Verdict::Certain),
+        Found::Unclear => judge_blocks(alloc, db, query, spans, vars, witnesses, budget),
+    }
+}
+
+/// What is found out of the row whose witnesses these are, all of them and in order.
+fn judge_witnesses(
+    alloc: Global,
+    db: &Database,
+    query: &Query,
+    witnesses: &[Witness],
+    budget: u32,
+    room: &mut Room,
+) -> Result<Verdict, NoMemory>
+    requires fits { FitsDatabase query.now db.now }
+    requires all { (row : List Value) × AreAllNames query.now db.now row (names_of witnesses.now) }
+    ensures { IfOk result (λ verdict. (row : List Value) → AreAllNames query.now db.now row (names_of witnesses.now) → (HasTooMany query.now db.now row → ⊥) → IsVerdict query.now db.now row budget verdict) }
+{
+    let _tables = db.count();
+    let mut spans = Vec::new(alloc);
+    let vars = relevant_blocks(alloc, db, query, witnesses, &mut spans)?;
+    let found = first_look(spans.as_slice(), vars, witnesses, budget, room)?;
+    match found {
+        Found::Satisfiable => Ok(Verdict::Rejected),
+        Found::Unsatisfiable => Ok(Verdict::Certain),
+        Found::Unclear => judge_classes(
+            alloc,
+            db,
+            query,
+            spans.as_slice(),
+            vars,
+            witnesses,
+            budget,
+        ),
+    }
+}
+
+/// What is found out of one row, with at most `budget` conflicts.
+///
+/// # Errors
+///
+/// `NoMemory` where memory is refused.
+pub fn judge_row(
+    alloc: Global,
+    db: &Database,
+    query: &Query,
+    row: &Row,
+    lookup: &Lookup<'_>,
+    budget: u32,
+    room: &mut Room,
+) -> Result<Verdict, NoMemory>
+    requires fits { FitsDatabase query.now db.now }
+    requires long { length row.now ≡ length query.now.answer }
+    requires lookup { IsLookup query.now db.now lookup.now }
+    ensures { IfOk result (IsVerdict query.now db.now row.now budget) }
+{
+    match witnesses_by_paths(alloc, db, lookup.linked, row, lookup.paths) {
+        Ok(found) => {
+            let verdict = judge_witnesses(alloc, db, query, found.as_slice(), budget, room);
+            drop(found);
+            verdict
+        }
+        Err(Fail::Refused(TooMany)) => Ok(Verdict::Over),
+        Err(Fail::NoMemory) => Err(NoMemory),
+    }
+}

@@ -1,0 +1,15 @@
+//! The certain rows of a query that has no plan, by search: each possible row is decided by its formula.
+//! A first look decides most small formulas. What it leaves open goes to the solver: over classes of rows that are alike, and
+//! then over rows.
+#![tactic(auto)]
+
+mod class_clauses;
+mod classing;
+mod first_look;
+mod judging;
+mod lookup;
+mod search;
+mod second_look;
+mod spoken;
+
+pub use search::{Searched, Stop, certain_by_search};

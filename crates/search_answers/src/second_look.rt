@@ -1,0 +1,105 @@
+//! A second look at a row's formula: rows that are alike are one variable, which makes most formulas smaller.
+
+ghost use Rattle.std.specs.Prelude.{◌≡◌, ◌≤◌, List, IfOk, length};
+ghost use Rattle.cqa_value.specs.declared.value.Value.{Value};
+ghost use Rattle.cqa_model.specs.Query.{FitsDatabase};
+ghost use Rattle.cnf_form.specs.Literals.{IsInRange, literals};
+ghost use Rattle.cdcl.specs.Outcomes.{IsOnce};
+ghost use Rattle.flat_formula.specs.Findings.{FoundIs};
+ghost use Rattle.join_witness.specs.Listing.{AreAllNames, names_of};
+ghost use Rattle.repair_clauses.specs.Spans.{AreSpansTo};
+ghost use Rattle.search_answers.specs.Classing.{AreQuotient, FoundOf, FoundSays};
+
+use crate::class_clauses::class_clauses;
+use crate::classing::classes_of;
+use cdcl::{Outcome, solve};
+use cnf_form::Cnf;
+use cqa_model::Query;
+use cqa_value::NoMemory;
+use flat_formula::Found;
+use join_witness::Witness;
+use repair_clauses::span::Span;
+use std::alloc::Global;
+use table_blocks::Database;
+
+/// What an outcome finds out of a formula.
+fn found_by(outcome: Outcome) -> Found
+    ensures { FoundOf outcome result }
+{
+    match outcome {
+        Outcome::Sat(values) => {
+            drop(values);
+            Found::Satisfiable
+        }
+        Outcome::Unsat(log) => {
+            drop(log);
+            Found::Unsatisfiable
+        }
+        Outcome::Spent(log) => {
+            drop(log);
+            Found::Unclear
+        }
+    }
+}
+
+/// What the solver finds out of a formula.
+fn found_in(alloc: Global, cnf: &Cnf, budget: u32) -> Result<Found, NoMemory>
+    requires range { IsInRange cnf.now }
+    requires once { IsOnce cnf.now }
+    ensures { IfOk result (FoundIs (literals cnf.now.clauses)) }
+{
+    match solve(alloc, cnf, budget) {
+        Ok(outcome) => Ok(found_by(outcome)),
+        Err(fault) => Err(fault),
+    }
+}
+
+/// The formula over classes of rows that are alike.
+fn formula_of_classes(
+    alloc: Global,
+    db: &Database,
+    query: &Query,
+    spans: &[Span],
+    vars: u32,
+    witnesses: &[Witness],
+) -> Result<Cnf, NoMemory>
+    requires fits { FitsDatabase query.now db.now }
+    requires small { vars ≤ 12_000_000 }
+    requires blocks { (row : List Value) × AreAllNames query.now db.now row (names_of witnesses.now) × AreSpansTo query.now db.now row (length query.now.atoms) vars spans.now }
+    ensures vars { IfOk result (λ cnf. cnf.vars ≡ vars) }
+    ensures classes { IfOk result (λ cnf. AreQuotient query.now db.now spans.now (names_of witnesses.now) (literals cnf.clauses)) }
+{
+    let _tables = db.count();
+    let classes = classes_of(alloc, db, query, spans, vars, witnesses)?;
+    let clauses = class_clauses(alloc, spans, classes.as_slice(), witnesses);
+    drop(classes);
+    let clauses = clauses?;
+    Ok(Cnf { vars, clauses })
+}
+
+/// What the solver finds out of a row by the formula over classes of rows that are alike, with at most `budget` conflicts.
+///
+/// # Errors
+///
+/// `NoMemory` where memory is refused.
+pub fn second_look(
+    alloc: Global,
+    db: &Database,
+    query: &Query,
+    spans: &[Span],
+    vars: u32,
+    witnesses: &[Witness],
+    budget: u32,
+) -> Result<Found, NoMemory>
+    requires fits { FitsDatabase query.now db.now }
+    requires small { vars ≤ 12_000_000 }
+    requires blocks { (row : List Value) × AreAllNames query.now db.now row (names_of witnesses.now) × AreSpansTo query.now db.now row (length query.now.atoms) vars spans.now }
+    ensures { IfOk result (λ found. (row : List Value) → AreAllNames query.now db.now row (names_of witnesses.now) → AreSpansTo query.now db.now row (length query.now.atoms) vars spans.now →
+        FoundSays query.now db.now row found) }
+{
+    let _tables = db.count();
+    let cnf = formula_of_classes(alloc, db, query, spans, vars, witnesses)?;
+    let found = found_in(alloc, &cnf, budget);
+    drop(cnf);
+    found
+}
