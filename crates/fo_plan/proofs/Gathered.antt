@@ -1,13 +1,12 @@
 -- What the rows taken and the rest of a plan give, block by block.
 use Rattle.std.proofs.Common.{◌≡◌, ◌≢◌, ℕ, zero, suc, ◌<◌, ◌≤◌, ◌+◌, ◌-◌, ◌⊎◌, ◌↔◌, inl, inr, Bool, IsTrue, IsFalse, true, false, cond, List, [], ◌∷◌, ◌++◌, length, get_or, map, take, drop, refl, ap, sym, ◌∙◌, subst, arith, Contains, ◌==◌, below_more, Result, Ok, Err, OnOk}
-use Rattle.std.proofs.lemmas.Bool.{false≢true, eqb-true, eq-eqb}
+use Rattle.std.proofs.lemmas.Bool.{false≢true}
 use Rattle.std.proofs.lemmas.List.{length-map}
 use Rattle.std.proofs.lemmas.List.Elements.{All-contains, Contains-get_or, Contains-append_left, Contains-append_right, Contains-append_cases}
 use Rattle.std.specs.List.{All}
 use Rattle.cqa_value.specs.declared.memory.NoMemory.{NoMemory}
 use Rattle.cqa_value.specs.declared.value.Value.{Value}
 use Rattle.cqa_value.specs.Values.{nothing}
-use Rattle.cqa_model.specs.declared.query.ColRef.{ColRef}
 use Rattle.cqa_model.specs.declared.query.Query.{Query}
 use Rattle.cqa_model.specs.Query.{atom_at}
 use Rattle.cqa_model.specs.Plan.{Placed, PlanHolds, answer_at}
@@ -15,7 +14,9 @@ use Rattle.cqa_model.proofs.Classic.{mem-head, mem-tail, mem-nil, mem-cases}
 use Rattle.plan_rows.specs.Taking.{taken_value, AreAgreed}
 use Rattle.plan_rows.specs.Fitting.{Suits, GivesAt}
 use Rattle.fo_plan.specs.Holding.{RowHolds, AllHold}
-use Rattle.fo_plan.specs.Giving.{AreAll, IsSettled, IsAnswer, Gives, BlockGives, IsAdded}
+use Rattle.plan_rows.specs.Left.{IsSettled}
+use Rattle.fo_plan.specs.Giving.{AreAll, IsAnswer, Gives, BlockGives, IsAdded}
+use Rattle.plan_rows.proofs.Sharing.{value-taken}
 use Rattle.plan_rows.proofs.Suiting.{of_all, fits-of, suits-from, gives-from}
 
 module _ (q : Query) (tables : List (List (List Value))) (taken : List Placed) (F : ℕ) (plan : List ℕ) where
@@ -83,17 +84,6 @@ adds-same P Q h old new a row = (
   (λ m. elim ((a row).0 m) [ inl k ↦ inl k | inr p ↦ inr ((h row).0 p) ]),
   (λ s. elim s [ inl k ↦ (a row).1 (inl k) | inr p ↦ (a row).1 (inr ((h row).1 p)) ]),
 )
-
--- the last taken row of an atom
-pub value-taken : (taken : List Placed) (c : ColRef) (t : Placed) → Contains taken t → t.atom ≡ c.atom → (u : Placed) × Contains taken u × (u.atom ≡ c.atom) × (taken_value taken c ≡ get_or u.row c.col nothing)
-value-taken [] c t m e = absurd (mem-nil t m)
-value-taken (s ∷ ss) c t m e = go (s.atom == c.atom) refl (λ n. value-taken ss c t n e) (mem-cases t s ss m)
-  where
-    go : (b : Bool) → (s.atom == c.atom) ≡ b → (Contains ss t → (u : Placed) × Contains ss u × (u.atom ≡ c.atom) × (taken_value ss c ≡ get_or u.row c.col nothing)) → (s ≡ t) ⊎ Contains ss t →
-        (u : Placed) × Contains (s ∷ ss) u × (u.atom ≡ c.atom) × (cond b (get_or s.row c.col nothing) (taken_value ss c) ≡ get_or u.row c.col nothing)
-    go true f next d = (s, mem-head s ss, eqb-true s.atom c.atom f, refl)
-    go false f next (inl h) = absurd (false≢true (sym f ∙ eq-eqb s.atom c.atom (ap (λ z. z.atom) h ∙ e)))
-    go false f next (inr n) = let r = next n in (r.0, mem-tail r.0 s ss r.1, r.2, r.3)
 
 map_is : {A : Type 0} (f : A → Value) (d : A) (xs : List A) (ys : List Value) → length ys ≡ length xs →
     ((i : ℕ) → i < length xs → f (get_or xs i d) ≡ get_or ys i nothing) → map f xs ≡ ys

@@ -3,7 +3,4 @@ mod Parted
 mod Leading
 mod Passing
 mod Gathered
-mod Sharing
-mod Columns
-mod Keeping
 mod Adding

@@ -16,6 +16,7 @@ use Rattle.cqa_model.proofs.Repairs.{shares-self}
 use Rattle.cqa_model.proofs.Classic.{mem-head, mem-tail}
 use Rattle.table_blocks.specs.Spans.{first_key, IsSpan}
 use Rattle.table_blocks.specs.Tables.{rows_at, key_at}
+use Rattle.plan_rows.proofs.PlanParts.{front-of, back-of}
 use Rattle.fo_plan.specs.Enough.{IsEnough}
 
 sorted-part : {A : Type 0} (cmp : A → A → Ordering) (before part behind : List A) → IsStrictlySortedBy cmp (before ++ (part ++ behind)) → IsStrictlySortedBy cmp part
@@ -30,14 +31,6 @@ sorted-part cmp [] part behind s = front part s
     front [] h = tt
     front (x ∷ xs) h = (front-all (λ y. cmp x y ≡ Less) xs h.0, front xs h.1)
 sorted-part cmp (b ∷ before) part behind s = sorted-part cmp before part behind s.1
-
-pub front-of : {A : Type 0} (xs ys : List A) → take (length xs) (xs ++ ys) ≡ xs
-front-of [] ys = refl
-front-of (x ∷ xs) ys = ap (λ zs. x ∷ zs) (front-of xs ys)
-
-pub back-of : {A : Type 0} (xs ys : List A) → drop (length xs) (xs ++ ys) ≡ ys
-back-of [] ys = refl
-back-of (x ∷ xs) ys = back-of xs ys
 
 -- the span, cut out of the rows
 module _ (key : List ℕ) (rows : List (List Value)) (probe : List Value) (start : ℕ) (span : List (List Value)) (s : IsSpan key rows probe start span) where

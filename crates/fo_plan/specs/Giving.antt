@@ -1,5 +1,5 @@
 -- What a plan holds for, read as a set of rows.
-use Rattle.std.specs.Prelude.{◌≡◌, ◌≢◌, All, ◌⊎◌, ◌↔◌, ℕ, ◌<◌, List, length, Contains}
+use Rattle.std.specs.Prelude.{◌≡◌, ◌⊎◌, ◌↔◌, ℕ, ◌<◌, List, length, Contains}
 use Rattle.cqa_value.specs.declared.value.Value.{Value}
 use Rattle.cqa_model.specs.declared.query.Query.{Query}
 use Rattle.cqa_model.specs.Plan.{Placed, PlanHolds}
@@ -9,10 +9,6 @@ use Rattle.fo_plan.specs.Holding.{AllHold}
 -- each atom is in the plan, or a row of it was taken
 abbrev pub AreAll : Query → List Placed → List ℕ → Type 0
 AreAll q taken plan = (F : ℕ) → F < length q.atoms → Contains plan F ⊎ ((t : Placed) × Contains taken t × (t.atom ≡ F))
-
--- no answer column is of an atom of the plan
-abbrev pub IsSettled : Query → List ℕ → Type 0
-IsSettled q plan = All (λ F. All (λ column. column.atom ≢ F) q.answer) plan
 
 -- a row has the values of the rows taken in their answer columns
 abbrev pub HasAnswers : Query → List Placed → List Value → Type 0

@@ -1,12 +1,8 @@
 -- What it is that a plan holds, atom by atom.
-use Rattle.std.specs.Prelude.{ℕ, ◌<◌, List, ◌∷◌, length, Contains}
+use Rattle.std.specs.Prelude.{ℕ, List, ◌∷◌, Contains}
 use Rattle.cqa_value.specs.declared.value.Value.{Value}
 use Rattle.cqa_model.specs.declared.query.Query.{Query}
 use Rattle.cqa_model.specs.Plan.{Placed, Fits, PlanHolds}
-
--- the plan names atoms of the query
-abbrev pub AreAtoms : Query → List ℕ → Type 0
-AreAtoms q plan = (F : ℕ) → Contains plan F → F < length q.atoms
 
 -- a row of F fits, and the rest of the plan holds once it is taken
 abbrev pub RowHolds : Query → List (List (List Value)) → List Value → List Placed → ℕ → List ℕ → List Value → Type 0

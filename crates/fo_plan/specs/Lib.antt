@@ -2,4 +2,3 @@ pub mod Enough
 pub mod Holding
 pub mod Giving
 pub mod FirstBlock
-pub mod Underway

@@ -7,15 +7,12 @@ ghost use Rattle.cqa_value.specs.Values.{row_cmp};
 ghost use Rattle.cqa_model.specs.Query.{FitsDatabase};
 ghost use Rattle.cqa_model.specs.Plan.{HoldsOver};
 ghost use Rattle.row_cursor.specs.Spots.{ArePaths};
-ghost use Rattle.fo_plan.specs.Holding.{AreAtoms};
+ghost use Rattle.plan_rows.specs.Left.{AreAtoms};
 
-use crate::course::{Course, turns_before_memo};
 use crate::giving::add_given;
-use crate::memo::Memo;
-use crate::shared::shared_columns;
 use cqa_model::{Plan, Query, variables};
 use cqa_value::{Items, NoMemory, Row};
-use plan_rows::{Setting, Taken};
+use plan_rows::{Course, Memo, Setting, Taken, shared_columns, turns_before_memo};
 use row_cursor::RowIndex;
 use std::alloc::Global;
 use std::cmp::Ordering;

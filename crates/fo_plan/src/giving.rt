@@ -7,16 +7,14 @@ ghost use Rattle.cqa_model.specs.Database.{stored};
 ghost use Rattle.plan_rows.specs.Taking.{placed};
 ghost use Rattle.plan_rows.specs.Fitting.{Suits};
 ghost use Rattle.fo_plan.specs.Holding.{AllHold};
-ghost use Rattle.fo_plan.specs.Giving.{AreAll, IsSettled, Gives, BlockGives, IsAdded};
-ghost use Rattle.fo_plan.specs.Underway.{IsUnderway, IsRight};
+ghost use Rattle.plan_rows.specs.Left.{IsSettled};
+ghost use Rattle.fo_plan.specs.Giving.{AreAll, Gives, BlockGives, IsAdded};
+ghost use Rattle.plan_rows.specs.Underway.{IsUnderway, IsRight};
 
-use crate::course::Course;
 use crate::enough::Blocks;
 use crate::holding::{all_hold, holds_with};
-use crate::memo::Memo;
-use crate::settled::are_settled;
 use cqa_value::{NoMemory, Row};
-use plan_rows::{Taken, answer_of, suits};
+use plan_rows::{Course, Memo, Taken, answer_of, are_settled, suits};
 use row_pieces::Rows;
 
 /// Whether all rows of a block fit the rows taken, but for a candidate.

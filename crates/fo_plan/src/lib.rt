@@ -3,14 +3,10 @@
 
 mod block;
 mod certain;
-mod course;
 mod enough;
 mod giving;
 mod holding;
-mod memo;
 mod paths;
-mod settled;
-mod shared;
 
 pub use block::block_of;
 pub use certain::answers;

@@ -1,5 +1,5 @@
 -- The first atom of a plan and the rest, and the atoms in front.
-use Rattle.std.proofs.Common.{◌≡◌, ℕ, inl, inr, zero, suc, ◌≤◌, ◌-◌, List, [], ◌∷◌, length, get_or, take, drop, ap, subst, arith, Contains}
+use Rattle.std.proofs.Common.{◌≡◌, ℕ, inl, inr, zero, suc, ◌≤◌, ◌-◌, List, [], ◌∷◌, length, get_or, take, drop, ◌++◌, refl, ap, subst, arith, Contains}
 use Rattle.std.proofs.lemmas.Grind.{common_steps}
 use Rattle.cqa_model.proofs.Classic.{mem-head, mem-tail, mem-nil, mem-cases}
 
@@ -17,3 +17,12 @@ take-member (suc n) (G ∷ plan) F m = elim (mem-cases F G (take n plan) m) [
   | inl e ↦ subst (Contains (G ∷ plan)) e (mem-head G plan)
   | inr k ↦ mem-tail F G plan (take-member n plan F k)
 ]
+
+-- the parts of a list that was joined
+pub front-of : {A : Type 0} (xs ys : List A) → take (length xs) (xs ++ ys) ≡ xs
+front-of [] ys = refl
+front-of (x ∷ xs) ys = ap (λ zs. x ∷ zs) (front-of xs ys)
+
+pub back-of : {A : Type 0} (xs ys : List A) → drop (length xs) (xs ++ ys) ≡ ys
+back-of [] ys = refl
+back-of (x ∷ xs) ys = back-of xs ys

@@ -1,9 +1,9 @@
 use Rattle.std.proofs.Common.{rules, subst, sym, refl, Contains, MatchOption}
 use Rattle.cqa_model.specs.Plan.{HoldsOver}
-use Rattle.fo_plan.specs.Holding.{AreAtoms}
+use Rattle.plan_rows.specs.Left.{AreAtoms}
 use Rattle.fo_plan.specs.FirstBlock.{IsFirstBlock}
-use Rattle.fo_plan.specs.Underway.{AreShared}
-use Rattle.fo_plan.proofs.Sharing.{underway-starts, none-right}
+use Rattle.plan_rows.specs.Underway.{AreShared}
+use Rattle.plan_rows.proofs.Sharing.{underway-starts, none-right}
 use Rattle.fo_plan.proofs.block.block_of.Goals as goal
 
 pub shared_or_none-shared-requires-clause-order : goal.shared_or_none-shared-requires-clause-order

@@ -8,7 +8,7 @@ use Rattle.row_cursor.specs.Blocks.{blocks_left}
 use Rattle.fo_plan.specs.Holding.{RowHolds}
 use Rattle.fo_plan.proofs.Leading.{leads-starts, leads-on, leads-found, leads-none}
 use Rattle.fo_plan.proofs.Spanned.{blocks-of-atom}
-use Rattle.fo_plan.proofs.Sharing.{first-atom}
+use Rattle.plan_rows.proofs.Sharing.{first-atom}
 use Rattle.fo_plan.proofs.block.first_block.Goals as goal
 
 pub table_of-requires : goal.table_of-requires

@@ -2,7 +2,7 @@ use Rattle.std.proofs.Common.{length, []}
 use Rattle.cqa_model.specs.Database.{stored}
 use Rattle.row_cursor.specs.Blocks.{blocks_left}
 use Rattle.fo_plan.specs.Holding.{RowHolds}
-use Rattle.fo_plan.specs.Underway.{IsRight}
+use Rattle.plan_rows.specs.Underway.{IsRight}
 use Rattle.fo_plan.proofs.Leading.{NoneLeads}
 use Rattle.fo_plan.proofs.block.first_block.Given as goal
 

@@ -1,7 +1,7 @@
 use Rattle.std.proofs.Common.{subst, sym, [], MatchOption}
 use Rattle.cqa_model.specs.Plan.{HoldsOver}
 use Rattle.fo_plan.specs.FirstBlock.{IsFirstBlock}
-use Rattle.fo_plan.specs.Underway.{IsUnderway}
+use Rattle.plan_rows.specs.Underway.{IsUnderway}
 use Rattle.plan_rows.proofs.PlanParts.{plan-split}
 use Rattle.fo_plan.proofs.block.found_block.Goals as goal
 

@@ -1,10 +1,10 @@
 use Rattle.std.proofs.Common.{rules, subst, sym, refl, inl, Contains, []}
 use Rattle.cqa_model.specs.Database.{stored}
-use Rattle.fo_plan.specs.Holding.{AreAtoms}
+use Rattle.plan_rows.specs.Left.{AreAtoms}
 use Rattle.fo_plan.specs.Giving.{Gives, IsAdded}
-use Rattle.fo_plan.specs.Underway.{AreShared}
+use Rattle.plan_rows.specs.Underway.{AreShared}
 use Rattle.fo_plan.proofs.Gathered.{gives-all}
-use Rattle.fo_plan.proofs.Sharing.{underway-starts, none-right}
+use Rattle.plan_rows.proofs.Sharing.{underway-starts, none-right}
 use Rattle.fo_plan.proofs.certain.answers.Goals as goal
 
 pub shared_columns-requires-clause-order : goal.shared_columns-requires-clause-order

@@ -7,11 +7,11 @@ use Rattle.plan_rows.specs.Taking.{placed}
 use Rattle.plan_rows.specs.Fitting.{Suits}
 use Rattle.fo_plan.specs.Holding.{RowHolds, AllHold}
 use Rattle.fo_plan.specs.Giving.{AreAll, IsAnswer, Gives, BlockGives, IsAdded}
-use Rattle.fo_plan.specs.Underway.{IsUnderway}
+use Rattle.plan_rows.specs.Underway.{IsUnderway}
 use Rattle.plan_rows.proofs.Suiting.{suits-from}
 use Rattle.plan_rows.proofs.PlanParts.{rest-shorter, plan-split}
 use Rattle.fo_plan.proofs.Gathered.{all-more, block-fails, first-gives, block-one, block-split, some-plan, adds-none, add-block, add-one, on-ok}
-use Rattle.fo_plan.proofs.Sharing.{first-atom, underway-more}
+use Rattle.plan_rows.proofs.Sharing.{first-atom, underway-more}
 use Rattle.fo_plan.proofs.Adding.{added-starts, added-on, added-ends, gives-table}
 use Rattle.fo_plan.proofs.giving.+giving.Goals as goal
 

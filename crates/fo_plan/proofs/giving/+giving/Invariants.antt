@@ -3,7 +3,7 @@ use Rattle.cqa_model.specs.Database.{stored}
 use Rattle.plan_rows.specs.Taking.{placed}
 use Rattle.fo_plan.specs.Holding.{RowHolds}
 use Rattle.fo_plan.specs.Giving.{IsAnswer}
-use Rattle.fo_plan.specs.Underway.{IsRight}
+use Rattle.plan_rows.specs.Underway.{IsRight}
 use Rattle.fo_plan.proofs.Adding.{AddedBefore}
 use Rattle.fo_plan.proofs.giving.+giving.Given as goal
 

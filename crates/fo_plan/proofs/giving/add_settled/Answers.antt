@@ -4,7 +4,7 @@ use Rattle.cqa_model.specs.Database.{stored}
 use Rattle.plan_rows.specs.Taking.{placed, taken_value}
 use Rattle.fo_plan.specs.Giving.{Gives}
 use Rattle.fo_plan.proofs.Gathered.{add-answer, adds-none}
-use Rattle.fo_plan.proofs.Sharing.{settled-plan}
+use Rattle.plan_rows.proofs.Sharing.{settled-plan}
 use Rattle.fo_plan.proofs.giving.add_settled.Goals as goal
 
 pub returns-in_ok-push-clause-added : goal.returns-in_ok-push-clause-added

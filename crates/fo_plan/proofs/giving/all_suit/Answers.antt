@@ -3,7 +3,7 @@ use Rattle.std.proofs.lemmas.Bool.{false≢true}
 use Rattle.plan_rows.specs.Taking.{placed}
 use Rattle.plan_rows.specs.Fitting.{Suits}
 use Rattle.fo_plan.proofs.Gathered.{held-starts, held-not, held-on, held-ends}
-use Rattle.fo_plan.proofs.Sharing.{first-atom}
+use Rattle.plan_rows.proofs.Sharing.{first-atom}
 use Rattle.fo_plan.proofs.giving.all_suit.Goals as goal
 
 pub suits-requires-clause-atom : goal.suits-requires-clause-atom

@@ -2,7 +2,7 @@ use Rattle.std.proofs.Common.{length}
 use Rattle.cqa_model.specs.Database.{stored}
 use Rattle.plan_rows.specs.Taking.{placed}
 use Rattle.fo_plan.specs.Holding.{AllHold}
-use Rattle.fo_plan.specs.Underway.{IsRight}
+use Rattle.plan_rows.specs.Underway.{IsRight}
 use Rattle.fo_plan.proofs.Gathered.{KeptSoFar}
 use Rattle.fo_plan.proofs.giving.keep_all.Given as goal
 

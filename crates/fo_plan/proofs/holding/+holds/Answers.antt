@@ -6,12 +6,12 @@ use Rattle.cqa_model.specs.Plan.{PlanHolds}
 use Rattle.plan_rows.specs.Taking.{placed}
 use Rattle.plan_rows.specs.Knowing.{MayFit}
 use Rattle.fo_plan.specs.Holding.{RowHolds}
-use Rattle.fo_plan.specs.Underway.{IsUnderway, IsKey}
+use Rattle.plan_rows.specs.Underway.{IsUnderway, IsKey}
 use Rattle.plan_rows.proofs.Suiting.{suits-from}
 use Rattle.fo_plan.proofs.Passing.{found-in-table, next-some, none-starts, none-on, none-ends}
 use Rattle.plan_rows.proofs.PlanParts.{rest-shorter, plan-split}
 use Rattle.fo_plan.proofs.Gathered.{held-starts, held-not, held-on, held-ends}
-use Rattle.fo_plan.proofs.Sharing.{first-atom, underway-more, still-right, keeps-right}
+use Rattle.plan_rows.proofs.Sharing.{first-atom, underway-more, still-right, keeps-right}
 use Rattle.fo_plan.proofs.holding.+holds.Goals as goal
 
 pub holds_with-remembered-requires : goal.holds_with-remembered-requires

@@ -1,7 +1,7 @@
 use Rattle.std.proofs.Common.{◌↔◌, IsTrue, rules, subst, sym, refl}
 use Rattle.cqa_model.specs.Plan.{HoldsOver}
-use Rattle.fo_plan.specs.Holding.{AreAtoms}
-use Rattle.fo_plan.proofs.Sharing.{underway-starts, none-right}
+use Rattle.plan_rows.specs.Left.{AreAtoms}
+use Rattle.plan_rows.proofs.Sharing.{underway-starts, none-right}
 use Rattle.fo_plan.proofs.holding.holds.Goals as goal
 
 pub holds_with-held-requires-clause-here : goal.holds_with-held-requires-clause-here

@@ -1,5 +1,0 @@
-use Rattle.fo_plan.proofs.Keeping.{kept-or-key}
-use Rattle.fo_plan.proofs.memo.Memo.keep.Goals as goal
-
-pub returns : goal.returns
-returns c = kept-or-key c.args.self.now.known c.insert.new.self c.args.key c.args.held c.insert.result c.insert.ensures.updates c.insert.ensures.err

@@ -1,0 +1,11 @@
+-- The atoms of a plan that are left.
+use Rattle.std.specs.Prelude.{◌≢◌, All, ℕ, ◌<◌, List, length, Contains}
+use Rattle.cqa_model.specs.declared.query.Query.{Query}
+
+-- the plan names atoms of the query
+abbrev pub AreAtoms : Query → List ℕ → Type 0
+AreAtoms q plan = (F : ℕ) → Contains plan F → F < length q.atoms
+
+-- no answer column is of an atom of the plan
+abbrev pub IsSettled : Query → List ℕ → Type 0
+IsSettled q plan = All (λ F. All (λ column. column.atom ≢ F) q.answer) plan

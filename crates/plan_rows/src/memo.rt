@@ -1,0 +1,158 @@
+//! What was decided of the rests of a plan. A rest depends on the rows taken only through the values that its atoms
+//! share with them, so it is remembered by these, once many rows were looked at.
+
+ghost use Rattle.std.specs.Prelude.{◌≡◌, ◌⊎◌, ◌++◌, ◌∷◌, Bool, IsTrue, IfSome, List, Some, None, [], map, pos, if◌then◌else◌};
+ghost use Rattle.std.specs.BTreeMap.{get};
+ghost use Rattle.cqa_value.specs.declared.value.Value.{Value as Cell};
+ghost use Rattle.cqa_value.specs.declared.value.Value.TheVariants.{Int};
+ghost use Rattle.cqa_value.specs.Values.{row_cmp};
+ghost use Rattle.plan_rows.specs.Taking.{placed, taken_value};
+ghost use Rattle.plan_rows.specs.Underway.{IsUnderway, IsKey};
+
+use crate::course::Course;
+use crate::settled::are_settled;
+use crate::taken_rows::{Taken, answer_of};
+use cqa_model::ColRef;
+use cqa_value::{MOST_VALUES, Row, Value};
+use std::alloc::Global;
+use std::collections::BTreeMap;
+
+/// How many rests are remembered at most.
+const MOST_KNOWN: usize = 1_000_000;
+
+/// Whether rests of a plan hold, by their keys; nothing is remembered before so many rows were looked at.
+#[derive(Drop)]
+pub struct Memo {
+    turns: u64,
+    known: BTreeMap<Row, bool>,
+}
+
+/// Adds a value to a key. Says whether it was added.
+fn add_value(key: &mut Row, value: Value) -> bool
+    ensures { IsTrue result → key.new ≡ key.old ++ value ∷ [] }
+{
+    if key.len() as usize >= MOST_VALUES {
+        drop(value);
+        return false;
+    }
+    match key.push(value) {
+        Ok(()) => true,
+        Err(_) => false,
+    }
+}
+
+/// Adds the values of a row to a key. Says whether they were added.
+fn add_row(alloc: Global, key: &mut Row, row: &Row) -> bool
+    ensures { IsTrue result → key.new ≡ key.old ++ row.now }
+{
+    for value in row.as_slice() {
+        let Ok(value) = value.copy(alloc) else {
+            return false;
+        };
+        if !add_value(key, value) {
+            return false;
+        }
+    }
+    true
+}
+
+/// The key of so many atoms that are left, of rows taken in some columns, and of a candidate unless the answer is settled.
+/// `None` where memory is refused or it would be too long.
+fn key_of(
+    alloc: Global,
+    count: usize,
+    taken: &Taken<'_>,
+    columns: &[ColRef],
+    settled: bool,
+    row: &Row,
+) -> Option<Row>
+    ensures { IfSome result (λ key. key ≡ Int (pos count) ∷ map (taken_value (placed taken.now)) columns.now ++ (if settled then [] else row.now)) }
+{
+    if columns.len() >= MOST_VALUES || count >= MOST_VALUES {
+        return None;
+    }
+    let Ok(shared) = answer_of(alloc, taken, columns) else {
+        return None;
+    };
+    let mut key = Row::new(alloc);
+    let added = add_value(&mut key, Value::Int(count as i64))
+        && add_row(alloc, &mut key, &shared)
+        && (settled || add_row(alloc, &mut key, row));
+    drop(shared);
+    if added {
+        return Some(key);
+    }
+    drop(key);
+    None
+}
+
+impl Memo {
+    /// Nothing remembered, and nothing to be before so many rows were looked at.
+    pub fn new(alloc: Global, turns: u64) -> Memo
+        ensures { (key : List Cell) → get row_cmp result.known key ≡ None }
+    {
+        Memo {
+            turns,
+            known: BTreeMap::new(alloc),
+        }
+    }
+
+    /// Counts a row that is looked at.
+    pub fn turn(&mut self)
+        ensures { self.new.known ≡ self.old.known }
+    {
+        self.turns = self.turns.saturating_sub(1);
+    }
+
+    /// By what it is remembered whether a rest of a plan holds; `None` before the turns are used up, and where there is no
+    /// key.
+    pub fn key(
+        &self,
+        course: &Course<'_>,
+        row: &Row,
+        taken: &Taken<'_>,
+        plan: &[u32],
+    ) -> Option<Row>
+        requires { IsUnderway course.now (placed taken.now) plan.now }
+        ensures { IfSome result (λ key. IsKey course.now.setting.query.now course.now.shared.now (placed taken.now) plan.now row.now key) }
+    {
+        if self.turns > 0 {
+            return None;
+        }
+        let place = course.order.len() - plan.len();
+        if place >= course.shared.len() {
+            return None;
+        }
+        let settled = are_settled(course.setting.query, plan);
+        let columns = course.shared[place].as_slice();
+        key_of(
+            course.setting.alloc,
+            plan.len(),
+            taken,
+            columns,
+            settled,
+            row,
+        )
+    }
+
+    /// What is remembered under a key.
+    pub fn told(&self, key: &Row) -> Option<bool>
+        ensures { result ≡ get row_cmp self.now.known key.now }
+    {
+        self.known.get(key).copied()
+    }
+
+    /// Remembers what was decided under a key, if there is room for it.
+    pub fn keep(&mut self, key: Row, held: bool)
+        ensures { (k : List Cell) (b : Bool) → get row_cmp self.new.known k ≡ Some b → (get row_cmp self.old.known k ≡ Some b) ⊎ ((k ≡ key) × (b ≡ held)) }
+    {
+        if self.known.len() >= MOST_KNOWN {
+            drop(key);
+            return;
+        }
+        match self.known.insert(key, held) {
+            Ok(_) => {}
+            Err(_) => {}
+        }
+    }
+}
