@@ -1,3 +1,4 @@
+mod Apart
 mod Numbers
 mod Choosing
 mod Keeping

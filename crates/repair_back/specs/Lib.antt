@@ -1,3 +1,4 @@
+pub mod Apart
 pub mod Flags
 pub mod Mending
 pub mod Walking

@@ -1,5 +1,5 @@
 -- Mending: rows of witnesses are exchanged for others of their blocks, until no witness is left.
-use Rattle.std.specs.Prelude.{◌≡◌, ℕ, zero, suc, ◌<◌, ◌≢◌, ◌⊎◌, List, ◌∷◌, length, Bool, Contains}
+use Rattle.std.specs.Prelude.{◌≡◌, ℕ, zero, suc, ◌<◌, ◌≤◌, ◌≢◌, ◌⊎◌, List, ◌∷◌, ◌++◌, length, Bool, Contains}
 use Rattle.cqa_value.specs.declared.value.Value.{Value}
 use Rattle.cqa_model.specs.declared.query.Query.{Query}
 use Rattle.cqa_model.specs.Database.{Table, stored}
@@ -8,8 +8,9 @@ use Rattle.cqa_model.specs.Query.{atom_key, rows_of, row_at}
 use Rattle.cqa_model.specs.Plan.{Placed, Fits, IsPlan, PlanHolds}
 use Rattle.cqa_model.specs.Variables.{after}
 use Rattle.cqa_model.specs.Partial.{view_of, AllFit, IsPartial}
-use Rattle.plan_rows.specs.declared.setting.Setting.{Setting}
-use Rattle.plan_rows.specs.Over.{IsPrepared}
+use Rattle.plan_rows.specs.Underway.{IsUnderway}
+use Rattle.repair_back.specs.declared.way.Way.{Way}
+use Rattle.repair_back.specs.Apart.{AreEnough}
 use Rattle.repair_back.specs.Flags.{kept_tables, flags_of, AreChosen}
 
 -- a witness with these rows taken whose other rows are flagged
@@ -48,11 +49,24 @@ IsReached db q row taken old new = (n : ℕ) × IsReachedIn db q row taken n old
 abbrev pub RowHolds : List Table → Query → List Value → List Placed → ℕ → List ℕ → List Value → Type 0
 RowHolds db q row taken F plan y = Fits q row taken F y × PlanHolds q (stored db) row (record { atom = F; row = y } ∷ taken) plan
 
--- Some rows were taken, and an atom comes next, with the rest of a plan behind it.
-pub record IsNext (setting : Setting) (row : List Value) (taken : List Placed) (atom : ℕ) (rest : List ℕ) : Type 0 where
-  pub over : IsPrepared setting
-  pub long : length row ≡ length setting.query.now.answer
-  pub taken_fit : AllFit setting.query.now row taken
-  pub has : (view_of setting.query.now taken).has atom
-  pub plan : IsPlan setting.query.now (after setting.query.now (view_of setting.query.now taken) atom) rest
-  pub there : atom < length setting.query.now.atoms
+-- there is no witness of the row with the first rows taken, where these are at least so many
+abbrev pub HasNoneFrom : List Table → Query → List Value → List Placed → List (List Bool) → ℕ → Type 0
+HasNoneFrom db q row taken flags count = (later first : List Placed) → taken ≡ later ++ first → count ≤ length first → HasNone db q row first flags
+
+-- Some rows were taken along the way, and a rest of the plan is left.
+pub record IsHere (way : Way) (taken : List Placed) (left : List ℕ) : Type 0 where
+  pub underway : IsUnderway way.course taken left
+  pub enough : AreEnough way.course.setting.query.now way.course.order.now way.enough.now
+  pub long : length way.row.now ≡ length way.course.setting.query.now.answer
+  pub taken_fit : AllFit way.course.setting.query.now way.row.now taken
+  pub plan : IsPlan way.course.setting.query.now (view_of way.course.setting.query.now taken) left
+
+-- Some rows were taken along the way, and an atom comes next, with the rest of the plan behind it.
+pub record IsNext (way : Way) (taken : List Placed) (atom : ℕ) (rest : List ℕ) : Type 0 where
+  pub underway : IsUnderway way.course taken (atom ∷ rest)
+  pub enough : AreEnough way.course.setting.query.now way.course.order.now way.enough.now
+  pub long : length way.row.now ≡ length way.course.setting.query.now.answer
+  pub taken_fit : AllFit way.course.setting.query.now way.row.now taken
+  pub has : (view_of way.course.setting.query.now taken).has atom
+  pub plan : IsPlan way.course.setting.query.now (after way.course.setting.query.now (view_of way.course.setting.query.now taken) atom) rest
+  pub there : atom < length way.course.setting.query.now.atoms

@@ -3,10 +3,7 @@ use Rattle.std.specs.Prelude.{◌≡◌, ℕ, ◌<◌, ◌≤◌, ◌⊎◌, ◌
 use Rattle.cqa_value.specs.declared.value.Value.{Value}
 use Rattle.cqa_model.specs.declared.query.Query.{Query}
 use Rattle.cqa_model.specs.Repairs.{SharesKey}
-use Rattle.cqa_value.specs.Values.{nothing}
-use Rattle.cqa_model.specs.declared.query.ColRef.{ColRef}
-use Rattle.cqa_model.specs.Variables.{AreLinked}
-use Rattle.cqa_model.specs.Query.{atom_at, atom_key}
+use Rattle.cqa_model.specs.Query.{atom_key}
 use Rattle.cqa_model.specs.Plan.{Placed, Fits}
 
 -- the rows before a place are of other blocks than the row there
@@ -24,7 +21,3 @@ pub record MayFit (q : Query) (row : List Value) (taken : List Placed) (F : ℕ)
   pub within : end ≤ length rows
   pub begins : Begins (atom_key q F) rows start
   pub others : (i : ℕ) → i < length rows → (i < start) ⊎ (end ≤ i) → Fits q row taken F (slice_index_or rows i []) → ⊥
-
--- a row taken has a value in a column that is linked to the given one
-abbrev pub IsToldBy : Query → ColRef → Placed → Value → Type 0
-IsToldBy q c t value = (j : ℕ) × (j < (atom_at q t.atom).width) × AreLinked q c (record { atom = t.atom; col = j }) × (slice_index_or t.row j nothing ≡ value)

@@ -9,6 +9,7 @@ mod kept;
 mod mending;
 mod repair;
 mod rivals;
+mod way;
 
 pub use from_models::from_model;
 pub use mending::mend;

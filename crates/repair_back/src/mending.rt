@@ -2,19 +2,22 @@
 //!
 //! The atoms are taken in the order of a plan. A block's kept row either fits no witness, or is mended with that row
 //! taken, or it holds in each repair; then another row of the block is kept in its place. Each such exchange is along a
-//! witness, and so brings back no key of an atom that is not attacked (Koutris and Wijsen, ACM TODS 2017).
+//! witness, and so brings back no key of an atom that is not attacked (Koutris and Wijsen, ACM TODS 2017). Where the first
+//! of the rows taken have all variables that the rest of the plan shares with any, no witness has these, once none has all
+//! of them: then no other row is tried in place of the later ones.
 
-ghost use Rattle.std.specs.Prelude.{◌≡◌, ◌≢◌, ◌⊎◌, ℕ, ◌<◌, ◌≤◌, ◌↔◌, ◌∷◌, [], false, IfOk, IfSome, IsNone, IsTrue, length, slice_index_or, Contains};
+ghost use Rattle.std.specs.Prelude.{◌≡◌, ◌≢◌, ◌⊎◌, ℕ, ◌<◌, ◌≤◌, ◌↔◌, ◌∷◌, [], false, IfOk, IfSome, IsNone, IsSome, IsTrue, length, slice_index_or, Contains};
 ghost use Rattle.cqa_model.specs.Database.{stored};
 ghost use Rattle.cqa_model.specs.Repairs.{SharesKey};
 ghost use Rattle.cqa_model.specs.Query.{atom_at, atom_key, rows_of, FitsDatabase};
 ghost use Rattle.cqa_model.specs.Certain.{IsCertain};
-ghost use Rattle.cqa_model.specs.Plan.{PlanHolds, IsUnattacked, IsPlan, IsPlanOf};
-ghost use Rattle.cqa_model.specs.Partial.{view_of, AllFit};
+ghost use Rattle.cqa_model.specs.Plan.{PlanHolds, IsUnattacked, IsPlanOf};
+ghost use Rattle.cqa_model.specs.Partial.{view_of};
 ghost use Rattle.plan_rows.specs.Taking.{placed, AreOfAtoms};
 ghost use Rattle.plan_rows.specs.Over.{IsPrepared};
+ghost use Rattle.plan_rows.specs.Underway.{IsKey, IsRight};
 ghost use Rattle.repair_back.specs.Flags.{IsFlagged, kept_tables, flags_of, AreBlank, AreChosen};
-ghost use Rattle.repair_back.specs.Mending.{HasNone, IsNext, Lacks, IsReached, RowHolds};
+ghost use Rattle.repair_back.specs.Mending.{HasNone, HasNoneFrom, IsHere, IsNext, Lacks, IsReached, RowHolds};
 ghost use Rattle.repair_back.specs.Results.{Rejects, AreStored};
 ghost use Rattle.repair_back.specs.Walking.{IsBlock, MayFit};
 
@@ -23,9 +26,12 @@ use crate::blocks::block_end;
 use crate::choice::Choice;
 use crate::kept::{blank, settle_all};
 use crate::repair::{Repair, named};
+use crate::way::{Way, enough_for, enough_of};
 use cqa_model::{Plan, Query, variables};
 use cqa_value::{NoMemory, Row};
-use plan_rows::{Setting, Taken, fits, known_values};
+use plan_rows::{
+    Course, Memo, Setting, Taken, fits, known_values, shared_or_none, turns_before_memo,
+};
 use row_pieces::Rows;
 use std::alloc::Global;
 use table_blocks::Database;
@@ -80,68 +86,144 @@ fn keep(setting: &Setting<'_>, atom: u32, kept: &mut [Choice], out: usize, into:
     kept[table_of(setting.query, atom) as usize].exchange(out, into);
 }
 
-/// Mends what is kept until no witness has the rows taken; false where each repair has one.
+/// Mends what is kept until no witness has the rows taken: how many of the first ones are enough for that; `None` where
+/// each repair has a witness with them.
 #[cycle(mend)]
 fn mend_rest<'x>(
-    setting: &'x Setting<'x>,
-    row: &'x Row,
+    way: &'x Way<'x>,
     taken: &'x Taken<'x>,
     plan: &[u32],
     kept: &mut [Choice],
-) -> bool
-    requires over { IsPrepared setting.now }
-    requires long { length row.now ≡ length setting.now.query.now.answer }
-    requires taken { AllFit setting.now.query.now row.now (placed taken.now) }
-    requires plan { IsPlan setting.now.query.now (view_of setting.now.query.now (placed taken.now)) plan.now }
-    requires chosen { AreChosen setting.now.query.now setting.now.db.now kept.old }
-    ensures chosen { AreChosen setting.now.query.now setting.now.db.now kept.new }
-    ensures reached { IsReached setting.now.db.now setting.now.query.now row.now (placed taken.now) kept.old kept.new }
-    ensures mended { IsTrue result → HasNone setting.now.db.now setting.now.query.now row.now (placed taken.now) kept.new }
-    ensures holds { result ≡ false → PlanHolds setting.now.query.now (stored setting.now.db.now) row.now (placed taken.now) plan.now }
+    memo: &mut Memo,
+) -> Option<usize>
+    requires here { IsHere way.now (placed taken.now) plan.now }
+    requires chosen { AreChosen way.now.course.setting.query.now way.now.course.setting.db.now kept.old }
+    requires memo { IsRight way.now.course memo.old }
+    ensures chosen { AreChosen way.now.course.setting.query.now way.now.course.setting.db.now kept.new }
+    ensures memo { IsRight way.now.course memo.new }
+    ensures reached { IsReached way.now.course.setting.db.now way.now.course.setting.query.now way.now.row.now (placed taken.now) kept.old kept.new }
+    ensures few { IfSome result (λ count. count ≤ length (placed taken.now)) }
+    ensures mended { IfSome result (λ count. HasNoneFrom way.now.course.setting.db.now way.now.course.setting.query.now way.now.row.now (placed taken.now) kept.new count) }
+    ensures holds { IsNone result → PlanHolds way.now.course.setting.query.now (stored way.now.course.setting.db.now) way.now.row.now (placed taken.now) plan.now }
 {
-    match plan {
-        [] => false,
-        [atom, rest @ ..] => mend_blocks(setting, row, taken, *atom, rest, kept),
+    match memo.key(&way.course, way.row, taken, plan) {
+        Some(key) => remembered(way, taken, plan, key, kept, memo),
+        None => mend_anew(way, taken, plan, kept, memo),
     }
 }
 
-/// The same where an atom and the rest of the plan are left: block by block.
+/// The same under a key of the rest of the plan: it is remembered that the rest holds.
+#[cycle(mend)]
+fn remembered<'x>(
+    way: &'x Way<'x>,
+    taken: &'x Taken<'x>,
+    plan: &[u32],
+    key: Row,
+    kept: &mut [Choice],
+    memo: &mut Memo,
+) -> Option<usize>
+    requires here { IsHere way.now (placed taken.now) plan.now }
+    requires chosen { AreChosen way.now.course.setting.query.now way.now.course.setting.db.now kept.old }
+    requires memo { IsRight way.now.course memo.old }
+    requires key { IsKey way.now.course.setting.query.now way.now.course.shared.now (placed taken.now) plan.now way.now.row.now key }
+    ensures chosen { AreChosen way.now.course.setting.query.now way.now.course.setting.db.now kept.new }
+    ensures memo { IsRight way.now.course memo.new }
+    ensures reached { IsReached way.now.course.setting.db.now way.now.course.setting.query.now way.now.row.now (placed taken.now) kept.old kept.new }
+    ensures few { IfSome result (λ count. count ≤ length (placed taken.now)) }
+    ensures mended { IfSome result (λ count. HasNoneFrom way.now.course.setting.db.now way.now.course.setting.query.now way.now.row.now (placed taken.now) kept.new count) }
+    ensures holds { IsNone result → PlanHolds way.now.course.setting.query.now (stored way.now.course.setting.db.now) way.now.row.now (placed taken.now) plan.now }
+{
+    if let Some(true) = memo.told(&key) {
+        drop(key);
+        return None;
+    }
+    match mend_anew(way, taken, plan, kept, memo) {
+        Some(mended) => {
+            drop(key);
+            Some(mended)
+        }
+        None => {
+            memo.keep(key, true);
+            None
+        }
+    }
+}
+
+/// The same where nothing is remembered of the rest of the plan.
+#[cycle(mend)]
+fn mend_anew<'x>(
+    way: &'x Way<'x>,
+    taken: &'x Taken<'x>,
+    plan: &[u32],
+    kept: &mut [Choice],
+    memo: &mut Memo,
+) -> Option<usize>
+    requires here { IsHere way.now (placed taken.now) plan.now }
+    requires chosen { AreChosen way.now.course.setting.query.now way.now.course.setting.db.now kept.old }
+    requires memo { IsRight way.now.course memo.old }
+    ensures chosen { AreChosen way.now.course.setting.query.now way.now.course.setting.db.now kept.new }
+    ensures memo { IsRight way.now.course memo.new }
+    ensures reached { IsReached way.now.course.setting.db.now way.now.course.setting.query.now way.now.row.now (placed taken.now) kept.old kept.new }
+    ensures few { IfSome result (λ count. count ≤ length (placed taken.now)) }
+    ensures mended { IfSome result (λ count. HasNoneFrom way.now.course.setting.db.now way.now.course.setting.query.now way.now.row.now (placed taken.now) kept.new count) }
+    ensures holds { IsNone result → PlanHolds way.now.course.setting.query.now (stored way.now.course.setting.db.now) way.now.row.now (placed taken.now) plan.now }
+{
+    match plan {
+        [] => None,
+        [atom, rest @ ..] => {
+            let mended = mend_blocks(way, taken, *atom, rest, kept, memo)?;
+            let enough = enough_for(way, plan);
+            if enough < mended {
+                return Some(enough);
+            }
+            Some(mended)
+        }
+    }
+}
+
+/// The same where an atom and the rest of the plan are left: block by block, until the first rows taken alone are enough.
 #[cycle(mend)]
 fn mend_blocks<'x>(
-    setting: &'x Setting<'x>,
-    row: &'x Row,
+    way: &'x Way<'x>,
     taken: &'x Taken<'x>,
     atom: u32,
     rest: &[u32],
     kept: &mut [Choice],
-) -> bool
-    requires next { IsNext setting.now row.now (placed taken.now) atom rest.now }
-    requires free { IsUnattacked setting.now.query.now (view_of setting.now.query.now (placed taken.now)) atom }
-    requires chosen { AreChosen setting.now.query.now setting.now.db.now kept.old }
-    ensures chosen { AreChosen setting.now.query.now setting.now.db.now kept.new }
-    ensures reached { IsReached setting.now.db.now setting.now.query.now row.now (placed taken.now) kept.old kept.new }
-    ensures mended { IsTrue result → HasNone setting.now.db.now setting.now.query.now row.now (placed taken.now) kept.new }
-    ensures holds { result ≡ false → PlanHolds setting.now.query.now (stored setting.now.db.now) row.now (placed taken.now) (atom ∷ rest.now) }
+    memo: &mut Memo,
+) -> Option<usize>
+    requires next { IsNext way.now (placed taken.now) atom rest.now }
+    requires free { IsUnattacked way.now.course.setting.query.now (view_of way.now.course.setting.query.now (placed taken.now)) atom }
+    requires chosen { AreChosen way.now.course.setting.query.now way.now.course.setting.db.now kept.old }
+    requires memo { IsRight way.now.course memo.old }
+    ensures chosen { AreChosen way.now.course.setting.query.now way.now.course.setting.db.now kept.new }
+    ensures memo { IsRight way.now.course memo.new }
+    ensures reached { IsReached way.now.course.setting.db.now way.now.course.setting.query.now way.now.row.now (placed taken.now) kept.old kept.new }
+    ensures few { IfSome result (λ count. count ≤ length (placed taken.now)) }
+    ensures mended { IfSome result (λ count. HasNoneFrom way.now.course.setting.db.now way.now.course.setting.query.now way.now.row.now (placed taken.now) kept.new count) }
+    ensures holds { IsNone result → PlanHolds way.now.course.setting.query.now (stored way.now.course.setting.db.now) way.now.row.now (placed taken.now) (atom ∷ rest.now) }
 {
+    let setting = &way.course.setting;
     let rows = setting.db.rows(table_of(setting.query, atom));
     let key = key_of(setting.query, atom);
-    let (start, end) = span_of(setting, row, taken, atom);
+    let (start, end) = span_of(setting, way.row, taken, atom);
+    let before = way.course.order.len() - rest.len() - 1;
     let mut at = start;
     while at < end {
         let next = block_end(&rows, key, at);
-        if !mend_block(setting, row, taken, atom, rest, &rows, at, next, kept) {
-            return false;
+        let mended = mend_block(way, taken, atom, rest, &rows, at, next, kept, memo)?;
+        if mended <= before {
+            return Some(mended);
         }
         at = next;
     }
-    true
+    Some(before)
 }
 
-/// Mends what is kept until no witness has the rows taken and a row of a block; false where each row of it holds.
+/// Mends what is kept until no witness has the rows taken and a row of a block: how many of these rows are enough for
+/// that; `None` where each row of the block holds.
 #[cycle(mend)]
 fn mend_block<'x>(
-    setting: &'x Setting<'x>,
-    row: &'x Row,
+    way: &'x Way<'x>,
     taken: &'x Taken<'x>,
     atom: u32,
     rest: &[u32],
@@ -149,19 +231,24 @@ fn mend_block<'x>(
     start: usize,
     end: usize,
     kept: &mut [Choice],
-) -> bool
-    requires next { IsNext setting.now row.now (placed taken.now) atom rest.now }
-    requires chosen { AreChosen setting.now.query.now setting.now.db.now kept.old }
-    requires rows { rows.now ≡ rows_of setting.now.query.now (stored setting.now.db.now) atom }
-    requires block { IsBlock (atom_key setting.now.query.now atom) rows.now start end }
-    ensures chosen { AreChosen setting.now.query.now setting.now.db.now kept.new }
-    ensures reached { IsReached setting.now.db.now setting.now.query.now row.now (placed taken.now) kept.old kept.new }
-    ensures lacks { IsTrue result → Lacks setting.now.db.now setting.now.query.now row.now (placed taken.now) atom kept.new (slice_index_or rows.now start []) }
-    ensures holds { result ≡ false → (i : ℕ) → start ≤ i → i < end → RowHolds setting.now.db.now setting.now.query.now row.now (placed taken.now) atom rest.now (slice_index_or rows.now i []) }
+    memo: &mut Memo,
+) -> Option<usize>
+    requires next { IsNext way.now (placed taken.now) atom rest.now }
+    requires chosen { AreChosen way.now.course.setting.query.now way.now.course.setting.db.now kept.old }
+    requires memo { IsRight way.now.course memo.old }
+    requires rows { rows.now ≡ rows_of way.now.course.setting.query.now (stored way.now.course.setting.db.now) atom }
+    requires block { IsBlock (atom_key way.now.course.setting.query.now atom) rows.now start end }
+    ensures chosen { AreChosen way.now.course.setting.query.now way.now.course.setting.db.now kept.new }
+    ensures memo { IsRight way.now.course memo.new }
+    ensures reached { IsReached way.now.course.setting.db.now way.now.course.setting.query.now way.now.row.now (placed taken.now) kept.old kept.new }
+    ensures mended { IfSome result (λ count. HasNoneFrom way.now.course.setting.db.now way.now.course.setting.query.now way.now.row.now (placed taken.now) kept.new count) }
+    ensures lacks { IsSome result → Lacks way.now.course.setting.db.now way.now.course.setting.query.now way.now.row.now (placed taken.now) atom kept.new (slice_index_or rows.now start []) }
+    ensures holds { IsNone result → (i : ℕ) → start ≤ i → i < end → RowHolds way.now.course.setting.db.now way.now.course.setting.query.now way.now.row.now (placed taken.now) atom rest.now (slice_index_or rows.now i []) }
 {
+    let setting = &way.course.setting;
     let first = kept_of(setting, atom, start, end, kept);
-    if row_mended(setting, row, taken, atom, rows.get(first), rest, kept) {
-        return true;
+    if let Some(mended) = row_mended(way, taken, atom, rows.get(first), rest, kept, memo) {
+        return Some(mended);
     }
     let mut last = first;
     for next in start..end {
@@ -170,46 +257,61 @@ fn mend_block<'x>(
         }
         keep(setting, atom, kept, last, next);
         last = next;
-        if row_mended(setting, row, taken, atom, rows.get(next), rest, kept) {
-            return true;
+        if let Some(mended) = row_mended(way, taken, atom, rows.get(next), rest, kept, memo) {
+            return Some(mended);
         }
     }
-    false
+    None
 }
 
-/// Mends what is kept until no witness has the rows taken and a row that is kept; false where this row holds.
+/// Mends what is kept until no witness has the rows taken and a row that is kept: how many of these rows are enough for
+/// that; `None` where this row holds.
 #[cycle(mend)]
 fn row_mended<'x>(
-    setting: &'x Setting<'x>,
-    row: &'x Row,
+    way: &'x Way<'x>,
     taken: &'x Taken<'x>,
     atom: u32,
     y: &Row,
     rest: &[u32],
     kept: &mut [Choice],
-) -> bool
-    requires next { IsNext setting.now row.now (placed taken.now) atom rest.now }
-    requires chosen { AreChosen setting.now.query.now setting.now.db.now kept.old }
-    requires kept { Contains (rows_of setting.now.query.now (kept_tables (stored setting.now.db.now) kept.old) atom) y.now }
-    ensures chosen { AreChosen setting.now.query.now setting.now.db.now kept.new }
-    ensures reached { IsReached setting.now.db.now setting.now.query.now row.now (placed taken.now) kept.old kept.new }
-    ensures same { flags_of setting.now.query.now kept.new atom ≡ flags_of setting.now.query.now kept.old atom }
-    ensures lacks { IsTrue result → Lacks setting.now.db.now setting.now.query.now row.now (placed taken.now) atom kept.new y.now }
-    ensures holds { result ≡ false → RowHolds setting.now.db.now setting.now.query.now row.now (placed taken.now) atom rest.now y.now }
+    memo: &mut Memo,
+) -> Option<usize>
+    requires next { IsNext way.now (placed taken.now) atom rest.now }
+    requires chosen { AreChosen way.now.course.setting.query.now way.now.course.setting.db.now kept.old }
+    requires memo { IsRight way.now.course memo.old }
+    requires kept { Contains (rows_of way.now.course.setting.query.now (kept_tables (stored way.now.course.setting.db.now) kept.old) atom) y.now }
+    ensures chosen { AreChosen way.now.course.setting.query.now way.now.course.setting.db.now kept.new }
+    ensures memo { IsRight way.now.course memo.new }
+    ensures reached { IsReached way.now.course.setting.db.now way.now.course.setting.query.now way.now.row.now (placed taken.now) kept.old kept.new }
+    ensures same { flags_of way.now.course.setting.query.now kept.new atom ≡ flags_of way.now.course.setting.query.now kept.old atom }
+    ensures mended { IfSome result (λ count. HasNoneFrom way.now.course.setting.db.now way.now.course.setting.query.now way.now.row.now (placed taken.now) kept.new count) }
+    ensures lacks { IsSome result → Lacks way.now.course.setting.db.now way.now.course.setting.query.now way.now.row.now (placed taken.now) atom kept.new y.now }
+    ensures holds { IsNone result → RowHolds way.now.course.setting.db.now way.now.course.setting.query.now way.now.row.now (placed taken.now) atom rest.now y.now }
 {
-    if !fits(setting.query, &setting.variables, row, taken, atom, y) {
-        return true;
+    memo.turn();
+    let setting = &way.course.setting;
+    if !fits(setting.query, &setting.variables, way.row, taken, atom, y) {
+        return Some(way.course.order.len() - rest.len());
     }
-    mend_rest(
-        &*setting,
-        &*row,
-        &Taken::Before(atom, &*y, &*taken),
-        rest,
-        kept,
-    )
+    mend_rest(&*way, &Taken::Before(atom, &*y, &*taken), rest, kept, memo)
 }
 
-/// The same, where no flag is set yet.
+/// Mends what is kept until there is no witness; false where each repair has one.
+fn mend_all(way: &Way<'_>, kept: &mut [Choice]) -> bool
+    requires here { IsHere way.now [] way.now.course.order.now }
+    requires chosen { AreChosen way.now.course.setting.query.now way.now.course.setting.db.now kept.old }
+    ensures chosen { AreChosen way.now.course.setting.query.now way.now.course.setting.db.now kept.new }
+    ensures mended { IsTrue result → HasNone way.now.course.setting.db.now way.now.course.setting.query.now way.now.row.now [] kept.new }
+    ensures holds { result ≡ false → PlanHolds way.now.course.setting.query.now (stored way.now.course.setting.db.now) way.now.row.now [] way.now.course.order.now }
+{
+    let setting = &way.course.setting;
+    let mut memo = Memo::new(setting.alloc, turns_before_memo(setting.db, setting.query));
+    let mended = mend_rest(way, &Taken::Nothing, way.course.order, kept, &mut memo);
+    drop(memo);
+    mended.is_some()
+}
+
+/// A repair that holds no witness of the row, from flags of which none is set yet; `None` where the row is certain.
 fn mended(
     alloc: Global,
     db: &Database,
@@ -227,14 +329,26 @@ fn mended(
     ensures stored { IfOk result (λ found. IfSome found (λ repair. AreStored db.now repair.kept)) }
 {
     settle_all(db, query, kept);
-    let setting = Setting {
-        alloc,
-        db,
-        query,
-        variables: variables(query),
-        paths: &[],
+    let order = plan.order.as_slice();
+    let variables = variables(query);
+    let enough = enough_of(alloc, query, &variables, order)?;
+    let shared = shared_or_none(alloc, query, &variables, order);
+    let way = Way {
+        course: Course {
+            setting: Setting {
+                alloc,
+                db,
+                query,
+                variables,
+                paths: &[],
+            },
+            order,
+            shared: shared.as_slice(),
+        },
+        row,
+        enough: enough.as_slice(),
     };
-    if !mend_rest(&setting, row, &Taken::Nothing, plan.order.as_slice(), kept) {
+    if !mend_all(&way, kept) {
         return Ok(None);
     }
     let repair = named(alloc, db, query, kept)?;

@@ -1,13 +1,18 @@
-use Rattle.std.proofs.Common.{◌≡◌, ◌∙◌, ◌<◌, true, false, [], length, get_or, refl, ap, sym, subst, arith, true≢false}
+use Rattle.std.proofs.Common.{rules, is_some, ◌≡◌, ◌∙◌, ◌∷◌, ◌<◌, true, false, [], length, get_or, refl, ap, sym, subst, arith, true≢false}
 use Rattle.std.proofs.lemmas.Option.{get_or_from_slice_get}
 use Rattle.cqa_model.specs.Database.{stored}
-use Rattle.cqa_model.specs.Plan.{IsPlan}
+use Rattle.cqa_model.specs.Plan.{IsPlan, PlanHolds}
 use Rattle.cqa_model.specs.Partial.{view_of}
 use Rattle.cqa_model.proofs.Views.{view-in_range, taken-in_range}
 use Rattle.plan_rows.specs.Taking.{placed}
+use Rattle.plan_rows.specs.Underway.{IsUnderway}
+use Rattle.plan_rows.proofs.Sharing.{passed-count, underway-more, still-right, keeps-right}
+use Rattle.plan_rows.proofs.Suiting.{suits-from}
 use Rattle.plan_rows.proofs.PlanParts.{plan-split, rest-shorter}
+use Rattle.repair_back.specs.Flags.{IsFlagged}
 use Rattle.repair_back.specs.Mending.{Lacks, RowHolds}
 use Rattle.repair_back.specs.Walking.{IsBlock, Begins}
+use Rattle.repair_back.proofs.Apart.{none-enough, none-whole, none-past, if-before, some-none}
 use Rattle.repair_back.proofs.Stepping.{reached-joined, reached-same, reached-forget, lacks-none, lacks-unfit}
 use Rattle.repair_back.proofs.Mended.{blocks-more, blocks-all, block-holds, turned, rows-turned, rows-skip, block-lacks, kept-read}
 use Rattle.repair_back.proofs.mending.+mend.Goals as goal
@@ -20,131 +25,246 @@ mend_block-row_mended-requires t c =
         c.requires.next,
         (
           c.requires.chosen,
-          kept-read c.args.setting.now.query.now c.args.setting.now.db.now c.args.kept.now c.requires.chosen c.args.atom c.requires.next.there c.args.rows.now c.requires.rows c.kept_of-first.result k.kept c.get.result.now
-              (sym (get_or_from_slice_get c.args.rows.now c.kept_of-first.result c.get.result.now [] c.get.ensures)),
+          (
+            c.requires.memo,
+            kept-read c.args.way.now.course.setting.query.now c.args.way.now.course.setting.db.now c.args.kept.now c.requires.chosen c.args.atom c.requires.next.there c.args.rows.now c.requires.rows c.kept_of-first.result k.kept c.get.result.now
+                (sym (get_or_from_slice_get c.args.rows.now c.kept_of-first.result c.get.result.now [] c.get.ensures)),
+          ),
         ),
       ),
     )
 
-pub mend_block-returns-then-row_mended-clause-lacks : goal.mend_block-returns-then-row_mended-clause-lacks
-mend_block-returns-then-row_mended-clause-lacks t c =
+pub mend_block-returns-in-Some-clause-lacks : goal.mend_block-returns-in-Some-clause-lacks
+mend_block-returns-in-Some-clause-lacks t c =
     let k = c.kept_of-first.ensures in
-    λ e. block-lacks c.args.setting.now.query.now c.args.setting.now.db.now c.args.row.now (placed c.args.taken.now) c.args.atom c.args.rest.now c.row_mended.new.kept c.args.rows.now c.args.start c.args.end c.kept_of-first.result c.requires.block k.after k.before
-    (subst (λ x. Lacks c.args.setting.now.db.now c.args.setting.now.query.now c.args.row.now (placed c.args.taken.now) c.args.atom c.row_mended.new.kept x)
-    (sym (get_or_from_slice_get c.args.rows.now c.kept_of-first.result c.get.result.now [] c.get.ensures)) (c.row_mended.ensures.lacks c.if-row_mended.true))
+    λ e. block-lacks c.args.way.now.course.setting.query.now c.args.way.now.course.setting.db.now c.args.way.now.row.now (placed c.args.taken.now) c.args.atom c.args.rest.now c.row_mended.new.kept c.args.rows.now c.args.start c.args.end c.kept_of-first.result c.requires.block k.after k.before
+    (subst (λ x. Lacks c.args.way.now.course.setting.db.now c.args.way.now.course.setting.query.now c.args.way.now.row.now (placed c.args.taken.now) c.args.atom c.row_mended.new.kept x)
+    (sym (get_or_from_slice_get c.args.rows.now c.kept_of-first.result c.get.result.now [] c.get.ensures)) (c.row_mended.ensures.lacks (ap is_some c.in-Some.is)))
+
+pub mend_block-loop-next-init : goal.mend_block-loop-next-init
+mend_block-loop-next-init t c =
+    let k = c.kept_of-first.ensures in
+    let m = c.row_mended.ensures in
+    record {
+      rows = record {
+        chosen = m.chosen;
+        reached = m.reached;
+        after = k.after;
+        before = k.before;
+        is_kept = subst (λ f. IsFlagged f c.kept_of-first.result) (sym m.same) k.kept;
+        holds = subst (λ x. RowHolds c.args.way.now.course.setting.db.now c.args.way.now.course.setting.query.now c.args.way.now.row.now (placed c.args.taken.now) c.args.atom c.args.rest.now x)
+            (sym (get_or_from_slice_get c.args.rows.now c.kept_of-first.result c.get.result.now [] c.get.ensures)) (m.holds (search rules));
+        held = λ i l b. absurd (omega (arith, l, b));
+      };
+      right = m.memo;
+    }
 
 pub mend_block-loop-next-preserved-then-next-first : goal.mend_block-loop-next-preserved-then-next-first
 mend_block-loop-next-preserved-then-next-first t c =
     let k = c.kept_of-first.ensures in
-    rows-skip c.args.setting.now.query.now c.args.setting.now.db.now c.args.row.now (placed c.args.taken.now) c.args.atom c.args.rest.now c.args.kept.now c.loop-next.kept c.args.rows.now c.args.start c.args.end c.loop-next.last c.loop-next.next c.loop-next.invariant
-    (subst (λ x. RowHolds c.args.setting.now.db.now c.args.setting.now.query.now c.args.row.now (placed c.args.taken.now) c.args.atom c.args.rest.now x)
-    (sym (get_or_from_slice_get c.args.rows.now c.kept_of-first.result c.get.result.now [] c.get.ensures) ∙ ap (λ i. get_or c.args.rows.now i []) (sym c.if-next-first.true))
-    (c.row_mended.ensures.holds c.if-row_mended.false))
+    record {
+      right = c.loop-next.invariant.right;
+      rows = rows-skip c.args.way.now.course.setting.query.now c.args.way.now.course.setting.db.now c.args.way.now.row.now (placed c.args.taken.now) c.args.atom c.args.rest.now c.args.kept.now c.loop-next.kept c.args.rows.now c.args.start c.args.end c.loop-next.last c.loop-next.next c.loop-next.invariant.rows
+          (subst (λ x. RowHolds c.args.way.now.course.setting.db.now c.args.way.now.course.setting.query.now c.args.way.now.row.now (placed c.args.taken.now) c.args.atom c.args.rest.now x)
+          (sym (get_or_from_slice_get c.args.rows.now c.kept_of-first.result c.get.result.now [] c.get.ensures) ∙ ap (λ i. get_or c.args.rows.now i []) (sym c.if-next-first.true))
+          (c.row_mended.ensures.holds (search rules)));
+    }
 
 pub mend_block-row_mended-requires-in-loop-next : goal.mend_block-row_mended-requires-in-loop-next
 mend_block-row_mended-requires-in-loop-next t c =
     let some = c.requires.block.some in
     let test = c.loop-next-test.true in
     let k = c.keep.ensures in
-    let turn = turned c.args.setting.now.query.now c.args.setting.now.db.now c.requires.next.over.fits c.args.row.now c.requires.next.long (placed c.args.taken.now) c.requires.next.taken_fit c.args.atom c.requires.next.has c.args.rest.now c.requires.next.plan
-    c.args.rows.now c.requires.rows c.args.start c.args.end c.requires.block c.args.kept.now c.loop-next.kept c.keep.new.kept c.loop-next.last c.loop-next.next c.loop-next.invariant c.loop-next.auto.next test
+    let turn = turned c.args.way.now.course.setting.query.now c.args.way.now.course.setting.db.now c.requires.next.underway.over.fits c.args.way.now.row.now c.requires.next.long (placed c.args.taken.now) c.requires.next.taken_fit c.args.atom c.requires.next.has c.args.rest.now c.requires.next.plan
+    c.args.rows.now c.requires.rows c.args.start c.args.end c.requires.block c.args.kept.now c.loop-next.kept c.keep.new.kept c.loop-next.last c.loop-next.next c.loop-next.invariant.rows c.loop-next.auto.next test
     c.keep.auto.kept k.size k.is k.others in (
       omega (arith, c.decreases),
       (
         c.requires.next,
         (
           turn.chosen,
-          kept-read c.args.setting.now.query.now c.args.setting.now.db.now c.keep.new.kept turn.chosen c.args.atom c.requires.next.there c.args.rows.now c.requires.rows c.loop-next.next ((k.is c.loop-next.next).1 (Rattle.std.proofs.Common.inl refl)) c.get-in-loop-next.result.now
-              (sym (get_or_from_slice_get c.args.rows.now c.loop-next.next c.get-in-loop-next.result.now [] c.get-in-loop-next.ensures)),
+          (
+            c.loop-next.invariant.right,
+            kept-read c.args.way.now.course.setting.query.now c.args.way.now.course.setting.db.now c.keep.new.kept turn.chosen c.args.atom c.requires.next.there c.args.rows.now c.requires.rows c.loop-next.next ((k.is c.loop-next.next).1 (Rattle.std.proofs.Common.inl refl)) c.get-in-loop-next.result.now
+                (sym (get_or_from_slice_get c.args.rows.now c.loop-next.next c.get-in-loop-next.result.now [] c.get-in-loop-next.ensures)),
+          ),
         ),
       ),
     )
 
-pub mend_block-returns-then-row_mended-2-clause-reached : goal.mend_block-returns-then-row_mended-2-clause-reached
-mend_block-returns-then-row_mended-2-clause-reached t c =
+pub mend_block-returns-in-Some-row_mended-clause-reached : goal.mend_block-returns-in-Some-row_mended-clause-reached
+mend_block-returns-in-Some-row_mended-clause-reached t c =
     let k = c.keep.ensures in
-    let turn = turned c.args.setting.now.query.now c.args.setting.now.db.now c.requires.next.over.fits c.args.row.now c.requires.next.long (placed c.args.taken.now) c.requires.next.taken_fit c.args.atom c.requires.next.has c.args.rest.now c.requires.next.plan
-    c.args.rows.now c.requires.rows c.args.start c.args.end c.requires.block c.args.kept.now c.loop-next.kept c.keep.new.kept c.loop-next.last c.loop-next.next c.loop-next.invariant c.loop-next.auto.next c.loop-next-test.true
+    let turn = turned c.args.way.now.course.setting.query.now c.args.way.now.course.setting.db.now c.requires.next.underway.over.fits c.args.way.now.row.now c.requires.next.long (placed c.args.taken.now) c.requires.next.taken_fit c.args.atom c.requires.next.has c.args.rest.now c.requires.next.plan
+    c.args.rows.now c.requires.rows c.args.start c.args.end c.requires.block c.args.kept.now c.loop-next.kept c.keep.new.kept c.loop-next.last c.loop-next.next c.loop-next.invariant.rows c.loop-next.auto.next c.loop-next-test.true
     c.keep.auto.kept k.size k.is k.others in
-    reached-joined c.args.setting.now.query.now c.args.setting.now.db.now c.requires.next.over.fits c.args.row.now c.requires.next.long (placed c.args.taken.now) c.args.kept.now c.keep.new.kept c.row_mended-in-loop-next.new.kept turn.reached c.row_mended-in-loop-next.ensures.reached
+    reached-joined c.args.way.now.course.setting.query.now c.args.way.now.course.setting.db.now c.requires.next.underway.over.fits c.args.way.now.row.now c.requires.next.long (placed c.args.taken.now) c.args.kept.now c.keep.new.kept c.row_mended-in-loop-next.new.kept turn.reached c.row_mended-in-loop-next.ensures.reached
 
-pub mend_block-returns-then-row_mended-2-clause-lacks : goal.mend_block-returns-then-row_mended-2-clause-lacks
-mend_block-returns-then-row_mended-2-clause-lacks t c =
+pub mend_block-returns-in-Some-row_mended-clause-lacks : goal.mend_block-returns-in-Some-row_mended-clause-lacks
+mend_block-returns-in-Some-row_mended-clause-lacks t c =
     let test = c.loop-next-test.true in
-    λ e. block-lacks c.args.setting.now.query.now c.args.setting.now.db.now c.args.row.now (placed c.args.taken.now) c.args.atom c.args.rest.now c.row_mended-in-loop-next.new.kept c.args.rows.now c.args.start c.args.end c.loop-next.next c.requires.block c.loop-next.auto.next test
-    (subst (λ x. Lacks c.args.setting.now.db.now c.args.setting.now.query.now c.args.row.now (placed c.args.taken.now) c.args.atom c.row_mended-in-loop-next.new.kept x)
-    (sym (get_or_from_slice_get c.args.rows.now c.loop-next.next c.get-in-loop-next.result.now [] c.get-in-loop-next.ensures)) (c.row_mended-in-loop-next.ensures.lacks c.if-row_mended-2.true))
+    λ e. block-lacks c.args.way.now.course.setting.query.now c.args.way.now.course.setting.db.now c.args.way.now.row.now (placed c.args.taken.now) c.args.atom c.args.rest.now c.row_mended-in-loop-next.new.kept c.args.rows.now c.args.start c.args.end c.loop-next.next c.requires.block c.loop-next.auto.next test
+    (subst (λ x. Lacks c.args.way.now.course.setting.db.now c.args.way.now.course.setting.query.now c.args.way.now.row.now (placed c.args.taken.now) c.args.atom c.row_mended-in-loop-next.new.kept x)
+    (sym (get_or_from_slice_get c.args.rows.now c.loop-next.next c.get-in-loop-next.result.now [] c.get-in-loop-next.ensures)) (c.row_mended-in-loop-next.ensures.lacks (ap is_some c.in-Some-row_mended.is)))
 
 pub mend_block-loop-next-preserved : goal.mend_block-loop-next-preserved
 mend_block-loop-next-preserved t c =
     let test = c.loop-next-test.true in
     let k = c.keep.ensures in
     let m = c.row_mended-in-loop-next.ensures in
-    let turn = turned c.args.setting.now.query.now c.args.setting.now.db.now c.requires.next.over.fits c.args.row.now c.requires.next.long (placed c.args.taken.now) c.requires.next.taken_fit c.args.atom c.requires.next.has c.args.rest.now c.requires.next.plan
-    c.args.rows.now c.requires.rows c.args.start c.args.end c.requires.block c.args.kept.now c.loop-next.kept c.keep.new.kept c.loop-next.last c.loop-next.next c.loop-next.invariant c.loop-next.auto.next test
+    let turn = turned c.args.way.now.course.setting.query.now c.args.way.now.course.setting.db.now c.requires.next.underway.over.fits c.args.way.now.row.now c.requires.next.long (placed c.args.taken.now) c.requires.next.taken_fit c.args.atom c.requires.next.has c.args.rest.now c.requires.next.plan
+    c.args.rows.now c.requires.rows c.args.start c.args.end c.requires.block c.args.kept.now c.loop-next.kept c.keep.new.kept c.loop-next.last c.loop-next.next c.loop-next.invariant.rows c.loop-next.auto.next test
     c.keep.auto.kept k.size k.is k.others in
-    rows-turned c.args.setting.now.query.now c.args.setting.now.db.now c.requires.next.over.fits c.args.row.now c.requires.next.long (placed c.args.taken.now) c.requires.next.taken_fit c.args.atom c.requires.next.has c.args.rest.now c.requires.next.plan
-    c.args.rows.now c.requires.rows c.args.start c.args.end c.requires.block c.args.kept.now c.loop-next.kept c.keep.new.kept c.row_mended-in-loop-next.new.kept c.loop-next.last c.loop-next.next c.loop-next.invariant turn c.loop-next.auto.next test
-    k.is m.chosen m.reached m.same
-    (subst (λ x. RowHolds c.args.setting.now.db.now c.args.setting.now.query.now c.args.row.now (placed c.args.taken.now) c.args.atom c.args.rest.now x)
-    (sym (get_or_from_slice_get c.args.rows.now c.loop-next.next c.get-in-loop-next.result.now [] c.get-in-loop-next.ensures)) (m.holds c.if-row_mended-2.false))
+    record {
+      right = m.memo;
+      rows = rows-turned c.args.way.now.course.setting.query.now c.args.way.now.course.setting.db.now c.requires.next.underway.over.fits c.args.way.now.row.now c.requires.next.long (placed c.args.taken.now) c.requires.next.taken_fit c.args.atom c.requires.next.has c.args.rest.now c.requires.next.plan
+          c.args.rows.now c.requires.rows c.args.start c.args.end c.requires.block c.args.kept.now c.loop-next.kept c.keep.new.kept c.row_mended-in-loop-next.new.kept c.loop-next.last c.loop-next.next c.loop-next.invariant.rows turn c.loop-next.auto.next test
+          k.is m.chosen m.reached m.same
+          (subst (λ x. RowHolds c.args.way.now.course.setting.db.now c.args.way.now.course.setting.query.now c.args.way.now.row.now (placed c.args.taken.now) c.args.atom c.args.rest.now x)
+          (sym (get_or_from_slice_get c.args.rows.now c.loop-next.next c.get-in-loop-next.result.now [] c.get-in-loop-next.ensures)) (m.holds (search rules)));
+    }
 
-pub mend_blocks-returns-then-not-mend_block-clause-reached : goal.mend_blocks-returns-then-not-mend_block-clause-reached
-mend_blocks-returns-then-not-mend_block-clause-reached t c =
-    reached-joined c.args.setting.now.query.now c.args.setting.now.db.now c.requires.next.over.fits c.args.row.now c.requires.next.long (placed c.args.taken.now) c.args.kept.now c.loop-at.kept c.mend_block.new.kept c.loop-at.invariant.reached c.mend_block.ensures.reached
+pub mend_blocks-returns-in_err-mended-clause-reached : goal.mend_blocks-returns-in_err-mended-clause-reached
+mend_blocks-returns-in_err-mended-clause-reached t c =
+    reached-joined c.args.way.now.course.setting.query.now c.args.way.now.course.setting.db.now c.requires.next.underway.over.fits c.args.way.now.row.now c.requires.next.long (placed c.args.taken.now) c.args.kept.now c.loop-at.kept c.mend_block.new.kept c.loop-at.invariant.blocks.reached c.mend_block.ensures.reached
 
-pub mend_blocks-returns-then-not-mend_block-clause-holds : goal.mend_blocks-returns-then-not-mend_block-clause-holds
-mend_blocks-returns-then-not-mend_block-clause-holds t c =
-    λ e. block-holds c.args.setting.now.query.now c.args.setting.now.db.now c.requires.next.over.fits c.args.row.now c.requires.next.long (placed c.args.taken.now) c.requires.next.taken_fit c.args.atom c.requires.next.has c.args.rest.now c.rows-rows.result c.loop-at.at c.block_end-next.result
-    (c.rows-rows.ensures.is ∙ ap (λ n. get_or (stored c.args.setting.now.db.now) n []) c.table_of.ensures)
+pub mend_blocks-returns-then-mended-before-clause-reached : goal.mend_blocks-returns-then-mended-before-clause-reached
+mend_blocks-returns-then-mended-before-clause-reached t c =
+    reached-joined c.args.way.now.course.setting.query.now c.args.way.now.course.setting.db.now c.requires.next.underway.over.fits c.args.way.now.row.now c.requires.next.long (placed c.args.taken.now) c.args.kept.now c.loop-at.kept c.mend_block.new.kept c.loop-at.invariant.blocks.reached c.mend_block.ensures.reached
+
+pub mend_blocks-returns-then-mended-before-clause-few : goal.mend_blocks-returns-then-mended-before-clause-few
+mend_blocks-returns-then-mended-before-clause-few t c =
+    let n = passed-count c.args.way.now.course (placed c.args.taken.now) (c.args.atom ∷ c.args.rest.now) c.requires.next.underway in
+    omega (arith, n, c.if-mended-before.true)
+
+pub mend_blocks-returns-clause-few : goal.mend_blocks-returns-clause-few
+mend_blocks-returns-clause-few t c =
+    let n = passed-count c.args.way.now.course (placed c.args.taken.now) (c.args.atom ∷ c.args.rest.now) c.requires.next.underway in
+    omega (arith, n)
+
+pub mend_blocks-returns-in_err-mended-clause-holds : goal.mend_blocks-returns-in_err-mended-clause-holds
+mend_blocks-returns-in_err-mended-clause-holds t c =
+    λ e. block-holds c.args.way.now.course.setting.query.now c.args.way.now.course.setting.db.now c.requires.next.underway.over.fits c.args.way.now.row.now c.requires.next.long (placed c.args.taken.now) c.requires.next.taken_fit c.args.atom c.requires.next.has c.args.rest.now c.rows-rows.result c.loop-at.at c.block_end-next.result
+    (c.rows-rows.ensures.is ∙ ap (λ n. get_or (stored c.args.way.now.course.setting.db.now) n []) c.table_of.ensures)
     (subst (λ key. IsBlock key c.rows-rows.result c.loop-at.at c.block_end-next.result) c.key_of-key.ensures c.block_end-next.ensures.block)
-    (c.mend_block.ensures.holds c.if-not-mend_block.true)
+    (c.mend_block.ensures.holds (ap is_some c.in_err-mended.was))
 
 pub mend_blocks-loop-at-preserved : goal.mend_blocks-loop-at-preserved
 mend_blocks-loop-at-preserved t c =
-    blocks-more c.args.setting.now.query.now c.args.setting.now.db.now c.requires.next.over.fits c.args.row.now c.requires.next.long (placed c.args.taken.now) c.requires.next.taken_fit c.args.atom c.requires.next.has c.requires.free c.args.kept.now c.loop-at.kept c.mend_block.new.kept
-    c.rows-rows.result c.span_of-start.result.0 c.loop-at.at c.block_end-next.result c.loop-at.invariant
-    (subst (λ key. IsBlock key c.rows-rows.result c.loop-at.at c.block_end-next.result) c.key_of-key.ensures c.block_end-next.ensures.block)
-    (subst (λ key. Begins key c.rows-rows.result c.block_end-next.result) c.key_of-key.ensures c.block_end-next.ensures.begins)
-    c.mend_block.ensures.chosen c.mend_block.ensures.reached (c.mend_block.ensures.lacks c.if-not-mend_block.false)
+    record {
+      right = c.mend_block.ensures.memo;
+      blocks = blocks-more c.args.way.now.course.setting.query.now c.args.way.now.course.setting.db.now c.requires.next.underway.over.fits c.args.way.now.row.now c.requires.next.long (placed c.args.taken.now) c.requires.next.taken_fit c.args.atom c.requires.next.has c.requires.free c.args.kept.now c.loop-at.kept c.mend_block.new.kept
+          c.rows-rows.result c.span_of-start.result.0 c.loop-at.at c.block_end-next.result c.loop-at.invariant.blocks
+          (subst (λ key. IsBlock key c.rows-rows.result c.loop-at.at c.block_end-next.result) c.key_of-key.ensures c.block_end-next.ensures.block)
+          (subst (λ key. Begins key c.rows-rows.result c.block_end-next.result) c.key_of-key.ensures c.block_end-next.ensures.begins)
+          c.mend_block.ensures.chosen c.mend_block.ensures.reached (c.mend_block.ensures.lacks (ap is_some c.in_ok-mended.was));
+    }
 
 pub mend_blocks-returns-clause-mended : goal.mend_blocks-returns-clause-mended
 mend_blocks-returns-clause-mended t c =
-    let is = c.rows-rows.ensures.is ∙ ap (λ n. get_or (stored c.args.setting.now.db.now) n []) c.table_of.ensures in
-    λ e. blocks-all c.args.setting.now.query.now c.args.setting.now.db.now c.requires.next.over.fits c.args.row.now c.requires.next.long (placed c.args.taken.now) c.requires.next.taken_fit c.args.atom c.requires.next.has c.args.kept.now c.loop-at.kept
+    let is = c.rows-rows.ensures.is ∙ ap (λ n. get_or (stored c.args.way.now.course.setting.db.now) n []) c.table_of.ensures in
+    let n = passed-count c.args.way.now.course (placed c.args.taken.now) (c.args.atom ∷ c.args.rest.now) c.requires.next.underway in
+    none-whole c.args.way.now.course.setting.query.now c.args.way.now.course.setting.db.now c.args.way.now.row.now c.loop-at.kept (placed c.args.taken.now) _ (omega (arith, n))
+    (blocks-all c.args.way.now.course.setting.query.now c.args.way.now.course.setting.db.now c.requires.next.underway.over.fits c.args.way.now.row.now c.requires.next.long (placed c.args.taken.now) c.requires.next.taken_fit c.args.atom c.requires.next.has c.args.kept.now c.loop-at.kept
     c.rows-rows.result c.span_of-start.result.0 c.span_of-start.result.1 c.loop-at.at is
-    (subst (λ rows. Rattle.repair_back.specs.Walking.MayFit c.args.setting.now.query.now c.args.row.now (placed c.args.taken.now) c.args.atom rows c.span_of-start.result.0 c.span_of-start.result.1) (sym is) c.span_of-start.ensures)
-    c.loop-at.invariant (omega (arith, c.loop-at-test.false))
+    (subst (λ rows. Rattle.repair_back.specs.Walking.MayFit c.args.way.now.course.setting.query.now c.args.way.now.row.now (placed c.args.taken.now) c.args.atom rows c.span_of-start.result.0 c.span_of-start.result.1) (sym is) c.span_of-start.ensures)
+    c.loop-at.invariant.blocks (omega (arith, c.loop-at-test.false)))
 
-pub mend_rest-mend_blocks-requires : goal.mend_rest-mend_blocks-requires
-mend_rest-mend_blocks-requires t c =
-    let q = c.args.setting.now.query.now in
+pub mend_anew-mend_blocks-requires : goal.mend_anew-mend_blocks-requires
+mend_anew-mend_blocks-requires t c =
+    let q = c.args.way.now.course.setting.query.now in
+    let here = c.requires.here in
     let l = c.in-len1-up.len_at_least in
-    let h = subst (λ p. IsPlan q (view_of q (placed c.args.taken.now)) p) (plan-split c.args.plan.now l) c.requires.plan in
-    (omega (arith, rest-shorter c.args.plan.now l, c.decreases), (record { over = c.requires.over; long = c.requires.long; taken_fit = c.requires.taken; has = h.0; plan = h.3; there = view-in_range q (placed c.args.taken.now) _ h.0 }, (h.1, c.requires.chosen)))
+    let h = subst (λ p. IsPlan q (view_of q (placed c.args.taken.now)) p) (plan-split c.args.plan.now l) here.plan in (
+      omega (arith, rest-shorter c.args.plan.now l, c.decreases),
+      (
+        record {
+          underway = subst (IsUnderway c.args.way.now.course (placed c.args.taken.now)) (plan-split c.args.plan.now l) here.underway;
+          enough = here.enough;
+          long = here.long;
+          taken_fit = here.taken_fit;
+          has = h.0;
+          plan = h.3;
+          there = view-in_range q (placed c.args.taken.now) _ h.0;
+        },
+        (h.1, (c.requires.chosen, c.requires.memo)),
+      ),
+    )
+
+pub mend_anew-returns-in_err-mended-in-len1-up-clause-holds : goal.mend_anew-returns-in_err-mended-in-len1-up-clause-holds
+mend_anew-returns-in_err-mended-in-len1-up-clause-holds t c =
+    λ e. subst (λ p. PlanHolds c.args.way.now.course.setting.query.now (stored c.args.way.now.course.setting.db.now) c.args.way.now.row.now (placed c.args.taken.now) p)
+    (sym (plan-split c.args.plan.now c.in-len1-up.len_at_least)) (c.mend_blocks.ensures.holds (ap is_some c.in_err-mended-in-len1-up.was))
+
+pub mend_anew-returns-then-enough-mended-clause-mended : goal.mend_anew-returns-then-enough-mended-clause-mended
+mend_anew-returns-then-enough-mended-clause-mended t c =
+    let q = c.args.way.now.course.setting.query.now in
+    let db = c.args.way.now.course.setting.db.now in
+    let row = c.args.way.now.row.now in
+    let taken = placed c.args.taken.now in
+    let here = c.requires.here in
+    let m = c.mend_blocks.ensures in
+    none-enough q db here.underway.over.fits row here.long c.mend_blocks.new.kept c.args.way.now.course.order.now taken c.args.plan.now c.enough_for-enough.result here.underway.place c.enough_for-enough.ensures here.taken_fit here.plan
+    (some-none q db row c.mend_blocks.new.kept taken c.mend_blocks.result m.few m.mended (ap is_some c.in_ok-mended-in-len1-up.was))
 
 pub row_mended-fits-requires-clause-taken : goal.row_mended-fits-requires-clause-taken
-row_mended-fits-requires-clause-taken t c = taken-in_range c.args.setting.now.query.now c.args.row.now (placed c.args.taken.now) c.requires.next.taken_fit
+row_mended-fits-requires-clause-taken t c = taken-in_range c.args.way.now.course.setting.query.now c.args.way.now.row.now (placed c.args.taken.now) c.requires.next.taken_fit
 
 pub row_mended-returns-then-not-fits-clause-lacks : goal.row_mended-returns-then-not-fits-clause-lacks
 row_mended-returns-then-not-fits-clause-lacks t c =
-    λ e. lacks-unfit c.args.setting.now.query.now c.args.setting.now.db.now c.requires.next.over.fits c.args.row.now c.requires.next.long (placed c.args.taken.now) c.requires.next.taken_fit c.args.atom c.requires.next.has c.args.y.now c.args.kept.now c.requires.chosen c.requires.kept
+    λ e. lacks-unfit c.args.way.now.course.setting.query.now c.args.way.now.course.setting.db.now c.requires.next.underway.over.fits c.args.way.now.row.now c.requires.next.long (placed c.args.taken.now) c.requires.next.taken_fit c.args.atom c.requires.next.has c.args.y.now c.args.kept.now c.requires.chosen c.requires.kept
     (λ f. true≢false (sym (c.fits.ensures.1 f) ∙ c.if-not-fits.true))
+
+pub row_mended-returns-then-not-fits-clause-mended : goal.row_mended-returns-then-not-fits-clause-mended
+row_mended-returns-then-not-fits-clause-mended t c =
+    let n = passed-count c.args.way.now.course (placed c.args.taken.now) (c.args.atom ∷ c.args.rest.now) c.requires.next.underway in
+    none-past c.args.way.now.course.setting.query.now c.args.way.now.course.setting.db.now c.args.way.now.row.now c.args.kept.now (placed c.args.taken.now) _ (omega (arith, n))
+
+pub row_mended-mend_rest-requires : goal.row_mended-mend_rest-requires
+row_mended-mend_rest-requires t c =
+    let q = c.args.way.now.course.setting.query.now in
+    let taken = placed c.args.taken.now in
+    let next = c.requires.next in
+    let f = c.fits.ensures.0 c.if-not-fits.false in (
+      omega (arith, c.decreases),
+      (
+        record {
+          underway = underway-more c.args.way.now.course taken c.args.atom c.args.rest.now c.args.y.now next.underway (suits-from q taken c.args.atom c.args.y.now c.args.way.now.row.now f);
+          enough = next.enough;
+          long = next.long;
+          taken_fit = (next.has, f, next.taken_fit);
+          plan = next.plan;
+        },
+        (c.requires.chosen, still-right c.args.way.now.course c.args.memo.now c.turn.new.self c.turn.ensures c.requires.memo),
+      ),
+    )
+
+pub row_mended-returns-clause-mended : goal.row_mended-returns-clause-mended
+row_mended-returns-clause-mended t c =
+    if-before c.args.way.now.course.setting.query.now c.args.way.now.course.setting.db.now c.args.way.now.row.now c.mend_rest.new.kept (placed c.args.taken.now) _ c.mend_rest.result c.mend_rest.ensures.mended
 
 pub row_mended-returns-clause-reached : goal.row_mended-returns-clause-reached
 row_mended-returns-clause-reached t c =
-    reached-forget c.args.setting.now.query.now c.args.setting.now.db.now c.requires.next.over.fits c.args.row.now c.requires.next.long (placed c.args.taken.now) c.requires.next.taken_fit c.args.atom c.requires.next.has c.args.y.now c.args.kept.now c.mend_rest.new.kept c.requires.kept c.mend_rest.ensures.reached
+    reached-forget c.args.way.now.course.setting.query.now c.args.way.now.course.setting.db.now c.requires.next.underway.over.fits c.args.way.now.row.now c.requires.next.long (placed c.args.taken.now) c.requires.next.taken_fit c.args.atom c.requires.next.has c.args.y.now c.args.kept.now c.mend_rest.new.kept c.requires.kept c.mend_rest.ensures.reached
 
 pub row_mended-returns-clause-same : goal.row_mended-returns-clause-same
 row_mended-returns-clause-same t c =
-    reached-same c.args.setting.now.query.now c.args.setting.now.db.now c.requires.next.over.fits c.args.row.now c.requires.next.long (placed c.args.taken.now) c.requires.next.taken_fit c.args.atom c.requires.next.has c.args.y.now c.args.kept.now c.mend_rest.new.kept c.mend_rest.ensures.reached
+    reached-same c.args.way.now.course.setting.query.now c.args.way.now.course.setting.db.now c.requires.next.underway.over.fits c.args.way.now.row.now c.requires.next.long (placed c.args.taken.now) c.requires.next.taken_fit c.args.atom c.requires.next.has c.args.y.now c.args.kept.now c.mend_rest.new.kept c.mend_rest.ensures.reached
 
 pub row_mended-returns-clause-lacks : goal.row_mended-returns-clause-lacks
 row_mended-returns-clause-lacks t c =
-    let same = reached-same c.args.setting.now.query.now c.args.setting.now.db.now c.requires.next.over.fits c.args.row.now c.requires.next.long (placed c.args.taken.now) c.requires.next.taken_fit c.args.atom c.requires.next.has c.args.y.now c.args.kept.now c.mend_rest.new.kept c.mend_rest.ensures.reached in
-    λ e. lacks-none c.args.setting.now.query.now c.args.setting.now.db.now c.requires.next.over.fits c.args.row.now c.requires.next.long (placed c.args.taken.now) c.requires.next.taken_fit c.args.atom c.requires.next.has c.args.y.now c.mend_rest.new.kept c.mend_rest.ensures.chosen
-    (subst (λ rows. Rattle.std.proofs.Common.Contains rows c.args.y.now) (sym (Rattle.repair_back.proofs.Stepping.same-rows c.args.setting.now.query.now c.args.setting.now.db.now c.requires.next.over.fits c.args.row.now c.requires.next.long c.args.kept.now c.mend_rest.new.kept c.args.atom same)) c.requires.kept)
-    (c.mend_rest.ensures.mended e)
+    let same = reached-same c.args.way.now.course.setting.query.now c.args.way.now.course.setting.db.now c.requires.next.underway.over.fits c.args.way.now.row.now c.requires.next.long (placed c.args.taken.now) c.requires.next.taken_fit c.args.atom c.requires.next.has c.args.y.now c.args.kept.now c.mend_rest.new.kept c.mend_rest.ensures.reached in
+    λ e. lacks-none c.args.way.now.course.setting.query.now c.args.way.now.course.setting.db.now c.requires.next.underway.over.fits c.args.way.now.row.now c.requires.next.long (placed c.args.taken.now) c.requires.next.taken_fit c.args.atom c.requires.next.has c.args.y.now c.mend_rest.new.kept c.mend_rest.ensures.chosen
+    (subst (λ rows. Rattle.std.proofs.Common.Contains rows c.args.y.now) (sym (Rattle.repair_back.proofs.Stepping.same-rows c.args.way.now.course.setting.query.now c.args.way.now.course.setting.db.now c.requires.next.underway.over.fits c.args.way.now.row.now c.requires.next.long c.args.kept.now c.mend_rest.new.kept c.args.atom same)) c.requires.kept)
+    (some-none c.args.way.now.course.setting.query.now c.args.way.now.course.setting.db.now c.args.way.now.row.now c.mend_rest.new.kept _ c.mend_rest.result c.mend_rest.ensures.few c.mend_rest.ensures.mended e)
 
 pub mend_blocks-span_of-start-requires-clause-taken : goal.mend_blocks-span_of-start-requires-clause-taken
-mend_blocks-span_of-start-requires-clause-taken t c = taken-in_range c.args.setting.now.query.now c.args.row.now (placed c.args.taken.now) c.requires.next.taken_fit
+mend_blocks-span_of-start-requires-clause-taken t c = taken-in_range c.args.way.now.course.setting.query.now c.args.way.now.row.now (placed c.args.taken.now) c.requires.next.taken_fit
+
+pub row_mended-returns-then-not-fits-clause-memo : goal.row_mended-returns-then-not-fits-clause-memo
+row_mended-returns-then-not-fits-clause-memo t c = still-right c.args.way.now.course c.args.memo.now c.turn.new.self c.turn.ensures c.requires.memo
+
+pub remembered-returns-in-None-clause-memo : goal.remembered-returns-in-None-clause-memo
+remembered-returns-in-None-clause-memo t c =
+    keeps-right c.args.way.now.course c.mend_anew.new.memo c.keep.new.self (placed c.args.taken.now) c.args.plan.now c.args.way.now.row.now c.args.key true
+    c.mend_anew.ensures.memo c.requires.here.underway c.requires.key ((λ e. c.mend_anew.ensures.holds (ap is_some c.in-None.is)), (λ h. refl)) c.keep.ensures

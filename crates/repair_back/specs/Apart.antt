@@ -1,0 +1,26 @@
+-- Atoms that bring nothing to what is left of a plan.
+use Rattle.std.specs.Prelude.{◌≡◌, ℕ, ◌<◌, ◌≤◌, List, ◌++◌, length, take, drop, slice_index_or, Contains}
+use Rattle.cqa_model.specs.declared.query.ColRef.{ColRef}
+use Rattle.cqa_model.specs.declared.query.Query.{Query}
+use Rattle.cqa_model.specs.Query.{atom_at}
+use Rattle.cqa_model.specs.Variables.{AreLinked}
+
+-- one of these atoms has a column that is linked to this one
+abbrev pub IsTold : Query → List ℕ → ColRef → Type 0
+IsTold q atoms c = (F i : ℕ) × Contains atoms F × (i < (atom_at q F).width) × AreLinked q (record { atom = F; col = i }) c
+
+-- a column that is linked to one of the rest's is linked to one of the atoms before
+abbrev pub BringsNone : Query → List ℕ → ColRef → List ℕ → Type 0
+BringsNone q before c rest = (F i : ℕ) → Contains rest F → i < (atom_at q F).width → AreLinked q (record { atom = F; col = i }) c → IsTold q before c
+
+-- so it is of each column of an atom
+abbrev pub IsApart : Query → List ℕ → ℕ → List ℕ → Type 0
+IsApart q before G rest = (j : ℕ) → j < (atom_at q G).width → BringsNone q before (record { atom = G; col = j }) rest
+
+-- so many first atoms of an order, or more, have all that those between them and a rest share with the rest
+abbrev pub AreApart : Query → List ℕ → List ℕ → ℕ → Type 0
+AreApart q order rest n = (front between : List ℕ) → order ≡ front ++ (between ++ rest) → n ≤ length front → (G : ℕ) → Contains between G → IsApart q front G rest
+
+-- from so many on, the atoms before a place bring nothing to those behind it; as far as there are numbers
+abbrev pub AreEnough : Query → List ℕ → List ℕ → Type 0
+AreEnough q order enough = (place : ℕ) → place < length enough → (k : ℕ) → slice_index_or enough place 0 ≤ k → k < place → IsApart q (take k order) (slice_index_or order k 0) (drop place order)

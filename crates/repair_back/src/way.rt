@@ -1,0 +1,144 @@
+//! The way along which a repair is mended: a plan over a database, and how many rows of it matter to what is left.
+
+ghost use Rattle.std.specs.Prelude.{◌≡◌, ◌<◌, ◌≤◌, ◌+◌, ◌++◌, ℕ, IfOk, IsTrue, IsFalse, List, Contains, length, slice_index_or, take, drop};
+ghost use Rattle.cqa_model.specs.Shape.{IsInRange};
+ghost use Rattle.cqa_model.specs.Query.{atom_at};
+ghost use Rattle.cqa_model.specs.Naming.{AreVariables};
+ghost use Rattle.cqa_model.specs.Variables.{AreLinked};
+ghost use Rattle.plan_rows.specs.Left.{AreAtoms};
+ghost use Rattle.plan_rows.specs.Underway.{IsUnderway};
+ghost use Rattle.repair_back.specs.Apart.{IsTold, BringsNone, IsApart, AreApart, AreEnough};
+
+use cqa_model::{ColRef, Query, Variables};
+use cqa_value::{NoMemory, Row};
+use plan_rows::{Course, is_shared, linked, width_of};
+use std::alloc::Global;
+
+/// A plan that is gone over, the row that no witness is to give, and for each number of first atoms how many of them are
+/// enough for the others: what those between share with these, the first ones share too.
+#[derive(Drop)]
+pub(crate) struct Way<'a> {
+    pub course: Course<'a>,
+    pub row: &'a Row,
+    pub enough: &'a [usize],
+}
+
+/// Whether an atom has a column that is linked to this one.
+fn has_linked(query: &Query, variables: &Variables, atom: u32, column: ColRef) -> bool
+    requires variables { AreVariables query.now variables.now }
+    requires atom { atom < length query.now.atoms }
+    requires column { IsInRange query.now.atoms column }
+    ensures { IsTrue result → (i : ℕ) × (i < (atom_at query.now atom).width) × AreLinked query.now (record { atom = atom; col = i }) column }
+{
+    for col in 0..width_of(query, atom) {
+        if linked(query, variables, ColRef { atom, col }, column) {
+            return true;
+        }
+    }
+    false
+}
+
+/// Whether one of these atoms has a column that is linked to this one.
+fn is_told(query: &Query, variables: &Variables, before: &[u32], column: ColRef) -> bool
+    requires variables { AreVariables query.now variables.now }
+    requires before { AreAtoms query.now before.now }
+    requires column { IsInRange query.now.atoms column }
+    ensures { IsTrue result → IsTold query.now before.now column }
+{
+    for atom in before {
+        if has_linked(query, variables, *atom, column) {
+            return true;
+        }
+    }
+    false
+}
+
+/// Whether a column is linked to one of the rest's, and to none of the atoms before.
+fn brings_column(
+    query: &Query,
+    variables: &Variables,
+    before: &[u32],
+    column: ColRef,
+    rest: &[u32],
+) -> bool
+    requires variables { AreVariables query.now variables.now }
+    requires before { AreAtoms query.now before.now }
+    requires column { IsInRange query.now.atoms column }
+    requires rest { AreAtoms query.now rest.now }
+    ensures { IsFalse result → BringsNone query.now before.now column rest.now }
+{
+    if !is_shared(query, variables, rest, column) {
+        return false;
+    }
+    !is_told(query, variables, before, column)
+}
+
+/// Whether an atom has such a column.
+fn brings(query: &Query, variables: &Variables, before: &[u32], atom: u32, rest: &[u32]) -> bool
+    requires variables { AreVariables query.now variables.now }
+    requires before { AreAtoms query.now before.now }
+    requires atom { atom < length query.now.atoms }
+    requires rest { AreAtoms query.now rest.now }
+    ensures { IsFalse result → IsApart query.now before.now atom rest.now }
+{
+    for col in 0..width_of(query, atom) {
+        if brings_column(query, variables, before, ColRef { atom, col }, rest) {
+            return true;
+        }
+    }
+    false
+}
+
+/// How many first atoms of an order are enough for those from a place on.
+fn enough_at(query: &Query, variables: &Variables, order: &[u32], place: usize) -> usize
+    requires variables { AreVariables query.now variables.now }
+    requires order { AreAtoms query.now order.now }
+    requires place { place ≤ length order.now }
+    ensures { (k : ℕ) → result ≤ k → k < place → IsApart query.now (take k order.now) (slice_index_or order.now k 0) (drop place order.now) }
+{
+    let (_, rest) = order.split_at(place);
+    let mut enough = place;
+    while enough > 0 {
+        let (before, _) = order.split_at(enough - 1);
+        if brings(query, variables, before, order[enough - 1], rest) {
+            return enough;
+        }
+        enough -= 1;
+    }
+    0
+}
+
+/// For each number of first atoms of an order, how many of them are enough for the others.
+///
+/// # Errors
+///
+/// `NoMemory` where memory is refused.
+pub(crate) fn enough_of(
+    alloc: Global,
+    query: &Query,
+    variables: &Variables,
+    order: &[u32],
+) -> Result<Vec<usize>, NoMemory>
+    requires variables { AreVariables query.now variables.now }
+    requires order { AreAtoms query.now order.now }
+    ensures { IfOk result (λ enough. AreEnough query.now order.now enough.items) }
+{
+    let mut enough = Vec::new(alloc);
+    for place in 0..order.len() {
+        enough.push(enough_at(query, variables, order, place))?;
+    }
+    Ok(enough)
+}
+
+/// How many of the rows taken are enough for the rest of a plan.
+pub(crate) fn enough_for(way: &Way<'_>, plan: &[u32]) -> usize
+    requires plan { length plan.now ≤ length way.now.course.order.now }
+    requires enough { AreEnough way.now.course.setting.query.now way.now.course.order.now way.now.enough.now }
+    ensures { AreApart way.now.course.setting.query.now way.now.course.order.now plan.now result }
+{
+    let place = way.course.order.len() - plan.len();
+    if place < way.enough.len() {
+        return way.enough[place];
+    }
+    place
+}
