@@ -1,6 +1,7 @@
 pub mod Mutual
 pub mod Sharing
 pub mod Parts
+pub mod FitsAll
 pub mod Begins
 pub mod Walking
 pub mod RowStarts

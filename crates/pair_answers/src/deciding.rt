@@ -1,14 +1,14 @@
 //! Deciding a row of a pair: it is certain, or some repair holds no witness of it.
 //! The rows of both tables are numbered atom by atom in block order, and the numbers are decided.
 
-ghost use Rattle.std.specs.Prelude.{◌≡◌, ◌<◌, IfOk, MatchOption, length, map, filter_map};
+ghost use Rattle.std.specs.Prelude.{◌≡◌, ◌↔◌, ◌<◌, IfOk, IsTrue, MatchOption, length, map, filter_map};
 ghost use Rattle.cqa_model.specs.Database.{stored};
 ghost use Rattle.cqa_model.specs.Query.{FitsDatabase};
 ghost use Rattle.cqa_model.specs.Certain.{IsCertain};
 ghost use Rattle.weak_pairs.specs.Pairs.{IsPair};
 ghost use Rattle.pair_answers.specs.Kept.{IsAnswer, Rejects, id_of};
 
-use crate::lists::row_lists;
+use crate::lists::{both_columns, row_lists};
 use crate::starts::{block_starts, table_of};
 use cqa_model::{Query, RowId};
 use cqa_value::{Items, NoMemory, Row};
@@ -48,6 +48,23 @@ pub fn decide(
     }
 }
 
+/// Whether a row is certain.
+///
+/// # Errors
+///
+/// `NoMemory` where memory is refused.
+pub fn is_certain(alloc: Global, db: &Database, query: &Query, row: &Row) -> Result<bool, NoMemory>
+    requires pair { IsPair query.now }
+    requires fits { FitsDatabase query.now db.now }
+    requires size { length row.now ≡ length query.now.answer }
+    ensures { IfOk result (λ certain. IsTrue certain ↔ IsCertain db.now query.now row.now) }
+{
+    match decide_numbers(alloc, db, query, row)? {
+        Decision::Certain => Ok(true),
+        Decision::Rejected(_) => Ok(false),
+    }
+}
+
 /// Decides the numbered rows.
 fn decide_numbers(
     alloc: Global,
@@ -61,7 +78,8 @@ fn decide_numbers(
     ensures { IfOk result (IsAnswer query.now db.now row.now) }
 {
     let starts = block_starts(alloc, db, query)?;
-    let lists = row_lists(alloc, db, query, row)?;
+    let columns = both_columns(alloc, query)?;
+    let lists = row_lists(alloc, db, query, row, &columns.left, &columns.right)?;
     pair_decided();
     let blocks = starts.first.len() as u32 - 1;
     decide_rows(alloc, &lists, &starts.first, blocks, starts.split)

@@ -1,107 +1,145 @@
 //! The values of rows in the columns of the variables that both atoms have.
 //! Rows of different atoms that fit stand together in a witness exactly where these are the same.
 
-ghost use Rattle.std.specs.Prelude.{◌≡◌, ◌+◌, ◌*◌, ◌<◌, ◌≤◌, IfOk, length};
-ghost use Rattle.cqa_model.specs.declared.limits.TheConstants.{MOST_COLUMNS, MOST_ROWS};
+ghost use Rattle.std.specs.Prelude.{◌≡◌, ◌↔◌, ◌+◌, ◌<◌, ◌≤◌, IfOk, IsTrue, length};
+ghost use Rattle.cqa_model.specs.declared.limits.TheConstants.{MOST_ROWS};
 ghost use Rattle.cqa_model.specs.Database.{stored};
 ghost use Rattle.cqa_model.specs.Query.{FitsDatabase};
 ghost use Rattle.cqa_model.specs.Naming.{AreVariables};
-ghost use Rattle.weak_pairs.specs.Numbering.{values_in};
+ghost use Rattle.weak_pairs.specs.Pairs.{FitsAlone};
+ghost use Rattle.pair_answers.specs.Fitting.{AllFit};
 ghost use Rattle.pair_answers.specs.Shared.{pairs_of};
-ghost use Rattle.pair_answers.specs.Lists.{AreListsAdded, AreRowLists, IsListOf};
+ghost use Rattle.pair_answers.specs.Lists.{AreColumns, AreListsAdded, AreRowLists, IsListOf, columns_in};
 
 use crate::fits::fits_alone;
+use crate::plain::all_fit;
 use crate::shared::{Shared, shared_columns};
 use crate::starts::table_of;
 use cqa_model::{Query, Variables, variables};
-use cqa_value::{NoMemory, Row, Value};
+use cqa_value::{NoMemory, Row};
 use row_pieces::Rows;
 use std::alloc::Global;
-use table_blocks::{Database, value_or};
+use table_blocks::Database;
+use weak_pairs::Picked;
+
+/// The columns of each atom of variables that both have, in one order.
+#[derive(Drop)]
+pub(crate) struct Columns {
+    pub left: Vec<u32>,
+    pub right: Vec<u32>,
+}
+
+/// The columns of an atom among pairs of columns.
+fn columns_of(alloc: Global, cols: &[Shared], atom: u32) -> Result<Vec<u32>, NoMemory>
+    ensures { IfOk result (λ columns. columns.items ≡ columns_in atom (pairs_of cols.now)) }
+{
+    let mut columns = Vec::new(alloc);
+    for col in cols {
+        columns.push(if atom == 0 { col.left } else { col.right })?;
+    }
+    Ok(columns)
+}
+
+/// The columns of each atom of variables that both have.
+///
+/// # Errors
+///
+/// `NoMemory` where memory is refused.
+pub(crate) fn both_columns(alloc: Global, query: &Query) -> Result<Columns, NoMemory>
+    requires two { length query.now.atoms ≡ 2 }
+    ensures { IfOk result (λ columns. AreColumns query.now columns.left.items columns.right.items) }
+{
+    let names = variables(query);
+    let cols = shared_columns(alloc, query, &names)?;
+    let left = columns_of(alloc, &cols, 0)?;
+    let right = columns_of(alloc, &cols, 1)?;
+    Ok(Columns { left, right })
+}
 
 /// The list of each row of both tables, atom by atom in block order.
 ///
 /// # Errors
 ///
 /// `NoMemory` where memory is refused.
-pub(crate) fn row_lists(
+pub(crate) fn row_lists<'a>(
     alloc: Global,
-    db: &Database,
+    db: &'a Database,
     query: &Query,
     row: &Row,
-) -> Result<Vec<Option<Row>>, NoMemory>
+    left: &'a [u32],
+    right: &'a [u32],
+) -> Result<Vec<Option<Picked<'a>>>, NoMemory>
     requires two { length query.now.atoms ≡ 2 }
     requires fits { FitsDatabase query.now db.now }
+    requires columns { AreColumns query.now left.now right.now }
     ensures lists { IfOk result (λ lists. AreRowLists query.now (stored db.now) row.now lists.items) }
     ensures few { IfOk result (λ lists. length lists.items ≤ MOST_ROWS + MOST_ROWS) }
 {
     let names = variables(query);
-    let cols = shared_columns(alloc, query, &names)?;
-    let mut lists = Vec::new(alloc);
-    let left = db.rows(table_of(query, 0));
-    append_lists(alloc, query, &names, row, &cols, 0, &left, &mut lists)?;
-    let right = db.rows(table_of(query, 1));
-    append_lists(alloc, query, &names, row, &cols, 1, &right, &mut lists)?;
+    let first = db.rows(table_of(query, 0));
+    let second = db.rows(table_of(query, 1));
+    let mut lists = Vec::with_capacity(alloc, first.len() + second.len())?;
+    append_lists(query, &names, row, left, 0, &first, &mut lists)?;
+    append_lists(query, &names, row, right, 1, &second, &mut lists)?;
     Ok(lists)
 }
 
-/// Appends the list of each row of an atom: its values in the shared columns, where it fits.
+/// Appends the list of each row of an atom: its values in these columns, where it fits.
 ///
 /// # Errors
 ///
 /// `NoMemory` where memory is refused.
-fn append_lists(
-    alloc: Global,
+fn append_lists<'a>(
     query: &Query,
     names: &Variables,
     row: &Row,
-    cols: &[Shared],
+    columns: &'a [u32],
     atom: u32,
-    rows: &Rows<'_>,
-    lists: &mut Vec<Option<Row>>,
+    rows: &Rows<'a>,
+    lists: &mut Vec<Option<Picked<'a>>>,
 ) -> Result<(), NoMemory>
     requires names { AreVariables query.now names.now }
     requires atom { atom < length query.now.atoms }
-    requires few { length cols.now ≤ MOST_COLUMNS * MOST_COLUMNS }
-    ensures { IfOk result (λ _. AreListsAdded query.now row.now (pairs_of cols.now) atom rows.now (length rows.now) lists.old.items lists.new.items) }
+    ensures { IfOk result (λ _. AreListsAdded query.now row.now columns.now atom rows.now (length rows.now) lists.old.items lists.new.items) }
 {
+    let all = all_fit(query, names, atom);
     for x in rows.again() {
-        let list = list_of(alloc, query, names, row, cols, atom, x)?;
+        let list = list_of(query, names, row, columns, atom, x, all);
         lists.push(list)?;
     }
     Ok(())
 }
 
+/// Whether a row fits by itself; it isn't looked at where it is known that each row of its atom does.
+fn fits(query: &Query, names: &Variables, row: &Row, atom: u32, x: &Row, all: bool) -> bool
+    requires names { AreVariables query.now names.now }
+    requires atom { atom < length query.now.atoms }
+    requires all { IsTrue all → AllFit query.now atom }
+    ensures { IsTrue result ↔ FitsAlone query.now row.now atom x.now }
+{
+    if all {
+        return true;
+    }
+    fits_alone(query, names, row, atom, x)
+}
+
 /// The list of a row, where it fits.
-fn list_of(
-    alloc: Global,
+fn list_of<'a>(
     query: &Query,
     names: &Variables,
     row: &Row,
-    cols: &[Shared],
+    columns: &'a [u32],
     atom: u32,
-    x: &Row,
-) -> Result<Option<Row>, NoMemory>
+    x: &'a Row,
+    all: bool,
+) -> Option<Picked<'a>>
     requires names { AreVariables query.now names.now }
     requires atom { atom < length query.now.atoms }
-    requires few { length cols.now ≤ MOST_COLUMNS * MOST_COLUMNS }
-    ensures { IfOk result (IsListOf query.now row.now (pairs_of cols.now) atom x.now) }
+    requires all { IsTrue all → AllFit query.now atom }
+    ensures { IsListOf query.now row.now columns.now atom x.now result }
 {
-    if !fits_alone(query, names, row, atom, x) {
-        return Ok(None);
+    if !fits(query, names, row, atom, x, all) {
+        return None;
     }
-    Ok(Some(values(alloc, cols, atom, x)?))
-}
-
-/// The values of a row of an atom in the shared columns.
-fn values(alloc: Global, cols: &[Shared], atom: u32, x: &Row) -> Result<Row, NoMemory>
-    requires few { length cols.now ≤ MOST_COLUMNS * MOST_COLUMNS }
-    ensures { IfOk result (λ values. values ≡ values_in atom (pairs_of cols.now) x.now) }
-{
-    let mut values = Row::new(alloc);
-    for col in cols {
-        let place = if atom == 0 { col.left } else { col.right };
-        values.push(value_or(x, place, &Value::Int(0)).copy(alloc)?)?;
-    }
-    Ok(values)
+    Some(Picked::new(x, columns))
 }

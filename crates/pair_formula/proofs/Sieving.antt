@@ -1,7 +1,7 @@
 -- Rows that are sifted, one more.
-use Rattle.std.proofs.Common.{◌≡◌, ◌∙◌, inl, inr, List, [], ◌∷◌, ◌++◌, refl, sym, ap, subst, Contains, Less, append_assoc}
+use Rattle.std.proofs.Common.{◌≡◌, ◌∙◌, inl, inr, List, [], ◌∷◌, ◌++◌, refl, sym, ap, subst, Contains, Less, append_assoc, length}
 use Rattle.std.specs.List.Sorted.{IsStrictlySortedBy}
-use Rattle.std.proofs.lemmas.List.{append-nil}
+use Rattle.std.proofs.lemmas.List.{append-nil, nil_from_length}
 use Rattle.std.proofs.lemmas.List.Elements.{Contains-append_right}
 use Rattle.cqa_value.specs.declared.value.Value.{Value}
 use Rattle.cqa_value.specs.Values.{row_cmp}
@@ -13,7 +13,8 @@ use Rattle.cqa_model.proofs.Databases.{possible_is_candidate}
 use Rattle.cqa_model.proofs.Classic.{mem-head, mem-tail, mem-nil, mem-cases}
 use Rattle.row_cursor.proofs.Extending.{sorted-cons, sorted-nil}
 use Rattle.join_witness.proofs.Sorted.{each-of}
-use Rattle.repair_clauses.specs.Searching.{AreCandidates}
+use Rattle.repair_clauses.specs.Candidates.{AreCandidates}
+use Rattle.repair_clauses.proofs.Candidates.{has_length}
 use Rattle.pair_formula.specs.Sifting.{Sifts, AreSifted}
 
 module _ (db : List Table) (q : Query) where
@@ -73,3 +74,20 @@ module _ (db : List Table) (q : Query) where
     ascending = sifted-sorted rows answers s c.ascending;
     exactly = λ row. (λ m. (sifted-in rows answers s row m).1, λ k. sifted-out rows answers s row ((c.exactly row).1 (possible_is_candidate.certain db q row fits k)) k);
   }
+
+-- without answer columns the row without values alone may be certain
+module _ (db : List Table) (q : Query) (fits : FitsDatabase q db) (none : q.answer ≡ []) where
+  only : (row : List Value) → IsCertain db q row → row ≡ []
+  only row k = nil_from_length row (has_length q db row (possible_is_candidate.certain db q row fits k) ∙ ap length none)
+
+  pub lone-certain : (answers : List (List Value)) → IsCertain db q [] → answers ≡ [] ∷ [] → IsCertainAnswer db q answers
+  lone-certain answers k is = subst (IsCertainAnswer db q) (sym is) (record {
+    ascending = sorted-cons row_cmp [] [] (λ y m. absurd (mem-nil y m)) (sorted-nil row_cmp);
+    exactly = λ row. (λ m. elim (mem-cases row [] [] m) [ inl e ↦ subst (IsCertain db q) e k | inr n ↦ absurd (mem-nil row n) ], λ c. subst (Contains ([] ∷ [])) (sym (only row c)) (mem-head [] []));
+  })
+
+  pub lone-rejected : (answers : List (List Value)) → (IsCertain db q [] → ⊥) → answers ≡ [] → IsCertainAnswer db q answers
+  lone-rejected answers n is = subst (IsCertainAnswer db q) (sym is) (record {
+    ascending = sorted-nil row_cmp;
+    exactly = λ row. (λ m. absurd (mem-nil row m), λ c. absurd (n (subst (IsCertain db q) (only row c) c)));
+  })

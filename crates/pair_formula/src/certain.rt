@@ -1,12 +1,13 @@
 //! The certain rows of a pair, all of them in a time linear in the witnesses of all possible rows, but for sorting them.
-//! A row with more witnesses than a formula takes is decided over the tables' rows, of which there are fewer.
+//! A row with more witnesses than a formula takes is decided over the tables' rows, of which there are fewer; and so is the
+//! row of a query without answer columns, for which no candidate has to be looked for.
 
 ghost use Rattle.std.specs.Prelude.{◌≡◌, ◌↔◌, ◌++◌, ◌∷◌, ◌⊎◌, [], IfOk, IsTrue, OnOk, length};
 ghost use Rattle.cqa_model.specs.Query.{FitsDatabase};
 ghost use Rattle.cqa_model.specs.Certain.{IsCertain, IsCertainAnswer};
 ghost use Rattle.row_cursor.specs.Spots.{ArePaths};
 ghost use Rattle.join_witness.specs.Listing.{AreAllNames, names_of};
-ghost use Rattle.repair_clauses.specs.Searching.{AreCandidates};
+ghost use Rattle.repair_clauses.specs.Candidates.{AreCandidates};
 ghost use Rattle.weak_pairs.specs.Pairs.{IsPair};
 ghost use Rattle.pair_formula.specs.Sifting.{Sifts, AreSifted};
 
@@ -14,24 +15,11 @@ use crate::decide::is_unsatisfiable;
 use cqa_model::Query;
 use cqa_value::{Fail, Items, NoMemory, Row};
 use join_witness::{TooMany, Witness, candidates, row_paths, witnesses_by_paths};
-use pair_answers::decide;
+use pair_answers::is_certain;
 use repair_clauses::encode;
 use row_cursor::RowIndex;
 use std::alloc::Global;
 use table_blocks::Database;
-
-/// Whether a row is certain, by the rows of the tables.
-fn by_tables(alloc: Global, db: &Database, query: &Query, row: &Row) -> Result<bool, NoMemory>
-    requires pair { IsPair query.now }
-    requires fits { FitsDatabase query.now db.now }
-    requires long { length row.now ≡ length query.now.answer }
-    ensures { IfOk result (λ certain. IsTrue certain ↔ IsCertain db.now query.now row.now) }
-{
-    match decide(alloc, db, query, row)? {
-        None => Ok(true),
-        Some(_) => Ok(false),
-    }
-}
 
 /// Whether a row is certain, by its formula.
 fn by_formula(
@@ -52,8 +40,9 @@ fn by_formula(
     Ok(certain?)
 }
 
-/// Whether a row is certain. Tables are looked up by indexes where there are some.
-fn is_certain<'a>(
+/// Whether a row is certain, by its formula, or by the tables where it has too many witnesses. Witnesses are looked up by
+/// indexes where there are some.
+fn by_paths<'a>(
     alloc: Global,
     db: &'a Database,
     query: &'a Query,
@@ -66,16 +55,13 @@ fn is_certain<'a>(
     requires paths { ArePaths query.now db.now paths.now }
     ensures { IfOk result (λ certain. IsTrue certain ↔ IsCertain db.now query.now row.now) }
 {
-    if query.answer.is_empty() {
-        return by_tables(alloc, db, query, row);
-    }
     match witnesses_by_paths(alloc, db, query, row, paths) {
         Ok(found) => {
             let certain = by_formula(alloc, db, query, row, found.as_slice());
             drop(found);
             certain
         }
-        Err(Fail::Refused(TooMany)) => by_tables(alloc, db, query, row),
+        Err(Fail::Refused(TooMany)) => is_certain(alloc, db, query, row),
         Err(Fail::NoMemory) => Err(NoMemory),
     }
 }
@@ -95,7 +81,7 @@ fn sift(
     requires paths { ArePaths query.now db.now paths.now }
     ensures { OnOk result (Sifts db.now query.now row answers.old.items answers.new.items) }
 {
-    match is_certain(alloc, db, query, &row, paths) {
+    match by_paths(alloc, db, query, &row, paths) {
         Ok(true) => {
             answers.push(row)?;
             Ok(())
@@ -160,12 +146,23 @@ fn sift_rows(
     }
 }
 
-/// The certain rows of a pair, ascending and each once.
-///
-/// # Errors
-///
-/// `NoMemory` where memory is refused.
-pub fn certain_by_pairs(alloc: Global, db: &Database, query: &Query) -> Result<Items<Row>, NoMemory>
+/// The certain rows of a pair without answer columns: the row without values, or none.
+fn of_no_columns(alloc: Global, db: &Database, query: &Query) -> Result<Items<Row>, NoMemory>
+    requires pair { IsPair query.now }
+    requires fits { FitsDatabase query.now db.now }
+    requires none { query.now.answer ≡ [] }
+    ensures { IfOk result (IsCertainAnswer db.now query.now) }
+{
+    let row = Row::new(alloc);
+    let mut answers = Items::new(alloc);
+    if is_certain(alloc, db, query, &row)? {
+        answers.push(row)?;
+    }
+    Ok(answers)
+}
+
+/// The certain ones of the candidates.
+fn of_candidates(alloc: Global, db: &Database, query: &Query) -> Result<Items<Row>, NoMemory>
     requires pair { IsPair query.now }
     requires fits { FitsDatabase query.now db.now }
     ensures { IfOk result (IsCertainAnswer db.now query.now) }
@@ -178,5 +175,22 @@ pub fn certain_by_pairs(alloc: Global, db: &Database, query: &Query) -> Result<I
             drop(answers);
             Err(fault)
         }
+    }
+}
+
+/// The certain rows of a pair, ascending and each once.
+///
+/// # Errors
+///
+/// `NoMemory` where memory is refused.
+pub fn certain_by_pairs(alloc: Global, db: &Database, query: &Query) -> Result<Items<Row>, NoMemory>
+    requires pair { IsPair query.now }
+    requires fits { FitsDatabase query.now db.now }
+    ensures { IfOk result (IsCertainAnswer db.now query.now) }
+{
+    if query.answer.is_empty() {
+        of_no_columns(alloc, db, query)
+    } else {
+        of_candidates(alloc, db, query)
     }
 }

@@ -1,24 +1,23 @@
 -- Clauses under ids, and logs that grow by steps that follow.
-use Rattle.std.proofs.Common.{◌≡◌, ◌≢◌, ◌⊎◌, inl, inr, ℕ, zero, suc, ◌+◌, ◌<◌, ◌≤◌, ℤ, pos, negsuc, List, [], ◌∷◌, ◌++◌, length, map, get_or, slice_get, refl, ap, sym, ◌∙◌, subst, arith, Option, Some, None, true≢false, Contains, append_assoc, length-append}
-use native.Mathlib.Decide.{ℕ_discrete}
+use Rattle.std.proofs.Common.{◌≡◌, ◌⊎◌, inl, inr, ℕ, zero, suc, ◌+◌, ◌<◌, ◌≤◌, ℤ, pos, negsuc, List, [], ◌∷◌, ◌++◌, length, map, slice_get, refl, ap, sym, ◌∙◌, subst, arith, Option, Some, Contains, append_assoc, length-append}
 use Rattle.std.proofs.lemmas.List.{append-nil, length-map}
-use Rattle.std.proofs.lemmas.List.Elements.{Contains-append_cases, Contains-append_right}
+use Rattle.std.proofs.lemmas.List.Elements.{Contains-append_cases}
 use Rattle.std.proofs.lemmas.Map.{update_here, update_apart}
-use Rattle.std.proofs.lemmas.Option.{slice_get-get_or, slice_get_within}
+use Rattle.std.proofs.lemmas.Option.{slice_get_within}
 use Rattle.cnf_form.specs.declared.formula.Lit.{Lit}
 use Rattle.cnf_form.specs.declared.formula.Clause.{Clause}
 use Rattle.cnf_form.specs.declared.formula.Cnf.{Cnf}
 use Rattle.cnf_form.specs.declared.log.Step.{Step}
 use Rattle.cnf_form.specs.declared.log.Step.TheVariants.{Add, Delete}
-use Rattle.cnf_form.specs.Literals.{literals, opposite, Denied, AllDenied}
-use Rattle.cnf_form.specs.Logs.{Live, HintsPass, StepsPass, Passes, Refutes, added, numbered, with_clause}
+use Rattle.cnf_form.specs.Literals.{literals, opposite}
+use Rattle.cnf_form.specs.Logs.{Live, HintsPass, StepsPass, Refutes, added, numbered, with_clause}
 use Rattle.cdcl.specs.Outcomes.{AreConsecutive}
-use Rattle.cqa_model.proofs.Classic.{mem-head, mem-tail, mem-nil, mem-cases}
+use Rattle.cqa_model.proofs.Classic.{mem-nil}
 use Rattle.repair_clauses.proofs.Numbers.{at_place}
 use Rattle.pair_formula.specs.declared.graph.Pair.{Pair}
 use Rattle.pair_formula.specs.Graph.{positive, negative, not_both, graph_clauses, block_at}
-use Rattle.pair_formula.specs.Edges.{pair_at, no_pair}
-use Rattle.pair_refutation.specs.Refuting.{all_clauses, StepFollows, StepsFollow, IsIdOf, IsSoFar, Keeps, IsLost, option_at}
+use Rattle.pair_formula.specs.Edges.{pair_at}
+use Rattle.pair_refutation.specs.Refuting.{all_clauses, StepFollows, StepsFollow, IsIdOf, IsSoFar, Keeps}
 
 -- ---- clauses by their ids
 

@@ -1,25 +1,23 @@
 -- Variables that are found to be false, and blocks that get shorter by them.
-use Rattle.std.proofs.Common.{◌≡◌, ◌≢◌, ◌⊎◌, inl, inr, ℕ, zero, suc, ◌+◌, ◌<◌, ◌≤◌, ℤ, pos, negsuc, List, [], ◌∷◌, ◌++◌, length, map, get_or, set, refl, ap, sym, ◌∙◌, subst, arith, Option, Some, None, Result, Ok, Err, OnOk, true≢false, Contains, slice_index, length-append}
+use Rattle.std.proofs.Common.{◌≡◌, ◌≢◌, ◌⊎◌, inl, inr, ℕ, ◌+◌, ◌<◌, ◌≤◌, ℤ, pos, negsuc, List, [], ◌∷◌, ◌++◌, length, map, get_or, set, refl, ap, sym, ◌∙◌, subst, arith, Option, Some, None, Result, Ok, Err, OnOk, true≢false, Contains, slice_index, length-append}
 use native.Mathlib.Decide.{ℕ_discrete}
 use Rattle.std.proofs.lemmas.List.{get_or-set_same, get_or-set_other, get_or_default, get_or_append_left, get_or-append-add, length-set}
 use Rattle.std.proofs.lemmas.List.Elements.{Contains-get_or, Contains-append_cases, Contains-append_left, Contains-push}
 use Rattle.cnf_form.specs.declared.formula.Lit.{Lit}
-use Rattle.cnf_form.specs.declared.formula.Clause.{Clause}
 use Rattle.cnf_form.specs.declared.formula.Cnf.{Cnf}
 use Rattle.cnf_form.specs.declared.log.Step.{Step}
 use Rattle.cnf_form.specs.declared.log.Step.TheVariants.{Add}
 use Rattle.cnf_form.specs.Literals.{literals, opposite}
 use Rattle.cnf_form.specs.Logs.{Live, HintsPass, Refutes, added, numbered}
-use Rattle.cdcl.specs.Outcomes.{AreConsecutive}
 use Rattle.cqa_model.proofs.Classic.{mem-head, mem-tail, mem-nil, mem-cases}
 use Rattle.repair_clauses.proofs.Numbers.{in_map, from_map}
-use Rattle.weak_pairs.specs.Peeling.{IsBlock, In, AreBlocked, IsForced, IsStuck}
+use Rattle.weak_pairs.specs.Peeling.{IsBlock, In, IsForced, IsStuck}
 use Rattle.pair_formula.specs.declared.graph.Pair.{Pair}
 use Rattle.pair_formula.specs.declared.graph.Graph.{Graph}
 use Rattle.pair_formula.specs.Graph.{positive, negative, not_both, graph_clauses, Meet, AreAdjacent, block_at}
 use Rattle.pair_formula.specs.Edges.{pair_at, no_pair}
 use Rattle.pair_formula.specs.Formulas.{IsReadTo}
-use Rattle.pair_refutation.specs.Refuting.{IsOf, IsLastOf, option_at, all_clauses, IsIdOf, Keeps, IsSoFar, IsLost, StayLost, AreHintsOf, ArePairHints, AreLostHints, AreLeft, IsLeftOf, IsMet, MeetsAlike, AreMarked, AreBlocksOf}
+use Rattle.pair_refutation.specs.Refuting.{IsOf, IsLastOf, option_at, all_clauses, IsIdOf, Keeps, IsSoFar, IsLost, StayLost, AreHintsOf, AreLostHints, AreLeft, IsLeftOf, IsMet, MeetsAlike, AreMarked, AreBlocksOf}
 use Rattle.pair_formula.proofs.Collecting.{graph-some}
 use Rattle.pair_formula.proofs.Rowing.{row-block}
 use Rattle.pair_refutation.proofs.Chaining.{IsFollowed}

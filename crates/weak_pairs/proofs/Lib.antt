@@ -3,6 +3,8 @@ pub mod Choices
 pub mod Peeling
 pub mod Numbered
 pub mod Edges
+pub mod Picking
+pub mod Chaining
 pub mod RowKeys
 pub mod Laying
 pub mod Results

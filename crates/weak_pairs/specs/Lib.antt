@@ -2,5 +2,6 @@ pub mod Pairs
 pub mod Peeling
 pub mod Numbering
 pub mod Outcomes
+pub mod Digests
 pub mod EdgeNumbers
 pub mod Layout

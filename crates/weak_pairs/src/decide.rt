@@ -1,5 +1,6 @@
 //! Deciding numbered rows.
-//! Edges are numbered, their ends found, and a row is chosen of each block, all in a time linear in the rows but for a map.
+//! Edges are numbered, their ends found, and a row is chosen of each block, all in a time linear in the rows, as long as the
+//! hashes of their values spread.
 
 ghost use Rattle.std.specs.Prelude.{◌≡◌, ◌+◌, ◌<◌, ◌^◌, IfOk, length};
 ghost use Rattle.weak_pairs.specs.Outcomes.{AreSided, AreStarts, IsDecided};
@@ -7,7 +8,8 @@ ghost use Rattle.weak_pairs.specs.Outcomes.{AreSided, AreStarts, IsDecided};
 use crate::edge_map::edge_numbers;
 use crate::layout::edge_ends;
 use crate::peel::{Outcome, choose};
-use cqa_value::{NoMemory, Row};
+use crate::picked::Picked;
+use cqa_value::NoMemory;
 use std::alloc::Global;
 
 /// What is decided of a row: it is certain, or these rows, one of each block, are kept in a repair without a witness of it.
@@ -25,7 +27,7 @@ pub enum Decision {
 /// `NoMemory` where memory is refused.
 pub fn decide_rows(
     alloc: Global,
-    lists: &[Option<Row>],
+    lists: &[Option<Picked<'_>>],
     start: &[u32],
     blocks: u32,
     split: u32,

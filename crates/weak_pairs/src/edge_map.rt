@@ -1,33 +1,113 @@
 //! Numbering the edges of rows.
 //! Rows with one list of values have one edge, and each row without a list has an edge of its own.
 
-ghost use Rattle.std.specs.Prelude.{◌≡◌, ◌+◌, ◌<◌, ◌^◌, ℕ, IfOk, length, slice_index};
-ghost use Rattle.std.specs.BTreeMap.{get};
-ghost use Rattle.cqa_value.specs.Values.{row_cmp};
-ghost use Rattle.weak_pairs.specs.EdgeNumbers.{IsNext};
+ghost use Rattle.std.specs.Prelude.{◌≡◌, ◌+◌, ◌<◌, ◌≤◌, ◌^◌, ◌↔◌, ℕ, [], IfOk, IsTrue, OnOk, length, replicate, slice_index};
+ghost use Rattle.weak_pairs.specs.Digests.{bucket_at, bucket_count, bucket_of};
+ghost use Rattle.weak_pairs.specs.EdgeNumbers.{AreChained, HaveOne, IsLinked, IsNext, IsSameBefore};
 ghost use Rattle.weak_pairs.specs.Numbering.{AreEdges};
 
-use cqa_value::{NoMemory, Row};
+use crate::picked::Picked;
+use cqa_value::NoMemory;
 use std::alloc::Global;
-use std::collections::BTreeMap;
 
-/// The number of a row's edge: that of its list, and else the next one.
-fn number(
-    alloc: Global,
-    map: &mut BTreeMap<Row, u32>,
-    list: &Option<Row>,
-    count: u32,
-) -> Result<u32, NoMemory>
-    ensures { IfOk result (λ e. IsNext (get row_cmp map.old) (get row_cmp map.new) list.now count e) }
+/// The bucket of a list; what is no list is in none.
+fn bucket(list: &Option<Picked<'_>>, buckets: usize) -> usize
+    requires { 0 < buckets }
+    ensures { result ≡ bucket_of buckets list.now }
 {
-    let Some(row) = list else {
-        return Ok(count);
-    };
-    if let Some(e) = map.get(row) {
-        return Ok(*e);
+    match list {
+        None => buckets,
+        Some(values) => (values.digest() % buckets as u64) as usize,
     }
-    map.insert(row.copy(alloc)?, count)?;
-    Ok(count)
+}
+
+/// Puts a row behind those of its bucket, and answers the place behind the last one of these.
+fn link(last: &mut [u32], bucket: usize, at: u32) -> u32
+    requires { at + 1 < 2 ^ 32 }
+    ensures { IsLinked last.old last.new bucket at result }
+{
+    if bucket >= last.len() {
+        return 0;
+    }
+    let before = last[bucket];
+    last[bucket] = at + 1;
+    before
+}
+
+/// Chains the rows, each to the last one before it in its bucket.
+fn chain(
+    lists: &[Option<Picked<'_>>],
+    last: &mut [u32],
+    before: &mut Vec<u32>,
+) -> Result<(), NoMemory>
+    requires few { length lists.now < 2 ^ 32 }
+    requires none { last.old ≡ replicate (bucket_count (length lists.now)) 0 }
+    requires first { before.old.items ≡ [] }
+    ensures { OnOk result (AreChained (bucket_at lists.now) (bucket_count (length lists.now)) (length lists.now) before.new.items) }
+{
+    for at in 0..lists.len() {
+        let its = bucket(&lists[at], last.len());
+        let behind = link(last, its, at as u32);
+        before.push(behind)?;
+    }
+    Ok(())
+}
+
+/// For each row the place behind the last row before it in its bucket, and 0 where there is none.
+fn chains(alloc: Global, lists: &[Option<Picked<'_>>]) -> Result<Vec<u32>, NoMemory>
+    requires { length lists.now < 2 ^ 32 }
+    ensures { IfOk result (λ before. AreChained (bucket_at lists.now) (bucket_count (length lists.now)) (length lists.now) before.items) }
+{
+    let count = lists.len();
+    let mut last = vec![in alloc; 0; 2 * count + 1]?;
+    let mut before = Vec::with_capacity(alloc, count)?;
+    chain(lists, &mut last, &mut before)?;
+    Ok(before)
+}
+
+/// Whether two rows have one list.
+fn have_one(lists: &[Option<Picked<'_>>], i: u32, j: u32) -> bool
+    requires first { i < length lists.now }
+    requires second { j < length lists.now }
+    ensures { IsTrue result ↔ HaveOne lists.now i j }
+{
+    let Some(x) = &lists[i as usize] else {
+        return false;
+    };
+    let Some(y) = &lists[j as usize] else {
+        return false;
+    };
+    x.is_same(y)
+}
+
+/// A row before this one with the same list.
+fn same_before(lists: &[Option<Picked<'_>>], before: &[u32], at: u32) -> Option<u32>
+    requires there { at < length lists.now }
+    requires chained { AreChained (bucket_at lists.now) (bucket_count (length lists.now)) (length lists.now) before.now }
+    ensures { IsSameBefore lists.now at result }
+{
+    let mut left = before[at as usize];
+    'back: while left > 0 {
+        let place = left - 1;
+        if have_one(lists, place, at) {
+            return Some(place);
+        }
+        left = before[place as usize];
+    }
+    None
+}
+
+/// The number of a row's edge: that of a row before with the same list, and else the next one.
+fn number(lists: &[Option<Picked<'_>>], before: &[u32], edge: &[u32], at: u32, count: u32) -> u32
+    requires there { at < length lists.now }
+    requires chained { AreChained (bucket_at lists.now) (bucket_count (length lists.now)) (length lists.now) before.now }
+    requires numbered { length edge.now ≡ at }
+    ensures { IsNext lists.now edge.now at count result }
+{
+    match same_before(lists, before, at) {
+        Some(place) => edge[place as usize],
+        None => count,
+    }
 }
 
 /// The number of each row's edge, and how many numbers there are: rows with one list have one number, and each row without a
@@ -36,18 +116,21 @@ fn number(
 /// # Errors
 ///
 /// `NoMemory` where memory is refused.
-pub fn edge_numbers(alloc: Global, lists: &[Option<Row>]) -> Result<(Vec<u32>, u32), NoMemory>
+pub fn edge_numbers(
+    alloc: Global,
+    lists: &[Option<Picked<'_>>],
+) -> Result<(Vec<u32>, u32), NoMemory>
     requires { length lists.now < 2 ^ 32 }
     ensures edges { IfOk result (λ r. AreEdges lists.now (length lists.now) r.0.items) }
     ensures size { IfOk result (λ r. length r.0.items ≡ length lists.now) }
     ensures small { IfOk result (λ r. (i : ℕ) → i < length lists.now → slice_index r.0.items i < r.1) }
     ensures used { IfOk result (λ r. (e : ℕ) → e < r.1 → (i : ℕ) × (i < length lists.now) × (slice_index r.0.items i ≡ e)) }
 {
-    let mut map = BTreeMap::new(alloc);
-    let mut edge = Vec::new(alloc);
+    let before = chains(alloc, lists)?;
+    let mut edge = Vec::with_capacity(alloc, lists.len())?;
     let mut count = 0;
-    for list in lists {
-        let e = number(alloc, &mut map, list, count)?;
+    for at in 0..lists.len() as u32 {
+        let e = number(lists, &before, &edge, at, count);
         edge.push(e)?;
         if e == count {
             count += 1;

@@ -57,7 +57,8 @@ pub fn edge_ends(
     requires blocks { blocks + 1 ≡ length start.now }
     requires rows { AreRows start.now edge.now count }
     requires one_sided { IsOneSided start.now edge.now split }
-    ensures { IfOk result (λ ends. AreLaidOut start.now edge.now ends.items) }
+    ensures laid { IfOk result (λ ends. AreLaidOut start.now edge.now ends.items) }
+    ensures size { IfOk result (λ ends. length ends.items ≡ count) }
 {
     let mut ends = no_ends(alloc, count)?;
     for v in 0..blocks {

@@ -7,8 +7,10 @@ mod edge_map;
 pub mod laws;
 mod layout;
 mod peel;
+mod picked;
 
 pub use decide::{Decision, decide_rows};
 pub use edge_map::edge_numbers;
 pub use layout::edge_ends;
 pub use peel::{Ends, Outcome, Watch, choose};
+pub use picked::Picked;

@@ -1,4 +1,4 @@
-use Rattle.std.proofs.Common.{arith, ◌+◌, ◌++◌, ◌∷◌, [], length, sym, subst}
+use Rattle.std.proofs.Common.{arith, ◌+◌, ◌++◌, ◌∷◌, [], sym, subst}
 use Rattle.row_cursor.specs.Blocks.{blocks_left}
 use Rattle.pair_answers.proofs.Walking.{AreEndsSoFar, one-more, few-ends}
 use Rattle.pair_answers.proofs.starts.append_ends.Goals as goal

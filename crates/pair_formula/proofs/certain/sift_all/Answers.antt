@@ -1,8 +1,8 @@
 use Rattle.std.proofs.Common.{◌∙◌, sym, subst}
 use Rattle.std.proofs.lemmas.List.{nil_from_length}
 use Rattle.std.specs.Vec.Iter.{into_iter_items}
-use Rattle.repair_clauses.specs.Searching.{AreCandidates}
-use Rattle.repair_clauses.proofs.Searching.{has_length}
+use Rattle.repair_clauses.specs.Candidates.{AreCandidates}
+use Rattle.repair_clauses.proofs.Candidates.{has_length}
 use Rattle.pair_formula.specs.Sifting.{AreSifted}
 use Rattle.pair_formula.proofs.Sieving.{AreDone, done-none, done-more, done-all, next-candidate}
 use Rattle.pair_formula.proofs.certain.sift_all.Goals as goal

@@ -1,4 +1,4 @@
-use Rattle.std.proofs.Common.{ℕ, ◌<◌, ◌+◌, length, refl, arith, slice_index}
+use Rattle.std.proofs.Common.{◌<◌, ◌+◌, length, refl, arith, slice_index}
 use Rattle.pair_refutation.proofs.Logging.{follow-consecutive}
 use Rattle.pair_refutation.proofs.Losing.{rows-below, end-refutes}
 use Rattle.pair_refutation.proofs.refuting.follow_all.Goals as goal

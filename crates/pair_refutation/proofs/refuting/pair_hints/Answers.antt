@@ -1,6 +1,6 @@
-use Rattle.std.proofs.Common.{length, refl, sym, subst, arith, ◌+◌, ◌∙◌}
+use Rattle.std.proofs.Common.{sym, subst, arith}
 use Rattle.pair_refutation.specs.Refuting.{IsLastOf, ArePairHints}
-use Rattle.pair_refutation.proofs.Chaining.{IsFollowed, hints-none, hints-more, hints-all}
+use Rattle.pair_refutation.proofs.Chaining.{hints-more}
 use Rattle.pair_refutation.proofs.refuting.pair_hints.Goals as goal
 
 pub chain-preserved : goal.chain-preserved

@@ -1,4 +1,4 @@
-use Rattle.std.proofs.Common.{ℕ, List, Option, None, ◌≡◌, ◌≤◌, ◌<◌, ◌+◌, ◌∙◌, length, ap, sym, subst, arith, slice_index}
+use Rattle.std.proofs.Common.{ℕ, List, None, ◌≡◌, ◌<◌, ◌+◌, length, ap, sym, subst, arith, slice_index}
 use Rattle.pair_refutation.specs.Refuting.{option_at}
 use Rattle.pair_refutation.proofs.Losing.{row-var-small, rows-within, rows-rise, own-left, short-step, left-as, lost-as, read-at}
 use Rattle.pair_refutation.proofs.refuting.shorten.Goals as goal

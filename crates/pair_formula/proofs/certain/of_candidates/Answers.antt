@@ -1,8 +1,8 @@
 use Rattle.std.proofs.Common.{sym, subst}
 use Rattle.cqa_model.specs.Certain.{IsCertainAnswer}
-use Rattle.repair_clauses.proofs.Searching.{candidates_are}
+use Rattle.repair_clauses.proofs.Candidates.{candidates_are}
 use Rattle.pair_formula.proofs.Sieving.{answer-is}
-use Rattle.pair_formula.proofs.certain.certain_by_pairs.Goals as goal
+use Rattle.pair_formula.proofs.certain.of_candidates.Goals as goal
 
 pub sift_rows-requires-clause-rows : goal.sift_rows-requires-clause-rows
 sift_rows-requires-clause-rows c =
