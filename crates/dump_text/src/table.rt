@@ -1,6 +1,6 @@
 //! The statements that make a table with its rows.
 
-ghost use Rattle.std.specs.Prelude.{◌≡◌, ◌++◌, OnOk, not};
+ghost use Rattle.std.specs.Prelude.{◌≡◌, ◌++◌, IfOk, OnOk, not};
 ghost use Rattle.std.specs.List.{flat_map, list_any};
 ghost use Rattle.csv_rows.specs.Ends.{other_rows, plain_rows, row_has_end};
 ghost use Rattle.csv_rows.specs.Texts.{rows_bytes};
@@ -13,23 +13,25 @@ use row_pieces::Rows;
 use std::alloc::Global;
 use std::mem;
 
-/// Appends the statements that make a table with its rows: it is made, the rows that can stand in a block of CSV are
-/// copied, and each other row is inserted.
+/// A text with the statements behind it that make a table with its rows: it is made, the rows that can stand in a block
+/// of CSV are copied, and each other row is inserted.
 ///
 /// # Errors
 ///
-/// `NoMemory` where memory is refused.
+/// `NoMemory` where memory is refused. The text is gone then.
 pub fn append_table(
     alloc: Global,
     schema: &Schema,
     rows: &Rows<'_>,
-    out: &mut Vec<u8>,
-) -> Result<(), NoMemory>
-    ensures { OnOk result (out.new.items ≡ out.old.items ++ table_text schema.now rows.now) }
+    text: Vec<u8>,
+) -> Result<Vec<u8>, NoMemory>
+    ensures { IfOk result (λ out. out.items ≡ text.items ++ table_text schema.now rows.now) }
 {
-    append_create(schema, out)?;
-    append_copy(alloc, &schema.name, rows, out)?;
-    append_inserts(&schema.name, rows, out)
+    let mut out = text;
+    append_create(schema, &mut out)?;
+    append_copy(alloc, &schema.name, rows, &mut out)?;
+    append_inserts(&schema.name, rows, &mut out)?;
+    Ok(out)
 }
 
 /// Appends the statement that makes a table.
