@@ -8,6 +8,7 @@ mod Modelled
 mod Naming
 mod LineSteps
 pub mod Sayings
+mod Spending
 pub mod TableLines
 pub mod Valid
 mod Pairing

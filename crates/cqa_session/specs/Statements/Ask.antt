@@ -7,7 +7,7 @@ use Rattle.cqa_model.specs.declared.refusal.Refusal.TheVariants.{WitnessLimit, S
 use Rattle.cqa_model.specs.Database.{Table}
 use Rattle.cqa_model.specs.Certain.{IsCandidate, IsCertainAnswer}
 use Rattle.join_witness.specs.Listing.{HasTooMany}
-use Rattle.repair_clauses.specs.Searching.{NoneBefore}
+use Rattle.search_answers.specs.Searching.{NoneBefore}
 use Rattle.spj_syntax.specs.declared.tree.Select.{Select}
 use Rattle.query_resolve.specs.Resolved.{IsQueryOf}
 use Rattle.reply_text.specs.declared.reply.Reply.{Reply}

@@ -1,10 +1,13 @@
 -- A search that used up its budget.
-use Rattle.std.specs.Prelude.{◌≡◌, ℕ, List, Some}
+use Rattle.std.specs.Prelude.{◌≡◌, ℕ, ◌<◌, ◌≤◌, ◌^◌, List, Some}
 use Rattle.cqa_value.specs.declared.value.Value.{Value}
 use Rattle.cqa_model.specs.declared.query.Query.{Query}
 use Rattle.cqa_model.specs.Variables.{whole}
 use Rattle.cqa_model.specs.Graph.{HasCycle}
-use Rattle.repair_clauses.specs.Searching.{IsSpentFor}
+use Rattle.cnf_form.specs.declared.formula.Cnf.{Cnf}
+use Rattle.cnf_form.specs.Literals.{literals}
+use Rattle.cnf_form.specs.Propagation.{ReachesEmpty, StaysOpen}
+use Rattle.search_answers.specs.Searching.{IsSpentFor}
 use Rattle.weak_pairs.specs.Pairs.{IsPair}
 use Rattle.reply_text.specs.declared.reply.Proof.{Proof}
 use Rattle.cqa_session.specs.State.{State}
@@ -17,9 +20,18 @@ HasNoPlan q = HasCycle q (whole q)
 abbrev pub NeedsSearch : Query → Type 0
 NeedsSearch q = HasNoPlan q × (IsPair q → ⊥)
 
--- The budget is used up for a candidate. Its formula is kept with a spent log for the budget, as the last log.
+-- Only so can a budget be used up for a formula of v variables: it is under 3^v, and propagation alone neither refutes the
+-- formula nor gives every variable a value.
+pub record IsDue (cnf : Cnf) (budget : ℕ) : Type 0 where
+  pub under : budget < 3 ^ cnf.vars
+  pub unrefuted : ReachesEmpty (literals cnf.clauses) → ⊥
+  pub free : (v : ℕ) × (1 ≤ v) × (v ≤ cnf.vars) × StaysOpen (literals cnf.clauses) v
+
+-- The budget is used up for a candidate, for whose formula it can be. The formula is kept with a spent log for the budget,
+-- as the last log.
 pub record SpendsAt (old : State) (q : Query) (row : List Value) (conflicts : ℕ) (new : State) : Type 0 where
   pub proof : Proof
   pub spent : IsSpentFor q old.tables old.budget row proof.cnf proof.log
+  pub due : IsDue proof.cnf old.budget
   pub told : conflicts ≡ old.budget
   pub keeps : new ≡ record old { last_log = Some proof }

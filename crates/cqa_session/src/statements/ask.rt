@@ -3,7 +3,7 @@
 
 ghost use Rattle.cqa_model.specs.Query.{FitsDatabase};
 ghost use Rattle.query_resolve.specs.Checks.{query_fault};
-ghost use Rattle.repair_clauses.specs.Searching.{IsSearched, IsStop};
+ghost use Rattle.search_answers.specs.Searching.{IsSearched, IsStop};
 ghost use Rattle.weak_pairs.specs.Pairs.{IsPair};
 ghost use Rattle.cqa_session.specs.Replying.{Replies, IsOutcome};
 ghost use Rattle.cqa_session.specs.Statements.Ask.{AnswersCertain, StopsAt, TellsCertain};
@@ -16,8 +16,8 @@ use pair_answers::is_pair;
 use pair_formula::certain_by_pairs;
 use plan_answers::certain_by_plan;
 use query_resolve::resolve;
-use repair_clauses::{Searched, Stop, certain_by_search};
 use reply_text::{Proof, Reply};
+use search_answers::{Searched, Stop, certain_by_search};
 use spj_syntax::Select;
 use std::alloc::Global;
 

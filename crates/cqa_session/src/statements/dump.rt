@@ -18,12 +18,7 @@ pub fn dump(alloc: Global, session: &Session) -> Result<Reply, Fail<Refusal>>
     let database = session.database();
     let mut script = Vec::new(alloc);
     for table in 0..database.count() {
-        append_table(
-            alloc,
-            database.schema(table),
-            &database.rows(table),
-            &mut script,
-        )?;
+        script = append_table(alloc, database.schema(table), &database.rows(table), script)?;
     }
     Ok(Reply::Dumped(Items::from_vec(script)))
 }

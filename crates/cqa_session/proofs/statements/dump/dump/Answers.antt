@@ -8,8 +8,8 @@ use Rattle.cqa_session.proofs.statements.dump.dump.Goals as goal
 pub loop-table-preserved : goal.loop-table-preserved
 loop-table-preserved c =
     let db = c.database-database.result.now in
-    next_table db c.loop-table.table c.schema.result.now c.rows.result c.loop-table.script.items c.append_table.new.out.items
-    (subst (λ n. c.loop-table.table < n) c.count-table-end.ensures.count c.loop-table-test.true) c.schema.ensures.is c.rows.ensures.is c.loop-table.invariant c.in_ok-append_table.ensures
+    next_table db c.loop-table.table c.schema.result.now c.rows.result c.loop-table.script.items c.in_ok-script.script.items
+    (subst (λ n. c.loop-table.table < n) c.count-table-end.ensures.count c.loop-table-test.true) c.schema.ensures.is c.rows.ensures.is c.loop-table.invariant c.in_ok-script.ensures
 
 pub returns : goal.returns
 returns c =
