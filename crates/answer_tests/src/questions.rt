@@ -1,12 +1,12 @@
 //! Questions over two tables that attack each other weakly, and over others, with tables that are made of statements.
-//! Each is decided, and what comes of it is compared.
+//! Each is decided, with its repair and without, and what comes of it is compared.
 
 ghost use Rattle.cqa_model.specs.Query.{FitsDatabase};
 
 use crate::making::{Wanted, is_answered};
 use cqa_model::{Query, RowId};
 use cqa_value::Row;
-use pair_answers::{decide, is_pair};
+use pair_answers::{decide, is_certain, is_pair};
 use std::alloc::Global;
 use table_blocks::Database;
 
@@ -39,7 +39,7 @@ fn decided(alloc: Global, db: &Database, query: &Query, row: &Row) -> Shown
     if query.answer.len() != row.len() as usize {
         return Shown::Nothing;
     }
-    match decide(alloc, db, query, row) {
+    let shown = match decide(alloc, db, query, row) {
         Ok(Some(kept)) => {
             let shown = Shown::Rejected(kept.rows.len(), last_place(kept.rows.as_slice()));
             drop(kept);
@@ -47,6 +47,10 @@ fn decided(alloc: Global, db: &Database, query: &Query, row: &Row) -> Shown
         }
         Ok(None) => Shown::Certain,
         Err(_) => Shown::Nothing,
+    };
+    match is_certain(alloc, db, query, row) {
+        Ok(certain) if certain == (shown == Shown::Certain) => shown,
+        _ => Shown::Nothing,
     }
 }
 

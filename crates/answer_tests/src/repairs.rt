@@ -7,6 +7,7 @@ ghost use Rattle.repair_back.specs.Results.{AreStored};
 use crate::making::{Wanted, is_answered};
 use cqa_model::{Query, RowId};
 use cqa_value::{Row, Value};
+use fo_plan::holds;
 use fo_rewrite::plan_of;
 use repair_back::{Repair, contested, from_model, mend};
 use std::alloc::Global;
@@ -41,19 +42,20 @@ fn chooses(alloc: Global, db: &Database, repair: &Repair, places: Places) -> boo
     }
 }
 
-/// Whether a row is mended so, or is certain where nothing is wanted.
+/// Whether a row is mended so, or is certain where nothing is wanted; and whether the plan says the same of it.
 fn is_mended(alloc: Global, db: &Database, query: &Query, row: &Row, wanted: Option<Places>) -> bool
     requires fits { FitsDatabase query.now db.now }
     requires long { length row.now ≡ length query.now.answer }
 {
     match plan_of(alloc, query) {
         Ok(Some(plan)) => {
+            let held = holds(alloc, &plan, db, query, row);
             let found = mend(alloc, db, query, &plan, row);
             drop(plan);
             match (found, wanted) {
-                (Ok(None), None) => true,
+                (Ok(None), None) => held,
                 (Ok(Some(repair)), Some(places)) => {
-                    let right = chooses(alloc, db, &repair, places);
+                    let right = !held && chooses(alloc, db, &repair, places);
                     drop(repair);
                     right
                 }
@@ -126,9 +128,12 @@ const TABLES: [&str; 2] = [
 
 const JOINED: &str = "ask exists from r, s where r.y = s.y";
 
+const SELECTED: &str = "ask select s.z from r, s where r.y = s.y";
+
 /// A block whose other row meets none of the other table; both of whose rows meet one; whose first row meets a block of
-/// two, so that each of these is tried; and a row of the answer.
-const CASES: [Case; 4] = [
+/// two, so that each of these is tried; both rows of an answer, of which each repair has one; and a row of an answer that
+/// one repair hasn't, and one that all have.
+const CASES: [Case; 7] = [
     Case {
         rows: [
             "insert into r values (1, 1), (1, 2)",
@@ -164,10 +169,40 @@ const CASES: [Case; 4] = [
             "insert into r values (1, 1), (2, 2)",
             "insert into s values (1, 5), (1, 6)",
         ],
-        query: "ask select s.z from r, s where r.y = s.y",
+        query: SELECTED,
         row: Some(5),
         wanted: Some(&[(1, 1)]),
         first: &[(0, 0), (0, 1), (1, 0)],
+    },
+    Case {
+        rows: [
+            "insert into r values (1, 1), (2, 2)",
+            "insert into s values (1, 5), (1, 6)",
+        ],
+        query: SELECTED,
+        row: Some(6),
+        wanted: Some(&[(1, 0)]),
+        first: &[(0, 0), (0, 1), (1, 0)],
+    },
+    Case {
+        rows: [
+            "insert into r values (1, 1), (1, 2)",
+            "insert into s values (1, 5), (2, 5), (2, 6), (3, 5)",
+        ],
+        query: SELECTED,
+        row: Some(5),
+        wanted: Some(&[(0, 1), (1, 2)]),
+        first: &[(0, 0), (1, 0), (1, 1), (1, 3)],
+    },
+    Case {
+        rows: [
+            "insert into r values (1, 1), (1, 2)",
+            "insert into s values (1, 5), (2, 5)",
+        ],
+        query: SELECTED,
+        row: Some(5),
+        wanted: None,
+        first: &[(0, 0), (1, 0), (1, 1)],
     },
 ];
 

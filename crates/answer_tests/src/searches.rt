@@ -5,7 +5,7 @@ ghost use Rattle.cqa_model.specs.Query.{FitsDatabase};
 
 use crate::making::{Wanted, is_answered};
 use cqa_model::Query;
-use repair_clauses::{Searched, Stop, certain_by_search};
+use search_answers::{Searched, Stop, certain_by_search};
 use std::alloc::Global;
 use table_blocks::Database;
 
