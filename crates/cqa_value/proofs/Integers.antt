@@ -1,17 +1,18 @@
--- An integer is read as std reads it, but for a `+` in front.
+-- Which integer digits write, with a `-` in front or without.
 use mir.Syntax.{w64}
-use Rattle.std.proofs.Common.{◌≡◌, ◌≢◌, ◌==◌, ◌<◌, ◌^◌, ℕ, suc, Bool, true, false, cond, ◌&&◌, List, [], ◌∷◌, drop, slice_index, ℤ, pos, negsuc, neg_ℤ, Some, None, Result, Ok, Err, FitsSigned, refl, sym, ap, subst, ◌∙◌, arith, IsUtf8}
+use Rattle.std.proofs.Common.{◌≡◌, ◌==◌, ◌<◌, ◌^◌, ◌+◌, ℕ, zero, suc, Bool, true, false, cond, ◌&&◌, List, [], ◌∷◌, length, take, drop, slice_index, ℤ, pos, negsuc, neg_ℤ, ◌+ℤ◌, ◌-ℤ◌, Option, Some, None, FitsSigned, refl, sym, ap, subst, ◌∙◌, arith}
+use Rattle.std.proofs.Math.IntN.{+ℤ_idl}
 use Rattle.std.proofs.lemmas.Bool.Decides.{Decides-eqb, Decides-ltb}
-use Rattle.std.proofs.lemmas.Fmt.{IsAscii-from_digits, decimal_is_IsNumeral}
-use Rattle.std.proofs.lemmas.Str.{IsUtf8-from_ascii}
-use Rattle.std.proofs.lemmas.Str.Ascii.{IsAscii-cons}
-use Rattle.std.proofs.lemmas.Str.Parse.{IsNumeralModel, numerals_by_value, tells_all_ascii_digits, without_leading_plus_none, digit_from_value}
+use Rattle.std.proofs.lemmas.Fmt.{decimal_is_IsNumeral}
+use Rattle.std.proofs.lemmas.Int.Digits.{digits_value_more}
+use Rattle.std.proofs.lemmas.Str.Parse.{IsNumeralModel, numerals_by_value, tells_all_ascii_digits, digit_from_value, digit_at, digits_value-take-le}
 use Rattle.std.specs.Char.{digit_value}
 use Rattle.std.specs.Fmt.{decimal, signed_decimal}
-use Rattle.std.specs.Result.{result_ok}
-use Rattle.std.specs.Str.{IsAscii, all_ascii_digits}
-use Rattle.std.specs.Str.Parse.{IsNumeral, ParsesSigned, digits_value, without_leading_sign, without_leading_plus}
-use Rattle.cqa_value.specs.Literals.{are_digits, has_minus, without_minus, integer_of, is_in_range, int_of}
+use Rattle.std.specs.Int.{IsInRange}
+use Rattle.std.specs.Option.{SomeIff}
+use Rattle.std.specs.Str.{all_ascii_digits}
+use Rattle.std.specs.Str.Parse.{IsNumeral, digits_value}
+use Rattle.cqa_value.specs.Literals.{are_digits, has_minus, is_in_range, int_of}
 
 -- the crate's test for digits is std's
 own : IsNumeralModel (λ digits. all_ascii_digits digits ≡ true) (digits_value 10)
@@ -33,28 +34,13 @@ fits_to : (z : ℤ) → FitsSigned w64 z → is_in_range z ≡ true
 fits_to (pos n) f = (Decides-ltb n (2 ^ 63)).1 f.sfits
 fits_to (negsuc n) f = (Decides-ltb n (2 ^ 63)).1 f.sfits
 
-ascii_of : (first : ℕ) (rest : List ℕ) (minus : Bool) → (first == 45) ≡ minus → are_digits (cond minus rest (first ∷ rest)) ≡ true → IsAscii (first ∷ rest)
-ascii_of first rest true is e = IsAscii-cons first rest (omega (arith, (Decides-eqb first 45).0 is)) (IsAscii-from_digits rest (numeral_from rest e).1)
-ascii_of first rest false is e = IsAscii-from_digits (first ∷ rest) (numeral_from (first ∷ rest) e).1
+-- a byte that is no digit stands in no numeral
+pub no_numeral : (digits : List ℕ) (i : ℕ) → i < length digits → IsNumeral 10 digits → (IsInRange 48 57 (slice_index digits i) → ⊥) → ⊥
+no_numeral digits i within is deny = deny (digit_at digits i is.1 within)
 
-no_digits : (digits range : Bool) (z : ℤ) → (digits ≡ true → ⊥) → cond (digits && range) (Some z) None ≡ None
-no_digits true range z deny = absurd (deny refl)
-no_digits false range z deny = refl
-
--- bytes that are no UTF-8 write no integer
-pub foreign_is_none : (text : List ℕ) → (IsUtf8 text → ⊥) → int_of text ≡ None
-foreign_is_none [] deny = refl
-foreign_is_none (first ∷ rest) deny = no_digits (are_digits (without_minus (first ∷ rest))) (is_in_range (integer_of (first ∷ rest))) (integer_of (first ∷ rest))
-    (λ e. deny (IsUtf8-from_ascii (first ∷ rest) (ascii_of first rest (first == 45) refl e)))
-
--- a `+` begins no integer
-pub plus_is_none : (text : List ℕ) → slice_index text 0 ≡ 43 → None ≡ int_of text
-plus_is_none [] e = refl
-plus_is_none (first ∷ rest) e = rw e refl
-
-same_digits : (text : List ℕ) (minus : Bool) → slice_index text 0 ≢ 43 → cond minus (drop 1 text) (without_leading_plus text) ≡ cond minus (drop 1 text) text
-same_digits text true deny = refl
-same_digits text false deny = without_leading_plus_none text deny
+-- a digit behind a number that is too great
+pub too_great : (digits : List ℕ) (i : ℕ) → i < length digits → 922_337_203_685_477_580 < digits_value 10 (take i digits) → 2 ^ 63 < digits_value 10 digits
+too_great digits i within great = omega (arith, digits_value_more 10 digits i within, digits_value-take-le 10 digits (i + 1) (omega arith))
 
 -- both tests pass, or the result is none
 given : (digits range : Bool) (x z : ℤ) → digits ≡ true → range ≡ true → x ≡ z → Some x ≡ cond (digits && range) (Some z) None
@@ -67,23 +53,42 @@ refused true true z deny = absurd (deny refl refl)
 refused true false z deny = refl
 refused false range z deny = refl
 
-same_integer : (text digits : List ℕ) (minus : Bool) → digits ≡ without_minus text → cond minus (neg_ℤ (pos (digits_value 10 digits))) (pos (digits_value 10 digits)) ≡ cond minus (neg_ℤ (pos (digits_value 10 (without_minus text)))) (pos (digits_value 10 (without_minus text)))
-same_integer text digits minus e = rw e refl
+-- no integer in range
+deny_range : (z : ℤ) → (FitsSigned w64 z → ⊥) → is_in_range z ≡ true → ⊥
+deny_range z deny range = deny (fits_from z range)
 
--- with no `+` in front, what std reads is the integer
-pub parsed : {E : Type 0} (text : List ℕ) (r : Result ℤ E) → slice_index text 0 ≢ 43 → ParsesSigned w64 10 text r → result_ok r ≡ int_of text
-parsed text (Ok x) deny p =
-    let same = same_digits text (has_minus text) deny in
-    let z = same_integer text (without_leading_sign text) (has_minus text) same in
-    given (are_digits (without_minus text)) (is_in_range (integer_of text)) x (integer_of text)
-    (numeral_to (without_minus text) (subst (IsNumeral 10) same p.0.0))
-    (fits_to (integer_of text) (subst (FitsSigned w64) z p.0.1))
-    (p.1 ∙ z)
-parsed text (Err e) deny p =
-    let same = same_digits text (has_minus text) deny in
-    let z = same_integer text (without_leading_sign text) (has_minus text) same in
-    refused (are_digits (without_minus text)) (is_in_range (integer_of text)) (integer_of text)
-    (λ d r. p (subst (IsNumeral 10) (sym same) (numeral_from (without_minus text) d), subst (FitsSigned w64) (sym z) (fits_from (integer_of text) r)))
+over : (number : ℕ) → 2 ^ 63 < number → (FitsSigned w64 (pos number) → ⊥) × (FitsSigned w64 (neg_ℤ (pos number)) → ⊥)
+over (suc number) great = (λ f. omega (arith, f.sfits), λ f. omega (arith, f.sfits))
+over zero great = absurd (omega arith)
+
+-- digits with no `-` in front
+pub plain_none : (text : List ℕ) → has_minus text ≡ false → (IsNumeral 10 text → 2 ^ 63 < digits_value 10 text) → None ≡ int_of text
+plain_none text plain great = rw plain (refused (are_digits text) (is_in_range (pos (digits_value 10 text))) (pos (digits_value 10 text))
+    (λ digits range. deny_range (pos (digits_value 10 text)) (over (digits_value 10 text) (great (numeral_from text digits))).0 range))
+
+pub plain_found : (text : List ℕ) (number : ℕ) (found : Option ℤ) → has_minus text ≡ false → IsNumeral 10 text → number ≡ digits_value 10 text
+    → SomeIff found (FitsSigned w64 (pos 0 +ℤ pos number)) (pos 0 +ℤ pos number) → found ≡ int_of text
+plain_found text number None plain is value h = rw plain (refused (are_digits text) (is_in_range (pos (digits_value 10 text))) (pos (digits_value 10 text))
+    (λ _ range. h (subst (FitsSigned w64) (ap pos (sym value) ∙ sym (+ℤ_idl (pos number))) (fits_from (pos (digits_value 10 text)) range))))
+plain_found text number (Some x) plain is value h =
+    let same : pos 0 +ℤ pos number ≡ pos (digits_value 10 text) = +ℤ_idl (pos number) ∙ ap pos value in
+    rw plain (given (are_digits text) (is_in_range (pos (digits_value 10 text))) x (pos (digits_value 10 text))
+    (numeral_to text is) (fits_to (pos (digits_value 10 text)) (subst (FitsSigned w64) same h.0)) (h.1 ∙ same))
+
+-- digits behind a `-`
+pub minus_none : (text : List ℕ) → has_minus text ≡ true → (IsNumeral 10 (drop 1 text) → 2 ^ 63 < digits_value 10 (drop 1 text)) → None ≡ int_of text
+minus_none text minus great = let z = neg_ℤ (pos (digits_value 10 (drop 1 text))) in rw minus (refused (are_digits (drop 1 text)) (is_in_range z) z
+    (λ digits range. deny_range z (over (digits_value 10 (drop 1 text)) (great (numeral_from (drop 1 text) digits))).1 range))
+
+pub minus_found : (text : List ℕ) (number : ℕ) (found : Option ℤ) → has_minus text ≡ true → IsNumeral 10 (drop 1 text) → number ≡ digits_value 10 (drop 1 text)
+    → SomeIff found (FitsSigned w64 (pos 0 -ℤ pos number)) (pos 0 -ℤ pos number) → found ≡ int_of text
+minus_found text number None minus is value h = let z = neg_ℤ (pos (digits_value 10 (drop 1 text))) in rw minus (refused (are_digits (drop 1 text)) (is_in_range z) z
+    (λ _ range. h (subst (FitsSigned w64) (ap (λ n. neg_ℤ (pos n)) (sym value) ∙ sym (+ℤ_idl (neg_ℤ (pos number)))) (fits_from z range))))
+minus_found text number (Some x) minus is value h =
+    let z = neg_ℤ (pos (digits_value 10 (drop 1 text))) in
+    let same : pos 0 -ℤ pos number ≡ z = +ℤ_idl (neg_ℤ (pos number)) ∙ ap (λ n. neg_ℤ (pos n)) value in
+    rw minus (given (are_digits (drop 1 text)) (is_in_range z) x z
+    (numeral_to (drop 1 text) is) (fits_to z (subst (FitsSigned w64) same h.0)) (h.1 ∙ same))
 
 not_minus : (minus : Bool) (digit : ℕ) → (digit == 45) ≡ minus → digit_value digit < 10 → minus ≡ false
 not_minus true digit is small = absurd (omega (arith, (digit_from_value digit small).0, (Decides-eqb digit 45).0 is))

@@ -6,6 +6,7 @@ ghost use Rattle.std.specs.Io.{StartsWith};
 ghost use Rattle.std.specs.List.{join_by};
 ghost use Rattle.cqa_value.specs.Literals.{int_of, is_in_range, doubled, literal_bytes, row_bytes};
 
+use crate::digits::{begins_with_minus, read_minus, read_plain};
 use crate::{NoMemory, Row, Value};
 use itoa::Buffer;
 
@@ -15,10 +16,11 @@ pub fn read_int(bytes: &[u8]) -> Option<i64>
     ensures exact { result ≡ int_of bytes.now }
     ensures reads_written { (n : ℤ) → IsTrue (is_in_range n) → bytes.now ≡ signed_decimal n → result ≡ Some n }
 {
-    if bytes.first() == Some(&b'+') {
-        return None;
+    if begins_with_minus(bytes) {
+        read_minus(bytes)
+    } else {
+        read_plain(bytes)
     }
-    std::str::from_utf8(bytes).ok()?.parse().ok()
 }
 
 /// Appends a literal: an integer in decimal, a text between quotes with each quote in it doubled.
