@@ -1,12 +1,17 @@
 -- Where bytes lead, from mode to mode.
-use Rattle.std.proofs.Common.{◌≡◌, ◌+◌, ◌<◌, ◌==◌, ℕ, zero, suc, Bool, true, false, List, [], ◌∷◌, ◌++◌, length, take, get_or, refl, sym, ◌∙◌, ap, subst, arith, if◌then◌else◌}
+use Rattle.std.proofs.Common.{◌≡◌, ◌+◌, ◌<◌, ◌==◌, ℕ, zero, suc, Bool, true, false, not, ◌&&◌, List, [], ◌∷◌, ◌++◌, length, take, drop, get_or, refl, sym, ◌∙◌, ap, subst, arith, length-drop, if◌then◌else◌}
 use Rattle.std.proofs.lemmas.Bool.Decides.{nat_tests}
 use Rattle.std.proofs.lemmas.List.{take_more}
 use Rattle.script_lex.specs.declared.modes.Mode.{Mode}
 use Rattle.script_lex.specs.declared.modes.Mode.TheVariants.{Outside, Dash, Text, Comment}
-use Rattle.script_lex.specs.Bytes.{is_blank}
+use Rattle.script_lex.specs.declared.modes.Region.{Region}
+use Rattle.script_lex.specs.declared.modes.Region.TheVariants as regions
+use Rattle.script_lex.specs.declared.bytes.Class.{Class}
+use Rattle.script_lex.specs.declared.bytes.Class.TheVariants.{NotQuote, Plain}
+use Rattle.script_lex.specs.Bytes.{is_blank, quote, dash, semicolon, test_of, AllPass, Runs}
+use Rattle.script_lex.specs.ScriptParts.{passes_in, Reaches, Stays}
 use Rattle.script_lex.specs.Scripts.{after, is_outside, Leads, is_gap_byte, is_text_byte, IsGap, IsSpace, BeginsOutright, IsText}
-use Rattle.script_lex.proofs.Runs.{clash}
+use Rattle.script_lex.proofs.Runs.{clash, take_both}
 
 -- one byte more
 pub Leads-push : (test : Mode → ℕ → Bool) (from : Mode) (xs : List ℕ) (to : Mode) (b : ℕ) → Leads test from xs to → test to b ≡ true → Leads test from (xs ++ b ∷ []) (after to b)
@@ -19,6 +24,34 @@ Leads-more test bytes n from to lt h k = rw (take_more bytes n 0 lt) (Leads-push
 pub Leads-append : (test : Mode → ℕ → Bool) (from : Mode) (xs ys : List ℕ) (mid to : Mode) → Leads test from xs mid → Leads test mid ys to → Leads test from (xs ++ ys) to
 Leads-append test from [] ys mid to h k = subst (λ m. Leads test m ys to) (sym h) k
 Leads-append test from (x ∷ xs) ys mid to h k = (h.0, Leads-append test (after from x) xs ys mid to h.1 k)
+
+-- bytes of a class lead from a mode to itself
+Leads-still : (class : Class) (test : Mode → ℕ → Bool) (mode : Mode) → ((b : ℕ) → test_of class b ≡ true → (test mode b ≡ true) × (after mode b ≡ mode)) → (xs : List ℕ) → AllPass (test_of class) xs → Leads test mode xs mode
+Leads-still class test mode step [] h = refl
+Leads-still class test mode step (b ∷ xs) h = let s = step b h.0 in (s.0, subst (λ m. Leads test m xs mode) (sym s.1) (Leads-still class test mode step xs h.1))
+
+plain_stays : (q d s : Bool) → (not q && not d) && not s ≡ true → (not (true && s) ≡ true) × ((if q then Text else (if d then Dash else Outside)) ≡ Outside)
+plain_stays false false false h = (refl, refl)
+plain_stays false false true h = absurd (cc)
+plain_stays false true s h = absurd (cc)
+plain_stays true d s h = absurd (cc)
+
+text_stays : (q : Bool) → not q ≡ true → (if q then Outside else Text) ≡ Text
+text_stays false h = refl
+text_stays true h = absurd (cc)
+
+pub plain_leads : (bytes : List ℕ) (n : ℕ) → Runs Plain bytes n → Stays regions.Statement Outside bytes n
+plain_leads bytes n r = record { within = r.within; leads = Leads-still Plain is_text_byte Outside (λ b h. plain_stays (b == quote) (b == dash) (b == semicolon) h) (take n bytes) r.each }
+
+pub text_leads : (bytes : List ℕ) (n : ℕ) → Runs NotQuote bytes n → Stays regions.Statement Text bytes n
+text_leads bytes n r = record { within = r.within; leads = Leads-still NotQuote is_text_byte Text (λ b h. (refl, text_stays (b == quote) h)) (take n bytes) r.each }
+
+-- a place is reached behind bytes that leave its mode as it is
+pub reaches_on : (region : Region) (bytes : List ℕ) (at n : ℕ) (mode : Mode) → Reaches region bytes (record { at = at; mode = mode }) → Stays region mode (drop at bytes) n → Reaches region bytes (record { at = at + n; mode = mode })
+reaches_on region bytes at n mode h stays = record {
+  within = omega (arith, h.within, stays.within, length-drop at bytes);
+  leads = rw (take_both at n bytes) (Leads-append (passes_in region) Outside (take at bytes) (take n (drop at bytes)) mode mode h.leads stays.leads);
+}
 
 -- bytes that begin with others lead on from where those lead
 pub Leads-rest : (test other : Mode → ℕ → Bool) (from : Mode) (xs ys : List ℕ) (mid to : Mode) → Leads test from xs mid → Leads other from (xs ++ ys) to → Leads other mid ys to

@@ -1,8 +1,15 @@
 -- Runs of bytes that pass a test.
-use Rattle.std.proofs.Common.{◌≡◌, ◌+◌, ◌<◌, ◌≤◌, ℕ, zero, suc, Bool, true, false, List, [], ◌∷◌, ◌++◌, length, take, get_or, refl, ◌∙◌, ap, arith}
-use Rattle.std.proofs.lemmas.List.{take_more}
+use Rattle.std.proofs.Common.{◌≡◌, ◌+◌, ◌-◌, ◌<◌, ◌≤◌, ℕ, zero, suc, Bool, true, false, List, [], ◌∷◌, ◌++◌, length, take, drop, get_or, refl, sym, ◌∙◌, ap, subst, arith, length-drop}
+use Rattle.std.proofs.Math.Seq.{take-nil}
+use Rattle.std.proofs.lemmas.List.{take_more, drop-take}
 use Rattle.script_lex.specs.declared.bytes.Class.{Class}
 use Rattle.script_lex.specs.Bytes.{test_of, AllPass, Runs}
+
+-- the first bytes, and then some of the others
+pub take_both : (n m : ℕ) (bytes : List ℕ) → take (n + m) bytes ≡ take n bytes ++ take m (drop n bytes)
+take_both zero m bytes = let same : zero + m ≡ m = omega arith in ap (λ k. take k bytes) same
+take_both (suc n) m [] = take-nil (suc n + m) ∙ sym (take-nil m)
+take_both (suc n) m (b ∷ bytes) = let same : suc n + m ≡ suc (n + m) = omega arith in ap (λ k. take k (b ∷ bytes)) same ∙ ap (λ z. b ∷ z) (take_both n m bytes)
 
 pub clash : (b : Bool) → b ≡ true → b ≡ false → ⊥
 clash true h k = (cc)
@@ -49,3 +56,25 @@ run_stops class bytes n r lt = go (test_of class (get_or bytes n 0)) refl
     go : (t : Bool) → test_of class (get_or bytes n 0) ≡ t → t ≡ false
     go true e = absurd (r.stop (n + 1) (omega arith) (omega arith) (AllPass-more (test_of class) bytes n lt r.each e))
     go false e = refl
+
+AllPass-drop : (test : ℕ → Bool) (n : ℕ) (bytes : List ℕ) → AllPass test bytes → AllPass test (drop n bytes)
+AllPass-drop test zero bytes h = h
+AllPass-drop test (suc n) [] h = tt
+AllPass-drop test (suc n) (b ∷ bytes) h = AllPass-drop test n bytes h.1
+
+AllPass-append : (test : ℕ → Bool) (xs ys : List ℕ) → AllPass test xs → AllPass test ys → AllPass test (xs ++ ys)
+AllPass-append test [] ys h k = k
+AllPass-append test (x ∷ xs) ys h k = (h.0, AllPass-append test xs ys h.1 k)
+
+-- a run behind bytes of its class
+pub run_behind : (class : Class) (bytes : List ℕ) (known n : ℕ) → known ≤ length bytes → AllPass (test_of class) (take known bytes) → Runs class (drop known bytes) n → Runs class bytes (known + n)
+run_behind class bytes known n within each r =
+    let rest = length-drop known bytes in
+    record {
+      within = omega (arith, r.within, rest);
+      each = rw (take_both known n bytes) (AllPass-append (test_of class) (take known bytes) (take n (drop known bytes)) each r.each);
+      stop = λ m more le all. r.stop (m - known) (omega arith) (omega (arith, rest))
+          (subst (AllPass (test_of class)) (drop-take known (m - known) bytes)
+          (AllPass-drop (test_of class) known (take (known + (m - known)) bytes)
+          (subst (λ z. AllPass (test_of class) (take z bytes)) (omega arith) all)));
+    }

@@ -2,7 +2,7 @@
 use Rattle.std.specs.Prelude.{◌≡◌, ◌<◌, ◌≤◌, ◌==◌, ℕ, Bool, true, not, ◌&&◌, ◌||◌, nat_le, List, length, take}
 use Rattle.std.specs.List.{AllByRecursion}
 use Rattle.script_lex.specs.declared.bytes.Class.{Class}
-use Rattle.script_lex.specs.declared.bytes.Class.TheVariants.{Blank, LineBlank, Letter, Digit, WordByte, NotLineFeed}
+use Rattle.script_lex.specs.declared.bytes.Class.TheVariants.{Blank, LineBlank, Letter, Digit, WordByte, NotLineFeed, NotQuote, Plain}
 
 -- bytes that have a meaning outside words and numbers
 abbrev pub tab : ℕ
@@ -45,8 +45,17 @@ is_digit b = nat_le 48 b && nat_le b 57
 abbrev pub is_word_byte : ℕ → Bool
 is_word_byte b = is_letter b || is_digit b
 
+-- what a comment goes on with
 abbrev pub is_not_line_feed : ℕ → Bool
 is_not_line_feed b = not (b == line_feed)
+
+-- what a text goes on with
+abbrev pub is_not_quote : ℕ → Bool
+is_not_quote b = not (b == quote)
+
+-- neither a quote, nor a dash, nor a `;`
+abbrev pub is_plain : ℕ → Bool
+is_plain b = (not (b == quote) && not (b == dash)) && not (b == semicolon)
 
 abbrev pub test_of : Class → ℕ → Bool
 test_of Blank b = is_blank b
@@ -55,6 +64,8 @@ test_of Letter b = is_letter b
 test_of Digit b = is_digit b
 test_of WordByte b = is_word_byte b
 test_of NotLineFeed b = is_not_line_feed b
+test_of NotQuote b = is_not_quote b
+test_of Plain b = is_plain b
 
 -- each byte passes the test
 abbrev pub AllPass : (ℕ → Bool) → List ℕ → Type 0

@@ -21,6 +21,11 @@ pub record Reaches (region : Region) (bytes : List ℕ) (stop : Stop) : Type 0 w
   pub within : stop.at ≤ length bytes
   pub leads : Leads (passes_in region) Outside (take stop.at bytes) stop.mode
 
+-- the first so many bytes belong to the region, and lead from a mode to itself
+pub record Stays (region : Region) (mode : Mode) (bytes : List ℕ) (n : ℕ) : Type 0 where
+  pub within : n ≤ length bytes
+  pub leads : Leads (passes_in region) mode (take n bytes) mode
+
 -- the bytes before the place belong to the region, and the one there doesn't
 pub record Stands (region : Region) (bytes : List ℕ) (stop : Stop) : Type 0 where
   pub within : stop.at ≤ length bytes

@@ -13,6 +13,9 @@ pub enum Class {
     Digit,
     WordByte,
     NotLineFeed,
+    NotQuote,
+    /// Neither a quote, nor a dash, nor a `;`.
+    Plain,
 }
 
 pub fn is_in(class: Class, byte: u8) -> bool
@@ -32,7 +35,21 @@ pub fn is_in(class: Class, byte: u8) -> bool
                 || b'0' <= byte && byte <= b'9'
         }
         Class::NotLineFeed => byte != b'\n',
+        Class::NotQuote => byte != b'\'',
+        Class::Plain => byte != b'\'' && byte != b'-' && byte != b';',
     }
+}
+
+/// How many bytes of a class stand first.
+pub fn run_length(class: Class, bytes: &[u8]) -> usize
+    ensures { Runs class bytes.now result }
+{
+    for (count, &byte) in bytes.iter().enumerate() {
+        if !is_in(class, byte) {
+            return count;
+        }
+    }
+    bytes.len()
 }
 
 /// How many bytes of a class stand first, where so many are known to.
@@ -41,19 +58,5 @@ pub fn run_on(class: Class, bytes: &[u8], known: usize) -> usize
     requires each { AllPass (test_of class) (take known bytes.now) }
     ensures { Runs class bytes.now result }
 {
-    let mut count = known;
-    while count < bytes.len() {
-        if !is_in(class, bytes[count]) {
-            return count;
-        }
-        count += 1;
-    }
-    count
-}
-
-/// How many bytes of a class stand first.
-pub fn run_length(class: Class, bytes: &[u8]) -> usize
-    ensures { Runs class bytes.now result }
-{
-    run_on(class, bytes, 0)
+    known + run_length(class, &bytes[known..])
 }

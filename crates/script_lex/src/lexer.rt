@@ -18,6 +18,9 @@ use std::alloc::Global;
 /// The most bytes of a statement's text.
 pub const LONGEST_TEXT: usize = 1_048_576;
 
+/// How many bytes of a text a token is thought to take, with the blanks around it, when room is made for the tokens.
+const BYTES_OF_TOKEN: usize = 4;
+
 /// How many bytes are UTF-8, where not all are.
 fn utf8_fault(bytes: &[u8]) -> Option<usize>
     ensures { MatchOption result (IsUtf8 bytes.now) (λ n. (IsUtf8 bytes.now → ⊥) × IsValidUpTo bytes.now n) }
@@ -52,7 +55,7 @@ fn tokens_of_short(alloc: Global, text: &[u8]) -> Result<Items<Token>, Fail<LexF
     requires { length text.now ≤ longest_text }
     ensures { MatchResult result (Spells text.now) (RefusesByte text.now) }
 {
-    let mut found = Items::new(alloc);
+    let mut found = Items::with_capacity(alloc, text.len() / BYTES_OF_TOKEN)?;
     let mut at = 0;
     'pieces: while at < text.len() {
         let Some((kind, count)) = first_piece(&text[at..]) else {

@@ -2,10 +2,10 @@
 //! knows at each byte whether it stands in one.
 
 ghost use Rattle.std.specs.Prelude.{◌≡◌};
-ghost use Rattle.script_lex.specs.ScriptParts.{passes_in, Reaches, Stands};
+ghost use Rattle.script_lex.specs.ScriptParts.{passes_in, Reaches, Stands, Stays};
 ghost use Rattle.script_lex.specs.Scripts.{after};
 
-use crate::bytes::{Class, is_in};
+use crate::bytes::{Class, is_in, run_length};
 
 /// Where a byte of a script stands.
 #[derive(Clone, Copy)]
@@ -84,19 +84,34 @@ fn belongs(region: Region, mode: Mode, byte: u8) -> bool
     }
 }
 
+/// How many bytes at the front surely leave the mode of a statement as it is: of those bytes that are the most of a script.
+fn staying(region: Region, mode: Mode, bytes: &[u8]) -> usize
+    ensures { Stays region mode bytes.now result }
+{
+    match region {
+        Region::Gap => 0,
+        Region::Statement => match mode {
+            Mode::Outside => run_length(Class::Plain, bytes),
+            Mode::Text => run_length(Class::NotQuote, bytes),
+            Mode::Dash | Mode::Comment => 0,
+        },
+    }
+}
+
 /// The first byte from a known place on that doesn't belong to a region, or the end.
 pub fn region_on(region: Region, bytes: &[u8], known: Stop) -> Stop
     requires { Reaches region bytes.now known }
     ensures { Stands region bytes.now result }
 {
-    let mut at = known.at;
     let mut mode = known.mode;
+    let mut at = known.at + staying(region, mode, &bytes[known.at..]);
     while at < bytes.len() {
         if !belongs(region, mode, bytes[at]) {
             return Stop { at, mode };
         }
         mode = next_mode(mode, bytes[at]);
-        at += 1;
+        let next = at + 1;
+        at = next + staying(region, mode, &bytes[next..]);
     }
     Stop { at, mode }
 }

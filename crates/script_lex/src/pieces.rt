@@ -120,7 +120,7 @@ fn quoted_length(bytes: &[u8]) -> usize
     last
 }
 
-/// The longest piece that stands first, and its length.
+/// The longest piece that stands first, and its length. What most pieces of an insert begin with is looked for first.
 pub fn first_piece(bytes: &[u8]) -> Option<(PieceKind, usize)>
     ensures { Found bytes.now result }
 {
@@ -128,16 +128,19 @@ pub fn first_piece(bytes: &[u8]) -> Option<(PieceKind, usize)>
         return None;
     }
     let first = bytes[0];
+    if is_in(Class::Digit, first) {
+        let more = run_length(Class::Digit, &bytes[1..]);
+        return Some((PieceKind::Token(TokenKind::Int), more + 1));
+    }
+    if let Some(symbol) = single(first) {
+        return Some((PieceKind::Token(TokenKind::Sym(symbol)), 1));
+    }
     if is_in(Class::Blank, first) {
         return Some((PieceKind::Blank, 1));
     }
     if is_in(Class::Letter, first) {
         let more = run_length(Class::WordByte, &bytes[1..]);
         return Some((PieceKind::Token(TokenKind::Word), more + 1));
-    }
-    if is_in(Class::Digit, first) {
-        let more = run_length(Class::Digit, &bytes[1..]);
-        return Some((PieceKind::Token(TokenKind::Int), more + 1));
     }
     if first == b'-' {
         return dash(bytes);
@@ -148,13 +151,12 @@ pub fn first_piece(bytes: &[u8]) -> Option<(PieceKind, usize)>
     if first == b'>' {
         return greater(bytes);
     }
-    if first == b'\'' {
-        let count = quoted_length(&bytes[1..]);
-        if count == 0 {
-            return None;
-        }
-        return Some((PieceKind::Token(TokenKind::Text), count + 1));
+    if first != b'\'' {
+        return None;
     }
-    let symbol = single(first)?;
-    Some((PieceKind::Token(TokenKind::Sym(symbol)), 1))
+    let count = quoted_length(&bytes[1..]);
+    if count == 0 {
+        return None;
+    }
+    Some((PieceKind::Token(TokenKind::Text), count + 1))
 }

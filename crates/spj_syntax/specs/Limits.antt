@@ -6,6 +6,10 @@ use Rattle.script_lex.specs.Tokens.{longest_text}
 abbrev pub most_conflicts : ℕ
 most_conflicts = 4_294_967_295
 
+-- A text has no more tokens than bytes.
+abbrev pub most_tokens : ℕ
+most_tokens = longest_text
+
 -- A statement has no more items in a list than the longest text has bytes.
 abbrev pub most_items : ℕ
 most_items = longest_text

@@ -76,6 +76,9 @@ fn next(bytes: &[u8], at: usize) -> usize
 pub fn is_short(bytes: &[u8]) -> bool
     ensures { IsTrue result ↔ (length (undoubled bytes.now) ≤ LONGEST_TEXT_VALUE) }
 {
+    if bytes.len() <= LONGEST_TEXT_VALUE {
+        return true;
+    }
     let mut length = 0;
     let mut at = 0;
     while at < bytes.len() {
@@ -93,6 +96,9 @@ pub fn text_value(alloc: Global, bytes: &[u8]) -> Result<Name, NoMemory>
     requires { IsUtf8 (undoubled bytes.now) }
     ensures { IfOk result (λ n. length (undoubled bytes.now) ≤ LONGEST_TEXT_VALUE → n ≡ undoubled bytes.now) }
 {
+    if !bytes.contains(&b'\'') {
+        return short_name(alloc, bytes);
+    }
     let mut value = [0; LONGEST_TEXT_VALUE];
     let mut length = 0;
     let mut at = 0;

@@ -16,7 +16,7 @@ use crate::reader::{Reader, Stop};
 use crate::{RawCol, RawCond, RawTest};
 use cqa_model::{Column, Op};
 use cqa_value::{Items, Name, Row, Value};
-use script_lex::Symbol;
+use script_lex::{LONGEST_TEXT, Symbol};
 use std::alloc::Global;
 
 /// What stands between the items of a list.
@@ -69,19 +69,20 @@ fn push_piece<P: Piece>(
     Ok(())
 }
 
-/// One or more with a token between them.
+/// One or more with a token between them, in a list with room for so many at first.
 fn separated<P: Piece>(
     alloc: Global,
     reader: &mut Reader<'_>,
     token: Between,
+    room: usize,
 ) -> Result<Items<P>, Stop>
     ensures reads { Reads (grammar.separated (separator token) P.shape) (between (separator_lexeme token) P.tokens) result reader.old reader.new }
     ensures some { IfOk result (λ v. 0 < length v) }
     ensures few { IfOk result (λ v. length v ≤ most_items) }
     ensures kept { IfOk result (λ v. All (λ x. P.kept x) v) }
 {
-    let mut items = Items::new(alloc);
-    prove!(reader.count() <= 1 << 20);
+    let mut items = Items::with_capacity(alloc, room)?;
+    prove!(reader.count() <= LONGEST_TEXT);
     push_piece(alloc, reader, &mut items)?;
     'items: while sees(reader, token) {
         reader.advance();
@@ -97,7 +98,8 @@ pub fn listed<P: Piece>(alloc: Global, reader: &mut Reader<'_>) -> Result<Items<
     ensures few { IfOk result (λ v. length v ≤ most_items) }
     ensures kept { IfOk result (λ v. All (λ x. P.kept x) v) }
 {
-    separated(alloc, reader, Between::Comma)
+    let room = reader.listed_ahead();
+    separated(alloc, reader, Between::Comma, room)
 }
 
 /// What follows `where`, or nothing.
@@ -107,7 +109,7 @@ pub fn filtered<P: Piece>(alloc: Global, reader: &mut Reader<'_>) -> Result<Item
 {
     if reader.sees_word(b"where") {
         reader.advance();
-        return separated(alloc, reader, Between::And);
+        return separated(alloc, reader, Between::And, 0);
     }
     Ok(Items::new(alloc))
 }

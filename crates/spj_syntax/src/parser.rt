@@ -1,11 +1,12 @@
 //! From the tokens of a text to its statement, or to the first token that no statement goes on with,
 //! or that is out of its limits.
 
-ghost use Rattle.std.specs.Prelude.{◌≡◌, ◌⊎◌, ◌≤◌, ◌-◌, ◌^◌, All, IfOk, OnOk, Err, MatchResult, MatchOption, IsTrue, ◌↔◌, length, drop, pos, true, false};
+ghost use Rattle.std.specs.Prelude.{◌≡◌, ◌⊎◌, ◌≤◌, ◌-◌, ◌∷◌, [], All, IfOk, IfErr, OnOk, Err, MatchResult, MatchOption, IsTrue, ◌↔◌, length, drop, pos, codes, true, false};
 ghost use Rattle.cqa_value.specs.Literals.{are_digits, without_minus, integer_of};
 ghost use Rattle.cqa_value.specs.declared.memory.Fail.TheVariants.{NoMemory, Refused};
 ghost use Rattle.script_lex.specs.Tokens.{Spells, longest_text};
-ghost use Rattle.spj_syntax.specs.Lexemes.{lexeme, undoubled};
+ghost use Rattle.spj_syntax.specs.Lexemes.{Word, Number, lexeme, undoubled};
+ghost use Rattle.spj_syntax.specs.Limits.{most_tokens};
 ghost use Rattle.spj_syntax.specs.Parsed.{AllFit, Fits, IsStatement, IsFirstUnfit, IsInRange, Refuses, is_set, lexemes, place_of};
 ghost use Rattle.spj_syntax.specs.Reading.{IsReadable, IsUnfit, Parses, PlainFit, failure_of};
 ghost use Rattle.spj_syntax.specs.Written.{IsWrittenAs, IsSmall};
@@ -20,6 +21,9 @@ use cqa_model::LONGEST_NAME;
 use cqa_value::{Fail, read_int};
 use script_lex::{Token, TokenKind};
 use std::alloc::Global;
+
+/// An integer of at most so many bytes is in range, whatever its digits.
+const SURELY_IN_RANGE: usize = 18;
 
 /// Where a token begins.
 fn offset(text: &[u8], token: Token) -> u32
@@ -71,10 +75,15 @@ fn unfit(text: &[u8], token: Token) -> Option<SyntaxFault>
             }
             None
         }
-        TokenKind::Int => match read_int(bytes) {
-            Some(_) => None,
-            None => Some(SyntaxFault::OutOfRange(from)),
-        },
+        TokenKind::Int => {
+            if bytes.len() <= SURELY_IN_RANGE {
+                return None;
+            }
+            match read_int(bytes) {
+                Some(_) => None,
+                None => Some(SyntaxFault::OutOfRange(from)),
+            }
+        }
         TokenKind::Text => {
             if is_short(&bytes[1..bytes.len() - 1]) {
                 return None;
@@ -102,7 +111,7 @@ fn first_unfit(text: &[u8], tokens: &[Token]) -> Option<SyntaxFault>
 /// A statement that is no `set`.
 fn parse_plain(alloc: Global, text: &[u8], tokens: &[Token]) -> Result<Statement, Fail<SyntaxFault>>
     requires readable { All (IsReadable text.now) tokens.now }
-    requires few { length tokens.now ≤ 2 ^ 20 }
+    requires few { length tokens.now ≤ most_tokens }
     requires short { length text.now ≤ longest_text }
     requires no_set { is_set (lexemes text.now tokens.now) ≡ false }
     ensures exact { Parses text.now tokens.now result }
@@ -136,14 +145,16 @@ fn conflicts(digits: &[u8]) -> Option<u32>
     u32::try_from(number).ok()
 }
 
-/// A `set`.
-fn parse_set(text: &[u8], tokens: &[Token]) -> Result<Statement, Fail<SyntaxFault>>
+/// The digits of the number of a `set` with nothing behind it.
+fn set_digits<'a>(text: &'a [u8], tokens: &'a [Token]) -> Result<&'a [u8], Fail<SyntaxFault>>
     requires readable { All (IsReadable text.now) tokens.now }
-    requires few { length tokens.now ≤ 2 ^ 20 }
+    requires few { length tokens.now ≤ most_tokens }
     requires short { length text.now ≤ longest_text }
     requires set { is_set (lexemes text.now tokens.now) ≡ true }
-    ensures exact { Parses text.now tokens.now result }
-    ensures small { IfOk result (λ statement. IsSmall statement) }
+    ensures digits { IfOk result (λ digits. IsTrue (are_digits (without_minus digits.now))) }
+    ensures whole { IfOk result (λ digits. lexemes text.now tokens.now ≡ Word (codes "set") ∷ Word (codes "conflicts") ∷ Number (integer_of digits.now) ∷ []) }
+    ensures statement { OnOk result (IsStatement (lexemes text.now tokens.now)) }
+    ensures failed { IfErr result (λ failure. Parses text.now tokens.now (Err failure)) }
 {
     let mut reader = Reader::new(text, tokens);
     let digits = match set(&mut reader) {
@@ -154,7 +165,19 @@ fn parse_set(text: &[u8], tokens: &[Token]) -> Result<Statement, Fail<SyntaxFaul
     if behind > 0 {
         return Err(stopped(Stop::Syntax, text, tokens, behind));
     }
-    match conflicts(digits) {
+    Ok(digits)
+}
+
+/// A `set`.
+fn parse_set(text: &[u8], tokens: &[Token]) -> Result<Statement, Fail<SyntaxFault>>
+    requires readable { All (IsReadable text.now) tokens.now }
+    requires few { length tokens.now ≤ most_tokens }
+    requires short { length text.now ≤ longest_text }
+    requires set { is_set (lexemes text.now tokens.now) ≡ true }
+    ensures exact { Parses text.now tokens.now result }
+    ensures small { IfOk result (λ statement. IsSmall statement) }
+{
+    match conflicts(set_digits(text, tokens)?) {
         Some(number) => Ok(Statement::SetConflicts(number)),
         None => Err(Fail::Refused(SyntaxFault::OutOfRange(offset(text, tokens[2])))),
     }
@@ -166,7 +189,7 @@ fn parse_readable(
     tokens: &[Token],
 ) -> Result<Statement, Fail<SyntaxFault>>
     requires readable { All (IsReadable text.now) tokens.now }
-    requires few { length tokens.now ≤ 2 ^ 20 }
+    requires few { length tokens.now ≤ most_tokens }
     requires short { length text.now ≤ longest_text }
     ensures exact { Parses text.now tokens.now result }
     ensures small { IfOk result (λ statement. IsSmall statement) }

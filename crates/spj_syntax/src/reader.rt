@@ -1,10 +1,11 @@
 //! The tokens that are left to be read, and the steps that read one of them.
 #![tactic(auto, using(crate::proofs::Steps::steps))]
 
-ghost use Rattle.std.specs.Prelude.{◌≡◌, ◌≤◌, ◌<◌, ◌^◌, ◌++◌, ◌∷◌, [], Some, IsSome, IfSome, IfOk, IsTrue, length, drop, All};
+ghost use Rattle.std.specs.Prelude.{◌≡◌, ◌≤◌, ◌<◌, ◌+◌, ◌++◌, ◌∷◌, [], Some, IsSome, IfSome, IfOk, IsTrue, length, drop, All};
 ghost use Rattle.spj_syntax.specs.Lexemes.{Word, Number, Mark};
 ghost use Rattle.cqa_value.specs.Literals.{integer_of, are_digits, without_minus};
 ghost use Rattle.spj_syntax.specs.Grammar.{literal};
+ghost use Rattle.spj_syntax.specs.Limits.{most_tokens};
 ghost use Rattle.spj_syntax.specs.Parsed.{lexemes};
 ghost use Rattle.spj_syntax.specs.Reading.{Reads, front_of, seen, SeenSound, IsReadable};
 ghost use Rattle.spj_syntax.specs.Written.{name_tokens};
@@ -53,21 +54,22 @@ pub struct Reader<'a> {
 }
 
 impl<'a> Model for Reader<'a> {
-    ghost use Rattle.std.specs.Prelude.{List, All, map, length, ◌≤◌, ◌^◌};
+    ghost use Rattle.std.specs.Prelude.{List, All, map, length, ◌≤◌};
     ghost use Rattle.spj_syntax.specs.Lexemes.{Lexeme, lexeme};
+    ghost use Rattle.spj_syntax.specs.Limits.{most_tokens};
     ghost use Rattle.spj_syntax.specs.Reading.{IsReadable};
 
     ghost Value = { List Lexeme };
 
     ghost view = { λ r. map (lexeme r.text.now) r.tokens.now };
 
-    ghost invariant = { λ r. All (IsReadable r.text.now) r.tokens.now × (length r.tokens.now ≤ 2 ^ 20) };
+    ghost invariant = { λ r. All (IsReadable r.text.now) r.tokens.now × (length r.tokens.now ≤ most_tokens) };
 }
 
 impl<'a> Reader<'a> {
     pub fn new(text: &'a [u8], tokens: &'a [Token]) -> Reader<'a>
         requires readable { All (IsReadable text.now) tokens.now }
-        requires few { length tokens.now ≤ 2 ^ 20 }
+        requires few { length tokens.now ≤ most_tokens }
         ensures { result ≡ lexemes text.now tokens.now }
     {
         Reader { text, tokens }
@@ -76,9 +78,25 @@ impl<'a> Reader<'a> {
     /// How many tokens are left.
     pub fn count(&self) -> usize
         ensures left { result ≡ length self.now }
-        ensures few { result ≤ 2 ^ 20 }
+        ensures few { result ≤ most_tokens }
     {
         self.tokens.len()
+    }
+
+    /// A guess how many items a list has that stands first, good enough to make room by: one more than the commas up to the next
+    /// closing bracket.
+    pub fn listed_ahead(&self) -> usize
+        ensures { result ≤ length self.now + 1 }
+    {
+        let mut count = 1;
+        for token in self.tokens {
+            match token.kind {
+                TokenKind::Sym(Symbol::Close) => return count,
+                TokenKind::Sym(Symbol::Comma) => count += 1,
+                _ => {}
+            }
+        }
+        count
     }
 
     pub fn peek(&self) -> Seen<'a>

@@ -16,7 +16,7 @@ pub unclean-requires : goal.unclean-requires
 unclean-requires c = text_wide c.args.text.now c.pieces.at c.in-Some.kind c.in-Some.count c.pieces.invariant.within c.in-Some.ensures
 
 pub pieces-init : goal.pieces-init
-pieces-init c = record { pieces = []; splits = refl; clean = tt; within = omega arith; tokens_are = c.new-found.ensures }
+pieces-init c = record { pieces = []; splits = refl; clean = tt; within = omega arith; tokens_are = c.in_ok-found.ensures }
 
 pub bad_byte-requires : goal.bad_byte-requires
 bad_byte-requires c = omega (arith, c.requires, c.pieces-test.true)

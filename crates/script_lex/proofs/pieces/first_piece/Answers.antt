@@ -5,27 +5,27 @@ use Rattle.script_lex.proofs.Longest.{not_empty, blank_stands, word_stands, int_
 use Rattle.script_lex.proofs.pieces.first_piece.Goals as goal
 
 pub returns-then-is_in : goal.returns-then-is_in
-returns-then-is_in c = blank_stands c.args.bytes.now (not_empty c.args.bytes.now c.if-is_empty.ensures) (sym c.if-is_in.ensures)
+returns-then-is_in c = int_stands c.args.bytes.now _ (not_empty c.args.bytes.now c.if-is_empty.ensures) (sym c.if-is_in.ensures) (rw rest_of at c.run_length-more.ensures)
+
+pub returns-in-Some : goal.returns-in-Some
+returns-in-Some c = single_stands c.in-Some.symbol c.args.bytes.now (not_empty c.args.bytes.now c.if-is_empty.ensures) c.in-Some.ensures.0 c.in-Some.ensures.1
 
 pub returns-then-is_in-2 : goal.returns-then-is_in-2
-returns-then-is_in-2 c = word_stands c.args.bytes.now _ (not_empty c.args.bytes.now c.if-is_empty.ensures) (sym c.if-is_in-2.ensures) (rw rest_of at c.run_length-more.ensures)
+returns-then-is_in-2 c = blank_stands c.args.bytes.now (not_empty c.args.bytes.now c.if-is_empty.ensures) (sym c.if-is_in-2.ensures)
 
 pub returns-then-is_in-3 : goal.returns-then-is_in-3
-returns-then-is_in-3 c = int_stands c.args.bytes.now _ (not_empty c.args.bytes.now c.if-is_empty.ensures) (sym c.if-is_in-3.ensures) (rw rest_of at c.run_length-more-then-is_in-3.ensures)
+returns-then-is_in-3 c = word_stands c.args.bytes.now _ (not_empty c.args.bytes.now c.if-is_empty.ensures) (sym c.if-is_in-3.ensures) (rw rest_of at c.run_length-more-then-is_in-3.ensures)
 
-pub returns : goal.returns
-returns c = single_stands c.in_ok-symbol.symbol c.args.bytes.now (not_empty c.args.bytes.now c.if-is_empty.ensures) c.in_ok-symbol.ensures.0 c.in_ok-symbol.ensures.1
-
-pub returns-in_err-symbol : goal.returns-in_err-symbol
-returns-in_err-symbol c =
-    rw c.from_residual.ensures (nothing_stands c.args.bytes.now (not_empty c.args.bytes.now c.if-is_empty.ensures) (sym c.if-is_in.ensures) (sym c.if-is_in-2.ensures) (sym c.if-is_in-3.ensures) c.if-first-eq45.false c.if-first-eq60.false c.if-first-eq62.false c.if-first-eq39.false c.in_err-symbol.ensures)
+pub returns-then-first-ne39 : goal.returns-then-first-ne39
+returns-then-first-ne39 c =
+    nothing_stands c.args.bytes.now (not_empty c.args.bytes.now c.if-is_empty.ensures) (sym c.if-is_in-2.ensures) (sym c.if-is_in-3.ensures) (sym c.if-is_in.ensures) c.if-first-eq45.false c.if-first-eq60.false c.if-first-eq62.false c.if-first-ne39.true c.in_default.ensures
 
 pub returns-then-count-eq0 : goal.returns-then-count-eq0
 returns-then-count-eq0 c =
     let e = rw rest_of at c.quoted_length-count.ensures in
-    unclosed c.args.bytes.now (not_empty c.args.bytes.now c.if-is_empty.ensures) c.if-first-eq39.true (subst (λ z. EndsQuoted (drop 1 c.args.bytes.now) z) c.if-count-eq0.true e)
+    unclosed c.args.bytes.now (not_empty c.args.bytes.now c.if-is_empty.ensures) c.if-first-ne39.false (subst (λ z. EndsQuoted (drop 1 c.args.bytes.now) z) c.if-count-eq0.true e)
 
-pub returns-then-first-eq39 : goal.returns-then-first-eq39
-returns-then-first-eq39 c =
+pub returns : goal.returns
+returns c =
     let e = rw rest_of at c.quoted_length-count.ensures in
-    text_stands c.args.bytes.now _ (not_empty c.args.bytes.now c.if-is_empty.ensures) c.if-first-eq39.true e c.if-count-eq0.false
+    text_stands c.args.bytes.now _ (not_empty c.args.bytes.now c.if-is_empty.ensures) c.if-first-ne39.false e c.if-count-eq0.false

@@ -7,12 +7,12 @@ use Rattle.spj_syntax.proofs.Steps.{rest_after, rest_took, rest_fails, rest_more
 use Rattle.spj_syntax.proofs.lists.separated.Goals as goal
 
 pub returns-in_err-push_piece-clause-reads : goal.returns-in_err-push_piece-clause-reads
-returns-in_err-push_piece-clause-reads g c = exit _ _ c.from_residual.ensures.1 (fails_first c.in_err-push_piece.ensures)
+returns-in_err-push_piece-clause-reads g c = exit _ _ c.from_residual-in_err-push_piece.ensures.1 (fails_first c.in_err-push_piece.ensures)
 
 pub items-init : goal.items-init
 items-init g c =
     let h = c.in_ok-push_piece.ensures in
-    let one : c.push_piece.new.items ≡ h.item ∷ [] = h.grown ∙ ap (λ z. z ++ h.item ∷ []) c.new-items.ensures in
+    let one : c.push_piece.new.items ≡ h.item ∷ [] = h.grown ∙ ap (λ z. z ++ h.item ∷ []) c.in_ok-items.ensures in
     record {
       rest = rw (one, append-nil) (rest_after h.took);
       started = rw one (omega arith);

@@ -1,48 +1,11 @@
-use Rattle.std.proofs.Common.{◌≡◌, length, arith, sym, ◌∙◌, ap, true}
-use Rattle.std.proofs.lemmas.List.{length-map}
-use Rattle.spj_syntax.specs.declared.reader.Stop.TheVariants.{Syntax}
-use Rattle.spj_syntax.specs.Lexemes.{lexeme}
-use Rattle.spj_syntax.specs.Shapes.{FirstFault}
-use Rattle.spj_syntax.specs.Factored.{statement}
-use Rattle.spj_syntax.specs.Parsed.{is_set}
-use Rattle.spj_syntax.proofs.Whole.{set_took, set_failed, is_statement, more_is_fault, stop_is_fault, fault_shorter, stop_refused, set_ended, set_accepted, set_refused}
+use Rattle.std.proofs.Common.{arith}
+use Rattle.spj_syntax.proofs.Whole.{set_accepted, set_refused}
 use Rattle.spj_syntax.proofs.parser.parse_set.Goals as goal
 
-pub stopped-requires-clause-there : goal.stopped-requires-clause-there
-stopped-requires-clause-there c = λ e.
-    let begins : is_set c.new-reader.result ≡ true = ap is_set c.new-reader.ensures ∙ c.requires.set in
-    let f = fault_shorter (stop_is_fault (set_failed begins (rw e at c.in-Err.ensures.reads))) in
-    omega (arith, f, c.count.ensures.left, ap length c.new-reader.ensures, length-map c.args.tokens.now (lexeme c.args.text.now))
-
-pub returns-in-Err-clause-exact : goal.returns-in-Err-clause-exact
-returns-in-Err-clause-exact c =
-    let begins : is_set c.new-reader.result ≡ true = ap is_set c.new-reader.ensures ∙ c.requires.set in
-    let f : c.in-Err.stop ≡ Syntax → FirstFault statement c.new-reader.result c.set.new.reader = λ e. stop_is_fault (set_failed begins (rw e at c.in-Err.ensures.reads)) in
-    rw c.stopped.ensures (stop_refused c.args.text.now c.args.tokens.now c.in-Err.stop _ _ (rw c.new-reader.ensures at f) c.count.ensures.left)
-
-pub stopped-requires-then-behind-gt0-clause-there : goal.stopped-requires-then-behind-gt0-clause-there
-stopped-requires-then-behind-gt0-clause-there c = λ _.
-    let begins : is_set c.new-reader.result ≡ true = ap is_set c.new-reader.ensures ∙ c.requires.set in
-    let f = fault_shorter (more_is_fault (set_took begins c.in-Ok.ensures.reads) (λ e. absurd (omega (arith, c.if-behind-gt0.true, c.count-behind.ensures.left, e)))) in
-    omega (arith, f, c.count-behind.ensures.left, ap length c.new-reader.ensures, length-map c.args.tokens.now (lexeme c.args.text.now))
-
-pub returns-then-behind-gt0-clause-exact : goal.returns-then-behind-gt0-clause-exact
-returns-then-behind-gt0-clause-exact c =
-    let begins : is_set c.new-reader.result ≡ true = ap is_set c.new-reader.ensures ∙ c.requires.set in
-    let f : FirstFault statement c.new-reader.result c.set.new.reader = more_is_fault (set_took begins c.in-Ok.ensures.reads) (λ e. absurd (omega (arith, c.if-behind-gt0.true, c.count-behind.ensures.left, e))) in
-    rw c.stopped-then-behind-gt0.ensures (stop_refused c.args.text.now c.args.tokens.now Syntax _ _ (λ _. rw c.new-reader.ensures at f) c.count-behind.ensures.left)
-
 pub returns-in-Some-clause-exact : goal.returns-in-Some-clause-exact
-returns-in-Some-clause-exact c =
-    let begins : is_set c.new-reader.result ≡ true = ap is_set c.new-reader.ensures ∙ c.requires.set in
-    let ended : length c.set.new.reader ≡ 0 = sym c.count-behind.ensures.left ∙ omega arith in
-    let h = is_statement (set_took begins c.in-Ok.ensures.reads) ended in
-    set_accepted c.args.text.now c.args.tokens.now _ c.in-Some.number c.requires.set (sym c.new-reader.ensures ∙ set_ended _ _ _ c.in-Ok.ensures.whole ended) c.in-Some.ensures (omega arith) (rw c.new-reader.ensures at h.0)
+returns-in-Some-clause-exact c = set_accepted c.args.text.now c.args.tokens.now _ c.in-Some.number c.requires.set c.in_ok-set_digits.ensures.whole c.in-Some.ensures (omega arith) c.in_ok-set_digits.ensures.statement
 
 pub returns-in-None-clause-exact : goal.returns-in-None-clause-exact
 returns-in-None-clause-exact c =
-    let begins : is_set c.new-reader.result ≡ true = ap is_set c.new-reader.ensures ∙ c.requires.set in
-    let ended : length c.set.new.reader ≡ 0 = sym c.count-behind.ensures.left ∙ omega arith in
-    let h = is_statement (set_took begins c.in-Ok.ensures.reads) ended in
-    let u = set_refused c.args.text.now c.args.tokens.now _ _ (sym c.new-reader.ensures ∙ set_ended _ _ _ c.in-Ok.ensures.whole ended) c.in-None.ensures in
-    (rw c.new-reader.ensures at h.0, rw (c.offset.ensures, c.requires.set) u)
+    let u = set_refused c.args.text.now c.args.tokens.now _ _ c.in_ok-set_digits.ensures.whole c.in-None.ensures in
+    (c.in_ok-set_digits.ensures.statement, rw (c.offset.ensures, c.requires.set) u)
