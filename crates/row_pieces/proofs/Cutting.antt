@@ -13,7 +13,7 @@ pub at_ok : {T E P : Type 0} (r : Result T E) → is_err r ≡ false → OnOk r 
 at_ok (Ok x) e p = p
 at_ok (Err x) e p = cc
 
-module _ (ps : List Piece) (at middle : ℕ) (there : at < length ps) (p : Piece) (is : p ≡ get_or ps at p) (fits : middle ≤ length p.rows.items) (numbered : AreNumbered 0 (take (at + 1) ps)) where
+module _ (ps : List Piece) (at middle : ℕ) (there : at < length ps) (p : Piece) (is : p ≡ get_or ps at p) (fits : middle ≤ length p.rows) (numbered : AreNumbered 0 (take (at + 1) ps)) where
   pub begins : p.start ≡ length (joined (take at ps))
   begins =
       let long = length-take-le (at + 1) ps (omega (arith, there)) in
@@ -24,12 +24,12 @@ module _ (ps : List Piece) (at middle : ℕ) (there : at < length ps) (p : Piece
 
   pub most : p.start + middle ≤ length (joined ps)
   most =
-      let e = ap length (joined_at ps at p there ∙ ap (λ q. joined (take at ps) ++ (q.rows.items ++ joined (drop (at + 1) ps))) (sym is)) in
-      let a = length-append (joined (take at ps)) (p.rows.items ++ joined (drop (at + 1) ps)) in
-      let b = length-append p.rows.items (joined (drop (at + 1) ps)) in
+      let e = ap length (joined_at ps at p there ∙ ap (λ q. joined (take at ps) ++ (q.rows ++ joined (drop (at + 1) ps))) (sym is)) in
+      let a = length-append (joined (take at ps)) (p.rows ++ joined (drop (at + 1) ps)) in
+      let b = length-append p.rows (joined (drop (at + 1) ps)) in
       omega (arith, e, a, b, begins, fits)
 
-  module _ (q r : Piece) (q_start : q.start ≡ p.start) (q_rows : q.rows.items ≡ take middle p.rows.items) (r_start : r.start ≡ p.start + middle) (r_rows : r.rows.items ≡ drop middle p.rows.items) (new : List Piece) (is_new : new ≡ insert (set ps at q) (at + 1) r) where
+  module _ (q r : Piece) (q_start : q.start ≡ p.start) (q_rows : q.rows ≡ take middle p.rows) (r_start : r.start ≡ p.start + middle) (r_rows : r.rows ≡ drop middle p.rows) (new : List Piece) (is_new : new ≡ insert (set ps at q) (at + 1) r) where
     two : new ≡ (take at ps ++ q ∷ []) ++ r ∷ drop (at + 1) ps
     two =
         is_new
@@ -42,39 +42,39 @@ module _ (ps : List Piece) (at middle : ℕ) (there : at < length ps) (p : Piece
         let sum = length-append (take at ps) (q ∷ []) in
         ap (take (at + 2)) two ∙ take_past (take at ps ++ q ∷ []) (r ∷ drop (at + 1) ps) 1 (at + 2) (omega (arith, long, sum))
 
-    rows : q.rows.items ++ r.rows.items ≡ p.rows.items
-    rows = ap (λ xs. xs ++ r.rows.items) q_rows ∙ ap (λ xs. take middle p.rows.items ++ xs) r_rows ∙ take-append-drop middle p.rows.items
+    rows : q.rows ++ r.rows ≡ p.rows
+    rows = ap (λ xs. xs ++ r.rows) q_rows ∙ ap (λ xs. take middle p.rows ++ xs) r_rows ∙ take-append-drop middle p.rows
 
-    before : joined (take at ps ++ q ∷ []) ≡ joined (take at ps) ++ q.rows.items
-    before = joined-append (take at ps) (q ∷ []) ∙ ap (λ xs. joined (take at ps) ++ xs) (append-nil q.rows.items)
+    before : joined (take at ps ++ q ∷ []) ≡ joined (take at ps) ++ q.rows
+    before = joined-append (take at ps) (q ∷ []) ∙ ap (λ xs. joined (take at ps) ++ xs) (append-nil q.rows)
 
     pub joined_front : joined (take (at + 2) new) ≡ joined (take (at + 1) ps)
     joined_front =
         ap joined first_two
         ∙ joined-append (take at ps ++ q ∷ []) (r ∷ [])
-        ∙ ap (λ xs. xs ++ (r.rows.items ++ [])) before
-        ∙ ap (λ xs. (joined (take at ps) ++ q.rows.items) ++ xs) (append-nil r.rows.items)
-        ∙ append_assoc (joined (take at ps)) q.rows.items r.rows.items
+        ∙ ap (λ xs. xs ++ (r.rows ++ [])) before
+        ∙ ap (λ xs. (joined (take at ps) ++ q.rows) ++ xs) (append-nil r.rows)
+        ∙ append_assoc (joined (take at ps)) q.rows r.rows
         ∙ ap (λ xs. joined (take at ps) ++ xs) rows
-        ∙ sym (joined_more ps at p there ∙ ap (λ z. joined (take at ps) ++ z.rows.items) (sym is))
+        ∙ sym (joined_more ps at p there ∙ ap (λ z. joined (take at ps) ++ z.rows) (sym is))
 
     pub joined_cut : joined new ≡ joined ps
     joined_cut =
         let behind = joined (drop (at + 1) ps) in
         ap joined two
         ∙ joined-append (take at ps ++ q ∷ []) (r ∷ drop (at + 1) ps)
-        ∙ ap (λ xs. xs ++ (r.rows.items ++ behind)) before
-        ∙ append_assoc (joined (take at ps)) q.rows.items (r.rows.items ++ behind)
-        ∙ ap (λ xs. joined (take at ps) ++ xs) (sym (append_assoc q.rows.items r.rows.items behind))
+        ∙ ap (λ xs. xs ++ (r.rows ++ behind)) before
+        ∙ append_assoc (joined (take at ps)) q.rows (r.rows ++ behind)
+        ∙ ap (λ xs. joined (take at ps) ++ xs) (sym (append_assoc q.rows r.rows behind))
         ∙ ap (λ xs. joined (take at ps) ++ (xs ++ behind)) rows
-        ∙ sym (joined_at ps at p there ∙ ap (λ z. joined (take at ps) ++ (z.rows.items ++ behind)) (sym is))
+        ∙ sym (joined_at ps at p there ∙ ap (λ z. joined (take at ps) ++ (z.rows ++ behind)) (sym is))
 
     pub numbered_cut : AreNumbered 0 (take (at + 2) new)
     numbered_cut =
         let kept = subst (λ qs. AreNumbered 0 qs) (take-take at (at + 1) ps (omega arith)) (numbered_take 0 (take (at + 1) ps) at numbered) in
         let start_is : q.start ≡ 0 + length (joined (take at ps)) = q_start ∙ omega (arith, begins) in
         let e = ap length before in
-        let sum = length-append (joined (take at ps)) q.rows.items in
+        let sum = length-append (joined (take at ps)) q.rows in
         let len = ap length q_rows in
-        let half = length-take-le middle p.rows.items fits in
+        let half = length-take-le middle p.rows fits in
         subst (λ qs. AreNumbered 0 qs) (sym first_two) (numbered_push 0 (take at ps ++ q ∷ []) r (numbered_push 0 (take at ps) q kept start_is) (omega (arith, r_start, e, sum, len, half, begins)))

@@ -22,31 +22,31 @@ drop_past xs ys n m e = ap (λ k. drop k (xs ++ ys)) e ∙ drop-append-add xs ys
 -- ---- the rows of pieces
 
 pub joined-append : (xs ys : List Piece) → joined (xs ++ ys) ≡ joined xs ++ joined ys
-joined-append xs ys = flat_map-append (λ piece. piece.rows.items) xs ys
+joined-append xs ys = flat_map-append (λ piece. piece.rows) xs ys
 
 pub joined_parts : (ps : List Piece) (i : ℕ) → joined ps ≡ joined (take i ps) ++ joined (drop i ps)
 joined_parts ps i = ap joined (sym (take-append-drop i ps)) ∙ joined-append (take i ps) (drop i ps)
 
-pub joined_rest : (ps : List Piece) (i : ℕ) (d : Piece) → i < length ps → joined (drop i ps) ≡ (get_or ps i d).rows.items ++ joined (drop (i + 1) ps)
+pub joined_rest : (ps : List Piece) (i : ℕ) (d : Piece) → i < length ps → joined (drop i ps) ≡ (get_or ps i d).rows ++ joined (drop (i + 1) ps)
 joined_rest ps i d l = ap joined (drop_more ps i d l)
 
-pub joined_at : (ps : List Piece) (i : ℕ) (d : Piece) → i < length ps → joined ps ≡ joined (take i ps) ++ ((get_or ps i d).rows.items ++ joined (drop (i + 1) ps))
+pub joined_at : (ps : List Piece) (i : ℕ) (d : Piece) → i < length ps → joined ps ≡ joined (take i ps) ++ ((get_or ps i d).rows ++ joined (drop (i + 1) ps))
 joined_at ps i d l = joined_parts ps i ∙ ap (λ z. joined (take i ps) ++ z) (joined_rest ps i d l)
 
-pub joined_more : (ps : List Piece) (i : ℕ) (d : Piece) → i < length ps → joined (take (i + 1) ps) ≡ joined (take i ps) ++ (get_or ps i d).rows.items
+pub joined_more : (ps : List Piece) (i : ℕ) (d : Piece) → i < length ps → joined (take (i + 1) ps) ≡ joined (take i ps) ++ (get_or ps i d).rows
 joined_more ps i d l =
     ap joined (take_more ps i d l)
     ∙ joined-append (take i ps) (get_or ps i d ∷ [])
-    ∙ ap (λ z. joined (take i ps) ++ z) (append-nil (get_or ps i d).rows.items)
+    ∙ ap (λ z. joined (take i ps) ++ z) (append-nil (get_or ps i d).rows)
 
-pub joined_set : (ps : List Piece) (i : ℕ) (q : Piece) → i < length ps → joined (set ps i q) ≡ joined (take i ps) ++ (q.rows.items ++ joined (drop (i + 1) ps))
+pub joined_set : (ps : List Piece) (i : ℕ) (q : Piece) → i < length ps → joined (set ps i q) ≡ joined (take i ps) ++ (q.rows ++ joined (drop (i + 1) ps))
 joined_set ps i q l =
     let one : suc i ≡ i + 1 = omega arith in
     ap joined (set_split ps i q l)
     ∙ joined-append (take i ps) (q ∷ drop (suc i) ps)
-    ∙ ap (λ k. joined (take i ps) ++ (q.rows.items ++ joined (drop k ps))) one
+    ∙ ap (λ k. joined (take i ps) ++ (q.rows ++ joined (drop k ps))) one
 
-pub joined_same : (ps : List Piece) (i : ℕ) (d q : Piece) → i < length ps → q.rows.items ≡ (get_or ps i d).rows.items → joined (set ps i q) ≡ joined ps
+pub joined_same : (ps : List Piece) (i : ℕ) (d q : Piece) → i < length ps → q.rows ≡ (get_or ps i d).rows → joined (set ps i q) ≡ joined ps
 joined_same ps i d q l e =
     joined_set ps i q l
     ∙ ap (λ xs. joined (take i ps) ++ (xs ++ joined (drop (i + 1) ps))) e
@@ -71,28 +71,28 @@ pub numbered_at : (from : ℕ) (ps : List Piece) (i : ℕ) (d : Piece) → AreNu
 numbered_at from [] i d n l = absurd (omega (arith, l))
 numbered_at from (p ∷ ps) zero d n l = let e = n.0 in omega (arith, e)
 numbered_at from (p ∷ ps) (suc i) d n l =
-    let e = numbered_at (from + length p.rows.items) ps i d n.1 (omega (arith, l)) in
-    let a = length-append p.rows.items (joined (take i ps)) in
+    let e = numbered_at (from + length p.rows) ps i d n.1 (omega (arith, l)) in
+    let a = length-append p.rows (joined (take i ps)) in
     omega (arith, e, a)
 
 pub numbered_take : (from : ℕ) (ps : List Piece) (i : ℕ) → AreNumbered from ps → AreNumbered from (take i ps)
 numbered_take from ps zero n = tt
 numbered_take from [] (suc i) n = tt
-numbered_take from (p ∷ ps) (suc i) n = (n.0, numbered_take (from + length p.rows.items) ps i n.1)
+numbered_take from (p ∷ ps) (suc i) n = (n.0, numbered_take (from + length p.rows) ps i n.1)
 
 pub numbered_drop : (from : ℕ) (ps : List Piece) (i : ℕ) → AreNumbered from ps → AreNumbered (from + length (joined (take i ps))) (drop i ps)
 numbered_drop from ps zero n = let e : from ≡ from + 0 = omega arith in subst (λ k. AreNumbered k ps) e n
 numbered_drop from [] (suc i) n = tt
 numbered_drop from (p ∷ ps) (suc i) n =
-    let a = length-append p.rows.items (joined (take i ps)) in
-    let e : from + length p.rows.items + length (joined (take i ps)) ≡ from + length (p.rows.items ++ joined (take i ps)) = omega (arith, a) in
-    subst (λ k. AreNumbered k (drop i ps)) e (numbered_drop (from + length p.rows.items) ps i n.1)
+    let a = length-append p.rows (joined (take i ps)) in
+    let e : from + length p.rows + length (joined (take i ps)) ≡ from + length (p.rows ++ joined (take i ps)) = omega (arith, a) in
+    subst (λ k. AreNumbered k (drop i ps)) e (numbered_drop (from + length p.rows) ps i n.1)
 
 pub numbered_push : (from : ℕ) (ps : List Piece) (q : Piece) → AreNumbered from ps → q.start ≡ from + length (joined ps) → AreNumbered from (ps ++ q ∷ [])
 numbered_push from [] q n e = (omega (arith, e), tt)
 numbered_push from (p ∷ ps) q n e =
-    let a = length-append p.rows.items (joined ps) in
-    (n.0, numbered_push (from + length p.rows.items) ps q n.1 (omega (arith, e, a)))
+    let a = length-append p.rows (joined ps) in
+    (n.0, numbered_push (from + length p.rows) ps q n.1 (omega (arith, e, a)))
 
 -- the last piece may have other rows
 pub numbered_reset : (from : ℕ) (ps : List Piece) (at : ℕ) (p q : Piece) → length ps ≡ at + 1 → p ≡ get_or ps at p → q.start ≡ p.start → AreNumbered from ps → AreNumbered from (take (length ps) (set ps at q))
@@ -154,47 +154,47 @@ module _ (from : ℕ) (ps : List Piece) (numbered : AreNumbered from ps) (place 
   pub starts : piece.start ≡ from + length (joined (take i ps))
   starts = ap (λ p. p.start) is ∙ numbered_at from ps i piece numbered found.within
 
-  pub ends : from + length (joined (take (i + 1) ps)) ≡ piece.start + length piece.rows.items
+  pub ends : from + length (joined (take (i + 1) ps)) ≡ piece.start + length piece.rows
   ends =
-      let more : joined (take (i + 1) ps) ≡ joined (take i ps) ++ piece.rows.items = joined_more ps i piece found.within ∙ ap (λ p. joined (take i ps) ++ p.rows.items) (sym is) in
+      let more : joined (take (i + 1) ps) ≡ joined (take i ps) ++ piece.rows = joined_more ps i piece found.within ∙ ap (λ p. joined (take i ps) ++ p.rows) (sym is) in
       let e = ap length more in
-      let a = length-append (joined (take i ps)) piece.rows.items in
+      let a = length-append (joined (take i ps)) piece.rows in
       omega (arith, e, a, starts)
 
   pub begun : piece.start ≤ place
   begun = let above = found.above in omega (arith, above, starts)
 
-  pub reached : place - piece.start ≤ length piece.rows.items
+  pub reached : place - piece.start ≤ length piece.rows
   reached = let below = found.below in omega (arith, below, ends)
 
-  pub holds : place < from + length (joined ps) → place - piece.start < length piece.rows.items
+  pub holds : place < from + length (joined ps) → place - piece.start < length piece.rows
   holds h = let inside = found.inside h in omega (arith, inside, ends, begun)
 
-  pub whole : joined ps ≡ joined (take i ps) ++ (piece.rows.items ++ joined (drop (i + 1) ps))
-  whole = joined_at ps i piece found.within ∙ ap (λ p. joined (take i ps) ++ (p.rows.items ++ joined (drop (i + 1) ps))) (sym is)
+  pub whole : joined ps ≡ joined (take i ps) ++ (piece.rows ++ joined (drop (i + 1) ps))
+  whole = joined_at ps i piece found.within ∙ ap (λ p. joined (take i ps) ++ (p.rows ++ joined (drop (i + 1) ps))) (sym is)
 
-  pub rest : drop (place - from) (joined ps) ≡ drop (place - piece.start) piece.rows.items ++ joined (drop (i + 1) ps)
+  pub rest : drop (place - from) (joined ps) ≡ drop (place - piece.start) piece.rows ++ joined (drop (i + 1) ps)
   rest =
       ap (drop (place - from)) whole
-      ∙ drop_past (joined (take i ps)) (piece.rows.items ++ joined (drop (i + 1) ps)) (place - piece.start) (place - from) (omega (arith, begun, starts))
-      ∙ drop-append-le (place - piece.start) piece.rows.items (joined (drop (i + 1) ps)) reached
+      ∙ drop_past (joined (take i ps)) (piece.rows ++ joined (drop (i + 1) ps)) (place - piece.start) (place - from) (omega (arith, begun, starts))
+      ∙ drop-append-le (place - piece.start) piece.rows (joined (drop (i + 1) ps)) reached
 
-  pub behind : AreNumbered (place + length (drop (place - piece.start) piece.rows.items)) (drop (i + 1) ps)
+  pub behind : AreNumbered (place + length (drop (place - piece.start) piece.rows)) (drop (i + 1) ps)
   behind =
-      let long = length-drop (place - piece.start) piece.rows.items in
-      let e : from + length (joined (take (i + 1) ps)) ≡ place + length (drop (place - piece.start) piece.rows.items) = omega (arith, long, ends, begun, reached) in
+      let long = length-drop (place - piece.start) piece.rows in
+      let e : from + length (joined (take (i + 1) ps)) ≡ place + length (drop (place - piece.start) piece.rows) = omega (arith, long, ends, begun, reached) in
       subst (λ k. AreNumbered k (drop (i + 1) ps)) e (numbered_drop from ps (i + 1) numbered)
 
   -- the row at the place
-  pub row_there : (row : List Cell) → place < from + length (joined ps) → row ≡ get_or piece.rows.items (place - piece.start) row → slice_get (joined ps) (place - from) ≡ Some row
+  pub row_there : (row : List Cell) → place < from + length (joined ps) → row ≡ get_or piece.rows (place - piece.start) row → slice_get (joined ps) (place - from) ≡ Some row
   row_there row h read =
       let inside = holds h in
       let far : place - from ≡ length (joined (take i ps)) + (place - piece.start) = omega (arith, begun, starts) in
       slice_get-get_or (joined ps) (place - from) row (omega (arith, h, begun, starts))
       ∙ ap (λ k. Some (get_or (joined ps) k row)) far
       ∙ ap (λ xs. Some (get_or xs (length (joined (take i ps)) + (place - piece.start)) row)) whole
-      ∙ ap (λ x. Some x) (get_or-append-add (joined (take i ps)) (piece.rows.items ++ joined (drop (i + 1) ps)) (place - piece.start) row)
-      ∙ ap (λ x. Some x) (get_or_append_left piece.rows.items (joined (drop (i + 1) ps)) row (place - piece.start) inside)
+      ∙ ap (λ x. Some x) (get_or-append-add (joined (take i ps)) (piece.rows ++ joined (drop (i + 1) ps)) (place - piece.start) row)
+      ∙ ap (λ x. Some x) (get_or_append_left piece.rows (joined (drop (i + 1) ps)) row (place - piece.start) inside)
       ∙ ap (λ x. Some x) (sym read)
 
 -- ---- the front of rows that are appended, without its own front
@@ -214,42 +214,42 @@ drop_viewed count at xs rows e l = sym (drop_taken at count xs (few_taken count 
 -- ---- pieces without rows
 
 abbrev pub has_rows : Piece → Bool
-has_rows piece = not (eqb piece.rows.len 0)
+has_rows piece = not (eqb (length piece.rows) 0)
 
-kept_one : (p : Piece) (all : List (List Cell)) (rest : List Piece) → joined rest ≡ all → (b : Bool) → eqb p.rows.len 0 ≡ b → joined (cond (not (eqb p.rows.len 0)) (p ∷ rest) rest) ≡ p.rows.items ++ all
+kept_one : (p : Piece) (all : List (List Cell)) (rest : List Piece) → joined rest ≡ all → (b : Bool) → eqb (length p.rows) 0 ≡ b → joined (cond (not (eqb (length p.rows) 0)) (p ∷ rest) rest) ≡ p.rows ++ all
 kept_one p all rest e true h =
-    let none : p.rows.items ≡ [] = nil_from_length p.rows.items (sym p.rows.ok.0 ∙ eqb-true p.rows.len 0 h) in
+    let none : p.rows ≡ [] = nil_from_length p.rows (eqb-true (length p.rows) 0 h) in
     ap (λ b. joined (cond (not b) (p ∷ rest) rest)) h ∙ e ∙ ap (λ xs. xs ++ all) (sym none)
-kept_one p all rest e false h = ap (λ b. joined (cond (not b) (p ∷ rest) rest)) h ∙ ap (λ xs. p.rows.items ++ xs) e
+kept_one p all rest e false h = ap (λ b. joined (cond (not b) (p ∷ rest) rest)) h ∙ ap (λ xs. p.rows ++ xs) e
 
 pub joined_kept : (ps : List Piece) → joined (filter has_rows ps) ≡ joined ps
 joined_kept [] = refl
-joined_kept (p ∷ ps) = kept_one p (joined ps) (filter has_rows ps) (joined_kept ps) (eqb p.rows.len 0) refl
+joined_kept (p ∷ ps) = kept_one p (joined ps) (filter has_rows ps) (joined_kept ps) (eqb (length p.rows) 0) refl
 
--- ---- the first row of a piece
+-- ---- the rows of a piece
 
-pub head_there : (from : ℕ) (ps : List Piece) (i : ℕ) (piece : Piece) (row : List Cell) → AreNumbered from ps → slice_get ps i ≡ Some piece → slice_get piece.rows.items 0 ≡ Some row
-    → (from ≤ piece.start) × (slice_get (joined ps) (piece.start - from) ≡ Some row)
-head_there from ps i piece row numbered e f =
+pub row_placed : (from : ℕ) (ps : List Piece) (i : ℕ) (piece : Piece) (k : ℕ) (row : List Cell) → AreNumbered from ps → slice_get ps i ≡ Some piece → slice_get piece.rows k ≡ Some row
+    → (from ≤ piece.start) × (slice_get (joined ps) (piece.start + k - from) ≡ Some row)
+row_placed from ps i piece k row numbered e f =
     let there = slice_get_within ps i piece e in
     let is = get_or_from_slice_get ps i piece piece e in
-    let some = slice_get_within piece.rows.items 0 row f in
+    let some = slice_get_within piece.rows k row f in
     let begin : piece.start ≡ from + length (joined (take i ps)) = ap (λ p. p.start) (sym is) ∙ numbered_at from ps i piece numbered there in
-    let more = joined_more ps i piece there ∙ ap (λ p. joined (take i ps) ++ p.rows.items) is in
+    let more = joined_more ps i piece there ∙ ap (λ p. joined (take i ps) ++ p.rows) is in
     let long = ap length more in
-    let sum = length-append (joined (take i ps)) piece.rows.items in
-    let found : IsPieceOf from ps piece.start i = record {
+    let sum = length-append (joined (take i ps)) piece.rows in
+    let found : IsPieceOf from ps (piece.start + k) i = record {
       within = there;
       above = omega (arith, begin);
-      below = omega (arith, begin, long, sum);
+      below = omega (arith, begin, long, sum, some);
       inside = λ h. omega (arith, begin, long, sum, some);
     } in
     let rise = joined_rise ps (i + 1) (length ps) (omega (arith, there)) in
     let all = ap (λ qs. length (joined qs)) (take_all (length ps) ps (omega arith)) in
-    let zero : piece.start - piece.start ≡ 0 = omega arith in (
+    let here : piece.start + k - piece.start ≡ k = omega arith in (
       omega (arith, begin),
-      row_there from ps numbered piece.start i found piece (sym is) row (omega (arith, begin, long, sum, some, rise, all))
-          (sym (get_or_from_slice_get piece.rows.items 0 row row f) ∙ ap (λ k. get_or piece.rows.items k row) (sym zero)),
+      row_there from ps numbered (piece.start + k) i found piece (sym is) row (omega (arith, begin, long, sum, some, rise, all))
+          (sym (get_or_from_slice_get piece.rows k row row f) ∙ ap (λ n. get_or piece.rows n row) (sym here)),
     )
 
 pub seen_there : {A : Type 0} (count at : ℕ) (front behind rows : List A) (row : A) → take count (front ++ behind) ≡ rows → at < count → length front ≤ at → slice_get behind (at - length front) ≡ Some row → slice_get rows at ≡ Some row

@@ -5,3 +5,4 @@ pub mod Joining
 pub mod Opening
 pub mod Putting
 pub mod Retaining
+pub mod Marking

@@ -40,8 +40,8 @@ module _ (ps : List Piece) (end place i : ℕ) (opened : IsOpen ps end place) (f
       let same = ap (λ qs. length (joined qs)) (front i (omega (arith, early))) in
       omega (arith, e, same)
 
-  pub more : joined (take (i + 1) ps) ≡ joined (take i ps) ++ p.rows.items
-  more = joined_more ps i p inside ∙ ap (λ q. joined (take i ps) ++ q.rows.items) (sym is)
+  pub more : joined (take (i + 1) ps) ≡ joined (take i ps) ++ p.rows
+  more = joined_more ps i p inside ∙ ap (λ q. joined (take i ps) ++ q.rows) (sym is)
 
   pub low : p.start ≤ place
   low =
@@ -49,12 +49,12 @@ module _ (ps : List Piece) (end place i : ℕ) (opened : IsOpen ps end place) (f
       let same = ap (λ qs. length (joined qs)) (front i (omega (arith, early))) in
       omega (arith, above, same, begins)
 
-  pub high : place - p.start ≤ length p.rows.items
+  pub high : place - p.start ≤ length p.rows
   high =
       let below = found.below in
       let same = ap (λ qs. length (joined qs)) (front (i + 1) (omega (arith, early))) in
       let e = ap length more in
-      let sum = length-append (joined (take i ps)) p.rows.items in
+      let sum = length-append (joined (take i ps)) p.rows in
       omega (arith, below, same, begins, e, sum)
 
   pub numbered_here : AreNumbered 0 (take (i + 1) ps)
@@ -64,7 +64,7 @@ module _ (ps : List Piece) (end place i : ℕ) (opened : IsOpen ps end place) (f
   open_here =
       let within = inside in
       let e = ap length more in
-      let sum = length-append (joined (take i ps)) p.rows.items in
+      let sum = length-append (joined (take i ps)) p.rows in
       record {
         some = omega arith;
         within = omega (arith, within);
@@ -73,7 +73,7 @@ module _ (ps : List Piece) (end place i : ℕ) (opened : IsOpen ps end place) (f
       }
 
   -- a row is put into the piece
-  module _ (q : Piece) (row : List Cell) (start : q.start ≡ p.start) (rows : q.rows.items ≡ insert p.rows.items (place - p.start) row) where
+  module _ (q : Piece) (row : List Cell) (start : q.start ≡ p.start) (rows : q.rows ≡ insert p.rows (place - p.start) row) where
     front_set : take (i + 1) (set ps i q) ≡ take i ps ++ q ∷ []
     front_set = take_more_set ps i q inside
 
@@ -84,26 +84,26 @@ module _ (ps : List Piece) (end place i : ℕ) (opened : IsOpen ps end place) (f
         let far : place - length before ≡ place - p.start = omega (arith, begins) in
         joined_set ps i q inside
         ∙ ap (λ xs. before ++ (xs ++ behind)) rows
-        ∙ ap (λ xs. before ++ xs) (sym (insert-append_left p.rows.items behind (place - p.start) row high))
-        ∙ ap (λ n. before ++ insert (p.rows.items ++ behind) n row) (sym far)
-        ∙ sym (insert-append_right before (p.rows.items ++ behind) (length before) place row refl (omega (arith, low, begins)))
-        ∙ ap (λ xs. insert xs place row) (sym (joined_at ps i p inside ∙ ap (λ z. before ++ (z.rows.items ++ behind)) (sym is)))
+        ∙ ap (λ xs. before ++ xs) (sym (insert-append_left p.rows behind (place - p.start) row high))
+        ∙ ap (λ n. before ++ insert (p.rows ++ behind) n row) (sym far)
+        ∙ sym (insert-append_right before (p.rows ++ behind) (length before) place row refl (omega (arith, low, begins)))
+        ∙ ap (λ xs. insert xs place row) (sym (joined_at ps i p inside ∙ ap (λ z. before ++ (z.rows ++ behind)) (sym is)))
 
     pub open_put : length ps ≡ length (set ps i q) → IsOpen (set ps i q) (i + 1) place
     open_put long =
-        let front_rows : joined (take (i + 1) (set ps i q)) ≡ joined (take i ps) ++ q.rows.items =
+        let front_rows : joined (take (i + 1) (set ps i q)) ≡ joined (take i ps) ++ q.rows =
         ap joined front_set
         ∙ joined-append (take i ps) (q ∷ [])
-        ∙ ap (λ xs. joined (take i ps) ++ xs) (append-nil q.rows.items)
+        ∙ ap (λ xs. joined (take i ps) ++ xs) (append-nil q.rows)
         in
         let e = ap length front_rows in
-        let sum = length-append (joined (take i ps)) q.rows.items in
+        let sum = length-append (joined (take i ps)) q.rows in
         let grown = ap length rows in
         let here = inside in
         let start_is : q.start ≡ 0 + length (joined (take i ps)) = start ∙ (omega (arith, begins)) in
         let kept = numbered_take 0 (take (i + 1) ps) i numbered_here in
         let same = take-take i (i + 1) ps (omega arith) in
-        let put = length-insert p.rows.items (place - p.start) row high in
+        let put = length-insert p.rows (place - p.start) row high in
         record {
           some = omega arith;
           within = omega (arith, here, long);

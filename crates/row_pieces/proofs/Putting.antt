@@ -86,7 +86,7 @@ last_drop all before item count e n =
 
 -- ---- a row that is taken out of a piece
 
-pub joined_remove : (ps : List Piece) (at place left : ℕ) (there : at < length ps) (p q : Piece) → p ≡ get_or ps at p → place ≡ length (joined (take at ps)) + left → left < length p.rows.items → q.rows.items ≡ remove p.rows.items left
+pub joined_remove : (ps : List Piece) (at place left : ℕ) (there : at < length ps) (p q : Piece) → p ≡ get_or ps at p → place ≡ length (joined (take at ps)) + left → left < length p.rows → q.rows ≡ remove p.rows left
     → joined (set ps at q) ≡ take place (joined ps) ++ drop (place + 1) (joined ps)
 joined_remove ps at place left there p q is e inside rows =
     let before = joined (take at ps) in
@@ -95,10 +95,10 @@ joined_remove ps at place left there p q is e inside rows =
     let one : suc place ≡ place + 1 = omega arith in
     joined_set ps at q there
     ∙ ap (λ xs. before ++ (xs ++ behind)) rows
-    ∙ ap (λ xs. before ++ xs) (sym (remove-append_left p.rows.items behind left inside))
-    ∙ ap (λ n. before ++ remove (p.rows.items ++ behind) n) (sym far)
-    ∙ sym (remove-append_right before (p.rows.items ++ behind) (length before) place refl (omega (arith, e)))
-    ∙ ap (λ xs. remove xs place) (sym (joined_at ps at p there ∙ ap (λ z. before ++ (z.rows.items ++ behind)) (sym is)))
+    ∙ ap (λ xs. before ++ xs) (sym (remove-append_left p.rows behind left inside))
+    ∙ ap (λ n. before ++ remove (p.rows ++ behind) n) (sym far)
+    ∙ sym (remove-append_right before (p.rows ++ behind) (length before) place refl (omega (arith, e)))
+    ∙ ap (λ xs. remove xs place) (sym (joined_at ps at p there ∙ ap (λ z. before ++ (z.rows ++ behind)) (sym is)))
     ∙ ap (λ n. take place (joined ps) ++ drop n (joined ps)) one
 
 pub open_lower : (ps : List Piece) (end place lower : ℕ) → lower ≤ place → IsOpen ps end place → IsOpen ps end lower

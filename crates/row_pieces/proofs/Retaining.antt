@@ -95,53 +95,53 @@ module _ {A : Type 0} (p : A → Bool) where
 
 module _ (ps : List Piece) (at : ℕ) (old new : Piece) (there : at < length ps) (is : old ≡ get_or ps at old) where
   -- the stretch goes on behind a piece
-  pub retained_next : (p : List Cell → Bool) (low high lower higher : ℕ) (all : List (List Cell)) → lower ≡ low - length old.rows.items → higher ≡ high - length old.rows.items
-      → ((behind : List (List Cell)) → retained p low high (old.rows.items ++ behind) ≡ new.rows.items ++ retained p (low - length old.rows.items) (high - length old.rows.items) behind)
+  pub retained_next : (p : List Cell → Bool) (low high lower higher : ℕ) (all : List (List Cell)) → lower ≡ low - length old.rows → higher ≡ high - length old.rows
+      → ((behind : List (List Cell)) → retained p low high (old.rows ++ behind) ≡ new.rows ++ retained p (low - length old.rows) (high - length old.rows) behind)
       → all ≡ joined (take at ps) ++ retained p low high (joined (drop at ps))
       → all ≡ joined (take (at + 1) (set ps at new)) ++ retained p lower higher (joined (drop (at + 1) (set ps at new)))
   retained_next p low high lower higher all e f step so_far =
       let behind = joined (drop (at + 1) ps) in
       let before = joined (take at ps) in
       let last = retained p lower higher behind in
-      let front : joined (take (at + 1) (set ps at new)) ≡ before ++ new.rows.items =
+      let front : joined (take (at + 1) (set ps at new)) ≡ before ++ new.rows =
       ap joined (take_more_set ps at new there)
       ∙ joined-append (take at ps) (new ∷ [])
-      ∙ ap (λ xs. before ++ xs) (append-nil new.rows.items)
+      ∙ ap (λ xs. before ++ xs) (append-nil new.rows)
       in
       so_far
-      ∙ ap (λ xs. before ++ retained p low high xs) (joined_rest ps at old there ∙ ap (λ z. z.rows.items ++ behind) (sym is))
+      ∙ ap (λ xs. before ++ retained p low high xs) (joined_rest ps at old there ∙ ap (λ z. z.rows ++ behind) (sym is))
       ∙ ap (λ xs. before ++ xs) (step behind)
-      ∙ ap (λ n. before ++ (new.rows.items ++ retained p n (high - length old.rows.items) behind)) (sym e)
-      ∙ ap (λ n. before ++ (new.rows.items ++ retained p lower n behind)) (sym f)
-      ∙ sym (append_assoc before new.rows.items last)
+      ∙ ap (λ n. before ++ (new.rows ++ retained p n (high - length old.rows) behind)) (sym e)
+      ∙ ap (λ n. before ++ (new.rows ++ retained p lower n behind)) (sym f)
+      ∙ sym (append_assoc before new.rows last)
       ∙ ap (λ xs. xs ++ last) (sym front)
       ∙ ap (λ qs. joined (take (at + 1) (set ps at new)) ++ retained p lower higher (joined qs)) (sym (drop-set-lt (at + 1) ps at new (omega arith)))
 
-  pub fewer_set : length new.rows.items ≤ length old.rows.items → length (joined (set ps at new)) ≤ length (joined ps)
+  pub fewer_set : length new.rows ≤ length old.rows → length (joined (set ps at new)) ≤ length (joined ps)
   fewer_set l =
       let behind = joined (drop (at + 1) ps) in
       let before = joined (take at ps) in
       let e = ap length (joined_set ps at new there) in
-      let f = ap length (joined_at ps at old there ∙ ap (λ z. before ++ (z.rows.items ++ behind)) (sym is)) in
-      let a = length-append before (new.rows.items ++ behind) in
-      let b = length-append new.rows.items behind in
-      let c = length-append before (old.rows.items ++ behind) in
-      let d = length-append old.rows.items behind in
+      let f = ap length (joined_at ps at old there ∙ ap (λ z. before ++ (z.rows ++ behind)) (sym is)) in
+      let a = length-append before (new.rows ++ behind) in
+      let b = length-append new.rows behind in
+      let c = length-append before (old.rows ++ behind) in
+      let d = length-append old.rows behind in
       omega (arith, e, f, a, b, c, d, l)
 
 -- ---- rows that are exchanged
 
 pub exchanged_next : (ps new : List Piece) (old : List Piece) (rows given others : List (List Cell)) (at start : ℕ) (p q : Piece) → at < length ps → length ps ≡ length old
     → p ≡ get_or ps at p → start ≡ length (joined (take at old)) → length others ≡ length (joined old) → joined (take at ps) ≡ take start others → rows ≡ joined (take at old) ++ drop start others → drop at ps ≡ drop at old
-    → q.rows.items ≡ take (length p.rows.items) (drop start rows) → given ≡ take start rows ++ (p.rows.items ++ drop (length p.rows.items) (drop start rows)) → new ≡ set ps at q
-    → (joined (take (at + 1) old) ≡ joined (take at old) ++ p.rows.items) × (joined (take (at + 1) new) ≡ take (start + length p.rows.items) others) × (given ≡ joined (take (at + 1) old) ++ drop (start + length p.rows.items) others) × (drop (at + 1) new ≡ drop (at + 1) old)
+    → q.rows ≡ take (length p.rows) (drop start rows) → given ≡ take start rows ++ (p.rows ++ drop (length p.rows) (drop start rows)) → new ≡ set ps at q
+    → (joined (take (at + 1) old) ≡ joined (take at old) ++ p.rows) × (joined (take (at + 1) new) ≡ take (start + length p.rows) others) × (given ≡ joined (take (at + 1) old) ++ drop (start + length p.rows) others) × (drop (at + 1) new ≡ drop (at + 1) old)
 exchanged_next ps new old rows given others at start p q there same is start_is all held so_far rest q_rows given_is new_is =
-    let n = length p.rows.items in
+    let n = length p.rows in
     let first = get_or-drop at ps 0 p in
     let first_old = get_or-drop at old 0 p in
     let zero : at + 0 ≡ at = omega arith in
     let seen : p ≡ get_or old at p = is ∙ ap (λ k. get_or ps k p) (sym zero) ∙ sym first ∙ ap (λ qs. get_or qs 0 p) rest ∙ first_old ∙ ap (λ k. get_or old k p) zero in
-    let more : joined (take (at + 1) old) ≡ joined (take at old) ++ p.rows.items = joined_more old at p (omega (arith, there, same)) ∙ ap (λ z. joined (take at old) ++ z.rows.items) (sym seen) in
+    let more : joined (take (at + 1) old) ≡ joined (take at old) ++ p.rows = joined_more old at p (omega (arith, there, same)) ∙ ap (λ z. joined (take at old) ++ z.rows) (sym seen) in
     let front : take start rows ≡ joined (take at old) = ap (take start) so_far ∙ take_at (joined (take at old)) (drop start others) start (sym start_is) in
     let behind : drop start rows ≡ drop start others = ap (drop start) so_far ∙ drop_at (joined (take at old)) (drop start others) start (sym start_is) in
     let fits : start ≤ length others = (let e = ap length (joined_parts old at) in let a = length-append (joined (take at old)) (joined (drop at old)) in omega (arith, e, a, all, start_is)) in
@@ -153,14 +153,14 @@ exchanged_next ps new old rows given others at start p q there same is start_is 
       ap (λ qs. joined (take (at + 1) qs)) new_is
           ∙ ap joined (take_more_set ps at q there)
           ∙ joined-append (take at ps) (q ∷ [])
-          ∙ ap (λ xs. joined (take at ps) ++ xs) (append-nil q.rows.items)
-          ∙ ap (λ xs. xs ++ q.rows.items) held
+          ∙ ap (λ xs. joined (take at ps) ++ xs) (append-nil q.rows)
+          ∙ ap (λ xs. xs ++ q.rows) held
           ∙ ap (λ xs. take start others ++ xs) (q_rows ∙ ap (take n) behind)
           ∙ sym parts,
       given_is
-          ∙ ap (λ xs. xs ++ (p.rows.items ++ drop n (drop start rows))) front
-          ∙ ap (λ xs. joined (take at old) ++ (p.rows.items ++ drop n xs)) behind
-          ∙ sym (append_assoc (joined (take at old)) p.rows.items (drop n (drop start others)))
+          ∙ ap (λ xs. xs ++ (p.rows ++ drop n (drop start rows))) front
+          ∙ ap (λ xs. joined (take at old) ++ (p.rows ++ drop n xs)) behind
+          ∙ sym (append_assoc (joined (take at old)) p.rows (drop n (drop start others)))
           ∙ ap (λ xs. xs ++ drop n (drop start others)) (sym more)
           ∙ ap (λ xs. joined (take (at + 1) old) ++ xs) (drop-drop n start others),
       ap (drop (at + 1)) new_is
@@ -170,13 +170,13 @@ exchanged_next ps new old rows given others at start p q there same is start_is 
           ∙ drop-drop 1 at old,
     )
 
-pub exchanged_fits : (ps old : List Piece) (at : ℕ) (p : Piece) → at < length ps → length ps ≡ length old → p ≡ get_or ps at p → drop at ps ≡ drop at old → length (joined (take at old)) + length p.rows.items ≤ length (joined old)
+pub exchanged_fits : (ps old : List Piece) (at : ℕ) (p : Piece) → at < length ps → length ps ≡ length old → p ≡ get_or ps at p → drop at ps ≡ drop at old → length (joined (take at old)) + length p.rows ≤ length (joined old)
 exchanged_fits ps old at p there same is rest =
     let e = ap length (joined_parts old at) in
     let a = length-append (joined (take at old)) (joined (drop at old)) in
     let f = ap (λ qs. length (joined qs)) rest in
-    let g = ap length (joined_rest ps at p there ∙ ap (λ z. z.rows.items ++ joined (drop (at + 1) ps)) (sym is)) in
-    let b = length-append p.rows.items (joined (drop (at + 1) ps)) in
+    let g = ap length (joined_rest ps at p there ∙ ap (λ z. z.rows ++ joined (drop (at + 1) ps)) (sym is)) in
+    let b = length-append p.rows (joined (drop (at + 1) ps)) in
     omega (arith, e, a, f, g, b)
 
 -- ---- the piece in which a stretch begins

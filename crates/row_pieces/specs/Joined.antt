@@ -6,12 +6,12 @@ use Rattle.row_pieces.specs.declared.piece.Piece.{Piece}
 
 -- the rows of pieces, one piece after the other
 abbrev pub joined : List Piece → List (List Cell)
-joined pieces = flat_map (λ piece. piece.rows.items) pieces
+joined pieces = flat_map (λ piece. piece.rows) pieces
 
 -- each piece has the place of its first row, where the first piece begins at a place
 abbrev pub AreNumbered : ℕ → List Piece → Type 0
 AreNumbered place [] = Unit {0}
-AreNumbered place (piece ∷ pieces) = (piece.start ≡ place) × AreNumbered (place + length piece.rows.items) pieces
+AreNumbered place (piece ∷ pieces) = (piece.start ≡ place) × AreNumbered (place + length piece.rows) pieces
 
 -- the piece of a number is the one for a place among pieces that begin at another: no piece behind it begins before the place
 pub record IsPieceOf (from : ℕ) (pieces : List Piece) (place number : ℕ) : Type 0 where

@@ -3,7 +3,7 @@
 ghost use Rattle.std.specs.Prelude.{◌≡◌, ◌≤◌, ◌++◌, OnOk, OnErr, [], length, reverse, take};
 ghost use Rattle.row_pieces.specs.Joined.{joined, AreNumbered};
 
-use crate::mark::first_mark;
+use crate::marked::MarkedRows;
 use crate::piece::{MOST_IN_PIECE, Piece};
 use cqa_value::{NoMemory, Row};
 
@@ -18,12 +18,8 @@ fn cut_off(rows: &mut Vec<Row>, cut: &mut Vec<Piece>) -> Result<(), NoMemory>
 {
     while rows.len() > MOST_IN_PIECE {
         let rest = rows.split_off(rows.len() - MOST_IN_PIECE)?;
-        let mark = first_mark(rest.as_slice());
-        cut.push(Piece {
-            start: 0,
-            mark,
-            rows: rest,
-        })?;
+        let rows = MarkedRows::of(rest)?;
+        cut.push(Piece { start: 0, rows })?;
     }
     Ok(())
 }
@@ -37,13 +33,8 @@ fn cut_all(rows: &mut Vec<Row>, cut: &mut Vec<Piece>) -> Result<(), NoMemory>
     cut.reserve(1)?;
     rows.shrink_to_fit();
     let alloc = *rows.allocator();
-    let first = std::mem::replace(rows, Vec::new(alloc));
-    let mark = first_mark(first.as_slice());
-    cut.push_reserved(Piece {
-        start: 0,
-        mark,
-        rows: first,
-    });
+    let rows = MarkedRows::of(std::mem::replace(rows, Vec::new(alloc)))?;
+    cut.push_reserved(Piece { start: 0, rows });
     Ok(())
 }
 
@@ -69,7 +60,7 @@ fn move_behind(
 ///
 /// # Errors
 ///
-/// `NoMemory` where memory is refused; nothing has changed then.
+/// `NoMemory` where memory is refused; the pieces hold the same rows as before then.
 fn add_pieces(pieces: &mut Vec<Piece>, rows: &mut Vec<Row>) -> Result<(), NoMemory>
     ensures ok { OnOk result (joined pieces.new.items ≡ joined pieces.old.items ++ rows.old.items) }
     ensures err { OnErr result (joined pieces.new.items ≡ joined pieces.old.items) }
@@ -86,7 +77,7 @@ fn add_pieces(pieces: &mut Vec<Piece>, rows: &mut Vec<Row>) -> Result<(), NoMemo
 ///
 /// # Errors
 ///
-/// `NoMemory` where memory is refused; nothing has changed then.
+/// `NoMemory` where memory is refused; the pieces hold the same rows as before then.
 pub fn add_behind(pieces: &mut Vec<Piece>, rows: &mut Vec<Row>) -> Result<(), NoMemory>
     ensures ok { OnOk result (joined pieces.new.items ≡ joined pieces.old.items ++ rows.old.items) }
     ensures err { OnErr result (joined pieces.new.items ≡ joined pieces.old.items) }
@@ -94,7 +85,7 @@ pub fn add_behind(pieces: &mut Vec<Piece>, rows: &mut Vec<Row>) -> Result<(), No
     ensures kept { OnOk result (AreNumbered 0 pieces.old.items → AreNumbered 0 (take (length pieces.old.items) pieces.new.items)) }
 {
     let count = pieces.len();
-    if count == 0 || pieces[count - 1].rows.len() + rows.len() > MOST_IN_PIECE {
+    if count == 0 || pieces[count - 1].rows.len().saturating_add(rows.len()) > MOST_IN_PIECE {
         return add_pieces(pieces, rows);
     }
     let last = &mut pieces[count - 1];

@@ -4,6 +4,7 @@
 mod add;
 mod keep;
 mod mark;
+mod marked;
 mod piece;
 mod pieces;
 mod put;

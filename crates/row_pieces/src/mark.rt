@@ -1,50 +1,64 @@
-//! Marks of rows: numbers by which the piece of a row is guessed.
-//! Nothing rests on them.
+//! Marks of values: numbers that tell the order of most values, so that a search looks at few rows.
 
-use cqa_value::{Row, Value};
+ghost use Rattle.std.specs.Prelude.{◌≡◌, ◌<◌, ◌^◌, slice_index_or};
+ghost use Rattle.cqa_value.specs.declared.value.Value.TheVariants.{Int as IntCell};
+ghost use Rattle.row_pieces.specs.Marks.{with_bytes, value_mark, row_mark};
+
+use cqa_value::{NOTHING, Row, Value};
 
 /// How many bytes of a text its mark tells.
-const TOLD: usize = 8;
+pub const TOLD: usize = 7;
 
-/// Half of all marks, below which those of negative integers are.
-const HALF: u64 = 1 << 63;
+/// The mark of the number 0. An integer that is as far from 0 or farther has the least mark, or the greatest one of integers.
+pub const ZERO: u64 = 1 << 62;
 
-/// The first bytes of a text as a number.
-fn first_bytes(text: &[u8]) -> u64 {
-    let mut number = 0u64;
+/// The least mark of texts.
+pub const TEXTS: u64 = 1 << 63;
+
+/// The mark of an integer.
+fn int_mark(number: i64) -> u64
+    ensures { result ≡ value_mark (IntCell number) }
+{
+    let size = number.unsigned_abs();
+    if number < 0 {
+        ZERO.saturating_sub(size)
+    } else {
+        ZERO + size.min(ZERO)
+    }
+}
+
+/// The byte at a place of a text, or 0 where there is none.
+fn byte_at(text: &[u8], at: usize) -> u8
+    ensures { result ≡ slice_index_or text.now at 0 }
+{
+    *text.get(at).unwrap_or(&0)
+}
+
+/// The first bytes of a text as a number in base 256; a byte that isn't there counts as 0.
+fn first_bytes(text: &[u8]) -> u64
+    ensures value { result ≡ with_bytes 0 TOLD text.now }
+    ensures small { result < 2 ^ 56 }
+{
+    let mut number = 0;
     for at in 0..TOLD {
-        let byte = match text.get(at) {
-            Some(byte) => *byte,
-            None => 0,
-        };
-        number = number.wrapping_mul(256).wrapping_add(u64::from(byte));
+        number = number * 256 + u64::from(byte_at(text, at));
     }
     number
 }
 
-/// A number for the first value of a row, which goes up with it among values of one kind: an integer itself, or the first bytes
-/// of a text.
-pub fn mark_of(row: &Row) -> u64 {
-    match row.as_slice().first() {
-        Some(Value::Int(number)) => number.cast_unsigned().wrapping_add(HALF),
-        Some(Value::Text(text)) => first_bytes(text.bytes()),
-        None => 0,
+/// The mark of a value. It never falls as the value goes up: what has the lower mark is the lower value.
+pub fn mark_of(value: &Value) -> u64
+    ensures { result ≡ value_mark value.now }
+{
+    match value {
+        Value::Int(number) => int_mark(*number),
+        Value::Text(text) => TEXTS + first_bytes(text.bytes()),
     }
 }
 
-/// The mark of the first of some rows, or the greatest one where there are none.
-pub fn first_mark(rows: &[Row]) -> u64 {
-    match rows.first() {
-        Some(row) => mark_of(row),
-        None => u64::MAX,
-    }
-}
-
-/// Where among so many rows one of a mark is expected, if marks go up evenly from one to another.
-pub fn share(mark: u64, from: u64, to: u64, count: usize) -> usize {
-    let span = to.saturating_sub(from);
-    let scale = (span / 65_536).max(1);
-    let told = mark.saturating_sub(from) / scale;
-    let all = (span / scale).max(1);
-    (told.saturating_mul(count as u64) / all) as usize
+/// The mark of a row: that of its first value.
+pub fn mark_of_row(row: &Row) -> u64
+    ensures { result ≡ row_mark row.now }
+{
+    mark_of(row.at_or(0, &NOTHING))
 }

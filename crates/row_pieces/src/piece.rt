@@ -3,18 +3,17 @@
 ghost use Rattle.std.specs.Prelude.{◌≡◌, ℕ, ◌≤◌, ◌<◌, ◌+◌, ◌-◌, ◌++◌, ◌^◌, Some, length, take, drop, slice_get};
 ghost use Rattle.row_pieces.specs.Joined.{joined, AreNumbered, IsPieceOf};
 
+use crate::marked::MarkedRows;
 use cqa_value::Row;
 
 /// The most rows that a piece is left with where memory is had to cut it.
 pub const MOST_IN_PIECE: usize = 256;
 
-/// Some rows one after the other, with the place of the first of them, and a mark: that of the first row, or of one that stood
-/// before it.
+/// Some rows one after the other, with the place of the first of them.
 #[derive(Drop)]
 pub struct Piece {
     pub start: usize,
-    pub mark: u64,
-    pub rows: Vec<Row>,
+    pub rows: MarkedRows,
 }
 
 /// The last piece that begins at a place or before it.
@@ -26,13 +25,21 @@ pub fn piece_of(pieces: &[Piece], place: usize) -> usize
         .saturating_sub(1)
 }
 
+/// The row at a place of a slice.
+pub fn row_in<'a>(rows: &'a [Row], at: usize) -> &'a Row
+    requires { at < length rows.now }
+    ensures { slice_get rows.now at ≡ Some result.now }
+{
+    &rows[at]
+}
+
 /// The row at a place.
 pub fn row_of<'a>(pieces: &'a [Piece], place: usize) -> &'a Row
     requires { (from : ℕ) × AreNumbered from pieces.now × (from ≤ place) × (place < from + length (joined pieces.now)) }
     ensures { (from : ℕ) → AreNumbered from pieces.now → from ≤ place → place < from + length (joined pieces.now) → slice_get (joined pieces.now) (place - from) ≡ Some result.now }
 {
     let piece = &pieces[piece_of(pieces, place)];
-    &piece.rows[place - piece.start]
+    row_in(piece.rows.as_slice(), place - piece.start)
 }
 
 /// What stands from a place on in its piece, and the pieces behind that.

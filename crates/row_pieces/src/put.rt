@@ -7,14 +7,14 @@ ghost use Rattle.row_pieces.specs.Inserted.{with_item, with_items, AreRising};
 ghost use Rattle.row_pieces.specs.Joined.{joined, AreNumbered, IsOpen};
 
 use crate::add::add_behind;
-use crate::mark::{first_mark, mark_of};
+use crate::marked::MarkedRows;
 use crate::piece::{MOST_IN_PIECE, Piece, piece_of};
 use cqa_value::{NoMemory, Row};
 
 /// Cuts a piece in two where memory is had for that, and gives the number of pieces up to its end.
 fn cut(pieces: &mut Vec<Piece>, at: usize, middle: usize) -> usize
     requires there { at < length pieces.old.items }
-    requires within { (none : PieceOfRows) → middle ≤ length (slice_index_or pieces.old.items at none).rows.items }
+    requires within { (none : PieceOfRows) → middle ≤ length (slice_index_or pieces.old.items at none).rows }
     requires numbered { AreNumbered 0 (take (at + 1) pieces.old.items) }
     requires fits { length (joined pieces.old.items) < 2 ^ 64 }
     ensures some { 0 < result }
@@ -30,8 +30,7 @@ fn cut(pieces: &mut Vec<Piece>, at: usize, middle: usize) -> usize
     let start = piece.start + middle;
     match piece.rows.split_off(middle) {
         Ok(rows) => {
-            let mark = first_mark(rows.as_slice());
-            drop(pieces.insert(at + 1, Piece { start, mark, rows }));
+            drop(pieces.insert(at + 1, Piece { start, rows }));
             at + 2
         }
         Err(_) => at + 1,
@@ -63,9 +62,7 @@ fn put_in(pieces: &mut Vec<Piece>, end: usize, place: usize, row: Row) -> Result
 {
     let (front, _) = pieces.as_slice().split_at(end);
     let at = piece_of(front, place);
-    let mark = mark_of(&row);
     let piece = &mut pieces[at];
-    piece.mark = piece.mark.min(mark);
     piece.rows.insert(place - piece.start, row)?;
     Ok(at + 1)
 }
@@ -79,7 +76,7 @@ fn take_out(pieces: &mut [Piece], place: usize)
         let piece = &mut pieces[at];
         let len = piece.rows.len();
         if left < len {
-            drop(piece.rows.remove(left));
+            piece.rows.remove(left);
             return;
         }
         left -= len;
@@ -161,11 +158,8 @@ pub fn put(
         return Ok(kept);
     }
     if pieces.is_empty() {
-        pieces.push(Piece {
-            start: 0,
-            mark: 0,
-            rows: Vec::new(*rows.allocator()),
-        })?;
+        let rows = MarkedRows::new(*rows.allocator());
+        pieces.push(Piece { start: 0, rows })?;
     }
     put_each(pieces, rows, places)
 }

@@ -6,24 +6,23 @@ ghost use Rattle.cqa_value.specs.declared.value.Value.{Value as Cell};
 ghost use Rattle.row_pieces.specs.Joined.{joined, AreNumbered};
 ghost use Rattle.row_pieces.specs.Retained.{retained};
 
-use crate::keep::retain_range;
-use crate::mark::first_mark;
+use crate::marked::MarkedRows;
 use crate::piece::{Piece, piece_of};
 use cqa_value::Row;
 
 /// Takes the rows of a stretch away that don't pass a test, as far as it goes over these, and gives the test.
-fn retain_some<P: FnMut(&Row) -> bool>(rows: &mut Vec<Row>, from: usize, to: usize, stays: P) -> P
+fn retain_some<P: FnMut(&Row) -> bool>(rows: &mut MarkedRows, from: usize, to: usize, stays: P) -> P
     requires callable { P.IsAlwaysCallable stays }
     requires order { from ≤ to }
     ensures callable { P.IsAlwaysCallable result }
-    ensures kept { (p : List Cell → Bool) (behind : List (List Cell)) → ComputesKey P.FnMut p stays → ComputesKey P.FnMut p result × (retained p from to (rows.old.items ++ behind) ≡ rows.new.items ++ retained p (from - length rows.old.items) (to - length rows.old.items) behind) }
-    ensures fewer { length rows.new.items ≤ length rows.old.items }
+    ensures kept { (p : List Cell → Bool) (behind : List (List Cell)) → ComputesKey P.FnMut p stays → ComputesKey P.FnMut p result × (retained p from to (rows.old ++ behind) ≡ rows.new ++ retained p (from - length rows.old) (to - length rows.old) behind) }
+    ensures fewer { length rows.new ≤ length rows.old }
 {
     let len = rows.len();
     if len <= from {
         return stays;
     }
-    retain_range(rows, from, to.min(len), stays)
+    rows.retain_range(from, to.min(len), stays)
 }
 
 /// Takes the rows of a stretch away that don't pass a test, from the piece on in which it begins. Gives the number of pieces
@@ -87,16 +86,6 @@ pub fn drop_emptied(pieces: &mut Vec<Piece>, kept: usize, emptied: bool) -> usiz
     0
 }
 
-/// Exchanges rows for as many others, from a place on.
-fn exchange_some(rows: &mut [Row], others: &mut [Row], start: usize)
-    requires { start + length rows.old ≤ length others.old }
-    ensures held { rows.new ≡ take (length rows.old) (drop start others.old) }
-    ensures given { others.new ≡ take start others.old ++ (rows.old ++ drop (length rows.old) (drop start others.old)) }
-{
-    let end = start + rows.len();
-    rows.swap_with_slice(&mut others[start..end]);
-}
-
 /// Exchanges the rows of pieces for as many others.
 pub fn exchange_each(pieces: &mut [Piece], rows: &mut [Row])
     requires { length rows.old ≡ length (joined pieces.old) }
@@ -106,8 +95,7 @@ pub fn exchange_each(pieces: &mut [Piece], rows: &mut [Row])
     let mut start = 0;
     for at in 0..pieces.len() {
         let piece = &mut pieces[at];
-        exchange_some(piece.rows.as_mut_slice(), rows, start);
-        piece.mark = first_mark(piece.rows.as_slice());
+        piece.rows.exchange(rows, start);
         start += piece.rows.len();
     }
 }

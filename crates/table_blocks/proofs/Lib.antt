@@ -1,4 +1,5 @@
 pub mod BlockOrder
+pub mod Following
 pub mod Halving
 pub mod Sorting
 pub mod Placing

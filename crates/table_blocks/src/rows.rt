@@ -1,6 +1,6 @@
 //! Rows in block order: how new ones are sorted in, and how rows are taken out.
 //! Nothing is compared that its place or its key tells.
-ghost use Rattle.std.specs.Prelude.{◌≡◌, ◌≤◌, ◌<◌, ◌+◌, ◌-◌, ◌↔◌, IsTrue, filter, not, MatchOption, OnErr, IfOk, Some, None, if◌then◌else◌, slice_get, List, Contains, length, take, drop};
+ghost use Rattle.std.specs.Prelude.{◌≡◌, ◌≤◌, ◌<◌, ◌+◌, ◌-◌, ◌↔◌, IsTrue, filter, not, MatchOption, OnErr, IfOk, IfSome, Some, None, if◌then◌else◌, slice_get, List, Contains, length, take, drop};
 ghost use Rattle.std.specs.List.{AllByRecursion};
 ghost use Rattle.std.specs.List.Sorted.{IsStrictlySortedBy};
 ghost use Rattle.std.specs.Ordering.{is_lt};
@@ -15,11 +15,11 @@ ghost use Rattle.table_blocks.specs.Tables.{IsPlace, ArePlaces, AreMergeable, Is
 use crate::keys::check_consistent;
 use crate::order::block_compare;
 use crate::probe::Probe;
-use crate::search::leading_at;
+use crate::search::{leading, parted};
 use crate::span::rows_with;
 use crate::test::{ColumnTest, known_key, passes_all};
 use cqa_model::Refusal;
-use cqa_value::{Fail, NoMemory, Row};
+use cqa_value::{Fail, NoMemory, Row, Value};
 use row_pieces::{Pieces, Rows};
 use std::alloc::Global;
 use std::cmp::Ordering;
@@ -99,49 +99,53 @@ pub fn put_in_order_of(
     done
 }
 
+/// The first value of a row, if there is one and the key begins with the first column.
+fn first_keyed<'a>(key: &[u32], row: &'a Row) -> Option<&'a Value>
+    ensures { IfSome result (λ value. (slice_get key.now 0 ≡ Some 0) × (slice_get row.now 0 ≡ Some value.now)) }
+{
+    if row.len() > 0 && key.first() == Some(&0) {
+        Some(row.get(0))
+    } else {
+        None
+    }
+}
+
 /// How many rows stand before a row's place.
 pub fn place_in(rows: &Rows<'_>, key: &[u32], row: &Row) -> usize
     ensures within { result ≤ length rows.now }
     ensures place { IsStrictlySortedBy (block_cmp key.now) rows.now → IsPlace (block_cmp key.now) rows.now row.now result }
 {
-    rows.partition_point(
+    parted(
+        rows,
+        first_keyed(key, row),
         |other| -> bool
             ensures { result ≡ is_lt (block_cmp key.entry.now other.now row.entry.now) }
         { block_compare(key, other, row).is_lt() },
     )
 }
 
-/// The same, looked for from a place on before which all rows are below the row, and expected so many rows behind it.
+/// The same, if all rows before a place are below the row, and it is expected so many rows behind that: where the key doesn't
+/// begin with the first column, it is looked for from there on.
 fn place_from(rows: &Rows<'_>, from: usize, reach: usize, key: &[u32], row: &Row) -> usize
     requires there { from ≤ length rows.now }
-    ensures within { (from ≤ result) × (result ≤ length rows.now) }
+    ensures within { result ≤ length rows.now }
     ensures place { IsStrictlySortedBy (block_cmp key.now) rows.now → AllByRecursion (λ other. block_cmp key.now other row.now ≡ Less) (take from rows.now) → IsPlace (block_cmp key.now) rows.now row.now result }
 {
     prove!(from <= rows.len());
-    let near = if key.first() == Some(&0) {
-        Some(row)
-    } else {
-        None
-    };
+    if from == rows.len() {
+        return from;
+    }
+    if key.first() == Some(&0) {
+        return place_in(rows, key, row);
+    }
     let (_, rest) = rows.split_at(from);
-    from + leading_at(
+    from + leading(
         &rest,
-        near,
         reach,
         |other| -> bool
             ensures { result ≡ is_lt (block_cmp key.entry.now other.now row.entry.now) }
         { block_compare(key, other, row).is_lt() },
     )
-}
-
-fn stands(rows: &Rows<'_>, at: usize, row: &Row) -> bool
-    ensures { IsTrue result ↔ (slice_get rows.now at ≡ Some row.now) }
-{
-    if at < rows.len() {
-        rows.get(at) == row
-    } else {
-        false
-    }
 }
 
 /// The place of a row, if it is there.
@@ -150,11 +154,7 @@ pub fn find_in(rows: &Rows<'_>, key: &[u32], row: &Row) -> Option<usize>
     ensures { MatchOption result (Contains rows.now row.now → ⊥) (λ at. slice_get rows.now at ≡ Some row.now) }
 {
     let at = place_in(rows, key, row);
-    if stands(rows, at, row) {
-        Some(at)
-    } else {
-        None
-    }
+    if rows.stands(at, row) { Some(at) } else { None }
 }
 
 /// Moves those of sorted rows that aren't stored to the front, with their places among the stored ones, and gives their
@@ -173,7 +173,7 @@ fn fresh_first(rows: &mut [Row], places: &mut [usize], stored: &Rows<'_>, key: &
     for at in 0..rows.len() {
         let row = &rows[at];
         from = place_from(stored, from, reach, key, row);
-        if !stands(stored, from, row) {
+        if !stored.stands(from, row) {
             rows.swap(fresh, at);
             places[fresh] = from;
             fresh += 1;

@@ -1,14 +1,15 @@
 //! The rows with given first key values, which stand together in block order.
 //! `span_in` counts and bounds its comparisons, `rows_with` is the faster one.
-ghost use Rattle.std.specs.Prelude.{◌≡◌, ◌+◌, ◌*◌, ◌<◌, ◌≤◌, ◌^◌, ℕ, length, true, false};
+ghost use Rattle.std.specs.Prelude.{◌≡◌, ◌+◌, ◌*◌, ◌<◌, ◌≤◌, ◌^◌, ℕ, length, true, false, IfSome, Some, slice_get};
 ghost use Rattle.std.specs.List.Sorted.{IsStrictlySortedBy, IsPartitionedBy, IsPartitionPoint};
 ghost use Rattle.cqa_model.specs.Database.{block_cmp};
 ghost use Rattle.table_blocks.specs.Spans.{probe_cmp, comes_before, IsSpan};
 
 use crate::order::compare_key;
 use crate::probe::Probe;
-use crate::search::leading;
+use crate::search::{leading, parted};
 use crate::steps::Steps;
+use cqa_value::Value;
 use row_pieces::Rows;
 use std::cmp::Ordering;
 use std::sync::ledger::Ledger;
@@ -71,13 +72,26 @@ pub fn span_in<'a, L: Ledger>(
     (start, span)
 }
 
-/// The same rows and the same number, by one search by halving, and by doubling steps to their end.
+/// The first value of a probe, if there is one and the key begins with the first column.
+fn first_probed<'a>(key: &[u32], probe: &Probe<'a>) -> Option<&'a Value>
+    ensures { IfSome result (λ value. (slice_get key.now 0 ≡ Some 0) × (slice_get probe.now 0 ≡ Some value.now)) }
+{
+    if probe.len() > 0 && key.first() == Some(&0) {
+        Some(probe.get(0))
+    } else {
+        None
+    }
+}
+
+/// The same rows and the same number, by one search, which marks narrow where they tell, and by doubling steps to their end.
 pub fn rows_with<'a>(rows: &Rows<'a>, key: &[u32], probe: &Probe<'_>) -> (usize, Rows<'a>)
     requires few { length probe.now ≤ length key.now }
     requires in_order { IsStrictlySortedBy (block_cmp key.now) rows.now }
     ensures { IsSpan key.now rows.now probe.now result.0 result.1 }
 {
-    let start = rows.partition_point(
+    let start = parted(
+        rows,
+        first_probed(key, probe),
         |row| -> bool
             requires { length probe.now ≤ length key.now }
             ensures { result ≡ comes_before false (probe_cmp key.entry.now probe.entry.now row.now) }

@@ -10,10 +10,11 @@ loop-rows-preserved c =
     let cut = c.loop-rows.cut.items in
     let front = c.split_off.new.self.items in
     let rest = c.in_ok-rest.rest.items in
-    let piece : Piece = record { start = 0; mark = c.first_mark-mark.result; rows = c.in_ok-rest.rest } in
+    let piece : Piece = record { start = 0; rows = c.in_ok-rows.rows } in
     let behind = joined (reverse cut) in
     ap (λ (qs : List Piece). front ++ joined (reverse qs)) c.in_ok-push.ensures.items
     ∙ ap (λ qs. front ++ joined qs) (reverse-append cut (piece ∷ []))
+    ∙ ap (λ xs. front ++ (xs ++ behind)) c.in_ok-rows.ensures
     ∙ sym (append_assoc front rest behind)
     ∙ ap (λ xs. (xs ++ rest) ++ behind) c.in_ok-rest.ensures.items
     ∙ ap (λ xs. (take (c.len-in-loop-rows.result - 256) rows ++ xs) ++ behind) c.in_ok-rest.ensures.tail

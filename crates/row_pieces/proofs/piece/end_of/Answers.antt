@@ -16,12 +16,11 @@ ends c =
     let there : at < length ps = omega (arith, some, within) in
     let same : at + 1 ≡ c.args.count = omega (arith, some) in
     let start = begins ps at 0 there piece c.index-pieces-count.is (omega arith) (subst (λ n. AreNumbered 0 (take n ps)) (sym same) c.requires.numbered) in
-    let more = ap length (joined_more ps at piece there ∙ ap (λ p. joined (take at ps) ++ p.rows.items) (sym c.index-pieces-count.is)) in
-    let sum = length-append (joined (take at ps)) piece.rows.items in
+    let more = ap length (joined_more ps at piece there ∙ ap (λ p. joined (take at ps) ++ p.rows) (sym c.index-pieces-count.is)) in
+    let sum = length-append (joined (take at ps)) piece.rows in
     let all = ap (λ n. length (joined (take n ps))) same in
     let len = c.len.ensures in
-    let held = piece.rows.ok.0 in
-    omega (arith, start, more, sum, all, len, held)
+    omega (arith, start, more, sum, all, len)
 
 pub overflow_add-result : goal.overflow_add-result
 overflow_add-result c =

@@ -18,7 +18,7 @@ split_at-requires c =
     let high = r.3 in
     let found = c.piece_of-at.ensures r.0 r.1 (omega (arith, low)) r.3 (some_piece c.args.pieces.now (omega (arith, low, high))) in
     let fits = reached r.0 c.args.pieces.now r.1 c.args.place c.piece_of-at.result found c.index-pieces-at.result c.index-pieces-at.is in
-    let same = ap length c.as_slice.ensures.value in
+    let same = ap length c.as_slice.ensures in
     omega (arith, fits, same)
 
 pub returns : goal.returns
@@ -28,7 +28,7 @@ returns c from n low high =
     let place = c.args.place in
     let piece = c.index-pieces-at.result in
     let found = c.piece_of-at.ensures from n (omega (arith, low)) high (some_piece ps (omega (arith, low, high))) in
-    let front : c.split_at.result.1.now ≡ drop (place - piece.start) piece.rows.items = c.split_at.ensures.back ∙ ap (drop (place - piece.start)) c.as_slice.ensures.value in (
+    let front : c.split_at.result.1.now ≡ drop (place - piece.start) piece.rows = c.split_at.ensures.back ∙ ap (drop (place - piece.start)) c.as_slice.ensures in (
       rest from ps n place at found piece c.index-pieces-at.is
           ∙ ap (λ xs. xs ++ joined (drop (at + 1) ps)) (sym front)
           ∙ ap (λ qs. c.split_at.result.1.now ++ joined qs) (sym c.split_at-2.ensures.back),

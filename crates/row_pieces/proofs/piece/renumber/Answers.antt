@@ -15,14 +15,13 @@ counted c =
     let inside : at < length ps = omega (arith, test, long) in
     let piece = get_or ps at c.index-pieces-at.result in
     let more = ap length (joined_more ps at c.index-pieces-at.result inside) in
-    let sum = length-append (joined (take at ps)) piece.rows.items in
+    let sum = length-append (joined (take at ps)) piece.rows in
     let start = c.loop-at.invariant.start in
     let len = c.len-start.ensures in
-    let kept = piece.rows.ok.0 in
     let rise = joined_rise ps (at + 1) (length ps) (omega (arith, inside)) in
     let whole = ap (λ qs. length (joined qs)) (take_all (length ps) ps (omega arith)) in
     let same = ap length c.loop-at.invariant.rows in
-    (omega (arith, more, sum, start, len, kept), omega (arith, rise, whole, same))
+    (omega (arith, more, sum, start, len), omega (arith, rise, whole, same))
 
 pub overflow_add-start : goal.overflow_add-start
 overflow_add-start c =
@@ -40,12 +39,12 @@ loop-at-preserved c =
     let long = c.loop-at.auto.pieces in
     let inside : at < length ps = omega (arith, test, long) in
     let old = get_or ps at c.index-pieces-at.result in
-    let new : Piece = record { start = c.loop-at.start; mark = old.mark; rows = old.rows } in
+    let new : Piece = record { start = c.loop-at.start; rows = old.rows } in
     let front = take_more_set ps at new inside in
     let more : joined (take (at + 1) (set ps at new)) ≡ joined (take (at + 1) ps) =
     ap joined front
     ∙ joined-append (take at ps) (new ∷ [])
-    ∙ ap (λ xs. joined (take at ps) ++ xs) (append-nil old.rows.items)
+    ∙ ap (λ xs. joined (take at ps) ++ xs) (append-nil old.rows)
     ∙ sym (joined_more ps at c.index-pieces-at.result inside)
     in
     record {

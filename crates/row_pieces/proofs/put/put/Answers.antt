@@ -31,11 +31,11 @@ returns-clause-fits c =
     let fits = at_some c.checked_add.result _ _ c.checked_add.ensures (c.is_none.ensures ∙ ap not c.if-is_none.false) in
     let same : joined c.if-is_empty.pieces.items ≡ start = elim c.if-is_empty.branch [
       | then-is_empty+in_ok-push w ↦
-          (let none : Piece = record { start = 0; mark = 0; rows = w.new.result } in
+          (let none : Piece = record { start = 0; rows = w.new-rows.result } in
           ap (λ (v : Vec Piece Global). joined v.items) w.pieces-is
           ∙ ap joined w.in_ok-push.ensures.items
           ∙ joined-append c.args.pieces.now.items (none ∷ [])
-          ∙ ap (λ xs. start ++ (xs ++ [])) w.new.ensures.items
+          ∙ ap (λ xs. start ++ (xs ++ [])) w.new-rows.ensures
           ∙ append-nil start)
       | else-is_empty w ↦ ap (λ (v : Vec Piece Global). joined v.items) w.pieces-is
     ] in

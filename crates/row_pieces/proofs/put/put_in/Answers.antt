@@ -1,4 +1,4 @@
-use Rattle.std.proofs.Common.{refl, take, sym, ap, ◌∙◌, arith}
+use Rattle.std.proofs.Common.{refl, take, sym, ap, ◌∙◌}
 use Rattle.std.proofs.lemmas.List.{length-set}
 use Rattle.std.proofs.lemmas.Result.{err_from_is_err_and}
 use Rattle.row_pieces.specs.declared.piece.Piece.{Piece}
@@ -21,8 +21,7 @@ insert-requires c =
     let at = c.piece_of-at.result in
     let found = found_open ps c.split_at.result.0.now end c.args.place at c.requires.opened (c.split_at.ensures.front ∙ ap (take end) c.as_slice.ensures.value) c.piece_of-at.ensures in
     let reach = high ps end c.args.place at c.requires.opened found c.index_mut-piece.result.now c.index_mut-piece.ensures.value in
-    let long = c.index_mut-piece.result.now.rows.ok.0 in
-    omega (arith, reach, long)
+    reach
 
 pub returns-in_err-insert-clause-err : goal.returns-in_err-insert-clause-err
 returns-in_err-insert-clause-err c =
@@ -32,9 +31,9 @@ returns-in_err-insert-clause-err c =
     let piece = c.index_mut-piece.result.now in
     let found = found_open ps c.split_at.result.0.now end c.args.place at c.requires.opened (c.split_at.ensures.front ∙ ap (take end) c.as_slice.ensures.value) c.piece_of-at.ensures in
     let there = inside ps end c.args.place at c.requires.opened found piece c.index_mut-piece.ensures.value in
-    let q : Piece = record { start = piece.start; mark = c.min-piece.result; rows = c.insert.new.self } in
+    let q : Piece = record { start = piece.start; rows = c.insert.new.self } in
     let p = err_from_is_err_and c.from_residual.result c.from_residual.ensures.1 in
-    rw (p.1) (joined_same ps at piece q there (c.in_err-insert.ensures.items ∙ ap (λ (z : Piece). z.rows.items) c.index_mut-piece.ensures.value))
+    rw (p.1) (joined_same ps at piece q there (c.in_err-insert.ensures.err ∙ ap (λ (z : Piece). z.rows) c.index_mut-piece.ensures.value))
 
 pub returns-clause-opened : goal.returns-clause-opened
 returns-clause-opened c =
@@ -42,8 +41,8 @@ returns-clause-opened c =
     let end = c.args.end in
     let at = c.piece_of-at.result in
     let found = found_open ps c.split_at.result.0.now end c.args.place at c.requires.opened (c.split_at.ensures.front ∙ ap (take end) c.as_slice.ensures.value) c.piece_of-at.ensures in
-    let q : Piece = record { start = c.index_mut-piece.result.now.start; mark = c.min-piece.result; rows = c.insert.new.self } in
-    open_put ps end c.args.place at c.requires.opened found c.index_mut-piece.result.now c.index_mut-piece.ensures.value q c.args.row refl c.in_ok-insert.ensures.items (sym (length-set ps at q))
+    let q : Piece = record { start = c.index_mut-piece.result.now.start; rows = c.insert.new.self } in
+    open_put ps end c.args.place at c.requires.opened found c.index_mut-piece.result.now c.index_mut-piece.ensures.value q c.args.row refl c.in_ok-insert.ensures.ok (sym (length-set ps at q))
 
 pub returns-clause-put : goal.returns-clause-put
 returns-clause-put c =
@@ -51,5 +50,5 @@ returns-clause-put c =
     let end = c.args.end in
     let at = c.piece_of-at.result in
     let found = found_open ps c.split_at.result.0.now end c.args.place at c.requires.opened (c.split_at.ensures.front ∙ ap (take end) c.as_slice.ensures.value) c.piece_of-at.ensures in
-    let q : Piece = record { start = c.index_mut-piece.result.now.start; mark = c.min-piece.result; rows = c.insert.new.self } in
-    joined_put ps end c.args.place at c.requires.opened found c.index_mut-piece.result.now c.index_mut-piece.ensures.value q c.args.row refl c.in_ok-insert.ensures.items
+    let q : Piece = record { start = c.index_mut-piece.result.now.start; rows = c.insert.new.self } in
+    joined_put ps end c.args.place at c.requires.opened found c.index_mut-piece.result.now c.index_mut-piece.ensures.value q c.args.row refl c.in_ok-insert.ensures.ok

@@ -1,13 +1,12 @@
 use Rattle.std.proofs.Common.{◌≡◌, ◌+◌, ◌<◌, ◌++◌, length, take, drop, get_or, set, ap, refl, ◌∙◌, arith}
-use Rattle.std.specs.Vec.{with_items}
-use Rattle.std.proofs.lemmas.List.{get_or_default, length-append, with_items_is}
+use Rattle.std.proofs.lemmas.List.{get_or_default, length-append, length-drop, length-take-le}
 use Rattle.row_pieces.specs.declared.piece.Piece.{Piece}
 use Rattle.row_pieces.specs.Joined.{joined}
 use Rattle.row_pieces.proofs.Retaining.{exchanged_next, exchanged_fits}
 use Rattle.row_pieces.proofs.take.exchange_each.Goals as goal
 
-pub exchange_some-requires : goal.exchange_some-requires
-exchange_some-requires c =
+pub exchange-requires : goal.exchange-requires
+exchange-requires c =
     let ps = c.loop-at.pieces in
     let at = c.loop-at.at in
     let p = c.index-pieces-at.result in
@@ -18,9 +17,8 @@ exchange_some-requires c =
     let start = i.start in
     let all = c.requires in
     let same = c.loop-at.auto.rows in
-    let seen = ap length c.as_mut_slice.ensures.value in
-    let is = ap (λ (z : Piece). length z.rows.items) c.index-pieces-at.is in
-    omega (arith, fits, start, all, same, seen, is)
+    let is = ap (λ (z : Piece). length z.rows) c.index-pieces-at.is in
+    omega (arith, fits, start, all, same, is)
 
 pub loop-at-preserved : goal.loop-at-preserved
 loop-at-preserved c =
@@ -31,25 +29,16 @@ loop-at-preserved c =
     let there : at < length ps = omega (arith, test, long) in
     let old = get_or ps at c.index-pieces-at.result in
     let is = get_or_default ps at c.index-pieces-at.result old there in
-    let new : Piece = record { start = old.start; mark = c.first_mark-piece.result; rows = with_items old.rows c.exchange_some.new.rows } in
+    let new : Piece = record { start = old.start; rows = c.exchange.new.self } in
     let i = c.loop-at.invariant in
     let start = c.loop-at.start in
     let rows = c.loop-at.rows in
     let others = c.args.rows.now in
-    let seen = c.as_mut_slice.ensures.value in
-    let size = ap length seen in
-    let held = old.rows.ok.0 in
-    let kept = c.exchange_some.auto.rows in
-    let put : new.rows.items ≡ take (length old.rows.items) (drop start rows) =
-    with_items_is old.rows c.exchange_some.new.rows (omega (arith, kept, size, held))
-    ∙ c.exchange_some.ensures.held
-    ∙ ap (λ k. take k (drop start rows)) size
-    in
-    let given = c.exchange_some.ensures.given ∙ ap (λ xs. take start rows ++ (xs ++ drop (length xs) (drop start rows))) seen in
-    let next = exchanged_next ps (set ps at new) c.args.pieces.now rows c.exchange_some.new.others others at start old new there long is i.start c.requires i.held i.given i.rest put given refl in
-    let len : length old.rows.items ≡ c.len-start.result = (let l = c.len-start.ensures in omega (arith, l, held)) in
+    let fits = exchanged_fits ps c.args.pieces.now at old there long is i.rest in
+    let next = exchanged_next ps (set ps at new) c.args.pieces.now rows c.exchange.new.others others at start old new there long is i.start c.requires i.held i.given i.rest c.exchange.ensures.held c.exchange.ensures.given refl in
+    let len : length old.rows ≡ c.len-start.result = (let l = c.len-start.ensures in let same = ap length c.exchange.ensures.held in let taken = length-take-le (length old.rows) (drop start rows) (let far = length-drop start rows in let first = i.start in let all = c.requires in let as_many = c.loop-at.auto.rows in omega (arith, fits, far, first, all, as_many)) in omega (arith, l, same, taken)) in
     let more = ap length next.0 in
-    let sum = length-append (joined (take at c.args.pieces.now)) old.rows.items in
+    let sum = length-append (joined (take at c.args.pieces.now)) old.rows in
     let start_is = i.start in
     record {
       start = omega (arith, more, sum, start_is, len);

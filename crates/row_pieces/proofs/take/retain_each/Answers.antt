@@ -16,15 +16,14 @@ returns-then-high-eq0-clause-kept g c p k =
     let there : at < length ps = omega (arith, test, long) in
     let old = get_or ps at c.index-pieces-at.result in
     let is = get_or_default ps at c.index-pieces-at.result old there in
-    let new : Piece = record { start = old.start; mark = old.mark; rows = c.retain_some-stays.new.rows } in
+    let new : Piece = record { start = old.start; rows = c.retain_some-stays.new.rows } in
     let i = c.loop-at.invariant.kept p k in
     let len = c.len-len.ensures in
-    let held = old.rows.ok.0 in
     let low = c.saturating_sub-low.ensures in
     let high = c.saturating_sub-high.ensures in
     let order = c.loop-at.invariant.order in
     let none = c.if-high-eq0.true in
-    let next = retained_next ps at old new there is p c.loop-at.low c.loop-at.high c.saturating_sub-low.result c.saturating_sub-high.result _ (omega (arith, low, len, held)) (omega (arith, high, len, held)) (λ behind. (c.retain_some-stays.ensures.kept p behind i.0).1) i.1 in
+    let next = retained_next ps at old new there is p c.loop-at.low c.loop-at.high c.saturating_sub-low.result c.saturating_sub-high.result _ (omega (arith, low, len)) (omega (arith, high, len)) (λ behind. (c.retain_some-stays.ensures.kept p behind i.0).1) i.1 in
     sym (
     next
     ∙ ap (λ xs. joined (take (at + 1) (set ps at new)) ++ xs) (retained_none p c.saturating_sub-low.result c.saturating_sub-high.result (joined (drop (at + 1) (set ps at new))) (omega (arith, none, low, high, order)) none)
@@ -40,7 +39,7 @@ returns-then-high-eq0-clause-fewer g c =
     let there : at < length ps = omega (arith, test, long) in
     let old = get_or ps at c.index-pieces-at.result in
     let is = get_or_default ps at c.index-pieces-at.result old there in
-    let new : Piece = record { start = old.start; mark = old.mark; rows = c.retain_some-stays.new.rows } in
+    let new : Piece = record { start = old.start; rows = c.retain_some-stays.new.rows } in
     let so_far = c.loop-at.invariant.fewer in
     let less = fewer_set ps at old new there is c.retain_some-stays.ensures.fewer in
     omega (arith, so_far, less)
@@ -50,7 +49,7 @@ returns-then-high-eq0-clause-numbered g c =
     let ps = c.loop-at.pieces in
     let at = c.loop-at.at in
     let old = get_or ps at c.index-pieces-at.result in
-    let new : Piece = record { start = old.start; mark = old.mark; rows = c.retain_some-stays.new.rows } in
+    let new : Piece = record { start = old.start; rows = c.retain_some-stays.new.rows } in
     let first = c.piece_of-first.result in
     let front = take-set-le first ps at new c.loop-at.invariant.begun ∙ c.loop-at.invariant.front in
     subst (λ qs. AreNumbered 0 qs) (sym front) (numbered_take 0 c.args.pieces.now first c.requires.numbered)
@@ -67,9 +66,8 @@ loop-at-preserved g c =
     let there : at < length ps = omega (arith, test, long) in
     let old = get_or ps at c.index-pieces-at.result in
     let is = get_or_default ps at c.index-pieces-at.result old there in
-    let new : Piece = record { start = old.start; mark = old.mark; rows = c.retain_some-stays.new.rows } in
+    let new : Piece = record { start = old.start; rows = c.retain_some-stays.new.rows } in
     let len = c.len-len.ensures in
-    let held = old.rows.ok.0 in
     let low = c.saturating_sub-low.ensures in
     let high = c.saturating_sub-high.ensures in
     let order = c.loop-at.invariant.order in
@@ -83,7 +81,7 @@ loop-at-preserved g c =
       callable = c.retain_some-stays.ensures.callable;
       fewer = omega (arith, so_far, less);
       kept = λ p k. (let i = c.loop-at.invariant.kept p k in
-          ((c.retain_some-stays.ensures.kept p [] i.0).0, retained_next ps at old new there is p c.loop-at.low c.loop-at.high c.saturating_sub-low.result c.saturating_sub-high.result _ (omega (arith, low, len, held)) (omega (arith, high, len, held)) (λ behind. (c.retain_some-stays.ensures.kept p behind i.0).1) i.1));
+          ((c.retain_some-stays.ensures.kept p [] i.0).0, retained_next ps at old new there is p c.loop-at.low c.loop-at.high c.saturating_sub-low.result c.saturating_sub-high.result _ (omega (arith, low, len)) (omega (arith, high, len)) (λ behind. (c.retain_some-stays.ensures.kept p behind i.0).1) i.1));
     }
 
 pub overflow_sub-low : goal.overflow_sub-low

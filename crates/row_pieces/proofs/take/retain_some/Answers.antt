@@ -8,19 +8,17 @@ pub returns-then-len-from-clause-kept : goal.returns-then-len-from-clause-kept
 returns-then-len-from-clause-kept g c p behind k =
     let early = c.if-len-from.true in
     let len = c.len-len.ensures in
-    let held = c.args.rows.now.ok.0 in
-    (k, retained_behind p c.args.from c.args.to c.args.rows.now.items behind c.requires.order (omega (arith, early, len, held)))
+    (k, retained_behind p c.args.from c.args.to c.args.rows.now behind c.requires.order (omega (arith, early, len)))
 
 pub returns-clause-kept : goal.returns-clause-kept
 returns-clause-kept g c p behind k =
-    let rows = c.args.rows.now.items in
+    let rows = c.args.rows.now in
     let from = c.args.from in
     let late = c.if-len-from.false in
     let len = c.len-len.ensures in
-    let held = c.args.rows.now.ok.0 in
     let done = c.retain_range.ensures.retained p k in
-    let least = c.min.ensures ∙ ap (λ n. min c.args.to n) (len ∙ held) in (
+    let least = c.min.ensures ∙ ap (λ n. min c.args.to n) (len) in (
       done.0,
-      retained_across p from c.args.to rows behind c.requires.order (omega (arith, late, len, held))
+      retained_across p from c.args.to rows behind c.requires.order (omega (arith, late, len))
           ∙ ap (λ xs. xs ++ retained p (from - length rows) (c.args.to - length rows) behind) (sym (done.1 ∙ ap (λ n. retained p from n rows) least)),
     )

@@ -34,7 +34,7 @@ loop-at-preserved c =
     elim c.if-not-stands.branch [
       | then-not-stands w ↦ record {
         count = (let e = w.fresh-is in omega (arith, e, count));
-        there = c.place_from-from.ensures.within.1;
+        there = c.place_from-from.ensures.within;
         below = later;
         fresh = (let new : not (is_among stored x) ≡ true =
             (not_among stored x).1 (absent cmp (block_total key) (block_exact key) (block_alike key) stored x c.place_from-from.result c.requires.stored place (λ e. true≢false (sym (c.stands.ensures.1 e) ∙ w.if-not-stands.true))) in
@@ -48,7 +48,7 @@ loop-at-preserved c =
       }
       | else-not-stands w ↦ record {
         count = (let e = w.fresh-is in omega (arith, e, count));
-        there = c.place_from-from.ensures.within.1;
+        there = c.place_from-from.ensures.within;
         below = later;
         fresh = (let known : not (is_among stored x) ≡ false = ap not ((among stored x).1 (contains_got stored c.place_from-from.result x (c.stands.ensures.0 w.if-not-stands.false))) in
             rw (w.rows-is, w.fresh-is) (FiltersInPlace-more_no {x = x} i there known (get_or_default c.loop-at.rows at row x there)));

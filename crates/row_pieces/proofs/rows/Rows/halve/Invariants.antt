@@ -4,7 +4,7 @@ use Rattle.std.specs.Fn.{ComputesKey}
 use Rattle.std.specs.List.{AllWithin}
 use Rattle.std.specs.List.Sorted.{IsPartitionedBy}
 use Rattle.cqa_value.specs.declared.value.Value.{Value as Cell}
-use Rattle.row_pieces.proofs.rows.Rows.partition_point.Given as goal
+use Rattle.row_pieces.proofs.rows.Rows.halve.Given as goal
 
 -- the test answers as before, holds below the one place and fails from the other on
 abbrev pub invariant-loop-low : goal.invariant-loop-low
@@ -13,7 +13,7 @@ invariant-loop-low g l = record {
   order : l.low ≤ l.high;
   within : l.high ≤ length l.self;
   callable : always_mut g.P.FnMut l.passes;
-  halves : (p : List Cell → Bool) → ComputesKey g.P.FnMut p l.fn.passes → ComputesKey g.P.FnMut p l.passes × (IsPartitionedBy p l.self → AllWithin (λ row. p row ≡ true) l.self 0 l.low × AllWithin (λ row. p row ≡ false) l.self l.high (length l.self));
+  halves : (p : List Cell → Bool) → ComputesKey g.P.FnMut p l.fn.passes → ComputesKey g.P.FnMut p l.passes × (IsPartitionedBy p l.self → AllWithin (λ row. p row ≡ true) l.self 0 l.from → AllWithin (λ row. p row ≡ false) l.self l.to (length l.self) → AllWithin (λ row. p row ≡ true) l.self 0 l.low × AllWithin (λ row. p row ≡ false) l.self l.high (length l.self));
 }
 
 abbrev pub decreases-loop-low : goal.decreases-loop-low
