@@ -1,11 +1,13 @@
 //! The values of rows in the columns of the variables that both atoms have.
 //! Rows of different atoms that fit stand together in a witness exactly where these are the same.
 
-ghost use Rattle.std.specs.Prelude.{◌≡◌, ◌↔◌, ◌+◌, ◌<◌, ◌≤◌, IfOk, IsTrue, length};
+ghost use Rattle.std.specs.Prelude.{◌≡◌, ◌↔◌, ◌+◌, ◌<◌, ◌≤◌, IfOk, IsTrue, IfSome, length, map};
 ghost use Rattle.cqa_model.specs.declared.limits.TheConstants.{MOST_ROWS};
 ghost use Rattle.cqa_model.specs.Database.{stored};
 ghost use Rattle.cqa_model.specs.Query.{FitsDatabase};
 ghost use Rattle.cqa_model.specs.Naming.{AreVariables};
+ghost use Rattle.weak_pairs.specs.Digests.{lists_in};
+ghost use Rattle.weak_pairs.specs.Packing.{list_of as listed};
 ghost use Rattle.weak_pairs.specs.Pairs.{FitsAlone};
 ghost use Rattle.pair_answers.specs.Fitting.{AllFit};
 ghost use Rattle.pair_answers.specs.Shared.{pairs_of};
@@ -20,7 +22,7 @@ use cqa_value::{NoMemory, Row};
 use row_pieces::Rows;
 use std::alloc::Global;
 use table_blocks::Database;
-use weak_pairs::Picked;
+use weak_pairs::{Lists, Picked, code};
 
 /// The columns of each atom of variables that both have, in one order.
 #[derive(Drop)]
@@ -56,12 +58,121 @@ pub(crate) fn both_columns(alloc: Global, query: &Query) -> Result<Columns, NoMe
     Ok(Columns { left, right })
 }
 
-/// The list of each row of both tables, atom by atom in block order.
+/// The list of each row of both tables, atom by atom in block order: by codes where each row that fits has one.
 ///
 /// # Errors
 ///
 /// `NoMemory` where memory is refused.
 pub(crate) fn row_lists<'a>(
+    alloc: Global,
+    db: &'a Database,
+    query: &Query,
+    row: &Row,
+    left: &'a [u32],
+    right: &'a [u32],
+) -> Result<Lists<'a>, NoMemory>
+    requires two { length query.now.atoms ≡ 2 }
+    requires fits { FitsDatabase query.now db.now }
+    requires columns { AreColumns query.now left.now right.now }
+    ensures lists { IfOk result (λ lists. AreRowLists query.now (stored db.now) row.now (lists_in lists)) }
+    ensures few { IfOk result (λ lists. length (lists_in lists) ≤ MOST_ROWS + MOST_ROWS) }
+{
+    match packed_lists(alloc, db, query, row, left, right)? {
+        Some(codes) => Ok(Lists::Packed(codes)),
+        None => {
+            let lists = borrowed_lists(alloc, db, query, row, left, right)?;
+            Ok(Lists::Borrowed(lists))
+        }
+    }
+}
+
+/// The list of each row of both tables by its code, if each row that fits has one.
+///
+/// # Errors
+///
+/// `NoMemory` where memory is refused.
+fn packed_lists(
+    alloc: Global,
+    db: &Database,
+    query: &Query,
+    row: &Row,
+    left: &[u32],
+    right: &[u32],
+) -> Result<Option<Vec<u64>>, NoMemory>
+    requires two { length query.now.atoms ≡ 2 }
+    requires fits { FitsDatabase query.now db.now }
+    requires columns { AreColumns query.now left.now right.now }
+    ensures lists { IfOk result (λ found. IfSome found (λ codes. AreRowLists query.now (stored db.now) row.now (map listed codes.items))) }
+    ensures few { IfOk result (λ found. IfSome found (λ codes. length (map listed codes.items) ≤ MOST_ROWS + MOST_ROWS)) }
+{
+    let names = variables(query);
+    let first = db.rows(table_of(query, 0));
+    let second = db.rows(table_of(query, 1));
+    let mut codes = Vec::with_capacity(alloc, first.len() + second.len())?;
+    if !append_codes(query, &names, row, left, 0, &first, &mut codes)? {
+        return Ok(None);
+    }
+    if !append_codes(query, &names, row, right, 1, &second, &mut codes)? {
+        return Ok(None);
+    }
+    Ok(Some(codes))
+}
+
+/// Appends the code of the list of each row of an atom, as long as rows that fit have one, and answers whether all have.
+///
+/// # Errors
+///
+/// `NoMemory` where memory is refused.
+fn append_codes(
+    query: &Query,
+    names: &Variables,
+    row: &Row,
+    columns: &[u32],
+    atom: u32,
+    rows: &Rows<'_>,
+    codes: &mut Vec<u64>,
+) -> Result<bool, NoMemory>
+    requires names { AreVariables query.now names.now }
+    requires atom { atom < length query.now.atoms }
+    ensures { IfOk result (λ all. IsTrue all → AreListsAdded query.now row.now columns.now atom rows.now (length rows.now) (map listed codes.old.items) (map listed codes.new.items)) }
+{
+    let all = all_fit(query, names, atom);
+    for x in rows.again() {
+        let Some(code) = code_of(query, names, row, columns, atom, x, all) else {
+            return Ok(false);
+        };
+        codes.push(code)?;
+    }
+    Ok(true)
+}
+
+/// The code of the list of a row, if it has one: 0 where it doesn't fit.
+fn code_of(
+    query: &Query,
+    names: &Variables,
+    row: &Row,
+    columns: &[u32],
+    atom: u32,
+    x: &Row,
+    all: bool,
+) -> Option<u64>
+    requires names { AreVariables query.now names.now }
+    requires atom { atom < length query.now.atoms }
+    requires all { IsTrue all → AllFit query.now atom }
+    ensures { IfSome result (λ c. IsListOf query.now row.now columns.now atom x.now (listed c)) }
+{
+    if !fits(query, names, row, atom, x, all) {
+        return Some(0);
+    }
+    code(x, columns)
+}
+
+/// The list of each row of both tables, borrowed from it.
+///
+/// # Errors
+///
+/// `NoMemory` where memory is refused.
+fn borrowed_lists<'a>(
     alloc: Global,
     db: &'a Database,
     query: &Query,

@@ -1,10 +1,10 @@
 -- The rows of a bucket, chained backwards: one row more, and how far a chain was gone back.
-use Rattle.std.proofs.Common.{◌≡◌, ◌≢◌, ℕ, ◌+◌, ◌<◌, ◌≤◌, inl, inr, List, [], ◌∷◌, ◌++◌, length, replicate, refl, sym, ◌∙◌, ap, subst, arith, set, get_or, get_or-set_other, get_or-set_same, Option}
+use Rattle.std.proofs.Common.{◌≡◌, ◌≢◌, ℕ, ◌+◌, ◌<◌, ◌≤◌, inl, inr, List, [], ◌∷◌, ◌++◌, length, replicate, refl, sym, ◌∙◌, ap, subst, arith, set, get_or, get_or-set_other, get_or-set_same}
 use native.Mathlib.Decide.{ℕ_discrete, dec_lt}
-use Rattle.std.proofs.Math.Nat.{mod-lt}
 use Rattle.std.proofs.lemmas.List.{length-set, length_push, get_or-replicate, get_or_append_left, get_or_push}
-use Rattle.cqa_value.specs.declared.value.Value.{Value}
-use Rattle.weak_pairs.specs.Digests.{digest, bucket_of, bucket_count, bucket_at}
+use Rattle.weak_pairs.specs.declared.lists.Lists.{Lists}
+use Rattle.weak_pairs.specs.Digests.{bucket_count, bucket_at, lists_in}
+use Rattle.weak_pairs.proofs.Coding.{one-bucket, in-some}
 use Rattle.weak_pairs.specs.EdgeNumbers.{HaveOne, AreChained, AreLast, IsLinked}
 
 -- what is true of each place of a list, once a number is put in of which it is true
@@ -95,39 +95,33 @@ none-last g buckets last is size = record {
     zero-at b l = ap (λ z. get_or z b 0) is ∙ get_or-replicate buckets b 0 0 (subst (λ n. b < n) size l)
 
 -- a chain was gone back so far: no row from here on up to the place has its list, and the row just before is in its bucket
-pub record AreBehind (lists : List (Option (List Value))) (at left : ℕ) : Type 0 where
+pub record AreBehind (lists : Lists) (at left : ℕ) : Type 0 where
   pub within : left ≤ at
-  pub none : (q : ℕ) → left ≤ q → q < at → HaveOne lists q at → ⊥
+  pub none : (q : ℕ) → left ≤ q → q < at → HaveOne (lists_in lists) q at → ⊥
   pub same : (p : ℕ) → left ≡ p + 1 → bucket_at lists p ≡ bucket_at lists at
 
-module _ (lists : List (Option (List Value))) (before : List ℕ) (c : AreChained (bucket_at lists) (bucket_count (length lists)) (length lists) before) where
-  one-bucket : (i j : ℕ) → HaveOne lists i j → bucket_at lists i ≡ bucket_at lists j
-  one-bucket i j (x, xi, xj) = ap (bucket_of (bucket_count (length lists))) (xi ∙ sym xj)
-
-  in-some : (i j : ℕ) → HaveOne lists i j → bucket_at lists j < bucket_count (length lists)
-  in-some i j (x, xi, xj) = subst (λ z. bucket_of (bucket_count (length lists)) z < bucket_count (length lists)) (sym xj) (mod-lt (digest x) (omega arith))
-
-  pub behind-first : (at : ℕ) → at < length lists → AreBehind lists at (get_or before at 0)
+module _ (lists : Lists) (before : List ℕ) (c : AreChained (bucket_at lists) (bucket_count (length (lists_in lists))) (length (lists_in lists)) before) where
+  pub behind-first : (at : ℕ) → at < length (lists_in lists) → AreBehind lists at (get_or before at 0)
   behind-first at l = record {
     within = c.low at l;
-    none = λ q from to h. c.free at q l (in-some q at h) from to (one-bucket q at h);
+    none = λ q from to h. c.free at q l (in-some lists q at h) from to (one-bucket lists q at h);
     same = λ p e. c.same at p l e;
   }
 
-  pub behind-more : (at left : ℕ) → at < length lists → AreBehind lists at left → (p : ℕ) → left ≡ p + 1 → (HaveOne lists p at → ⊥) → AreBehind lists at (get_or before p 0)
+  pub behind-more : (at left : ℕ) → at < length (lists_in lists) → AreBehind lists at left → (p : ℕ) → left ≡ p + 1 → (HaveOne (lists_in lists) p at → ⊥) → AreBehind lists at (get_or before p 0)
   behind-more at left l h p e differ = record {
     within = let m = c.low p lp in let w = h.within in omega (arith, m, w, e);
     none = λ q from to have. go q from to have (ℕ_discrete q p);
     same = λ s d. c.same p s lp d ∙ h.same p e;
   }
     where
-      lp : p < length lists
+      lp : p < length (lists_in lists)
       lp = let w = h.within in omega (arith, w, e, l)
 
-      go : (q : ℕ) → get_or before p 0 ≤ q → q < at → HaveOne lists q at → Dec (q ≡ p) → ⊥
-      go q from to have (yes d) = differ (subst (λ z. HaveOne lists z at) d have)
+      go : (q : ℕ) → get_or before p 0 ≤ q → q < at → HaveOne (lists_in lists) q at → Dec (q ≡ p) → ⊥
+      go q from to have (yes d) = differ (subst (λ z. HaveOne (lists_in lists) z at) d have)
       go q from to have (no n) = pick (dec_lt q p)
         where
           pick : Dec (q < p) → ⊥
-          pick (yes low) = c.free p q lp (subst (λ z. z < bucket_count (length lists)) (sym (h.same p e)) (in-some q at have)) from low (one-bucket q at have ∙ sym (h.same p e))
+          pick (yes low) = c.free p q lp (subst (λ z. z < bucket_count (length (lists_in lists))) (sym (h.same p e)) (in-some lists q at have)) from low (one-bucket lists q at have ∙ sym (h.same p e))
           pick (no high) = h.none q (omega (arith, e, n, high)) to have

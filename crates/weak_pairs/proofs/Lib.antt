@@ -4,6 +4,7 @@ pub mod Peeling
 pub mod Numbered
 pub mod Edges
 pub mod Picking
+pub mod Coding
 pub mod Chaining
 pub mod RowKeys
 pub mod Laying

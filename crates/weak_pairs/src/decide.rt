@@ -3,12 +3,13 @@
 //! hashes of their values spread.
 
 ghost use Rattle.std.specs.Prelude.{◌≡◌, ◌+◌, ◌<◌, ◌^◌, IfOk, length};
+ghost use Rattle.weak_pairs.specs.Digests.{lists_in};
 ghost use Rattle.weak_pairs.specs.Outcomes.{AreSided, AreStarts, IsDecided};
 
-use crate::edge_map::edge_numbers;
+use crate::chains::edge_numbers;
 use crate::layout::edge_ends;
+use crate::lists::Lists;
 use crate::peel::{Outcome, choose};
-use crate::picked::Picked;
 use cqa_value::NoMemory;
 use std::alloc::Global;
 
@@ -27,16 +28,16 @@ pub enum Decision {
 /// `NoMemory` where memory is refused.
 pub fn decide_rows(
     alloc: Global,
-    lists: &[Option<Picked<'_>>],
+    lists: &Lists<'_>,
     start: &[u32],
     blocks: u32,
     split: u32,
 ) -> Result<Decision, NoMemory>
-    requires few { length lists.now < 2 ^ 32 }
+    requires few { length (lists_in lists.now) < 2 ^ 32 }
     requires blocks { blocks + 1 ≡ length start.now }
-    requires starts { AreStarts start.now (length lists.now) }
-    requires sided { AreSided lists.now start.now split }
-    ensures { IfOk result (IsDecided lists.now start.now) }
+    requires starts { AreStarts start.now (length (lists_in lists.now)) }
+    requires sided { AreSided (lists_in lists.now) start.now split }
+    ensures { IfOk result (IsDecided (lists_in lists.now) start.now) }
 {
     let (edge, count) = edge_numbers(alloc, lists)?;
     let ends = edge_ends(alloc, start, &edge, blocks, split, count)?;

@@ -31,7 +31,7 @@ fn no_ends(alloc: Global, count: u32) -> Result<Vec<Ends>, NoMemory>
     ensures size { IfOk result (λ ends. length ends.items ≡ count) }
     ensures none { IfOk result (λ ends. (e : ℕ) → ends_of ends.items e ≡ record { left = None; right = None }) }
 {
-    let mut ends = Vec::new(alloc);
+    let mut ends = Vec::with_capacity(alloc, count as usize)?;
     for e in 0..count {
         ends.push(Ends {
             left: None,

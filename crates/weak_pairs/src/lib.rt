@@ -2,15 +2,19 @@
 //! Rows are numbered, blocks have rows, and two rows of different blocks meet exactly where they have one edge.
 #![tactic(auto)]
 
+mod chains;
 mod decide;
-mod edge_map;
 pub mod laws;
 mod layout;
+mod lists;
+mod packed;
 mod peel;
 mod picked;
 
+pub use chains::edge_numbers;
 pub use decide::{Decision, decide_rows};
-pub use edge_map::edge_numbers;
 pub use layout::edge_ends;
+pub use lists::Lists;
+pub use packed::code;
 pub use peel::{Ends, Outcome, Watch, choose};
 pub use picked::Picked;

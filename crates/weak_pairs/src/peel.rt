@@ -23,8 +23,11 @@ ghost use Rattle.weak_pairs.specs.Peeling.{
   IsStep,
   IsStuck,
   IsTaken,
+  IsWatched,
   row_of,
+  watch_of,
 };
+ghost use Rattle.weak_pairs.specs.declared.peel.Left.TheVariants.{One};
 
 use cqa_value::NoMemory;
 use std::alloc::Global;
@@ -144,6 +147,48 @@ fn take(
     other(ends, its, at)
 }
 
+/// Looks at a block's rows until two free edges are found, and remembers how far it has been looked at.
+fn look(start: &[u32], edge: &[u32], taken: &[bool], watch: &mut [Watch], at: u32) -> Left
+    requires block { IsBlock start.now at }
+    requires within { slice_index start.now (at + 1) ≤ length edge.now }
+    requires edges { (i : ℕ) → i < length edge.now → slice_index edge.now i < length taken.now }
+    requires there { at < length watch.old }
+    requires seen { IsSeen start.now edge.now taken.now at (watch_of watch.old at).keep (watch_of watch.old at).next }
+    ensures left { IsLeft start.now edge.now taken.now at result }
+    ensures watch { IsWatched start.now edge.now taken.now watch.old watch.new at }
+{
+    let (left, seen) = settle(start, edge, taken, at, watch[at as usize]);
+    watch[at as usize] = seen;
+    left
+}
+
+/// Lets a block take the row of the one edge that is left to it.
+fn give(
+    start: &[u32],
+    edge: &[u32],
+    ends: &[Ends],
+    own: &mut [Option<u32>],
+    taken: &mut [bool],
+    _watch: &[Watch],
+    order: &mut Vec<u32>,
+    at: u32,
+    row: u32,
+) -> Result<Step, NoMemory>
+    requires laid { AreLaidOut start.now edge.now ends.now }
+    requires peeled { ArePeeled start.now edge.now ends.now own.old taken.old _watch.now order.old.items }
+    requires block { IsBlock start.now at }
+    requires isopen { row_of own.old at ≡ None }
+    requires left { IsLeft start.now edge.now taken.old at (One row) }
+    ensures peeled { OnOk result (ArePeeled start.now edge.now ends.now own.new taken.new _watch.now order.new.items) }
+    ensures step { IfOk result (λ step. IsStep start.now edge.now own.old taken.old own.new taken.new order.new.items at step) }
+{
+    order.push(row)?;
+    match take(start, edge, ends, own, taken, at, row) {
+        None => Ok(Step::Done),
+        Some(next) => Ok(Step::Go(next)),
+    }
+}
+
 /// One step of peeling: where one edge is left to an open block, the block takes it.
 fn force(
     start: &[u32],
@@ -162,17 +207,12 @@ fn force(
     ensures peeled { OnOk result (ArePeeled start.now edge.now ends.now own.new taken.new watch.new order.new.items) }
     ensures step { IfOk result (λ step. IsStep start.now edge.now own.old taken.old own.new taken.new order.new.items at step) }
 {
-    let (left, seen) = settle(start, edge, taken, at, watch[at as usize]);
-    watch[at as usize] = seen;
-    match left {
+    match look(start, edge, taken, watch, at) {
         Left::Zero => Ok(Step::Stuck),
         Left::Two => Ok(Step::Done),
         Left::One(row) => {
-            order.push(row)?;
-            match take(start, edge, ends, own, taken, at, row) {
-                None => Ok(Step::Done),
-                Some(next) => Ok(Step::Go(next)),
-            }
+            let step = give(start, edge, ends, own, taken, watch, order, at, row)?;
+            Ok(step)
         }
     }
 }
@@ -322,7 +362,7 @@ fn first_watches(alloc: Global, start: &[u32], blocks: u32) -> Result<Vec<Watch>
     requires blocks { blocks + 1 ≡ length start.now }
     ensures { IfOk result (λ watches. AreFirst start.now blocks watches.items) }
 {
-    let mut watches = Vec::new(alloc);
+    let mut watches = Vec::with_capacity(alloc, blocks as usize)?;
     for v in 0..blocks {
         let keep = start[v as usize];
         watches.push(Watch { keep, next: keep })?;
@@ -334,7 +374,7 @@ fn first_watches(alloc: Global, start: &[u32], blocks: u32) -> Result<Vec<Watch>
 fn no_rows(alloc: Global, blocks: u32) -> Result<Vec<Option<u32>>, NoMemory>
     ensures { IfOk result (λ own. AreOpen blocks own.items) }
 {
-    let mut own = Vec::new(alloc);
+    let mut own = Vec::with_capacity(alloc, blocks as usize)?;
     for v in 0..blocks {
         own.push(None)?;
     }

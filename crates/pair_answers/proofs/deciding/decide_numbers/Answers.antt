@@ -1,22 +1,26 @@
 use Rattle.std.proofs.Common.{IfOk, sym, subst, length}
+use Rattle.weak_pairs.specs.Digests.{lists_in}
 use Rattle.weak_pairs.specs.Outcomes.{AreStarts, AreSided, IsDecided}
 use Rattle.pair_answers.proofs.Decided.{starts, sided, answered}
 use Rattle.pair_answers.proofs.deciding.decide_numbers.Goals as goal
 
 pub decide_rows-requires-clause-starts : goal.decide_rows-requires-clause-starts
 decide_rows-requires-clause-starts c =
-    subst (λ z. AreStarts z (length c.deref-3.result.now)) (sym c.deref-4.ensures.value) (subst (λ z. AreStarts c.in_ok-starts.starts.first.items (length z)) (sym c.deref-3.ensures.value)
+    let lists = lists_in c.in_ok-lists.lists in
+    subst (λ z. AreStarts z (length lists)) (sym c.deref-3.ensures.value)
     (starts c.args.db.now c.args.query.now c.args.row.now c.requires.pair c.requires.fits c.requires.size c.pair_decided.ensures c.in_ok-starts.starts.first.items c.in_ok-starts.starts.split c.in_ok-starts.ensures.starts
-    c.in_ok-lists.lists.items c.in_ok-lists.ensures.lists))
+    lists c.in_ok-lists.ensures.lists)
 
 pub decide_rows-requires-clause-sided : goal.decide_rows-requires-clause-sided
 decide_rows-requires-clause-sided c =
-    subst (λ z. AreSided c.deref-3.result.now z c.in_ok-starts.starts.split) (sym c.deref-4.ensures.value) (subst (λ z. AreSided z c.in_ok-starts.starts.first.items c.in_ok-starts.starts.split) (sym c.deref-3.ensures.value)
+    let lists = lists_in c.in_ok-lists.lists in
+    subst (λ z. AreSided lists z c.in_ok-starts.starts.split) (sym c.deref-3.ensures.value)
     (sided c.args.db.now c.args.query.now c.args.row.now c.requires.pair c.requires.fits c.requires.size c.pair_decided.ensures c.in_ok-starts.starts.first.items c.in_ok-starts.starts.split c.in_ok-starts.ensures.starts
-    c.in_ok-lists.lists.items c.in_ok-lists.ensures.lists))
+    lists c.in_ok-lists.ensures.lists)
 
 pub returns : goal.returns
 returns c =
+    let lists = lists_in c.in_ok-lists.lists in
     answered c.args.db.now c.args.query.now c.args.row.now c.requires.pair c.requires.fits c.requires.size c.pair_decided.ensures c.in_ok-starts.starts.first.items c.in_ok-starts.starts.split c.in_ok-starts.ensures.starts
-    c.in_ok-lists.lists.items c.in_ok-lists.ensures.lists c.decide_rows.result
-    (subst (λ z. IfOk c.decide_rows.result (IsDecided c.in_ok-lists.lists.items z)) c.deref-4.ensures.value (subst (λ z. IfOk c.decide_rows.result (IsDecided z c.deref-4.result.now)) c.deref-3.ensures.value c.decide_rows.ensures))
+    lists c.in_ok-lists.ensures.lists c.decide_rows.result
+    (subst (λ z. IfOk c.decide_rows.result (IsDecided lists z)) c.deref-3.ensures.value c.decide_rows.ensures)

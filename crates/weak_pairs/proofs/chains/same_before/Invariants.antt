@@ -1,5 +1,5 @@
 use Rattle.weak_pairs.proofs.Chaining.{AreBehind}
-use Rattle.weak_pairs.proofs.edge_map.same_before.Given as goal
+use Rattle.weak_pairs.proofs.chains.same_before.Given as goal
 
 abbrev pub invariant-back : goal.invariant-back
 invariant-back l = AreBehind l.lists l.at l.left

@@ -1,12 +1,13 @@
-use Rattle.std.proofs.Common.{[], ap, ◌∙◌, get_or}
+use Rattle.std.proofs.Common.{[], ap, map, ◌∙◌, get_or}
 use Rattle.cqa_model.specs.Database.{stored}
+use Rattle.weak_pairs.specs.Packing.{list_of}
 use Rattle.pair_answers.proofs.Listing.{row-lists-of}
-use Rattle.pair_answers.proofs.lists.row_lists.Goals as goal
+use Rattle.pair_answers.proofs.lists.packed_lists.Goals as goal
 
 pub returns-clause-lists : goal.returns-clause-lists
 returns-clause-lists c =
     let tables = stored c.args.db.now in
     row-lists-of c.args.query.now tables c.args.row.now c.args.left.now c.args.right.now c.rows-first.result c.rows-second.result
-    c.in_ok-lists.lists.items c.append_lists.new.lists.items c.append_lists-2.new.lists.items c.requires.columns
+    (map list_of c.in_ok-codes.codes.items) (map list_of c.append_codes.new.codes.items) (map list_of c.append_codes-2.new.codes.items) c.requires.columns
     (c.rows-first.ensures.is ∙ ap (λ t. get_or tables t []) c.table_of.ensures) (c.rows-second.ensures.is ∙ ap (λ t. get_or tables t []) c.table_of-2.ensures)
-    c.in_ok-lists.ensures.items c.in_ok-append_lists.ensures c.in_ok-append_lists-2.ensures
+    (ap (map list_of) c.in_ok-codes.ensures.items) (c.in_ok-append_codes.ensures c.if-not-branch.false) (c.in_ok-append_codes-2.ensures c.if-not-branch-2.false)

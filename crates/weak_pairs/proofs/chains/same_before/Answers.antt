@@ -1,6 +1,6 @@
 use Rattle.std.proofs.Common.{◌≡◌, ◌+◌, ◌-◌, arith}
 use Rattle.weak_pairs.proofs.Chaining.{behind-first, behind-more}
-use Rattle.weak_pairs.proofs.edge_map.same_before.Goals as goal
+use Rattle.weak_pairs.proofs.chains.same_before.Goals as goal
 
 pub back-init : goal.back-init
 back-init c = behind-first c.args.lists.now c.args.before.now c.requires.chained c.args.at c.requires.there

@@ -1,0 +1,69 @@
+-- Codes of lists, and the buckets of rows by them.
+use Rattle.std.proofs.Common.{◌≡◌, ◌≢◌, ℕ, zero, suc, ◌*◌, ◌/◌, ◌%◌, ◌<◌, ◌^◌, ◌↔◌, List, length, map, nat_eq, IsTrue, get_or, refl, sym, ◌∙◌, ap, subst, arith, Some, None, pos}
+use Rattle.std.proofs.Math.IntN.{◌+ℤ◌, -ℤ-+ℤ_cancel}
+use Rattle.std.proofs.Math.Nat.{mod-lt}
+use Rattle.std.proofs.Math.ListN.{get_or-map}
+use Rattle.std.proofs.lemmas.Bool.{eq-eqb, eqb-true}
+use Rattle.cqa_value.specs.declared.value.Value.{Value}
+use Rattle.weak_pairs.specs.declared.packed.TheConstants.{HALF, MULTIPLIER, SHIFT}
+use Rattle.weak_pairs.specs.declared.lists.Lists.{Lists}
+use Rattle.weak_pairs.specs.declared.lists.Lists.TheVariants.{Packed, Borrowed}
+use Rattle.weak_pairs.specs.Packing.{integer_of, list_of, bucket_of_code}
+use Rattle.weak_pairs.specs.Digests.{digest, bucket_of_list, bucket_count, bucket_at, lists_in}
+use Rattle.weak_pairs.specs.EdgeNumbers.{HaveOne}
+
+same-integer : (m n : ℕ) → integer_of m ≡ integer_of n → m ≡ n
+same-integer m n e = let same : pos m ≡ pos n = sym (-ℤ-+ℤ_cancel (pos m) HALF) ∙ ap (λ z. z +ℤ HALF) e ∙ -ℤ-+ℤ_cancel (pos n) HALF in cc same
+
+-- codes of one list are one
+pub one-code : (c d : ℕ) (x : List Value) → list_of c ≡ Some x → list_of d ≡ Some x → c ≡ d
+one-code zero d x hc hd = absurd (cc hc)
+one-code (suc c) zero x hc hd = absurd (cc hd)
+one-code (suc c) (suc d) x hc hd =
+    let same = hc ∙ sym hd in
+    let high : integer_of (c / 4294967296) ≡ integer_of (d / 4294967296) = cc same in
+    let low : integer_of (c % 4294967296) ≡ integer_of (d % 4294967296) = cc same in
+    let high_one = same-integer (c / 4294967296) (d / 4294967296) high in
+    let low_one = same-integer (c % 4294967296) (d % 4294967296) low in
+    omega (arith, high_one, low_one)
+
+pub some-code : (c : ℕ) (x : List Value) → list_of c ≡ Some x → c ≢ 0
+some-code zero x h = absurd (cc h)
+some-code (suc c) x h = λ e. omega (arith, e)
+
+pub listed : (c : ℕ) → c ≢ 0 → (x : List Value) × (list_of c ≡ Some x)
+listed zero n = absurd (n refl)
+listed (suc c) n = (_, refl)
+
+pub code-at : (codes : List ℕ) (i : ℕ) → get_or (map list_of codes) i None ≡ list_of (get_or codes i 0)
+code-at codes i = get_or-map list_of codes i 0
+
+some-bucket : (buckets c : ℕ) → 0 < buckets → c ≢ 0 → bucket_of_code buckets c < buckets
+some-bucket buckets zero l n = absurd (n refl)
+some-bucket buckets (suc c) l n = mod-lt (suc c * MULTIPLIER % 2 ^ 64 / SHIFT) l
+
+-- rows with one list are in one bucket
+pub one-bucket : (lists : Lists) (i j : ℕ) → HaveOne (lists_in lists) i j → bucket_at lists i ≡ bucket_at lists j
+one-bucket (Packed codes) i j (x, xi, xj) =
+    ap (bucket_of_code (bucket_count (length (map list_of codes.items))))
+    (one-code (get_or codes.items i 0) (get_or codes.items j 0) x (sym (code-at codes.items i) ∙ xi) (sym (code-at codes.items j) ∙ xj))
+one-bucket (Borrowed lists) i j (x, xi, xj) = ap (bucket_of_list (bucket_count (length lists.items))) (xi ∙ sym xj)
+
+-- a row with a list is in some bucket
+pub in-some : (lists : Lists) (i j : ℕ) → HaveOne (lists_in lists) i j → bucket_at lists j < bucket_count (length (lists_in lists))
+in-some (Packed codes) i j (x, xi, xj) =
+    some-bucket (bucket_count (length (map list_of codes.items))) (get_or codes.items j 0) (omega arith) (some-code (get_or codes.items j 0) x (sym (code-at codes.items j) ∙ xj))
+in-some (Borrowed lists) i j (x, xi, xj) = subst (λ z. bucket_of_list (bucket_count (length lists.items)) z < bucket_count (length lists.items)) (sym xj) (mod-lt (digest x) (omega arith))
+
+-- a row with a code has one list with another exactly where that has this code too
+pub one-list : (codes : List ℕ) (i j : ℕ) → get_or codes i 0 ≢ 0 → IsTrue (nat_eq (get_or codes i 0) (get_or codes j 0)) ↔ HaveOne (map list_of codes) i j
+one-list codes i j some = (into, back)
+  where
+    into : IsTrue (nat_eq (get_or codes i 0) (get_or codes j 0)) → HaveOne (map list_of codes) i j
+    into e =
+        let same : get_or codes i 0 ≡ get_or codes j 0 = eqb-true (get_or codes i 0) (get_or codes j 0) e in
+        let x = listed (get_or codes i 0) some in
+        (x.0, code-at codes i ∙ x.1, code-at codes j ∙ ap list_of (sym same) ∙ x.1)
+
+    back : HaveOne (map list_of codes) i j → IsTrue (nat_eq (get_or codes i 0) (get_or codes j 0))
+    back (x, xi, xj) = eq-eqb (get_or codes i 0) (get_or codes j 0) (one-code (get_or codes i 0) (get_or codes j 0) x (sym (code-at codes i) ∙ xi) (sym (code-at codes j) ∙ xj))

@@ -1,0 +1,88 @@
+//! The lists of rows, whose values tell which rows meet.
+
+ghost use Rattle.std.specs.Prelude.{◌≡◌, ◌↔◌, ◌<◌, IsTrue, length, map};
+ghost use Rattle.weak_pairs.specs.Digests.{bucket_of, bucket_of_list, lists_in};
+ghost use Rattle.weak_pairs.specs.EdgeNumbers.{HaveOne};
+ghost use Rattle.weak_pairs.specs.Packing.{list_of};
+
+use crate::packed::bucket as code_bucket;
+use crate::picked::Picked;
+
+/// The lists of rows, one after the other: each by its code, where all have one, or else each borrowed from its row.
+#[derive(Drop)]
+pub enum Lists<'a> {
+    Packed(Vec<u64>),
+    Borrowed(Vec<Option<Picked<'a>>>),
+}
+
+/// The bucket of a list; what is no list is in none.
+fn bucket_of_picked(list: &Option<Picked<'_>>, buckets: usize) -> usize
+    requires { 0 < buckets }
+    ensures { result ≡ bucket_of_list buckets list.now }
+{
+    match list {
+        None => buckets,
+        Some(values) => (values.digest() % buckets as u64) as usize,
+    }
+}
+
+/// Whether two codes are of one list.
+fn have_one_code(codes: &[u64], i: u32, j: u32) -> bool
+    requires first { i < length codes.now }
+    requires second { j < length codes.now }
+    ensures { IsTrue result ↔ HaveOne (map list_of codes.now) i j }
+{
+    let code = codes[i as usize];
+    code != 0 && code == codes[j as usize]
+}
+
+/// Whether two rows have one list.
+fn have_one_picked(lists: &[Option<Picked<'_>>], i: u32, j: u32) -> bool
+    requires first { i < length lists.now }
+    requires second { j < length lists.now }
+    ensures { IsTrue result ↔ HaveOne lists.now i j }
+{
+    let Some(x) = &lists[i as usize] else {
+        return false;
+    };
+    let Some(y) = &lists[j as usize] else {
+        return false;
+    };
+    x.is_same(y)
+}
+
+impl<'a> Lists<'a> {
+    /// How many rows there are.
+    pub fn len(&self) -> usize
+        ensures { result ≡ length (lists_in self.now) }
+    {
+        match self {
+            Lists::Packed(codes) => codes.len(),
+            Lists::Borrowed(lists) => lists.len(),
+        }
+    }
+
+    /// The bucket of the list of a row, of so many.
+    pub(crate) fn bucket(&self, at: usize, buckets: usize) -> usize
+        requires there { at < length (lists_in self.now) }
+        requires some { 0 < buckets }
+        ensures { result ≡ bucket_of buckets self.now at }
+    {
+        match self {
+            Lists::Packed(codes) => code_bucket(codes[at], buckets),
+            Lists::Borrowed(lists) => bucket_of_picked(&lists[at], buckets),
+        }
+    }
+
+    /// Whether two rows have one list.
+    pub(crate) fn have_one(&self, i: u32, j: u32) -> bool
+        requires first { i < length (lists_in self.now) }
+        requires second { j < length (lists_in self.now) }
+        ensures { IsTrue result ↔ HaveOne (lists_in self.now) i j }
+    {
+        match self {
+            Lists::Packed(codes) => have_one_code(codes, i, j),
+            Lists::Borrowed(lists) => have_one_picked(lists, i, j),
+        }
+    }
+}
