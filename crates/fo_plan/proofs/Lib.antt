@@ -2,5 +2,6 @@ mod Spanned
 mod Parted
 mod Leading
 mod Passing
+mod Walked
 mod Gathered
 mod Adding

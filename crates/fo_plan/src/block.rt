@@ -11,11 +11,10 @@ ghost use Rattle.fo_plan.specs.Holding.{RowHolds};
 ghost use Rattle.fo_plan.specs.FirstBlock.{IsFirstBlock, IsFirstWith};
 ghost use Rattle.plan_rows.specs.Underway.{IsUnderway, IsRight};
 
-use crate::enough::table_of;
 use crate::holding::all_hold;
 use cqa_model::{Plan, Query, variables};
 use cqa_value::Row;
-use plan_rows::{Course, Memo, Setting, Taken, shared_or_none, turns_before_memo};
+use plan_rows::{Course, Memo, Setting, Taken, shared_or_none, table_of, turns_before_memo};
 use row_cursor::{BlockCursor, RowIndex};
 use row_pieces::Rows;
 use std::alloc::Global;

@@ -2,13 +2,17 @@
 //! row of each block proposes rows, and the block's other rows test them.
 
 ghost use Rattle.std.specs.Prelude.{◌≡◌, ◌⊎◌, ◌<◌, ◌↔◌, ◌∷◌, IsTrue, Contains, List, OnOk, [], length, slice_index_or};
+ghost use Rattle.std.specs.Option.{option_copied};
 ghost use Rattle.cqa_value.specs.declared.value.Value.{Value as Cell};
 ghost use Rattle.cqa_model.specs.Database.{stored};
+ghost use Rattle.cqa_model.specs.OneTable.{SomeBlockFits};
 ghost use Rattle.plan_rows.specs.Taking.{placed};
 ghost use Rattle.plan_rows.specs.Fitting.{Suits};
-ghost use Rattle.fo_plan.specs.Holding.{AllHold};
+ghost use Rattle.plan_rows.specs.Knowing.{HasKnown};
+ghost use Rattle.fo_plan.specs.Enough.{AreOrdered};
+ghost use Rattle.fo_plan.specs.Holding.{RowHolds, AllHold};
 ghost use Rattle.plan_rows.specs.Left.{IsSettled};
-ghost use Rattle.fo_plan.specs.Giving.{AreAll, Gives, BlockGives, IsAdded};
+ghost use Rattle.fo_plan.specs.Giving.{AreAll, IsAnswer, Gives, BlockGives, IsAdded};
 ghost use Rattle.plan_rows.specs.Underway.{IsUnderway, IsRight};
 
 use crate::enough::Blocks;
@@ -149,10 +153,33 @@ fn add_blocks<'x>(
     ensures memo { IsRight course.now memo.new }
 {
     let blocks = Blocks::new(&course.setting, None, taken, atom);
-    let mut place = blocks.start();
-    while let Some((block, next)) = blocks.next_from(place) {
+    let added = add_all_of(course, taken, atom, &blocks, rest, found, memo);
+    drop(blocks);
+    added
+}
+
+/// Adds the rows that these blocks give.
+#[cycle(giving)]
+fn add_all_of<'x>(
+    course: &'x Course<'x>,
+    taken: &'x Taken<'x>,
+    atom: u32,
+    blocks: &Blocks<'x, '_>,
+    rest: &[u32],
+    found: &mut Vec<Row>,
+    memo: &mut Memo,
+) -> Result<(), NoMemory>
+    requires here { IsUnderway course.now (placed taken.now) (atom ∷ rest.now) }
+    requires all { AreAll course.now.setting.query.now (placed taken.now) (atom ∷ rest.now) }
+    requires ordered { AreOrdered blocks.now }
+    requires known { (y : List Cell) → Suits course.now.setting.query.now (placed taken.now) atom y → HasKnown (option_copied blocks.now.index) blocks.now.values y }
+    requires memo { IsRight course.now memo.old }
+    ensures added { OnOk result (IsAdded (λ row. IsAnswer course.now.setting.query.now (placed taken.now) row × SomeBlockFits blocks.now.key.now blocks.now.rows (RowHolds course.now.setting.query.now (stored course.now.setting.db.now) row (placed taken.now) atom rest.now)) found.old.items found.new.items) }
+    ensures memo { IsRight course.now memo.new }
+{
+    let mut spot = blocks.start();
+    while let Some(block) = blocks.next(&mut spot) {
         add_block(course, taken, atom, &block, rest, found, memo)?;
-        place = next;
     }
     Ok(())
 }

@@ -1,12 +1,16 @@
 //! Whether a plan holds, atom by atom: some block all of whose rows fit, and for each of them the rest.
 
-ghost use Rattle.std.specs.Prelude.{◌↔◌, ◌∷◌, IsTrue};
+ghost use Rattle.std.specs.Prelude.{◌↔◌, ◌∷◌, IsTrue, List};
+ghost use Rattle.std.specs.Option.{option_copied};
+ghost use Rattle.cqa_value.specs.declared.value.Value.{Value as Cell};
 ghost use Rattle.cqa_model.specs.Database.{stored};
 ghost use Rattle.cqa_model.specs.Query.{atom_key, rows_of, FitsDatabase};
 ghost use Rattle.cqa_model.specs.OneTable.{SomeBlockFits};
-ghost use Rattle.cqa_model.specs.Plan.{HoldsOver, PlanHolds};
+ghost use Rattle.cqa_model.specs.Plan.{Fits, HoldsOver, PlanHolds};
 ghost use Rattle.plan_rows.specs.Taking.{placed};
 ghost use Rattle.plan_rows.specs.Left.{AreAtoms};
+ghost use Rattle.plan_rows.specs.Knowing.{HasKnown};
+ghost use Rattle.fo_plan.specs.Enough.{AreOrdered};
 ghost use Rattle.fo_plan.specs.Holding.{RowHolds, AllHold};
 ghost use Rattle.plan_rows.specs.Underway.{IsUnderway, IsKey, IsRight};
 
@@ -83,12 +87,34 @@ fn some_block<'x>(
     ensures memo { IsRight course.now memo.new }
 {
     let blocks = Blocks::new(&course.setting, Some(row), taken, atom);
-    let mut place = blocks.start();
-    while let Some((block, next)) = blocks.next_from(place) {
+    let held = some_of(course, row, taken, atom, &blocks, rest, memo);
+    drop(blocks);
+    held
+}
+
+/// Whether all rows of some of these blocks hold.
+#[cycle(holds)]
+fn some_of<'x>(
+    course: &'x Course<'x>,
+    row: &'x Row,
+    taken: &'x Taken<'x>,
+    atom: u32,
+    blocks: &Blocks<'_, '_>,
+    rest: &[u32],
+    memo: &mut Memo,
+) -> bool
+    requires here { IsUnderway course.now (placed taken.now) (atom ∷ rest.now) }
+    requires ordered { AreOrdered blocks.now }
+    requires known { (y : List Cell) → Fits course.now.setting.query.now row.now (placed taken.now) atom y → HasKnown (option_copied blocks.now.index) blocks.now.values y }
+    requires memo { IsRight course.now memo.old }
+    ensures holds { IsTrue result ↔ SomeBlockFits blocks.now.key.now blocks.now.rows (RowHolds course.now.setting.query.now (stored course.now.setting.db.now) row.now (placed taken.now) atom rest.now) }
+    ensures memo { IsRight course.now memo.new }
+{
+    let mut spot = blocks.start();
+    while let Some(block) = blocks.next(&mut spot) {
         if all_hold(course, row, taken, atom, &block, rest, memo) {
             return true;
         }
-        place = next;
     }
     false
 }

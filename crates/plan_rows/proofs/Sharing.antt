@@ -19,8 +19,7 @@ use Rattle.cqa_model.proofs.Classic.{mem-head, mem-tail, mem-nil, mem-cases, map
 use Rattle.plan_rows.specs.Taking.{taken_value}
 use Rattle.plan_rows.specs.Fitting.{AgreesAll, Suits}
 use Rattle.plan_rows.specs.Over.{IsPrepared}
-use Rattle.plan_rows.specs.Left.{AreAtoms}
-use Rattle.plan_rows.specs.Left.{IsSettled}
+use Rattle.plan_rows.specs.Left.{AreAtoms, IsSettled}
 use Rattle.plan_rows.specs.Underway.{atoms_of, HasShared, AreShared, IsUnderway, IsKey, IsRight}
 use Rattle.plan_rows.specs.declared.course.Course.{Course}
 use Rattle.plan_rows.specs.declared.memo.Memo.{Memo}
@@ -155,7 +154,7 @@ same-shared s taken others plan u v atoms there e F mF x a t m i li j lj linked 
     let front : Contains (atoms_of taken) t.atom = subst (λ z. Contains z t.atom) (sym atoms) (in-atoms others t m) in
     let count : length (atoms_of taken) ≡ length taken = length-atoms taken in
     let has : HasShared q (atoms_of taken) plan (get_or s.shared.now (length (atoms_of taken)) []) = u.shared (atoms_of taken) plan u.place (subst (λ n. n < length s.shared.now) (sym count) there) in
-    let mc : Contains (get_or s.shared.now (length taken) []) (record { atom = t.atom; col = j }) = subst (λ n. Contains (get_or s.shared.now n []) (record { atom = t.atom; col = j })) count (has t.atom j F i front lj mF li linked) in
+    let mc : Contains (get_or s.shared.now (length taken) []) (record { atom = t.atom; col = j }) = subst (λ n. Contains (get_or s.shared.now n []) (record { atom = t.atom; col = j })) count (has t.atom j front lj (F, i, mF, li, linked)) in
     let same = map_agree (taken_value taken) (taken_value others) (get_or s.shared.now (length taken) []) e (record { atom = t.atom; col = j }) mc in
     let t0 = of-atoms taken t.atom front in
     let w = value-taken taken (record { atom = t.atom; col = j }) t0.0 t0.1 t0.2 in

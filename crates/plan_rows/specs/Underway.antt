@@ -8,12 +8,10 @@ use Rattle.cqa_model.specs.declared.query.ColRef.{ColRef}
 use Rattle.cqa_model.specs.declared.query.Query.{Query}
 use Rattle.cqa_model.specs.Database.{stored}
 use Rattle.cqa_model.specs.Query.{atom_at}
-use Rattle.cqa_model.specs.Variables.{AreLinked}
 use Rattle.cqa_model.specs.Plan.{Placed, PlanHolds}
 use Rattle.plan_rows.specs.Over.{IsPrepared}
 use Rattle.plan_rows.specs.Taking.{taken_value, AreOfAtoms, AreAgreed}
-use Rattle.plan_rows.specs.Left.{AreAtoms}
-use Rattle.plan_rows.specs.Left.{IsSettled}
+use Rattle.plan_rows.specs.Left.{AreAtoms, IsTold, IsSettled}
 use Rattle.plan_rows.specs.declared.course.Course.{Course}
 use Rattle.plan_rows.specs.declared.memo.Memo.{Memo}
 
@@ -24,7 +22,7 @@ atoms_of (t ∷ ts) = atoms_of ts ++ t.atom ∷ []
 
 -- columns among which are all those of the atoms in front that are linked to columns of the others
 abbrev pub HasShared : Query → List ℕ → List ℕ → List ColRef → Type 0
-HasShared q front rest columns = (G j F i : ℕ) → Contains front G → j < (atom_at q G).width → Contains rest F → i < (atom_at q F).width → AreLinked q (record { atom = F; col = i }) (record { atom = G; col = j }) → Contains columns (record { atom = G; col = j })
+HasShared q front rest columns = (G j : ℕ) → Contains front G → j < (atom_at q G).width → IsTold q rest (record { atom = G; col = j }) → Contains columns (record { atom = G; col = j })
 
 -- so it is wherever an order is parted, as far as there are such columns
 abbrev pub AreShared : Query → List ℕ → List (List ColRef) → Type 0

@@ -12,10 +12,10 @@ mod shared;
 mod taken_rows;
 
 pub use course::{Course, turns_before_memo};
-pub use fitting::{fits, linked, suits, width_of};
+pub use fitting::{fits, suits, table_of, width_of};
 pub use known::known_values;
 pub use memo::Memo;
 pub use setting::Setting;
 pub use settled::are_settled;
-pub use shared::{is_shared, shared_columns, shared_or_none};
+pub use shared::{is_told, shared_columns, shared_or_none};
 pub use taken_rows::{Taken, answer_of};

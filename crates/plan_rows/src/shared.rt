@@ -1,12 +1,12 @@
 //! The columns by which the rests of a plan depend on the rows taken before: those linked to columns of a rest.
 
-ghost use Rattle.std.specs.Prelude.{◌≡◌, ◌<◌, ◌≤◌, ◌↔◌, ℕ, IfOk, OnOk, IsTrue, IsFalse, Contains, [], length, take, drop, slice_index_or};
+ghost use Rattle.std.specs.Prelude.{◌<◌, ◌↔◌, ℕ, IfOk, OnOk, IsTrue, Contains, length};
 ghost use Rattle.cqa_model.specs.declared.query.ColRef.{ColRef as Column};
 ghost use Rattle.cqa_model.specs.Shape.{IsInRange};
 ghost use Rattle.cqa_model.specs.Query.{atom_at};
 ghost use Rattle.cqa_model.specs.Naming.{AreVariables};
 ghost use Rattle.cqa_model.specs.Variables.{AreLinked};
-ghost use Rattle.plan_rows.specs.Left.{AreAtoms};
+ghost use Rattle.plan_rows.specs.Left.{AreAtoms, IsTold};
 ghost use Rattle.plan_rows.specs.Underway.{HasShared, AreShared};
 
 use crate::fitting::{linked, width_of};
@@ -19,7 +19,7 @@ fn is_linked_to(query: &Query, variables: &Variables, atom: u32, column: ColRef)
     requires variables { AreVariables query.now variables.now }
     requires atom { atom < length query.now.atoms }
     requires column { IsInRange query.now.atoms column }
-    ensures { IsFalse result → (i : ℕ) → i < (atom_at query.now atom).width → AreLinked query.now (record { atom = atom; col = i }) column → ⊥ }
+    ensures { IsTrue result ↔ (i : ℕ) × (i < (atom_at query.now atom).width) × AreLinked query.now (record { atom = atom; col = i }) column }
 {
     for col in 0..width_of(query, atom) {
         if linked(query, variables, ColRef { atom, col }, column) {
@@ -30,11 +30,11 @@ fn is_linked_to(query: &Query, variables: &Variables, atom: u32, column: ColRef)
 }
 
 /// Whether one of these atoms has a column that is linked to this one.
-pub fn is_shared(query: &Query, variables: &Variables, atoms: &[u32], column: ColRef) -> bool
+pub fn is_told(query: &Query, variables: &Variables, atoms: &[u32], column: ColRef) -> bool
     requires variables { AreVariables query.now variables.now }
     requires atoms { AreAtoms query.now atoms.now }
     requires column { IsInRange query.now.atoms column }
-    ensures { IsFalse result → (F i : ℕ) → Contains atoms.now F → i < (atom_at query.now F).width → AreLinked query.now (record { atom = F; col = i }) column → ⊥ }
+    ensures { IsTrue result ↔ IsTold query.now atoms.now column }
 {
     for atom in atoms {
         if is_linked_to(query, variables, *atom, column) {
@@ -56,9 +56,9 @@ fn add_column(
     requires column { IsInRange query.now.atoms column }
     requires others { AreAtoms query.now others.now }
     ensures kept { OnOk result ((c : Column) → Contains columns.old.items c → Contains columns.new.items c) }
-    ensures added { OnOk result ((F i : ℕ) → Contains others.now F → i < (atom_at query.now F).width → AreLinked query.now (record { atom = F; col = i }) column → Contains columns.new.items column) }
+    ensures added { OnOk result (IsTold query.now others.now column → Contains columns.new.items column) }
 {
-    if !is_shared(query, variables, others, column) {
+    if !is_told(query, variables, others, column) {
         return Ok(());
     }
     columns.push(column)?;
@@ -77,7 +77,7 @@ fn add_shared(
     requires atom { atom < length query.now.atoms }
     requires others { AreAtoms query.now others.now }
     ensures kept { OnOk result ((c : Column) → Contains columns.old.items c → Contains columns.new.items c) }
-    ensures added { OnOk result ((j : ℕ) → j < (atom_at query.now atom).width → (F i : ℕ) → Contains others.now F → i < (atom_at query.now F).width → AreLinked query.now (record { atom = F; col = i }) (record { atom = atom; col = j }) → Contains columns.new.items (record { atom = atom; col = j })) }
+    ensures added { OnOk result ((j : ℕ) → j < (atom_at query.now atom).width → IsTold query.now others.now (record { atom = atom; col = j }) → Contains columns.new.items (record { atom = atom; col = j })) }
 {
     for col in 0..width_of(query, atom) {
         add_column(query, variables, ColRef { atom, col }, others, columns)?;

@@ -1,6 +1,7 @@
 //! The rows that were taken so far: a list on the stack of the calls.
 
-ghost use Rattle.std.specs.Prelude.{◌≡◌, ◌<◌, ◌^◌, IfOk, length, map};
+ghost use Rattle.std.specs.Prelude.{◌≡◌, ◌<◌, IfOk, length, map};
+ghost use Rattle.cqa_value.specs.declared.row.TheConstants.{MOST_VALUES};
 ghost use Rattle.cqa_value.specs.Values.{nothing};
 ghost use Rattle.plan_rows.specs.Taking.{placed, taken_value};
 
@@ -34,7 +35,7 @@ pub fn taken_value<'a>(taken: &Taken<'a>, column: &ColRef, zero: &'a Value) -> &
 
 /// The values of columns in the rows taken.
 pub fn answer_of(alloc: Global, taken: &Taken<'_>, columns: &[ColRef]) -> Result<Row, NoMemory>
-    requires { length columns.now < 2 ^ 20 }
+    requires { length columns.now < MOST_VALUES }
     ensures { IfOk result (λ answer. answer ≡ map (taken_value (placed taken.now)) columns.now) }
 {
     let mut answer = Row::new(alloc);

@@ -20,18 +20,18 @@ use Rattle.cqa_model.proofs.Views.{value-linked, linked-sym, linked-trans}
 use Rattle.cqa_model.proofs.Reification.{placed}
 use Rattle.cqa_model.proofs.Elimination.{plan-eliminates}
 use Rattle.cqa_model.proofs.Exactness.{full, forget, fits_of}
-use Rattle.plan_rows.specs.Left.{AreAtoms}
+use Rattle.plan_rows.specs.Left.{AreAtoms, IsTold}
 use Rattle.plan_rows.specs.Underway.{atoms_of}
 use Rattle.plan_rows.proofs.PlanParts.{front-of, back-of}
 use Rattle.plan_rows.proofs.Sharing.{length-atoms, in-atoms, of-atoms}
 use Rattle.repair_back.specs.Flags.{kept_tables}
-use Rattle.repair_back.specs.Apart.{IsTold, IsApart, AreApart, AreEnough}
+use Rattle.repair_back.specs.Apart.{IsApart, AreApart, AreEnough}
 use Rattle.repair_back.specs.Mending.{IsKeptWitness, HasNone, HasNoneFrom}
 
 -- what an atom shares with the rest is told by the first ones, if each brings nothing after those before it
 told-first : (q : Query) (order rest : List ℕ) (n place : ℕ) → place ≤ length order → ((k : ℕ) → n ≤ k → k < place → IsApart q (take k order) (get_or order k 0) rest) → (d k : ℕ) → k < d → n ≤ k → k < place → IsApart q (take n order) (get_or order k 0) rest
-told-first q order rest n place within step zero k l low high j lj F i mF li linked = absurd (omega (arith, l))
-told-first q order rest n place within step (suc d) k l low high j lj F i mF li linked = go (step k low high j lj F i mF li linked) (λ p b low high. told-first q order rest n place within step d p b low high)
+told-first q order rest n place within step zero k l low high j lj t = absurd (omega (arith, l))
+told-first q order rest n place within step (suc d) k l low high j lj (F, i, mF, li, linked) = go (step k low high j lj (F, i, mF, li, linked)) (λ p b low high. told-first q order rest n place within step d p b low high)
   where
     go : IsTold q (take k order) (record { atom = get_or order k 0; col = j }) → ((p : ℕ) → p < d → n ≤ p → p < place → IsApart q (take n order) (get_or order p 0) rest) → IsTold q (take n order) (record { atom = get_or order k 0; col = j })
     go (H, h, mH, lh, lk) next = split (dec_lt mH.0 n)
@@ -51,8 +51,8 @@ told-first q order rest n place within step (suc d) k l low high j lj F i mF li 
             (H, h, m, lh, lk)
         split (no b) =
             let r = next mH.0 (omega (arith, before, l)) (omega (arith, b)) (omega (arith, before, high)) in
-            let s = subst (λ G. IsApart q (take n order) G rest) is r h lh F i mF li
-            (linked-trans q (record { atom = F; col = i }) (record { atom = get_or order k 0; col = j }) (record { atom = H; col = h }) linked (linked-sym q (record { atom = H; col = h }) (record { atom = get_or order k 0; col = j }) lk)) in
+            let s = subst (λ G. IsApart q (take n order) G rest) is r h lh
+            (F, i, mF, li, linked-trans q (record { atom = F; col = i }) (record { atom = get_or order k 0; col = j }) (record { atom = H; col = h }) linked (linked-sym q (record { atom = H; col = h }) (record { atom = get_or order k 0; col = j }) lk)) in
             (s.0, s.1, s.2, s.3, linked-trans q (record { atom = s.0; col = s.1 }) (record { atom = H; col = h }) (record { atom = get_or order k 0; col = j }) s.4 lk)
 
 -- the atoms between the first ones of an order and the rest from a place on, by their places
@@ -186,7 +186,7 @@ module _ (q : Query) (db : List Table) (fits : FitsDatabase q db) (row : List Va
   none-first later first plan all is apart none w hw =
       let r = carried first w hw plan (later ++ first) all (plan-eliminates q (view_of q (later ++ first)) plan is) (left-first q later first)
       (λ u m G mG i li j lj linked. elim (Contains-append_cases later first u m) [
-        | inl k ↦ told u k G i j lj linked (apart u k j lj G i mG li linked)
+        | inl k ↦ told u k G i j lj linked (apart u k j lj (G, i, mG, li, linked))
         | inr n ↦ own first w hw u (hw.extends u n) G i j linked
       ]) in
       none r.0 r.1

@@ -12,3 +12,4 @@ mod Beside
 mod Marking
 mod Telling
 mod Starting
+mod Outcomes

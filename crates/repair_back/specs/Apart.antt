@@ -3,15 +3,11 @@ use Rattle.std.specs.Prelude.{◌≡◌, ℕ, ◌<◌, ◌≤◌, List, ◌++◌
 use Rattle.cqa_model.specs.declared.query.ColRef.{ColRef}
 use Rattle.cqa_model.specs.declared.query.Query.{Query}
 use Rattle.cqa_model.specs.Query.{atom_at}
-use Rattle.cqa_model.specs.Variables.{AreLinked}
-
--- one of these atoms has a column that is linked to this one
-abbrev pub IsTold : Query → List ℕ → ColRef → Type 0
-IsTold q atoms c = (F i : ℕ) × Contains atoms F × (i < (atom_at q F).width) × AreLinked q (record { atom = F; col = i }) c
+use Rattle.plan_rows.specs.Left.{IsTold}
 
 -- a column that is linked to one of the rest's is linked to one of the atoms before
 abbrev pub BringsNone : Query → List ℕ → ColRef → List ℕ → Type 0
-BringsNone q before c rest = (F i : ℕ) → Contains rest F → i < (atom_at q F).width → AreLinked q (record { atom = F; col = i }) c → IsTold q before c
+BringsNone q before c rest = IsTold q rest c → IsTold q before c
 
 -- so it is of each column of an atom
 abbrev pub IsApart : Query → List ℕ → ℕ → List ℕ → Type 0

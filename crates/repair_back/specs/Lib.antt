@@ -1,5 +1,6 @@
 pub mod Apart
 pub mod Flags
 pub mod Mending
+pub mod Along
 pub mod Walking
 pub mod Results

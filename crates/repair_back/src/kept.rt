@@ -6,10 +6,11 @@ ghost use Rattle.cqa_model.specs.Query.{atom_at, atom_key, rows_of, FitsDatabase
 ghost use Rattle.repair_back.specs.Flags.{IsFlagged, flags_of, AreLong, AreBlank, AreChosen};
 ghost use Rattle.repair_back.specs.Results.{IsPick};
 
-use crate::atoms::{is_used, key_of, table_of};
+use crate::atoms::{is_used, key_of};
 use crate::choice::Choice;
 use cqa_model::Query;
 use cqa_value::NoMemory;
+use plan_rows::table_of;
 use std::alloc::Global;
 use table_blocks::Database;
 

@@ -8,20 +8,20 @@
 
 ghost use Rattle.std.specs.Prelude.{◌≡◌, ◌≢◌, ◌⊎◌, ℕ, ◌<◌, ◌≤◌, ◌↔◌, ◌∷◌, [], false, IfOk, IfSome, IsNone, IsSome, IsTrue, length, slice_index_or, Contains};
 ghost use Rattle.cqa_model.specs.Database.{stored};
-ghost use Rattle.cqa_model.specs.Repairs.{SharesKey};
 ghost use Rattle.cqa_model.specs.Query.{atom_at, atom_key, rows_of, FitsDatabase};
 ghost use Rattle.cqa_model.specs.Certain.{IsCertain};
-ghost use Rattle.cqa_model.specs.Plan.{PlanHolds, IsUnattacked, IsPlanOf};
+ghost use Rattle.cqa_model.specs.Plan.{IsUnattacked, IsPlanOf};
 ghost use Rattle.cqa_model.specs.Partial.{view_of};
 ghost use Rattle.plan_rows.specs.Taking.{placed, AreOfAtoms};
 ghost use Rattle.plan_rows.specs.Over.{IsPrepared};
 ghost use Rattle.plan_rows.specs.Underway.{IsKey, IsRight};
-ghost use Rattle.repair_back.specs.Flags.{IsFlagged, kept_tables, flags_of, AreBlank, AreChosen};
-ghost use Rattle.repair_back.specs.Mending.{HasNone, HasNoneFrom, IsHere, IsNext, Lacks, IsReached, RowHolds};
+ghost use Rattle.repair_back.specs.Flags.{IsFlagged, flags_of, AreBlank, AreChosen};
+ghost use Rattle.repair_back.specs.Mending.{IsHere, IsNext};
+ghost use Rattle.repair_back.specs.Along.{rows_on, kept_on, KeepsOne, IsFree, HoldsWith, RestHolds, Mends, MendsBlock};
 ghost use Rattle.repair_back.specs.Results.{Rejects, AreStored};
 ghost use Rattle.repair_back.specs.Walking.{IsBlock, MayFit};
 
-use crate::atoms::{key_of, table_of};
+use crate::atoms::key_of;
 use crate::blocks::block_end;
 use crate::choice::Choice;
 use crate::kept::{blank, settle_all};
@@ -30,7 +30,7 @@ use crate::way::{Way, enough_for, enough_of};
 use cqa_model::{Plan, Query, variables};
 use cqa_value::{NoMemory, Row};
 use plan_rows::{
-    Course, Memo, Setting, Taken, fits, known_values, shared_or_none, turns_before_memo,
+    Course, Memo, Setting, Taken, fits, known_values, shared_or_none, table_of, turns_before_memo,
 };
 use row_pieces::Rows;
 use std::alloc::Global;
@@ -97,14 +97,10 @@ fn mend_rest<'x>(
     memo: &mut Memo,
 ) -> Option<usize>
     requires here { IsHere way.now (placed taken.now) plan.now }
-    requires chosen { AreChosen way.now.course.setting.query.now way.now.course.setting.db.now kept.old }
+    requires chosen { KeepsOne way.now kept.old }
     requires memo { IsRight way.now.course memo.old }
-    ensures chosen { AreChosen way.now.course.setting.query.now way.now.course.setting.db.now kept.new }
     ensures memo { IsRight way.now.course memo.new }
-    ensures reached { IsReached way.now.course.setting.db.now way.now.course.setting.query.now way.now.row.now (placed taken.now) kept.old kept.new }
-    ensures few { IfSome result (λ count. count ≤ length (placed taken.now)) }
-    ensures mended { IfSome result (λ count. HasNoneFrom way.now.course.setting.db.now way.now.course.setting.query.now way.now.row.now (placed taken.now) kept.new count) }
-    ensures holds { IsNone result → PlanHolds way.now.course.setting.query.now (stored way.now.course.setting.db.now) way.now.row.now (placed taken.now) plan.now }
+    ensures mends { Mends way.now (placed taken.now) plan.now kept.old kept.new result }
 {
     match memo.key(&way.course, way.row, taken, plan) {
         Some(key) => remembered(way, taken, plan, key, kept, memo),
@@ -123,15 +119,11 @@ fn remembered<'x>(
     memo: &mut Memo,
 ) -> Option<usize>
     requires here { IsHere way.now (placed taken.now) plan.now }
-    requires chosen { AreChosen way.now.course.setting.query.now way.now.course.setting.db.now kept.old }
+    requires chosen { KeepsOne way.now kept.old }
     requires memo { IsRight way.now.course memo.old }
     requires key { IsKey way.now.course.setting.query.now way.now.course.shared.now (placed taken.now) plan.now way.now.row.now key }
-    ensures chosen { AreChosen way.now.course.setting.query.now way.now.course.setting.db.now kept.new }
     ensures memo { IsRight way.now.course memo.new }
-    ensures reached { IsReached way.now.course.setting.db.now way.now.course.setting.query.now way.now.row.now (placed taken.now) kept.old kept.new }
-    ensures few { IfSome result (λ count. count ≤ length (placed taken.now)) }
-    ensures mended { IfSome result (λ count. HasNoneFrom way.now.course.setting.db.now way.now.course.setting.query.now way.now.row.now (placed taken.now) kept.new count) }
-    ensures holds { IsNone result → PlanHolds way.now.course.setting.query.now (stored way.now.course.setting.db.now) way.now.row.now (placed taken.now) plan.now }
+    ensures mends { Mends way.now (placed taken.now) plan.now kept.old kept.new result }
 {
     if let Some(true) = memo.told(&key) {
         drop(key);
@@ -159,14 +151,10 @@ fn mend_anew<'x>(
     memo: &mut Memo,
 ) -> Option<usize>
     requires here { IsHere way.now (placed taken.now) plan.now }
-    requires chosen { AreChosen way.now.course.setting.query.now way.now.course.setting.db.now kept.old }
+    requires chosen { KeepsOne way.now kept.old }
     requires memo { IsRight way.now.course memo.old }
-    ensures chosen { AreChosen way.now.course.setting.query.now way.now.course.setting.db.now kept.new }
     ensures memo { IsRight way.now.course memo.new }
-    ensures reached { IsReached way.now.course.setting.db.now way.now.course.setting.query.now way.now.row.now (placed taken.now) kept.old kept.new }
-    ensures few { IfSome result (λ count. count ≤ length (placed taken.now)) }
-    ensures mended { IfSome result (λ count. HasNoneFrom way.now.course.setting.db.now way.now.course.setting.query.now way.now.row.now (placed taken.now) kept.new count) }
-    ensures holds { IsNone result → PlanHolds way.now.course.setting.query.now (stored way.now.course.setting.db.now) way.now.row.now (placed taken.now) plan.now }
+    ensures mends { Mends way.now (placed taken.now) plan.now kept.old kept.new result }
 {
     match plan {
         [] => None,
@@ -193,14 +181,10 @@ fn mend_blocks<'x>(
 ) -> Option<usize>
     requires next { IsNext way.now (placed taken.now) atom rest.now }
     requires free { IsUnattacked way.now.course.setting.query.now (view_of way.now.course.setting.query.now (placed taken.now)) atom }
-    requires chosen { AreChosen way.now.course.setting.query.now way.now.course.setting.db.now kept.old }
+    requires chosen { KeepsOne way.now kept.old }
     requires memo { IsRight way.now.course memo.old }
-    ensures chosen { AreChosen way.now.course.setting.query.now way.now.course.setting.db.now kept.new }
     ensures memo { IsRight way.now.course memo.new }
-    ensures reached { IsReached way.now.course.setting.db.now way.now.course.setting.query.now way.now.row.now (placed taken.now) kept.old kept.new }
-    ensures few { IfSome result (λ count. count ≤ length (placed taken.now)) }
-    ensures mended { IfSome result (λ count. HasNoneFrom way.now.course.setting.db.now way.now.course.setting.query.now way.now.row.now (placed taken.now) kept.new count) }
-    ensures holds { IsNone result → PlanHolds way.now.course.setting.query.now (stored way.now.course.setting.db.now) way.now.row.now (placed taken.now) (atom ∷ rest.now) }
+    ensures mends { Mends way.now (placed taken.now) (atom ∷ rest.now) kept.old kept.new result }
 {
     let setting = &way.course.setting;
     let rows = setting.db.rows(table_of(setting.query, atom));
@@ -234,16 +218,12 @@ fn mend_block<'x>(
     memo: &mut Memo,
 ) -> Option<usize>
     requires next { IsNext way.now (placed taken.now) atom rest.now }
-    requires chosen { AreChosen way.now.course.setting.query.now way.now.course.setting.db.now kept.old }
+    requires chosen { KeepsOne way.now kept.old }
     requires memo { IsRight way.now.course memo.old }
-    requires rows { rows.now ≡ rows_of way.now.course.setting.query.now (stored way.now.course.setting.db.now) atom }
+    requires rows { rows.now ≡ rows_on way.now atom }
     requires block { IsBlock (atom_key way.now.course.setting.query.now atom) rows.now start end }
-    ensures chosen { AreChosen way.now.course.setting.query.now way.now.course.setting.db.now kept.new }
     ensures memo { IsRight way.now.course memo.new }
-    ensures reached { IsReached way.now.course.setting.db.now way.now.course.setting.query.now way.now.row.now (placed taken.now) kept.old kept.new }
-    ensures mended { IfSome result (λ count. HasNoneFrom way.now.course.setting.db.now way.now.course.setting.query.now way.now.row.now (placed taken.now) kept.new count) }
-    ensures lacks { IsSome result → Lacks way.now.course.setting.db.now way.now.course.setting.query.now way.now.row.now (placed taken.now) atom kept.new (slice_index_or rows.now start []) }
-    ensures holds { IsNone result → (i : ℕ) → start ≤ i → i < end → RowHolds way.now.course.setting.db.now way.now.course.setting.query.now way.now.row.now (placed taken.now) atom rest.now (slice_index_or rows.now i []) }
+    ensures mends { MendsBlock way.now (placed taken.now) atom (slice_index_or rows.now start []) ((i : ℕ) → start ≤ i → i < end → HoldsWith way.now (placed taken.now) atom rest.now (slice_index_or rows.now i [])) kept.old kept.new result }
 {
     let setting = &way.course.setting;
     let first = kept_of(setting, atom, start, end, kept);
@@ -277,16 +257,12 @@ fn row_mended<'x>(
     memo: &mut Memo,
 ) -> Option<usize>
     requires next { IsNext way.now (placed taken.now) atom rest.now }
-    requires chosen { AreChosen way.now.course.setting.query.now way.now.course.setting.db.now kept.old }
+    requires chosen { KeepsOne way.now kept.old }
     requires memo { IsRight way.now.course memo.old }
-    requires kept { Contains (rows_of way.now.course.setting.query.now (kept_tables (stored way.now.course.setting.db.now) kept.old) atom) y.now }
-    ensures chosen { AreChosen way.now.course.setting.query.now way.now.course.setting.db.now kept.new }
+    requires kept { Contains (kept_on way.now kept.old atom) y.now }
     ensures memo { IsRight way.now.course memo.new }
-    ensures reached { IsReached way.now.course.setting.db.now way.now.course.setting.query.now way.now.row.now (placed taken.now) kept.old kept.new }
     ensures same { flags_of way.now.course.setting.query.now kept.new atom ≡ flags_of way.now.course.setting.query.now kept.old atom }
-    ensures mended { IfSome result (λ count. HasNoneFrom way.now.course.setting.db.now way.now.course.setting.query.now way.now.row.now (placed taken.now) kept.new count) }
-    ensures lacks { IsSome result → Lacks way.now.course.setting.db.now way.now.course.setting.query.now way.now.row.now (placed taken.now) atom kept.new y.now }
-    ensures holds { IsNone result → RowHolds way.now.course.setting.db.now way.now.course.setting.query.now way.now.row.now (placed taken.now) atom rest.now y.now }
+    ensures mends { MendsBlock way.now (placed taken.now) atom y.now (HoldsWith way.now (placed taken.now) atom rest.now y.now) kept.old kept.new result }
 {
     memo.turn();
     let setting = &way.course.setting;
@@ -299,10 +275,10 @@ fn row_mended<'x>(
 /// Mends what is kept until there is no witness; false where each repair has one.
 fn mend_all(way: &Way<'_>, kept: &mut [Choice]) -> bool
     requires here { IsHere way.now [] way.now.course.order.now }
-    requires chosen { AreChosen way.now.course.setting.query.now way.now.course.setting.db.now kept.old }
-    ensures chosen { AreChosen way.now.course.setting.query.now way.now.course.setting.db.now kept.new }
-    ensures mended { IsTrue result → HasNone way.now.course.setting.db.now way.now.course.setting.query.now way.now.row.now [] kept.new }
-    ensures holds { result ≡ false → PlanHolds way.now.course.setting.query.now (stored way.now.course.setting.db.now) way.now.row.now [] way.now.course.order.now }
+    requires chosen { KeepsOne way.now kept.old }
+    ensures chosen { KeepsOne way.now kept.new }
+    ensures mended { IsTrue result → IsFree way.now [] kept.new }
+    ensures holds { result ≡ false → RestHolds way.now [] way.now.course.order.now }
 {
     let setting = &way.course.setting;
     let mut memo = Memo::new(setting.alloc, turns_before_memo(setting.db, setting.query));

@@ -6,13 +6,21 @@ ghost use Rattle.cqa_model.specs.Database.{stored, block_cmp};
 ghost use Rattle.cqa_model.specs.Repairs.{SharesKey};
 ghost use Rattle.repair_back.specs.Results.{is_contested, is_contested_in, contested_of, AreStored};
 
-use crate::blocks::share_key;
 use crate::repair::Repair;
 use cqa_model::RowId;
 use cqa_value::{Items, NoMemory};
 use row_pieces::Rows;
 use std::alloc::Global;
-use table_blocks::Database;
+use table_blocks::{Database, same_key};
+
+/// Whether the rows at two places share a key.
+fn share_key(rows: &Rows<'_>, key: &[u32], at: usize, other: usize) -> bool
+    requires at { at < length rows.now }
+    requires other { other < length rows.now }
+    ensures { IsTrue result ↔ SharesKey key.now (slice_index_or rows.now at []) (slice_index_or rows.now other []) }
+{
+    same_key(key, rows.get(at), rows.get(other))
+}
 
 /// Whether there is a row behind the one at a place that shares its key.
 fn goes_on(rows: &Rows<'_>, key: &[u32], place: usize) -> bool

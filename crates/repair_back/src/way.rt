@@ -1,17 +1,14 @@
 //! The way along which a repair is mended: a plan over a database, and how many rows of it matter to what is left.
 
-ghost use Rattle.std.specs.Prelude.{◌≡◌, ◌<◌, ◌≤◌, ◌+◌, ◌++◌, ℕ, IfOk, IsTrue, IsFalse, List, Contains, length, slice_index_or, take, drop};
+ghost use Rattle.std.specs.Prelude.{◌<◌, ◌≤◌, ℕ, IfOk, IsFalse, length, slice_index_or, take, drop};
 ghost use Rattle.cqa_model.specs.Shape.{IsInRange};
-ghost use Rattle.cqa_model.specs.Query.{atom_at};
 ghost use Rattle.cqa_model.specs.Naming.{AreVariables};
-ghost use Rattle.cqa_model.specs.Variables.{AreLinked};
 ghost use Rattle.plan_rows.specs.Left.{AreAtoms};
-ghost use Rattle.plan_rows.specs.Underway.{IsUnderway};
-ghost use Rattle.repair_back.specs.Apart.{IsTold, BringsNone, IsApart, AreApart, AreEnough};
+ghost use Rattle.repair_back.specs.Apart.{BringsNone, IsApart, AreApart, AreEnough};
 
 use cqa_model::{ColRef, Query, Variables};
 use cqa_value::{NoMemory, Row};
-use plan_rows::{Course, is_shared, linked, width_of};
+use plan_rows::{Course, is_told, width_of};
 use std::alloc::Global;
 
 /// A plan that is gone over, the row that no witness is to give, and for each number of first atoms how many of them are
@@ -21,36 +18,6 @@ pub(crate) struct Way<'a> {
     pub course: Course<'a>,
     pub row: &'a Row,
     pub enough: &'a [usize],
-}
-
-/// Whether an atom has a column that is linked to this one.
-fn has_linked(query: &Query, variables: &Variables, atom: u32, column: ColRef) -> bool
-    requires variables { AreVariables query.now variables.now }
-    requires atom { atom < length query.now.atoms }
-    requires column { IsInRange query.now.atoms column }
-    ensures { IsTrue result → (i : ℕ) × (i < (atom_at query.now atom).width) × AreLinked query.now (record { atom = atom; col = i }) column }
-{
-    for col in 0..width_of(query, atom) {
-        if linked(query, variables, ColRef { atom, col }, column) {
-            return true;
-        }
-    }
-    false
-}
-
-/// Whether one of these atoms has a column that is linked to this one.
-fn is_told(query: &Query, variables: &Variables, before: &[u32], column: ColRef) -> bool
-    requires variables { AreVariables query.now variables.now }
-    requires before { AreAtoms query.now before.now }
-    requires column { IsInRange query.now.atoms column }
-    ensures { IsTrue result → IsTold query.now before.now column }
-{
-    for atom in before {
-        if has_linked(query, variables, *atom, column) {
-            return true;
-        }
-    }
-    false
 }
 
 /// Whether a column is linked to one of the rest's, and to none of the atoms before.
@@ -67,7 +34,7 @@ fn brings_column(
     requires rest { AreAtoms query.now rest.now }
     ensures { IsFalse result → BringsNone query.now before.now column rest.now }
 {
-    if !is_shared(query, variables, rest, column) {
+    if !is_told(query, variables, rest, column) {
         return false;
     }
     !is_told(query, variables, before, column)

@@ -120,41 +120,47 @@ add_tested-returns-clause-added t c =
 pub add_blocks-new-blocks-requires-clause-atom : goal.add_blocks-new-blocks-requires-clause-atom
 add_blocks-new-blocks-requires-clause-atom t c = first-atom c.args.course.now (placed c.args.taken.now) c.args.atom c.args.rest.now c.requires.here
 
-pub add_blocks-loop-block-init : goal.add_blocks-loop-block-init
-add_blocks-loop-block-init t c =
-    let q = c.args.course.now.setting.query.now in
-    let tables = stored c.args.course.now.setting.db.now in
-    let taken = placed c.args.taken.now in
-    record {
-      added = added-starts c.new-blocks.result (IsAnswer q taken) (λ row y. RowHolds q tables row taken c.args.atom c.args.rest.now y) (λ row y r. c.new-blocks.ensures.known y (suits-from q taken c.args.atom y row r.0))
-          c.start-place.result c.args.found.now.items c.start-place.ensures;
-      right = c.requires.memo;
-    }
-
-pub add_blocks-add_block-requires : goal.add_blocks-add_block-requires
-add_blocks-add_block-requires t c = (omega (arith, c.decreases), (c.requires.here, (c.requires.all, (c.in-Some.ensures.is.some, c.loop-block.invariant.right))))
-
-pub add_blocks-loop-block-preserved : goal.add_blocks-loop-block-preserved
-add_blocks-loop-block-preserved t c =
-    let q = c.args.course.now.setting.query.now in
-    let tables = stored c.args.course.now.setting.db.now in
-    let taken = placed c.args.taken.now in
-    let F = c.args.atom in
-    let plan = c.args.rest.now in
-    record {
-      added = added-on c.new-blocks.result (IsAnswer q taken) (λ row y. RowHolds q tables row taken F plan y) (λ row y r. c.new-blocks.ensures.known y (suits-from q taken F y row r.0))
-          c.loop-block.place c.in-Some.next c.in-Some.block c.args.found.now.items c.loop-block.found.items c.add_block.new.found.items
-          c.loop-block.invariant.added c.in-Some.ensures c.in_ok-add_block.ensures.added;
-      right = c.add_block.ensures.memo;
-    }
+pub add_blocks-add_all_of-added-requires : goal.add_blocks-add_all_of-added-requires
+add_blocks-add_all_of-added-requires t c = (omega (arith, c.decreases), (c.requires.here, (c.requires.all, (c.new-blocks.ensures.ordered, (c.new-blocks.ensures.known, c.requires.memo)))))
 
 pub add_blocks-returns-clause-added : goal.add_blocks-returns-clause-added
 add_blocks-returns-clause-added t c =
+    on-ok c.add_all_of-added.result
+    (gives-table c.args.course.now.setting.query.now (stored c.args.course.now.setting.db.now) (placed c.args.taken.now) c.args.atom c.args.rest.now c.new-blocks.result c.new-blocks.ensures.key c.new-blocks.ensures.enough c.args.found.now.items c.add_all_of-added.new.found.items)
+    c.add_all_of-added.ensures.added
+
+pub add_all_of-loop-block-init : goal.add_all_of-loop-block-init
+add_all_of-loop-block-init t c =
     let q = c.args.course.now.setting.query.now in
     let tables = stored c.args.course.now.setting.db.now in
     let taken = placed c.args.taken.now in
-    let F = c.args.atom in
-    let plan = c.args.rest.now in
-    gives-table q tables taken F plan c.new-blocks.result c.new-blocks.ensures.key c.new-blocks.ensures.enough c.args.found.now.items c.loop-block.found.items
-    (added-ends c.new-blocks.result (IsAnswer q taken) (λ row y. RowHolds q tables row taken F plan y) (λ row y r. c.new-blocks.ensures.known y (suits-from q taken F y row r.0))
-    c.loop-block.place c.args.found.now.items c.loop-block.found.items c.loop-block.invariant.added c.in_default.ensures)
+    record {
+      added = added-starts c.args.blocks.now (IsAnswer q taken) (λ row y. RowHolds q tables row taken c.args.atom c.args.rest.now y) (λ row y r. c.requires.known y (suits-from q taken c.args.atom y row r.0))
+          c.start-spot.result.place c.args.found.now.items c.start-spot.ensures.passed;
+      spot = c.start-spot.ensures.spot;
+      right = c.requires.memo;
+    }
+
+pub add_all_of-add_block-requires : goal.add_all_of-add_block-requires
+add_all_of-add_block-requires t c = (omega (arith, c.decreases), (c.requires.here, (c.requires.all, (c.in-Some.ensures.next.is.some, c.loop-block.invariant.right))))
+
+pub add_all_of-loop-block-preserved : goal.add_all_of-loop-block-preserved
+add_all_of-loop-block-preserved t c =
+    let q = c.args.course.now.setting.query.now in
+    let tables = stored c.args.course.now.setting.db.now in
+    let taken = placed c.args.taken.now in
+    record {
+      added = added-on c.args.blocks.now (IsAnswer q taken) (λ row y. RowHolds q tables row taken c.args.atom c.args.rest.now y) (λ row y r. c.requires.known y (suits-from q taken c.args.atom y row r.0))
+          c.loop-block.spot.place c.next.new.spot.place c.in-Some.block c.args.found.now.items c.loop-block.found.items c.add_block.new.found.items
+          c.loop-block.invariant.added c.in-Some.ensures.next c.in_ok-add_block.ensures.added;
+      spot = c.next.ensures.spot;
+      right = c.add_block.ensures.memo;
+    }
+
+pub add_all_of-returns-clause-added : goal.add_all_of-returns-clause-added
+add_all_of-returns-clause-added t c =
+    let q = c.args.course.now.setting.query.now in
+    let tables = stored c.args.course.now.setting.db.now in
+    let taken = placed c.args.taken.now in
+    added-ends c.args.blocks.now (IsAnswer q taken) (λ row y. RowHolds q tables row taken c.args.atom c.args.rest.now y) (λ row y r. c.requires.known y (suits-from q taken c.args.atom y row r.0))
+    c.loop-block.spot.place c.args.found.now.items c.loop-block.found.items c.loop-block.invariant.added c.in_default.ensures.next

@@ -107,37 +107,8 @@ row_holds-holds_with-requires t c =
 pub some_block-new-blocks-requires-clause-atom : goal.some_block-new-blocks-requires-clause-atom
 some_block-new-blocks-requires-clause-atom t c = first-atom c.args.course.now (placed c.args.taken.now) c.args.atom c.args.rest.now c.requires.here
 
-pub some_block-loop-block-init : goal.some_block-loop-block-init
-some_block-loop-block-init t c =
-    let q = c.args.course.now.setting.query.now in
-    let P = RowHolds q (stored c.args.course.now.setting.db.now) c.args.row.now (placed c.args.taken.now) c.args.atom c.args.rest.now in
-    record {
-      none = none-starts c.new-blocks.result P (λ y r. c.new-blocks.ensures.known y r.0) c.start-place.result c.start-place.ensures;
-      right = c.requires.memo;
-    }
-
-pub some_block-returns-then-all_hold-clause-holds : goal.some_block-returns-then-all_hold-clause-holds
-some_block-returns-then-all_hold-clause-holds t c =
-    let q = c.args.course.now.setting.query.now in
-    let tables = stored c.args.course.now.setting.db.now in
-    let F = c.args.atom in
-    let taken = placed c.args.taken.now in
-    let P = RowHolds q tables c.args.row.now taken F c.args.rest.now in
-    let s = c.new-blocks.result in (
-      (λ e. (found-in-table s (atom_key q F) (rows_of q tables F) (MayFit q (Some c.args.row.now) taken F) c.new-blocks.ensures.key c.new-blocks.ensures.enough P (λ y r. r.0)).0
-          (next-some s P c.loop-block.place c.in-Some.next c.in-Some.block c.in-Some.ensures (c.all_hold.ensures.holds.0 c.if-all_hold.true))),
-      (λ h. refl),
-    )
-
-pub some_block-loop-block-preserved : goal.some_block-loop-block-preserved
-some_block-loop-block-preserved t c =
-    let q = c.args.course.now.setting.query.now in
-    let P = RowHolds q (stored c.args.course.now.setting.db.now) c.args.row.now (placed c.args.taken.now) c.args.atom c.args.rest.now in
-    record {
-      none = none-on c.new-blocks.result P (λ y r. c.new-blocks.ensures.known y r.0) c.loop-block.place c.in-Some.next c.in-Some.block c.loop-block.invariant.none c.in-Some.ensures
-          (λ h. false≢true (sym c.if-all_hold.false ∙ c.all_hold.ensures.holds.1 h));
-      right = c.all_hold.ensures.memo;
-    }
+pub some_block-some_of-held-requires : goal.some_block-some_of-held-requires
+some_block-some_of-held-requires t c = (omega (arith, c.decreases), (c.requires.here, (c.new-blocks.ensures.ordered, (c.new-blocks.ensures.known, c.requires.memo))))
 
 pub some_block-returns-clause-holds : goal.some_block-returns-clause-holds
 some_block-returns-clause-holds t c =
@@ -145,9 +116,40 @@ some_block-returns-clause-holds t c =
     let tables = stored c.args.course.now.setting.db.now in
     let F = c.args.atom in
     let taken = placed c.args.taken.now in
-    let P = RowHolds q tables c.args.row.now taken F c.args.rest.now in
-    let s = c.new-blocks.result in (
+    let there = found-in-table c.new-blocks.result (atom_key q F) (rows_of q tables F) (MayFit q (Some c.args.row.now) taken F) c.new-blocks.ensures.key c.new-blocks.ensures.enough (RowHolds q tables c.args.row.now taken F c.args.rest.now) (λ y r. r.0) in (
+      (λ e. there.0 (c.some_of-held.ensures.holds.0 e)),
+      (λ h. c.some_of-held.ensures.holds.1 (there.1 h)),
+    )
+
+pub some_of-loop-block-init : goal.some_of-loop-block-init
+some_of-loop-block-init t c =
+    let P = RowHolds c.args.course.now.setting.query.now (stored c.args.course.now.setting.db.now) c.args.row.now (placed c.args.taken.now) c.args.atom c.args.rest.now in
+    record {
+      none = none-starts c.args.blocks.now P (λ y r. c.requires.known y r.0) c.start-spot.result.place c.start-spot.ensures.passed;
+      spot = c.start-spot.ensures.spot;
+      right = c.requires.memo;
+    }
+
+pub some_of-returns-then-all_hold-clause-holds : goal.some_of-returns-then-all_hold-clause-holds
+some_of-returns-then-all_hold-clause-holds t c =
+    let P = RowHolds c.args.course.now.setting.query.now (stored c.args.course.now.setting.db.now) c.args.row.now (placed c.args.taken.now) c.args.atom c.args.rest.now in (
+      (λ e. next-some c.args.blocks.now P c.loop-block.spot.place c.next.new.spot.place c.in-Some.block c.in-Some.ensures.next (c.all_hold.ensures.holds.0 c.if-all_hold.true)),
+      (λ h. refl),
+    )
+
+pub some_of-loop-block-preserved : goal.some_of-loop-block-preserved
+some_of-loop-block-preserved t c =
+    let P = RowHolds c.args.course.now.setting.query.now (stored c.args.course.now.setting.db.now) c.args.row.now (placed c.args.taken.now) c.args.atom c.args.rest.now in
+    record {
+      none = none-on c.args.blocks.now P (λ y r. c.requires.known y r.0) c.loop-block.spot.place c.next.new.spot.place c.in-Some.block c.loop-block.invariant.none c.in-Some.ensures.next
+          (λ h. false≢true (sym c.if-all_hold.false ∙ c.all_hold.ensures.holds.1 h));
+      spot = c.next.ensures.spot;
+      right = c.all_hold.ensures.memo;
+    }
+
+pub some_of-returns-clause-holds : goal.some_of-returns-clause-holds
+some_of-returns-clause-holds t c =
+    let P = RowHolds c.args.course.now.setting.query.now (stored c.args.course.now.setting.db.now) c.args.row.now (placed c.args.taken.now) c.args.atom c.args.rest.now in (
       (λ e. absurd (false≢true e)),
-      (λ h. absurd (none-ends s P (λ y r. c.new-blocks.ensures.known y r.0) c.loop-block.place c.loop-block.invariant.none c.in_default.ensures
-          ((found-in-table s (atom_key q F) (rows_of q tables F) (MayFit q (Some c.args.row.now) taken F) c.new-blocks.ensures.key c.new-blocks.ensures.enough P (λ y r. r.0)).1 h))),
+      (λ h. absurd (none-ends c.args.blocks.now P (λ y r. c.requires.known y r.0) c.loop-block.spot.place c.loop-block.invariant.none c.in_default.ensures.next h)),
     )

@@ -1,9 +1,18 @@
-use Rattle.std.proofs.Common.{◌∙◌, sym, below_more, arith}
+use Rattle.std.proofs.Common.{◌∙◌, ◌<◌, refl, sym, subst, below_more, arith}
 use Rattle.std.proofs.lemmas.Bool.{false≢true}
 use Rattle.plan_rows.proofs.shared.is_linked_to.Goals as goal
+
+pub returns-then-linked : goal.returns-then-linked
+returns-then-linked c = (
+  (λ e. (c.loop-col.col, subst (λ n. c.loop-col.col < n) c.width_of-col-end.ensures c.loop-col-test.true, c.linked.ensures.0 c.if-linked.true)),
+  (λ h. refl),
+)
 
 pub loop-col-preserved : goal.loop-col-preserved
 loop-col-preserved c = below_more _ _ c.loop-col.invariant (λ k. false≢true (sym c.if-linked.false ∙ c.linked.ensures.1 k))
 
 pub returns : goal.returns
-returns c = λ f i l k. c.loop-col.invariant i (omega (arith, c.loop-col-test.false, c.width_of-col-end.ensures, l)) k
+returns c = (
+  (λ e. absurd (false≢true e)),
+  (λ h. let l = h.1 in absurd (c.loop-col.invariant h.0 (omega (arith, c.loop-col-test.false, c.width_of-col-end.ensures, l)) h.2)),
+)

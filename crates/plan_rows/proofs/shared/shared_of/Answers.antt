@@ -1,7 +1,7 @@
 use Rattle.std.proofs.Common.{ℕ, ◌<◌, Contains, get_or, below_more, sym, subst, arith}
 use Rattle.std.proofs.lemmas.List.Elements.{Contains-get_or}
 use Rattle.cqa_model.specs.Query.{atom_at}
-use Rattle.cqa_model.specs.Variables.{AreLinked}
+use Rattle.plan_rows.specs.Left.{IsTold}
 use Rattle.plan_rows.proofs.Columns.{each-atom}
 use Rattle.plan_rows.proofs.shared.shared_of.Goals as goal
 
@@ -13,11 +13,11 @@ add_shared-requires-clause-atom c =
 
 pub loop-atom-preserved : goal.loop-atom-preserved
 loop-atom-preserved c =
-    below_more (λ k. (j : ℕ) → j < (atom_at c.args.query.now (get_or c.args.front.now k 0)).width → (F i : ℕ) → Contains c.args.rest.now F → i < (atom_at c.args.query.now F).width → AreLinked c.args.query.now (record { atom = F; col = i }) (record { atom = get_or c.args.front.now k 0; col = j }) → Contains c.add_shared.new.columns.items (record { atom = get_or c.args.front.now k 0; col = j }))
-    c.loop-atom.atom-index (λ k l j lj F i m li h. c.in_ok-add_shared.ensures.kept (record { atom = get_or c.args.front.now k 0; col = j }) (c.loop-atom.invariant k l j lj F i m li h)) c.in_ok-add_shared.ensures.added
+    below_more (λ k. (j : ℕ) → j < (atom_at c.args.query.now (get_or c.args.front.now k 0)).width → IsTold c.args.query.now c.args.rest.now (record { atom = get_or c.args.front.now k 0; col = j }) → Contains c.add_shared.new.columns.items (record { atom = get_or c.args.front.now k 0; col = j }))
+    c.loop-atom.atom-index (λ k l j lj h. c.in_ok-add_shared.ensures.kept (record { atom = get_or c.args.front.now k 0; col = j }) (c.loop-atom.invariant k l j lj h)) c.in_ok-add_shared.ensures.added
 
 pub returns : goal.returns
-returns c = λ G j F i mG lj mF li k.
+returns c = λ G j m l h.
     subst (λ cs. Contains cs (record { atom = G; col = j })) (sym c.from_vec.ensures)
-    (each-atom (λ H. (j : ℕ) → j < (atom_at c.args.query.now H).width → (F i : ℕ) → Contains c.args.rest.now F → i < (atom_at c.args.query.now F).width → AreLinked c.args.query.now (record { atom = F; col = i }) (record { atom = H; col = j }) → Contains c.loop-atom.columns.items (record { atom = H; col = j }))
-    c.args.front.now c.loop-atom.atom-index (omega (arith, c.loop-atom-test.false, c.loop-atom.auto.atom-index-end)) c.loop-atom.invariant G mG j lj F i mF li k)
+    (each-atom (λ H. (j : ℕ) → j < (atom_at c.args.query.now H).width → IsTold c.args.query.now c.args.rest.now (record { atom = H; col = j }) → Contains c.loop-atom.columns.items (record { atom = H; col = j }))
+    c.args.front.now c.loop-atom.atom-index (omega (arith, c.loop-atom-test.false, c.loop-atom.auto.atom-index-end)) c.loop-atom.invariant G m j l h)

@@ -1,8 +1,8 @@
 use Rattle.std.proofs.Common.{ℕ, ◌<◌, Contains, get_or}
 use Rattle.cqa_model.specs.Query.{atom_at}
-use Rattle.cqa_model.specs.Variables.{AreLinked}
+use Rattle.plan_rows.specs.Left.{IsTold}
 use Rattle.plan_rows.proofs.shared.shared_of.Given as goal
 
 -- so it is of the atoms so far
 abbrev pub invariant-loop-atom : goal.invariant-loop-atom
-invariant-loop-atom l = (k : ℕ) → k < l.atom-index → (j : ℕ) → j < (atom_at l.query (get_or l.front k 0)).width → (F i : ℕ) → Contains l.rest F → i < (atom_at l.query F).width → AreLinked l.query (record { atom = F; col = i }) (record { atom = get_or l.front k 0; col = j }) → Contains l.columns.items (record { atom = get_or l.front k 0; col = j })
+invariant-loop-atom l = (k : ℕ) → k < l.atom-index → (j : ℕ) → j < (atom_at l.query (get_or l.front k 0)).width → IsTold l.query l.rest (record { atom = get_or l.front k 0; col = j }) → Contains l.columns.items (record { atom = get_or l.front k 0; col = j })

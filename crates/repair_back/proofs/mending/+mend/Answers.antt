@@ -1,4 +1,5 @@
-use Rattle.std.proofs.Common.{rules, is_some, ◌≡◌, ◌∙◌, ◌∷◌, ◌<◌, true, false, [], length, get_or, refl, ap, sym, subst, arith, true≢false}
+use Rattle.std.proofs.Common.{rules, is_some, IfSome, ◌≡◌, ◌∙◌, ◌∷◌, ◌<◌, ◌≤◌, true, false, [], length, get_or, refl, ap, sym, subst, arith, true≢false}
+use Rattle.std.proofs.lemmas.Bool.{false≢true}
 use Rattle.std.proofs.lemmas.Option.{get_or_from_slice_get}
 use Rattle.cqa_model.specs.Database.{stored}
 use Rattle.cqa_model.specs.Plan.{IsPlan, PlanHolds}
@@ -11,6 +12,8 @@ use Rattle.plan_rows.proofs.Suiting.{suits-from}
 use Rattle.plan_rows.proofs.PlanParts.{plan-split, rest-shorter}
 use Rattle.repair_back.specs.Flags.{IsFlagged}
 use Rattle.repair_back.specs.Mending.{Lacks, RowHolds}
+use Rattle.repair_back.specs.Along.{IsFreeFrom, Mends}
+use Rattle.repair_back.proofs.Outcomes.{block-found, few-of}
 use Rattle.repair_back.specs.Walking.{IsBlock, Begins}
 use Rattle.repair_back.proofs.Apart.{none-enough, none-whole, none-past, if-before, some-none}
 use Rattle.repair_back.proofs.Stepping.{reached-joined, reached-same, reached-forget, lacks-none, lacks-unfit}
@@ -34,29 +37,22 @@ mend_block-row_mended-requires t c =
       ),
     )
 
-pub mend_block-returns-in-Some-clause-lacks : goal.mend_block-returns-in-Some-clause-lacks
-mend_block-returns-in-Some-clause-lacks t c =
-    let k = c.kept_of-first.ensures in
-    λ e. block-lacks c.args.way.now.course.setting.query.now c.args.way.now.course.setting.db.now c.args.way.now.row.now (placed c.args.taken.now) c.args.atom c.args.rest.now c.row_mended.new.kept c.args.rows.now c.args.start c.args.end c.kept_of-first.result c.requires.block k.after k.before
-    (subst (λ x. Lacks c.args.way.now.course.setting.db.now c.args.way.now.course.setting.query.now c.args.way.now.row.now (placed c.args.taken.now) c.args.atom c.row_mended.new.kept x)
-    (sym (get_or_from_slice_get c.args.rows.now c.kept_of-first.result c.get.result.now [] c.get.ensures)) (c.row_mended.ensures.lacks (ap is_some c.in-Some.is)))
-
 pub mend_block-loop-next-init : goal.mend_block-loop-next-init
 mend_block-loop-next-init t c =
     let k = c.kept_of-first.ensures in
-    let m = c.row_mended.ensures in
+    let m = c.row_mended.ensures.mends in
     record {
       rows = record {
         chosen = m.chosen;
         reached = m.reached;
         after = k.after;
         before = k.before;
-        is_kept = subst (λ f. IsFlagged f c.kept_of-first.result) (sym m.same) k.kept;
+        is_kept = subst (λ f. IsFlagged f c.kept_of-first.result) (sym c.row_mended.ensures.same) k.kept;
         holds = subst (λ x. RowHolds c.args.way.now.course.setting.db.now c.args.way.now.course.setting.query.now c.args.way.now.row.now (placed c.args.taken.now) c.args.atom c.args.rest.now x)
             (sym (get_or_from_slice_get c.args.rows.now c.kept_of-first.result c.get.result.now [] c.get.ensures)) (m.holds (search rules));
         held = λ i l b. absurd (omega (arith, l, b));
       };
-      right = m.memo;
+      right = c.row_mended.ensures.memo;
     }
 
 pub mend_block-loop-next-preserved-then-next-first : goal.mend_block-loop-next-preserved-then-next-first
@@ -67,7 +63,7 @@ mend_block-loop-next-preserved-then-next-first t c =
       rows = rows-skip c.args.way.now.course.setting.query.now c.args.way.now.course.setting.db.now c.args.way.now.row.now (placed c.args.taken.now) c.args.atom c.args.rest.now c.args.kept.now c.loop-next.kept c.args.rows.now c.args.start c.args.end c.loop-next.last c.loop-next.next c.loop-next.invariant.rows
           (subst (λ x. RowHolds c.args.way.now.course.setting.db.now c.args.way.now.course.setting.query.now c.args.way.now.row.now (placed c.args.taken.now) c.args.atom c.args.rest.now x)
           (sym (get_or_from_slice_get c.args.rows.now c.kept_of-first.result c.get.result.now [] c.get.ensures) ∙ ap (λ i. get_or c.args.rows.now i []) (sym c.if-next-first.true))
-          (c.row_mended.ensures.holds (search rules)));
+          (c.row_mended.ensures.mends.holds (search rules)));
     }
 
 pub mend_block-row_mended-requires-in-loop-next : goal.mend_block-row_mended-requires-in-loop-next
@@ -92,62 +88,22 @@ mend_block-row_mended-requires-in-loop-next t c =
       ),
     )
 
-pub mend_block-returns-in-Some-row_mended-clause-reached : goal.mend_block-returns-in-Some-row_mended-clause-reached
-mend_block-returns-in-Some-row_mended-clause-reached t c =
-    let k = c.keep.ensures in
-    let turn = turned c.args.way.now.course.setting.query.now c.args.way.now.course.setting.db.now c.requires.next.underway.over.fits c.args.way.now.row.now c.requires.next.long (placed c.args.taken.now) c.requires.next.taken_fit c.args.atom c.requires.next.has c.args.rest.now c.requires.next.plan
-    c.args.rows.now c.requires.rows c.args.start c.args.end c.requires.block c.args.kept.now c.loop-next.kept c.keep.new.kept c.loop-next.last c.loop-next.next c.loop-next.invariant.rows c.loop-next.auto.next c.loop-next-test.true
-    c.keep.auto.kept k.size k.is k.others in
-    reached-joined c.args.way.now.course.setting.query.now c.args.way.now.course.setting.db.now c.requires.next.underway.over.fits c.args.way.now.row.now c.requires.next.long (placed c.args.taken.now) c.args.kept.now c.keep.new.kept c.row_mended-in-loop-next.new.kept turn.reached c.row_mended-in-loop-next.ensures.reached
-
-pub mend_block-returns-in-Some-row_mended-clause-lacks : goal.mend_block-returns-in-Some-row_mended-clause-lacks
-mend_block-returns-in-Some-row_mended-clause-lacks t c =
-    let test = c.loop-next-test.true in
-    λ e. block-lacks c.args.way.now.course.setting.query.now c.args.way.now.course.setting.db.now c.args.way.now.row.now (placed c.args.taken.now) c.args.atom c.args.rest.now c.row_mended-in-loop-next.new.kept c.args.rows.now c.args.start c.args.end c.loop-next.next c.requires.block c.loop-next.auto.next test
-    (subst (λ x. Lacks c.args.way.now.course.setting.db.now c.args.way.now.course.setting.query.now c.args.way.now.row.now (placed c.args.taken.now) c.args.atom c.row_mended-in-loop-next.new.kept x)
-    (sym (get_or_from_slice_get c.args.rows.now c.loop-next.next c.get-in-loop-next.result.now [] c.get-in-loop-next.ensures)) (c.row_mended-in-loop-next.ensures.lacks (ap is_some c.in-Some-row_mended.is)))
-
 pub mend_block-loop-next-preserved : goal.mend_block-loop-next-preserved
 mend_block-loop-next-preserved t c =
     let test = c.loop-next-test.true in
     let k = c.keep.ensures in
-    let m = c.row_mended-in-loop-next.ensures in
+    let m = c.row_mended-in-loop-next.ensures.mends in
     let turn = turned c.args.way.now.course.setting.query.now c.args.way.now.course.setting.db.now c.requires.next.underway.over.fits c.args.way.now.row.now c.requires.next.long (placed c.args.taken.now) c.requires.next.taken_fit c.args.atom c.requires.next.has c.args.rest.now c.requires.next.plan
     c.args.rows.now c.requires.rows c.args.start c.args.end c.requires.block c.args.kept.now c.loop-next.kept c.keep.new.kept c.loop-next.last c.loop-next.next c.loop-next.invariant.rows c.loop-next.auto.next test
     c.keep.auto.kept k.size k.is k.others in
     record {
-      right = m.memo;
+      right = c.row_mended-in-loop-next.ensures.memo;
       rows = rows-turned c.args.way.now.course.setting.query.now c.args.way.now.course.setting.db.now c.requires.next.underway.over.fits c.args.way.now.row.now c.requires.next.long (placed c.args.taken.now) c.requires.next.taken_fit c.args.atom c.requires.next.has c.args.rest.now c.requires.next.plan
           c.args.rows.now c.requires.rows c.args.start c.args.end c.requires.block c.args.kept.now c.loop-next.kept c.keep.new.kept c.row_mended-in-loop-next.new.kept c.loop-next.last c.loop-next.next c.loop-next.invariant.rows turn c.loop-next.auto.next test
-          k.is m.chosen m.reached m.same
+          k.is m.chosen m.reached c.row_mended-in-loop-next.ensures.same
           (subst (λ x. RowHolds c.args.way.now.course.setting.db.now c.args.way.now.course.setting.query.now c.args.way.now.row.now (placed c.args.taken.now) c.args.atom c.args.rest.now x)
           (sym (get_or_from_slice_get c.args.rows.now c.loop-next.next c.get-in-loop-next.result.now [] c.get-in-loop-next.ensures)) (m.holds (search rules)));
     }
-
-pub mend_blocks-returns-in_err-mended-clause-reached : goal.mend_blocks-returns-in_err-mended-clause-reached
-mend_blocks-returns-in_err-mended-clause-reached t c =
-    reached-joined c.args.way.now.course.setting.query.now c.args.way.now.course.setting.db.now c.requires.next.underway.over.fits c.args.way.now.row.now c.requires.next.long (placed c.args.taken.now) c.args.kept.now c.loop-at.kept c.mend_block.new.kept c.loop-at.invariant.blocks.reached c.mend_block.ensures.reached
-
-pub mend_blocks-returns-then-mended-before-clause-reached : goal.mend_blocks-returns-then-mended-before-clause-reached
-mend_blocks-returns-then-mended-before-clause-reached t c =
-    reached-joined c.args.way.now.course.setting.query.now c.args.way.now.course.setting.db.now c.requires.next.underway.over.fits c.args.way.now.row.now c.requires.next.long (placed c.args.taken.now) c.args.kept.now c.loop-at.kept c.mend_block.new.kept c.loop-at.invariant.blocks.reached c.mend_block.ensures.reached
-
-pub mend_blocks-returns-then-mended-before-clause-few : goal.mend_blocks-returns-then-mended-before-clause-few
-mend_blocks-returns-then-mended-before-clause-few t c =
-    let n = passed-count c.args.way.now.course (placed c.args.taken.now) (c.args.atom ∷ c.args.rest.now) c.requires.next.underway in
-    omega (arith, n, c.if-mended-before.true)
-
-pub mend_blocks-returns-clause-few : goal.mend_blocks-returns-clause-few
-mend_blocks-returns-clause-few t c =
-    let n = passed-count c.args.way.now.course (placed c.args.taken.now) (c.args.atom ∷ c.args.rest.now) c.requires.next.underway in
-    omega (arith, n)
-
-pub mend_blocks-returns-in_err-mended-clause-holds : goal.mend_blocks-returns-in_err-mended-clause-holds
-mend_blocks-returns-in_err-mended-clause-holds t c =
-    λ e. block-holds c.args.way.now.course.setting.query.now c.args.way.now.course.setting.db.now c.requires.next.underway.over.fits c.args.way.now.row.now c.requires.next.long (placed c.args.taken.now) c.requires.next.taken_fit c.args.atom c.requires.next.has c.args.rest.now c.rows-rows.result c.loop-at.at c.block_end-next.result
-    (c.rows-rows.ensures.is ∙ ap (λ n. get_or (stored c.args.way.now.course.setting.db.now) n []) c.table_of.ensures)
-    (subst (λ key. IsBlock key c.rows-rows.result c.loop-at.at c.block_end-next.result) c.key_of-key.ensures c.block_end-next.ensures.block)
-    (c.mend_block.ensures.holds (ap is_some c.in_err-mended.was))
 
 pub mend_blocks-loop-at-preserved : goal.mend_blocks-loop-at-preserved
 mend_blocks-loop-at-preserved t c =
@@ -157,18 +113,8 @@ mend_blocks-loop-at-preserved t c =
           c.rows-rows.result c.span_of-start.result.0 c.loop-at.at c.block_end-next.result c.loop-at.invariant.blocks
           (subst (λ key. IsBlock key c.rows-rows.result c.loop-at.at c.block_end-next.result) c.key_of-key.ensures c.block_end-next.ensures.block)
           (subst (λ key. Begins key c.rows-rows.result c.block_end-next.result) c.key_of-key.ensures c.block_end-next.ensures.begins)
-          c.mend_block.ensures.chosen c.mend_block.ensures.reached (c.mend_block.ensures.lacks (ap is_some c.in_ok-mended.was));
+          c.mend_block.ensures.mends.chosen c.mend_block.ensures.mends.reached (c.mend_block.ensures.mends.lacks (ap is_some c.in_ok-mended.was));
     }
-
-pub mend_blocks-returns-clause-mended : goal.mend_blocks-returns-clause-mended
-mend_blocks-returns-clause-mended t c =
-    let is = c.rows-rows.ensures.is ∙ ap (λ n. get_or (stored c.args.way.now.course.setting.db.now) n []) c.table_of.ensures in
-    let n = passed-count c.args.way.now.course (placed c.args.taken.now) (c.args.atom ∷ c.args.rest.now) c.requires.next.underway in
-    none-whole c.args.way.now.course.setting.query.now c.args.way.now.course.setting.db.now c.args.way.now.row.now c.loop-at.kept (placed c.args.taken.now) _ (omega (arith, n))
-    (blocks-all c.args.way.now.course.setting.query.now c.args.way.now.course.setting.db.now c.requires.next.underway.over.fits c.args.way.now.row.now c.requires.next.long (placed c.args.taken.now) c.requires.next.taken_fit c.args.atom c.requires.next.has c.args.kept.now c.loop-at.kept
-    c.rows-rows.result c.span_of-start.result.0 c.span_of-start.result.1 c.loop-at.at is
-    (subst (λ rows. Rattle.repair_back.specs.Walking.MayFit c.args.way.now.course.setting.query.now c.args.way.now.row.now (placed c.args.taken.now) c.args.atom rows c.span_of-start.result.0 c.span_of-start.result.1) (sym is) c.span_of-start.ensures)
-    c.loop-at.invariant.blocks (omega (arith, c.loop-at-test.false)))
 
 pub mend_anew-mend_blocks-requires : goal.mend_anew-mend_blocks-requires
 mend_anew-mend_blocks-requires t c =
@@ -191,34 +137,8 @@ mend_anew-mend_blocks-requires t c =
       ),
     )
 
-pub mend_anew-returns-in_err-mended-in-len1-up-clause-holds : goal.mend_anew-returns-in_err-mended-in-len1-up-clause-holds
-mend_anew-returns-in_err-mended-in-len1-up-clause-holds t c =
-    λ e. subst (λ p. PlanHolds c.args.way.now.course.setting.query.now (stored c.args.way.now.course.setting.db.now) c.args.way.now.row.now (placed c.args.taken.now) p)
-    (sym (plan-split c.args.plan.now c.in-len1-up.len_at_least)) (c.mend_blocks.ensures.holds (ap is_some c.in_err-mended-in-len1-up.was))
-
-pub mend_anew-returns-then-enough-mended-clause-mended : goal.mend_anew-returns-then-enough-mended-clause-mended
-mend_anew-returns-then-enough-mended-clause-mended t c =
-    let q = c.args.way.now.course.setting.query.now in
-    let db = c.args.way.now.course.setting.db.now in
-    let row = c.args.way.now.row.now in
-    let taken = placed c.args.taken.now in
-    let here = c.requires.here in
-    let m = c.mend_blocks.ensures in
-    none-enough q db here.underway.over.fits row here.long c.mend_blocks.new.kept c.args.way.now.course.order.now taken c.args.plan.now c.enough_for-enough.result here.underway.place c.enough_for-enough.ensures here.taken_fit here.plan
-    (some-none q db row c.mend_blocks.new.kept taken c.mend_blocks.result m.few m.mended (ap is_some c.in_ok-mended-in-len1-up.was))
-
 pub row_mended-fits-requires-clause-taken : goal.row_mended-fits-requires-clause-taken
 row_mended-fits-requires-clause-taken t c = taken-in_range c.args.way.now.course.setting.query.now c.args.way.now.row.now (placed c.args.taken.now) c.requires.next.taken_fit
-
-pub row_mended-returns-then-not-fits-clause-lacks : goal.row_mended-returns-then-not-fits-clause-lacks
-row_mended-returns-then-not-fits-clause-lacks t c =
-    λ e. lacks-unfit c.args.way.now.course.setting.query.now c.args.way.now.course.setting.db.now c.requires.next.underway.over.fits c.args.way.now.row.now c.requires.next.long (placed c.args.taken.now) c.requires.next.taken_fit c.args.atom c.requires.next.has c.args.y.now c.args.kept.now c.requires.chosen c.requires.kept
-    (λ f. true≢false (sym (c.fits.ensures.1 f) ∙ c.if-not-fits.true))
-
-pub row_mended-returns-then-not-fits-clause-mended : goal.row_mended-returns-then-not-fits-clause-mended
-row_mended-returns-then-not-fits-clause-mended t c =
-    let n = passed-count c.args.way.now.course (placed c.args.taken.now) (c.args.atom ∷ c.args.rest.now) c.requires.next.underway in
-    none-past c.args.way.now.course.setting.query.now c.args.way.now.course.setting.db.now c.args.way.now.row.now c.args.kept.now (placed c.args.taken.now) _ (omega (arith, n))
 
 pub row_mended-mend_rest-requires : goal.row_mended-mend_rest-requires
 row_mended-mend_rest-requires t c =
@@ -239,24 +159,9 @@ row_mended-mend_rest-requires t c =
       ),
     )
 
-pub row_mended-returns-clause-mended : goal.row_mended-returns-clause-mended
-row_mended-returns-clause-mended t c =
-    if-before c.args.way.now.course.setting.query.now c.args.way.now.course.setting.db.now c.args.way.now.row.now c.mend_rest.new.kept (placed c.args.taken.now) _ c.mend_rest.result c.mend_rest.ensures.mended
-
-pub row_mended-returns-clause-reached : goal.row_mended-returns-clause-reached
-row_mended-returns-clause-reached t c =
-    reached-forget c.args.way.now.course.setting.query.now c.args.way.now.course.setting.db.now c.requires.next.underway.over.fits c.args.way.now.row.now c.requires.next.long (placed c.args.taken.now) c.requires.next.taken_fit c.args.atom c.requires.next.has c.args.y.now c.args.kept.now c.mend_rest.new.kept c.requires.kept c.mend_rest.ensures.reached
-
 pub row_mended-returns-clause-same : goal.row_mended-returns-clause-same
 row_mended-returns-clause-same t c =
-    reached-same c.args.way.now.course.setting.query.now c.args.way.now.course.setting.db.now c.requires.next.underway.over.fits c.args.way.now.row.now c.requires.next.long (placed c.args.taken.now) c.requires.next.taken_fit c.args.atom c.requires.next.has c.args.y.now c.args.kept.now c.mend_rest.new.kept c.mend_rest.ensures.reached
-
-pub row_mended-returns-clause-lacks : goal.row_mended-returns-clause-lacks
-row_mended-returns-clause-lacks t c =
-    let same = reached-same c.args.way.now.course.setting.query.now c.args.way.now.course.setting.db.now c.requires.next.underway.over.fits c.args.way.now.row.now c.requires.next.long (placed c.args.taken.now) c.requires.next.taken_fit c.args.atom c.requires.next.has c.args.y.now c.args.kept.now c.mend_rest.new.kept c.mend_rest.ensures.reached in
-    λ e. lacks-none c.args.way.now.course.setting.query.now c.args.way.now.course.setting.db.now c.requires.next.underway.over.fits c.args.way.now.row.now c.requires.next.long (placed c.args.taken.now) c.requires.next.taken_fit c.args.atom c.requires.next.has c.args.y.now c.mend_rest.new.kept c.mend_rest.ensures.chosen
-    (subst (λ rows. Rattle.std.proofs.Common.Contains rows c.args.y.now) (sym (Rattle.repair_back.proofs.Stepping.same-rows c.args.way.now.course.setting.query.now c.args.way.now.course.setting.db.now c.requires.next.underway.over.fits c.args.way.now.row.now c.requires.next.long c.args.kept.now c.mend_rest.new.kept c.args.atom same)) c.requires.kept)
-    (some-none c.args.way.now.course.setting.query.now c.args.way.now.course.setting.db.now c.args.way.now.row.now c.mend_rest.new.kept _ c.mend_rest.result c.mend_rest.ensures.few c.mend_rest.ensures.mended e)
+    reached-same c.args.way.now.course.setting.query.now c.args.way.now.course.setting.db.now c.requires.next.underway.over.fits c.args.way.now.row.now c.requires.next.long (placed c.args.taken.now) c.requires.next.taken_fit c.args.atom c.requires.next.has c.args.y.now c.args.kept.now c.mend_rest.new.kept c.mend_rest.ensures.mends.reached
 
 pub mend_blocks-span_of-start-requires-clause-taken : goal.mend_blocks-span_of-start-requires-clause-taken
 mend_blocks-span_of-start-requires-clause-taken t c = taken-in_range c.args.way.now.course.setting.query.now c.args.way.now.row.now (placed c.args.taken.now) c.requires.next.taken_fit
@@ -267,4 +172,152 @@ row_mended-returns-then-not-fits-clause-memo t c = still-right c.args.way.now.co
 pub remembered-returns-in-None-clause-memo : goal.remembered-returns-in-None-clause-memo
 remembered-returns-in-None-clause-memo t c =
     keeps-right c.args.way.now.course c.mend_anew.new.memo c.keep.new.self (placed c.args.taken.now) c.args.plan.now c.args.way.now.row.now c.args.key true
-    c.mend_anew.ensures.memo c.requires.here.underway c.requires.key ((λ e. c.mend_anew.ensures.holds (ap is_some c.in-None.is)), (λ h. refl)) c.keep.ensures
+    c.mend_anew.ensures.memo c.requires.here.underway c.requires.key ((λ e. c.mend_anew.ensures.mends.holds (ap is_some c.in-None.is)), (λ h. refl)) c.keep.ensures
+
+pub mend_block-returns-in-Some-clause-mends : goal.mend_block-returns-in-Some-clause-mends
+mend_block-returns-in-Some-clause-mends t c =
+    let m = c.row_mended.ensures.mends in
+    block-found c.args.way.now (placed c.args.taken.now) c.args.atom _ _ c.args.kept.now c.row_mended.new.kept c.row_mended.result c.in-Some.mended c.in-Some.is m.chosen m.reached m.mended
+    (let k = c.kept_of-first.ensures in
+    block-lacks c.args.way.now.course.setting.query.now c.args.way.now.course.setting.db.now c.args.way.now.row.now (placed c.args.taken.now) c.args.atom c.args.rest.now c.row_mended.new.kept c.args.rows.now c.args.start c.args.end c.kept_of-first.result c.requires.block k.after k.before
+    (subst (λ x. Lacks c.args.way.now.course.setting.db.now c.args.way.now.course.setting.query.now c.args.way.now.row.now (placed c.args.taken.now) c.args.atom c.row_mended.new.kept x)
+    (sym (get_or_from_slice_get c.args.rows.now c.kept_of-first.result c.get.result.now [] c.get.ensures)) (c.row_mended.ensures.mends.lacks (ap is_some c.in-Some.is))))
+
+pub mend_block-returns-in-Some-row_mended-clause-mends : goal.mend_block-returns-in-Some-row_mended-clause-mends
+mend_block-returns-in-Some-row_mended-clause-mends t c =
+    let m = c.row_mended-in-loop-next.ensures.mends in
+    let test = c.loop-next-test.true in
+    let k = c.keep.ensures in
+    let turn = turned c.args.way.now.course.setting.query.now c.args.way.now.course.setting.db.now c.requires.next.underway.over.fits c.args.way.now.row.now c.requires.next.long (placed c.args.taken.now) c.requires.next.taken_fit c.args.atom c.requires.next.has c.args.rest.now c.requires.next.plan
+    c.args.rows.now c.requires.rows c.args.start c.args.end c.requires.block c.args.kept.now c.loop-next.kept c.keep.new.kept c.loop-next.last c.loop-next.next c.loop-next.invariant.rows c.loop-next.auto.next c.loop-next-test.true
+    c.keep.auto.kept k.size k.is k.others in
+    block-found c.args.way.now (placed c.args.taken.now) c.args.atom _ _ c.args.kept.now c.row_mended-in-loop-next.new.kept c.row_mended-in-loop-next.result c.in-Some-row_mended.mended c.in-Some-row_mended.is m.chosen
+    (reached-joined c.args.way.now.course.setting.query.now c.args.way.now.course.setting.db.now c.requires.next.underway.over.fits c.args.way.now.row.now c.requires.next.long (placed c.args.taken.now) c.args.kept.now c.keep.new.kept c.row_mended-in-loop-next.new.kept turn.reached c.row_mended-in-loop-next.ensures.mends.reached)
+    m.mended
+    (block-lacks c.args.way.now.course.setting.query.now c.args.way.now.course.setting.db.now c.args.way.now.row.now (placed c.args.taken.now) c.args.atom c.args.rest.now c.row_mended-in-loop-next.new.kept c.args.rows.now c.args.start c.args.end c.loop-next.next c.requires.block c.loop-next.auto.next test
+    (subst (λ x. Lacks c.args.way.now.course.setting.db.now c.args.way.now.course.setting.query.now c.args.way.now.row.now (placed c.args.taken.now) c.args.atom c.row_mended-in-loop-next.new.kept x)
+    (sym (get_or_from_slice_get c.args.rows.now c.loop-next.next c.get-in-loop-next.result.now [] c.get-in-loop-next.ensures)) (c.row_mended-in-loop-next.ensures.mends.lacks (ap is_some c.in-Some-row_mended.is))))
+
+pub mend_block-returns-clause-mends : goal.mend_block-returns-clause-mends
+mend_block-returns-clause-mends t c =
+    let r = c.loop-next.invariant.rows in
+    let ended = c.loop-next-test.false in
+    record { chosen = r.chosen; reached = r.reached; mended = tt; lacks = λ e. absurd (false≢true e); holds = λ e i l b. r.held i l (omega (arith, b, ended)) }
+
+pub mend_blocks-returns-in_err-mended-clause-mends : goal.mend_blocks-returns-in_err-mended-clause-mends
+mend_blocks-returns-in_err-mended-clause-mends t c =
+    let m = c.mend_block.ensures.mends in
+    record {
+      chosen = m.chosen;
+      reached = reached-joined c.args.way.now.course.setting.query.now c.args.way.now.course.setting.db.now c.requires.next.underway.over.fits c.args.way.now.row.now c.requires.next.long (placed c.args.taken.now) c.args.kept.now c.loop-at.kept c.mend_block.new.kept c.loop-at.invariant.blocks.reached c.mend_block.ensures.mends.reached;
+      few = search rules;
+      mended = search rules;
+      holds = λ e. block-holds c.args.way.now.course.setting.query.now c.args.way.now.course.setting.db.now c.requires.next.underway.over.fits c.args.way.now.row.now c.requires.next.long (placed c.args.taken.now) c.requires.next.taken_fit c.args.atom c.requires.next.has c.args.rest.now c.rows-rows.result c.loop-at.at c.block_end-next.result
+          (c.rows-rows.ensures.is ∙ ap (λ n. get_or (stored c.args.way.now.course.setting.db.now) n []) c.table_of.ensures)
+          (subst (λ key. IsBlock key c.rows-rows.result c.loop-at.at c.block_end-next.result) c.key_of-key.ensures c.block_end-next.ensures.block)
+          (c.mend_block.ensures.mends.holds (ap is_some c.in_err-mended.was));
+    }
+
+pub mend_blocks-returns-then-mended-before-clause-mends : goal.mend_blocks-returns-then-mended-before-clause-mends
+mend_blocks-returns-then-mended-before-clause-mends t c =
+    let m = c.mend_block.ensures.mends in
+    let n = passed-count c.args.way.now.course (placed c.args.taken.now) (c.args.atom ∷ c.args.rest.now) c.requires.next.underway in
+    record {
+      chosen = m.chosen;
+      reached = reached-joined c.args.way.now.course.setting.query.now c.args.way.now.course.setting.db.now c.requires.next.underway.over.fits c.args.way.now.row.now c.requires.next.long (placed c.args.taken.now) c.args.kept.now c.loop-at.kept c.mend_block.new.kept c.loop-at.invariant.blocks.reached c.mend_block.ensures.mends.reached;
+      few = omega (arith, n, c.if-mended-before.true);
+      mended = subst (λ r. IfSome r (λ count. IsFreeFrom c.args.way.now (placed c.args.taken.now) c.mend_block.new.kept count)) c.in_ok-mended.was m.mended;
+      holds = λ e. absurd (true≢false e);
+    }
+
+pub mend_blocks-returns-clause-mends : goal.mend_blocks-returns-clause-mends
+mend_blocks-returns-clause-mends t c =
+    let is = c.rows-rows.ensures.is ∙ ap (λ n. get_or (stored c.args.way.now.course.setting.db.now) n []) c.table_of.ensures in
+    let n = passed-count c.args.way.now.course (placed c.args.taken.now) (c.args.atom ∷ c.args.rest.now) c.requires.next.underway in
+    let b = c.loop-at.invariant.blocks in
+    record {
+      chosen = b.chosen;
+      reached = b.reached;
+      few = omega (arith, n);
+      mended = none-whole c.args.way.now.course.setting.query.now c.args.way.now.course.setting.db.now c.args.way.now.row.now c.loop-at.kept (placed c.args.taken.now) _ (omega (arith, n))
+          (blocks-all c.args.way.now.course.setting.query.now c.args.way.now.course.setting.db.now c.requires.next.underway.over.fits c.args.way.now.row.now c.requires.next.long (placed c.args.taken.now) c.requires.next.taken_fit c.args.atom c.requires.next.has c.args.kept.now c.loop-at.kept
+          c.rows-rows.result c.span_of-start.result.0 c.span_of-start.result.1 c.loop-at.at is
+          (subst (λ rows. Rattle.repair_back.specs.Walking.MayFit c.args.way.now.course.setting.query.now c.args.way.now.row.now (placed c.args.taken.now) c.args.atom rows c.span_of-start.result.0 c.span_of-start.result.1) (sym is) c.span_of-start.ensures)
+          c.loop-at.invariant.blocks (omega (arith, c.loop-at-test.false)));
+      holds = λ e. absurd (true≢false e);
+    }
+
+pub mend_anew-returns-in_err-mended-in-len1-up-clause-mends : goal.mend_anew-returns-in_err-mended-in-len1-up-clause-mends
+mend_anew-returns-in_err-mended-in-len1-up-clause-mends t c =
+    let m = c.mend_blocks.ensures.mends in
+    record {
+      chosen = m.chosen;
+      reached = m.reached;
+      few = search rules;
+      mended = search rules;
+      holds = λ e. subst (λ p. PlanHolds c.args.way.now.course.setting.query.now (stored c.args.way.now.course.setting.db.now) c.args.way.now.row.now (placed c.args.taken.now) p)
+          (sym (plan-split c.args.plan.now c.in-len1-up.len_at_least)) (c.mend_blocks.ensures.mends.holds (ap is_some c.in_err-mended-in-len1-up.was));
+    }
+
+pub mend_anew-returns-then-enough-mended-clause-mends : goal.mend_anew-returns-then-enough-mended-clause-mends
+mend_anew-returns-then-enough-mended-clause-mends t c =
+    let q = c.args.way.now.course.setting.query.now in
+    let db = c.args.way.now.course.setting.db.now in
+    let row = c.args.way.now.row.now in
+    let taken = placed c.args.taken.now in
+    let here = c.requires.here in
+    let m = c.mend_blocks.ensures.mends in
+    let few = few-of c.mend_blocks.result c.in_ok-mended-in-len1-up.mended (length taken) c.in_ok-mended-in-len1-up.was m.few in
+    record {
+      chosen = m.chosen;
+      reached = m.reached;
+      few = omega (arith, few, c.if-enough-mended.true);
+      mended = none-enough q db here.underway.over.fits row here.long c.mend_blocks.new.kept c.args.way.now.course.order.now taken c.args.plan.now c.enough_for-enough.result here.underway.place c.enough_for-enough.ensures here.taken_fit here.plan
+          (some-none q db row c.mend_blocks.new.kept taken c.mend_blocks.result m.few m.mended (ap is_some c.in_ok-mended-in-len1-up.was));
+      holds = λ e. absurd (true≢false e);
+    }
+
+pub mend_anew-returns-else-enough-mended-clause-mends : goal.mend_anew-returns-else-enough-mended-clause-mends
+mend_anew-returns-else-enough-mended-clause-mends t c =
+    let m = c.mend_blocks.ensures.mends in
+    record {
+      chosen = m.chosen;
+      reached = m.reached;
+      few = subst (λ r. IfSome r (λ count. count ≤ length (placed c.args.taken.now))) c.in_ok-mended-in-len1-up.was m.few;
+      mended = subst (λ r. IfSome r (λ count. IsFreeFrom c.args.way.now (placed c.args.taken.now) c.mend_blocks.new.kept count)) c.in_ok-mended-in-len1-up.was m.mended;
+      holds = λ e. absurd (true≢false e);
+    }
+
+pub row_mended-returns-then-not-fits-clause-mends : goal.row_mended-returns-then-not-fits-clause-mends
+row_mended-returns-then-not-fits-clause-mends t c =
+    let n = passed-count c.args.way.now.course (placed c.args.taken.now) (c.args.atom ∷ c.args.rest.now) c.requires.next.underway in
+    record {
+      chosen = c.requires.chosen;
+      reached = (0, refl);
+      mended = none-past c.args.way.now.course.setting.query.now c.args.way.now.course.setting.db.now c.args.way.now.row.now c.args.kept.now (placed c.args.taken.now) _ (omega (arith, n));
+      lacks = λ e. lacks-unfit c.args.way.now.course.setting.query.now c.args.way.now.course.setting.db.now c.requires.next.underway.over.fits c.args.way.now.row.now c.requires.next.long (placed c.args.taken.now) c.requires.next.taken_fit c.args.atom c.requires.next.has c.args.y.now c.args.kept.now c.requires.chosen c.requires.kept
+          (λ f. true≢false (sym (c.fits.ensures.1 f) ∙ c.if-not-fits.true));
+      holds = λ e. absurd (true≢false e);
+    }
+
+pub row_mended-returns-clause-mends : goal.row_mended-returns-clause-mends
+row_mended-returns-clause-mends t c =
+    let m = c.mend_rest.ensures.mends in
+    let same = reached-same c.args.way.now.course.setting.query.now c.args.way.now.course.setting.db.now c.requires.next.underway.over.fits c.args.way.now.row.now c.requires.next.long (placed c.args.taken.now) c.requires.next.taken_fit c.args.atom c.requires.next.has c.args.y.now c.args.kept.now c.mend_rest.new.kept c.mend_rest.ensures.mends.reached in
+    record {
+      chosen = m.chosen;
+      reached = reached-forget c.args.way.now.course.setting.query.now c.args.way.now.course.setting.db.now c.requires.next.underway.over.fits c.args.way.now.row.now c.requires.next.long (placed c.args.taken.now) c.requires.next.taken_fit c.args.atom c.requires.next.has c.args.y.now c.args.kept.now c.mend_rest.new.kept c.requires.kept m.reached;
+      mended = if-before c.args.way.now.course.setting.query.now c.args.way.now.course.setting.db.now c.args.way.now.row.now c.mend_rest.new.kept (placed c.args.taken.now) _ c.mend_rest.result m.mended;
+      lacks = λ e. lacks-none c.args.way.now.course.setting.query.now c.args.way.now.course.setting.db.now c.requires.next.underway.over.fits c.args.way.now.row.now c.requires.next.long (placed c.args.taken.now) c.requires.next.taken_fit c.args.atom c.requires.next.has c.args.y.now c.mend_rest.new.kept c.mend_rest.ensures.mends.chosen
+          (subst (λ rows. Rattle.std.proofs.Common.Contains rows c.args.y.now) (sym (Rattle.repair_back.proofs.Stepping.same-rows c.args.way.now.course.setting.query.now c.args.way.now.course.setting.db.now c.requires.next.underway.over.fits c.args.way.now.row.now c.requires.next.long c.args.kept.now c.mend_rest.new.kept c.args.atom same)) c.requires.kept)
+          (some-none c.args.way.now.course.setting.query.now c.args.way.now.course.setting.db.now c.args.way.now.row.now c.mend_rest.new.kept _ c.mend_rest.result c.mend_rest.ensures.mends.few c.mend_rest.ensures.mends.mended e);
+      holds = λ e. (c.fits.ensures.0 c.if-not-fits.false, m.holds e);
+    }
+
+pub remembered-returns-in-Some-clause-mends : goal.remembered-returns-in-Some-clause-mends
+remembered-returns-in-Some-clause-mends t c =
+    subst (λ r. Mends c.args.way.now (placed c.args.taken.now) c.args.plan.now c.args.kept.now c.mend_anew.new.kept r) c.in-Some.is c.mend_anew.ensures.mends
+
+pub remembered-returns-in-None-clause-mends : goal.remembered-returns-in-None-clause-mends
+remembered-returns-in-None-clause-mends t c =
+    subst (λ r. Mends c.args.way.now (placed c.args.taken.now) c.args.plan.now c.args.kept.now c.mend_anew.new.kept r) c.in-None.is c.mend_anew.ensures.mends

@@ -1,7 +1,7 @@
 use Rattle.std.proofs.Common.{ℕ, ◌<◌, get_or}
 use Rattle.cqa_model.specs.Query.{atom_at}
 use Rattle.cqa_model.specs.Variables.{AreLinked}
-use Rattle.plan_rows.proofs.shared.is_shared.Given as goal
+use Rattle.plan_rows.proofs.shared.is_told.Given as goal
 
 -- no atom so far has such a column
 abbrev pub invariant-loop-atom : goal.invariant-loop-atom

@@ -1,12 +1,13 @@
 use Rattle.std.proofs.Common.{◌≤◌, ◌-◌, length}
-use Rattle.fo_plan.specs.Enough.{IsPassed}
-use Rattle.fo_plan.proofs.enough.Blocks.next_from.Given as goal
+use Rattle.fo_plan.specs.Enough.{IsPassed, IsSpot}
+use Rattle.fo_plan.proofs.enough.Blocks.looked_up.Given as goal
 
 -- what was passed so far
 abbrev pub invariant-loop-at : goal.invariant-loop-at
 invariant-loop-at l = record {
-  low : l.from ≤ l.at;
-  passed : IsPassed l.self l.from l.at;
+  low : l.fn.spot.place ≤ l.at;
+  passed : IsPassed l.self l.fn.spot.place l.at;
+  spot : IsSpot l.self l.spot;
 }
 
 abbrev pub decreases-loop-at : goal.decreases-loop-at

@@ -1,0 +1,36 @@
+use Rattle.std.proofs.Common.{arith, sym, length, ◌∙◌}
+use Rattle.std.proofs.lemmas.Bool.{false≢true}
+use Rattle.fo_plan.proofs.Passing.{passed-on, passed-less}
+use Rattle.fo_plan.proofs.Walked.{found-next, not-none, spot-behind}
+use Rattle.fo_plan.proofs.enough.Blocks.looked_up.Goals as goal
+
+pub loop-at-preserved : goal.loop-at-preserved
+loop-at-preserved c =
+    let low = c.loop-at.invariant.low in
+    let later = c.after-at.ensures.later in
+    record {
+      low = omega (arith, low, later);
+      passed = passed-on c.args.self.now c.args.spot.now.place c.loop-at.at c.after-at.result c.loop-at.invariant.passed (λ f. false≢true (sym c.if-begins_block.false ∙ c.begins_block.ensures.1 f)) c.after-at.ensures.none;
+      spot = c.loop-at.invariant.spot;
+    }
+
+pub taken_at-requires-clause-begins : goal.taken_at-requires-clause-begins
+taken_at-requires-clause-begins c = c.begins_block.ensures.0 c.if-begins_block.true
+
+pub returns-then-begins_block-clause-spot : goal.returns-then-begins_block-clause-spot
+returns-then-begins_block-clause-spot c =
+    let t = c.taken_at.ensures in
+    spot-behind c.args.self.now c.loop-at.at c.taken_at.new.spot c.taken_at.result t.next t.within (not-none c.args.self.now.index c.requires.index) (not-none c.args.self.now.index c.requires.index)
+
+pub returns-then-begins_block-clause-next : goal.returns-then-begins_block-clause-next
+returns-then-begins_block-clause-next c =
+    found-next c.args.self.now c.args.spot.now.place c.loop-at.at c.taken_at.new.spot.place c.taken_at.result c.loop-at.invariant.low c.loop-at.invariant.passed c.taken_at.ensures.next
+
+pub returns-clause-spot : goal.returns-clause-spot
+returns-clause-spot c = c.loop-at.invariant.spot
+
+pub returns-clause-next : goal.returns-clause-next
+returns-clause-next c =
+    let ended = c.loop-at-test.false in
+    let count = c.len.ensures in
+    passed-less c.args.self.now c.args.spot.now.place c.loop-at.at (length c.args.self.now.rows) c.loop-at.invariant.passed (omega (arith, ended, count))
