@@ -1,8 +1,6 @@
 -- Lemmas of the solver, by the part that they are of.
 pub mod SettledLemmas
 pub mod TrailLemmas
-pub mod Works
-pub mod Places
 pub mod States
 pub mod Jump
 pub mod Ends
@@ -15,6 +13,4 @@ pub mod Visiting
 pub mod Stretches
 pub mod Learning
 pub mod Attaching
-pub mod Marking
 pub mod Thinning
-pub mod Shortening

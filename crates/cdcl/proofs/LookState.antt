@@ -6,13 +6,13 @@ use Rattle.std.proofs.lemmas.List.Elements.{Contains-push_cases, Contains-append
 use Rattle.cnf_form.specs.declared.formula.Lit.{Lit}
 use Rattle.cnf_form.specs.Literals.{opposite, Denied}
 use Rattle.cnf_form.proofs.Lits.{nat_cases, equal_or_not}
-use Rattle.cdcl.specs.declared.trail.Entry.{Entry}
+use Rattle.implication_graph.specs.declared.trail.Entry.{Entry}
 use Rattle.cdcl.specs.declared.watch.Pair.{Pair}
-use Rattle.cdcl.specs.Trail.{At, held}
+use Rattle.implication_graph.specs.Trail.{At, held}
 use Rattle.cdcl.specs.State.{IsState}
 use Rattle.cdcl.specs.Watching.{code_of, IsListed, listed_at, IsListedBut, HoldsIn, IsWatching, HasWatch, IsPairOf, IsPending, AreLists}
 use Rattle.cdcl.specs.Looking.{IsLooking}
-use Rattle.cdcl.proofs.Works.{At-same, At-contains}
+use Rattle.implication_graph.proofs.Works.{At-same, At-contains}
 use Rattle.cdcl.proofs.States.{held_push}
 use Rattle.cdcl.proofs.WatchState.{code_one, code_small, watching_relist, watching_put, watching_drop, watching_move, pending_first, pending_held, pending_drop, pending_move, pending_put}
 

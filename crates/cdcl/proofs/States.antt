@@ -1,5 +1,5 @@
 -- How a solver's state changes.
-use Rattle.cdcl.specs.Trail.{At}
+use Rattle.implication_graph.specs.Trail.{At, held, ArePlaces, AllInRange, AllLow}
 use Rattle.std.proofs.Common.{take, ◌≡◌, ℕ, zero, suc, ◌<◌, ◌≤◌, ◌+◌, ◌-◌, List, [], ◌∷◌, ◌++◌, ◌⊎◌, inl, inr, refl, sym, ◌∙◌, ap, subst, arith, length, get_or, Option, Some, None}
 use Rattle.std.specs.Prelude.{Contains}
 use Rattle.std.proofs.lemmas.List.{length-map, map-append, take-append-le, length-take, take_all}
@@ -7,12 +7,11 @@ use Rattle.std.proofs.lemmas.List.Elements.{Contains-push_cases, Contains-append
 use Rattle.cnf_form.specs.declared.formula.Lit.{Lit}
 use Rattle.cnf_form.specs.declared.formula.Clause.{Clause}
 use Rattle.cnf_form.specs.Literals.{OthersDenied, literals}
-use Rattle.cdcl.specs.declared.trail.Entry.{Entry}
-use Rattle.cdcl.specs.Trail.{held, ArePlaces, AllInRange, AllLow}
-use Rattle.cdcl.specs.Analysis.{IsForcedBy}
+use Rattle.implication_graph.specs.declared.trail.Entry.{Entry}
+use Rattle.implication_graph.specs.Analysis.{IsForcedBy}
 use Rattle.cdcl.specs.State.{IsState}
-use Rattle.cdcl.proofs.Works.{At-same, At-take, At-contains}
-use Rattle.cdcl.proofs.Places.{At-push_cases, At-push_old, At-push_new}
+use Rattle.implication_graph.proofs.Works.{At-same, At-take, At-contains}
+use Rattle.implication_graph.proofs.Places.{At-push_cases, At-push_old, At-push_new}
 
 pub take_of_take : {X : Type 0} (p s : ℕ) (xs : List X) → p ≤ s → take p (take s xs) ≡ take p xs
 take_of_take zero s xs h = refl

@@ -1,18 +1,12 @@
 -- Literals of a clause that the trail denies.
-use Rattle.cdcl.specs.Trail.{At}
+use Rattle.implication_graph.specs.Trail.{At, IsOpen}
 use Rattle.std.proofs.Common.{◌≢◌, ℕ, zero, suc, List, [], ◌∷◌, map, inl, inr, refl, sym, ap, subst, arith}
 use Rattle.std.specs.Prelude.{Contains}
 use Rattle.cnf_form.specs.declared.formula.Lit.{Lit}
 use Rattle.cnf_form.proofs.Lits.{equal_or_not}
 use Rattle.cnf_form.specs.Literals.{opposite, Denied, AllDenied, OthersDenied}
-use Rattle.cdcl.specs.Settled.{IsOpen, IsSettled}
+use Rattle.cdcl.specs.Settled.{IsSettled}
 use Rattle.cdcl.proofs.SettledLemmas.{settled_by_two}
-
-pub At-map : {X Y : Type 0} (f : X → Y) (xs : List X) (k : ℕ) (x : X) → At xs k x → At (map f xs) k (f x)
-At-map f [] k x a = absurd (omega (arith, a.0))
-At-map f (y ∷ ys) zero x a = (omega arith, ap f a.1)
-At-map f (y ∷ ys) (suc k) x a =
-    let r : At (map f ys) k (f x) = At-map f ys k x (omega (arith, a.0), a.1) in (omega (arith, r.0), r.1)
 
 pub open_not_denied : (t : List Lit) (l : Lit) → IsOpen t l.var → Denied t l → ⊥
 open_not_denied t l o d = o (opposite l, d, refl)

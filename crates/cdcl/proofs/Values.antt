@@ -3,15 +3,16 @@ use Rattle.std.proofs.Common.{◌≡◌, ℕ, zero, suc, ◌<◌, ◌+◌, ◌-�
 use Rattle.std.specs.Prelude.{Contains}
 use Rattle.cnf_form.specs.declared.formula.Lit.{Lit}
 use Rattle.cnf_form.proofs.Lits.{nat_cases}
-use Rattle.cdcl.specs.Trail.{held, ValueIs, AllLow}
-use Rattle.cdcl.specs.Analysis.{AreAllInRange}
+use Rattle.implication_graph.specs.Trail.{held, ValueIs, AllLow, AreAllInRange}
 use Rattle.cdcl.specs.Watching.{IsWatching, AreLists}
 use Rattle.cdcl.proofs.States.{length_push}
 use Rattle.cnf_form.specs.Literals.{SatisfiesAll}
 use Rattle.cdcl.specs.declared.solver.Solver.{Solver}
 use Rattle.cdcl.specs.State.{IsState, IsSound}
-use Rattle.cdcl.specs.Visits.{AgreesBelow, AgreesWith, IsModelled}
+use Rattle.cdcl.specs.Visits.{AgreesBelow, AgreesWith, IsModelled, OpenVarIs}
 use Rattle.cdcl.specs.Outcomes.{assignment}
+use Rattle.search_heuristics.specs.Open.{NextIs}
+use Rattle.implication_graph.proofs.Places.{has_var}
 
 get_push_old : (xs : List Bool) (x : Bool) (k : ℕ) → k < length xs → get_or (xs ++ x ∷ []) k false ≡ get_or xs k false
 get_push_old [] x k h = absurd (omega arith)
@@ -91,3 +92,16 @@ lists_push xs n a = record {
   room = let l = length_push xs [] in let m = length_push (xs ++ [] ∷ []) [] in omega (arith, l, m, a.room);
   below = λ i k c. absurd (empty_push (xs ++ [] ∷ []) (empty_push xs (λ j m d. let r = a.below j m d in omega (arith, r))) i k c);
 }
+
+none_some : (p : ℕ) (o : Option ℕ) → o ≡ None → o ≡ Some p → ⊥
+none_some p o e f = cc
+
+-- where the places say that a variable is open, it is
+pub open_var_is : (s : Solver) → IsSound s → (r : Option ℕ) → NextIs s.places.items r → OpenVarIs s r
+open_var_is s sound None m = λ v low k. let q = m v low k in has_var (held s.trail.items) s.places.items v q.0 sound.places_are q.1
+open_var_is s sound (Some v) m = (
+  m.0,
+  m.1,
+  λ h. none_some h.1.0 _ m.2
+      (subst (λ (n : ℕ). get_or s.places.items n None ≡ Some h.1.0) h.2 (sound.places_are.every h.1.0 h.0 (h.1.1, h.1.2))),
+)

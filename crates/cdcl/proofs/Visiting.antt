@@ -8,18 +8,18 @@ use Rattle.cnf_form.specs.declared.formula.Lit.{Lit}
 use Rattle.cnf_form.specs.declared.formula.Clause.{Clause}
 use Rattle.cnf_form.specs.Literals.{literals, Denied, opposite}
 use Rattle.cnf_form.proofs.Lits.{contains_here}
-use Rattle.cdcl.specs.declared.trail.Entry.{Entry}
+use Rattle.implication_graph.specs.declared.trail.Entry.{Entry}
 use Rattle.cdcl.specs.declared.watch.Pair.{Pair}
 use Rattle.cdcl.specs.declared.solver.Solver.{Solver}
-use Rattle.cdcl.specs.declared.solver.Visit.{Visit}
-use Rattle.cdcl.specs.declared.solver.Visit.TheVariants.{Conflict}
-use Rattle.cdcl.specs.Trail.{At, held}
+use Rattle.cdcl.specs.declared.look.Visit.{Visit}
+use Rattle.cdcl.specs.declared.look.Visit.TheVariants.{Conflict}
+use Rattle.implication_graph.specs.Trail.{At, held}
 use Rattle.cdcl.specs.State.{IsState, IsSound}
 use Rattle.cdcl.specs.Watching.{HasWatch, IsPairOf, code_of, IsPending, IsWatching, IsListed, AreLists}
 use Rattle.cdcl.specs.Looking.{IsLooking, IsLookingAt, IsEnqueued, IsSameBeside, IsReady, IsGrown, Stays, VisitIs}
 use Rattle.cdcl.specs.Visits.{IsConflict, IsStill}
-use Rattle.cdcl.proofs.Works.{At-same}
-use Rattle.cdcl.proofs.Places.{At-push_old, consistent, trail_fits}
+use Rattle.implication_graph.proofs.Works.{At-same}
+use Rattle.implication_graph.proofs.Places.{At-push_old, consistent, trail_fits}
 use Rattle.cdcl.proofs.States.{db_at, literals_count, length_held}
 use Rattle.cdcl.proofs.WatchState.{code_small, watching_next, watching_settled}
 use Rattle.cdcl.proofs.Stretches.{take_set, drop_set, next_index}

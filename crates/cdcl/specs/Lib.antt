@@ -1,7 +1,6 @@
 -- What a caller sees: the answers of `solve`.
 pub mod Outcomes
--- What the solver keeps: the trail, what it settles, the levels, and what clauses watch.
-pub mod Trail
+-- What the solver keeps: what the trail settles, the levels, and what clauses watch.
 pub mod Settled
 pub mod State
 pub mod Watching
@@ -9,7 +8,5 @@ pub mod Watching
 pub mod Looks
 pub mod Looking
 pub mod Visits
--- What is learnt from a conflict: marks of variables, the analysis, and the lines of the log.
-pub mod Marks
-pub mod Analysis
+-- The lines of the log.
 pub mod Lines

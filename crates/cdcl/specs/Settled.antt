@@ -1,13 +1,8 @@
 -- What a list of literals leaves to be forced.
-use Rattle.cnf_form.specs.Literals.{HasVar}
 use Rattle.std.specs.Prelude.{ℕ, ◌<◌, List, Contains}
-use Rattle.cdcl.specs.Trail.{At}
+use Rattle.implication_graph.specs.Trail.{At}
 use Rattle.cnf_form.specs.declared.formula.Lit.{Lit}
-use Rattle.cnf_form.specs.Literals.{Denied, OthersDenied}
-
--- no literal is in the list together with its opposite
-abbrev pub IsConsistent : List Lit → Type 0
-IsConsistent t = (l : Lit) → Contains t l → Denied t l → ⊥
+use Rattle.cnf_form.specs.Literals.{OthersDenied}
 
 -- Each literal that the clause would force is in the list. It need not be in the clause, so a clause whose literals are
 -- all denied is settled by no consistent list.
@@ -20,7 +15,3 @@ AllSettledTo n t f = (k : ℕ) (c : List Lit) → k < n → At f k c → IsSettl
 
 abbrev pub AllSettled : List Lit → List (List Lit) → Type 0
 AllSettled t f = (c : List Lit) → Contains f c → IsSettled t c
-
--- the variable has no literal in the list
-abbrev pub IsOpen : List Lit → ℕ → Type 0
-IsOpen t n = HasVar t n → ⊥

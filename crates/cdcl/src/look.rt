@@ -2,12 +2,11 @@
 
 ghost use Rattle.std.specs.Prelude.{◌≡◌, ◌<◌, ◌≤◌, ◌+◌, ◌≢◌, length, Contains, MatchOption, true, false};
 ghost use Rattle.cnf_form.specs.Literals.{Denied, OthersDenied, literals};
-ghost use Rattle.cdcl.specs.Settled.{IsConsistent};
-ghost use Rattle.cdcl.specs.Trail.{At, held, ArePlaces, AllInRange};
+ghost use Rattle.implication_graph.specs.Trail.{IsConsistent, At, held, ArePlaces, AllInRange};
 ghost use Rattle.cdcl.specs.Looks.{FoundIs, IsFree, WatchesAre};
 
-use crate::trail::{Entry, truth_of};
-use cnf_form::{Clause, Lit, Truth};
+use cnf_form::{Lit, Truth};
+use implication_graph::{Entry, truth_of};
 
 /// What a clause comes to that watches a false literal and another one.
 #[derive(Clone, Copy)]
@@ -19,6 +18,17 @@ pub enum Found {
     /// The other watched literal is open, and all else is false.
     Forces,
     AllFalse,
+}
+
+/// What came of a visit to a clause that watches a literal which is false.
+#[derive(Clone, Copy)]
+pub enum Visit {
+    /// It watches the literal still, and holds.
+    Kept,
+    /// It watches it no more.
+    Dropped,
+    /// All its literals are false.
+    Conflict,
 }
 
 fn is_false(trail: &[Entry], places: &[Option<usize>], lit: Lit) -> bool
@@ -100,12 +110,4 @@ pub(crate) fn watches_of(clause: &[Lit]) -> Watches
         None => Watches::One(first),
         Some(second) => Watches::Two(first, second),
     }
-}
-
-/// The literals of the clause at an index.
-pub(crate) fn literals_at(clauses: &[Clause], index: usize) -> &[Lit]
-    requires { index < length clauses.now }
-    ensures { At (literals clauses.now) index result.now }
-{
-    clauses[index].lits.as_slice()
 }

@@ -2,25 +2,25 @@
 
 ghost use Rattle.std.specs.Prelude.{◌≡◌, ◌<◌, ◌≤◌, ◌+◌, ◌≢◌, ℕ, length, List, Contains, OnOk, IfOk, true, false, replicate, take, ◌++◌, ◌∷◌, [], ◌-◌, ◌^◌, MatchOption};
 ghost use Rattle.cnf_form.specs.Literals.{literals, opposite};
-ghost use Rattle.cdcl.specs.Settled.{IsSettled, IsOpen};
-ghost use Rattle.cdcl.specs.Trail.{At, held, ValueIs, AllInRange, AllLow};
+ghost use Rattle.cdcl.specs.Settled.{IsSettled};
+ghost use Rattle.implication_graph.specs.Trail.{IsOpen, At, held, ValueIs, AllInRange, AllLow, AreAllInRange};
 ghost use Rattle.cdcl.specs.Looks.{IsForced};
-ghost use Rattle.cdcl.specs.Analysis.{AreAllInRange};
 ghost use Rattle.cdcl.specs.State.{IsSound};
-ghost use Rattle.cdcl.specs.Marks.{AllClear, AllMet};
+ghost use Rattle.implication_graph.specs.Marks.{AllClear, AllMet};
 ghost use Rattle.cdcl.specs.Watching.{AreLists, IsBase};
 ghost use Rattle.cdcl.specs.Looking.{IsForcedIn, IsEnqueued, IsSameBeside, IsSameAttached, Stays, IsGrown, FoundIsAt, IsLookingAt, VisitIs, LookedIs, IsReady, IsWatchful, IsUnattached, IsFirst, CanWatch, IsPairFor};
 ghost use Rattle.cdcl.specs.Visits.{ConflictIs, OpenVarIs, SearchIs, IsStill, LeavesLevel, IsPrefix, IsConflict, IsLearnt, AgreesWith};
 ghost use Rattle.cdcl.specs.Lines.{Adds, EndsLog, IsLineStep, VerdictIs, added_lits};
 
-use crate::analysis::{LearntClause, analyze, refute};
 use crate::forget::thin_lists;
-use crate::look::{Found, Watches, literals_at, seek, watches_of};
-use crate::seen::SeenBuffer;
-use crate::trail::{Entry, cut, enqueue, lit_at, truth_of, value_at};
-use crate::watch::{Pair, close_gap, code, other_of, push_index, put_list, take_list};
+use crate::look::{Found, Visit, Watches, seek, watches_of};
+use crate::watch::{Pair, close_gap, code, no_lists, other_of, push_index, put_list, take_list};
 use cnf_form::{Clause, Cnf, Lit, Step, Truth};
 use cqa_value::{Items, NoMemory};
+use implication_graph::{
+    Entry, LearntClause, SeenBuffer, analyze, cut, enqueue, lit_at, literals_at, refute, truth_of,
+    value_at,
+};
 use search_heuristics::order::{Order, first_open};
 use search_heuristics::restart::Restarts;
 use search_heuristics::usage::Usage;
@@ -34,34 +34,11 @@ pub enum Verdict {
     Spent,
 }
 
-/// What came of a visit to a clause that watches a literal which is false.
-#[derive(Clone, Copy)]
-pub enum Visit {
-    /// It watches the literal still, and holds.
-    Kept,
-    /// It watches it no more.
-    Dropped,
-    /// All its literals are false.
-    Conflict,
-}
-
 /// Places of variables, none of which has a value.
 fn no_places(alloc: Global, len: usize) -> Result<Vec<Option<usize>>, NoMemory>
     ensures { IfOk result (λ v. v.items ≡ replicate len None) }
 {
     Ok(vec![in alloc; None; len]?)
-}
-
-/// Lists of clauses for the literals of so many variables, all empty.
-fn no_lists(alloc: Global, vars: usize) -> Result<Vec<Items<usize>>, NoMemory>
-    ensures { IfOk result (λ v. AreLists v.items vars 0) }
-{
-    let mut lists = Vec::new(alloc);
-    for _var in 0..vars {
-        lists.push(Items::new(alloc))?;
-        lists.push(Items::new(alloc))?;
-    }
-    Ok(lists)
 }
 
 /// The step that adds a clause.

@@ -1,7 +1,7 @@
 //! What clauses watch: two literals each, with the clauses of each literal in a list (Moskewicz and others, 2001).
 
-ghost use Rattle.std.specs.Prelude.{◌≡◌, ◌<◌, [], length, MatchOption, OnOk, slice_index_or, slice_set, take, drop, ◌≤◌, ◌++◌};
-ghost use Rattle.cdcl.specs.Watching.{HasWatch, IsPairOf, code_of, listed_at};
+ghost use Rattle.std.specs.Prelude.{◌≡◌, ◌<◌, [], length, MatchOption, OnOk, IfOk, slice_index_or, slice_set, take, drop, ◌≤◌, ◌++◌};
+ghost use Rattle.cdcl.specs.Watching.{AreLists, HasWatch, IsPairOf, code_of, listed_at};
 
 use cnf_form::Lit;
 use cqa_value::{Items, NoMemory};
@@ -13,6 +13,18 @@ use std::mem;
 pub struct Pair {
     pub first: Lit,
     pub second: Lit,
+}
+
+/// Lists of clauses for the literals of so many variables, all empty.
+pub(crate) fn no_lists(alloc: Global, vars: usize) -> Result<Vec<Items<usize>>, NoMemory>
+    ensures { IfOk result (λ v. AreLists v.items vars 0) }
+{
+    let mut lists = Vec::new(alloc);
+    for _var in 0..vars {
+        lists.push(Items::new(alloc))?;
+        lists.push(Items::new(alloc))?;
+    }
+    Ok(lists)
 }
 
 /// The place of a literal's list among the lists.

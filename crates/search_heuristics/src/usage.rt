@@ -6,6 +6,9 @@ use std::alloc::Global;
 /// How many learnt clauses are watched before some are forgotten for the first time.
 pub const FIRST_LIMIT: usize = 500;
 
+/// How many more may be watched after each time that some are forgotten (Audemard and Simon, 2009).
+const MORE: usize = 200;
+
 /// What a use adds to a clause's activity at first.
 const FIRST_STEP: u64 = 1000;
 /// Beyond it all activities are scaled down.
@@ -120,6 +123,6 @@ impl Usage {
             }
         }
         self.watched = watched;
-        self.limit = self.limit.saturating_add(self.limit / 10);
+        self.limit = self.limit.saturating_add(MORE);
     }
 }

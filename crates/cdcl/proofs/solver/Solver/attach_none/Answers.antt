@@ -1,7 +1,7 @@
 use Rattle.std.proofs.Common.{◌≡◌, ◌++◌, ◌∷◌, [], List, inl, sym, subst, length, arith}
 use Rattle.cnf_form.specs.Literals.{literals}
 use Rattle.cdcl.specs.declared.watch.Pair.{Pair}
-use Rattle.cdcl.specs.Trail.{held}
+use Rattle.implication_graph.specs.Trail.{held}
 use Rattle.cdcl.specs.Watching.{IsListed, IsWatching, AreLists}
 use Rattle.cdcl.proofs.States.{length_push}
 use Rattle.cdcl.proofs.WatchState.{watching_attach}

@@ -1,11 +1,10 @@
-use Rattle.cdcl.specs.Trail.{At}
+use Rattle.implication_graph.specs.Trail.{At, held}
 use Rattle.std.proofs.Common.{◌≡◌, ◌<◌, ◌+◌, ℕ, [], arith, Option, List, sym, subst, length}
 use Rattle.std.specs.Prelude.{Contains}
 use Rattle.cnf_form.specs.declared.formula.Clause.{Clause}
 use Rattle.cnf_form.specs.Literals.{literals, Denied}
-use Rattle.cdcl.specs.declared.trail.Entry.{Entry}
-use Rattle.cdcl.specs.Trail.{held}
-use Rattle.cdcl.specs.Analysis.{ChainPasses}
+use Rattle.implication_graph.specs.declared.trail.Entry.{Entry}
+use Rattle.implication_graph.specs.Analysis.{ChainPasses}
 use Rattle.cdcl.proofs.States.{literals_count}
 use Rattle.cdcl.proofs.Ends.{last_step}
 use Rattle.cdcl.proofs.solver.Solver.end.Goals as goal

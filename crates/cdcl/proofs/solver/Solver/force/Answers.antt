@@ -1,9 +1,9 @@
 use Rattle.std.proofs.Common.{Some, List, sym, subst, refl}
 use Rattle.cnf_form.specs.Literals.{literals}
-use Rattle.cdcl.specs.declared.trail.Entry.{Entry}
-use Rattle.cdcl.specs.Trail.{held, ArePlaces}
+use Rattle.implication_graph.specs.declared.trail.Entry.{Entry}
+use Rattle.implication_graph.specs.Trail.{held, ArePlaces}
 use Rattle.cdcl.specs.State.{IsState}
-use Rattle.cdcl.proofs.Works.{At-contains}
+use Rattle.implication_graph.proofs.Works.{At-contains}
 use Rattle.cdcl.proofs.States.{state_forced}
 use Rattle.cdcl.proofs.solver.Solver.force.Goals as goal
 

@@ -3,7 +3,7 @@ use Rattle.std.specs.Prelude.{Contains, take}
 use Rattle.cnf_form.specs.declared.formula.Lit.{Lit}
 use Rattle.cnf_form.specs.Literals.{literals}
 use Rattle.cdcl.specs.Settled.{IsSettled}
-use Rattle.cdcl.specs.Trail.{held, AllLow}
+use Rattle.implication_graph.specs.Trail.{held, AllLow}
 use Rattle.cdcl.specs.Looks.{IsForced}
 use Rattle.cdcl.proofs.Jump.{learn_facts, learnt_last}
 use Rattle.cdcl.proofs.States.{literals_count}

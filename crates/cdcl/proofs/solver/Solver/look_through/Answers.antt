@@ -2,8 +2,8 @@ use Rattle.std.proofs.Common.{◌≡◌, ◌<◌, ◌+◌, ℕ, List, ◌∷◌,
 use Rattle.std.specs.Prelude.{Vec}
 use Rattle.std.specs.declared.alloc.Global.{Global}
 use Rattle.std.proofs.lemmas.List.{length-set}
-use Rattle.cdcl.specs.declared.solver.Visit.{Visit}
-use Rattle.cdcl.specs.Trail.{held}
+use Rattle.cdcl.specs.declared.look.Visit.{Visit}
+use Rattle.implication_graph.specs.Trail.{held}
 use Rattle.cdcl.specs.Watching.{code_of}
 use Rattle.cdcl.specs.Looking.{IsLookingAt, VisitIs}
 use Rattle.cdcl.proofs.Stretches.{next_index, drop_end, append_none}

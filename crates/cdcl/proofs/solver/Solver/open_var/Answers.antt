@@ -1,6 +1,6 @@
 use Rattle.std.proofs.Common.{Option, ℕ, List, subst}
 use Rattle.search_heuristics.specs.Open.{NextIs}
-use Rattle.cdcl.proofs.Places.{open_var_is}
+use Rattle.cdcl.proofs.Values.{open_var_is}
 use Rattle.cdcl.proofs.solver.Solver.open_var.Goals as goal
 
 pub returns : goal.returns

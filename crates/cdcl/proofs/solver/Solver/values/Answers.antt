@@ -1,5 +1,5 @@
 use Rattle.std.proofs.Common.{arith}
-use Rattle.cdcl.specs.Trail.{held}
+use Rattle.implication_graph.specs.Trail.{held}
 use Rattle.cdcl.proofs.Values.{agrees_push}
 use Rattle.cdcl.proofs.States.{length_push}
 use Rattle.cdcl.proofs.solver.Solver.values.Goals as goal

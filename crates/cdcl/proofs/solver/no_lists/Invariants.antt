@@ -1,5 +1,0 @@
-use Rattle.cdcl.specs.Watching.{AreLists}
-use Rattle.cdcl.proofs.solver.no_lists.Given as goal
-
-abbrev pub invariant-loop-var : goal.invariant-loop-var
-invariant-loop-var l = AreLists l.lists.items l._var 0

@@ -1,0 +1,22 @@
+use Rattle.std.proofs.Common.{◌≡◌, ◌<◌, ◌≤◌, ◌∙◌, ℕ, false, true, length, Some, None, arith, refl, sym}
+use Rattle.std.proofs.lemmas.List.{get_or-set_same}
+use Rattle.implication_graph.specs.Trail.{held}
+use Rattle.implication_graph.proofs.Works.{some_same}
+use Rattle.implication_graph.proofs.Marking.{at_most_more, at_most_same, grow_none, grow_one, met_push, read_true}
+use Rattle.implication_graph.proofs.analysis.mark_var.Goals as goal
+
+pub returns-then-index : goal.returns-then-index
+returns-then-index c =
+    let m = c.args.marks.now in
+    let range : c.args.var < length m.seen.items = omega (arith, c.requires.len, c.requires.range) in record {
+      marks = c.requires.marks;
+      «open» = λ end few. few;
+      grow = grow_none m.seen.items;
+      seen = read_true m.seen.items c.args.var _ range c.index.ensures c.if-index.true;
+    }
+
+pub returns-then-place-start-clause-open : goal.returns-then-place-start-clause-open
+returns-then-place-start-clause-open c end few =
+    let m = c.args.marks.now in
+    let range : c.args.var < length m.seen.items = omega (arith, c.requires.len, c.requires.range) in
+    at_most_more (held c.args.trail.now) c.args.places.now c.args.start end m.seen.items m.left c.args.var c.in-Some.place c.requires.places c.in-Some.is range few

@@ -1,0 +1,58 @@
+use Rattle.std.proofs.Common.{◌+◌, ◌++◌, ◌∷◌, [], ℤ, pos, List, None, false, get_or, reverse, refl, subst, sym, ◌∙◌, ap}
+use Rattle.cnf_form.specs.declared.formula.Lit.{Lit}
+use Rattle.cnf_form.specs.Literals.{literals}
+use Rattle.implication_graph.specs.declared.trail.Entry.{Entry}
+use Rattle.implication_graph.specs.Trail.{held}
+use Rattle.implication_graph.specs.Analysis.{AreKept, Works}
+use Rattle.implication_graph.proofs.Works.{At-contains, held_at, reverse_push, unseen, works_resolve, works_skip}
+use Rattle.implication_graph.proofs.Marking.{grow_none}
+use Rattle.implication_graph.proofs.Shortening.{kept_on, kept_push, works_keep}
+use Rattle.implication_graph.proofs.shorten.shorten_at.Goals as goal
+
+abbrev none : Entry
+none = record { lit = record { var = 0; positive = false }; reason = None }
+
+pub bounds-seen-lit : goal.bounds-seen-lit
+bounds-seen-lit c = c.requires.held _ (At-contains (held c.args.trail.now) c.args.at _ (held_at c.args.trail.now c.args.at none c.requires.at))
+
+pub returns-then-not-seen-lit-clause-kept : goal.returns-then-not-seen-lit-clause-kept
+returns-then-not-seen-lit-clause-kept c start h k = kept_on (held c.args.trail.now) start c.args.at c.args.lits.now.items k
+
+pub returns-then-not-seen-lit-clause-works : goal.returns-then-not-seen-lit-clause-works
+returns-then-not-seen-lit-clause-works c u w =
+    works_skip (literals c.args.clauses.now) (held c.args.trail.now) c.args.seen.now (u ∷ c.args.lits.now.items) c.args.at (reverse c.args.hints.now.items)
+    (get_or c.args.trail.now c.args.at none).lit (held_at c.args.trail.now c.args.at none c.requires.at) (unseen _ c.if-not-seen-lit.true) w
+
+pub returns-in_ok-push_hint-in-Some-clause-kept : goal.returns-in_ok-push_hint-in-Some-clause-kept
+returns-in_ok-push_hint-in-Some-clause-kept c start h k = kept_on (held c.args.trail.now) start c.args.at c.args.lits.now.items k
+
+pub returns-in_ok-push_hint-in-Some-clause-works : goal.returns-in_ok-push_hint-in-Some-clause-works
+returns-in_ok-push_hint-in-Some-clause-works c u w =
+    let db = literals c.args.clauses.now in
+    let t = held c.args.trail.now in
+    let x = (get_or c.args.trail.now c.args.at none).lit in
+    let there = held_at c.args.trail.now c.args.at none c.requires.at in
+    let r = c.in-Some.ensures.1 x there in
+    subst (λ (hs : List ℤ). Works db t c.args.seen.now (u ∷ c.args.lits.now.items) c.args.at hs)
+    (sym (ap reverse c.in_ok-push_hint-in-Some.ensures ∙ reverse_push c.args.hints.now.items (pos (c.in-Some.reason + 1))))
+    (works_resolve db t c.args.seen.now c.args.seen.now (u ∷ c.args.lits.now.items) c.args.at (reverse c.args.hints.now.items) x (pos (c.in-Some.reason + 1)) c.in-Some.reason r.0 refl
+    c.requires.consistent there r.1 r.2 r.3 (grow_none c.args.seen.now) r.4 w)
+
+pub returns-in_ok-push_lit-in-None-clause-kept : goal.returns-in_ok-push_lit-in-None-clause-kept
+returns-in_ok-push_lit-in-None-clause-kept c start h k =
+    let t = held c.args.trail.now in
+    let lits = c.args.lits.now.items in
+    let x = (get_or c.args.trail.now c.args.at none).lit in
+    subst (λ (ys : List Lit). AreKept t start c.args.at ys)
+    (sym (c.in_ok-push_lit-in-None.ensures ∙ ap (λ (y : Lit). lits ++ y ∷ []) c.opposite.ensures))
+    (kept_push t start c.args.at lits x c.requires.apart (held_at c.args.trail.now c.args.at none c.requires.at) h k)
+
+pub returns-in_ok-push_lit-in-None-clause-works : goal.returns-in_ok-push_lit-in-None-clause-works
+returns-in_ok-push_lit-in-None-clause-works c u w =
+    let db = literals c.args.clauses.now in
+    let t = held c.args.trail.now in
+    let lits = c.args.lits.now.items in
+    let x = (get_or c.args.trail.now c.args.at none).lit in
+    subst (λ (ys : List Lit). Works db t c.args.seen.now (u ∷ ys) c.args.at (reverse c.args.hints.now.items))
+    (sym (c.in_ok-push_lit-in-None.ensures ∙ ap (λ (y : Lit). lits ++ y ∷ []) c.opposite.ensures))
+    (works_keep db t c.args.seen.now (u ∷ lits) c.args.at (reverse c.args.hints.now.items) x (held_at c.args.trail.now c.args.at none c.requires.at) w)
