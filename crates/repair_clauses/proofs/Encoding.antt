@@ -1,5 +1,6 @@
 -- The relevant blocks give the formula.
-use Rattle.std.proofs.Common.{◌≡◌, ℕ, zero, suc, ◌<◌, ◌≤◌, ◌+◌, ◌-◌, ◌^◌, inl, inr, List, [], ◌∷◌, ◌++◌, length, get_or, map, take, sym, ◌∙◌, ap, subst, arith, Contains, slice_index_or, length-append}
+use Rattle.cqa_model.specs.declared.limits.TheConstants.{MOST_ATOMS, MOST_ROWS}
+use Rattle.std.proofs.Common.{◌*◌, ◌≡◌, ℕ, zero, suc, ◌<◌, ◌≤◌, ◌+◌, ◌-◌, ◌^◌, inl, inr, List, [], ◌∷◌, ◌++◌, length, get_or, map, take, sym, ◌∙◌, ap, subst, arith, Contains, slice_index_or, length-append}
 use Rattle.std.proofs.lemmas.List.{length-map, get_or-map, map_push, take_more, append_assoc, append-nil}
 use Rattle.std.proofs.lemmas.List.FromFn.{length-map-range_with_len}
 use Rattle.cqa_value.specs.declared.value.Value.{Value}
@@ -85,7 +86,7 @@ module _ (q : Query) (db : List Table) (row : List Value) where
       (λ ps mp. let f = from_map places_of all ps mp in subst (λ x. Contains column (get_or x n 0)) f.2 (c.to f.0 f.1))
       r_atom b
 
-  module _ (m : ℕ) (spans : List Span) (h : AreSpansTo q db row (length q.atoms) m spans) (small : m ≤ 12_000_000) where
+  module _ (m : ℕ) (spans : List Span) (h : AreSpansTo q db row (length q.atoms) m spans) (small : m ≤ MOST_ATOMS * MOST_ROWS) where
     base_small : (s : Span) → Contains spans s → s.base + s.count < 2 ^ 32
     base_small s k = let b = based-below 0 m spans h.based s k in omega (arith, b, small)
 

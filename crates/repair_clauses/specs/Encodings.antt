@@ -1,4 +1,5 @@
 -- What is made of the formula of a row: numbered clauses, and the row of each number.
+use Rattle.cqa_model.specs.declared.limits.TheConstants.{MOST_ATOMS}
 use Rattle.std.specs.Prelude.{◌≡◌, ℕ, ◌+◌, ◌++◌, ◌<◌, ◌≤◌, ◌^◌, List, length, map, Contains}
 use Rattle.std.specs.List.{AllZip}
 use Rattle.cqa_value.specs.declared.value.Value.{Value}
@@ -28,7 +29,7 @@ pub record AreReady (q : Query) (spans : List Span) : Type 0 where
 
 -- the rows of the witnesses are in the blocks
 abbrev pub AreTold : List Span → List Witness → Type 0
-AreTold spans witnesses = (w : Witness) → Contains witnesses w → (length w.rows ≤ 12) × AreCovered spans w.rows
+AreTold spans witnesses = (w : Witness) → Contains witnesses w → (length w.rows ≤ MOST_ATOMS) × AreCovered spans w.rows
 
 -- the clauses and the rows are those of the formula of a row
 pub record IsEncoded (q : Query) (db : List Table) (row : List Value) (e : Encoded) : Type 0 where

@@ -20,7 +20,7 @@ pub fn goes_on(rows: &Rows<'_>, key: &[u32], at: usize, other: usize) -> bool
 }
 
 /// The place of the first row of a row's block.
-pub fn block_start(rows: &Rows<'_>, key: &[u32], at: usize) -> usize
+pub(crate) fn block_start(rows: &Rows<'_>, key: &[u32], at: usize) -> usize
     requires order { IsStrictlySortedBy (block_cmp key.now) rows.now }
     requires there { at < length rows.now }
     ensures before { result ≤ at }

@@ -2,6 +2,7 @@
 //! Each is made with exact room.
 
 ghost use Rattle.std.specs.Prelude.{◌≡◌, ◌+◌, ◌++◌, ◌<◌, ◌≤◌, ◌^◌, [], IfOk, Contains, length, map};
+ghost use Rattle.cqa_model.specs.declared.limits.TheConstants.{MOST_ATOMS};
 ghost use Rattle.cnf_form.specs.Literals.{literals};
 ghost use Rattle.join_witness.specs.Listing.{names_of, places_of};
 ghost use Rattle.repair_clauses.specs.declared.span.Span.{Span as Run};
@@ -9,7 +10,7 @@ ghost use Rattle.repair_clauses.specs.Clauses.{positive};
 ghost use Rattle.repair_clauses.specs.Spans.{AreApart, AreBased, AreCovered, IsWitnessClause, numbers_in};
 ghost use Rattle.repair_clauses.specs.Encodings.{AddsWitnesses, AreTold};
 
-use crate::halve::number;
+use crate::numbering::number;
 use crate::span::Span;
 use cnf_form::{Clause, Lit};
 use cqa_model::RowId;
@@ -55,7 +56,7 @@ fn block_clause(alloc: Global, span: &Span) -> Result<Clause, NoMemory>
 /// `NoMemory` where memory is refused.
 pub fn fill_witness(spans: &[Span], names: &[RowId], lits: &mut Vec<Lit>) -> Result<(), NoMemory>
     requires none { lits.old.items ≡ [] }
-    requires few { length names.now ≤ 12 }
+    requires few { length names.now ≤ MOST_ATOMS }
     requires apart { AreApart spans.now }
     requires based { AreBased 0 spans.now }
     requires covered { AreCovered spans.now names.now }
@@ -72,7 +73,7 @@ pub fn fill_witness(spans: &[Span], names: &[RowId], lits: &mut Vec<Lit>) -> Res
 
 /// The clause of a witness.
 fn witness_clause(alloc: Global, spans: &[Span], names: &[RowId]) -> Result<Clause, NoMemory>
-    requires few { length names.now ≤ 12 }
+    requires few { length names.now ≤ MOST_ATOMS }
     requires apart { AreApart spans.now }
     requires based { AreBased 0 spans.now }
     requires covered { AreCovered spans.now names.now }

@@ -2,20 +2,18 @@
 //! The relevant blocks are found as runs of places, and a row's number from its place, so that no table is walked.
 #![tactic(auto)]
 
-mod blocks;
+pub mod blocks;
 mod clauses;
 pub mod column;
 mod decision;
 mod formula;
-mod halve;
 pub mod laws;
+pub mod numbering;
 mod relevant;
 mod run;
 pub mod span;
 
-pub use blocks::goes_on;
 pub use clauses::{fill_block, fill_witness};
 pub use decision::{Decided, decide, solved};
 pub use formula::{Encoded, encode, formula_over};
-pub use halve::number;
 pub use relevant::{atom_of, relevant_blocks};

@@ -4,6 +4,7 @@
 ghost use Rattle.std.specs.Prelude.{◌≡◌, ◌+◌, ◌*◌, ◌++◌, ◌<◌, ◌≤◌, List, [], IfOk, length};
 ghost use Rattle.cqa_value.specs.declared.value.Value.{Value};
 ghost use Rattle.cqa_model.specs.Query.{atom_at, FitsDatabase};
+ghost use Rattle.cqa_model.specs.declared.limits.TheConstants.{MOST_ATOMS, MOST_ROWS};
 ghost use Rattle.join_witness.specs.Listing.{AreAllNames, names_of};
 ghost use Rattle.repair_clauses.specs.declared.span.Span.{Span as Run};
 ghost use Rattle.repair_clauses.specs.Spans.{AreSpansTo};
@@ -37,10 +38,10 @@ fn runs_of(
     requires fits { FitsDatabase query.now db.now }
     requires all { (row : List Value) × AreAllNames query.now db.now row (names_of witnesses.now) }
     requires there { at < length query.now.atoms }
-    requires small { base ≤ 1_000_000 * at }
+    requires small { base ≤ MOST_ROWS * at }
     ensures more { IfOk result (λ more. (row : List Value) (spans : List Run) → AreAllNames query.now db.now row (names_of witnesses.now) → AreSpansTo query.now db.now row at base spans →
         AreSpansTo query.now db.now row (at + 1) more.vars (spans ++ more.list)) }
-    ensures small { IfOk result (λ more. more.vars ≤ 1_000_000 * (at + 1)) }
+    ensures small { IfOk result (λ more. more.vars ≤ MOST_ROWS * (at + 1)) }
 {
     let atom = atom_of(query, at);
     let places = column(alloc, witnesses, at)?;
@@ -74,7 +75,7 @@ pub fn relevant_blocks(
     requires all { (row : List Value) × AreAllNames query.now db.now row (names_of witnesses.now) }
     requires none { spans.old.items ≡ [] }
     ensures blocks { IfOk result (λ vars. (row : List Value) → AreAllNames query.now db.now row (names_of witnesses.now) → AreSpansTo query.now db.now row (length query.now.atoms) vars spans.new.items) }
-    ensures small { IfOk result (λ vars. vars ≤ 12_000_000) }
+    ensures small { IfOk result (λ vars. vars ≤ MOST_ATOMS * MOST_ROWS) }
 {
     let mut vars = 0;
     for at in 0..query.atoms.len() {

@@ -1,5 +1,6 @@
 -- Classes of rows that are alike, as code numbers them: a class is the number of one of its variables.
-use Rattle.std.specs.Prelude.{◌≡◌, ℕ, ◌<◌, ◌≤◌, ◌++◌, ◌↔◌, ◌⊎◌, Bool, List, [], Option, Some, None, length, map, Contains, slice_get, slice_index_or}
+use Rattle.cqa_model.specs.declared.limits.TheConstants.{MOST_ATOMS, MOST_ROWS}
+use Rattle.std.specs.Prelude.{◌*◌, ◌≡◌, ℕ, ◌<◌, ◌≤◌, ◌++◌, ◌↔◌, ◌⊎◌, Bool, List, [], Option, Some, None, length, map, Contains, slice_get, slice_index_or}
 use Rattle.std.specs.Ordering.{nat_cmp}
 use Rattle.std.specs.List.Sorted.{IsStrictlySortedBy}
 use Rattle.cqa_value.specs.declared.value.Value.{Value}
@@ -54,7 +55,7 @@ pub record Marks (variables : List Variable) (columns : List ℕ) (rows : List (
 
 -- these are the witnesses of some row, and its relevant blocks
 abbrev pub AreWitnessed : Query → List Table → List Witness → List Span → Type 0
-AreWitnessed q db witnesses spans = (row : List Value) × (m : ℕ) × (m ≤ 12_000_000) × AreAllNames q db row (names_of witnesses) × AreSpansTo q db row (length q.atoms) m spans
+AreWitnessed q db witnesses spans = (row : List Value) × (m : ℕ) × (m ≤ MOST_ATOMS * MOST_ROWS) × AreAllNames q db row (names_of witnesses) × AreSpansTo q db row (length q.atoms) m spans
 
 -- the rows of the atoms before n that are in witnesses have classes
 abbrev pub AreClassedTo : Query → List Table → List Variable → List (List RowId) → ℕ → List (Option ℕ) → Type 0

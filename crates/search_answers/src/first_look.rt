@@ -1,8 +1,9 @@
 //! A row's formula in one pool of literals, and what is found out of it without the solver.
 //! It is made anew for each row in the same room, so that a small formula takes no memory of its own.
 
-ghost use Rattle.std.specs.Prelude.{◌≡◌, ◌+◌, ◌<◌, ◌≤◌, ◌^◌, [], IfOk, Contains, length, map};
+ghost use Rattle.std.specs.Prelude.{◌*◌, ◌≡◌, ◌+◌, ◌<◌, ◌≤◌, ◌^◌, [], IfOk, Contains, length, map};
 ghost use Rattle.join_witness.specs.Listing.{names_of, places_of};
+ghost use Rattle.cqa_model.specs.declared.limits.TheConstants.{MOST_ATOMS, MOST_ROWS};
 ghost use Rattle.repair_clauses.specs.declared.span.Span.{Span as Run};
 ghost use Rattle.repair_clauses.specs.Clauses.{positive};
 ghost use Rattle.repair_clauses.specs.Spans.{AreApart, AreBased, AreBasedTo, numbers_in};
@@ -104,7 +105,7 @@ pub fn first_look(
     budget: u32,
     room: &mut Room,
 ) -> Result<Found, NoMemory>
-    requires small { vars ≤ 12_000_000 }
+    requires small { vars ≤ MOST_ATOMS * MOST_ROWS }
     requires apart { AreApart spans.now }
     requires based { AreBasedTo 0 spans.now vars }
     requires told { AreTold spans.now witnesses.now }

@@ -1,10 +1,10 @@
 //! What is found out of one possible row: whether it is certain, and if that takes too long, why.
 //! Most small formulas are decided by a first look, and the solver gets what is left.
 
-ghost use Rattle.std.specs.Prelude.{◌≡◌, ◌≤◌, IfOk, List, length};
+ghost use Rattle.std.specs.Prelude.{◌*◌, ◌≡◌, ◌≤◌, IfOk, List, length};
 ghost use Rattle.cqa_value.specs.declared.value.Value.{Value};
-ghost use Rattle.cqa_model.specs.Database.{Table};
 ghost use Rattle.cqa_model.specs.Query.{FitsDatabase};
+ghost use Rattle.cqa_model.specs.declared.limits.TheConstants.{MOST_ATOMS, MOST_ROWS};
 ghost use Rattle.join_witness.specs.Listing.{AreAllNames, HasTooMany, names_of};
 ghost use Rattle.search_answers.specs.Lookups.{IsLookup};
 ghost use Rattle.repair_clauses.specs.Spans.{AreSpansTo};
@@ -67,7 +67,7 @@ fn judge_blocks(
     budget: u32,
 ) -> Result<Verdict, NoMemory>
     requires fits { FitsDatabase query.now db.now }
-    requires small { vars ≤ 12_000_000 }
+    requires small { vars ≤ MOST_ATOMS * MOST_ROWS }
     requires blocks { (row : List Value) × AreAllNames query.now db.now row (names_of witnesses.now) × AreSpansTo query.now db.now row (length query.now.atoms) vars spans.now }
     ensures { IfOk result (λ verdict. (row : List Value) → AreAllNames query.now db.now row (names_of witnesses.now) → AreSpansTo query.now db.now row (length query.now.atoms) vars spans.now →
         (HasTooMany query.now db.now row → ⊥) → IsVerdict query.now db.now row budget verdict) }
@@ -90,7 +90,7 @@ fn judge_classes(
     budget: u32,
 ) -> Result<Verdict, NoMemory>
     requires fits { FitsDatabase query.now db.now }
-    requires small { vars ≤ 12_000_000 }
+    requires small { vars ≤ MOST_ATOMS * MOST_ROWS }
     requires blocks { (row : List Value) × AreAllNames query.now db.now row (names_of witnesses.now) × AreSpansTo query.now db.now row (length query.now.atoms) vars spans.now }
     ensures { IfOk result (λ verdict. (row : List Value) → AreAllNames query.now db.now row (names_of witnesses.now) → AreSpansTo query.now db.now row (length query.now.atoms) vars spans.now →
         (HasTooMany query.now db.now row → ⊥) → IsVerdict query.now db.now row budget verdict) }

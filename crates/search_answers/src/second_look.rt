@@ -1,11 +1,12 @@
 //! A second look at a row's formula: rows that are alike are one variable, which makes most formulas smaller.
 
-ghost use Rattle.std.specs.Prelude.{◌≡◌, ◌≤◌, List, IfOk, length};
+ghost use Rattle.std.specs.Prelude.{◌*◌, ◌≡◌, ◌≤◌, List, IfOk, length};
 ghost use Rattle.cqa_value.specs.declared.value.Value.{Value};
 ghost use Rattle.cqa_model.specs.Query.{FitsDatabase};
 ghost use Rattle.cnf_form.specs.Literals.{IsInRange, literals};
 ghost use Rattle.cdcl.specs.Outcomes.{IsOnce};
 ghost use Rattle.flat_formula.specs.Findings.{FoundIs};
+ghost use Rattle.cqa_model.specs.declared.limits.TheConstants.{MOST_ATOMS, MOST_ROWS};
 ghost use Rattle.join_witness.specs.Listing.{AreAllNames, names_of};
 ghost use Rattle.repair_clauses.specs.Spans.{AreSpansTo};
 ghost use Rattle.search_answers.specs.Classing.{AreQuotient, FoundOf, FoundSays};
@@ -64,7 +65,7 @@ fn formula_of_classes(
     witnesses: &[Witness],
 ) -> Result<Cnf, NoMemory>
     requires fits { FitsDatabase query.now db.now }
-    requires small { vars ≤ 12_000_000 }
+    requires small { vars ≤ MOST_ATOMS * MOST_ROWS }
     requires blocks { (row : List Value) × AreAllNames query.now db.now row (names_of witnesses.now) × AreSpansTo query.now db.now row (length query.now.atoms) vars spans.now }
     ensures vars { IfOk result (λ cnf. cnf.vars ≡ vars) }
     ensures classes { IfOk result (λ cnf. AreQuotient query.now db.now spans.now (names_of witnesses.now) (literals cnf.clauses)) }
@@ -92,7 +93,7 @@ pub fn second_look(
     budget: u32,
 ) -> Result<Found, NoMemory>
     requires fits { FitsDatabase query.now db.now }
-    requires small { vars ≤ 12_000_000 }
+    requires small { vars ≤ MOST_ATOMS * MOST_ROWS }
     requires blocks { (row : List Value) × AreAllNames query.now db.now row (names_of witnesses.now) × AreSpansTo query.now db.now row (length query.now.atoms) vars spans.now }
     ensures { IfOk result (λ found. (row : List Value) → AreAllNames query.now db.now row (names_of witnesses.now) → AreSpansTo query.now db.now row (length query.now.atoms) vars spans.now →
         FoundSays query.now db.now row found) }
