@@ -1,6 +1,5 @@
 -- The query of a plan means exactly the rows for which the plan holds.
 use Rattle.std.proofs.Common.{◌≡◌, ℕ, zero, suc, ◌<◌, ◌≤◌, ◌-◌, ◌+◌, inl, inr, Bool, true, false, List, [], ◌∷◌, length, map, get_or, refl, ap, sym, ◌∙◌, subst, arith, cond, Contains, Some, None}
-use native.Mathlib.Decide.{ℕ_discrete}
 use Rattle.std.specs.List.{slice_index, filter, range_with_len}
 use Rattle.std.specs.Option.{unwrap_or}
 use Rattle.std.proofs.lemmas.List.{get_or-map, length-map, ext_get_or, get_or_default}
@@ -11,8 +10,8 @@ use Rattle.cqa_model.specs.declared.query.Query.{Query}
 use Rattle.cqa_model.specs.Database.{nothing, stored, keys_of}
 use Rattle.cqa_model.specs.Shape.{IsInRange}
 use Rattle.cqa_model.specs.Query.{rows_of}
-use Rattle.cqa_model.specs.Variables.{View, whole, after}
-use Rattle.cqa_model.specs.Plan.{answer_at, PlanHolds, IsPlan, IsPlanOf}
+use Rattle.cqa_model.specs.Variables.{whole}
+use Rattle.cqa_model.specs.Plan.{answer_at, PlanHolds, IsPlanOf}
 use Rattle.cqa_model.proofs.Classic.{mem-head, mem-tail, mem-nil, mem-cases}
 use Rattle.cqa_model.proofs.Databases.{rewriting_is_exact}
 use Rattle.cqa_model.proofs.Elimination.{plan-eliminates}

@@ -1,6 +1,5 @@
 -- Steps of the code.
-use Rattle.std.proofs.Common.{◌≡◌, ℕ, suc, ◌<◌, ◌+◌, ◌-◌, Bool, true, false, cond, eqb, List, [], ◌∷◌, ◌++◌, length, refl, ap, sym, ◌∙◌, subst, map, get_or, arith, Contains, Option, Some, None}
-use Rattle.std.specs.Option.{is_some}
+use Rattle.std.proofs.Common.{◌≡◌, ℕ, suc, ◌<◌, ◌+◌, Bool, false, cond, List, [], ◌∷◌, ◌++◌, length, refl, ap, sym, ◌∙◌, subst, map, get_or, arith, Contains}
 use Rattle.std.specs.List.{All, range_with_len}
 use Rattle.std.proofs.lemmas.List.{map-id, get_or_default}
 use Rattle.std.proofs.lemmas.List.Elements.{Contains-get_or}
@@ -12,22 +11,16 @@ use Rattle.cqa_model.specs.declared.variable_class.Variables.{Variables}
 use Rattle.cqa_model.specs.Shape.{IsInRange}
 use Rattle.cqa_model.specs.Naming.{AreVariables, class_at}
 use Rattle.cqa_model.proofs.Columns.{class-label}
-use Rattle.std.proofs.lemmas.Bool.{false≢true}
-use Rattle.std.proofs.lemmas.Bool.Decides.{nat_tests}
 use Rattle.cqa_model.specs.Query.{atom_at, atom_key}
 use Rattle.cqa_model.specs.Labels.{label}
 use Rattle.cqa_model.specs.Variables.{whole}
 use Rattle.cqa_model.specs.Plan.{IsPlanOf}
 use Rattle.cqa_model.proofs.Elimination.{plan-eliminates}
 use Rattle.fo_rewrite.proofs.Distinct.{plan-atoms}
-use Rattle.sql_text.specs.declared.syntax.Body.TheVariants.{Distinct}
-use Rattle.sql_text.specs.declared.syntax.StepKind.TheVariants.{Rows}
-use Rattle.sql_text.specs.declared.syntax.Step.{Step}
-use Rattle.plan_sql.specs.declared.level.Level.{Level}
 use Rattle.plan_sql.specs.Shapes.{AreAtoms}
-use Rattle.plan_sql.specs.Variables.{all_below, variables_of, without}
+use Rattle.plan_sql.specs.Variables.{all_below, variables_of}
 use Rattle.plan_sql.specs.Runs.{add_all, run_of}
-use Rattle.plan_sql.specs.Statement.{columns_of, others_of, level_of, down, holds_step, next_context, rows_select, step, steps_of, up}
+use Rattle.plan_sql.specs.Statement.{columns_of, others_of}
 use Rattle.plan_sql.proofs.Membership.{columns-from, without-from}
 use Rattle.plan_sql.proofs.Running.{run-within}
 
@@ -95,71 +88,5 @@ variables-more q v hv F col x list new lF lc el en ex =
     en ∙ ap (λ z. list ++ z ∷ []) (ex ∙ class-label q v hv (record { atom = F; col = col }) (lF, lc)) ∙ ap (λ z. z ++ label q.conds (record { atom = F; col = col }) ∷ []) el
     ∙ sym (map-range_with_len_more (λ i. label q.conds (record { atom = F; col = i })) 0 col col (omega arith))
 
-pub empty-is : (xs : List ℕ) → eqb (length xs) 0 ≡ true → xs ≡ []
-empty-is [] e = refl
-empty-is (x ∷ xs) e = let h : suc (length xs) ≡ 0 = grind (arith, nat_tests) in absurd (omega arith)
-
 pub same2 : {A B C : Type 0} (f : A → B → C) (a a' : A) (b b' : B) → a ≡ a' → b ≡ b' → f a b ≡ f a' b'
 same2 f a a' b b' p q = ap (λ z. f z b) p ∙ ap (λ z. f a' z) q
-
--- the steps of a last atom
-pub steps-one : (q : Query) (number : ℕ) (rows : Option ℕ) (given context : List ℕ) (before : List Step) (plan : List ℕ) (F : ℕ) (later : List ℕ) (level : Level) (run : List ℕ) (below done : List Step) (blocks : ℕ) →
-    plan ≡ F ∷ later → later ≡ [] → level ≡ level_of q number rows given context F → run ≡ run_of q (is_some rows) context plan → below ≡ down q level run before →
-    blocks ≡ length below - 1 → done ≡ below ++ holds_step level blocks ∷ [] → done ≡ steps_of q number rows given context before plan
-steps-one q number rows given context before plan F later level run below done blocks ep el ev er eb ek ed =
-    let one : plan ≡ F ∷ [] = ep ∙ ap (λ z. F ∷ z) el in
-    let lv : Level = level_of q number rows given context F in
-    let under : below ≡ down q lv (run_of q (is_some rows) context (F ∷ [])) before =
-    eb ∙ same2 (λ v z. down q v z before) level lv run (run_of q (is_some rows) context (F ∷ [])) ev (er ∙ ap (run_of q (is_some rows) context) one) in
-    ed ∙ ap (λ z. below ++ holds_step level z ∷ []) ek
-    ∙ same2 (λ z v. z ++ holds_step v (length z - 1) ∷ []) below (down q lv (run_of q (is_some rows) context (F ∷ [])) before) level lv under ev
-    ∙ sym (ap (steps_of q number rows given context before) one)
-
--- the steps of an atom before others, by their definition
-abbrev pub steps_before : Query → ℕ → Option ℕ → List ℕ → List ℕ → List Step → ℕ → List ℕ → List Step
-steps_before q number rows given context before F later =
-    let level = level_of q number rows given context F in
-    let next = next_context q context F later in
-    let columns = level.block ++ without next level.block in
-    let below = down q level (run_of q (is_some rows) context (F ∷ later)) before in
-    let taken = below ++ step Rows number columns (Distinct (rows_select q level (length below - 1) columns)) ∷ [] in
-    up level (length below - 1) (length below) columns next (steps_of q (suc number) (cond (eqb (length next) 0) None (Some (length below))) columns next taken later)
-
-some-later : (q : Query) (number : ℕ) (rows : Option ℕ) (given context : List ℕ) (before : List Step) (F : ℕ) (later : List ℕ) → eqb (length later) 0 ≡ false →
-    steps_of q number rows given context before (F ∷ later) ≡ steps_before q number rows given context before F later
-some-later q number rows given context before F [] e = let h : true ≡ false = e in absurd (false≢true (sym h))
-some-later q number rows given context before F (G ∷ plan) e = refl
-
-abbrev steps_at : Query → ℕ → List ℕ → Level → List Step → ℕ → ℕ → List Step
-steps_at q number later v z b p =
-    up v b p (v.block ++ without (next_context q v.context v.atom later) v.block) (next_context q v.context v.atom later)
-    (steps_of q (suc number) (cond (eqb (length (next_context q v.context v.atom later)) 0) None (Some p)) (v.block ++ without (next_context q v.context v.atom later) v.block) (next_context q v.context v.atom later)
-    (z ++ step Rows v.number (v.block ++ without (next_context q v.context v.atom later) v.block) (Distinct (rows_select q v b (v.block ++ without (next_context q v.context v.atom later) v.block))) ∷ []) later)
-
--- the steps of an atom before others
-pub steps-more : (q : Query) (number : ℕ) (rows : Option ℕ) (given context : List ℕ) (before : List Step) (plan : List ℕ) (F : ℕ) (later : List ℕ) (level : Level) (run : List ℕ) (below taken inner done : List Step)
-    (blocks place : ℕ) (next columns : List ℕ) (asked_in : Option ℕ) →
-    plan ≡ F ∷ later → eqb (length later) 0 ≡ false → level ≡ level_of q number rows given context F → run ≡ run_of q (is_some rows) context plan → below ≡ down q level run before →
-    blocks ≡ length below - 1 → place ≡ length below → next ≡ next_context q level.context level.atom later → columns ≡ level.block ++ without next level.block →
-    taken ≡ below ++ step Rows level.number columns (Distinct (rows_select q level blocks columns)) ∷ [] → asked_in ≡ cond (eqb (length next) 0) None (Some place) →
-    inner ≡ steps_of q (number + 1) asked_in columns next taken later → done ≡ up level blocks place columns next inner → done ≡ steps_of q number rows given context before plan
-steps-more q number rows given context before plan F later level run below taken inner done blocks place next columns asked_in ep el ev er eb ek eq' en ec et ea ei ed =
-    ed ∙ from_level level run below blocks place next columns taken asked_in inner ev (er ∙ ap (run_of q (is_some rows) context) ep) eb ek eq' en ec et ea ei
-    ∙ sym (some-later q number rows given context before F later el) ∙ sym (ap (steps_of q number rows given context before) ep)
-  where
-    from_level : (level : Level) (run : List ℕ) (below : List Step) (blocks place : ℕ) (next columns : List ℕ) (taken : List Step) (asked_in : Option ℕ) (inner : List Step) →
-        level ≡ level_of q number rows given context F → run ≡ run_of q (is_some rows) context (F ∷ later) → below ≡ down q level run before → blocks ≡ length below - 1 → place ≡ length below →
-        next ≡ next_context q level.context level.atom later → columns ≡ level.block ++ without next level.block → taken ≡ below ++ step Rows level.number columns (Distinct (rows_select q level blocks columns)) ∷ [] →
-        asked_in ≡ cond (eqb (length next) 0) None (Some place) → inner ≡ steps_of q (number + 1) asked_in columns next taken later →
-        up level blocks place columns next inner ≡ steps_before q number rows given context before F later
-    from_level level run below blocks place next columns taken asked_in inner ev er eb ek ep en ec et ea ei =
-        subst (λ z. up level blocks place columns next z ≡ steps_before q number rows given context before F later) (sym (ei ∙ ap (λ n. steps_of q n asked_in columns next taken later) (omega arith)))
-        (subst (λ z. up level blocks place columns next (steps_of q (suc number) z columns next taken later) ≡ steps_before q number rows given context before F later) (sym ea)
-        (subst (λ z. up level blocks place columns next (steps_of q (suc number) (cond (eqb (length next) 0) None (Some place)) columns next z later) ≡ steps_before q number rows given context before F later) (sym et)
-        (subst (λ z. up level blocks place z next (steps_of q (suc number) (cond (eqb (length next) 0) None (Some place)) z next (below ++ step Rows level.number z (Distinct (rows_select q level blocks z)) ∷ []) later) ≡ steps_before q number rows given context before F later) (sym ec)
-        (subst (λ z. up level blocks place (level.block ++ without z level.block) z (steps_of q (suc number) (cond (eqb (length z) 0) None (Some place)) (level.block ++ without z level.block) z (below ++ step Rows level.number (level.block ++ without z level.block) (Distinct (rows_select q level blocks (level.block ++ without z level.block))) ∷ []) later) ≡ steps_before q number rows given context before F later) (sym en)
-        (subst (λ z. steps_at q number later level below blocks z ≡ steps_before q number rows given context before F later) (sym ep)
-        (subst (λ z. steps_at q number later level below z (length below) ≡ steps_before q number rows given context before F later) (sym ek)
-        (subst (λ z. steps_at q number later level z (length z - 1) (length z) ≡ steps_before q number rows given context before F later) (sym eb)
-        (subst (λ z. steps_at q number later level (down q level z before) (length (down q level z before) - 1) (length (down q level z before)) ≡ steps_before q number rows given context before F later) (sym er)
-        (subst (λ v. steps_at q number later v (down q v (run_of q (is_some rows) context (F ∷ later)) before) (length (down q v (run_of q (is_some rows) context (F ∷ later)) before) - 1) (length (down q v (run_of q (is_some rows) context (F ∷ later)) before)) ≡ steps_before q number rows given context before F later) (sym ev) refl)))))))))

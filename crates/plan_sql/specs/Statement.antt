@@ -1,7 +1,7 @@
 -- The SQL query of a plan. Each atom has steps downwards, from the blocks that may hold to the rows after which the later
 -- atoms have to hold, and upwards, from the rows that fail to the contexts that hold. The context of an atom is the list of
 -- the variables that are known before it and occur in it or in a later one.
-use Rattle.std.specs.Prelude.{ℕ, suc, ◌-◌, ◌==◌, ◌&&◌, if◌then◌else◌, List, [], ◌∷◌, ◌++◌, length, map, slice_index, Option, Some, None, is_some, flat_map}
+use Rattle.std.specs.Prelude.{◌≡◌, ℕ, suc, ◌-◌, ◌==◌, ◌&&◌, if◌then◌else◌, List, [], ◌∷◌, ◌++◌, length, map, slice_index, Option, Some, None, is_some, flat_map}
 use Rattle.std.specs.List.{range_with_len}
 use Rattle.std.specs.Option.{unwrap_or}
 use Rattle.cqa_model.specs.declared.query.Cond.{Cond}
@@ -116,6 +116,10 @@ abbrev pub level_of : Query → ℕ → Option ℕ → List ℕ → List ℕ →
 level_of q number rows given context F =
     record { number = number; atom = F; rows = rows; given = given; context = context; block = context ++ without (ascending (key_variables q F)) context }
 
+-- a level is that of its atom
+abbrev pub IsLevel : Query → Level → Type 0
+IsLevel q level = level ≡ level_of q level.number level.rows level.given level.context level.atom
+
 -- `blocks`: for each context that is asked for, the blocks with a row that fits
 abbrev pub blocks_select : Query → Level → List ℕ → Select
 blocks_select q level run =
@@ -220,6 +224,13 @@ steps_of q number rows given context before (F ∷ G ∷ plan) =
     let taken = below ++ step Rows number columns (Distinct (rows_select q level (length below - 1) columns)) ∷ [] in
     let asked_in = if length next == 0 then None else Some (length below) in
     up level (length below - 1) (length below) columns next (steps_of q (suc number) asked_in columns next taken (G ∷ plan))
+
+-- the steps of an atom before others, behind its steps downwards: its rows, the steps of the others, and its steps upwards
+abbrev pub with_later : Query → Level → ℕ → List ℕ → List ℕ → List ℕ → List Step → List Step
+with_later q level blocks columns next later below =
+    let taken = below ++ step Rows level.number columns (Distinct (rows_select q level blocks columns)) ∷ [] in
+    let asked_in = if length next == 0 then None else Some (length below) in
+    up level blocks (length below) columns next (steps_of q (suc level.number) asked_in columns next taken later)
 
 -- the contexts of the first atom that hold give the answer columns
 abbrev pub last_select : List ℕ → List ℕ → ℕ → Select

@@ -1,12 +1,12 @@
 //! An atom at hand, within a plan.
 
-ghost use Rattle.std.specs.Prelude.{◌≡◌, ◌++◌, ◌<◌, [], IfOk, flat_map, length};
-ghost use Rattle.plan_sql.specs.Statement.{fitting_of, keyed, level_of, next_context, held};
+ghost use Rattle.std.specs.Prelude.{◌≡◌, ◌++◌, ◌<◌, [], IfOk, OnOk, flat_map, length};
+ghost use Rattle.plan_sql.specs.Statement.{fit_on, fitting_of, keyed, level_of, next_context, held, others_of};
 ghost use Rattle.plan_sql.specs.Shapes.{AreAtoms};
-ghost use Rattle.plan_sql.specs.Variables.{variables_of, without};
+ghost use Rattle.plan_sql.specs.Variables.{ascending, key_variables, variables_of, without};
 
 use crate::fitting::{Fitting, held};
-use crate::lists::{ascending, joined, within, without};
+use crate::lists::{ascending, extended, joined, within};
 use crate::shape::Shape;
 use cqa_value::{Items, NoMemory};
 use sql_text::Cmp;
@@ -37,10 +37,7 @@ pub(crate) fn level_of(
     requires { atom < length shape.now.query.now.atoms }
     ensures { IfOk result (λ level. level ≡ level_of shape.now.query.now number rows given.now context.now atom) }
 {
-    let keys = shape.key_variables(alloc, atom)?;
-    let keys = ascending(alloc, keys.as_slice())?;
-    let keys = without(alloc, keys.as_slice(), context)?;
-    let block = joined(alloc, context, keys.as_slice())?;
+    let block = block_of(alloc, shape, context, atom)?;
     let context = Items::from_slice(alloc, context)?;
     let given = Items::from_slice(alloc, given)?;
     Ok(Level {
@@ -51,6 +48,21 @@ pub(crate) fn level_of(
         context,
         block,
     })
+}
+
+/// The variables of a block of a context.
+fn block_of(
+    alloc: Global,
+    shape: &Shape<'_>,
+    context: &[u32],
+    atom: u32,
+) -> Result<Items<u32>, NoMemory>
+    requires { atom < length shape.now.query.now.atoms }
+    ensures { IfOk result (λ list. list ≡ context.now ++ without (ascending (key_variables shape.now.query.now atom)) context.now) }
+{
+    let keys = shape.key_variables(alloc, atom)?;
+    let keys = ascending(alloc, keys.as_slice())?;
+    extended(alloc, context, keys.as_slice())
 }
 
 /// What is known of a row of a block, before its columns are looked at.
@@ -64,14 +76,14 @@ pub(crate) fn of_block(alloc: Global, level: &Level) -> Result<Fitting, NoMemory
     })
 }
 
-/// What is known of a row of a block by the block's key.
-pub(crate) fn keyed(alloc: Global, shape: &Shape<'_>, level: &Level) -> Result<Fitting, NoMemory>
+/// The comparisons by which a row is in a block: those with the block's key.
+pub(crate) fn keyed(alloc: Global, shape: &Shape<'_>, level: &Level) -> Result<Items<Cmp>, NoMemory>
     requires { level.now.atom < length shape.now.query.now.atoms }
-    ensures { IfOk result (λ fitting. fitting ≡ keyed shape.now.query.now level.now) }
+    ensures { IfOk result (λ all. all ≡ (keyed shape.now.query.now level.now).all) }
 {
     let mut fitting = of_block(alloc, level)?;
     fitting.see_all(shape.of(level.atom), 1, shape.key(level.atom))?;
-    Ok(fitting)
+    Ok(fitting.all)
 }
 
 /// What a row of a block has to meet besides.
@@ -84,9 +96,22 @@ pub(crate) fn fitting_of(
     ensures { IfOk result (λ all. all ≡ fitting_of shape.now.query.now level.now) }
 {
     let mut fitting = of_block(alloc, level)?;
-    let others = shape.others(alloc, level.atom)?;
-    fitting.fit_on(alloc, shape, level.atom, 1, others.as_slice())?;
+    fit_others(alloc, shape, level.atom, &mut fitting)?;
     Ok(fitting.all)
+}
+
+/// A row of an atom fits what is known, on the columns outside its key.
+fn fit_others(
+    alloc: Global,
+    shape: &Shape<'_>,
+    atom: u32,
+    fitting: &mut Fitting,
+) -> Result<(), NoMemory>
+    requires { atom < length shape.now.query.now.atoms }
+    ensures { OnOk result (fitting.new ≡ fit_on shape.now.query.now atom 1 (others_of shape.now.query.now atom) fitting.old) }
+{
+    let others = shape.others(alloc, atom)?;
+    fitting.fit_on(alloc, shape, atom, 1, others.as_slice())
 }
 
 /// The variables of these atoms' columns, one atom after the other.
@@ -112,10 +137,18 @@ pub(crate) fn next_context(
     requires plan { AreAtoms shape.now.query.now plan.now }
     ensures { IfOk result (λ list. list ≡ next_context shape.now.query.now level.now.context level.now.atom plan.now) }
 {
-    let known = joined(alloc, level.context.as_slice(), shape.of(level.atom))?;
-    let known = ascending(alloc, known.as_slice())?;
+    let known = known_after(alloc, shape, level)?;
     let later = all_variables(alloc, shape, plan)?;
     within(alloc, known.as_slice(), later.as_slice())
+}
+
+/// The variables that are known after the atom at hand.
+fn known_after(alloc: Global, shape: &Shape<'_>, level: &Level) -> Result<Items<u32>, NoMemory>
+    requires { level.now.atom < length shape.now.query.now.atoms }
+    ensures { IfOk result (λ list. list ≡ ascending (level.now.context ++ variables_of shape.now.query.now level.now.atom)) }
+{
+    let known = joined(alloc, level.context.as_slice(), shape.of(level.atom))?;
+    ascending(alloc, known.as_slice())
 }
 
 impl Level {
@@ -123,7 +156,6 @@ impl Level {
     pub(crate) fn columns(&self, alloc: Global, next: &[u32]) -> Result<Items<u32>, NoMemory>
         ensures { IfOk result (λ list. list ≡ self.now.block ++ without next.now self.now.block) }
     {
-        let more = without(alloc, next, self.block.as_slice())?;
-        joined(alloc, self.block.as_slice(), more.as_slice())
+        extended(alloc, self.block.as_slice(), next)
     }
 }

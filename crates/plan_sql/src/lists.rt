@@ -76,6 +76,19 @@ pub(crate) fn numbers(alloc: Global, end: u32) -> Result<Items<u32>, NoMemory>
     Ok(list)
 }
 
+/// A list, and then those of another that aren't in it.
+pub(crate) fn extended(alloc: Global, us: &[u32], vs: &[u32]) -> Result<Items<u32>, NoMemory>
+    ensures { IfOk result (λ list. list ≡ us.now ++ without vs.now us.now) }
+{
+    let mut list = Items::from_slice(alloc, us)?;
+    for v in vs {
+        if !has(us, *v) {
+            list.push(*v)?;
+        }
+    }
+    Ok(list)
+}
+
 /// A list, and then another.
 pub(crate) fn joined(alloc: Global, us: &[u32], vs: &[u32]) -> Result<Items<u32>, NoMemory>
     ensures { IfOk result (λ list. list ≡ us.now ++ vs.now) }

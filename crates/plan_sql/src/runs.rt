@@ -146,6 +146,40 @@ fn append_run(
     Ok(())
 }
 
+/// What all atoms of a plan link, with a context that is given.
+fn linked(
+    alloc: Global,
+    shape: &Shape<'_>,
+    given: bool,
+    context: &[u32],
+    plan: &[u32],
+) -> Result<Items<Items<u32>>, NoMemory>
+    requires { AreAtoms shape.now.query.now plan.now }
+    ensures { IfOk result (λ groups. groups ≡ add_all (if given then context.now ∷ [] else []) (map (variables_of shape.now.query.now) plan.now)) }
+{
+    let mut groups = start(alloc, given, context)?;
+    add_atoms(alloc, shape, &mut groups, plan)?;
+    Ok(groups)
+}
+
+/// The first atoms of a plan that are enough, where it links these lists.
+fn run_within(
+    alloc: Global,
+    shape: &Shape<'_>,
+    given: bool,
+    context: &[u32],
+    all: &[Items<u32>],
+    plan: &[u32],
+) -> Result<Items<u32>, NoMemory>
+    requires { AreAtoms shape.now.query.now plan.now }
+    ensures { IfOk result (λ run. run ≡ run_from shape.now.query.now context.now all.now (if given then context.now ∷ [] else []) plan.now) }
+{
+    let mut groups = start(alloc, given, context)?;
+    let mut run = Items::new(alloc);
+    append_run(alloc, shape, context, all, &mut groups, plan, &mut run)?;
+    Ok(run)
+}
+
 /// The run of a plan's first atom.
 pub(crate) fn run_of(
     alloc: Global,
@@ -157,18 +191,6 @@ pub(crate) fn run_of(
     requires { AreAtoms shape.now.query.now plan.now }
     ensures { IfOk result (λ run. run ≡ run_of shape.now.query.now given context.now plan.now) }
 {
-    let mut all = start(alloc, given, context)?;
-    add_atoms(alloc, shape, &mut all, plan)?;
-    let mut groups = start(alloc, given, context)?;
-    let mut run = Items::new(alloc);
-    append_run(
-        alloc,
-        shape,
-        context,
-        all.as_slice(),
-        &mut groups,
-        plan,
-        &mut run,
-    )?;
-    Ok(run)
+    let all = linked(alloc, shape, given, context, plan)?;
+    run_within(alloc, shape, given, context, all.as_slice(), plan)
 }

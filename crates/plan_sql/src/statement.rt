@@ -1,11 +1,13 @@
 //! The steps of a plan, and its query.
 
-ghost use Rattle.std.specs.Prelude.{◌≡◌, ◌++◌, ◌+◌, ◌^◌, ◌∷◌, ◌<◌, ◌≤◌, ◌==◌, if◌then◌else◌, [], None, Some, IfOk, OnOk, length};
+ghost use Rattle.std.specs.Prelude.{◌≡◌, ◌++◌, ◌+◌, ◌^◌, ◌∷◌, ◌<◌, ◌≤◌, ◌-◌, ◌==◌, if◌then◌else◌, [], None, Some, is_some, IfOk, OnOk, length};
 ghost use Rattle.cqa_model.specs.Plan.{IsPlanOf};
 ghost use Rattle.sql_text.specs.declared.syntax.Body.TheVariants.{Distinct as DistinctBody};
 ghost use Rattle.sql_text.specs.declared.syntax.StepKind.TheVariants.{Rows as RowsKind};
 ghost use Rattle.plan_sql.specs.Shapes.{AreAtoms};
-ghost use Rattle.plan_sql.specs.Statement.{down, fitting_of, holds_step, last_select, rows_select, sql_of, step, steps_of, up, with_fit};
+ghost use Rattle.plan_sql.specs.Variables.{answer_variables};
+ghost use Rattle.plan_sql.specs.Runs.{run_of};
+ghost use Rattle.plan_sql.specs.Statement.{IsLevel, cells_of, down, fitting_of, held, holds_step, last_select, rows_select, sql_of, step, steps_of, up, with_fit, with_later};
 
 use crate::fitting::{cells_of, held};
 use crate::level::{Level, fitting_of, level_of, next_context};
@@ -15,7 +17,7 @@ use crate::selects::{blocks_select, fails_body, fit_body, good_body, plain, rows
 use crate::shape::{Shape, shape_of};
 use cqa_model::{Plan, Query};
 use cqa_value::{Items, NoMemory};
-use sql_text::{Alias, Body, Listed, Select, Source, Sql, Step, StepKind};
+use sql_text::{Alias, Body, Cell, Listed, Select, Source, Sql, Step, StepKind};
 use std::alloc::Global;
 
 /// The query of a plan: over each database that the query fits, it has exactly the certain rows.
@@ -29,25 +31,49 @@ pub fn sql_of(alloc: Global, query: &Query, plan: &Plan) -> Result<Sql, NoMemory
 {
     let shape = shape_of(alloc, query)?;
     let answer = shape.answer_variables(alloc)?;
-    let context = ascending(alloc, answer.as_slice())?;
+    sql_of_answer(alloc, &shape, answer.as_slice(), plan.order.as_slice())
+}
+
+/// The query of a plan whose answer has these variables.
+fn sql_of_answer(
+    alloc: Global,
+    shape: &Shape<'_>,
+    answer: &[u32],
+    plan: &[u32],
+) -> Result<Sql, NoMemory>
+    requires answer { answer.now ≡ answer_variables shape.now.query.now }
+    requires plan { AreAtoms shape.now.query.now plan.now }
+    requires number { 1 + length plan.now ≤ 2 ^ 63 }
+    ensures { IfOk result (λ sql. sql ≡ sql_of shape.now.query.now plan.now) }
+{
+    let context = ascending(alloc, answer)?;
     let mut steps = Items::new(alloc);
-    push_steps(
-        alloc,
-        &shape,
-        1,
-        None,
-        &[],
-        context.as_slice(),
-        plan.order.as_slice(),
-        &mut steps,
-    )?;
-    let last = last_select(
-        alloc,
-        context.as_slice(),
-        answer.as_slice(),
-        steps.len().saturating_sub(1),
-    )?;
-    Ok(Sql { steps, last })
+    let last = push_all(alloc, shape, context.as_slice(), answer, plan, &mut steps);
+    match last {
+        Ok(last) => Ok(Sql { steps, last }),
+        Err(refused) => {
+            drop(steps);
+            Err(refused)
+        }
+    }
+}
+
+/// Appends all steps of a plan, and has the select over them.
+fn push_all(
+    alloc: Global,
+    shape: &Shape<'_>,
+    context: &[u32],
+    answer: &[u32],
+    plan: &[u32],
+    steps: &mut Items<Step>,
+) -> Result<Select, NoMemory>
+    requires plan { AreAtoms shape.now.query.now plan.now }
+    requires number { 1 + length plan.now ≤ 2 ^ 63 }
+    ensures steps { OnOk result (steps.new ≡ steps_of shape.now.query.now 1 None [] context.now steps.old plan.now) }
+    ensures last { IfOk result (λ select. select ≡ last_select context.now answer.now (length steps.new - 1)) }
+{
+    push_steps(alloc, shape, 1, None, &[], context, plan, steps)?;
+    last_select(alloc, context, answer, steps.len().saturating_sub(1))
 }
 
 /// The answer columns of the contexts of the first atom that hold.
@@ -59,8 +85,7 @@ fn last_select(
 ) -> Result<Select, NoMemory>
     ensures { IfOk result (λ select. select ≡ last_select context.now answer.now place) }
 {
-    let known = held(alloc, context)?;
-    let cells = cells_of(alloc, known.as_slice(), answer)?;
+    let cells = answer_cells(alloc, context, answer)?;
     let source = Source::Step(place);
     let alias = Alias::Held;
     let sources = Items::from_slice(alloc, &[Listed { source, alias }])?;
@@ -72,7 +97,16 @@ fn last_select(
     })
 }
 
+/// The cells of the answer in a source that has the context's variables as its columns.
+fn answer_cells(alloc: Global, context: &[u32], answer: &[u32]) -> Result<Items<Cell>, NoMemory>
+    ensures { IfOk result (λ cells. cells ≡ cells_of (held 0 0 context.now) answer.now) }
+{
+    let known = held(alloc, context)?;
+    cells_of(alloc, known.as_slice(), answer)
+}
+
 /// Appends the steps of the atoms of a plan.
+#[cycle(steps)]
 fn push_steps(
     alloc: Global,
     shape: &Shape<'_>,
@@ -91,35 +125,85 @@ fn push_steps(
         return Ok(());
     };
     let level = level_of(alloc, shape, number, rows, given, context, *atom)?;
-    let run = run_of(alloc, shape, rows.is_some(), context, plan)?;
-    push_down(alloc, shape, &level, run.as_slice(), steps)?;
+    push_level(alloc, shape, &level, plan, later, steps)
+}
+
+/// Appends the steps of the atom at hand, the first one of a plan, and of those after it.
+#[cycle(steps)]
+fn push_level(
+    alloc: Global,
+    shape: &Shape<'_>,
+    level: &Level,
+    plan: &[u32],
+    later: &[u32],
+    steps: &mut Items<Step>,
+) -> Result<(), NoMemory>
+    requires level { IsLevel shape.now.query.now level.now }
+    requires plan { AreAtoms shape.now.query.now plan.now }
+    requires first { plan.now ≡ level.now.atom ∷ later.now }
+    requires number { level.now.number + length plan.now ≤ 2 ^ 63 }
+    ensures { OnOk result (steps.new ≡ steps_of shape.now.query.now level.now.number level.now.rows level.now.given level.now.context steps.old plan.now) }
+{
+    push_run(alloc, shape, level, plan, steps)?;
     let blocks = steps.len() - 1;
     if later.is_empty() {
-        return push_holds(alloc, &level, blocks, steps);
+        return push_holds(alloc, level, blocks, steps);
     }
-    let next = next_context(alloc, shape, &level, later)?;
+    let next = next_context(alloc, shape, level, later)?;
     let columns = level.columns(alloc, next.as_slice())?;
-    let taken = steps.len();
-    push_rows(alloc, shape, &level, blocks, columns.as_slice(), steps)?;
-    push_steps(
+    push_later(
         alloc,
         shape,
-        number + 1,
-        asked_at(next.as_slice(), taken),
+        level,
+        blocks,
         columns.as_slice(),
         next.as_slice(),
         later,
         steps,
-    )?;
-    push_up(
-        alloc,
-        &level,
-        blocks,
-        taken,
-        columns.as_slice(),
-        next.as_slice(),
-        steps,
     )
+}
+
+/// Appends the rows of the atom at hand, the steps of those after it, and its steps upwards.
+#[cycle(steps)]
+fn push_later(
+    alloc: Global,
+    shape: &Shape<'_>,
+    level: &Level,
+    blocks: usize,
+    columns: &[u32],
+    next: &[u32],
+    later: &[u32],
+    steps: &mut Items<Step>,
+) -> Result<(), NoMemory>
+    requires atom { level.now.atom < length shape.now.query.now.atoms }
+    requires later { AreAtoms shape.now.query.now later.now }
+    requires number { level.now.number + 1 + length later.now ≤ 2 ^ 63 }
+    ensures { OnOk result (steps.new ≡ with_later shape.now.query.now level.now blocks columns.now next.now later.now steps.old) }
+{
+    let taken = steps.len();
+    push_rows(alloc, shape, level, blocks, columns, steps)?;
+    let asked = asked_at(next, taken);
+    let number = level.number + 1;
+    push_steps(alloc, shape, number, asked, columns, next, later, steps)?;
+    push_up(alloc, level, blocks, taken, columns, next, steps)
+}
+
+/// Appends the steps downwards of the first atom of a plan.
+fn push_run(
+    alloc: Global,
+    shape: &Shape<'_>,
+    level: &Level,
+    plan: &[u32],
+    steps: &mut Items<Step>,
+) -> Result<(), NoMemory>
+    requires atom { level.now.atom < length shape.now.query.now.atoms }
+    requires plan { AreAtoms shape.now.query.now plan.now }
+    requires number { level.now.number ≤ 2 ^ 63 }
+    ensures { OnOk result (steps.new ≡ down shape.now.query.now level.now (run_of shape.now.query.now (is_some level.now.rows) level.now.context plan.now) steps.old) }
+{
+    let context = level.context.as_slice();
+    let run = run_of(alloc, shape, level.rows.is_some(), context, plan)?;
+    push_down(alloc, shape, level, run.as_slice(), steps)
 }
 
 /// Where contexts are asked for: nowhere if they have no variable.
@@ -144,13 +228,18 @@ fn push_step(
 ) -> Result<(), NoMemory>
     ensures { OnOk result (steps.new ≡ steps.old ++ step kind level columns.now body ∷ []) }
 {
-    let columns = Items::from_slice(alloc, columns)?;
-    steps.push(Step {
-        kind,
-        level,
-        columns,
-        body,
-    })
+    match Items::from_slice(alloc, columns) {
+        Ok(columns) => steps.push(Step {
+            kind,
+            level,
+            columns,
+            body,
+        }),
+        Err(refused) => {
+            drop(body);
+            Err(refused)
+        }
+    }
 }
 
 /// Appends the contexts of the good blocks, which the step at a place has.
