@@ -157,8 +157,12 @@ log_back vars n top (Add id clause hs ∷ steps) s w =
     ∙ ap (then_steps (Add id clause hs ∷ [])) (log_back vars (n + 1) (used_after top (Add id clause hs)) steps s w.1)
 log_back vars n top (Delete ids ∷ steps) s w = absurd w.0
 
+-- the lines that are written of additions say them
+pub says_written : (vars : ℕ) (steps : List Step) (bytes : List ℕ) → vars < 2 ^ 64 → IsWritableLog vars steps → bytes ≡ log_bytes steps → log_of vars 1 (lines bytes) ≡ Ok steps
+says_written vars steps bytes s w e = ap (λ (t : List ℕ). log_of vars 1 (lines t)) e ∙ log_back vars 1 None steps s w
+
 pub reads_back : (vars : ℕ) (log : Log) (bytes : List ℕ) (r : Result Log (Fail FormatFault)) → vars < 2 ^ 64 → LogIs vars bytes r → IsWritableLog vars log.steps → bytes ≡ log_bytes log.steps → ReadsBack log r
-reads_back vars log bytes r s f w e = go r f (ap (λ (t : List ℕ). log_of vars 1 (lines t)) e ∙ log_back vars 1 None log.steps s w)
+reads_back vars log bytes r s f w e = go r f (says_written vars log.steps bytes s w e)
   where
     same : (x : Result (List Step) ℕ) (a b : List Step) → x ≡ Ok a → x ≡ Ok b → a ≡ b
     same x a b e f = cc

@@ -10,6 +10,8 @@ ghost use Rattle.cnf_form.specs.declared.fault.Part.TheVariants as part;
 ghost use Rattle.lrat_check.specs.declared.fault.LogFault.{LogFault as FaultValue};
 ghost use Rattle.lrat_check.specs.Checked.{TextChecked};
 ghost use Rattle.lrat_check.specs.Failing.{Refused};
+ghost use Rattle.cnf_form.specs.Writing.{IsWritable};
+ghost use Rattle.lrat_check.specs.Writing.{IsWritableLog, log_bytes};
 
 use crate::LogFault;
 use crate::checker::Checker;
@@ -105,6 +107,8 @@ pub fn check_text(
     ensures only_yes { (steps : List LogStep) → log_of cnf.now.vars 1 (lines text.now) ≡ Ok steps → Refutes cnf.now steps → MatchResult result (λ f. f ≡ None) (λ e. e ≡ Fail.NoMemory) }
     ensures only_fault { (steps : List LogStep) (fault : FaultValue) → log_of cnf.now.vars 1 (lines text.now) ≡ Ok steps → Refused cnf.now steps fault → MatchResult result (λ f. f ≡ Some fault) (λ e. e ≡ Fail.NoMemory) }
     ensures only_line { (line : ℕ) → log_of cnf.now.vars 1 (lines text.now) ≡ Err line → IsErrAnd result (λ e. (e ≡ Fail.Refused (record { line = line; part = part.Log })) ⊎ (e ≡ Fail.NoMemory)) }
+    // What `log_text` writes of a refutation of additions alone, all within the ranges of the formats, is found to be one.
+    ensures written { (steps : List LogStep) → IsWritable cnf.now → IsWritableLog cnf.now.vars steps → text.now ≡ log_bytes steps → Refutes cnf.now steps → MatchResult result (λ f. f ≡ None) (λ e. e ≡ Fail.NoMemory) }
 {
     check_lines(alloc, cnf, text)
 }

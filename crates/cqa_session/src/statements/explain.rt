@@ -23,6 +23,7 @@ ghost use Rattle.cqa_session.specs.Statements.Explain.{name_at, kept_line, IsRej
 
 use crate::Session;
 use cdcl::Outcome;
+use cnf_form::Log;
 use cqa_model::{Plan, Query, Refusal, RowId};
 use cqa_value::{Fail, Items, NOTHING, Name, NoMemory, Row};
 use fo_plan::{block_of, paths_of};
@@ -182,6 +183,16 @@ fn by_model(
     lines
 }
 
+/// A row's formula with its log.
+fn proof_of(formula: Encoded, log: Log) -> Proof
+    ensures { result ≡ record { cnf = formula.cnf; log = log } }
+{
+    Proof {
+        cnf: formula.cnf,
+        log,
+    }
+}
+
 /// A refutation of a row's formula, which is kept as the last log.
 fn refuted(alloc: Global, session: &mut Session, proof: Proof) -> Result<Reply, NoMemory>
     ensures told { IfOk result (λ reply. reply ≡ ByRefutation proof) }
@@ -265,13 +276,10 @@ fn by_outcome(
             drop(formula);
             Ok(Reply::Rejected(lines?))
         }
-        Outcome::Unsat(log) => {
-            let cnf = formula.cnf;
-            Ok(refuted(alloc, session, Proof { cnf, log })?)
-        }
+        Outcome::Unsat(log) => Ok(refuted(alloc, session, proof_of(formula, log))?),
         Outcome::Spent(log) => {
-            let cnf = formula.cnf;
-            Err(Fail::Refused(spent(alloc, session, row, Proof { cnf, log })?))
+            let proof = proof_of(formula, log);
+            Err(Fail::Refused(spent(alloc, session, row, proof)?))
         }
     }
 }
@@ -326,10 +334,7 @@ fn by_refutation(
     let found = refute_row(alloc, session.database(), query, row, paths.as_slice());
     drop(paths);
     match found {
-        Ok(Refuted { formula, log }) => {
-            let cnf = formula.cnf;
-            Ok(refuted(alloc, session, Proof { cnf, log })?)
-        }
+        Ok(Refuted { formula, log }) => Ok(refuted(alloc, session, proof_of(formula, log))?),
         Err(Fail::Refused(TooMany)) => {
             let row = row.copy(alloc)?;
             Err(Fail::Refused(Refusal::WitnessLimit { row }))

@@ -1,9 +1,8 @@
-use Rattle.std.proofs.Common.{refl}
 use Rattle.cqa_session.proofs.Pairing.{refuted-told}
 use Rattle.cqa_session.proofs.statements.explain.by_refutation.Goals as goal
 
 pub returns-in_ok-refuted-in-Ok : goal.returns-in_ok-refuted-in-Ok
 returns-in_ok-refuted-in-Ok c =
     let r = c.in-Ok.field-0 in
-    refuted-told c.args.session.now c.refuted.new.session c.args.query.now c.args.row.now c.database-2.result.now r (record { cnf = r.formula.cnf; log = r.log }) c.in_ok-refuted-in-Ok.field-0 c.database-2.ensures.is c.requires.cycle
-    c.in-Ok.ensures.within c.in-Ok.ensures.refuted refl c.in_ok-refuted-in-Ok.ensures.told c.in_ok-refuted-in-Ok.ensures.kept
+    refuted-told c.args.session.now c.refuted.new.session c.args.query.now c.args.row.now c.database-2.result.now r c.proof_of.result c.in_ok-refuted-in-Ok.field-0 c.database-2.ensures.is c.requires.cycle
+    c.in-Ok.ensures.within c.in-Ok.ensures.refuted c.proof_of.ensures c.in_ok-refuted-in-Ok.ensures.told c.in_ok-refuted-in-Ok.ensures.kept
