@@ -6,7 +6,7 @@ use Rattle.std.proofs.lemmas.List.Elements.{Contains-push_cases}
 use Rattle.cnf_form.specs.declared.formula.Lit.{Lit}
 use Rattle.cnf_form.specs.declared.formula.Clause.{Clause}
 use Rattle.cnf_form.specs.Literals.{HasVar, literals}
-use Rattle.cdcl.proofs.Works.{once_more}
+use Rattle.implication_graph.proofs.Works.{once_more}
 use Rattle.lrat_check.proofs.Takes.{take_more}
 use Rattle.answer_tests.specs.Fit.{IsClauseOver}
 
