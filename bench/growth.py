@@ -174,6 +174,61 @@ def strong_cycle(n):
     return ours + ["ask select lhs.g from lhs, rhs where lhs.g = rhs.g and lhs.z = rhs.z;"], None
 
 
+def path_of_three(n):
+    """Three tables of about n rows, each joined to the key of the next, with conflicts in each."""
+    parts = []
+    for seed, name in enumerate(["a", "b", "c"]):
+        to = shuffled(n, seed)
+        rows = [(k, to[k]) for k in range(n)] + [(k, to[k - 1]) for k in range(0, n, 50 + seed)]
+        parts += [tables([name], ["k", "x"], "k"), inserts(name, rows)]
+    return join(*parts)[0] + ["ask select a.k from a, b, c where a.x = b.k and b.x = c.k;"], None
+
+
+def star(n):
+    """A table of n facts with four dimensions of n / 10 rows, with conflicts in each."""
+    few = max(n // 10, 1)
+    to = [shuffled(n, seed) for seed in range(4)]
+    facts = [(k, *(one[k] % few for one in to)) for k in range(n)] + [(k, 0, 0, 0, 0) for k in range(0, n, 20)]
+    parts = [tables(["f"], ["k", "d0", "d1", "d2", "d3"], "k"), inserts("f", facts)]
+    for name in ("d0", "d1", "d2", "d3"):
+        rows = [(k, k % 3) for k in range(few)] + [(k, 5) for k in range(0, few, 30)]
+        parts += [tables([name], ["k", "v"], "k"), inserts(name, rows)]
+    where = " and ".join("f.d%d = d%d.k" % (place, place) for place in range(4))
+    return join(*parts)[0] + ["ask select f.k from f, d0, d1, d2, d3 where %s and d0.v < 3 and d1.v < 3;" % where], None
+
+
+def join_off_keys(n):
+    """Two tables of about n rows, joined on columns that are no keys, and asked for these."""
+    parts = []
+    for seed, name in enumerate(["a", "b"]):
+        to = shuffled(n, seed)
+        rows = [(k, to[k]) for k in range(n)] + [(k, to[k - 1]) for k in range(0, n, 3 + seed)]
+        parts += [tables([name], ["k", "x"], "k"), inserts(name, rows)]
+    return join(*parts)[0] + ["ask select a.x from a, b where a.x = b.x;"], None
+
+
+def weak_cycle(n, edges=None):
+    """Rows of two tables that attack each other weakly, in the order of their keys; n blocks a side in one cycle, if none are given."""
+    edges = edges or [(i, j % n) for i in range(n) for j in (i, i + 1)]
+    ours = ["create table lhs (x int, y int, primary key (x));", "create table rhs (x int, y int, primary key (y));"]
+    ours += inserts("lhs", sorted(edges))[0] + inserts("rhs", sorted(edges, key=lambda edge: edge[::-1]))[0]
+    return ours + ["ask exists from lhs, rhs where lhs.x = rhs.x and lhs.y = rhs.y;"], None
+
+
+def shuffled_weak_cycle(n):
+    """The same cycle under other names, so that its blocks lie anywhere."""
+    left, right = shuffled(n), shuffled(n, 2)
+    return weak_cycle(n, [(left[i], right[j % n]) for i in range(n) for j in (i, i + 1)])
+
+
+def wide_weak_blocks(n):
+    """One block of n rows in each of two tables that attack each other weakly: all fit, so the row is certain."""
+    ours = ["create table r (x int, y int, w int, primary key (x));", "create table s (y int, x int, w int, primary key (y));"]
+    rows = [(1, 1, k) for k in range(n)]
+    ours += inserts("r", rows)[0] + inserts("s", rows)[0]
+    return ours + ["set conflicts 0;", "ask exists from r, s where r.x = s.x and r.y = s.y;"], None
+
+
 LOADS = [
     ("inserts and asks by key in turn, ascending", ascending_turns, 50000),
     ("inserts and asks by key in turn, random", random_turns, 50000),
@@ -189,7 +244,13 @@ LOADS = [
     ("a load of one column, random", random_load, 250000),
     ("a load of two columns, random", random_load_of_two, 250000),
     ("certain rows of a join, by a plan", persons_and_towns, 20000),
+    ("certain rows of a path of three, by a plan", path_of_three, 25000),
+    ("certain rows of a star with four dimensions, by a plan", star, 25000),
+    ("certain rows of a join off keys, by a plan", join_off_keys, 25000),
     ("certain rows of a strong cycle, by formulas", strong_cycle, 20000),
+    ("a weak cycle of two tables, without a search", weak_cycle, 25000),
+    ("a weak cycle of two tables, shuffled", shuffled_weak_cycle, 25000),
+    ("a weak pair of two wide blocks", wide_weak_blocks, 25000),
 ]
 
 

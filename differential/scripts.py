@@ -4,8 +4,10 @@
     differential/scripts.py [PROGRAM] [--seed S] [--count N] [--pieces]
 
 Where a reply is free, it is judged by what it has to be: the repair of an explanation must hold no witness of its row, a
-refutation must be one of the row's formula. `--pieces` feeds each script in random pieces with pauses. A difference
-prints the script, the reply and what was expected, and ends with status 1. Python 3.9 and its library alone are needed.
+refutation must be one of the row's formula and `check` must verify it, and a search may be refused as spent only where its
+budget can be too small for the row's formula; each step of the log that it keeps must follow. `--pieces` feeds each script
+in random pieces with pauses. A difference prints the script, the reply and what was expected, and ends with status 1.
+Python 3.9 and its library alone are needed.
 """
 
 import argparse
@@ -31,8 +33,12 @@ class Differs(Exception):
 class Lines:
     """The output, read reply by reply."""
 
-    def __init__(self, text):
-        self.lines, self.at = text.split("\n")[:-1], 0
+    def __init__(self, text, program):
+        self.lines, self.at, self.program = text.split("\n")[:-1], 0, program
+        self.log, self.owed = ["no log"], None
+
+    def peek(self):
+        return self.lines[self.at] if self.at < len(self.lines) else ""
 
     def next(self):
         if self.at == len(self.lines):
@@ -58,6 +64,7 @@ class Script:
 
     def __init__(self, seed):
         self.random, self.tables, self.statements = random.Random(seed), [], []
+        self.budget, self.cycle = 200_000, []
 
     def say(self, text, judge):
         self.statements.append((text, judge))
@@ -131,6 +138,13 @@ class Script:
                  for table in self.tables]
         self.replied("show tables;", *lines, "%d tables" % len(lines))
 
+    def set_conflicts(self):
+        self.budget = self.random.choice([0, 1, 2, 200_000, 200_000])
+        self.replied("set conflicts %d;" % self.budget, "conflicts %d" % self.budget)
+
+    def show_log(self):
+        self.say("show log;", shows_log)
+
     # Queries.
 
     def query(self):
@@ -153,17 +167,49 @@ class Script:
         answer = [pick.choice(columns) for _ in range(pick.randint(0, 3))]
         return Query(tables, answer, joins, tests)
 
+    def crossed(self):
+        """A query whose tables attack each other strongly: a row is nearly certain, and propagation leaves its formula open."""
+        if not self.cycle:
+            self.cycle = [Table(name, [("g", "int"), ("k", "int"), ("z", "int")], [0, 1], False) for name in ("lhs", "rhs")]
+            for table in self.cycle:
+                self.tables.append(table)
+                self.replied("create table %s;" % table.schema(), "created " + table.name)
+        if any(table.strict or table.key != [0, 1] for table in self.cycle):
+            return
+        pick, group = self.random, self.random.choice(NUMBERS)
+        self.set_conflicts()
+        blocks = [[(0, 1), (2, 3)], [(one, other) for one in (0, 1) for other in (2, 3)]]
+        blocks[1][pick.randrange(4)] = tuple(pick.sample(NUMBERS, 2))
+        for table, pairs in zip(self.cycle, blocks):
+            table.rows = {(group, key, value) for key, pair in enumerate(pairs) for value in pair}
+            self.say("delete from %s where g >= 0;" % table.name, lambda out: out.while_like("deleted [0-9]+"))
+            self.replied("insert into %s values %s;" % (table.name, ", ".join(map(row_text, sorted(table.rows)))),
+                         "inserted %d" % len(table.rows))
+        answer = pick.choice([[], [(0, 0)]])
+        joins = [((0, place), (1, place)) for place in (0, 2)]
+        self.ask_of(Query([table.copy() for table in self.cycle], answer, joins, []))
+        self.show_log()
+
     def asked(self):
-        query = self.query()
+        self.ask_of(self.query())
+
+    def ask_of(self, query):
         if query.number_of_repairs() > 600:
             return
         text = query.text()
         verb = self.random.choice(["ask", "ask", "ask", "possible", "classify", "plan", "explain"])
         if verb == "explain":
-            return self.explain(query)
+            return self.explain_one(query)
         if verb in ("ask", "possible"):
             rows = query.certain() if verb == "ask" else query.possible()
-            return self.replied("%s %s;" % (verb, text), *map(row_text, rows), "%d rows" % len(rows))
+            lines = [*map(row_text, rows), "%d rows" % len(rows)]
+            if verb == "ask" and needs_search(query):
+                budget = self.budget
+                return self.say("ask %s;" % text, lambda out: is_searched(out, query, budget, query.possible(), lines))
+            self.replied("%s %s;" % (verb, text), *lines)
+            for row in query.possible() if self.random.random() < 0.2 else []:
+                self.explain(query, row)
+            return None
         if verb == "classify":
             kind, attacks = query.classify()
             return self.replied("classify %s;" % text, "class " + kind, *(
@@ -173,15 +219,19 @@ class Script:
         steps = ["no plan"] if plan is None else ["step %d %s" % (number, query.tables[atom].name) for number, atom in enumerate(plan, 1)]
         return self.replied("plan %s;" % text, *steps)
 
-    def explain(self, query):
+    def explain_one(self, query):
         candidates = query.possible()
         if candidates and self.random.random() < 0.8:
-            row = self.random.choice(candidates)
-        else:
-            row = tuple(self.kind_of_value(query.tables[atom].columns[place][1]) for atom, place in query.answer)
+            return self.explain(query, self.random.choice(candidates))
+        return self.explain(query, tuple(self.kind_of_value(query.tables[atom].columns[place][1]) for atom, place in query.answer))
+
+    def explain(self, query, row):
         text = "explain row %s for %s;" % (row_text(row), query.text())
-        plan, is_certain = query.plan(), row in query.certain()
-        if not is_certain:
+        plan, is_certain, budget = query.plan(), row in query.certain(), self.budget
+        if needs_search(query) and is_spent_for(query, row, budget):
+            judge = is_refutation if is_certain else is_rejection
+            self.say(text, lambda out: is_spent(out, query, budget, [row]) or judge(out, query, row))
+        elif not is_certain:
             self.say(text, lambda out: is_rejection(out, query, row))
         elif plan is not None:
             table, block = query.tables[plan[0]], query.block_of(plan, row)
@@ -190,7 +240,8 @@ class Script:
             self.say(text, lambda out: is_refutation(out, query, row))
 
     def make(self, length):
-        steps = [self.insert] * 8 + [self.delete, self.alter, self.show] + [self.asked] * 6 + [lambda: self.insert(copy=True)] * 2
+        steps = [self.insert] * 8 + [lambda: self.insert(copy=True)] * 2 + [self.asked] * 6
+        steps += [self.delete, self.alter, self.show, self.set_conflicts, self.show_log, self.crossed]
         for _ in range(self.random.randint(1, 3)):
             self.create()
         while len(self.statements) < length:
@@ -228,12 +279,71 @@ def is_rejection(out, query, row):
 def is_refutation(out, query, row):
     """`certain by refutation`, with the row's formula and a refutation of it."""
     out.expect("certain by refutation")
+    if not is_log(out, query, row):
+        raise Differs("the log doesn't add the empty clause")
+    text = "\n".join(out.log + [""]).encode()
+    said = subprocess.run([out.program, "check"], input=text, stdout=subprocess.PIPE, check=False).stdout
+    if said != b"verified\n":
+        raise Differs("check says %s" % said.decode())
+
+
+def is_log(out, query, row):
+    """A row's formula and steps that follow, which are kept as the last log. Says whether they refute the formula."""
+    start = out.at
     variables, clauses, _ = query.formula(row)
     out.expect("p cnf %d %d" % (variables, len(clauses)), *(" ".join(map(str, clause + [0])) for clause in clauses), "lrat")
     live = {number: frozenset(clause) for number, clause in enumerate(clauses, 1)}
     steps = out.while_like(r"[0-9]+( d)?( -?[0-9]+)*")
-    if not any(refutes(live, step.split()) for step in steps):
-        raise Differs("the log doesn't add the empty clause")
+    out.log, out.owed = out.lines[start:out.at], None
+    return any([refutes(live, step.split()) for step in steps])
+
+
+def shows_log(out):
+    """The last log: that of a spent search is seen here first."""
+    if out.owed is None:
+        out.expect(*out.log)
+    elif is_log(out, *out.owed):
+        raise Differs("a spent log refutes its formula")
+
+
+def needs_search(query):
+    """Whether a query has no plan, and isn't of two tables that attack each other weakly."""
+    return query.plan() is None and not (len(query.tables) == 2 and query.classify()[0] == "polynomial")
+
+
+def is_spent_for(query, row, budget):
+    """Whether so many conflicts can be too few for a row's formula: fewer than 3 to its variables, and propagation alone
+    leaves a variable open and no clause false."""
+    variables, clauses, _ = query.formula(row)
+    true, found = set(), True
+    while found:
+        found = False
+        for clause in clauses:
+            left = [one for one in clause if -one not in true]
+            if not left:
+                return False
+            if len(left) == 1 and left[0] not in true:
+                true.add(left[0])
+                found = True
+    return len(true) < variables and budget < 3 ** variables
+
+
+def is_spent(out, query, budget, rows):
+    """`Spent` with one of some rows, for which its search may have ended so. Its formula with the log stands last then."""
+    if not out.peek().startswith("error 18 "):
+        return False
+    told = {"error 18 Spent %s conflicts %d" % (row_text(row), budget): row for row in rows}
+    line = out.next()
+    if line not in told or not is_spent_for(query, told[line], budget):
+        raise Differs("%s\nhas no cause" % line)
+    out.owed = query, told[line]
+    return True
+
+
+def is_searched(out, query, budget, candidates, lines):
+    """The certain rows, or `Spent`."""
+    if not is_spent(out, query, budget, candidates):
+        out.expect(*lines)
 
 
 def refutes(live, step):
@@ -280,7 +390,7 @@ def compare(program, seed, pieces):
     script = Script(seed).make(length=25)
     text = "\n".join(statement for statement, _ in script.statements) + "\n"
     ran = run(program, text.encode(), random.Random(seed) if pieces else None)
-    out = Lines(ran.stdout.decode())
+    out = Lines(ran.stdout.decode(), program)
     refused = 1 if re.search(r"^error ", ran.stdout.decode(), flags=re.M) else 0
     for statement, judge in script.statements:
         try:
