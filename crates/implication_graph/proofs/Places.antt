@@ -1,6 +1,6 @@
 -- The places of variables, as literals come and go.
 use Rattle.cnf_form.specs.Literals.{HasVar}
-use Rattle.implication_graph.specs.Trail.{At, IsConsistent, IsOpen, ArePlaces, AllInRange, held, IsApart}
+use Rattle.implication_graph.specs.Trail.{At, IsConsistent, IsOpen, ArePlaces, AllInRange, IsApart}
 use Rattle.std.proofs.Common.{set, get_or-set_other, get_or-set_same, ◌≡◌, ℕ, zero, suc, ◌<◌, ◌≤◌, ◌+◌, Bool, true, false, List, [], ◌∷◌, ◌++◌, ◌⊎◌, map, inl, inr, refl, sym, ◌∙◌, ap, subst, arith, length, get_or, Option, Some, None}
 use Rattle.std.specs.Prelude.{Contains}
 use Rattle.std.proofs.lemmas.List.{length-map}

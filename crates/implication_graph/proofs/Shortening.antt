@@ -1,13 +1,13 @@
 -- Why a learnt clause still follows without the literals that the others imply.
-use Rattle.implication_graph.specs.Trail.{At, IsConsistent, ArePlaces, IsApart, EndIs}
-use Rattle.std.proofs.Common.{take, ◌≡◌, ℕ, ◌<◌, ◌≤◌, ◌+◌, Bool, ℤ, pos, List, [], ◌∷◌, ◌++◌, ◌⊎◌, map, inl, inr, refl, sym, ◌∙◌, ap, subst, arith, Option}
+use Rattle.implication_graph.specs.Trail.{At, ArePlaces, IsApart, EndIs}
+use Rattle.std.proofs.Common.{take, ◌≡◌, ℕ, ◌<◌, ◌≤◌, ◌+◌, Bool, ℤ, List, [], ◌∷◌, ◌++◌, ◌⊎◌, map, inl, inr, refl, sym, ◌∙◌, ap, subst, arith, Option}
 use Rattle.std.specs.Prelude.{Contains}
 use Rattle.std.proofs.lemmas.List.Elements.{Contains-push_cases, Contains-append_left, Contains-push}
 use Rattle.cnf_form.specs.declared.formula.Lit.{Lit}
-use Rattle.cnf_form.specs.Literals.{opposite, Denied, OthersDenied}
-use Rattle.cnf_form.proofs.Lits.{opposite-opposite, cons_cases, contains_here, contains_later}
-use Rattle.implication_graph.specs.Analysis.{AreKept, IsLearntClause, AllSeen, NoneSeen, Works}
-use Rattle.implication_graph.proofs.Works.{At-take, At-in_take, At-same, At-contains, Contains-map, Contains-from_map, once_more, place_cases}
+use Rattle.cnf_form.specs.Literals.{opposite, Denied}
+use Rattle.cnf_form.proofs.Lits.{opposite-opposite, cons_cases, contains_here}
+use Rattle.implication_graph.specs.Analysis.{AreKept, IsLearntClause, NoneSeen, Works}
+use Rattle.implication_graph.proofs.Works.{At-in_take, At-same, At-contains, Contains-map, Contains-from_map, once_more, place_cases}
 use Rattle.implication_graph.proofs.Places.{apart_by_places}
 
 -- all that is marked below the level is to be walked over; above it, the literal of the first unique implication point is

@@ -1,7 +1,7 @@
 -- Why the hints of a learnt clause pass.
 use Rattle.cnf_form.specs.Literals.{HasVar}
-use Rattle.implication_graph.specs.Trail.{At, IsConsistent, held, ArePlaces, EndIs, AfterIs}
-use Rattle.std.proofs.Common.{take, ◌≡◌, ℕ, zero, suc, ◌<◌, ◌≤◌, ◌+◌, Bool, true, false, ℤ, pos, List, [], ◌∷◌, ◌++◌, ◌⊎◌, map, inl, inr, refl, sym, ◌∙◌, ap, subst, arith, length, get_or, Option, Some, None}
+use Rattle.implication_graph.specs.Trail.{At, IsConsistent, held, EndIs, AfterIs}
+use Rattle.std.proofs.Common.{take, ◌≡◌, ℕ, zero, suc, ◌<◌, ◌≤◌, ◌+◌, Bool, true, false, ℤ, pos, List, [], ◌∷◌, ◌++◌, ◌⊎◌, map, inl, inr, refl, sym, ◌∙◌, ap, subst, arith, length, get_or, Some}
 use Rattle.std.specs.Prelude.{Contains}
 use Rattle.std.proofs.lemmas.List.Elements.{Contains-push_cases, Contains-append_left, Contains-push}
 use Rattle.std.proofs.lemmas.List.{length-map, reverse-append}
@@ -10,7 +10,7 @@ use Rattle.cnf_form.specs.declared.formula.Clause.{Clause}
 use Rattle.cnf_form.specs.Literals.{literals}
 use Rattle.cnf_form.specs.declared.formula.Lit.{Lit}
 use Rattle.cnf_form.specs.Literals.{opposite, Denied, AllDenied, OthersDenied}
-use Rattle.cnf_form.proofs.Lits.{nat_cases, opposite-opposite, cons_cases, contains_here, contains_later}
+use Rattle.cnf_form.proofs.Lits.{nat_cases, cons_cases, contains_here, contains_later}
 use Rattle.implication_graph.specs.declared.trail.Entry.{Entry}
 use Rattle.cnf_form.specs.Spent.{NoVarTwice}
 use Rattle.implication_graph.specs.Analysis.{Grow, AllSeen, Works}

@@ -1,5 +1,5 @@
 -- What is learnt from a conflict: the first unique implication point (Marques-Silva and Sakallah, 1996; Moskewicz and others, 2001).
-use Rattle.implication_graph.specs.Trail.{At, held, AllInRange, EndIs}
+use Rattle.implication_graph.specs.Trail.{At, held, EndIs}
 use Rattle.std.specs.Prelude.{◌≡◌, ◌<◌, ◌≤◌, ◌+◌, ℕ, Bool, ℤ, pos, ◌⊎◌, List, [], ◌∷◌, ◌++◌, Some, length, map, Contains, take}
 use Rattle.cnf_form.specs.declared.formula.Lit.{Lit}
 use Rattle.cnf_form.specs.Literals.{Denied, AllDenied, OthersDenied, IsUnit, opposite}
@@ -82,9 +82,9 @@ pub record Works (db : List (List Lit)) (t : List Lit) (seen : List Bool) (lits 
   pub chain : (have' : List Lit) → ((l : Lit) → Contains have' l → Contains t l) → ((m : Lit) → Contains lits m → Denied have' m)
       → ((p : ℕ) (l : Lit) → p < place → At t p l → IsSeen seen l.var → Contains have' l) → ChainPasses db have' hints
 
--- The clause at the place forced the literal at a place of the trail, and all its variables are marked.
-abbrev pub IsImpliedBy : List (List Lit) → List Lit → List Bool → ℕ → ℕ → Type 0
-IsImpliedBy db t seen at reason = (x : Lit) → At t at x → (c : List Lit) × At db reason c × Contains c x × OthersDenied (take at t) c x × AllSeen seen c
+-- The clause at the place forced the literal at a place of the trail.
+abbrev pub IsReasonAt : List (List Lit) → List Lit → ℕ → ℕ → Type 0
+IsReasonAt db t at reason = (x : Lit) → At t at x → (c : List Lit) × At db reason c × Contains c x × OthersDenied (take at t) c x
 
 -- denied literals of the trail, kept on a walk from the one place down to the other
 pub record AreKept (t : List Lit) (start place : ℕ) (lits : List Lit) : Type 0 where

@@ -211,14 +211,7 @@ fn walk_back(
         resolve(clauses, trail, places, start, at, marks, &mut hints)?;
         at -= 1;
     }
-    shorten(
-        clauses,
-        trail,
-        marks.seen.as_slice(),
-        start,
-        lits,
-        &mut hints,
-    )?;
+    shorten(clauses, trail, places, start, marks, lits, &mut hints)?;
     let end = end_of(trail, places, lits.as_slice());
     let asserted = lit_at(trail, at).opposite();
     push_lit(lits, asserted)?;

@@ -119,7 +119,7 @@ impl Order {
         for var in met {
             self.raise_one(*var);
         }
-        self.step = self.step.saturating_add(self.step / 50);
+        self.step = self.step.saturating_add(self.step / 100);
         if self.step > LARGE_STEP {
             self.scale_down();
         }

@@ -7,7 +7,7 @@ use std::alloc::Global;
 pub const FIRST_LIMIT: usize = 500;
 
 /// How many more may be watched after each time that some are forgotten (Audemard and Simon, 2009).
-const MORE: usize = 200;
+const MORE: usize = 50;
 
 /// What a use adds to a clause's activity at first.
 const FIRST_STEP: u64 = 1000;

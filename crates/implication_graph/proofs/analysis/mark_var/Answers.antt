@@ -1,8 +1,6 @@
-use Rattle.std.proofs.Common.{◌≡◌, ◌<◌, ◌≤◌, ◌∙◌, ℕ, false, true, length, Some, None, arith, refl, sym}
-use Rattle.std.proofs.lemmas.List.{get_or-set_same}
+use Rattle.std.proofs.Common.{◌<◌, length, arith}
 use Rattle.implication_graph.specs.Trail.{held}
-use Rattle.implication_graph.proofs.Works.{some_same}
-use Rattle.implication_graph.proofs.Marking.{at_most_more, at_most_same, grow_none, grow_one, met_push, read_true}
+use Rattle.implication_graph.proofs.Marking.{at_most_more, grow_none, read_true}
 use Rattle.implication_graph.proofs.analysis.mark_var.Goals as goal
 
 pub returns-then-index : goal.returns-then-index

@@ -1,4 +1,4 @@
-use Rattle.std.proofs.Common.{◌≡◌, ◌+◌, ◌-◌, ℕ, ℤ, Bool, pos, refl, length, reverse, List, [], ◌∷◌, ◌++◌, arith, subst, sym, ◌∙◌, ap, refl}
+use Rattle.std.proofs.Common.{◌≡◌, ◌+◌, ◌-◌, ℕ, ℤ, pos, refl, length, reverse, List, [], ◌∷◌, ◌++◌, arith, subst, sym, ◌∙◌, ap, refl}
 use Rattle.std.specs.Prelude.{Contains}
 use Rattle.std.proofs.lemmas.List.{length-map}
 use Rattle.cnf_form.specs.Literals.{literals, opposite}
@@ -38,18 +38,6 @@ loop-at-init c =
 pub shorten-requires-clause-apart : goal.shorten-requires-clause-apart
 shorten-requires-clause-apart c = apart_by_places (held c.args.trail.now) c.args.places.now c.requires.places
 
-pub shorten-requires-clause-range : goal.shorten-requires-clause-range
-shorten-requires-clause-range c d i l j =
-    let r = c.requires.range d i l j in
-    let n : length c.as_slice.result.now ≡ length c.args.places.now = ap length c.as_slice.ensures.value ∙ c.loop-at.invariant.same in
-    omega (arith, r, n)
-
-pub shorten-requires-clause-held : goal.shorten-requires-clause-held
-shorten-requires-clause-held c l i =
-    let r = c.requires.held l i in
-    let n : length c.as_slice.result.now ≡ length c.args.places.now = ap length c.as_slice.ensures.value ∙ c.loop-at.invariant.same in
-    omega (arith, r, n)
-
 pub returns-clause-learnt : goal.returns-clause-learnt
 returns-clause-learnt c =
     let db = literals c.args.clauses.now in
@@ -63,23 +51,23 @@ returns-clause-learnt c =
     let u = c.lit_at.result in
     let lits = c.shorten.new.lits.items in
     let hints = reverse c.shorten.new.hints.items in
-    let works : Works db t seen (opposite u ∷ lits) 0 hints =
-    subst (λ (xs : List Bool). Works db t xs (opposite u ∷ lits) 0 hints) c.as_slice.ensures.value (c.in_ok-shorten.ensures.works (opposite u)
-    (subst (λ (xs : List Bool). Works db t xs (opposite u ∷ []) c.args.start (reverse c.loop-at.hints.items)) (sym c.as_slice.ensures.value)
+    let new = c.shorten.new.marks.seen.items in
+    let works : Works db t new (opposite u ∷ lits) 0 hints =
+    c.in_ok-shorten.ensures.works (opposite u)
     (works_below db t c.args.start seen c.loop-at.at (reverse c.loop-at.hints.items) u c.loop-at.invariant.after c.lit_at.ensures none
-    c.loop-at.invariant.works))) in
+    c.loop-at.invariant.works) in
     rw (c.in_ok-push_lit.ensures, c.opposite-asserted.ensures, c.reverse.ensures.items)
-    (shorter_clause db t c.args.places.now c.args.start seen lits c.loop-at.at hints u c.end_of-end.result
-    c.requires.places c.loop-at.invariant.after c.lit_at.ensures c.in_ok-shorten.ensures.kept (subst (λ (xs : List Lit). EndIs t xs c.end_of-end.result) c.as_slice-2.ensures.value c.end_of-end.ensures) works)
+    (shorter_clause db t c.args.places.now c.args.start new lits c.loop-at.at hints u c.end_of-end.result
+    c.requires.places c.loop-at.invariant.after c.lit_at.ensures c.in_ok-shorten.ensures.kept (subst (λ (xs : List Lit). EndIs t xs c.end_of-end.result) c.as_slice.ensures.value c.end_of-end.ensures) works)
 
 pub end_of-end-requires-clause-range : goal.end_of-end-requires-clause-range
 end_of-end-requires-clause-range c l i =
     let t = held c.args.trail.now in
-    let j : Contains c.shorten.new.lits.items l = subst (λ (xs : List Lit). Contains xs l) c.as_slice-2.ensures.value i in
+    let j : Contains c.shorten.new.lits.items l = subst (λ (xs : List Lit). Contains xs l) c.as_slice.ensures.value i in
     c.requires.held (opposite l) (kept_denied t c.args.start 0 c.shorten.new.lits.items c.in_ok-shorten.ensures.kept l j)
 
 pub end_of-end-requires-clause-denied : goal.end_of-end-requires-clause-denied
 end_of-end-requires-clause-denied c l i =
     let t = held c.args.trail.now in
-    let j : Contains c.shorten.new.lits.items l = subst (λ (xs : List Lit). Contains xs l) c.as_slice-2.ensures.value i in
+    let j : Contains c.shorten.new.lits.items l = subst (λ (xs : List Lit). Contains xs l) c.as_slice.ensures.value i in
     kept_denied t c.args.start 0 c.shorten.new.lits.items c.in_ok-shorten.ensures.kept l j
