@@ -1,5 +1,5 @@
 -- Marks tell the order of values, and follow the rows whose marks they are.
-use Rattle.std.proofs.Common.{◌≡◌, ℕ, ℤ, zero, suc, pos, negsuc, ◌+◌, ◌-◌, ◌*◌, ◌<◌, ◌≤◌, Bool, true, false, List, [], ◌∷◌, ◌++◌, length, map, take, drop, get_or, set, slice_get, Some, cond, leb, int_lt, refl, sym, ap, subst, ◌∙◌, arith}
+use Rattle.std.proofs.Common.{◌≡◌, ℕ, zero, suc, pos, negsuc, ◌+◌, ◌-◌, ◌*◌, ◌<◌, ◌≤◌, Bool, true, false, List, [], ◌∷◌, ◌++◌, length, map, take, drop, get_or, set, slice_get, Some, cond, leb, int_lt, refl, sym, ap, subst, ◌∙◌, arith}
 use Rattle.std.specs.List.{AllWithin, insert, swap}
 use Rattle.std.specs.List.Sorted.{IsPartitionedBy}
 use Rattle.std.specs.Cmp.{nat_cmp_is}
@@ -18,7 +18,8 @@ use borrow.Rule.Slice.PartMut.{put_mid, post_of}
 use Rattle.cqa_value.specs.declared.value.Value.{Value}
 use Rattle.cqa_value.specs.declared.value.Value.TheVariants.{Int, Text}
 use Rattle.cqa_value.specs.Values.{value_cmp, value_cmp_total}
-use Rattle.row_pieces.specs.Marks.{first_byte, later_bytes, with_bytes, value_mark, first_value, row_mark, FollowsFirst}
+use Rattle.row_pieces.specs.Marks.{first_byte, later_bytes, with_bytes, value_part, value_mark, first_value, second_value, row_mark, FollowsFirst, FollowsSecond, PassesBelow, FailsAbove}
+use Rattle.row_pieces.specs.declared.mark.TheConstants.{ROOM}
 use Rattle.row_pieces.proofs.Halving.{front_passes, back_fails}
 
 -- ---- numbers of first bytes
@@ -116,19 +117,44 @@ byte_next text number at l small =
 
 -- ---- marks of values
 
-int_law : (m n : ℤ) → value_mark (Int m) < value_mark (Int n) → int_cmp m n ≡ Less
-int_law (pos m) (pos n) l = ap (λ b. cond b Less (cond (int_lt (pos n) (pos m)) Greater Equal)) (lt-ltb m n (omega (arith, l)))
-int_law (pos m) (negsuc n) l = absurd (omega (arith, l))
-int_law (negsuc m) (pos n) l = refl
-int_law (negsuc m) (negsuc n) l = ap (λ b. cond b Less (cond (int_lt (negsuc n) (negsuc m)) Greater Equal)) (lt-ltb n m (omega (arith, l)))
+nat_less : (m n : ℕ) → m < n → int_cmp (pos m) (pos n) ≡ Less
+nat_less m n l = ap (λ b. cond b Less (cond (int_lt (pos n) (pos m)) Greater Equal)) (lt-ltb m n l)
 
--- what has the lower mark is the lower value
-pub mark_law : (a b : Value) → value_mark a < value_mark b → value_cmp a b ≡ Less
-mark_law (Int m) (Int n) l = int_law m n l
-mark_law (Int m) (Text b) l = refl
-mark_law (Text a) (Int (pos n)) l = absurd (omega (arith, l))
-mark_law (Text a) (Int (negsuc n)) l = absurd (omega (arith, l))
-mark_law (Text a) (Text b) l = bytes_law 7 0 a b (omega (arith, l))
+negative_less : (m n : ℕ) → n < m → int_cmp (negsuc m) (negsuc n) ≡ Less
+negative_less m n l = ap (λ b. cond b Less (cond (int_lt (negsuc n) (negsuc m)) Greater Equal)) (lt-ltb n m l)
+
+pub part_small : (value : Value) → value_part value < ROOM
+part_small (Int (pos n)) = omega arith
+part_small (Int (negsuc n)) = omega arith
+part_small (Text b) = omega arith
+
+-- what has the lower part is the lower value
+part_law : (a b : Value) → value_part a < value_part b → value_cmp a b ≡ Less
+part_law (Int (pos m)) (Int (pos n)) l = nat_less m n (omega (arith, l))
+part_law (Int (pos m)) (Int (negsuc n)) l = absurd (omega (arith, l))
+part_law (Int (negsuc m)) (Int (pos n)) l = refl
+part_law (Int (negsuc m)) (Int (negsuc n)) l = negative_less m n (omega (arith, l))
+part_law (Int m) (Text b) l = refl
+part_law (Text a) (Int (pos n)) l = absurd (omega (arith, l))
+part_law (Text a) (Int (negsuc n)) l = absurd (omega (arith, l))
+part_law (Text a) (Text b) l = absurd (omega (arith, l))
+
+-- what has the lower mark is the lower value, or the same one with the lower part
+mark_law : {C : Type 0} (a b : Value) (s t : ℕ) → s < ROOM → t < ROOM → value_mark a s < value_mark b t → (value_cmp a b ≡ Less → C) → (a ≡ b → s < t → C) → C
+mark_law {C} (Int (pos m)) (Int (pos n)) s t small also l less same = go (dec_lt m n)
+  where
+    go : Dec (m < n) → C
+    go (yes q) = less (nat_less m n q)
+    go (no q) =
+        let e : m ≡ n = omega (arith, q, l, small, also) in
+        same (ap (λ k. Int (pos k)) e) (omega (arith, e, l))
+mark_law (Int (pos m)) (Int (negsuc n)) s t small also l less same = absurd (omega (arith, l))
+mark_law (Int (negsuc m)) (Int (pos n)) s t small also l less same = less refl
+mark_law (Int (negsuc m)) (Int (negsuc n)) s t small also l less same = less (negative_less m n (omega (arith, l)))
+mark_law (Int m) (Text b) s t small also l less same = less refl
+mark_law (Text a) (Int (pos n)) s t small also l less same = absurd (omega (arith, l))
+mark_law (Text a) (Int (negsuc n)) s t small also l less same = absurd (omega (arith, l))
+mark_law (Text a) (Text b) s t small also l less same = less (bytes_law 7 0 a b (omega (arith, l)))
 
 greater_from : (a b : Value) → value_cmp b a ≡ Less → value_cmp a b ≡ Greater
 greater_from a b e = value_cmp_total.antisymm a b ∙ ap ordering_reverse e
@@ -181,17 +207,29 @@ marked_within rows at mark e =
 
 -- ---- what a mark tells of rows that a test parts
 
-module _ (value : Value) (p : List Value → Bool) (rows : List (List Value)) (at found mark : ℕ) (same : value_mark value ≡ mark) (follows : FollowsFirst value p) (parted : IsPartitionedBy p rows) (seen : slice_get (map row_mark rows) at ≡ Some found) where
-  pub told_front : found < mark → AllWithin (λ row. p row ≡ true) rows 0 (at + 1)
-  told_front l =
+pub least_passes : (value : Value) (p : List Value → Bool) → FollowsFirst value p → PassesBelow (value_mark value 0) p
+least_passes value p follows row l = mark_law (first_value row) value (value_part (second_value row)) 0 (part_small (second_value row)) (omega arith) l (follows.below row) (λ e q. absurd (omega (arith, q)))
+
+pub greatest_fails : (value : Value) (p : List Value → Bool) → FollowsFirst value p → FailsAbove (value_mark value (ROOM - 1)) p
+greatest_fails value p follows row l =
+    let small = part_small (second_value row) in
+    mark_law value (first_value row) (ROOM - 1) (value_part (second_value row)) (omega arith) small l (λ less. follows.above row (greater_from (first_value row) value less)) (λ e q. absurd (omega (arith, q, small)))
+
+pub lower_passes : (value second : Value) (p : List Value → Bool) → FollowsFirst value p → FollowsSecond value second p → PassesBelow (value_mark value (value_part second)) p
+lower_passes value second p follows then row l = mark_law (first_value row) value (value_part (second_value row)) (value_part second) (part_small (second_value row)) (part_small second) l (follows.below row) (λ e q. then.below row e (part_law (second_value row) second q))
+
+pub higher_fails : (value second : Value) (p : List Value → Bool) → FollowsFirst value p → FollowsSecond value second p → FailsAbove (value_mark value (value_part second)) p
+higher_fails value second p follows then row l = mark_law value (first_value row) (value_part second) (value_part (second_value row)) (part_small second) (part_small (second_value row)) l (λ less. follows.above row (greater_from (first_value row) value less)) (λ e q. then.above row (sym e) (greater_from (second_value row) second (part_law second (second_value row) q)))
+
+module _ (p : List Value → Bool) (rows : List (List Value)) (at found mark : ℕ) (parted : IsPartitionedBy p rows) (seen : slice_get (map row_mark rows) at ≡ Some found) where
+  pub told_front : PassesBelow mark p → found < mark → AllWithin (λ row. p row ≡ true) rows 0 (at + 1)
+  told_front passes l =
       let row = unmapped row_mark rows at found seen in
-      let mark_is = row.2 in
-      let below = follows.below row.0 (mark_law (first_value row.0) value (omega (arith, l, same, mark_is))) in
+      let below = passes row.0 (subst (λ k. k < mark) (sym row.2) l) in
       front_passes p rows at parted (marked_within rows at found seen) (λ d. subst (λ y. p y ≡ true) (sym (get_or_from_slice_get rows at row.0 d row.1)) below)
 
-  pub told_back : mark < found → AllWithin (λ row. p row ≡ false) rows at (length rows)
-  told_back l =
+  pub told_back : FailsAbove mark p → mark < found → AllWithin (λ row. p row ≡ false) rows at (length rows)
+  told_back fails l =
       let row = unmapped row_mark rows at found seen in
-      let mark_is = row.2 in
-      let above = follows.above row.0 (greater_from (first_value row.0) value (mark_law value (first_value row.0) (omega (arith, l, same, mark_is)))) in
+      let above = fails row.0 (subst (λ k. mark < k) (sym row.2) l) in
       back_fails p rows at parted (marked_within rows at found seen) (λ d. subst (λ y. p y ≡ false) (sym (get_or_from_slice_get rows at row.0 d row.1)) above)

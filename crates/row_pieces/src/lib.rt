@@ -2,6 +2,7 @@
 #![tactic(auto)]
 
 mod add;
+mod guess;
 mod keep;
 mod mark;
 mod marked;

@@ -8,6 +8,7 @@ ghost use Rattle.cqa_value.specs.declared.value.Value.{Value as Cell};
 ghost use Rattle.row_pieces.specs.Marks.{row_mark};
 ghost use Rattle.row_pieces.specs.Retained.{retained};
 
+use crate::guess::{comes_before, first_of, first_with, place_among};
 use crate::keep::keep_in;
 use crate::mark::mark_of_row;
 use cqa_value::{NoMemory, Row};
@@ -22,6 +23,9 @@ const STEP: usize = 32;
 pub struct MarkedRows {
     rows: Vec<Row>,
     marks: Vec<u64>,
+
+    /// Mostly the first mark, so that a search reads less. Nothing is promised of it.
+    first: u64,
 }
 
 impl Model for MarkedRows {
@@ -94,11 +98,6 @@ fn cut_out<T: Drop>(items: &mut Vec<T>, from: usize, to: usize)
     drop(items.drain(from..to));
 }
 
-/// Whether a mark is below another one, or no greater.
-fn comes_before(mark: u64, other: u64, with_ties: bool) -> bool {
-    mark < other || with_ties && mark == other
-}
-
 impl MarkedRows {
     /// Rows with their marks.
     ///
@@ -109,7 +108,10 @@ impl MarkedRows {
         ensures { IfOk result (λ marked. marked ≡ rows.items) }
     {
         match marks_of(*rows.allocator(), rows.as_slice()) {
-            Ok(marks) => Ok(MarkedRows { rows, marks }),
+            Ok(marks) => {
+                let first = first_of(marks.as_slice());
+                Ok(MarkedRows { rows, marks, first })
+            }
             Err(refused) => {
                 drop(rows);
                 Err(refused)
@@ -124,6 +126,7 @@ impl MarkedRows {
         MarkedRows {
             rows: Vec::new(alloc),
             marks: Vec::new(alloc),
+            first: 0,
         }
     }
 
@@ -155,18 +158,25 @@ impl MarkedRows {
         self.marks.get(at).copied()
     }
 
-    /// How many rows have a mark below one, or no greater one, if marks never fall. Nothing is promised of it.
-    pub fn expected(&self, mark: u64, with_ties: bool) -> usize {
-        self.marks
-            .partition_point(|other| comes_before(*other, mark, with_ties))
+    /// Mostly the first mark. Nothing is promised of it.
+    pub fn first_mark(&self) -> u64 {
+        self.first
     }
 
-    /// Whether there are rows, and the first is one of those.
+    /// The last mark, or 0. Nothing is promised of it.
+    pub fn last_mark(&self) -> u64 {
+        *self.marks.last().unwrap_or(&0)
+    }
+
+    /// How many rows have a mark below one, or no greater one, if marks never fall, and go up to about a last one. Nothing is
+    /// promised of it.
+    pub fn expected(&self, mark: u64, with_ties: bool, last: u64) -> usize {
+        place_among(self.marks.as_slice(), self.first, last, mark, with_ties)
+    }
+
+    /// Whether the first row is mostly one of those. Nothing is promised of it.
     pub fn begins_before(&self, mark: u64, with_ties: bool) -> bool {
-        match self.marks.first() {
-            Some(first) => comes_before(*first, mark, with_ties),
-            None => false,
-        }
+        comes_before(self.first, mark, with_ties)
     }
 
     /// Puts a row in before the one at a place.
@@ -181,7 +191,9 @@ impl MarkedRows {
     {
         make_room(&mut self.rows, 1)?;
         make_room(&mut self.marks, 1)?;
-        drop(self.marks.insert(at, mark_of_row(&row)));
+        let mark = mark_of_row(&row);
+        self.first = first_with(self.first, at, mark);
+        drop(self.marks.insert(at, mark));
         drop(self.rows.insert(at, row));
         Ok(())
     }
@@ -207,6 +219,7 @@ impl MarkedRows {
         make_room(&mut self.rows, rows.len())?;
         make_room(&mut self.marks, rows.len())?;
         push_marks(&mut self.marks, rows.as_slice());
+        self.first = first_of(self.marks.as_slice());
         drop(self.rows.append(rows));
         Ok(())
     }
@@ -228,7 +241,8 @@ impl MarkedRows {
         self.rows.shrink_to_fit();
         self.marks.truncate(at);
         self.marks.shrink_to_fit();
-        Ok(MarkedRows { rows, marks })
+        let first = first_of(marks.as_slice());
+        Ok(MarkedRows { rows, marks, first })
     }
 
     /// Takes the rows of a range away that don't pass a test, and gives the test.
@@ -244,6 +258,7 @@ impl MarkedRows {
         let (kept, stays) = keep_in(rows, self.marks.as_mut_slice(), from, to, stays);
         cut_out(&mut self.rows, from + kept, to);
         cut_out(&mut self.marks, from + kept, to);
+        self.first = first_of(self.marks.as_slice());
         stays
     }
 
@@ -258,5 +273,6 @@ impl MarkedRows {
             .as_mut_slice()
             .swap_with_slice(&mut others[start..end]);
         set_marks(self.marks.as_mut_slice(), self.rows.as_slice());
+        self.first = first_of(self.marks.as_slice());
     }
 }

@@ -110,6 +110,17 @@ fn first_keyed<'a>(key: &[u32], row: &'a Row) -> Option<&'a Value>
     }
 }
 
+/// The second value of a row, if there is one and the second column of the key is the second one.
+fn second_keyed<'a>(key: &[u32], row: &'a Row) -> Option<&'a Value>
+    ensures { IfSome result (λ value. (slice_get key.now 1 ≡ Some 1) × (slice_get row.now 1 ≡ Some value.now)) }
+{
+    if row.len() > 1 && key.get(1) == Some(&1) {
+        Some(row.get(1))
+    } else {
+        None
+    }
+}
+
 /// How many rows stand before a row's place.
 pub fn place_in(rows: &Rows<'_>, key: &[u32], row: &Row) -> usize
     ensures within { result ≤ length rows.now }
@@ -118,6 +129,7 @@ pub fn place_in(rows: &Rows<'_>, key: &[u32], row: &Row) -> usize
     parted(
         rows,
         first_keyed(key, row),
+        second_keyed(key, row),
         |other| -> bool
             ensures { result ≡ is_lt (block_cmp key.entry.now other.now row.entry.now) }
         { block_compare(key, other, row).is_lt() },

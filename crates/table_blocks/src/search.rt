@@ -4,7 +4,7 @@ ghost use Rattle.std.specs.Prelude.{◌≡◌, ◌≤◌, Bool, true, false, Lis
 ghost use Rattle.std.specs.Fn.{ComputesKey};
 ghost use Rattle.std.specs.List.Sorted.{IsPartitionedBy, IsPartitionPoint};
 ghost use Rattle.cqa_value.specs.declared.value.Value.{Value as Cell};
-ghost use Rattle.row_pieces.specs.Marks.{FollowsFirst};
+ghost use Rattle.row_pieces.specs.Marks.{FollowsFirst, FollowsSecond};
 
 use cqa_value::{Row, Value};
 use row_pieces::Rows;
@@ -36,14 +36,19 @@ pub fn leading<P: FnMut(&Row) -> bool>(rows: &Rows<'_>, reach: usize, mut passes
 }
 
 /// How many rows come first that pass a test, where it parts the rows; where a value is given, the test follows the first values
-/// of rows, and only those rows are tried whose marks don't tell.
-pub fn parted<P: FnMut(&Row) -> bool>(rows: &Rows<'_>, near: Option<&Value>, passes: P) -> usize
+/// of rows, and the second ones where a second value is given, and only those rows are tried whose marks don't tell.
+pub fn parted<P: FnMut(&Row) -> bool>(
+    rows: &Rows<'_>,
+    near: Option<&Value>,
+    second: Option<&Value>,
+    passes: P,
+) -> usize
     requires { P.IsAlwaysCallable passes }
     ensures within { result ≤ length rows.now }
-    ensures partitioned { (p : List Cell → Bool) → ComputesKey P.FnMut p passes → IfSome near.entry (λ value. FollowsFirst value.now p) → IsPartitionedBy p rows.now → IsPartitionPoint (λ row. p row ≡ true) (λ row. p row ≡ false) rows.now result }
+    ensures partitioned { (p : List Cell → Bool) → ComputesKey P.FnMut p passes → IfSome near.entry (λ value. FollowsFirst value.now p × IfSome second.entry (λ then. FollowsSecond value.now then.now p)) → IsPartitionedBy p rows.now → IsPartitionPoint (λ row. p row ≡ true) (λ row. p row ≡ false) rows.now result }
 {
     match near {
-        Some(value) => rows.partition_point_near(value, passes),
+        Some(value) => rows.partition_point_near(value, second, passes),
         None => rows.partition_point(passes),
     }
 }

@@ -83,6 +83,17 @@ fn first_probed<'a>(key: &[u32], probe: &Probe<'a>) -> Option<&'a Value>
     }
 }
 
+/// The second value of a probe, if there is one and it is of the second column.
+fn second_probed<'a>(key: &[u32], probe: &Probe<'a>) -> Option<&'a Value>
+    ensures { IfSome result (λ value. (slice_get key.now 1 ≡ Some 1) × (slice_get probe.now 1 ≡ Some value.now)) }
+{
+    if probe.len() > 1 && key.get(1) == Some(&1) {
+        Some(probe.get(1))
+    } else {
+        None
+    }
+}
+
 /// The same rows and the same number, by one search, which marks narrow where they tell, and by doubling steps to their end.
 pub fn rows_with<'a>(rows: &Rows<'a>, key: &[u32], probe: &Probe<'_>) -> (usize, Rows<'a>)
     requires few { length probe.now ≤ length key.now }
@@ -92,6 +103,7 @@ pub fn rows_with<'a>(rows: &Rows<'a>, key: &[u32], probe: &Probe<'_>) -> (usize,
     let start = parted(
         rows,
         first_probed(key, probe),
+        second_probed(key, probe),
         |row| -> bool
             requires { length probe.now ≤ length key.now }
             ensures { result ≡ comes_before false (probe_cmp key.entry.now probe.entry.now row.now) }

@@ -17,7 +17,7 @@ returns c =
     let span : c.split_at-span.result.0 ≡ take count (drop start rows) = c.split_at-span.ensures.front ∙ ap (take count) rest in
     subst (λ rows'. IsSpan key rows probe start rows') (sym span)
     (span-is key rows probe start count c.parted-start.ensures.within (subst (λ xs. count ≤ length xs) rest c.leading-count.ensures.within)
-    (c.parted-start.ensures.partitioned (λ row. comes_before false (probe_cmp key probe row)) (always_returns_same _ _ _ (λ a r f k. search rules)) (followed_probe c.first_probed.result false key probe c.first_probed.ensures) (parted key rows probe c.requires.in_order false))
+    (c.parted-start.ensures.partitioned (λ row. comes_before false (probe_cmp key probe row)) (always_returns_same _ _ _ (λ a r f k. search rules)) (followed_probe c.first_probed.result c.second_probed.result false key probe c.first_probed.ensures c.second_probed.ensures) (parted key rows probe c.requires.in_order false))
     (subst (λ xs. IsPartitionedBy (λ row. comes_before true (probe_cmp key probe row)) xs → IsPartitionPoint (λ row. comes_before true (probe_cmp key probe row) ≡ true) (λ row. comes_before true (probe_cmp key probe row) ≡ false) xs count) rest
     (c.leading-count.ensures.partitioned (λ row. comes_before true (probe_cmp key probe row)) (always_returns_same _ _ _ (λ a r f k. search rules)))
     (parted key (drop start rows) probe (sorted-drop key rows start c.requires.in_order) true)))

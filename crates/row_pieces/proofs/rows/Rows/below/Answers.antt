@@ -9,6 +9,6 @@ returns-then-found-mark-clause-within c =
     omega (arith, there, next)
 
 pub returns-then-found-mark-clause-told : goal.returns-then-found-mark-clause-told
-returns-then-found-mark-clause-told c value p same follows parted k d a b =
+returns-then-found-mark-clause-told c p passes parted k d a b =
     let next = c.saturating_add.ensures in
-    told_front value p c.args.self.now c.in-Some.at c.in-Some.found c.args.mark same follows parted c.in-Some.ensures c.if-found-mark.true k d a (omega (arith, b, next))
+    told_front p c.args.self.now c.in-Some.at c.in-Some.found c.args.mark parted c.in-Some.ensures passes c.if-found-mark.true k d a (omega (arith, b, next))
