@@ -6,6 +6,7 @@ use cqa_io::{StdSink, StdSource};
 use cqa_session::Session;
 use std::env;
 use std::io::ErrorKind;
+use std::mem::forget;
 use std::process::ExitCode;
 
 /// The status where the words can't be obtained.
@@ -35,11 +36,14 @@ fn main(rt: HostRuntime) -> ExitCode {
     let mut session = Session::new(alloc, CONFLICTS);
     let mut source = StdSource::new(rt.stdin());
     let mut sink = StdSink::new(rt.stdout());
-    ExitCode::from(run_words(
+    let status = run_words(
         alloc,
         words.as_slice(),
         &mut session,
         &mut source,
         &mut sink,
-    ))
+    );
+    // The end of the process gives its memory back at once, which row by row takes a while.
+    forget(session);
+    ExitCode::from(status)
 }

@@ -1,6 +1,7 @@
 pub mod Again
 mod Fields
 pub mod OneWay
+pub mod PlainRows
 mod Quoting
 mod Records
 mod Rows

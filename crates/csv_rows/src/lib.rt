@@ -5,6 +5,7 @@
 mod ends;
 mod field;
 mod laws;
+mod plain;
 mod reading;
 mod record;
 mod writing;

@@ -8,6 +8,7 @@ ghost use Rattle.csv.specs.Records.{fields_of};
 ghost use Rattle.csv.specs.declared.reader.Trim.TheVariants.{None as NoTrim};
 ghost use Rattle.csv_rows.specs.Blocks.{HoldsRows, IsRefusedRecord, IsAtStart, kinds};
 
+use crate::plain::plain_rows;
 use crate::record::row_of;
 use cqa_model::{Column, Refusal, Schema};
 use cqa_value::{Fail, Items, NoMemory, Row};
@@ -54,6 +55,31 @@ fn read_into(
     Err(Fail::NoMemory)
 }
 
+/// The rows that the records of a block are, read as any CSV.
+fn read_quoted(alloc: Global, columns: &[Column], block: &[u8]) -> Result<Items<Row>, Fail<Refusal>>
+    requires few { length columns.now ≤ MOST_COLUMNS }
+    ensures rows { IfOk result (λ rows. HoldsRows (kinds columns.now) block.now rows) }
+    ensures refused { IfErr result (λ fault. IsRefusedRecord (kinds columns.now) block.now fault) }
+    ensures few { IfOk result (λ rows. length rows < 2 ^ 32) }
+{
+    let mut reader = ReaderBuilder::new()
+        .has_headers(false)
+        .flexible(true)
+        .from_reader(alloc, block);
+    let mut record = ByteRecord::new(alloc);
+    let mut rows = Items::new(alloc);
+    let read = read_into(alloc, columns, &mut reader, &mut record, &mut rows);
+    drop(record);
+    drop(reader);
+    match read {
+        Ok(()) => Ok(rows),
+        Err(fault) => {
+            drop(rows);
+            Err(fault)
+        }
+    }
+}
+
 /// The rows that the records of a block are, for a table of this schema: a field for each column, an int column's an
 /// integer in range, a text column's a UTF-8 text of at most 1,024 bytes. The records are those that the crate `csv` reads:
 /// commas between fields, quotes around fields that hold commas, quotes or line feeds, and no header.
@@ -66,21 +92,9 @@ pub fn read_rows(alloc: Global, schema: &Schema, block: &[u8]) -> Result<Items<R
     ensures refused { IfErr result (λ fault. IsRefusedRecord (kinds_of schema.now) block.now fault) }
     ensures few { IfOk result (λ rows. length rows < 2 ^ 32) }
 {
-    let mut reader = ReaderBuilder::new()
-        .has_headers(false)
-        .flexible(true)
-        .from_reader(alloc, block);
-    let mut record = ByteRecord::new(alloc);
-    let mut rows = Items::new(alloc);
     let columns = schema.columns.as_slice();
-    let read = read_into(alloc, columns, &mut reader, &mut record, &mut rows);
-    drop(record);
-    drop(reader);
-    match read {
-        Ok(()) => Ok(rows),
-        Err(fault) => {
-            drop(rows);
-            Err(fault)
-        }
+    match plain_rows(alloc, columns, block)? {
+        Some(rows) => Ok(rows),
+        None => read_quoted(alloc, columns, block),
     }
 }

@@ -5,6 +5,7 @@ pub mod Naming
 pub mod Steps
 pub mod Factoring
 pub mod Values
+pub mod Fitting
 pub mod Trees
 pub mod Spelled
 pub mod Whole

@@ -92,6 +92,7 @@ pub fn is_short(bytes: &[u8]) -> bool
 }
 
 /// The bytes with each two quotes side by side taken as one where these aren't too many, else any name.
+#[inline(never)]
 pub fn text_value(alloc: Global, bytes: &[u8]) -> Result<Name, NoMemory>
     requires { IsUtf8 (undoubled bytes.now) }
     ensures { IfOk result (λ n. length (undoubled bytes.now) ≤ LONGEST_TEXT_VALUE → n ≡ undoubled bytes.now) }
@@ -114,6 +115,7 @@ pub fn text_value(alloc: Global, bytes: &[u8]) -> Result<Name, NoMemory>
 }
 
 /// The value of an integer where it is in range, else any value.
+#[inline(always)]
 pub fn int_value(bytes: &[u8]) -> Value
     requires { IsTrue (are_digits (without_minus bytes.now)) }
     ensures { IsTrue (is_in_range (integer_of bytes.now)) → result ≡ Value.Int (integer_of bytes.now) }

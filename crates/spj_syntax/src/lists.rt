@@ -47,6 +47,7 @@ pub trait Piece: Sized + Drop {
 }
 
 /// Whether another item of a list follows.
+#[inline(always)]
 fn sees(reader: &Reader<'_>, between: Between) -> bool
     ensures { Opens result (one (separator between)) reader.now }
 {
@@ -57,6 +58,7 @@ fn sees(reader: &Reader<'_>, between: Between) -> bool
 }
 
 /// Reads an item and puts it behind the others.
+#[inline(always)]
 fn push_piece<P: Piece>(
     alloc: Global,
     reader: &mut Reader<'_>,
@@ -70,6 +72,7 @@ fn push_piece<P: Piece>(
 }
 
 /// One or more with a token between them, in a list with room for so many at first.
+#[inline(always)]
 fn separated<P: Piece>(
     alloc: Global,
     reader: &mut Reader<'_>,
@@ -92,6 +95,7 @@ fn separated<P: Piece>(
 }
 
 /// One or more with commas between them.
+#[inline(always)]
 pub fn listed<P: Piece>(alloc: Global, reader: &mut Reader<'_>) -> Result<Items<P>, Stop>
     ensures reads { Reads (grammar.listed P.shape) (listed_tokens P.tokens) result reader.old reader.new }
     ensures some { IfOk result (λ v. 0 < length v) }
@@ -141,6 +145,7 @@ pub fn columns(alloc: Global, reader: &mut Reader<'_>) -> Result<Items<Column>, 
 }
 
 /// One or more literals with commas between them.
+#[inline(always)]
 pub fn literals(alloc: Global, reader: &mut Reader<'_>) -> Result<Row, Stop>
     ensures reads { Reads (grammar.listed grammar.literal) (listed_tokens literal_tokens) result reader.old reader.new }
     ensures some { IfOk result (λ v. 0 < length v) }
@@ -159,6 +164,7 @@ impl Piece for Value {
 
     ghost takes_some = { refl };
 
+    #[inline(always)]
     fn piece(alloc: Global, reader: &mut Reader<'_>) -> Result<Self, Stop> {
         literal(alloc, reader)
     }
@@ -209,6 +215,7 @@ impl Piece for Row {
 
     ghost kept = { λ row. IsSome row };
 
+    #[inline(always)]
     fn piece(alloc: Global, reader: &mut Reader<'_>) -> Result<Self, Stop> {
         reader.mark(Symbol::Open)?;
         let values = literals(alloc, reader)?;

@@ -22,8 +22,8 @@ use cqa_value::{Fail, read_int};
 use script_lex::{Token, TokenKind};
 use std::alloc::Global;
 
-/// An integer of at most so many bytes is in range, whatever its digits.
-const SURELY_IN_RANGE: usize = 18;
+/// A token of at most so many bytes is within its limits, whatever it is: an integer is in range with any digits.
+const SURELY_FITS: usize = 18;
 
 /// Where a token begins.
 fn offset(text: &[u8], token: Token) -> u32
@@ -60,8 +60,8 @@ fn stopped(stop: Stop, text: &[u8], tokens: &[Token], left: usize) -> Fail<Synta
     }
 }
 
-/// What is wrong with a token alone, where the statement is no `set`.
-fn unfit(text: &[u8], token: Token) -> Option<SyntaxFault>
+/// What is wrong with a token that isn't short, where the statement is no `set`.
+fn unfit_long(text: &[u8], token: Token) -> Option<SyntaxFault>
     requires readable { IsReadable text.now token }
     requires short { length text.now ≤ longest_text }
     ensures { MatchOption result (Fits false (lexeme text.now token)) (λ fault. IsUnfit text.now token fault) }
@@ -75,15 +75,10 @@ fn unfit(text: &[u8], token: Token) -> Option<SyntaxFault>
             }
             None
         }
-        TokenKind::Int => {
-            if bytes.len() <= SURELY_IN_RANGE {
-                return None;
-            }
-            match read_int(bytes) {
-                Some(_) => None,
-                None => Some(SyntaxFault::OutOfRange(from)),
-            }
-        }
+        TokenKind::Int => match read_int(bytes) {
+            Some(_) => None,
+            None => Some(SyntaxFault::OutOfRange(from)),
+        },
         TokenKind::Text => {
             if is_short(&bytes[1..bytes.len() - 1]) {
                 return None;
@@ -92,6 +87,19 @@ fn unfit(text: &[u8], token: Token) -> Option<SyntaxFault>
         }
         TokenKind::Sym(_) => None,
     }
+}
+
+/// What is wrong with a token alone, where the statement is no `set`.
+#[inline(always)]
+fn unfit(text: &[u8], token: Token) -> Option<SyntaxFault>
+    requires readable { IsReadable text.now token }
+    requires short { length text.now ≤ longest_text }
+    ensures { MatchOption result (Fits false (lexeme text.now token)) (λ fault. IsUnfit text.now token fault) }
+{
+    if token.span.to - token.span.from <= SURELY_FITS {
+        return None;
+    }
+    unfit_long(text, token)
 }
 
 /// What is wrong with the first token that doesn't fit, where the statement is no `set`.

@@ -39,6 +39,7 @@ pub fn column(alloc: Global, reader: &mut Reader<'_>) -> Result<Column, Stop>
 }
 
 /// An integer or a text.
+#[inline(always)]
 pub fn literal(alloc: Global, reader: &mut Reader<'_>) -> Result<Value, Stop>
     ensures { Reads grammar.literal literal_tokens result reader.old reader.new }
 {

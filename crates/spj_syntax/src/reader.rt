@@ -83,22 +83,34 @@ impl<'a> Reader<'a> {
         self.tokens.len()
     }
 
-    /// A guess how many items a list has that stands first, good enough to make room by: one more than the commas up to the next
-    /// closing bracket.
-    pub fn listed_ahead(&self) -> usize
-        ensures { result ≤ length self.now + 1 }
+    /// How many tokens stand before the next closing bracket, and how many commas among them.
+    fn ahead(&self) -> (usize, usize)
+        ensures { (result.0 ≤ length self.now) × (result.1 ≤ length self.now) }
     {
-        let mut count = 1;
-        for token in self.tokens {
+        let mut commas = 0;
+        for (count, token) in self.tokens.iter().enumerate() {
             match token.kind {
-                TokenKind::Sym(Symbol::Close) => return count,
-                TokenKind::Sym(Symbol::Comma) => count += 1,
+                TokenKind::Sym(Symbol::Close) => return (count, commas),
+                TokenKind::Sym(Symbol::Comma) => commas += 1,
                 _ => {}
             }
         }
-        count
+        (self.tokens.len(), commas)
     }
 
+    /// A guess how many items a list has that stands first, good enough to make room by: one more than the commas up to the next
+    /// closing bracket; where an opening one stands first, as many as would take all tokens.
+    pub fn listed_ahead(&self) -> usize
+        ensures { result ≤ length self.now + 1 }
+    {
+        let (count, commas) = self.ahead();
+        if self.sees_mark(Symbol::Open) {
+            return self.tokens.len() / (count + 2) + 1;
+        }
+        commas + 1
+    }
+
+    #[inline(always)]
     pub fn peek(&self) -> Seen<'a>
         ensures front { front_of self.now ≡ seen result }
         ensures sound { SeenSound result }
@@ -116,6 +128,7 @@ impl<'a> Reader<'a> {
         }
     }
 
+    #[inline(always)]
     pub fn advance(&mut self)
         requires { IsSome (front_of self.old) }
         ensures { self.new ≡ drop 1 self.old }
@@ -141,12 +154,14 @@ impl<'a> Reader<'a> {
         }
     }
 
+    #[inline(always)]
     pub fn sees_literal(&self) -> bool
         ensures { Opens result literal self.now }
     {
         matches!(self.peek(), Seen::Int(_) | Seen::Text(_))
     }
 
+    #[inline(always)]
     pub fn sees_mark(&self, symbol: Symbol) -> bool
         ensures { Opens result (one (mark symbol)) self.now }
     {
@@ -167,6 +182,7 @@ impl<'a> Reader<'a> {
         }
     }
 
+    #[inline(always)]
     pub fn mark(&mut self, symbol: Symbol) -> Result<(), Stop>
         ensures { Reads (one (mark symbol)) (λ _. Mark symbol ∷ []) result self.old self.new }
     {
