@@ -1,5 +1,5 @@
 -- What is decided of the numbered rows, said of the row asked for and of the rows that are kept.
-use Rattle.std.proofs.Common.{◌≡◌, ℕ, zero, suc, ◌+◌, ◌<◌, ◌≤◌, ◌↔◌, inl, inr, Bool, true, List, [], ◌∷◌, ◌++◌, length, get_or, take, filter_map, refl, sym, ap, ◌∙◌, subst, arith, Contains, Option, Some, None, Result, Ok, Err, IfOk}
+use Rattle.std.proofs.Common.{◌≡◌, ℕ, zero, suc, ◌+◌, ◌<◌, ◌≤◌, ◌↔◌, inl, inr, Bool, true, IsTrue, List, [], ◌∷◌, ◌++◌, length, get_or, take, filter_map, refl, sym, ap, ◌∙◌, subst, arith, Contains, Option, Some, None, Result, Ok, Err, IfOk}
 use Rattle.std.specs.Prelude.{slice_index}
 use Rattle.std.proofs.lemmas.List.{take_more, append-nil}
 use Rattle.std.proofs.lemmas.List.Elements.{filter_map-append}
@@ -8,6 +8,7 @@ use Rattle.cqa_value.specs.declared.value.Value.{Value}
 use Rattle.cqa_model.specs.declared.query.Query.{Query}
 use Rattle.cqa_model.specs.Database.{Table, stored}
 use Rattle.cqa_model.specs.Query.{rows_of, FitsDatabase}
+use Rattle.cqa_model.specs.Certain.{IsCertain}
 use Rattle.cqa_model.specs.Plan.{Placed}
 use Rattle.cqa_model.proofs.Classic.{mem-head, mem-tail, mem-nil, mem-cases}
 use Rattle.cqa_model.proofs.Reification.{placed}
@@ -17,7 +18,7 @@ use Rattle.weak_pairs.specs.declared.decide.Decision.TheVariants.{Certain, Rejec
 use Rattle.weak_pairs.specs.Pairs.{IsPair, IsStored}
 use Rattle.weak_pairs.specs.Peeling.{IsBlock, In, row_of}
 use Rattle.weak_pairs.specs.Numbering.{AreNumbered}
-use Rattle.weak_pairs.specs.Outcomes.{AreStarts, AreSided, IsSplit, IsDecided, IsTaken, PairDecided}
+use Rattle.weak_pairs.specs.Outcomes.{AreStarts, AreSided, IsSplit, IsDecided, IsTold, IsTaken, PairDecided}
 use Rattle.pair_answers.specs.Numbers.{numbered, place_of, AreRowStarts}
 use Rattle.pair_answers.specs.Lists.{AreRowLists}
 use Rattle.pair_answers.specs.Kept.{AreAscendingFrom, AreKept, IsAnswer}
@@ -117,3 +118,6 @@ module _ (db : List Table) (q : Query) (row : List Value) (pair : IsPair q) (fit
   pub answered : {E : Type 0} (result : Result Decision E) → IfOk result (IsDecided lists first) → IfOk result (IsAnswer q db row)
   answered (Ok d) h = answer d h
   answered (Err e) h = tt
+
+  pub told : (certain : Bool) → IsTold lists first certain → IsTrue certain ↔ IsCertain db q row
+  told certain d = law.told db q row ls.cols place first lists certain fits long pair ls.shared numbering ls.lists_are d

@@ -15,7 +15,7 @@ use cqa_value::{Items, NoMemory, Row};
 use std::alloc::Global;
 use table_blocks::Database;
 use weak_pairs::laws::pair_decided;
-use weak_pairs::{Decision, decide_rows};
+use weak_pairs::{Decision, are_certain, decide_rows};
 
 /// A repair of a query's tables: the rows that it keeps, in `from` order and block order.
 #[derive(Drop)]
@@ -48,7 +48,7 @@ pub fn decide(
     }
 }
 
-/// Whether a row is certain.
+/// Whether a row is certain. No repair is looked for, which takes about as long again where rows lie anywhere.
 ///
 /// # Errors
 ///
@@ -59,10 +59,13 @@ pub fn is_certain(alloc: Global, db: &Database, query: &Query, row: &Row) -> Res
     requires size { length row.now ≡ length query.now.answer }
     ensures { IfOk result (λ certain. IsTrue certain ↔ IsCertain db.now query.now row.now) }
 {
-    match decide_numbers(alloc, db, query, row)? {
-        Decision::Certain => Ok(true),
-        Decision::Rejected(_) => Ok(false),
-    }
+    let starts = block_starts(alloc, db, query)?;
+    let columns = both_columns(alloc, query)?;
+    let lists = row_lists(alloc, db, query, row, &columns.left, &columns.right)?;
+    pair_decided();
+    let blocks = starts.first.len() as u32 - 1;
+    let certain = are_certain(alloc, &lists, &starts.first, blocks, starts.split)?;
+    Ok(certain)
 }
 
 /// Decides the numbered rows.

@@ -94,6 +94,15 @@ none-last g buckets last is size = record {
     zero-at : (b : ℕ) → b < length last → get_or last b 0 ≡ 0
     zero-at b l = ap (λ z. get_or z b 0) is ∙ get_or-replicate buckets b 0 0 (subst (λ n. b < n) size l)
 
+-- rows are chained alike where their buckets are the same
+pub chained-as : (f g : ℕ → ℕ) (k : ℕ) (before : List ℕ) → ((i : ℕ) → i < k → f i ≡ g i) → AreChained f k k before → AreChained g k k before
+chained-as f g k before same c = record {
+  size = c.size;
+  low = c.low;
+  same = λ i p l e. let m = c.low i l in sym (same p (omega (arith, m, e, l))) ∙ c.same i p l e ∙ same i l;
+  free = λ i q l in' from to e. c.free i q l (subst (λ z. z < k) (sym (same i l)) in') from to (same q (omega (arith, to, l)) ∙ e ∙ sym (same i l));
+}
+
 -- a chain was gone back so far: no row from here on up to the place has its list, and the row just before is in its bucket
 pub record AreBehind (lists : Lists) (at left : ℕ) : Type 0 where
   pub within : left ≤ at

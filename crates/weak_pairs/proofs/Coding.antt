@@ -1,9 +1,10 @@
 -- Codes of lists, and the buckets of rows by them.
-use Rattle.std.proofs.Common.{◌≡◌, ◌≢◌, ℕ, zero, suc, ◌*◌, ◌/◌, ◌%◌, ◌<◌, ◌^◌, ◌↔◌, List, length, map, nat_eq, IsTrue, get_or, refl, sym, ◌∙◌, ap, subst, arith, Some, None, pos}
+use Rattle.std.proofs.Common.{◌≡◌, ◌≢◌, ℕ, zero, suc, ◌*◌, ◌/◌, ◌%◌, ◌<◌, ◌^◌, ◌↔◌, List, length, map, inl, inr, Option, nat_eq, IsTrue, get_or, refl, sym, ◌∙◌, ap, subst, arith, Some, None, pos}
 use Rattle.std.proofs.Math.IntN.{◌+ℤ◌, -ℤ-+ℤ_cancel}
-use Rattle.std.proofs.Math.Nat.{mod-lt}
+use Rattle.std.proofs.Math.Nat.{mod-lt, div-lt_iff_lt-mul, mul-lt-mul_of_pos_right, mul_comm}
 use Rattle.std.proofs.Math.ListN.{get_or-map}
-use Rattle.std.proofs.lemmas.Bool.{eq-eqb, eqb-true}
+use Rattle.std.proofs.lemmas.Bool.{eq-eqb, eqb-true, cases_lt}
+use Rattle.std.proofs.lemmas.List.{get_or_past}
 use Rattle.cqa_value.specs.declared.value.Value.{Value}
 use Rattle.weak_pairs.specs.declared.packed.TheConstants.{HALF, MULTIPLIER, SHIFT}
 use Rattle.weak_pairs.specs.declared.lists.Lists.{Lists}
@@ -38,9 +39,19 @@ listed (suc c) n = (_, refl)
 pub code-at : (codes : List ℕ) (i : ℕ) → get_or (map list_of codes) i None ≡ list_of (get_or codes i 0)
 code-at codes i = get_or-map list_of codes i 0
 
+pub upper : (n : ℕ) → n % 2 ^ 64 / SHIFT < SHIFT
+upper n = let m : n % 2 ^ 64 < 2 ^ 64 = mod-lt n (omega arith) in omega (arith, m)
+
+pub scaled : (h buckets : ℕ) → h < SHIFT → 0 < buckets → h * buckets / SHIFT < buckets
+scaled h buckets l some = (div-lt_iff_lt-mul (omega arith)).1 (subst (λ z. h * buckets < z) (mul_comm SHIFT buckets) (mul-lt-mul_of_pos_right l some))
+
 some-bucket : (buckets c : ℕ) → 0 < buckets → c ≢ 0 → bucket_of_code buckets c < buckets
 some-bucket buckets zero l n = absurd (n refl)
-some-bucket buckets (suc c) l n = mod-lt (suc c * MULTIPLIER % 2 ^ 64 / SHIFT) l
+some-bucket buckets (suc c) l n = scaled (suc c * MULTIPLIER % 2 ^ 64 / SHIFT) buckets (upper (suc c * MULTIPLIER)) l
+
+-- how many rows there are, at least
+long : {A : Type 0} (xs : List (Option A)) (i : ℕ) (x : A) → get_or xs i None ≡ Some x → i < length xs
+long xs i x e = elim (cases_lt i (length xs)) [ inl l ↦ l | inr g ↦ absurd (cc (sym e ∙ get_or_past xs i None g)) ]
 
 -- rows with one list are in one bucket
 pub one-bucket : (lists : Lists) (i j : ℕ) → HaveOne (lists_in lists) i j → bucket_at lists i ≡ bucket_at lists j
@@ -52,8 +63,8 @@ one-bucket (Borrowed lists) i j (x, xi, xj) = ap (bucket_of_list (bucket_count (
 -- a row with a list is in some bucket
 pub in-some : (lists : Lists) (i j : ℕ) → HaveOne (lists_in lists) i j → bucket_at lists j < bucket_count (length (lists_in lists))
 in-some (Packed codes) i j (x, xi, xj) =
-    some-bucket (bucket_count (length (map list_of codes.items))) (get_or codes.items j 0) (omega arith) (some-code (get_or codes.items j 0) x (sym (code-at codes.items j) ∙ xj))
-in-some (Borrowed lists) i j (x, xi, xj) = subst (λ z. bucket_of_list (bucket_count (length lists.items)) z < bucket_count (length lists.items)) (sym xj) (mod-lt (digest x) (omega arith))
+    some-bucket (bucket_count (length (map list_of codes.items))) (get_or codes.items j 0) (omega (arith, long (map list_of codes.items) i x xi)) (some-code (get_or codes.items j 0) x (sym (code-at codes.items j) ∙ xj))
+in-some (Borrowed lists) i j (x, xi, xj) = subst (λ z. bucket_of_list (bucket_count (length lists.items)) z < bucket_count (length lists.items)) (sym xj) (mod-lt (digest x) (omega (arith, long lists.items i x xi)))
 
 -- a row with a code has one list with another exactly where that has this code too
 pub one-list : (codes : List ℕ) (i j : ℕ) → get_or codes i 0 ≢ 0 → IsTrue (nat_eq (get_or codes i 0) (get_or codes j 0)) ↔ HaveOne (map list_of codes) i j

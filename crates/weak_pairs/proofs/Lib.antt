@@ -1,6 +1,7 @@
 pub mod Structure
 pub mod Choices
 pub mod Peeling
+pub mod Choosing
 pub mod Numbered
 pub mod Edges
 pub mod Picking

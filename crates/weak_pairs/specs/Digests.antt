@@ -1,5 +1,5 @@
 -- A number that is the same for the same values, or the same code of two small integers, and buckets of rows by it.
-use Rattle.std.specs.Prelude.{ℕ, ◌+◌, ◌*◌, ◌%◌, List, [], ◌∷◌, length, fold, map, Option, Some, None, slice_index, slice_index_or}
+use Rattle.std.specs.Prelude.{◌≡◌, ℕ, ◌%◌, ◌<◌, List, [], ◌∷◌, length, fold, map, Option, Some, None, slice_index, slice_index_or}
 use Rattle.std.specs.Hash.FoldHasher as folding
 use Rattle.std.specs.declared.hash.FoldHasher.{FoldHasher}
 use Rattle.cqa_value.specs.declared.value.Value.{Value}
@@ -33,8 +33,13 @@ bucket_of buckets (Borrowed lists) i = bucket_of_list buckets (slice_index_or li
 
 -- how many buckets there are for rows
 abbrev pub bucket_count : ℕ → ℕ
-bucket_count rows = 2 * rows + 1
+bucket_count rows = rows
 
 -- the bucket of the row at a place
 abbrev pub bucket_at : Lists → ℕ → ℕ
 bucket_at lists i = bucket_of (bucket_count (length (lists_in lists))) lists i
+
+-- the buckets of the first k rows
+pub record AreBuckets (lists : Lists) (k : ℕ) (buckets : List ℕ) : Type 0 where
+  pub size : length buckets ≡ k
+  pub are : (i : ℕ) → i < k → slice_index buckets i ≡ bucket_at lists i

@@ -16,4 +16,4 @@ list_of (suc c) = Some (Int (integer_of (c / SHIFT)) ∷ Int (integer_of (c % SH
 -- the bucket of a code, of so many; 0 is in none of them
 abbrev pub bucket_of_code : ℕ → ℕ → ℕ
 bucket_of_code buckets zero = buckets
-bucket_of_code buckets (suc c) = suc c * MULTIPLIER % 2 ^ 64 / SHIFT % buckets
+bucket_of_code buckets (suc c) = suc c * MULTIPLIER % 2 ^ 64 / SHIFT * buckets / SHIFT

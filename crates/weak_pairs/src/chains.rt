@@ -2,7 +2,7 @@
 //! Rows with one list of values have one edge, and each row without a list has an edge of its own.
 
 ghost use Rattle.std.specs.Prelude.{◌≡◌, ◌+◌, ◌<◌, ◌≤◌, ◌^◌, ℕ, [], IfOk, OnOk, length, replicate, slice_index};
-ghost use Rattle.weak_pairs.specs.Digests.{bucket_at, bucket_count, lists_in};
+ghost use Rattle.weak_pairs.specs.Digests.{AreBuckets, bucket_at, bucket_count, lists_in};
 ghost use Rattle.weak_pairs.specs.EdgeNumbers.{AreChained, IsLinked, IsNext, IsSameBefore};
 ghost use Rattle.weak_pairs.specs.Numbering.{AreEdges};
 
@@ -23,19 +23,28 @@ fn link(last: &mut [u32], bucket: usize, at: u32) -> u32
     before
 }
 
-/// Chains the rows, each to the last one before it in its bucket.
-fn chain(lists: &Lists<'_>, last: &mut [u32], before: &mut Vec<u32>) -> Result<(), NoMemory>
-    requires few { length (lists_in lists.now) < 2 ^ 32 }
-    requires none { last.old ≡ replicate (bucket_count (length (lists_in lists.now))) 0 }
-    requires first { before.old.items ≡ [] }
-    ensures { OnOk result (AreChained (bucket_at lists.now) (bucket_count (length (lists_in lists.now))) (length (lists_in lists.now)) before.new.items) }
+/// Chains rows whose buckets are given: puts in place of each row's bucket the place behind the last row before it there.
+fn chain(last: &mut [u32], before: &mut [u32])
+    requires few { length before.old < 2 ^ 32 }
+    requires none { last.old ≡ replicate (length before.old) 0 }
+    ensures { AreChained (λ at. slice_index before.old at) (length before.old) (length before.old) before.new }
 {
-    for at in 0..lists.len() {
-        let its = lists.bucket(at, last.len());
-        let behind = link(last, its, at as u32);
-        before.push(behind)?;
+    for at in 0..before.len() {
+        before[at] = link(last, before[at] as usize, at as u32);
     }
-    Ok(())
+}
+
+/// The bucket of each row.
+fn buckets(alloc: Global, lists: &Lists<'_>, count: usize) -> Result<Vec<u32>, NoMemory>
+    requires few { length (lists_in lists.now) < 2 ^ 32 }
+    requires all { count ≡ length (lists_in lists.now) }
+    ensures { IfOk result (λ buckets. AreBuckets lists.now count buckets.items) }
+{
+    let mut buckets = Vec::with_capacity(alloc, count)?;
+    for at in 0..count {
+        buckets.push(lists.bucket(at, count) as u32)?;
+    }
+    Ok(buckets)
 }
 
 /// For each row the place behind the last row before it in its bucket, and 0 where there is none.
@@ -44,9 +53,9 @@ fn chains(alloc: Global, lists: &Lists<'_>) -> Result<Vec<u32>, NoMemory>
     ensures { IfOk result (λ before. AreChained (bucket_at lists.now) (bucket_count (length (lists_in lists.now))) (length (lists_in lists.now)) before.items) }
 {
     let count = lists.len();
-    let mut last = vec![in alloc; 0; 2 * count + 1]?;
-    let mut before = Vec::with_capacity(alloc, count)?;
-    chain(lists, &mut last, &mut before)?;
+    let mut last = vec![in alloc; 0; count]?;
+    let mut before = buckets(alloc, lists, count)?;
+    chain(&mut last, &mut before);
     Ok(before)
 }
 

@@ -4,12 +4,12 @@
 
 ghost use Rattle.std.specs.Prelude.{◌≡◌, ◌+◌, ◌<◌, ◌^◌, IfOk, length};
 ghost use Rattle.weak_pairs.specs.Digests.{lists_in};
-ghost use Rattle.weak_pairs.specs.Outcomes.{AreSided, AreStarts, IsDecided};
+ghost use Rattle.weak_pairs.specs.Outcomes.{AreSided, AreStarts, IsDecided, IsTold};
 
 use crate::chains::edge_numbers;
 use crate::layout::edge_ends;
 use crate::lists::Lists;
-use crate::peel::{Outcome, choose};
+use crate::peel::{Outcome, choose, is_blocked};
 use cqa_value::NoMemory;
 use std::alloc::Global;
 
@@ -45,4 +45,28 @@ pub fn decide_rows(
         Outcome::Blocked(_, _) => Ok(Decision::Certain),
         Outcome::Chosen(own) => Ok(Decision::Rejected(own)),
     }
+}
+
+/// Whether some block is left without an edge, so that the row is certain. No rows are looked for where none is.
+///
+/// # Errors
+///
+/// `NoMemory` where memory is refused.
+pub fn are_certain(
+    alloc: Global,
+    lists: &Lists<'_>,
+    start: &[u32],
+    blocks: u32,
+    split: u32,
+) -> Result<bool, NoMemory>
+    requires few { length (lists_in lists.now) < 2 ^ 32 }
+    requires blocks { blocks + 1 ≡ length start.now }
+    requires starts { AreStarts start.now (length (lists_in lists.now)) }
+    requires sided { AreSided (lists_in lists.now) start.now split }
+    ensures { IfOk result (IsTold (lists_in lists.now) start.now) }
+{
+    let (edge, count) = edge_numbers(alloc, lists)?;
+    let ends = edge_ends(alloc, start, &edge, blocks, split, count)?;
+    let blocked = is_blocked(alloc, start, &edge, &ends, blocks)?;
+    Ok(blocked)
 }

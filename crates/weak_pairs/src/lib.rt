@@ -12,7 +12,7 @@ mod peel;
 mod picked;
 
 pub use chains::edge_numbers;
-pub use decide::{Decision, decide_rows};
+pub use decide::{Decision, are_certain, decide_rows};
 pub use layout::edge_ends;
 pub use lists::Lists;
 pub use packed::code;

@@ -1,6 +1,6 @@
 //! The lists of rows, whose values tell which rows meet.
 
-ghost use Rattle.std.specs.Prelude.{◌≡◌, ◌↔◌, ◌<◌, IsTrue, length, map};
+ghost use Rattle.std.specs.Prelude.{◌≡◌, ◌↔◌, ◌<◌, ◌≤◌, ◌^◌, IsTrue, length, map};
 ghost use Rattle.weak_pairs.specs.Digests.{bucket_of, bucket_of_list, lists_in};
 ghost use Rattle.weak_pairs.specs.EdgeNumbers.{HaveOne};
 ghost use Rattle.weak_pairs.specs.Packing.{list_of};
@@ -18,7 +18,8 @@ pub enum Lists<'a> {
 /// The bucket of a list; what is no list is in none.
 fn bucket_of_picked(list: &Option<Picked<'_>>, buckets: usize) -> usize
     requires { 0 < buckets }
-    ensures { result ≡ bucket_of_list buckets list.now }
+    ensures is { result ≡ bucket_of_list buckets list.now }
+    ensures within { result ≤ buckets }
 {
     match list {
         None => buckets,
@@ -66,7 +67,9 @@ impl<'a> Lists<'a> {
     pub(crate) fn bucket(&self, at: usize, buckets: usize) -> usize
         requires there { at < length (lists_in self.now) }
         requires some { 0 < buckets }
-        ensures { result ≡ bucket_of buckets self.now at }
+        requires few { buckets < 2 ^ 32 }
+        ensures is { result ≡ bucket_of buckets self.now at }
+        ensures within { result ≤ buckets }
     {
         match self {
             Lists::Packed(codes) => code_bucket(codes[at], buckets),

@@ -1,6 +1,6 @@
 //! Lists of two small integers, each told by a code, so that no row is looked at again.
 
-ghost use Rattle.std.specs.Prelude.{◌≡◌, ◌+◌, ◌<◌, MatchOption, Some, [], ◌∷◌};
+ghost use Rattle.std.specs.Prelude.{◌≡◌, ◌+◌, ◌<◌, ◌≤◌, MatchOption, Some, [], ◌∷◌};
 ghost use Rattle.cqa_value.specs.declared.value.Value.TheVariants.{Int};
 ghost use Rattle.cqa_model.specs.Database.{key_of};
 ghost use Rattle.weak_pairs.specs.Packing.{bucket_of_code, integer_of, list_of};
@@ -53,13 +53,16 @@ pub fn code(row: &Row, columns: &[u32]) -> Option<u64>
     Some(joined(first, second))
 }
 
-/// The bucket of a code; 0 is in none.
+/// The bucket of a code; 0 is in none. The upper half of the product is spread over the buckets, without a division.
 pub(crate) fn bucket(code: u64, buckets: usize) -> usize
-    requires { 0 < buckets }
-    ensures { result ≡ bucket_of_code buckets code }
+    requires some { 0 < buckets }
+    requires few { buckets < SHIFT }
+    ensures is { result ≡ bucket_of_code buckets code }
+    ensures within { result ≤ buckets }
 {
     if code == 0 {
         return buckets;
     }
-    (code.wrapping_mul(MULTIPLIER) / SHIFT % buckets as u64) as usize
+    let upper = code.wrapping_mul(MULTIPLIER) / SHIFT;
+    (upper * buckets as u64 / SHIFT) as usize
 }

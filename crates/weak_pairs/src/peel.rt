@@ -10,6 +10,7 @@ ghost use Rattle.weak_pairs.specs.Peeling.{
   AreOpen,
   ArePeeled,
   HasOne,
+  HasOutcome,
   In,
   IsBlock,
   IsFree,
@@ -431,4 +432,52 @@ pub fn choose(
         Some(root) => Ok(Outcome::Blocked(order, root)),
         None => Ok(Outcome::Chosen(own)),
     }
+}
+
+/// Peels, and tells whether a block is left without an edge.
+fn is_blocked_in(
+    start: &[u32],
+    edge: &[u32],
+    ends: &[Ends],
+    own: &mut [Option<u32>],
+    taken: &mut [bool],
+    watch: &mut [Watch],
+    order: &mut Vec<u32>,
+    blocks: u32,
+) -> Result<bool, NoMemory>
+    requires laid { AreLaidOut start.now edge.now ends.now }
+    requires peeled { ArePeeled start.now edge.now ends.now own.old taken.old watch.old order.old.items }
+    requires blocks { blocks + 1 ≡ length start.now }
+    ensures { IfOk result (HasOutcome start.now edge.now) }
+{
+    match peel(start, edge, ends, own, taken, watch, order, blocks)? {
+        Some(_) => Ok(true),
+        None => Ok(false),
+    }
+}
+
+/// Whether a block is left without an edge: else rows can be chosen, but none are looked for.
+///
+/// # Errors
+///
+/// `NoMemory` where memory is refused.
+pub fn is_blocked(
+    alloc: Global,
+    start: &[u32],
+    edge: &[u32],
+    ends: &[Ends],
+    blocks: u32,
+) -> Result<bool, NoMemory>
+    requires laid { AreLaidOut start.now edge.now ends.now }
+    requires blocks { blocks + 1 ≡ length start.now }
+    ensures { IfOk result (HasOutcome start.now edge.now) }
+{
+    let mut own = no_rows(alloc, blocks)?;
+    let mut taken = vec![in alloc; false; ends.len()]?;
+    let mut watch = first_watches(alloc, start, blocks)?;
+    let mut order = Vec::new(alloc);
+    let blocked = is_blocked_in(
+        start, edge, ends, &mut own, &mut taken, &mut watch, &mut order, blocks,
+    )?;
+    Ok(blocked)
 }
