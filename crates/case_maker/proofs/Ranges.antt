@@ -1,5 +1,5 @@
 -- One number more, and pieces one after the other.
-use Rattle.std.proofs.Common.{◌≡◌, ℕ, zero, suc, ◌+◌, List, [], ◌∷◌, ◌++◌, sym, ap, ◌∙◌, arith}
+use Rattle.std.proofs.Common.{◌≡◌, ℕ, zero, suc, ◌+◌, List, [], ◌∷◌, ◌++◌, refl, sym, ap, ◌∙◌, arith}
 use Rattle.std.proofs.lemmas.List.{append_assoc, flat_map_more}
 use Rattle.std.specs.List.{flat_map, range_with_len}
 
@@ -19,3 +19,7 @@ lines_more f start a n =
 -- what is appended to what was appended
 pub appended : (start x y : List ℕ) {now next : List ℕ} → now ≡ start ++ x → next ≡ now ++ y → next ≡ start ++ (x ++ y)
 appended start x y a b = b ∙ ap (λ l. l ++ y) a ∙ append_assoc start x y
+
+-- a head and a piece
+pub block : (start x head y : List ℕ) {now next : List ℕ} → now ≡ start ++ x → next ≡ (now ++ head) ++ y → next ≡ start ++ ((x ++ head) ++ y)
+block start x head y a b = appended start (x ++ head) y (appended start x head a refl) b

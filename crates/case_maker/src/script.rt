@@ -1,7 +1,8 @@
 //! The script.
 
-ghost use Rattle.std.specs.Prelude.{◌≡◌, ◌++◌, ◌≤◌, [], IfOk, OnOk, length};
-ghost use Rattle.case_maker.specs.Scripts.{script_bytes};
+ghost use Rattle.std.specs.Prelude.{◌≡◌, ◌++◌, ◌+◌, ◌<◌, ◌≤◌, ◌^◌, [], IfOk, OnOk, length};
+ghost use Rattle.std.specs.List.{flat_map, range_with_len};
+ghost use Rattle.case_maker.specs.Scripts.{lines_of, script_bytes};
 
 use crate::lines::{Part, append_part};
 use cqa_value::NoMemory;
@@ -26,19 +27,30 @@ ask select lhs.g from lhs, rhs where lhs.g = rhs.g and lhs.z = rhs.z;
 possible select lhs.g from lhs, rhs where lhs.g = rhs.g and lhs.z = rhs.z;
 ";
 
+/// Appends what stands before a block, and the lines of its table for so many numbers, from one on.
+fn append_block(
+    head: &[u8],
+    part: Part,
+    first: u32,
+    count: u32,
+    out: &mut Vec<u8>,
+) -> Result<(), NoMemory>
+    requires { first + count < 2 ^ 32 }
+    ensures { OnOk result (out.new.items ≡ (out.old.items ++ head.now) ++ flat_map (lines_of part) (range_with_len first count)) }
+{
+    out.extend_from_slice(head)?;
+    append_part(part, first, count, out)
+}
+
 /// Appends the script of a size.
 fn append_script(size: u32, out: &mut Vec<u8>) -> Result<(), NoMemory>
     requires { size ≤ GREATEST_SIZE }
     ensures { OnOk result (out.new.items ≡ out.old.items ++ script_bytes size) }
 {
-    out.extend_from_slice(TABLES)?;
-    append_part(Part::Person, 1, size, out)?;
-    out.extend_from_slice(b"\\.\ncopy town;\n")?;
-    append_part(Part::Town, 0, 100, out)?;
-    out.extend_from_slice(b"\\.\ncopy lhs;\n")?;
-    append_part(Part::Lhs, 1, size, out)?;
-    out.extend_from_slice(b"\\.\ncopy rhs;\n")?;
-    append_part(Part::Rhs, 1, size, out)?;
+    append_block(TABLES, Part::Person, 1, size, out)?;
+    append_block(b"\\.\ncopy town;\n", Part::Town, 0, 100, out)?;
+    append_block(b"\\.\ncopy lhs;\n", Part::Lhs, 1, size, out)?;
+    append_block(b"\\.\ncopy rhs;\n", Part::Rhs, 1, size, out)?;
     out.extend_from_slice(QUERIES)?;
     Ok(())
 }

@@ -4,6 +4,7 @@ ghost use Rattle.std.specs.Prelude.{◌≡◌, ◌≤◌, IfOk, OnErr, Option, S
 ghost use Rattle.std.specs.Option.{option_copied};
 ghost use Rattle.spj_syntax.specs.declared.tree.Statement.{Statement};
 ghost use Rattle.cqa_model.specs.declared.refusal.Refusal.{Refusal as RefusalValue};
+ghost use Rattle.cqa_session.specs.declared.session.TheConstants.{LONGEST_INPUT};
 ghost use Rattle.cqa_session.specs.State.{opening_with, IsState};
 ghost use Rattle.cqa_session.specs.Saying.{Says, SaysOneThing};
 ghost use Rattle.cqa_session.specs.Replying.{IsOutcome};
@@ -17,6 +18,9 @@ use reply_text::{Proof, Reply};
 use std::alloc::Global;
 use std::marker::Model;
 use table_blocks::Database;
+
+/// The most bytes of a text that a session is given.
+pub const LONGEST_INPUT: usize = 268_435_456;
 
 /// A session of the machine: its tables, how many conflicts a search may take, and the last log with its formula.
 #[derive(Drop)]
@@ -95,7 +99,7 @@ impl Session {
         text: &[u8],
         block: Option<&[u8]>,
     ) -> Result<Reply, NoMemory>
-        requires { length text.now ≤ 268_435_456 }
+        requires { length text.now ≤ LONGEST_INPUT }
         ensures step { IfOk result (λ reply. Step self.old text.now (option_copied block.entry) reply self.new) }
         // What the text says decides the reply, unless memory runs out: a statement of which no check fails is done, and any other is refused.
         ensures complete { (said : Result Statement RefusalValue) → Says text.now said → IfOk result (λ reply. Does self.old said (option_copied block.entry) reply self.new) }
@@ -116,7 +120,7 @@ fn answer(
     text: &[u8],
     block: Option<&[u8]>,
 ) -> Result<Reply, Fail<Refusal>>
-    requires { length text.now ≤ 268_435_456 }
+    requires { length text.now ≤ LONGEST_INPUT }
     ensures { IsOutcome result session.old (Step session.old text.now (option_copied block.entry)) session.new }
 {
     let statement = read(alloc, text)?;

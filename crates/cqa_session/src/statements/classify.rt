@@ -1,6 +1,7 @@
 //! `classify`: the class of a query and the attacks between its atoms.
 
 ghost use Rattle.std.specs.Prelude.{◌<◌, ℕ, IfOk, length};
+ghost use Rattle.cqa_model.specs.declared.limits.TheConstants.{MOST_ATOMS};
 ghost use Rattle.cqa_model.specs.declared.query.Query.{Query as QueryValue};
 ghost use Rattle.cqa_model.specs.Variables.{whole};
 ghost use Rattle.attack_graph.specs.Attacking.{AreAttacks, HasAttack, HasWeakAttack};
@@ -64,8 +65,8 @@ fn attack_line(
     from: u32,
     to: u32,
 ) -> Result<AttackLine, NoMemory>
-    requires from { from < 12 }
-    requires to { to < 12 }
+    requires from { from < MOST_ATOMS }
+    requires to { to < MOST_ATOMS }
     requires attack { HasAttack graph.now from to }
     requires names { (from < length names.now) × (to < length names.now) }
     ensures { IfOk result (IsLineOf (HasWeakAttack graph.now) names.now (record { from = from; to = to })) }

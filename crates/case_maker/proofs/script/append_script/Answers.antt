@@ -1,9 +1,10 @@
-use Rattle.std.proofs.Common.{◌++◌, codes}
+use Rattle.std.proofs.Common.{◌++◌, ◌∙◌, codes}
+use Rattle.std.proofs.lemmas.List.{append_assoc}
 use Rattle.std.specs.List.{flat_map, range_with_len}
 use Rattle.case_maker.specs.declared.lines.Part.TheVariants.{Person, Town, Lhs, Rhs}
 use Rattle.case_maker.specs.declared.script.TheConstants.{TABLES, QUERIES}
 use Rattle.case_maker.specs.Scripts.{lines_of}
-use Rattle.case_maker.proofs.Ranges.{appended}
+use Rattle.case_maker.proofs.Ranges.{appended, block}
 use Rattle.case_maker.proofs.script.append_script.Goals as goal
 
 pub returns : goal.returns
@@ -22,11 +23,8 @@ returns c =
     let a6 = a5 ++ lefts in
     let a7 = a6 ++ codes "\\.\ncopy rhs;\n" in
     let a8 = a7 ++ rights in
-    let e2 = appended old a1 persons c.in_ok-extend_from_slice.ensures.items c.in_ok-append_part.ensures in
-    let e3 = appended old a2 (codes "\\.\ncopy town;\n") e2 c.in_ok-extend_from_slice-2.ensures.items in
-    let e4 = appended old a3 towns e3 c.in_ok-append_part-2.ensures in
-    let e5 = appended old a4 (codes "\\.\ncopy lhs;\n") e4 c.in_ok-extend_from_slice-3.ensures.items in
-    let e6 = appended old a5 lefts e5 c.in_ok-append_part-3.ensures in
-    let e7 = appended old a6 (codes "\\.\ncopy rhs;\n") e6 c.in_ok-extend_from_slice-4.ensures.items in
-    let e8 = appended old a7 rights e7 c.in_ok-append_part-4.ensures in
-    appended old a8 QUERIES.now e8 c.in_ok-extend_from_slice-5.ensures.items
+    let e2 = c.in_ok-append_block.ensures ∙ append_assoc old a1 persons in
+    let e4 = block old a2 (codes "\\.\ncopy town;\n") towns e2 c.in_ok-append_block-2.ensures in
+    let e6 = block old a4 (codes "\\.\ncopy lhs;\n") lefts e4 c.in_ok-append_block-3.ensures in
+    let e8 = block old a6 (codes "\\.\ncopy rhs;\n") rights e6 c.in_ok-append_block-4.ensures in
+    appended old a8 QUERIES.now e8 c.in_ok-extend_from_slice.ensures.items
