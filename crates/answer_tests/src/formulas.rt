@@ -186,7 +186,7 @@ fn logs_are_written(rt: HostRuntime) -> Result<(), Fail> {
 fn what_conflicts_met_most_is_decided_first(rt: HostRuntime) -> Result<(), Fail> {
     let mut order = Order::new(rt.alloc(), 5)?;
     let places: [Option<usize>; 6] = [None; 6];
-    for _conflict in 0..1500 {
+    for _conflict in 0..3000 {
         order.raise(&[3, 4]);
     }
     order.raise(&[4, 2]);
@@ -210,7 +210,7 @@ fn what_conflicts_met_most_is_decided_first(rt: HostRuntime) -> Result<(), Fail>
 #[test]
 fn searches_start_anew_by_the_sequence(rt: HostRuntime) {
     let mut restarts = Restarts::new();
-    for searches in [100u32, 100, 200, 100, 100, 200, 400, 100] {
+    for searches in [400u32, 400, 800, 400, 400, 800, 1600, 400] {
         let mut early = false;
         for _search in 1..searches {
             early = restarts.is_due() || early;

@@ -14,6 +14,9 @@ use cqa_value::NoMemory;
 /// How far a literal of a reason may be from marked ones that imply it.
 const STEPS: u32 = 4;
 
+/// How many reasons beside its own are looked at for a literal.
+const LOOKS: u32 = 30;
+
 /// The reason of a variable on the trail.
 fn reason_of(
     clauses: &[Clause],
@@ -29,7 +32,8 @@ fn reason_of(
     trail[places[var as usize]?].reason
 }
 
-/// Whether the variables of a reason beside its own are marked, or have reasons of which that is true in fewer steps.
+/// Whether the variables of a reason beside its own are marked, or have reasons of which that is true in fewer steps. Each
+/// further reason is one of the looks that are left.
 fn is_implied(
     clauses: &[Clause],
     trail: &[Entry],
@@ -38,6 +42,7 @@ fn is_implied(
     reason: usize,
     var: u32,
     steps: u32,
+    looks: &mut u32,
 ) -> bool
     requires places { ArePlaces (held trail.now) places.now }
     requires reasons { AreReasons (literals clauses.now) trail.now }
@@ -48,12 +53,22 @@ fn is_implied(
     let clause = literals_at(clauses, reason);
     for lit in clause {
         if lit.var != var && !seen[lit.var as usize] {
-            if steps == 0 {
+            if steps == 0 || *looks == 0 {
                 return false;
             }
+            *looks -= 1;
             match reason_of(clauses, trail, places, lit.var) {
-                Some(next) if is_implied(clauses, trail, places, seen, next, lit.var, steps - 1) =>
-                    {}
+                Some(next)
+                    if is_implied(
+                        clauses,
+                        trail,
+                        places,
+                        seen,
+                        next,
+                        lit.var,
+                        steps - 1,
+                        looks,
+                    ) => {}
                 _ => return false,
             }
         }
@@ -77,8 +92,18 @@ fn implied_by(
     ensures { MatchOption result ⊤ (λ reason. (reason < length clauses.now) × IsReasonAt (literals clauses.now) (held trail.now) at reason) }
 {
     let entry = trail[at];
+    let mut looks = LOOKS;
     if let Some(reason) = entry.reason
-        && is_implied(clauses, trail, places, seen, reason, entry.lit.var, STEPS)
+        && is_implied(
+            clauses,
+            trail,
+            places,
+            seen,
+            reason,
+            entry.lit.var,
+            STEPS,
+            &mut looks,
+        )
     {
         return Some(reason);
     }

@@ -2,7 +2,7 @@
 //! and Zuckerman, 1993), by Knuth's rule for it.
 
 /// How many searches, each up to a conflict, a 1 of the sequence stands for.
-const UNIT: u64 = 100;
+const UNIT: u64 = 400;
 
 /// Where a search stands in the sequence.
 #[derive(Clone, Copy)]
