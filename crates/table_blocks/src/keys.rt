@@ -13,6 +13,7 @@ ghost use Rattle.table_blocks.specs.Lists.{shown};
 ghost use Rattle.table_blocks.specs.Keys.{AscendByKey, same_key, first_sharing, taken_fault, broken_fault};
 
 use crate::order::key_compare;
+use crate::search::{first_keyed, parted, second_keyed};
 use cqa_model::Refusal;
 use cqa_value::{Fail, NoMemory, Row};
 use row_pieces::Rows;
@@ -93,7 +94,10 @@ fn first_stored<'a>(stored: &Rows<'a>, key: &[u32], row: &Row) -> Option<&'a Row
     requires { IsStrictlySortedBy (block_cmp key.now) stored.now }
     ensures { option_copied result ≡ first_sharing key.now stored.now row.now }
 {
-    let at = stored.partition_point(
+    let at = parted(
+        stored,
+        first_keyed(key, row),
+        second_keyed(key, row),
         |other| -> bool
             ensures { result ≡ is_lt (row_cmp (key_of key.entry.now other.now) (key_of key.entry.now row.entry.now)) }
         { key_compare(key, other, row).is_lt() },

@@ -1,6 +1,6 @@
 //! Rows in block order: how new ones are sorted in, and how rows are taken out.
 //! Nothing is compared that its place or its key tells.
-ghost use Rattle.std.specs.Prelude.{◌≡◌, ◌≤◌, ◌<◌, ◌+◌, ◌-◌, ◌↔◌, IsTrue, filter, not, MatchOption, OnErr, IfOk, IfSome, Some, None, if◌then◌else◌, slice_get, List, Contains, length, take, drop};
+ghost use Rattle.std.specs.Prelude.{◌≡◌, ◌≤◌, ◌<◌, ◌+◌, ◌-◌, ◌↔◌, IsTrue, filter, not, MatchOption, OnErr, IfOk, Some, None, if◌then◌else◌, slice_get, List, Contains, length, take, drop};
 ghost use Rattle.std.specs.List.{AllByRecursion};
 ghost use Rattle.std.specs.List.Sorted.{IsStrictlySortedBy};
 ghost use Rattle.std.specs.Ordering.{is_lt};
@@ -15,11 +15,11 @@ ghost use Rattle.table_blocks.specs.Tables.{IsPlace, ArePlaces, AreMergeable, Is
 use crate::keys::check_consistent;
 use crate::order::block_compare;
 use crate::probe::Probe;
-use crate::search::{leading, parted};
+use crate::search::{first_keyed, leading, parted, second_keyed};
 use crate::span::rows_with;
 use crate::test::{ColumnTest, known_key, passes_all};
 use cqa_model::Refusal;
-use cqa_value::{Fail, NoMemory, Row, Value};
+use cqa_value::{Fail, NoMemory, Row};
 use row_pieces::{Pieces, Rows};
 use std::alloc::Global;
 use std::cmp::Ordering;
@@ -97,28 +97,6 @@ pub fn put_in_order_of(
     rows.exchange(taken.as_mut_slice());
     drop(taken);
     done
-}
-
-/// The first value of a row, if there is one and the key begins with the first column.
-fn first_keyed<'a>(key: &[u32], row: &'a Row) -> Option<&'a Value>
-    ensures { IfSome result (λ value. (slice_get key.now 0 ≡ Some 0) × (slice_get row.now 0 ≡ Some value.now)) }
-{
-    if row.len() > 0 && key.first() == Some(&0) {
-        Some(row.get(0))
-    } else {
-        None
-    }
-}
-
-/// The second value of a row, if there is one and the second column of the key is the second one.
-fn second_keyed<'a>(key: &[u32], row: &'a Row) -> Option<&'a Value>
-    ensures { IfSome result (λ value. (slice_get key.now 1 ≡ Some 1) × (slice_get row.now 1 ≡ Some value.now)) }
-{
-    if row.len() > 1 && key.get(1) == Some(&1) {
-        Some(row.get(1))
-    } else {
-        None
-    }
 }
 
 /// How many rows stand before a row's place.

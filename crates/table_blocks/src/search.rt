@@ -1,6 +1,6 @@
 //! How many rows come first that pass a test, found from the front: what stands near the front, or where marks tell its place, is
 //! found in few steps, however many rows there are.
-ghost use Rattle.std.specs.Prelude.{◌≡◌, ◌≤◌, Bool, true, false, List, IfSome, length};
+ghost use Rattle.std.specs.Prelude.{◌≡◌, ◌≤◌, Bool, true, false, List, Some, IfSome, length, slice_get};
 ghost use Rattle.std.specs.Fn.{ComputesKey};
 ghost use Rattle.std.specs.List.Sorted.{IsPartitionedBy, IsPartitionPoint};
 ghost use Rattle.cqa_value.specs.declared.value.Value.{Value as Cell};
@@ -33,6 +33,28 @@ pub fn leading<P: FnMut(&Row) -> bool>(rows: &Rows<'_>, reach: usize, mut passes
     let (_, rest) = rows.split_at(passed);
     let (tried, _) = rest.split_at(end - passed);
     passed + tried.partition_point(passes)
+}
+
+/// The first value of a row, if there is one and the key begins with the first column.
+pub fn first_keyed<'a>(key: &[u32], row: &'a Row) -> Option<&'a Value>
+    ensures { IfSome result (λ value. (slice_get key.now 0 ≡ Some 0) × (slice_get row.now 0 ≡ Some value.now)) }
+{
+    if row.len() > 0 && key.first() == Some(&0) {
+        Some(row.get(0))
+    } else {
+        None
+    }
+}
+
+/// The second value of a row, if there is one and the second column of the key is the second one.
+pub fn second_keyed<'a>(key: &[u32], row: &'a Row) -> Option<&'a Value>
+    ensures { IfSome result (λ value. (slice_get key.now 1 ≡ Some 1) × (slice_get row.now 1 ≡ Some value.now)) }
+{
+    if row.len() > 1 && key.get(1) == Some(&1) {
+        Some(row.get(1))
+    } else {
+        None
+    }
 }
 
 /// How many rows come first that pass a test, where it parts the rows; where a value is given, the test follows the first values
