@@ -28,7 +28,7 @@ use cqa_model::{Plan, Query, Refusal, RowId};
 use cqa_value::{Fail, Items, NOTHING, Name, NoMemory, Row};
 use fo_plan::{block_of, paths_of};
 use fo_rewrite::plan_of;
-use join_witness::{TooMany, row_paths};
+use join_witness::TooMany;
 use pair_answers::{Kept, decide as decide_pair, is_pair};
 use pair_refutation::{Refuted, refute_row};
 use query_resolve::{check_row, resolve};
@@ -296,17 +296,7 @@ fn by_search(
     requires cycle { NeedsSearch query.now }
     ensures { IsOutcome result session.old (MayTell session.old query.now row.now) session.new }
 {
-    let paths = row_paths(alloc, session.database(), query)?;
-    let found = decide(
-        alloc,
-        session.database(),
-        query,
-        row,
-        paths.as_slice(),
-        session.budget(),
-    );
-    drop(paths);
-    match found {
+    match decide(alloc, session.database(), query, row, session.budget()) {
         Ok(decided) => by_outcome(alloc, session, query, row, decided),
         Err(Fail::Refused(TooMany)) => {
             let row = row.copy(alloc)?;
@@ -330,10 +320,7 @@ fn by_refutation(
     requires certain { IsCertain session.old.tables query.now row.now }
     ensures { IsOutcome result session.old (MayTell session.old query.now row.now) session.new }
 {
-    let paths = row_paths(alloc, session.database(), query)?;
-    let found = refute_row(alloc, session.database(), query, row, paths.as_slice());
-    drop(paths);
-    match found {
+    match refute_row(alloc, session.database(), query, row) {
         Ok(Refuted { formula, log }) => Ok(refuted(alloc, session, proof_of(formula, log))?),
         Err(Fail::Refused(TooMany)) => {
             let row = row.copy(alloc)?;
