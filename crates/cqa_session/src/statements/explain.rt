@@ -119,14 +119,16 @@ fn rejected(
     query: &Query,
     plan: &Plan,
     row: &Row,
+    paths: &[Option<RowIndex<'_>>],
 ) -> Result<Reply, NoMemory>
     requires fits { FitsDatabase query.now db.now }
     requires plan { IsPlanOf query.now plan.now.order }
     requires long { length row.now ≡ length query.now.answer }
+    requires paths { ArePaths query.now db.now paths.now }
     requires uncertain { IsCertain db.now query.now row.now → ⊥ }
     ensures { IfOk result (TellsWhy db.now query.now row.now) }
 {
-    let Some(repair) = mend(alloc, db, query, plan, row)? else {
+    let Some(repair) = mend(alloc, db, query, plan, row, paths)? else {
         unreachable!()
     };
     let chosen = contested(alloc, db, &repair);
@@ -135,6 +137,28 @@ fn rejected(
     let lines = kept_rows(alloc, db, names.as_slice());
     drop(names);
     Ok(Reply::Rejected(lines?))
+}
+
+/// Why a row is certain for a query that has a plan, or why it isn't, by indexes of the query's tables.
+fn by_paths<'a>(
+    alloc: Global,
+    db: &'a Database,
+    query: &'a Query,
+    plan: &Plan,
+    row: &Row,
+    paths: &'a [Option<RowIndex<'a>>],
+) -> Result<Reply, NoMemory>
+    requires fits { FitsDatabase query.now db.now }
+    requires plan { IsPlanOf query.now plan.now.order }
+    requires exact { IsExact query.now plan.now.order }
+    requires long { length row.now ≡ length query.now.answer }
+    requires paths { ArePaths query.now db.now paths.now }
+    ensures { IfOk result (TellsWhy db.now query.now row.now) }
+{
+    match by_block(alloc, db, query, plan, row, paths)? {
+        Some(reply) => Ok(reply),
+        None => rejected(alloc, db, query, plan, row, paths),
+    }
 }
 
 /// Why a row is certain for a query that has a plan, or why it isn't.
@@ -151,13 +175,10 @@ fn by_plan<'a>(
     requires long { length row.now ≡ length query.now.answer }
     ensures { IfOk result (TellsWhy db.now query.now row.now) }
 {
-    let paths = paths_of(alloc, plan, db, query)?;
-    let found = by_block(alloc, db, query, plan, row, paths.as_slice());
+    let paths = paths_of(alloc, plan, db, query, query.answer.as_slice())?;
+    let told = by_paths(alloc, db, query, plan, row, paths.as_slice());
     drop(paths);
-    match found? {
-        Some(reply) => Ok(reply),
-        None => rejected(alloc, db, query, plan, row),
-    }
+    told
 }
 
 /// The lines of the repair that a model of a row's formula gives.
