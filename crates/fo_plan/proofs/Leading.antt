@@ -6,7 +6,7 @@ use Rattle.cqa_value.specs.declared.value.Value.{Value}
 use Rattle.cqa_model.specs.Blocks.{AreBlocks}
 use Rattle.cqa_model.specs.OneTable.{SomeBlockFits}
 use Rattle.cqa_model.proofs.Classic.{mem-head, mem-nil, mem-cases}
-use Rattle.fo_plan.specs.FirstBlock.{IsFirstWith}
+use Rattle.fo_plan.specs.FirstBlock.{AreAmong, IsFirstWith}
 use Rattle.fo_plan.proofs.Parted.{row_in, block_with, whole-block}
 
 -- all are those that were passed, and those that are left; of none that was passed all rows have the property
@@ -30,29 +30,49 @@ module _ (all : List (List (List Value))) (P : List Value → Type 0) where
       ];
     }
 
-    pub leads-found : (key : List ℕ) (rows : List (List Value)) → AreBlocks key rows all → ((y : List Value) → Contains block y → P y) → SomeBlockFits key rows P × IsFirstWith key rows P block
-    leads-found key rows are all-hold = (
-      (x, row_in key rows all are block x here first, λ y m s. all-hold y (whole-block key rows all are block here x y first m s)),
+    pub leads-found : (key : List ℕ) (rows : List (List Value)) (fits : List Value → Type 0) → AreAmong key rows fits all → ((y : List Value) → P y → fits y) → ((y : List Value) → Contains block y → P y) →
+        SomeBlockFits key rows P × IsFirstWith key rows P block
+    leads-found key rows fits among strong all-hold = (
+      (x, row_in key rows whole among.all block x here first, λ y m s. all-hold y (whole-block key rows whole among.all block here x y first m s)),
       record {
-        before = h.before;
-        behind = later;
-        blocks = subst (AreBlocks key rows) (h.is ∙ ap (λ bs. h.before ++ bs) e) are;
+        before = among.before ++ h.before;
+        behind = later ++ among.behind;
+        blocks = subst (AreBlocks key rows) cut among.all;
         all = all-hold;
-        none = h.none;
+        none = λ b m k. elim (Contains-append_cases among.before h.before b m) [ inl n ↦ among.off b (inl n) (λ y my. strong y (k y my)) | inr n ↦ h.none b n k ];
       },
     )
       where
+        whole : List (List (List Value))
+        whole = among.before ++ (all ++ among.behind)
+
+        cut : whole ≡ (among.before ++ h.before) ++ block ∷ (later ++ among.behind)
+        cut = ap (λ bs. among.before ++ (bs ++ among.behind)) (h.is ∙ ap (λ bs. h.before ++ bs) e) ∙ (ap (λ bs. among.before ++ bs) (append_assoc h.before (block ∷ later) among.behind) ∙
+            sym (append_assoc among.before h.before (block ∷ (later ++ among.behind))))
+
         x : List Value
         x = get_or block 0 []
 
-        here : Contains all block
-        here = subst (λ bs. Contains bs block) (sym h.is) (Contains-append_right h.before left block (subst (λ bs. Contains bs block) (sym e) (mem-head block later)))
+        here : Contains whole block
+        here = subst (λ bs. Contains bs block) (sym cut) (Contains-append_right (among.before ++ h.before) (block ∷ (later ++ among.behind)) block (mem-head block (later ++ among.behind)))
 
         first : Contains block x
-        first = Contains-get_or block 0 [] (are.some block here)
+        first = Contains-get_or block 0 [] (among.all.some block here)
 
-  pub leads-none : (key : List ℕ) (rows : List (List Value)) (left : List (List (List Value))) → NoneLeads all left P → left ≡ [] → AreBlocks key rows all → SomeBlockFits key rows P → ⊥
-  leads-none key rows left h e are (x, m, f) =
-      let b = block_with key rows all are x m in
-      let in_before : Contains h.before b.0 = subst (λ bs. Contains bs b.0) (h.is ∙ (ap (λ bs. h.before ++ bs) e ∙ append-nil h.before)) b.1 in
-      h.none b.0 in_before (λ y my. f y (row_in key rows all are b.0 y b.1 my) (are.alike b.0 b.1 x y b.2 my))
+  pub leads-none : (key : List ℕ) (rows : List (List Value)) (fits : List Value → Type 0) (left : List (List (List Value))) → NoneLeads all left P → left ≡ [] → AreAmong key rows fits all → ((y : List Value) → P y → fits y) → SomeBlockFits key rows P → ⊥
+  leads-none key rows fits left h e among strong (x, m, f) = go (block_with key rows whole among.all x m)
+    where
+      whole : List (List (List Value))
+      whole = among.before ++ (all ++ among.behind)
+
+      go : ((b : List (List Value)) × Contains whole b × Contains b x) → ⊥
+      go (b, mb, mx) = elim (Contains-append_cases among.before (all ++ among.behind) b mb) [
+        | inl n ↦ among.off b (inl n) (λ y my. strong y (holds y my))
+        | inr l ↦ elim (Contains-append_cases all among.behind b l) [
+          | inl n ↦ h.none b (subst (λ bs. Contains bs b) (h.is ∙ (ap (λ bs. h.before ++ bs) e ∙ append-nil h.before)) n) holds
+          | inr n ↦ among.off b (inr n) (λ y my. strong y (holds y my))
+        ]
+      ]
+        where
+          holds : (y : List Value) → Contains b y → P y
+          holds y my = f y (row_in key rows whole among.all b y mb my) (among.all.alike b mb x y mx my)

@@ -1,6 +1,7 @@
 mod Spanned
 mod Parted
 mod Leading
+mod Among
 mod Passing
 mod Walked
 mod Gathered

@@ -19,7 +19,7 @@ use Rattle.table_blocks.specs.Tables.{rows_at, key_at}
 use Rattle.plan_rows.proofs.PlanParts.{front-of, back-of}
 use Rattle.fo_plan.specs.Enough.{IsEnough}
 
-sorted-part : {A : Type 0} (cmp : A → A → Ordering) (before part behind : List A) → IsStrictlySortedBy cmp (before ++ (part ++ behind)) → IsStrictlySortedBy cmp part
+pub sorted-part : {A : Type 0} (cmp : A → A → Ordering) (before part behind : List A) → IsStrictlySortedBy cmp (before ++ (part ++ behind)) → IsStrictlySortedBy cmp part
 unfolding IsStrictlySortedBy
 sorted-part cmp [] part behind s = front part s
   where
@@ -50,7 +50,7 @@ module _ (key : List ℕ) (rows : List (List Value)) (probe : List Value) (start
   span-sorted h = sorted-part (block_cmp key) s.before span s.behind (subst (IsStrictlySortedBy (block_cmp key)) s.parts h)
 
 -- rows of one key have the same first key values
-same-first_key : (key : List ℕ) (probe x y : List Value) → SharesKey key x y → first_key key probe x ≡ first_key key probe y
+pub same-first_key : (key : List ℕ) (probe x y : List Value) → SharesKey key x y → first_key key probe x ≡ first_key key probe y
 same-first_key key probe x y s = go (length probe) key s
   where
     go : (n : ℕ) (ks : List ℕ) → SharesKey ks x y → key_of (take n ks) x ≡ key_of (take n ks) y
@@ -66,7 +66,7 @@ module _ (key : List ℕ) (rows : List (List Value)) (probe : List Value) (start
   in-rows : (x : List Value) → Contains span x → Contains rows x
   in-rows x m = subst (λ xs. Contains xs x) (sym s.parts) (Contains-append_right s.before (span ++ s.behind) x (Contains-append_left span s.behind x m))
 
-  in-span : (x : List Value) → Contains rows x → first_key key probe x ≡ probe → Contains span x
+  pub in-span : (x : List Value) → Contains rows x → first_key key probe x ≡ probe → Contains span x
   in-span x m e = elim (Contains-append_cases s.before (span ++ s.behind) x (subst (λ xs. Contains xs x) s.parts m)) [
     | inl h ↦ absurd (All-contains (λ row. first_key key probe row ≡ probe → ⊥) s.before x s.none_before h e)
     | inr h ↦ elim (Contains-append_cases span s.behind x h) [
@@ -104,8 +104,3 @@ module _ (q : Query) (db : List Table) (F table : ℕ) (key : List ℕ) (h : Fit
       subst (λ ks. IsEnough ks (rows_of q (stored db) F) fits span) (sym (h.keyed F there))
       (subst (λ t. IsEnough (key_at db t) (rows_at db t) fits span) table_is
       (span-enough (key_at db table) (rows_at db table) probe start span s fits (λ y f. subst (λ ks. first_key ks probe y ≡ probe) key_is (told y f))))
-
--- the blocks of the table of an atom
-pub blocks-of-atom : (q : Query) (db : List Table) (F : ℕ) → FitsDatabase q db → F < length q.atoms → (table : ℕ) → table ≡ (atom_at q F).table → (bs : List (List (List Value))) → AreBlocks (key_at db table) (rows_at db table) bs → AreBlocks (atom_key q F) (rows_of q (stored db) F) bs
-blocks-of-atom q db F h l table e bs are =
-    subst (λ ks. AreBlocks ks (rows_of q (stored db) F) bs) (sym (h.keyed F l)) (subst (λ t. AreBlocks (key_at db t) (rows_at db t) bs) e are)

@@ -1,5 +1,5 @@
 -- The block by which a plan holds.
-use Rattle.std.specs.Prelude.{ℕ, List, [], ◌∷◌, ◌++◌, Contains}
+use Rattle.std.specs.Prelude.{ℕ, ◌⊎◌, List, [], ◌∷◌, ◌++◌, Contains}
 use Rattle.cqa_value.specs.declared.value.Value.{Value}
 use Rattle.cqa_model.specs.declared.query.Query.{Query}
 use Rattle.cqa_model.specs.Database.{Table, stored}
@@ -20,3 +20,10 @@ pub record IsFirstWith (key : List ℕ) (rows : List (List Value)) (P : List Val
 abbrev pub IsFirstBlock : List Table → Query → List Value → List ℕ → List (List Value) → Type 0
 IsFirstBlock db q row [] block = ⊥
 IsFirstBlock db q row (F ∷ plan) block = IsFirstWith (atom_key q F) (rows_of q (stored db) F) (RowHolds q (stored db) row [] F plan) block
+
+-- blocks that stand side by side in a table: of no other block do all rows fit
+pub record AreAmong (key : List ℕ) (rows : List (List Value)) (fits : List Value → Type 0) (blocks : List (List (List Value))) : Type 0 where
+  pub before : List (List (List Value))
+  pub behind : List (List (List Value))
+  pub all : AreBlocks key rows (before ++ (blocks ++ behind))
+  pub off : (b : List (List Value)) → Contains before b ⊎ Contains behind b → ((y : List Value) → Contains b y → fits y) → ⊥

@@ -4,21 +4,44 @@ ghost use Rattle.std.specs.Prelude.{◌≡◌, ℕ, ◌<◌, ◌∷◌, [], Matc
 ghost use Rattle.cqa_model.specs.Database.{stored};
 ghost use Rattle.cqa_model.specs.OneTable.{SomeBlockFits};
 ghost use Rattle.cqa_model.specs.Query.{atom_key, rows_of, FitsDatabase};
-ghost use Rattle.cqa_model.specs.Plan.{HoldsOver};
+ghost use Rattle.cqa_model.specs.Plan.{Fits, HoldsOver};
+ghost use Rattle.row_cursor.specs.Blocks.{blocks_left};
 ghost use Rattle.row_cursor.specs.Spots.{ArePaths};
 ghost use Rattle.plan_rows.specs.Left.{AreAtoms};
+ghost use Rattle.plan_rows.specs.Over.{IsPrepared};
 ghost use Rattle.fo_plan.specs.Holding.{RowHolds};
-ghost use Rattle.fo_plan.specs.FirstBlock.{IsFirstBlock, IsFirstWith};
+ghost use Rattle.fo_plan.specs.FirstBlock.{AreAmong, IsFirstBlock, IsFirstWith};
 ghost use Rattle.plan_rows.specs.Underway.{IsUnderway, IsRight};
 
+use crate::enough::told_rows;
 use crate::holding::all_hold;
 use cqa_model::{Plan, Query, variables};
 use cqa_value::Row;
-use plan_rows::{Course, Memo, Setting, Taken, shared_or_none, table_of, turns_before_memo};
+use plan_rows::{
+    Course, Memo, Setting, Taken, known_values, shared_or_none, table_of, turns_before_memo,
+};
 use row_cursor::{BlockCursor, RowIndex};
 use row_pieces::Rows;
 use std::alloc::Global;
 use table_blocks::Database;
+
+/// The blocks of an atom's table whose rows have the first key values that are told by a row or by tests.
+fn told_blocks<'a, 'x>(
+    db: &'a Database,
+    setting: &'x Setting<'x>,
+    row: &'x Row,
+    atom: u32,
+) -> BlockCursor<'a>
+    requires over { IsPrepared setting.now }
+    requires db { setting.now.db.now ≡ db.now }
+    requires atom { atom < length setting.now.query.now.atoms }
+    ensures { AreAmong (atom_key setting.now.query.now atom) (rows_of setting.now.query.now (stored setting.now.db.now) atom) (Fits setting.now.query.now row.now [] atom) (blocks_left result) }
+{
+    let table = table_of(setting.query, atom);
+    let key = db.schema(table).key.as_slice();
+    let known = known_values(setting, Some(row), &Taken::Nothing, atom, key);
+    BlockCursor::over(told_rows(db, table, &known), key)
+}
 
 /// The first block of an atom's table all of whose rows hold.
 fn first_block<'a, 'x>(
@@ -34,7 +57,7 @@ fn first_block<'a, 'x>(
     requires memo { IsRight course.now memo.old }
     ensures { MatchOption result (SomeBlockFits (atom_key course.now.setting.query.now atom) (rows_of course.now.setting.query.now (stored course.now.setting.db.now) atom) (RowHolds course.now.setting.query.now (stored course.now.setting.db.now) row.now [] atom rest.now) → ⊥) (λ block. SomeBlockFits (atom_key course.now.setting.query.now atom) (rows_of course.now.setting.query.now (stored course.now.setting.db.now) atom) (RowHolds course.now.setting.query.now (stored course.now.setting.db.now) row.now [] atom rest.now) × IsFirstWith (atom_key course.now.setting.query.now atom) (rows_of course.now.setting.query.now (stored course.now.setting.db.now) atom) (RowHolds course.now.setting.query.now (stored course.now.setting.db.now) row.now [] atom rest.now) block) }
 {
-    let mut cursor = BlockCursor::new(db, table_of(course.setting.query, atom));
+    let mut cursor = told_blocks(db, &course.setting, row, atom);
     while let Some(block) = cursor.next() {
         if all_hold(&*course, &*row, &Taken::Nothing, atom, &block, rest, memo) {
             return Some(block);

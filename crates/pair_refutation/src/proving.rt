@@ -5,7 +5,6 @@ ghost use Rattle.cqa_model.specs.Certain.{IsCertain};
 ghost use Rattle.cqa_model.specs.Query.{FitsDatabase};
 ghost use Rattle.cnf_form.specs.Logs.{Refutes};
 ghost use Rattle.cdcl.specs.Outcomes.{AreConsecutive};
-ghost use Rattle.row_cursor.specs.Spots.{ArePaths};
 ghost use Rattle.join_witness.specs.Listing.{HasTooMany, IsOver};
 ghost use Rattle.weak_pairs.specs.Pairs.{IsPair};
 ghost use Rattle.pair_formula.specs.Formulas.{IsPairFormula, IsUnsatisfiable};
@@ -15,9 +14,8 @@ use crate::refuting::refute;
 use cnf_form::Log;
 use cqa_model::Query;
 use cqa_value::{Fail, NoMemory, Row};
-use join_witness::{TooMany, witnesses_by_paths};
+use join_witness::{TooMany, witnesses};
 use repair_clauses::{Encoded, encode};
-use row_cursor::RowIndex;
 use std::alloc::Global;
 use table_blocks::Database;
 
@@ -45,28 +43,26 @@ fn with_log(alloc: Global, formula: Encoded) -> Result<Refuted, NoMemory>
     }
 }
 
-/// The formula of a certain row of a pair, and a refutation of it. Tables are looked up by indexes where there are some.
+/// The formula of a certain row of a pair, and a refutation of it.
 ///
 /// # Errors
 ///
 /// `TooMany` exactly where the row has more than `MOST_WITNESSES` witnesses; `NoMemory` where memory is refused.
-pub fn refute_row<'a>(
+pub fn refute_row(
     alloc: Global,
-    db: &'a Database,
-    query: &'a Query,
-    row: &'a Row,
-    paths: &'a [Option<RowIndex<'a>>],
+    db: &Database,
+    query: &Query,
+    row: &Row,
 ) -> Result<Refuted, Fail<TooMany>>
     requires pair { IsPair query.now }
     requires fits { FitsDatabase query.now db.now }
     requires long { length row.now ≡ length query.now.answer }
-    requires paths { ArePaths query.now db.now paths.now }
     requires certain { IsCertain db.now query.now row.now }
     ensures refuted { IfOk result (IsRefuted db.now query.now row.now) }
     ensures within { IfOk result (λ refuted. HasTooMany query.now db.now row.now → ⊥) }
     ensures over { IfErr result (IsOver (HasTooMany query.now db.now row.now)) }
 {
-    let found = witnesses_by_paths(alloc, db, query, row, paths)?;
+    let found = witnesses(alloc, db, query, row)?;
     let formula = encode(alloc, db, query, found.as_slice());
     drop(found);
     let refuted = with_log(alloc, formula?)?;

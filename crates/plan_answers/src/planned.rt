@@ -27,7 +27,7 @@ fn planned_rows<'a>(
     requires exact { IsExact query.now plan.now.order }
     ensures { IfOk result (IsCertainAnswer db.now query.now) }
 {
-    let paths = paths_of(alloc, plan, db, query)?;
+    let paths = paths_of(alloc, plan, db, query, &[])?;
     let rows = answers(alloc, plan, db, query, paths.as_slice());
     drop(paths);
     rows

@@ -1,5 +1,5 @@
 -- The ends of blocks of rows in block order.
-use Rattle.std.proofs.Common.{◌≡◌, ℕ, ◌<◌, ◌≤◌, ◌↔◌, ◌⊎◌, inl, inr, Bool, List, Some, [], length, get_or, slice_get, sym, subst, arith}
+use Rattle.std.proofs.Common.{◌≡◌, ℕ, ◌<◌, ◌≤◌, ◌↔◌, ◌⊎◌, ◌-◌, inl, inr, Bool, List, Some, [], length, get_or, slice_get, sym, subst, arith}
 use Rattle.std.specs.Bool.{IsTrue}
 use Rattle.std.specs.List.Sorted.{IsStrictlySortedBy}
 use Rattle.std.proofs.lemmas.Option.{get_or_from_slice_get}
@@ -42,3 +42,13 @@ module _ (key : List ℕ) (rows : List (List Value)) (order : IsStrictlySortedBy
       go (inl b) = stop le (shares-trans key (get_or rows at []) (get_or rows i []) (get_or rows end []) (alike i b l) s)
       go (inr b) = stop le (shares-trans key (get_or rows at []) (get_or rows i []) (get_or rows end [])
           (shares-sym key (get_or rows i []) (get_or rows at []) (grouped key rows order i at end (omega (arith, b)) (omega (arith, above)) le s)) s)
+
+-- a place begins a block where the row before it is of another
+pub block_start-begins : (key : List ℕ) (rows : List (List Value)) → IsStrictlySortedBy (block_cmp key) rows → (start : ℕ) → (0 < start → SharesKey key (get_or rows (start - 1) []) (get_or rows start []) → ⊥) → Begins key rows start
+block_start-begins key rows order start off i low l s =
+    let near = grouped key rows order i (start - 1) start (omega (arith, low)) (omega (arith, low)) l s in
+    off (omega (arith, low)) (shares-trans key (get_or rows (start - 1) []) (get_or rows i []) (get_or rows start []) (shares-sym key (get_or rows i []) (get_or rows (start - 1) []) near) s)
+
+-- the row at a place is of the block that begins there, or before it
+pub in-block : (key : List ℕ) (rows : List (List Value)) (start end at : ℕ) → IsBlock key rows start end → at < length rows → SharesKey key (get_or rows start []) (get_or rows at []) → at < end
+in-block key rows start end at block l s = ((block.exactly at l).0 s).1

@@ -11,5 +11,6 @@ mod Answering
 mod Beside
 mod Marking
 mod Telling
+mod Looking
 mod Starting
 mod Outcomes

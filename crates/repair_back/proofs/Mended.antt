@@ -19,7 +19,7 @@ use Rattle.cqa_model.proofs.Reification.{placed}
 use Rattle.cqa_model.proofs.Exactness.{fits_of}
 use Rattle.repair_back.specs.Flags.{IsFlagged, kept_of, kept_tables, flags_of, IsChoice, AreChosen}
 use Rattle.repair_back.specs.Mending.{IsKeptWitness, HasNone, Lacks, IsStep, IsReached, RowHolds}
-use Rattle.repair_back.specs.Walking.{Begins, IsBlock, MayFit}
+use Rattle.repair_back.specs.Walking.{IsBlock}
 use Rattle.repair_back.proofs.Choosing.{flag-there, kept_of-into, kept_of-out, exchanged-choice, exchanged-here}
 use Rattle.repair_back.proofs.Keeping.{kept-atom}
 use Rattle.repair_back.proofs.Stepping.{reached-lacks, reached-joined, reached-self, reached-step, held-witness}
@@ -39,12 +39,11 @@ module _ (q : Query) (db : List Table) (row : List Value) (taken : List Placed) 
   pub lacks-shared : (flags : List (List Bool)) (x y : List Value) → SharesKey (atom_key q F) x y → Lacks db q row taken F flags x → Lacks db q row taken F flags y
   lacks-shared flags x y s lacks w h sh = lacks w h (shares-trans (atom_key q F) x y (row_at w F) s sh)
 
-  -- the blocks from one place to another were mended
-  pub record BlocksSoFar (old flags : List (List Bool)) (rows : List (List Value)) (start at : ℕ) : Type 0 where
+  -- the rows before a place, and those before the end of the last block, were mended, as far as they fit
+  pub record BlocksSoFar (old flags : List (List Bool)) (rows : List (List Value)) (start at done : ℕ) : Type 0 where
     pub chosen : AreChosen q db flags
     pub reached : IsReached db q row taken old flags
-    pub begins : Begins (atom_key q F) rows at
-    pub lacks : (i : ℕ) → start ≤ i → i < at → Lacks db q row taken F flags (get_or rows i [])
+    pub lacks : (i : ℕ) → start ≤ i → (i < at) ⊎ (i < done) → Fits q row taken F (get_or rows i []) → Lacks db q row taken F flags (get_or rows i [])
 
   -- rows of a block that were tried
   pub record RowsSoFar (plan : List ℕ) (old flags : List (List Bool)) (rows : List (List Value)) (start end last next : ℕ) : Type 0 where
@@ -92,31 +91,44 @@ module _ (q : Query) (db : List Table) (fits : FitsDatabase q db) (row : List Va
     extends = λ t m. elim (mem-cases t (placed F (row_at w F)) taken m) [ inl e ↦ subst (λ u. row_at w u.atom ≡ u.row) e refl | inr n ↦ h.extends t n ];
   })
 
-  pub blocks-none : (old : List (List Bool)) (rows : List (List Value)) (start end : ℕ) → AreChosen q db old → MayFit q row taken F rows start end → BlocksSoFar q db row taken F old old rows start start
-  blocks-none old rows start end chosen may = record {
+  pub blocks-none : (old : List (List Bool)) (rows : List (List Value)) (start : ℕ) → AreChosen q db old → BlocksSoFar q db row taken F old old rows start start 0
+  blocks-none old rows start chosen = record {
     chosen = chosen;
     reached = reached-self q db fits row long taken old;
-    begins = may.begins;
-    lacks = λ i l b. absurd (omega (arith, l, b));
+    lacks = λ i l o f. absurd (elim o [ inl b ↦ omega (arith, l, b) | inr b ↦ omega (arith, b) ]);
   }
 
-  pub blocks-more : IsUnattacked q (view_of q taken) F → (old flags new : List (List Bool)) (rows : List (List Value)) (start at next : ℕ) → BlocksSoFar q db row taken F old flags rows start at →
-      IsBlock (atom_key q F) rows at next → Begins (atom_key q F) rows next → AreChosen q db new → IsReached db q row taken flags new → Lacks db q row taken F new (get_or rows at []) →
-      BlocksSoFar q db row taken F old new rows start next
-  blocks-more free old flags new rows start at next h block begins chosen reached lacks = record {
+  -- the block of the row at a place was mended
+  pub blocks-more : IsUnattacked q (view_of q taken) F → (old flags new : List (List Bool)) (rows : List (List Value)) (start at done begin end : ℕ) → BlocksSoFar q db row taken F old flags rows start at done →
+      IsBlock (atom_key q F) rows begin end → begin ≤ at → at < end → AreChosen q db new → IsReached db q row taken flags new → Lacks db q row taken F new (get_or rows begin []) →
+      BlocksSoFar q db row taken F old new rows start at end
+  blocks-more free old flags new rows start at done begin end h block low high chosen reached lacks = record {
     chosen = chosen;
     reached = reached-joined q db fits row long taken old flags new h.reached reached;
-    begins = begins;
-    lacks = λ i l b. go i l b (cases_le at i);
+    lacks = λ i l o f. go i l (elim o [ inl b ↦ omega (arith, b, high) | inr b ↦ b ]) f (cases_le begin i);
   }
     where
-      go : (i : ℕ) → start ≤ i → i < next → (at ≤ i) ⊎ (i < at) → Lacks db q row taken F new (get_or rows i [])
-      go i l b (inl k) = let within = block.within in lacks-shared q db row taken F new (get_or rows at []) (get_or rows i []) ((block.exactly i (omega (arith, b, within))).1 (k, b)) lacks
-      go i l b (inr k) = reached-lacks q db fits row long taken all F hF free flags new h.chosen reached (get_or rows i []) (h.lacks i l k)
+      go : (i : ℕ) → start ≤ i → i < end → Fits q row taken F (get_or rows i []) → (begin ≤ i) ⊎ (i < begin) → Lacks db q row taken F new (get_or rows i [])
+      go i l b f (inl k) = let within = block.within in lacks-shared q db row taken F new (get_or rows begin []) (get_or rows i []) ((block.exactly i (omega (arith, b, within))).1 (k, b)) lacks
+      go i l b f (inr k) = reached-lacks q db fits row long taken all F hF free flags new h.chosen reached (get_or rows i []) (h.lacks i l (inl (omega (arith, k, low))) f)
 
-  pub blocks-all : (old flags : List (List Bool)) (rows : List (List Value)) (start end at : ℕ) → rows ≡ rows_of q (stored db) F → MayFit q row taken F rows start end → BlocksSoFar q db row taken F old flags rows start at → end ≤ at →
-      HasNone db q row taken flags
-  blocks-all old flags rows start end at is may h le w hw =
+  -- no row up to a later place fits, but for those of the block
+  pub blocks-on : (old flags : List (List Bool)) (rows : List (List Value)) (start at done to : ℕ) → BlocksSoFar q db row taken F old flags rows start at done → at < done →
+      ((i : ℕ) → at < i → i < to → Fits q row taken F (get_or rows i []) → ⊥) → BlocksSoFar q db row taken F old flags rows start to done
+  blocks-on old flags rows start at done to h more passed = record {
+    chosen = h.chosen;
+    reached = h.reached;
+    lacks = λ i l o f. go i l f o (cases_le i at);
+  }
+    where
+      go : (i : ℕ) → start ≤ i → Fits q row taken F (get_or rows i []) → (i < to) ⊎ (i < done) → (i ≤ at) ⊎ (at < i) → Lacks db q row taken F flags (get_or rows i [])
+      go i l f (inr b) c = h.lacks i l (inr b) f
+      go i l f (inl b) (inl c) = h.lacks i l (inr (omega (arith, c, more))) f
+      go i l f (inl b) (inr c) = absurd (passed i c b f)
+
+  pub blocks-all : (old flags : List (List Bool)) (rows : List (List Value)) (start end at done : ℕ) → rows ≡ rows_of q (stored db) F →
+      ((i : ℕ) → i < length rows → (i < start) ⊎ (end ≤ i) → Fits q row taken F (get_or rows i []) → ⊥) → BlocksSoFar q db row taken F old flags rows start at done → end ≤ at → HasNone db q row taken flags
+  blocks-all old flags rows start end at done is others h le w hw =
       go (kept_of-out (rows_of q (stored db) F) (flags_of q flags F) (row_at w F) (subst (λ kept. Contains kept (row_at w F)) (kept-atom q db flags F) (hw.keeps F hF)))
     where
       go : ((p : ℕ) × (p < length (rows_of q (stored db) F)) × IsFlagged (flags_of q flags F) p × (get_or (rows_of q (stored db) F) p [] ≡ row_at w F)) → ⊥
@@ -128,13 +140,13 @@ module _ (q : Query) (db : List Table) (fits : FitsDatabase q db) (row : List Va
           lp : p < length rows
           lp = subst (λ (rs : List (List Value)). p < length rs) (sym is) l
 
-          off : (p < start) ⊎ (end ≤ p) → ⊥
-          off o = may.others p lp o (subst (λ x. Fits q row taken F x) (sym here) (witness-fits flags w hw))
+          fit : Fits q row taken F (get_or rows p [])
+          fit = subst (λ x. Fits q row taken F x) (sym here) (witness-fits flags w hw)
 
           cases : (start ≤ p) ⊎ (p < start) → (end ≤ p) ⊎ (p < end) → ⊥
-          cases (inr b) d = off (inl b)
-          cases (inl b) (inl d) = off (inr d)
-          cases (inl b) (inr d) = h.lacks p b (omega (arith, d, le)) w hw (shares-eq (atom_key q F) (get_or rows p []) (row_at w F) here)
+          cases (inr b) d = others p lp (inl b) fit
+          cases (inl b) (inl d) = others p lp (inr d) fit
+          cases (inl b) (inr d) = h.lacks p b (inl (omega (arith, d, le))) fit w hw (shares-eq (atom_key q F) (get_or rows p []) (row_at w F) here)
 
   -- all rows of a block hold: so does the plan
   pub block-holds : (plan : List ℕ) (rows : List (List Value)) (at next : ℕ) → rows ≡ rows_of q (stored db) F → IsBlock (atom_key q F) rows at next →

@@ -13,18 +13,6 @@ use Rattle.table_blocks.specs.Spans.{first_key, IsSpan}
 use Rattle.table_blocks.specs.Tables.{key_at, rows_at}
 use Rattle.repair_back.specs.Walking.{MayFit}
 
--- rows of one key have the same first key values
-same-first_key : (key : List ℕ) (probe x y : List Value) → SharesKey key x y → first_key key probe x ≡ first_key key probe y
-same-first_key key probe x y s = go (length probe) key s
-  where
-    go : (n : ℕ) (ks : List ℕ) → SharesKey ks x y → key_of (take n ks) x ≡ key_of (take n ks) y
-    go zero ks h = refl
-    go (suc n) [] h = refl
-    go (suc n) (k ∷ ks) h =
-        let e : get_or x k nothing ≡ get_or y k nothing = h k (mem-head k ks) in
-        let es : key_of (take n ks) x ≡ key_of (take n ks) y = go n ks (λ p m. h p (mem-tail p k ks m)) in
-        cc
-
 at-front : (xs ys : List (List Value)) (i : ℕ) → i < length xs → get_or (xs ++ ys) i [] ≡ get_or xs i []
 at-front [] ys i l = absurd (omega (arith, l))
 at-front (x ∷ xs) ys zero l = refl
@@ -66,25 +54,8 @@ module _ (q : Query) (row : List Value) (taken : List Placed) (F : ℕ) (rows : 
           All-contains (λ r. first_key (atom_key q F) values r ≡ values → ⊥) s.behind (get_or s.behind k []) s.none_behind (Contains-get_or s.behind k [] lk)
           (subst (λ r. first_key (atom_key q F) values r ≡ values) here e)
 
-  pub span-fits : 0 < length span → MayFit q row taken F rows start (start + length span)
-  span-fits some = record {
+  pub span-fits : MayFit q row taken F rows start (start + length span)
+  span-fits = record {
     within = let place = s.place in let lr = ap length s.parts in let la = length-append s.before (span ++ s.behind) in let lb = length-append span s.behind in omega (arith, place, lr, la, lb);
-    begins = λ i b l sh. outside i (omega (arith, b, l)) (inl b) (same-first_key (atom_key q F) values (get_or rows i []) (get_or rows start []) sh ∙ first);
     others = λ i l o f. outside i l o (told (get_or rows i []) f);
   }
-    where
-      first : first_key (atom_key q F) values (get_or rows start []) ≡ values
-      first = let place = s.place in
-          let here : get_or rows start [] ≡ get_or span 0 [] = ap (λ rs. get_or rs start []) s.parts
-          ∙ ap (λ n. get_or (s.before ++ (span ++ s.behind)) n []) (let z : start ≡ length s.before + 0 = omega (arith, place) in z) ∙ at-back s.before (span ++ s.behind) 0 ∙ at-front span s.behind 0 some in
-          subst (λ r. first_key (atom_key q F) values r ≡ values) (sym here) (All-contains (λ r. first_key (atom_key q F) values r ≡ values) span (get_or span 0 []) s.these (Contains-get_or span 0 [] some))
-
-  pub none-fits : length span ≡ 0 → MayFit q row taken F rows 0 0
-  none-fits none = record {
-    within = omega arith;
-    begins = λ i b. absurd (omega (arith, b));
-    others = λ i l o f. outside i l (side i) (told (get_or rows i []) f);
-  }
-    where
-      side : (i : ℕ) → (i < start) ⊎ (start + length span ≤ i)
-      side i = grind (arith, none)

@@ -16,8 +16,7 @@ pub record IsBlock (key : List ℕ) (rows : List (List Value)) (start end : ℕ)
   pub within : end ≤ length rows
   pub exactly : (i : ℕ) → i < length rows → SharesKey key (slice_index_or rows start []) (slice_index_or rows i []) ↔ ((start ≤ i) × (i < end))
 
--- the rows from one place to another, which begins a block, are all that may fit
+-- the rows from one place to another are all that may fit
 pub record MayFit (q : Query) (row : List Value) (taken : List Placed) (F : ℕ) (rows : List (List Value)) (start end : ℕ) : Type 0 where
   pub within : end ≤ length rows
-  pub begins : Begins (atom_key q F) rows start
   pub others : (i : ℕ) → i < length rows → (i < start) ⊎ (end ≤ i) → Fits q row taken F (slice_index_or rows i []) → ⊥

@@ -1,10 +1,12 @@
 //! The ends of blocks in rows that are in block order.
 
-ghost use Rattle.std.specs.Prelude.{◌<◌, length};
+ghost use Rattle.std.specs.Prelude.{◌<◌, ◌≤◌, [], length, slice_index_or};
 ghost use Rattle.std.specs.List.Sorted.{IsStrictlySortedBy};
 ghost use Rattle.cqa_model.specs.Database.{block_cmp};
+ghost use Rattle.cqa_model.specs.Repairs.{SharesKey};
 ghost use Rattle.repair_back.specs.Walking.{Begins, IsBlock};
 
+use crate::rivals::share_key;
 use row_pieces::Rows;
 
 /// The place behind the block that begins at a place.
@@ -16,4 +18,19 @@ pub(crate) fn block_end(rows: &Rows<'_>, key: &[u32], at: usize) -> usize
     ensures begins { Begins key.now rows.now result }
 {
     table_blocks::block_end(rows, key, at)
+}
+
+/// The place of the first row of the block of the row at a place.
+pub(crate) fn block_start(rows: &Rows<'_>, key: &[u32], at: usize) -> usize
+    requires order { IsStrictlySortedBy (block_cmp key.now) rows.now }
+    requires there { at < length rows.now }
+    ensures before { result ≤ at }
+    ensures begins { Begins key.now rows.now result }
+    ensures same { SharesKey key.now (slice_index_or rows.now result []) (slice_index_or rows.now at []) }
+{
+    let mut start = at;
+    while start > 0 && share_key(rows, key, start - 1, start) {
+        start -= 1;
+    }
+    start
 }

@@ -12,52 +12,30 @@ ghost use Rattle.cqa_model.specs.Query.{atom_at, atom_key, rows_of, FitsDatabase
 ghost use Rattle.cqa_model.specs.Certain.{IsCertain};
 ghost use Rattle.cqa_model.specs.Plan.{IsUnattacked, IsPlanOf};
 ghost use Rattle.cqa_model.specs.Partial.{view_of};
-ghost use Rattle.plan_rows.specs.Taking.{placed, AreOfAtoms};
-ghost use Rattle.plan_rows.specs.Over.{IsPrepared};
+ghost use Rattle.plan_rows.specs.Taking.{placed};
+ghost use Rattle.row_cursor.specs.Spots.{ArePaths};
 ghost use Rattle.plan_rows.specs.Underway.{IsKey, IsRight};
 ghost use Rattle.repair_back.specs.Flags.{IsFlagged, flags_of, AreBlank, AreChosen};
 ghost use Rattle.repair_back.specs.Mending.{IsHere, IsNext};
 ghost use Rattle.repair_back.specs.Along.{rows_on, kept_on, KeepsOne, IsFree, HoldsWith, RestHolds, Mends, MendsBlock};
 ghost use Rattle.repair_back.specs.Results.{Rejects, AreStored};
-ghost use Rattle.repair_back.specs.Walking.{IsBlock, MayFit};
+ghost use Rattle.repair_back.specs.Looking.{AreThere};
+ghost use Rattle.repair_back.specs.Walking.{IsBlock};
 
 use crate::atoms::key_of;
-use crate::blocks::block_end;
+use crate::blocks::{block_end, block_start};
 use crate::choice::Choice;
 use crate::kept::{blank, settle_all};
+use crate::places::Places;
 use crate::repair::{Repair, named};
 use crate::way::{Way, enough_for, enough_of};
 use cqa_model::{Plan, Query, variables};
 use cqa_value::{NoMemory, Row};
-use plan_rows::{
-    Course, Memo, Setting, Taken, fits, known_values, shared_or_none, table_of, turns_before_memo,
-};
+use plan_rows::{Course, Memo, Setting, Taken, fits, shared_or_none, table_of, turns_before_memo};
+use row_cursor::RowIndex;
 use row_pieces::Rows;
 use std::alloc::Global;
 use table_blocks::Database;
-
-/// The places among which are all rows of an atom that may fit the rows taken: those with the key values that are known.
-fn span_of<'x>(
-    setting: &'x Setting<'x>,
-    row: &'x Row,
-    taken: &'x Taken<'x>,
-    atom: u32,
-) -> (usize, usize)
-    requires over { IsPrepared setting.now }
-    requires taken { AreOfAtoms setting.now.query.now (placed taken.now) }
-    requires atom { atom < length setting.now.query.now.atoms }
-    ensures { MayFit setting.now.query.now row.now (placed taken.now) atom (rows_of setting.now.query.now (stored setting.now.db.now) atom) result.0 result.1 }
-{
-    let key = key_of(setting.query, atom);
-    let known = known_values(setting, Some(row), taken, atom, key);
-    let table = table_of(setting.query, atom);
-    let (start, rows) = setting.db.rows_with(table, &known);
-    let count = rows.len();
-    if count == 0 {
-        return (0, 0);
-    }
-    (start as usize, start as usize + count)
-}
 
 /// The place that is kept of a block.
 fn kept_of(setting: &Setting<'_>, atom: u32, start: usize, end: usize, kept: &[Choice]) -> usize
@@ -169,7 +147,7 @@ fn mend_anew<'x>(
     }
 }
 
-/// The same where an atom and the rest of the plan are left: block by block, until the first rows taken alone are enough.
+/// The same where an atom and the rest of the plan are left.
 #[cycle(mend)]
 fn mend_blocks<'x>(
     way: &'x Way<'x>,
@@ -186,19 +164,47 @@ fn mend_blocks<'x>(
     ensures memo { IsRight way.now.course memo.new }
     ensures mends { Mends way.now (placed taken.now) (atom ∷ rest.now) kept.old kept.new result }
 {
+    let places = Places::new(&way.course.setting, way.row, taken, atom);
+    let mended = mend_places(way, taken, atom, rest, &places, kept, memo);
+    drop(places);
+    mended
+}
+
+/// The same block by block, where rows may fit, until the first rows taken alone are enough.
+#[cycle(mend)]
+fn mend_places<'x>(
+    way: &'x Way<'x>,
+    taken: &'x Taken<'x>,
+    atom: u32,
+    rest: &[u32],
+    places: &Places<'_>,
+    kept: &mut [Choice],
+    memo: &mut Memo,
+) -> Option<usize>
+    requires next { IsNext way.now (placed taken.now) atom rest.now }
+    requires free { IsUnattacked way.now.course.setting.query.now (view_of way.now.course.setting.query.now (placed taken.now)) atom }
+    requires there { AreThere way.now.course.setting.query.now way.now.row.now (placed taken.now) atom (rows_on way.now atom) places.now }
+    requires chosen { KeepsOne way.now kept.old }
+    requires memo { IsRight way.now.course memo.old }
+    ensures memo { IsRight way.now.course memo.new }
+    ensures mends { Mends way.now (placed taken.now) (atom ∷ rest.now) kept.old kept.new result }
+{
     let setting = &way.course.setting;
     let rows = setting.db.rows(table_of(setting.query, atom));
     let key = key_of(setting.query, atom);
-    let (start, end) = span_of(setting, way.row, taken, atom);
     let before = way.course.order.len() - rest.len() - 1;
-    let mut at = start;
-    while at < end {
-        let next = block_end(&rows, key, at);
-        let mended = mend_block(way, taken, atom, rest, &rows, at, next, kept, memo)?;
-        if mended <= before {
-            return Some(mended);
+    let mut at = places.start;
+    let mut done = 0;
+    while at < places.end {
+        if at >= done {
+            let start = block_start(&rows, key, at);
+            done = block_end(&rows, key, start);
+            let mended = mend_block(way, taken, atom, rest, &rows, start, done, kept, memo)?;
+            if mended <= before {
+                return Some(mended);
+            }
         }
-        at = next;
+        at = places.after(at);
     }
     Some(before)
 }
@@ -294,11 +300,13 @@ fn mended(
     query: &Query,
     plan: &Plan,
     row: &Row,
+    paths: &[Option<RowIndex<'_>>],
     kept: &mut [Choice],
 ) -> Result<Option<Repair>, NoMemory>
     requires fits { FitsDatabase query.now db.now }
     requires plan { IsPlanOf query.now plan.now.order }
     requires long { length row.now ≡ length query.now.answer }
+    requires paths { ArePaths query.now db.now paths.now }
     requires blank { AreBlank query.now db.now kept.old }
     ensures certain { IfOk result (λ found. IsNone found ↔ IsCertain db.now query.now row.now) }
     ensures rejects { IfOk result (λ found. IfSome found (λ repair. Rejects query.now db.now row.now repair.kept)) }
@@ -316,7 +324,7 @@ fn mended(
                 db,
                 query,
                 variables,
-                paths: &[],
+                paths,
             },
             order,
             shared: shared.as_slice(),
@@ -332,7 +340,8 @@ fn mended(
 }
 
 /// A repair that holds no witness of a row, by the query's plan; `None` exactly where the row is certain, so that there
-/// is no such repair (Koutris and Wijsen, ACM TODS 2017).
+/// is no such repair (Koutris and Wijsen, ACM TODS 2017). Rows are found by the given indexes, of each atom's table one or
+/// none.
 ///
 /// # Errors
 ///
@@ -343,16 +352,18 @@ pub fn mend(
     query: &Query,
     plan: &Plan,
     row: &Row,
+    paths: &[Option<RowIndex<'_>>],
 ) -> Result<Option<Repair>, NoMemory>
     requires fits { FitsDatabase query.now db.now }
     requires plan { IsPlanOf query.now plan.now.order }
     requires long { length row.now ≡ length query.now.answer }
+    requires paths { ArePaths query.now db.now paths.now }
     ensures certain { IfOk result (λ found. IsNone found ↔ IsCertain db.now query.now row.now) }
     ensures rejects { IfOk result (λ found. IfSome found (λ repair. Rejects query.now db.now row.now repair.kept)) }
     ensures stored { IfOk result (λ found. IfSome found (λ repair. AreStored db.now repair.kept)) }
 {
     let mut kept = blank(alloc, db, query)?;
-    let found = mended(alloc, db, query, plan, row, kept.as_mut_slice());
+    let found = mended(alloc, db, query, plan, row, paths, kept.as_mut_slice());
     drop(kept);
     found
 }

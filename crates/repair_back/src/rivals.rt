@@ -14,7 +14,7 @@ use std::alloc::Global;
 use table_blocks::{Database, same_key};
 
 /// Whether the rows at two places share a key.
-fn share_key(rows: &Rows<'_>, key: &[u32], at: usize, other: usize) -> bool
+pub(crate) fn share_key(rows: &Rows<'_>, key: &[u32], at: usize, other: usize) -> bool
     requires at { at < length rows.now }
     requires other { other < length rows.now }
     ensures { IsTrue result ↔ SharesKey key.now (slice_index_or rows.now at []) (slice_index_or rows.now other []) }

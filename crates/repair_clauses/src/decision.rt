@@ -5,7 +5,6 @@ ghost use Rattle.std.specs.Prelude.{◌≡◌, IfOk, IfErr, length};
 ghost use Rattle.cqa_model.specs.Query.{FitsDatabase};
 ghost use Rattle.cnf_form.specs.Literals.{IsInRange};
 ghost use Rattle.cdcl.specs.Outcomes.{IsOnce, OutcomeIs};
-ghost use Rattle.row_cursor.specs.Spots.{ArePaths};
 ghost use Rattle.join_witness.specs.Listing.{HasTooMany, IsOver};
 ghost use Rattle.repair_clauses.specs.Deciding.{IsDecided};
 
@@ -13,8 +12,7 @@ use crate::formula::{Encoded, encode};
 use cdcl::{Outcome, solve};
 use cqa_model::Query;
 use cqa_value::{Fail, NoMemory, Row};
-use join_witness::{TooMany, witnesses_by_paths};
-use row_cursor::RowIndex;
+use join_witness::{TooMany, witnesses};
 use std::alloc::Global;
 use table_blocks::Database;
 
@@ -45,28 +43,25 @@ pub fn solved(alloc: Global, formula: Encoded, budget: u32) -> Result<Decided, N
     }
 }
 
-/// Decides whether every repair holds a witness of a row, with at most `budget` conflicts. Tables are looked up by
-/// indexes where there are some.
+/// Decides whether every repair holds a witness of a row, with at most `budget` conflicts.
 ///
 /// # Errors
 ///
 /// `TooMany` exactly where the row has more than `MOST_WITNESSES` witnesses; `NoMemory` where memory is refused.
-pub fn decide<'a>(
+pub fn decide(
     alloc: Global,
-    db: &'a Database,
-    query: &'a Query,
-    row: &'a Row,
-    paths: &'a [Option<RowIndex<'a>>],
+    db: &Database,
+    query: &Query,
+    row: &Row,
     budget: u32,
 ) -> Result<Decided, Fail<TooMany>>
     requires fits { FitsDatabase query.now db.now }
     requires long { length row.now ≡ length query.now.answer }
-    requires paths { ArePaths query.now db.now paths.now }
     ensures decided { IfOk result (λ decided. IsDecided query.now db.now row.now budget decided) }
     ensures within { IfOk result (λ decided. HasTooMany query.now db.now row.now → ⊥) }
     ensures over { IfErr result (IsOver (HasTooMany query.now db.now row.now)) }
 {
-    let found = witnesses_by_paths(alloc, db, query, row, paths)?;
+    let found = witnesses(alloc, db, query, row)?;
     let formula = encode(alloc, db, query, found.as_slice());
     drop(found);
     let decided = solved(alloc, formula?, budget)?;

@@ -28,7 +28,7 @@ use cqa_model::{Plan, Query, Refusal, RowId};
 use cqa_value::{Fail, Items, NOTHING, Name, NoMemory, Row};
 use fo_plan::{block_of, paths_of};
 use fo_rewrite::plan_of;
-use join_witness::{TooMany, row_paths};
+use join_witness::TooMany;
 use pair_answers::{Kept, decide as decide_pair, is_pair};
 use pair_refutation::{Refuted, refute_row};
 use query_resolve::{check_row, resolve};
@@ -119,14 +119,16 @@ fn rejected(
     query: &Query,
     plan: &Plan,
     row: &Row,
+    paths: &[Option<RowIndex<'_>>],
 ) -> Result<Reply, NoMemory>
     requires fits { FitsDatabase query.now db.now }
     requires plan { IsPlanOf query.now plan.now.order }
     requires long { length row.now ≡ length query.now.answer }
+    requires paths { ArePaths query.now db.now paths.now }
     requires uncertain { IsCertain db.now query.now row.now → ⊥ }
     ensures { IfOk result (TellsWhy db.now query.now row.now) }
 {
-    let Some(repair) = mend(alloc, db, query, plan, row)? else {
+    let Some(repair) = mend(alloc, db, query, plan, row, paths)? else {
         unreachable!()
     };
     let chosen = contested(alloc, db, &repair);
@@ -135,6 +137,28 @@ fn rejected(
     let lines = kept_rows(alloc, db, names.as_slice());
     drop(names);
     Ok(Reply::Rejected(lines?))
+}
+
+/// Why a row is certain for a query that has a plan, or why it isn't, by indexes of the query's tables.
+fn by_paths<'a>(
+    alloc: Global,
+    db: &'a Database,
+    query: &'a Query,
+    plan: &Plan,
+    row: &Row,
+    paths: &'a [Option<RowIndex<'a>>],
+) -> Result<Reply, NoMemory>
+    requires fits { FitsDatabase query.now db.now }
+    requires plan { IsPlanOf query.now plan.now.order }
+    requires exact { IsExact query.now plan.now.order }
+    requires long { length row.now ≡ length query.now.answer }
+    requires paths { ArePaths query.now db.now paths.now }
+    ensures { IfOk result (TellsWhy db.now query.now row.now) }
+{
+    match by_block(alloc, db, query, plan, row, paths)? {
+        Some(reply) => Ok(reply),
+        None => rejected(alloc, db, query, plan, row, paths),
+    }
 }
 
 /// Why a row is certain for a query that has a plan, or why it isn't.
@@ -151,13 +175,10 @@ fn by_plan<'a>(
     requires long { length row.now ≡ length query.now.answer }
     ensures { IfOk result (TellsWhy db.now query.now row.now) }
 {
-    let paths = paths_of(alloc, plan, db, query)?;
-    let found = by_block(alloc, db, query, plan, row, paths.as_slice());
+    let paths = paths_of(alloc, plan, db, query, query.answer.as_slice())?;
+    let told = by_paths(alloc, db, query, plan, row, paths.as_slice());
     drop(paths);
-    match found? {
-        Some(reply) => Ok(reply),
-        None => rejected(alloc, db, query, plan, row),
-    }
+    told
 }
 
 /// The lines of the repair that a model of a row's formula gives.
@@ -296,17 +317,7 @@ fn by_search(
     requires cycle { NeedsSearch query.now }
     ensures { IsOutcome result session.old (MayTell session.old query.now row.now) session.new }
 {
-    let paths = row_paths(alloc, session.database(), query)?;
-    let found = decide(
-        alloc,
-        session.database(),
-        query,
-        row,
-        paths.as_slice(),
-        session.budget(),
-    );
-    drop(paths);
-    match found {
+    match decide(alloc, session.database(), query, row, session.budget()) {
         Ok(decided) => by_outcome(alloc, session, query, row, decided),
         Err(Fail::Refused(TooMany)) => {
             let row = row.copy(alloc)?;
@@ -330,10 +341,7 @@ fn by_refutation(
     requires certain { IsCertain session.old.tables query.now row.now }
     ensures { IsOutcome result session.old (MayTell session.old query.now row.now) session.new }
 {
-    let paths = row_paths(alloc, session.database(), query)?;
-    let found = refute_row(alloc, session.database(), query, row, paths.as_slice());
-    drop(paths);
-    match found {
+    match refute_row(alloc, session.database(), query, row) {
         Ok(Refuted { formula, log }) => Ok(refuted(alloc, session, proof_of(formula, log))?),
         Err(Fail::Refused(TooMany)) => {
             let row = row.copy(alloc)?;

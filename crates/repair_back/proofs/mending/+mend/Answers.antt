@@ -1,24 +1,31 @@
-use Rattle.std.proofs.Common.{rules, is_some, IfSome, ◌≡◌, ◌∙◌, ◌∷◌, ◌<◌, ◌≤◌, true, false, [], length, get_or, refl, ap, sym, subst, arith, true≢false}
+use Rattle.std.proofs.Common.{rules, ℕ, ◌⊎◌, Bool, List, is_some, IfSome, ◌≡◌, ◌∙◌, ◌∷◌, ◌<◌, ◌≤◌, true, false, [], length, get_or, refl, ap, sym, subst, arith, true≢false}
 use Rattle.std.proofs.lemmas.Bool.{false≢true}
 use Rattle.std.proofs.lemmas.Option.{get_or_from_slice_get}
 use Rattle.cqa_model.specs.Database.{stored}
-use Rattle.cqa_model.specs.Plan.{IsPlan, PlanHolds}
+use Rattle.cqa_value.specs.declared.value.Value.{Value}
+use Rattle.cqa_model.specs.Repairs.{SharesKey}
+use Rattle.cqa_model.specs.Query.{atom_key}
+use Rattle.cqa_model.specs.Plan.{Fits, IsPlan, PlanHolds}
 use Rattle.cqa_model.specs.Partial.{view_of}
 use Rattle.cqa_model.proofs.Views.{view-in_range, taken-in_range}
 use Rattle.plan_rows.specs.Taking.{placed}
-use Rattle.plan_rows.specs.Underway.{IsUnderway}
+use Rattle.plan_rows.specs.Underway.{IsUnderway, IsRight}
+use Rattle.plan_rows.specs.declared.memo.Memo.{Memo}
 use Rattle.plan_rows.proofs.Sharing.{passed-count, underway-more, still-right, keeps-right}
 use Rattle.plan_rows.proofs.Suiting.{suits-from}
 use Rattle.plan_rows.proofs.PlanParts.{plan-split, rest-shorter}
 use Rattle.repair_back.specs.Flags.{IsFlagged}
 use Rattle.repair_back.specs.Mending.{Lacks, RowHolds}
-use Rattle.repair_back.specs.Along.{IsFreeFrom, Mends}
+use Rattle.repair_back.specs.Along.{IsFreeFrom, Mends, rows_on}
 use Rattle.repair_back.proofs.Outcomes.{block-found, few-of}
-use Rattle.repair_back.specs.Walking.{IsBlock, Begins}
+use Rattle.repair_back.specs.Walking.{IsBlock}
 use Rattle.repair_back.proofs.Apart.{none-enough, none-whole, none-past, if-before, some-none}
 use Rattle.repair_back.proofs.Stepping.{reached-joined, reached-same, reached-forget, lacks-none, lacks-unfit}
-use Rattle.repair_back.proofs.Mended.{blocks-more, blocks-all, block-holds, turned, rows-turned, rows-skip, block-lacks, kept-read}
+use Rattle.repair_back.proofs.Looking.{passed-fits, index-end}
+use Rattle.repair_back.proofs.BlockEnds.{in-block}
+use Rattle.repair_back.proofs.Mended.{BlocksSoFar, blocks-none, blocks-more, blocks-on, blocks-all, block-holds, turned, rows-turned, rows-skip, block-lacks, kept-read}
 use Rattle.repair_back.proofs.mending.+mend.Goals as goal
+use Rattle.repair_back.proofs.mending.+mend.Goals.{mend_places-then-at-done+in_ok-mended+else-mended-before, mend_places-else-at-done}
 
 pub mend_block-row_mended-requires : goal.mend_block-row_mended-requires
 mend_block-row_mended-requires t c =
@@ -105,16 +112,42 @@ mend_block-loop-next-preserved t c =
           (sym (get_or_from_slice_get c.args.rows.now c.loop-next.next c.get-in-loop-next.result.now [] c.get-in-loop-next.ensures)) (m.holds (search rules)));
     }
 
-pub mend_blocks-loop-at-preserved : goal.mend_blocks-loop-at-preserved
-mend_blocks-loop-at-preserved t c =
-    record {
-      right = c.mend_block.ensures.memo;
-      blocks = blocks-more c.args.way.now.course.setting.query.now c.args.way.now.course.setting.db.now c.requires.next.underway.over.fits c.args.way.now.row.now c.requires.next.long (placed c.args.taken.now) c.requires.next.taken_fit c.args.atom c.requires.next.has c.requires.free c.args.kept.now c.loop-at.kept c.mend_block.new.kept
-          c.rows-rows.result c.span_of-start.result.0 c.loop-at.at c.block_end-next.result c.loop-at.invariant.blocks
-          (subst (λ key. IsBlock key c.rows-rows.result c.loop-at.at c.block_end-next.result) c.key_of-key.ensures c.block_end-next.ensures.block)
-          (subst (λ key. Begins key c.rows-rows.result c.block_end-next.result) c.key_of-key.ensures c.block_end-next.ensures.begins)
-          c.mend_block.ensures.mends.chosen c.mend_block.ensures.mends.reached (c.mend_block.ensures.mends.lacks (ap is_some c.in_ok-mended.was));
-    }
+pub mend_places-loop-at-init : goal.mend_places-loop-at-init
+mend_places-loop-at-init t c =
+    record { blocks = blocks-none c.args.way.now.course.setting.query.now c.args.way.now.course.setting.db.now c.requires.next.underway.over.fits c.args.way.now.row.now c.requires.next.long (placed c.args.taken.now) c.requires.next.taken_fit c.args.atom c.requires.next.has c.args.kept.now c.rows-rows.result c.args.places.now.start c.requires.chosen; right = c.requires.memo }
+
+pub mend_places-loop-at-preserved : goal.mend_places-loop-at-preserved
+mend_places-loop-at-preserved t c =
+    let is = c.rows-rows.ensures.is ∙ ap (λ n. get_or (stored c.args.way.now.course.setting.db.now) n []) c.table_of.ensures in
+    let within = c.requires.there.within in
+    let inside : c.loop-at.at < length c.rows-rows.result = subst (λ (rs : List (List Value)). c.loop-at.at < length rs) (sym is) (omega (arith, c.loop-at-test.true, within)) in
+    let passed : (i : ℕ) → c.loop-at.at < i → i < c.after-at.result → Fits c.args.way.now.course.setting.query.now c.args.way.now.row.now (placed c.args.taken.now) c.args.atom (get_or c.rows-rows.result i []) → ⊥ =
+    λ i low high f. passed-fits c.args.way.now.course.setting.query.now c.args.way.now.row.now (placed c.args.taken.now) c.args.atom (rows_on c.args.way.now c.args.atom) c.args.places.now c.requires.there c.loop-at.at c.after-at.result c.after-at.ensures.passed i low high
+    (subst (λ (rs : List (List Value)). Fits c.args.way.now.course.setting.query.now c.args.way.now.row.now (placed c.args.taken.now) c.args.atom (get_or rs i [])) is f) in
+    elim c.if-at-done.branch [
+      | mend_places-then-at-done+in_ok-mended+else-mended-before w ↦
+          let block = subst (λ key. IsBlock key c.rows-rows.result w.block_start-start.result w.block_end-done.result) c.key_of-key.ensures w.block_end-done.ensures.block in
+          let same = subst (λ key. SharesKey key (get_or c.rows-rows.result w.block_start-start.result []) (get_or c.rows-rows.result c.loop-at.at [])) c.key_of-key.ensures w.block_start-start.ensures.same in
+          let above = in-block (atom_key c.args.way.now.course.setting.query.now c.args.atom) c.rows-rows.result w.block_start-start.result w.block_end-done.result c.loop-at.at block inside same in
+          record {
+            right = subst (λ (m : Memo). IsRight c.args.way.now.course m) (sym w.memo-is) w.mend_block.ensures.memo;
+            blocks = subst (λ (k : List (List Bool)). BlocksSoFar c.args.way.now.course.setting.query.now c.args.way.now.course.setting.db.now c.args.way.now.row.now (placed c.args.taken.now) c.args.atom c.args.kept.now k c.rows-rows.result c.args.places.now.start c.after-at.result c.if-at-done.done) (sym w.kept-is)
+                (subst (λ d. BlocksSoFar c.args.way.now.course.setting.query.now c.args.way.now.course.setting.db.now c.args.way.now.row.now (placed c.args.taken.now) c.args.atom c.args.kept.now w.mend_block.new.kept c.rows-rows.result c.args.places.now.start c.after-at.result d) (sym w.done-is)
+                (blocks-on c.args.way.now.course.setting.query.now c.args.way.now.course.setting.db.now c.requires.next.underway.over.fits c.args.way.now.row.now c.requires.next.long (placed c.args.taken.now) c.requires.next.taken_fit c.args.atom c.requires.next.has c.args.kept.now w.mend_block.new.kept c.rows-rows.result c.args.places.now.start c.loop-at.at w.block_end-done.result c.after-at.result
+                (blocks-more c.args.way.now.course.setting.query.now c.args.way.now.course.setting.db.now c.requires.next.underway.over.fits c.args.way.now.row.now c.requires.next.long (placed c.args.taken.now) c.requires.next.taken_fit c.args.atom c.requires.next.has c.requires.free c.args.kept.now c.loop-at.kept w.mend_block.new.kept
+                c.rows-rows.result c.args.places.now.start c.loop-at.at c.loop-at.done w.block_start-start.result w.block_end-done.result c.loop-at.invariant.blocks block w.block_start-start.ensures.before above
+                w.mend_block.ensures.mends.chosen w.mend_block.ensures.mends.reached (w.mend_block.ensures.mends.lacks (ap is_some w.in_ok-mended.was)))
+                above passed));
+          }
+      | mend_places-else-at-done w ↦
+          record {
+            right = subst (λ (m : Memo). IsRight c.args.way.now.course m) (sym w.memo-is) c.loop-at.invariant.right;
+            blocks = subst (λ (k : List (List Bool)). BlocksSoFar c.args.way.now.course.setting.query.now c.args.way.now.course.setting.db.now c.args.way.now.row.now (placed c.args.taken.now) c.args.atom c.args.kept.now k c.rows-rows.result c.args.places.now.start c.after-at.result c.if-at-done.done) (sym w.kept-is)
+                (subst (λ d. BlocksSoFar c.args.way.now.course.setting.query.now c.args.way.now.course.setting.db.now c.args.way.now.row.now (placed c.args.taken.now) c.args.atom c.args.kept.now c.loop-at.kept c.rows-rows.result c.args.places.now.start c.after-at.result d) (sym w.done-is)
+                (blocks-on c.args.way.now.course.setting.query.now c.args.way.now.course.setting.db.now c.requires.next.underway.over.fits c.args.way.now.row.now c.requires.next.long (placed c.args.taken.now) c.requires.next.taken_fit c.args.atom c.requires.next.has c.args.kept.now c.loop-at.kept c.rows-rows.result c.args.places.now.start c.loop-at.at c.loop-at.done c.after-at.result c.loop-at.invariant.blocks
+                (omega (arith, w.if-at-done.false)) passed));
+          }
+    ]
 
 pub mend_anew-mend_blocks-requires : goal.mend_anew-mend_blocks-requires
 mend_anew-mend_blocks-requires t c =
@@ -163,8 +196,8 @@ pub row_mended-returns-clause-same : goal.row_mended-returns-clause-same
 row_mended-returns-clause-same t c =
     reached-same c.args.way.now.course.setting.query.now c.args.way.now.course.setting.db.now c.requires.next.underway.over.fits c.args.way.now.row.now c.requires.next.long (placed c.args.taken.now) c.requires.next.taken_fit c.args.atom c.requires.next.has c.args.y.now c.args.kept.now c.mend_rest.new.kept c.mend_rest.ensures.mends.reached
 
-pub mend_blocks-span_of-start-requires-clause-taken : goal.mend_blocks-span_of-start-requires-clause-taken
-mend_blocks-span_of-start-requires-clause-taken t c = taken-in_range c.args.way.now.course.setting.query.now c.args.way.now.row.now (placed c.args.taken.now) c.requires.next.taken_fit
+pub mend_blocks-new-places-requires-clause-taken : goal.mend_blocks-new-places-requires-clause-taken
+mend_blocks-new-places-requires-clause-taken t c = taken-in_range c.args.way.now.course.setting.query.now c.args.way.now.row.now (placed c.args.taken.now) c.requires.next.taken_fit
 
 pub row_mended-returns-then-not-fits-clause-memo : goal.row_mended-returns-then-not-fits-clause-memo
 row_mended-returns-then-not-fits-clause-memo t c = still-right c.args.way.now.course c.args.memo.now c.turn.new.self c.turn.ensures c.requires.memo
@@ -204,22 +237,22 @@ mend_block-returns-clause-mends t c =
     let ended = c.loop-next-test.false in
     record { chosen = r.chosen; reached = r.reached; mended = tt; lacks = λ e. absurd (false≢true e); holds = λ e i l b. r.held i l (omega (arith, b, ended)) }
 
-pub mend_blocks-returns-in_err-mended-clause-mends : goal.mend_blocks-returns-in_err-mended-clause-mends
-mend_blocks-returns-in_err-mended-clause-mends t c =
+pub mend_places-returns-in_err-mended-clause-mends : goal.mend_places-returns-in_err-mended-clause-mends
+mend_places-returns-in_err-mended-clause-mends t c =
     let m = c.mend_block.ensures.mends in
     record {
       chosen = m.chosen;
       reached = reached-joined c.args.way.now.course.setting.query.now c.args.way.now.course.setting.db.now c.requires.next.underway.over.fits c.args.way.now.row.now c.requires.next.long (placed c.args.taken.now) c.args.kept.now c.loop-at.kept c.mend_block.new.kept c.loop-at.invariant.blocks.reached c.mend_block.ensures.mends.reached;
       few = search rules;
       mended = search rules;
-      holds = λ e. block-holds c.args.way.now.course.setting.query.now c.args.way.now.course.setting.db.now c.requires.next.underway.over.fits c.args.way.now.row.now c.requires.next.long (placed c.args.taken.now) c.requires.next.taken_fit c.args.atom c.requires.next.has c.args.rest.now c.rows-rows.result c.loop-at.at c.block_end-next.result
+      holds = λ e. block-holds c.args.way.now.course.setting.query.now c.args.way.now.course.setting.db.now c.requires.next.underway.over.fits c.args.way.now.row.now c.requires.next.long (placed c.args.taken.now) c.requires.next.taken_fit c.args.atom c.requires.next.has c.args.rest.now c.rows-rows.result c.block_start-start.result c.block_end-done.result
           (c.rows-rows.ensures.is ∙ ap (λ n. get_or (stored c.args.way.now.course.setting.db.now) n []) c.table_of.ensures)
-          (subst (λ key. IsBlock key c.rows-rows.result c.loop-at.at c.block_end-next.result) c.key_of-key.ensures c.block_end-next.ensures.block)
+          (subst (λ key. IsBlock key c.rows-rows.result c.block_start-start.result c.block_end-done.result) c.key_of-key.ensures c.block_end-done.ensures.block)
           (c.mend_block.ensures.mends.holds (ap is_some c.in_err-mended.was));
     }
 
-pub mend_blocks-returns-then-mended-before-clause-mends : goal.mend_blocks-returns-then-mended-before-clause-mends
-mend_blocks-returns-then-mended-before-clause-mends t c =
+pub mend_places-returns-then-mended-before-clause-mends : goal.mend_places-returns-then-mended-before-clause-mends
+mend_places-returns-then-mended-before-clause-mends t c =
     let m = c.mend_block.ensures.mends in
     let n = passed-count c.args.way.now.course (placed c.args.taken.now) (c.args.atom ∷ c.args.rest.now) c.requires.next.underway in
     record {
@@ -230,8 +263,8 @@ mend_blocks-returns-then-mended-before-clause-mends t c =
       holds = λ e. absurd (true≢false e);
     }
 
-pub mend_blocks-returns-clause-mends : goal.mend_blocks-returns-clause-mends
-mend_blocks-returns-clause-mends t c =
+pub mend_places-returns-clause-mends : goal.mend_places-returns-clause-mends
+mend_places-returns-clause-mends t c =
     let is = c.rows-rows.ensures.is ∙ ap (λ n. get_or (stored c.args.way.now.course.setting.db.now) n []) c.table_of.ensures in
     let n = passed-count c.args.way.now.course (placed c.args.taken.now) (c.args.atom ∷ c.args.rest.now) c.requires.next.underway in
     let b = c.loop-at.invariant.blocks in
@@ -241,8 +274,8 @@ mend_blocks-returns-clause-mends t c =
       few = omega (arith, n);
       mended = none-whole c.args.way.now.course.setting.query.now c.args.way.now.course.setting.db.now c.args.way.now.row.now c.loop-at.kept (placed c.args.taken.now) _ (omega (arith, n))
           (blocks-all c.args.way.now.course.setting.query.now c.args.way.now.course.setting.db.now c.requires.next.underway.over.fits c.args.way.now.row.now c.requires.next.long (placed c.args.taken.now) c.requires.next.taken_fit c.args.atom c.requires.next.has c.args.kept.now c.loop-at.kept
-          c.rows-rows.result c.span_of-start.result.0 c.span_of-start.result.1 c.loop-at.at is
-          (subst (λ rows. Rattle.repair_back.specs.Walking.MayFit c.args.way.now.course.setting.query.now c.args.way.now.row.now (placed c.args.taken.now) c.args.atom rows c.span_of-start.result.0 c.span_of-start.result.1) (sym is) c.span_of-start.ensures)
+          c.rows-rows.result c.args.places.now.start c.args.places.now.end c.loop-at.at c.loop-at.done is
+          (subst (λ (rs : List (List Value)). (i : ℕ) → i < length rs → (i < c.args.places.now.start) ⊎ (c.args.places.now.end ≤ i) → Fits c.args.way.now.course.setting.query.now c.args.way.now.row.now (placed c.args.taken.now) c.args.atom (get_or rs i []) → ⊥) (sym is) c.requires.there.others)
           c.loop-at.invariant.blocks (omega (arith, c.loop-at-test.false)));
       holds = λ e. absurd (true≢false e);
     }
@@ -321,3 +354,9 @@ remembered-returns-in-Some-clause-mends t c =
 pub remembered-returns-in-None-clause-mends : goal.remembered-returns-in-None-clause-mends
 remembered-returns-in-None-clause-mends t c =
     subst (λ r. Mends c.args.way.now (placed c.args.taken.now) c.args.plan.now c.args.kept.now c.mend_anew.new.kept r) c.in-None.is c.mend_anew.ensures.mends
+
+pub mend_blocks-mend_places-mended-requires : goal.mend_blocks-mend_places-mended-requires
+mend_blocks-mend_places-mended-requires t c = (omega (arith, c.decreases), (c.requires.next, (c.requires.free, (c.new-places.ensures, (c.requires.chosen, c.requires.memo)))))
+
+pub mend_places-after-at-requires-clause-end : goal.mend_places-after-at-requires-clause-end
+mend_places-after-at-requires-clause-end t c = index-end c.args.way.now.course.setting.query.now c.args.way.now.row.now (placed c.args.taken.now) c.args.atom (rows_on c.args.way.now c.args.atom) c.args.places.now c.requires.there
