@@ -99,6 +99,10 @@ module _ (s : Blocks) where
       go (no a) (yes b) = behind k (omega (arith, b)) high
       go (no a) (no b) = λ first known. off (subst (IsFirst s.key.now s.rows) (let e : k ≡ at = omega (arith, a, b) in e) first)
 
+  -- what is passed from a place on is passed from a later one on
+  pub passed-later : (before from to : ℕ) → before < from → IsPassed s (before + 1) to → IsPassed s from to
+  passed-later before from to l h k low high = h k (omega (arith, l, low)) high
+
   pub passed-less : (from at to : ℕ) → IsPassed s from at → to ≤ at → IsPassed s from to
   passed-less from at to h l k low high = h k low (omega (arith, high, l))
 

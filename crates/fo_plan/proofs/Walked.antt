@@ -1,5 +1,5 @@
 -- Blocks that are gone over one after the other, in rows in block order.
-use Rattle.std.proofs.Common.{◌≡◌, ◌↔◌, ◌<◌, ◌≤◌, ◌+◌, ◌-◌, ℕ, suc, Bool, IsTrue, false, Option, None, Some, IsSome, List, [], ◌∷◌, length, take, drop, refl, sym, ap, ◌∙◌, subst, arith, Contains}
+use Rattle.std.proofs.Common.{◌≡◌, ◌↔◌, ◌<◌, ◌≤◌, ◌+◌, ◌-◌, ℕ, suc, Bool, IsTrue, false, Option, None, Some, IsSome, IfSome, List, [], ◌∷◌, length, take, drop, refl, sym, ap, ◌∙◌, subst, arith, Contains}
 use native.Mathlib.Decide.{dec_lt}
 use Rattle.std.specs.Option.{option_copied}
 use Rattle.std.specs.List.Sorted.{IsStrictlySortedBy}
@@ -122,13 +122,22 @@ found-next s from at on block low passed n = record {
     go k l h (no b) = n.before k (omega (arith, b)) h
 
 -- a place behind a block
-pub spot-behind : (s : Blocks) (from : ℕ) (spot : Spot) (block : List (List Value)) → IsNextBlock s from block spot.place → spot.place ≤ length s.rows → (s.index ≡ None → spot.rest ≡ drop spot.place s.rows) →
-    (s.index ≡ None → spot.place < length s.rows → IsFirst s.key.now s.rows spot.place) → IsSpot s spot
-spot-behind s from spot block n within rest begins = record {
-  found = λ e. let h = n.high in (omega (arith, h), within);
+pub spot-behind : (s : Blocks) (from : ℕ) (spot : Spot) (block : List (List Value)) → IsNextBlock s from block spot.place → spot.place ≤ length s.rows → IfSome spot.last (λ at. at < spot.place) →
+    (s.index ≡ None → spot.rest ≡ drop spot.place s.rows) → (s.index ≡ None → spot.place < length s.rows → IsFirst s.key.now s.rows spot.place) → IsSpot s spot
+spot-behind s from spot block n within last rest begins = record {
+  last = go spot.last last;
   rest = rest;
   begins = begins;
 }
+  where
+    go : (o : Option ℕ) → IfSome o (λ at. at < spot.place) → IfSome o (λ at. (at < spot.place) × (spot.place ≤ length s.rows))
+    go None h = tt
+    go (Some at) h = (h, within)
+
+-- a block begins before a later place too
+pub last-before : (o : Option ℕ) (rows : List (List Value)) (place on : ℕ) → IfSome o (λ at. (at < place) × (place ≤ length rows)) → place < on → IfSome o (λ at. at < on)
+last-before None rows place on h l = tt
+last-before (Some at) rows place on (b, w) l = omega (arith, b, l)
 
 -- where rows are left, there is one at the place
 pub rest-there : (rows : List (List Value)) (at : ℕ) (rest : List (List Value)) (t : Bool) → rest ≡ drop at rows → IsTrue t ↔ (rest ≡ []) → t ≡ false → at < length rows

@@ -1,4 +1,4 @@
-use Rattle.std.proofs.Common.{arith, sym, length, ◌∙◌}
+use Rattle.std.proofs.Common.{ℕ, ◌<◌, Option, IfSome, arith, subst, sym, length, ◌∙◌}
 use Rattle.std.proofs.lemmas.Bool.{false≢true}
 use Rattle.fo_plan.proofs.Passing.{passed-on, passed-less}
 use Rattle.fo_plan.proofs.Walked.{found-next, not-none, spot-behind}
@@ -20,7 +20,9 @@ taken_at-requires-clause-begins c = c.begins_block.ensures.0 c.if-begins_block.t
 pub returns-then-begins_block-clause-spot : goal.returns-then-begins_block-clause-spot
 returns-then-begins_block-clause-spot c =
     let t = c.taken_at.ensures in
-    spot-behind c.args.self.now c.loop-at.at c.taken_at.new.spot c.taken_at.result t.next t.within (not-none c.args.self.now.index c.requires.index) (not-none c.args.self.now.index c.requires.index)
+    spot-behind c.args.self.now c.loop-at.at c.taken_at.new.spot c.taken_at.result t.next t.within
+    (subst (λ (o : Option ℕ). IfSome o (λ at. at < c.taken_at.new.spot.place)) (sym t.last) (let low = t.next.low in let high = t.next.high in let h : c.loop-at.at < c.taken_at.new.spot.place = omega (arith, low, high) in h))
+    (not-none c.args.self.now.index c.requires.index) (not-none c.args.self.now.index c.requires.index)
 
 pub returns-then-begins_block-clause-next : goal.returns-then-begins_block-clause-next
 returns-then-begins_block-clause-next c =

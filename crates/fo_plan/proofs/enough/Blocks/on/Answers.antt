@@ -1,9 +1,11 @@
-use Rattle.std.proofs.Common.{◌≡◌, ◌-◌, ◌+◌, subst, arith}
-use Rattle.fo_plan.specs.Enough.{IsPassed}
+use Rattle.std.proofs.Common.{ℕ, ◌<◌, ◌≤◌, Option, IfSome, subst, sym, arith, length}
+use Rattle.fo_plan.proofs.Passing.{passed-later}
 use Rattle.fo_plan.proofs.enough.Blocks.on.Goals as goal
 
-pub returns-then-spot-clause-passed : goal.returns-then-spot-clause-passed
-returns-then-spot-clause-passed c =
-    let f = c.requires.spot.found c.if-spot.true in
-    let some = f.0 in
-    subst (λ n. IsPassed c.args.self.now n c.after.result) (let e : (c.args.spot.now.place - 1) + 1 ≡ c.args.spot.now.place = omega (arith, some) in e) c.after.ensures.none
+pub loop-at-init : goal.loop-at-init
+loop-at-init c =
+    let f = subst (λ (o : Option ℕ). IfSome o (λ at. (at < c.args.spot.now.place) × (c.args.spot.now.place ≤ length c.args.self.now.rows))) c.in-Some.is c.requires.spot.last in
+    passed-later c.args.self.now c.in-Some.last c.args.spot.now.place c.after-at.result f.0 c.after-at.ensures.none
+
+pub loop-at-preserved : goal.loop-at-preserved
+loop-at-preserved c = passed-later c.args.self.now c.loop-at.at c.args.spot.now.place c.after-at-in-loop-at.result c.loop-at-test.true c.after-at-in-loop-at.ensures.none

@@ -1,4 +1,5 @@
-use Rattle.fo_plan.proofs.Walked.{rest-there, spot-behind}
+use Rattle.std.proofs.Common.{ℕ, ◌<◌, Option, IfSome, subst, sym, arith}
+use Rattle.fo_plan.proofs.Walked.{rest-there, spot-behind, last-before}
 use Rattle.fo_plan.proofs.enough.Blocks.walked.Goals as goal
 
 pub taken_at-requires-clause-there : goal.taken_at-requires-clause-there
@@ -12,4 +13,6 @@ taken_at-requires-clause-begins c =
 pub returns-clause-spot : goal.returns-clause-spot
 returns-clause-spot c =
     let t = c.taken_at.ensures in
-    spot-behind c.args.self.now c.args.spot.now.place c.taken_at.new.spot c.taken_at.result t.next t.within (λ e. t.rest) (λ e. t.begins)
+    spot-behind c.args.self.now c.args.spot.now.place c.taken_at.new.spot c.taken_at.result t.next t.within
+    (subst (λ (o : Option ℕ). IfSome o (λ at. at < c.taken_at.new.spot.place)) (sym t.last) (last-before c.args.spot.now.last c.args.self.now.rows c.args.spot.now.place c.taken_at.new.spot.place c.requires.spot.last (let low = t.next.low in let high = t.next.high in omega (arith, low, high))))
+    (λ e. t.rest) (λ e. t.begins)
