@@ -4,6 +4,7 @@ ghost use Rattle.std.specs.Prelude.{◌≡◌, ◌≤◌, ◌<◌, ◌^◌, ℕ,
 ghost use Rattle.script_lex.specs.declared.kinds.LexFault.TheVariants.{TooLong};
 ghost use Rattle.script_lex.specs.Tokens.{Spells, longest_text};
 ghost use Rattle.spj_syntax.specs.Written.{IsSmall};
+ghost use Rattle.cqa_session.specs.declared.session.TheConstants.{LONGEST_INPUT};
 ghost use Rattle.cqa_session.specs.Saying.{of_lexing, of_parsing, IsReadAs};
 
 use cqa_model::{LimitKind, Refusal};
@@ -57,7 +58,7 @@ fn parsed(alloc: Global, text: &[u8], tokens: &[Token]) -> Result<Statement, Fai
 ///
 /// The refusal by the first check on the text's form that fails.
 pub fn read(alloc: Global, text: &[u8]) -> Result<Statement, Fail<Refusal>>
-    requires { length text.now ≤ 268_435_456 }
+    requires { length text.now ≤ LONGEST_INPUT }
     ensures says { IsReadAs text.now result }
     ensures small { IfOk result IsSmall }
 {

@@ -12,6 +12,7 @@ use Rattle.csv_rows.specs.Blocks.{IsFieldOf, IsRecordOf}
 abbrev pub is_plain : ℕ → Bool
 is_plain b = not ((b == 44 || b == 10) || (b == 13 || b == 34))
 
+-- all bytes are such
 abbrev pub IsPlain : List ℕ → Type 0
 IsPlain bytes = AllByRecursion (λ b. is_plain b ≡ true) bytes
 

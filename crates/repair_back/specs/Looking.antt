@@ -22,5 +22,6 @@ abbrev pub IsPassedIn : Option Indexed → List Value → ℕ → ℕ → Type 0
 IsPassedIn None values from to = to ≡ suc from
 IsPassedIn (Some index) values from to = (i : ℕ) → from < i → i < to → key_of index.columns (slice_index_or index.rows i []) ≡ values → ⊥
 
+-- no row from one place to another, these left out, is one that is looked for
 abbrev pub IsPassed : Places → ℕ → ℕ → Type 0
 IsPassed s from to = IsPassedIn (option_copied s.index) s.values from to

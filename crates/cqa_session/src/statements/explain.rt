@@ -4,6 +4,7 @@ ghost use Rattle.std.specs.Prelude.{◌≡◌, ◌<◌, ◌≤◌, IfOk, OnErr, 
 ghost use Rattle.cqa_model.specs.Database.{key_of, stored};
 ghost use Rattle.cqa_model.specs.Query.{FitsDatabase};
 ghost use Rattle.cqa_model.specs.Certain.{IsCertain};
+ghost use Rattle.cqa_model.specs.declared.limits.TheConstants.{MOST_COLUMNS};
 ghost use Rattle.cqa_model.specs.Plan.{IsPlanOf};
 ghost use Rattle.row_cursor.specs.Spots.{ArePaths};
 ghost use Rattle.fo_rewrite.specs.Planning.{IsExact};
@@ -75,7 +76,7 @@ fn kept_rows(alloc: Global, db: &Database, names: &[RowId]) -> Result<Items<Kept
 
 /// The values of a row in some columns.
 fn values_of(alloc: Global, key: &[u32], row: &Row) -> Result<Row, NoMemory>
-    requires { length key.now ≤ 16 }
+    requires { length key.now ≤ MOST_COLUMNS }
     ensures { IfOk result (λ values. values ≡ key_of key.now row.now) }
 {
     let mut values = Row::new(alloc);
