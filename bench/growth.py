@@ -22,11 +22,13 @@ PROGRAM = os.path.join(TOP, "crates", "cqa_cli", "out", "cqa_cli")
 
 # Loads. Each makes a script for the program and one for sqlite3, whose tables keep each row once, as the program's do.
 
-def tables(names, columns, key):
-    """The statements that make tables of int columns, for both."""
+def tables(names, columns, key, joined=False):
+    """The statements that make tables of int columns, for both. The peer loads and finds keys fastest in tables in the order
+    of their key, but makes an index by itself, for a join on other columns, of ordinary tables alone."""
     kinds = ", ".join(column + " int" for column in columns)
     ours = ["create table %s (%s, primary key (%s));" % (name, kinds, key) for name in names]
-    theirs = ["create table %s (%s, primary key (%s)) without rowid;" % (name, kinds, ", ".join(columns)) for name in names]
+    order = "" if joined else " without rowid"
+    theirs = ["create table %s (%s, primary key (%s))%s;" % (name, kinds, ", ".join(columns), order) for name in names]
     return ours, theirs
 
 
@@ -93,14 +95,14 @@ def two_tables(n):
     """Two tables of n rows, joined on columns that are no keys."""
     left = [(k, k) for k in range(n)]
     right = [(k, x) for k, x in enumerate(shuffled(n))]
-    made = join(tables(["a", "b"], ["k", "x"], "k"), inserts("a", left), inserts("b", right))
+    made = join(tables(["a", "b"], ["k", "x"], "k", joined=True), inserts("a", left), inserts("b", right))
     where = "from a, b where a.x = b.x"
     return made[0] + ["possible select a.k %s;" % where], made[1] + ["select distinct a.k %s;" % where]
 
 
 def chain(n, order):
     """Three tables of n rows in a chain on columns that are no keys, in an order of `from`."""
-    parts = [tables(["a", "b", "c"], ["k", "x", "y"], "k")]
+    parts = [tables(["a", "b", "c"], ["k", "x", "y"], "k", joined=True)]
     for seed, name in enumerate(["a", "b", "c"]):
         other = shuffled(n, seed)
         parts.append(inserts(name, [(k, k, other[k]) for k in range(n)]))
@@ -131,7 +133,7 @@ def all_pairs(n):
 def one_chain(n):
     """n rows and n rows with one value in the joined column: an exists is found at once."""
     rows = [(k, 0) for k in range(n)]
-    made = join(tables(["a", "b"], ["k", "x"], "k"), inserts("a", rows), inserts("b", rows))
+    made = join(tables(["a", "b"], ["k", "x"], "k", joined=True), inserts("a", rows), inserts("b", rows))
     where = "from a, b where a.x = b.x"
     return made[0] + ["possible exists %s;" % where], made[1] + ["select exists (select 1 %s);" % where]
 
