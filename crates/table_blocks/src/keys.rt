@@ -12,10 +12,10 @@ ghost use Rattle.cqa_model.specs.Refusal.{Checked};
 ghost use Rattle.table_blocks.specs.Lists.{shown};
 ghost use Rattle.table_blocks.specs.Keys.{AscendByKey, same_key, first_sharing, taken_fault, broken_fault};
 
-use crate::order::key_compare;
 use crate::search::{first_keyed, parted, second_keyed};
 use cqa_model::Refusal;
 use cqa_value::{Fail, NoMemory, Row};
+use row_order::key_compare;
 use row_pieces::Rows;
 use std::alloc::Global;
 use std::cmp::Ordering;

@@ -13,26 +13,21 @@ ghost use Rattle.table_blocks.specs.Spans.{IsSpan};
 ghost use Rattle.table_blocks.specs.Tables.{IsPlace, ArePlaces, AreMergeable, IsSpared, is_among, count_new, TestsHold};
 
 use crate::keys::check_consistent;
-use crate::order::block_compare;
 use crate::probe::Probe;
 use crate::search::{first_keyed, leading, parted, second_keyed};
 use crate::span::rows_with;
 use crate::test::{ColumnTest, known_key, passes_all};
 use cqa_model::Refusal;
 use cqa_value::{Fail, NoMemory, Row};
+use row_order::{block_compare, sort_rows};
 use row_pieces::{Pieces, Rows};
 use std::alloc::Global;
-use std::cmp::Ordering;
 
 /// Puts rows in block order, each once.
 pub fn put_in_order(rows: &mut Vec<Row>, key: &[u32])
     ensures { rows.new.items ≡ block_order key.now rows.old.items }
 {
-    rows.sort_unstable_by(
-        |a, b| -> Ordering
-            ensures { result ≡ block_cmp key.entry.now a.now b.now }
-        { block_compare(key, a, b) },
-    );
+    sort_rows(*rows.allocator(), rows.as_mut_slice(), key);
     rows.dedup();
 }
 

@@ -1,7 +1,7 @@
 use Rattle.std.proofs.Common.{◌≡◌, drop}
 use Rattle.cqa_value.specs.Values.{row_cmp}
 use Rattle.cqa_model.specs.Database.{key_of}
-use Rattle.table_blocks.proofs.order.key_compare.Given as goal
+use Rattle.row_order.proofs.compare.key_compare.Given as goal
 
 -- what is left of the key decides
 abbrev pub invariant-loop-place : goal.invariant-loop-place

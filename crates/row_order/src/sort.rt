@@ -1,0 +1,43 @@
+//! Rows are sorted by block order: they are arranged by their first values first, and what that leaves is sorted as it stands.
+ghost use Rattle.std.specs.Prelude.{◌≡◌};
+ghost use Rattle.std.specs.List.Sorted.{IsPermutation, IsSorted};
+ghost use Rattle.cqa_model.specs.Database.{block_cmp};
+
+use crate::compare::block_compare;
+use crate::flat::flat_sorted;
+use crate::settle::settle;
+use cqa_value::{NoMemory, Row};
+use std::alloc::Global;
+use std::cmp::Ordering;
+
+/// Up to so many rows, arranging them costs more than it spares.
+const FEW: usize = 32;
+
+/// Puts rows mostly in block order, each moved once, if they aren't few. Nothing is promised but that they are the same rows.
+///
+/// # Errors
+///
+/// `NoMemory` where memory is refused.
+fn arrange(alloc: Global, rows: &mut [Row], key: &[u32]) -> Result<(), NoMemory>
+    ensures { IsPermutation rows.old rows.new }
+{
+    if rows.len() <= FEW {
+        return Ok(());
+    }
+    let mut items = flat_sorted(alloc, rows, key)?;
+    settle(rows, items.as_mut_slice());
+    Ok(())
+}
+
+/// Sorts rows by block order, in one pass where they are arranged; where memory for that is refused, from how they stand.
+pub fn sort_rows(alloc: Global, rows: &mut [Row], key: &[u32])
+    ensures permutation { IsPermutation rows.old rows.new }
+    ensures sorted { IsSorted (block_cmp key.now) rows.new }
+{
+    let _arranged = arrange(alloc, rows, key);
+    rows.sort_unstable_by(
+        |a, b| -> Ordering
+            ensures { result ≡ block_cmp key.entry.now a.now b.now }
+        { block_compare(key, a, b) },
+    );
+}
