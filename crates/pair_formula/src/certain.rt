@@ -5,8 +5,8 @@
 ghost use Rattle.std.specs.Prelude.{◌≡◌, ◌↔◌, ◌++◌, ◌∷◌, ◌⊎◌, [], IfOk, IsTrue, OnOk, length};
 ghost use Rattle.cqa_model.specs.Query.{FitsDatabase};
 ghost use Rattle.cqa_model.specs.Certain.{IsCertain, IsCertainAnswer};
-ghost use Rattle.row_cursor.specs.Spots.{ArePaths};
 ghost use Rattle.join_witness.specs.Listing.{AreAllNames, names_of};
+ghost use Rattle.join_witness.specs.Lookups.{IsLookup};
 ghost use Rattle.repair_clauses.specs.Candidates.{AreCandidates};
 ghost use Rattle.weak_pairs.specs.Pairs.{IsPair};
 ghost use Rattle.pair_formula.specs.Sifting.{Sifts, AreSifted};
@@ -14,10 +14,9 @@ ghost use Rattle.pair_formula.specs.Sifting.{Sifts, AreSifted};
 use crate::decide::is_unsatisfiable;
 use cqa_model::Query;
 use cqa_value::{Fail, Items, NoMemory, Row};
-use join_witness::{TooMany, Witness, candidates, row_paths, witnesses_by_paths};
+use join_witness::{Lookup, TooMany, Witness, candidates, lookup_of, witnesses_by};
 use pair_answers::is_certain;
 use repair_clauses::encode;
-use row_cursor::RowIndex;
 use std::alloc::Global;
 use table_blocks::Database;
 
@@ -40,22 +39,22 @@ fn by_formula(
     Ok(certain?)
 }
 
-/// Whether a row is certain, by its formula, or by the tables where it has too many witnesses. Witnesses are looked up by
-/// indexes where there are some.
-fn by_paths<'a>(
+/// Whether a row is certain, by its formula, or by the tables where it has too many witnesses.
+fn by_lookup<'a>(
     alloc: Global,
     db: &'a Database,
-    query: &'a Query,
-    row: &'a Row,
-    paths: &'a [Option<RowIndex<'a>>],
+    query: &Query,
+    row: &Row,
+    lookup: &mut Lookup<'a>,
 ) -> Result<bool, NoMemory>
     requires pair { IsPair query.now }
     requires fits { FitsDatabase query.now db.now }
     requires long { length row.now ≡ length query.now.answer }
-    requires paths { ArePaths query.now db.now paths.now }
-    ensures { IfOk result (λ certain. IsTrue certain ↔ IsCertain db.now query.now row.now) }
+    requires lookup { IsLookup query.now db.now lookup.old }
+    ensures lookup { IsLookup query.now db.now lookup.new }
+    ensures certain { IfOk result (λ certain. IsTrue certain ↔ IsCertain db.now query.now row.now) }
 {
-    match witnesses_by_paths(alloc, db, query, row, paths) {
+    match witnesses_by(alloc, db, query, lookup, row) {
         Ok(found) => {
             let certain = by_formula(alloc, db, query, row, found.as_slice());
             drop(found);
@@ -67,21 +66,22 @@ fn by_paths<'a>(
 }
 
 /// Puts a row behind the certain ones if it is certain.
-fn sift(
+fn sift<'a>(
     alloc: Global,
-    db: &Database,
+    db: &'a Database,
     query: &Query,
-    paths: &[Option<RowIndex<'_>>],
+    lookup: &mut Lookup<'a>,
     row: Row,
     answers: &mut Vec<Row>,
 ) -> Result<(), NoMemory>
     requires pair { IsPair query.now }
     requires fits { FitsDatabase query.now db.now }
     requires long { length row ≡ length query.now.answer }
-    requires paths { ArePaths query.now db.now paths.now }
-    ensures { OnOk result (Sifts db.now query.now row answers.old.items answers.new.items) }
+    requires lookup { IsLookup query.now db.now lookup.old }
+    ensures lookup { IsLookup query.now db.now lookup.new }
+    ensures sifted { OnOk result (Sifts db.now query.now row answers.old.items answers.new.items) }
 {
-    match by_paths(alloc, db, query, &row, paths) {
+    match by_lookup(alloc, db, query, &row, lookup) {
         Ok(true) => {
             answers.push(row)?;
             Ok(())
@@ -98,28 +98,28 @@ fn sift(
 }
 
 /// Gathers the certain ones of the possible rows.
-fn sift_all(
+fn sift_all<'a>(
     alloc: Global,
-    db: &Database,
+    db: &'a Database,
     query: &Query,
-    paths: &[Option<RowIndex<'_>>],
+    lookup: &mut Lookup<'a>,
     rows: Vec<Row>,
     answers: &mut Vec<Row>,
 ) -> Result<(), NoMemory>
     requires pair { IsPair query.now }
     requires fits { FitsDatabase query.now db.now }
-    requires paths { ArePaths query.now db.now paths.now }
+    requires lookup { IsLookup query.now db.now lookup.old }
     requires rows { AreCandidates query.now db.now rows.items }
     requires none { answers.old.items ≡ [] }
     ensures { OnOk result (AreSifted db.now query.now rows.items answers.new.items) }
 {
     for row in rows {
-        sift(alloc, db, query, paths, row, answers)?;
+        sift(alloc, db, query, lookup, row, answers)?;
     }
     Ok(())
 }
 
-/// The same by indexes of the tables, which are made once for all rows.
+/// The same by one lookup for all rows.
 fn sift_rows(
     alloc: Global,
     db: &Database,
@@ -133,10 +133,11 @@ fn sift_rows(
     requires none { answers.old.items ≡ [] }
     ensures { OnOk result (AreSifted db.now query.now rows.items answers.new.items) }
 {
-    match row_paths(alloc, db, query) {
-        Ok(paths) => {
-            let sifted = sift_all(alloc, db, query, paths.as_slice(), rows, answers);
-            drop(paths);
+    match lookup_of(alloc, db, query) {
+        Ok(made) => {
+            let mut lookup = made;
+            let sifted = sift_all(alloc, db, query, &mut lookup, rows, answers);
+            drop(lookup);
             sifted
         }
         Err(fault) => {

@@ -1,4 +1,3 @@
 pub mod Classing
 pub mod Looking
-pub mod Lookups
 pub mod Searching

@@ -6,19 +6,18 @@ ghost use Rattle.cqa_value.specs.declared.value.Value.{Value};
 ghost use Rattle.cqa_model.specs.Query.{FitsDatabase};
 ghost use Rattle.cqa_model.specs.declared.limits.TheConstants.{MOST_ATOMS, MOST_ROWS};
 ghost use Rattle.join_witness.specs.Listing.{AreAllNames, HasTooMany, names_of};
-ghost use Rattle.search_answers.specs.Lookups.{IsLookup};
+ghost use Rattle.join_witness.specs.Lookups.{IsLookup};
 ghost use Rattle.repair_clauses.specs.Spans.{AreSpansTo};
 ghost use Rattle.search_answers.specs.Searching.{IsVerdict, Judges};
 
 use crate::first_look::{Room, first_look};
-use crate::lookup::Lookup;
 use crate::second_look::second_look;
 use cdcl::Outcome;
 use cnf_form::{Cnf, Log};
 use cqa_model::Query;
 use cqa_value::{Fail, NoMemory, Row};
 use flat_formula::Found;
-use join_witness::{TooMany, Witness, witnesses_by_paths};
+use join_witness::{Lookup, TooMany, Witness, witnesses_by};
 use repair_clauses::span::Span;
 use repair_clauses::{Decided, formula_over, relevant_blocks, solved};
 use std::alloc::Global;
@@ -139,21 +138,22 @@ fn judge_witnesses(
 /// # Errors
 ///
 /// `NoMemory` where memory is refused.
-pub fn judge_row(
+pub fn judge_row<'a>(
     alloc: Global,
-    db: &Database,
+    db: &'a Database,
     query: &Query,
     row: &Row,
-    lookup: &Lookup<'_>,
+    lookup: &mut Lookup<'a>,
     budget: u32,
     room: &mut Room,
 ) -> Result<Verdict, NoMemory>
     requires fits { FitsDatabase query.now db.now }
     requires long { length row.now ≡ length query.now.answer }
-    requires lookup { IsLookup query.now db.now lookup.now }
-    ensures { IfOk result (IsVerdict query.now db.now row.now budget) }
+    requires lookup { IsLookup query.now db.now lookup.old }
+    ensures lookup { IsLookup query.now db.now lookup.new }
+    ensures verdict { IfOk result (IsVerdict query.now db.now row.now budget) }
 {
-    match witnesses_by_paths(alloc, db, lookup.linked, row, lookup.paths) {
+    match witnesses_by(alloc, db, query, lookup, row) {
         Ok(found) => {
             let verdict = judge_witnesses(alloc, db, query, found.as_slice(), budget, room);
             drop(found);

@@ -3,19 +3,16 @@
 
 ghost use Rattle.std.specs.Prelude.{◌≡◌, [], IfOk, IfSome, IsNone, length};
 ghost use Rattle.cqa_model.specs.Query.{FitsDatabase};
-ghost use Rattle.linked_query.specs.Linked.{HasSameWitnesses};
-ghost use Rattle.search_answers.specs.Lookups.{IsLookup};
+ghost use Rattle.join_witness.specs.Lookups.{IsLookup};
 ghost use Rattle.repair_clauses.specs.Candidates.{AreCandidates};
 ghost use Rattle.search_answers.specs.Searching.{IsSearched, IsStop, IsStopAt, Sifts, SiftsAll};
 
 use crate::first_look::Room;
 use crate::judging::{Verdict, judge_row};
-use crate::lookup::Lookup;
 use cnf_form::{Cnf, Log};
 use cqa_model::Query;
 use cqa_value::{Items, NoMemory, Row};
-use join_witness::{candidates, row_paths};
-use linked_query::linked;
+use join_witness::{Lookup, candidates, lookup_of};
 use std::alloc::Global;
 use table_blocks::Database;
 
@@ -37,11 +34,11 @@ pub enum Searched {
 }
 
 /// Puts a row behind the certain ones if it is certain. Says why the search ends, if it does.
-fn sift(
+fn sift<'a>(
     alloc: Global,
-    db: &Database,
+    db: &'a Database,
     query: &Query,
-    lookup: &Lookup<'_>,
+    lookup: &mut Lookup<'a>,
     budget: u32,
     row: Row,
     room: &mut Room,
@@ -49,7 +46,8 @@ fn sift(
 ) -> Result<Option<Stop>, NoMemory>
     requires fits { FitsDatabase query.now db.now }
     requires long { length row ≡ length query.now.answer }
-    requires lookup { IsLookup query.now db.now lookup.now }
+    requires lookup { IsLookup query.now db.now lookup.old }
+    ensures lookup { IsLookup query.now db.now lookup.new }
     ensures sifted { IfOk result (λ stop. IsNone stop → Sifts query.now db.now row answers.old.items answers.new.items) }
     ensures stopped { IfOk result (λ stop. IfSome stop (IsStopAt query.now db.now budget row)) }
 {
@@ -72,18 +70,18 @@ fn sift(
 }
 
 /// Gathers the certain ones of the possible rows, ascending. Says why the search ends before all are decided, if it does.
-fn sift_all(
+fn sift_all<'a>(
     alloc: Global,
-    db: &Database,
+    db: &'a Database,
     query: &Query,
-    lookup: &Lookup<'_>,
+    lookup: &mut Lookup<'a>,
     budget: u32,
     rows: Vec<Row>,
     room: &mut Room,
     answers: &mut Vec<Row>,
 ) -> Result<Option<Stop>, NoMemory>
     requires fits { FitsDatabase query.now db.now }
-    requires lookup { IsLookup query.now db.now lookup.now }
+    requires lookup { IsLookup query.now db.now lookup.old }
     requires rows { AreCandidates query.now db.now rows.items }
     requires none { answers.old.items ≡ [] }
     ensures all { IfOk result (λ stop. IsNone stop → SiftsAll query.now db.now rows.items answers.new.items) }
@@ -98,43 +96,7 @@ fn sift_all(
     Ok(None)
 }
 
-/// The same by indexes of the tables, which are made once for all rows.
-fn search_linked(
-    alloc: Global,
-    db: &Database,
-    query: &Query,
-    linked: &Query,
-    budget: u32,
-    rows: Vec<Row>,
-    answers: &mut Vec<Row>,
-) -> Result<Option<Stop>, NoMemory>
-    requires fits { FitsDatabase query.now db.now }
-    requires linked { HasSameWitnesses query.now linked.now }
-    requires rows { AreCandidates query.now db.now rows.items }
-    requires none { answers.old.items ≡ [] }
-    ensures all { IfOk result (λ stop. IsNone stop → SiftsAll query.now db.now rows.items answers.new.items) }
-    ensures stopped { IfOk result (λ stop. IfSome stop (IsStop query.now db.now budget)) }
-{
-    match row_paths(alloc, db, linked) {
-        Ok(paths) => {
-            let mut room = Room::new(alloc);
-            let lookup = Lookup {
-                linked,
-                paths: paths.as_slice(),
-            };
-            let stop = sift_all(alloc, db, query, &lookup, budget, rows, &mut room, answers);
-            drop(room);
-            drop(paths);
-            stop
-        }
-        Err(fault) => {
-            drop(rows);
-            Err(fault)
-        }
-    }
-}
-
-/// The same by conditions that are closed under links, once for all rows.
+/// The same by one lookup for all rows.
 fn search_rows(
     alloc: Global,
     db: &Database,
@@ -149,11 +111,23 @@ fn search_rows(
     ensures all { IfOk result (λ stop. IsNone stop → SiftsAll query.now db.now rows.items answers.new.items) }
     ensures stopped { IfOk result (λ stop. IfSome stop (IsStop query.now db.now budget)) }
 {
-    match linked(alloc, query) {
-        Ok(linked) => {
-            let stop = search_linked(alloc, db, query, &linked, budget, rows, answers);
-            drop(linked);
-            stop
+    match lookup_of(alloc, db, query) {
+        Ok(made) => {
+            let mut lookup = made;
+            let mut room = Room::new(alloc);
+            let found = sift_all(
+                alloc,
+                db,
+                query,
+                &mut lookup,
+                budget,
+                rows,
+                &mut room,
+                answers,
+            );
+            drop(room);
+            drop(lookup);
+            found
         }
         Err(fault) => {
             drop(rows);

@@ -8,7 +8,10 @@ use Rattle.pair_formula.proofs.Sieving.{AreDone, done-none, done-more, done-all,
 use Rattle.pair_formula.proofs.certain.sift_all.Goals as goal
 
 pub loop-row-init : goal.loop-row-init
-loop-row-init c = done-none c.args.db.now c.args.query.now (into_iter_items c.into_iter-row-iterator.result) c.args.answers.now.items c.requires.none
+loop-row-init c = record {
+  done = done-none c.args.db.now c.args.query.now (into_iter_items c.into_iter-row-iterator.result) c.args.answers.now.items c.requires.none;
+  lookup = c.requires.lookup;
+}
 
 pub sift-requires-clause-long : goal.sift-requires-clause-long
 sift-requires-clause-long c =
@@ -16,18 +19,21 @@ sift-requires-clause-long c =
     let db = c.args.db.now in
     let all = into_iter_items c.into_iter-row-iterator.result in
     let are = subst (AreCandidates q db) (sym c.into_iter-row-iterator.ensures.into_iter_gives.0) c.requires.rows in
-    has_length q db c.in-Some.row (next-candidate db q all c.loop-row.answers.items are c.in-Some.row (into_iter_items c.next.new.self) (subst (AreDone db q all c.loop-row.answers.items) c.in-Some.ensures.steps.0 c.loop-row.invariant))
+    has_length q db c.in-Some.row (next-candidate db q all c.loop-row.answers.items are c.in-Some.row (into_iter_items c.next.new.self) (subst (AreDone db q all c.loop-row.answers.items) c.in-Some.ensures.steps.0 c.loop-row.invariant.done))
 
 pub loop-row-preserved : goal.loop-row-preserved
 loop-row-preserved c =
     let q = c.args.query.now in
     let db = c.args.db.now in
     let all = into_iter_items c.into_iter-row-iterator.result in
-    done-more db q all c.loop-row.answers.items c.sift.new.answers.items c.in-Some.row (into_iter_items c.next.new.self) (subst (AreDone db q all c.loop-row.answers.items) c.in-Some.ensures.steps.0 c.loop-row.invariant) c.in_ok-sift.ensures
+    record {
+      done = done-more db q all c.loop-row.answers.items c.sift.new.answers.items c.in-Some.row (into_iter_items c.next.new.self) (subst (AreDone db q all c.loop-row.answers.items) c.in-Some.ensures.steps.0 c.loop-row.invariant.done) c.in_ok-sift.ensures.sifted;
+      lookup = c.sift.ensures.lookup;
+    }
 
 pub returns : goal.returns
 returns c =
     let q = c.args.query.now in
     let db = c.args.db.now in
     subst (λ rows. AreSifted db q rows c.loop-row.answers.items) c.into_iter-row-iterator.ensures.into_iter_gives.0
-    (done-all db q (into_iter_items c.into_iter-row-iterator.result) c.loop-row.answers.items (into_iter_items c.loop-row.row-iterator) c.loop-row.invariant (nil_from_length (into_iter_items c.loop-row.row-iterator) (sym c.loop-row.row-iterator.rest.ok.0 ∙ c.in-None.ensures.steps.0)))
+    (done-all db q (into_iter_items c.into_iter-row-iterator.result) c.loop-row.answers.items (into_iter_items c.loop-row.row-iterator) c.loop-row.invariant.done (nil_from_length (into_iter_items c.loop-row.row-iterator) (sym c.loop-row.row-iterator.rest.ok.0 ∙ c.in-None.ensures.steps.0)))
