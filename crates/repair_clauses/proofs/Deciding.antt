@@ -1,5 +1,5 @@
 -- The solver takes the formula of a row, and its answer decides the row.
-use Rattle.std.proofs.Common.{◌≡◌, ℕ, ◌<◌, ◌≤◌, ◌+◌, List, [], ◌∷◌, length, get_or, map, Result, Ok, sym, subst, arith, Contains, Bool, Less}
+use Rattle.std.proofs.Common.{◌≡◌, ℕ, ◌<◌, ◌≤◌, ◌+◌, List, [], ◌∷◌, length, get_or, map, Result, Ok, Err, IfOk, sym, subst, arith, Contains, Bool, Less}
 use Rattle.std.specs.List.Sorted.{IsStrictlySortedBy}
 use Rattle.std.specs.Ordering.{nat_cmp}
 use Rattle.cqa_value.specs.declared.value.Value.{Value}
@@ -18,6 +18,7 @@ use Rattle.cdcl.specs.declared.outcome.Outcome.{Outcome}
 use Rattle.cdcl.specs.declared.outcome.Outcome.TheVariants.{Sat, Unsat, Spent}
 use Rattle.cdcl.specs.Outcomes.{AreConsecutive, IsModel, IsOnce, OutcomeIs, assignment}
 use Rattle.join_witness.proofs.Sorted.{each-of}
+use Rattle.repair_clauses.specs.declared.decision.Decided.{Decided}
 use Rattle.repair_clauses.specs.declared.formula.Encoded.{Encoded}
 use Rattle.repair_clauses.specs.Encodings.{IsEncoded}
 use Rattle.repair_clauses.specs.Deciding.{SaysOf}
@@ -65,9 +66,17 @@ module _ (q : Query) (db : List Table) (row : List Value) (e : Encoded) (h : IsE
       (relevant.0, relevant.1)
 
 -- what the solver's clauses say of an outcome
-pub outcome_is : (cnf : Cnf) (budget : ℕ) (r : Result Outcome NoMemory) (o : Outcome) → r ≡ Ok o → ((values : List Bool) → r ≡ Ok (Sat values) → IsModel cnf values) →
+outcome_is : (cnf : Cnf) (budget : ℕ) (r : Result Outcome NoMemory) (o : Outcome) → r ≡ Ok o → ((values : List Bool) → r ≡ Ok (Sat values) → IsModel cnf values) →
     ((log : Log) → r ≡ Ok (Unsat log) → Refutes cnf log.steps) → ((log : Log) → r ≡ Ok (Unsat log) → AreConsecutive (length cnf.clauses) log.steps) →
     ((log : Log) → r ≡ Ok (Unsat log) → length log.steps ≤ budget + 1) → ((log : Log) → r ≡ Ok (Spent log) → IsSpentLog cnf budget log.steps) → OutcomeIs cnf budget o
 outcome_is cnf budget r (Sat values) e sat refutes ids size spent = sat values e
 outcome_is cnf budget r (Unsat log) e sat refutes ids size spent = (refutes log e, ids log e, size log e)
 outcome_is cnf budget r (Spent log) e sat refutes ids size spent = spent log e
+
+-- the same of an outcome that is kept beside its formula
+pub kept_is : (cnf : Cnf) (budget : ℕ) (r : Result Outcome NoMemory) (kept : Result Decided NoMemory) → IfOk kept (λ decided. r ≡ Ok decided.outcome) →
+    ((values : List Bool) → r ≡ Ok (Sat values) → IsModel cnf values) → ((log : Log) → r ≡ Ok (Unsat log) → Refutes cnf log.steps) →
+    ((log : Log) → r ≡ Ok (Unsat log) → AreConsecutive (length cnf.clauses) log.steps) → ((log : Log) → r ≡ Ok (Unsat log) → length log.steps ≤ budget + 1) →
+    ((log : Log) → r ≡ Ok (Spent log) → IsSpentLog cnf budget log.steps) → IfOk kept (λ decided. OutcomeIs cnf budget decided.outcome)
+kept_is cnf budget r (Ok decided) e sat refutes ids size spent = outcome_is cnf budget r decided.outcome e sat refutes ids size spent
+kept_is cnf budget r (Err fault) e sat refutes ids size spent = tt

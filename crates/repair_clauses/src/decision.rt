@@ -1,7 +1,7 @@
 //! One row is decided by its formula, and what the solver answers is the evidence.
 //! A model keeps a witness out of a repair, and a refutation says that none can be kept out.
 
-ghost use Rattle.std.specs.Prelude.{◌≡◌, IfOk, IfErr, length};
+ghost use Rattle.std.specs.Prelude.{◌≡◌, IfOk, IfErr, Ok, length};
 ghost use Rattle.cqa_model.specs.Query.{FitsDatabase};
 ghost use Rattle.cnf_form.specs.Literals.{IsInRange};
 ghost use Rattle.cdcl.specs.Outcomes.{IsOnce, OutcomeIs};
@@ -9,7 +9,7 @@ ghost use Rattle.join_witness.specs.Listing.{HasTooMany, IsOver};
 ghost use Rattle.repair_clauses.specs.Deciding.{IsDecided};
 
 use crate::formula::{Encoded, encode};
-use cdcl::{Outcome, solve};
+use cdcl::Outcome;
 use cqa_model::Query;
 use cqa_value::{Fail, NoMemory, Row};
 use join_witness::{TooMany, witnesses};
@@ -23,6 +23,20 @@ pub struct Decided {
     pub outcome: Outcome,
 }
 
+/// A formula with what was found out of it.
+fn with_outcome(formula: Encoded, found: Result<Outcome, NoMemory>) -> Result<Decided, NoMemory>
+    ensures same { IfOk result (λ decided. decided.formula ≡ formula) }
+    ensures outcome { IfOk result (λ decided. found ≡ Ok decided.outcome) }
+{
+    match found {
+        Ok(outcome) => Ok(Decided { formula, outcome }),
+        Err(fault) => {
+            drop(formula);
+            Err(fault)
+        }
+    }
+}
+
 /// Hands a formula to the solver.
 ///
 /// # Errors
@@ -34,13 +48,19 @@ pub fn solved(alloc: Global, formula: Encoded, budget: u32) -> Result<Decided, N
     ensures same { IfOk result (λ decided. decided.formula ≡ formula) }
     ensures outcome { IfOk result (λ decided. OutcomeIs formula.cnf budget decided.outcome) }
 {
-    match solve(alloc, &formula.cnf, budget) {
-        Ok(outcome) => Ok(Decided { formula, outcome }),
-        Err(fault) => {
-            drop(formula);
-            Err(fault)
-        }
-    }
+    let found = cdcl::solve(alloc, &formula.cnf, budget);
+    with_outcome(formula, found)
+}
+
+/// The same for a formula that may be large: rows that exclude the same rows are searched as one.
+fn solved_by_groups(alloc: Global, formula: Encoded, budget: u32) -> Result<Decided, NoMemory>
+    requires range { IsInRange formula.cnf }
+    requires once { IsOnce formula.cnf }
+    ensures same { IfOk result (λ decided. decided.formula ≡ formula) }
+    ensures outcome { IfOk result (λ decided. OutcomeIs formula.cnf budget decided.outcome) }
+{
+    let found = merged_search::solve(alloc, &formula.cnf, budget);
+    with_outcome(formula, found)
 }
 
 /// Decides whether every repair holds a witness of a row, with at most `budget` conflicts.
@@ -64,6 +84,6 @@ pub fn decide(
     let found = witnesses(alloc, db, query, row)?;
     let formula = encode(alloc, db, query, found.as_slice());
     drop(found);
-    let decided = solved(alloc, formula?, budget)?;
+    let decided = solved_by_groups(alloc, formula?, budget)?;
     Ok(decided)
 }

@@ -7,16 +7,16 @@ use Rattle.repair_clauses.specs.Encodings.{IsEncoded}
 use Rattle.repair_clauses.proofs.Deciding.{in_range, once, says_of}
 use Rattle.repair_clauses.proofs.decision.decide.Goals as goal
 
-pub solved-requires-clause-range : goal.solved-requires-clause-range
-solved-requires-clause-range c =
+pub solved_by_groups-requires-clause-range : goal.solved_by_groups-requires-clause-range
+solved_by_groups-requires-clause-range c =
     let q = c.args.query.now in
     let db = c.args.db.now in
     let row = c.args.row.now in
     let all = subst (λ (ws : List Witness). AreAllNames q db row (names_of ws)) (sym c.as_slice.ensures) c.in_ok-found.ensures.all in
     in_range q db row c.in_ok-formula.field-0 (c.in_ok-formula.ensures row all)
 
-pub solved-requires-clause-once : goal.solved-requires-clause-once
-solved-requires-clause-once c =
+pub solved_by_groups-requires-clause-once : goal.solved_by_groups-requires-clause-once
+solved_by_groups-requires-clause-once c =
     let q = c.args.query.now in
     let db = c.args.db.now in
     let row = c.args.row.now in

@@ -1,0 +1,118 @@
+//! The call that decides a formula: a guess, which is handed out once it is checked, or a search without one.
+
+ghost use Rattle.std.specs.Prelude.{◌≡◌, ◌<◌, ◌≤◌, ◌+◌, ◌^◌, Bool, List, length, IfOk, IfSome, true};
+ghost use Rattle.cnf_form.specs.declared.log.Log.{Log};
+ghost use Rattle.cnf_form.specs.Literals.{IsInRange};
+ghost use Rattle.cnf_form.specs.Logs.{Refutes};
+ghost use Rattle.cnf_form.specs.Spent.{IsSpentLog};
+ghost use Rattle.cdcl.specs.Outcomes.{AreConsecutive, IsModel, IsOnce, OutcomeIs};
+
+use crate::guess::guess;
+use crate::model::is_model;
+use crate::refutation::is_refutation;
+use cdcl::Outcome;
+use cnf_form::Cnf;
+use cqa_value::NoMemory;
+use std::alloc::Global;
+
+/// The number of clauses from which on a formula is searched by groups first.
+pub const MERGED_FROM: usize = 1_000;
+
+/// Whether an outcome is a model or a refutation of a formula.
+fn is_answer(alloc: Global, cnf: &Cnf, budget: u32, outcome: &Outcome) -> Result<bool, NoMemory>
+    ensures { IfOk result (λ yes. yes ≡ true → OutcomeIs cnf.now budget outcome.now) }
+{
+    match outcome {
+        Outcome::Sat(values) => Ok(is_model(cnf, values.as_slice())),
+        Outcome::Unsat(log) => is_refutation(alloc, cnf, budget, log),
+        Outcome::Spent(_) => Ok(false),
+    }
+}
+
+/// An outcome, where it is an answer.
+fn checked(
+    alloc: Global,
+    cnf: &Cnf,
+    budget: u32,
+    outcome: Outcome,
+) -> Result<Option<Outcome>, NoMemory>
+    ensures { IfOk result (λ found. IfSome found (OutcomeIs cnf.now budget)) }
+{
+    match is_answer(alloc, cnf, budget, &outcome) {
+        Ok(true) => Ok(Some(outcome)),
+        Ok(false) => {
+            drop(outcome);
+            Ok(None)
+        }
+        Err(fault) => {
+            drop(outcome);
+            Err(fault)
+        }
+    }
+}
+
+/// What is guessed, where it is an answer. A guess that is refused memory is none.
+fn guessed(alloc: Global, cnf: &Cnf, budget: u32) -> Result<Option<Outcome>, NoMemory>
+    ensures { IfOk result (λ found. IfSome found (OutcomeIs cnf.now budget)) }
+{
+    match guess(alloc, cnf, budget) {
+        Ok(Some(outcome)) => checked(alloc, cnf, budget, outcome),
+        Ok(None) | Err(NoMemory) => Ok(None),
+    }
+}
+
+/// What the guess comes to, and where that is no answer, what the solver finds.
+fn guessed_or_searched(alloc: Global, cnf: &Cnf, budget: u32) -> Result<Outcome, NoMemory>
+    requires range { IsInRange cnf.now }
+    requires once { IsOnce cnf.now }
+    ensures { IfOk result (λ outcome. OutcomeIs cnf.now budget outcome) }
+{
+    match guessed(alloc, cnf, budget)? {
+        Some(outcome) => Ok(outcome),
+        None => searched(alloc, cnf, budget),
+    }
+}
+
+/// What the solver finds.
+fn searched(alloc: Global, cnf: &Cnf, budget: u32) -> Result<Outcome, NoMemory>
+    requires range { IsInRange cnf.now }
+    requires once { IsOnce cnf.now }
+    ensures { IfOk result (λ outcome. OutcomeIs cnf.now budget outcome) }
+{
+    cdcl::solve(alloc, cnf, budget)
+}
+
+/// The outcome of a formula. Small ones, and those for which no search is asked, aren't guessed.
+fn outcome_of(alloc: Global, cnf: &Cnf, budget: u32) -> Result<Outcome, NoMemory>
+    requires range { IsInRange cnf.now }
+    requires once { IsOnce cnf.now }
+    ensures { IfOk result (λ outcome. OutcomeIs cnf.now budget outcome) }
+{
+    if cnf.clauses.len() < MERGED_FROM || budget == 0 {
+        searched(alloc, cnf, budget)
+    } else {
+        guessed_or_searched(alloc, cnf, budget)
+    }
+}
+
+/// Decides whether some assignment satisfies a formula, by searches of at most `budget` conflicts each: where it has
+/// `MERGED_FROM` clauses or more, first over one variable for each group of rows, and where that comes to no answer that
+/// passes its check, over the rows.
+///
+/// A budget of 0 asks for unit propagation alone, without search.
+///
+/// # Errors
+///
+/// `NoMemory` where memory is refused.
+pub fn solve(alloc: Global, cnf: &Cnf, budget: u32) -> Result<Outcome, NoMemory>
+    requires range { IsInRange cnf.now }
+    requires once { IsOnce cnf.now }
+    ensures sat { (values : List Bool) → result ≡ Ok (Outcome.Sat values) → IsModel cnf.now values }
+    ensures unsat { (log : Log) → result ≡ Ok (Outcome.Unsat log) → Refutes cnf.now log.steps }
+    ensures unsat_ids { (log : Log) → result ≡ Ok (Outcome.Unsat log) → AreConsecutive (length cnf.now.clauses) log.steps }
+    ensures unsat_size { (log : Log) → result ≡ Ok (Outcome.Unsat log) → length log.steps ≤ budget + 1 }
+    ensures spent { (log : Log) → result ≡ Ok (Outcome.Spent log) → IsSpentLog cnf.now budget log.steps }
+    ensures spent_below { (log : Log) → result ≡ Ok (Outcome.Spent log) → budget < 3 ^ cnf.now.vars }
+{
+    outcome_of(alloc, cnf, budget)
+}
