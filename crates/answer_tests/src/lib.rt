@@ -1,15 +1,22 @@
 //! Tests of what no clause says of answers: searches by formulas, weak pairs, repairs, orders of atoms and logs. Each call
-//! succeeds with ample memory, and with the answer that was worked out by hand.
+//! succeeds with ample memory, and with the answer that was worked out by hand, or by another program.
 #![tactic(auto)]
 
+pub mod draws;
 pub mod fit;
 #[cfg(test)]
 mod formulas;
+#[cfg(test)]
+mod groups;
+#[cfg(test)]
+mod listing;
 pub mod making;
 #[cfg(test)]
 mod orders;
 #[cfg(test)]
 mod questions;
+#[cfg(test)]
+mod random_questions;
 #[cfg(test)]
 mod repairs;
 #[cfg(test)]

@@ -79,7 +79,7 @@ fn made(alloc: Global, db: &mut Database, text: &[u8]) -> bool
 }
 
 /// Whether all statements are short and each of them is done.
-fn all_made(alloc: Global, db: &mut Database, texts: &[&str]) -> bool {
+pub fn all_made(alloc: Global, db: &mut Database, texts: &[&str]) -> bool {
     for text in texts {
         if text.len() > 1_000 || !made(alloc, db, text.as_bytes()) {
             return false;
@@ -112,7 +112,7 @@ fn resolved(alloc: Global, db: &Database, select: &Select) -> Option<Query>
 }
 
 /// The query of a short question, over the tables.
-fn query_of(alloc: Global, db: &Database, text: &str) -> Option<Query>
+pub fn query_of(alloc: Global, db: &Database, text: &str) -> Option<Query>
     ensures { IfSome result (λ query. FitsDatabase query db.now) }
 {
     if text.len() > 1_000 {
