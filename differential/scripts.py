@@ -5,9 +5,10 @@
 
 Where a reply is free, it is judged by what it has to be: the repair of an explanation must hold no witness of its row, a
 refutation must be one of the row's formula and `check` must verify it, and a search may be refused as spent only where its
-budget can be too small for the row's formula; each step of the log that it keeps must follow. `--pieces` feeds each script
-in random pieces with pauses. A difference prints the script, the reply and what was expected, and ends with status 1.
-Python 3.9 and its library alone are needed.
+budget can be too small for the row's formula. Each step of a log must follow by its hints, in an order in which each of
+them is of use. A spent log must add as many clauses as its budget has, each new over all before it, and leave a variable
+open. `--pieces` feeds each script in random pieces with pauses. A difference prints the script, the reply and what was
+expected, and ends with status 1. Python 3.9 and its library alone are needed.
 """
 
 import argparse
@@ -35,7 +36,7 @@ class Lines:
 
     def __init__(self, text, program):
         self.lines, self.at, self.program = text.split("\n")[:-1], 0, program
-        self.log, self.owed = ["no log"], None
+        self.log, self.owed, self.spent = ["no log"], None, []
 
     def peek(self):
         return self.lines[self.at] if self.at < len(self.lines) else ""
@@ -139,7 +140,7 @@ class Script:
         self.replied("show tables;", *lines, "%d tables" % len(lines))
 
     def set_conflicts(self):
-        self.budget = self.random.choice([0, 1, 2, 200_000, 200_000])
+        self.budget = self.random.choice([0, 1, 2, 3, 200_000, 200_000])
         self.replied("set conflicts %d;" % self.budget, "conflicts %d" % self.budget)
 
     def show_log(self):
@@ -147,9 +148,19 @@ class Script:
 
     # Queries.
 
+    def join(self, columns, kind, joins):
+        """Two columns of one kind: mostly of two tables, as those of the last join, or of one, or a column twice."""
+        left, how = self.random.choice(columns), self.random.choice(["other"] * 6 + ["again"] * 3 + ["within", "itself"])
+        fits = {"other": lambda one, other: one[0] != other[0], "within": lambda one, other: one[0] == other[0] and one != other,
+                "itself": lambda one, other: one == other,
+                "again": lambda one, other: joins and {one[0], other[0]} == {column[0] for column in joins[-1]}}[how]
+        lefts = columns if how == "again" else [left]
+        pairs = [(one, other) for one in lefts for other in columns if kind(one) == kind(other)]
+        return self.random.choice([pair for pair in pairs if fits(*pair) and pair not in joins] or pairs)
+
     def query(self):
         pick = self.random
-        tables = [table.copy() for table in pick.sample(self.tables, pick.randint(1, min(3, len(self.tables))))]
+        tables = [table.copy() for table in pick.sample(self.tables, pick.randint(1, min(4, len(self.tables))))]
         columns = [(atom, place) for atom, table in enumerate(tables) for place in range(len(table.columns))]
 
         def kind(column):
@@ -157,45 +168,78 @@ class Script:
 
         joins = []
         for _ in range(pick.randint(len(tables) - 1, len(tables) + 1)):
-            left = pick.choice(columns)
-            same = [column for column in columns if kind(column) == kind(left)]
-            joins.append((left, pick.choice([column for column in same if column[0] != left[0]] or same)))
+            joins.append(self.join(columns, kind, joins))
         tests = []
         for _ in range(pick.choice([0, 0, 1, 2])):
-            column = pick.choice(columns)
+            column = pick.choice(pick.choice(joins) if joins and pick.random() < 0.5 else columns)
             tests.append((column, pick.choice(["=", "=", "<>", "<", "<=", ">", ">="]), self.kind_of_value(kind(column))))
         answer = [pick.choice(columns) for _ in range(pick.randint(0, 3))]
         return Query(tables, answer, joins, tests)
 
-    def crossed(self):
-        """A query whose tables attack each other strongly: a row is nearly certain, and propagation leaves its formula open."""
+    def turned(self):
+        """A query with a literal on the left of a condition."""
+        query = self.query()
+        head = "ask %s%s " % (query.text(), " and" if query.joins or query.tests else " where")
+        column = "%s.%s" % (query.tables[0].name, query.tables[0].columns[0][0])
+        value = literal(self.kind_of_value(query.tables[0].columns[0][1]))
+        self.replied("%s%s = %s;" % (head, value, column), "error 2 Syntax at %d" % len(head.encode()))
+
+    def has_cycle(self):
+        """Whether there are two tables whose queries need a search; they are made if there were none."""
         if not self.cycle:
             self.cycle = [Table(name, [("g", "int"), ("k", "int"), ("z", "int")], [0, 1], False) for name in ("lhs", "rhs")]
             for table in self.cycle:
                 self.tables.append(table)
                 self.replied("create table %s;" % table.schema(), "created " + table.name)
-        if any(table.strict or table.key != [0, 1] for table in self.cycle):
+        return not any(table.strict or table.key != [0, 1] for table in self.cycle)
+
+    def fill(self, table, rows):
+        """Rows of a table of the cycle in place of those that it has."""
+        table.rows = rows
+        self.say("delete from %s where g >= 0;" % table.name, lambda out: out.while_like("deleted [0-9]+"))
+        if rows:
+            self.replied("insert into %s values %s;" % (table.name, ", ".join(map(row_text, sorted(rows)))), "inserted %d" % len(rows))
+
+    def crossed(self):
+        """A query whose tables attack each other strongly: a row is nearly certain, and propagation leaves its formula open."""
+        if not self.has_cycle():
             return
         pick, group = self.random, self.random.choice(NUMBERS)
         self.set_conflicts()
         blocks = [[(0, 1), (2, 3)], [(one, other) for one in (0, 1) for other in (2, 3)]]
         blocks[1][pick.randrange(4)] = tuple(pick.sample(NUMBERS, 2))
         for table, pairs in zip(self.cycle, blocks):
-            table.rows = {(group, key, value) for key, pair in enumerate(pairs) for value in pair}
-            self.say("delete from %s where g >= 0;" % table.name, lambda out: out.while_like("deleted [0-9]+"))
-            self.replied("insert into %s values %s;" % (table.name, ", ".join(map(row_text, sorted(table.rows)))),
-                         "inserted %d" % len(table.rows))
+            self.fill(table, {(group, key, value) for key, pair in enumerate(pairs) for value in pair})
         answer = pick.choice([[], [(0, 0)]])
         joins = [((0, place), (1, place)) for place in (0, 2)]
         self.ask_of(Query([table.copy() for table in self.cycle], answer, joins, []))
-        self.show_log()
+
+    def wide(self):
+        """The same over so many rows that they are searched in groups. Nobody lists the repairs: the explanation is judged."""
+        if not self.has_cycle():
+            return
+        values = self.random.randint(12, 18)
+        for table in self.cycle:
+            self.fill(table, {(1, key, value) for key in range(int(values * self.random.uniform(3.0, 4.2)))
+                              for value in self.random.sample(range(values), 3)})
+        query = Query([table.copy() for table in self.cycle], [], [((0, 2), (1, 2))], [])
+        self.replied("set conflicts 200000;", "conflicts 200000")
+        self.budget = 200_000
+        self.say("explain row () for %s;" % query.text(), lambda out: is_explained(out, query, ()))
+        for table in self.cycle:
+            self.fill(table, set())
 
     def asked(self):
         self.ask_of(self.query())
 
     def ask_of(self, query):
-        if query.number_of_repairs() > 600:
+        if query.number_of_repairs() > 600 or query.work() > 40_000:
             return
+        self.ask_or_explain(query)
+        if needs_search(query):
+            self.show_log()
+
+    def ask_or_explain(self, query):
         text = query.text()
         verb = self.random.choice(["ask", "ask", "ask", "possible", "classify", "plan", "explain"])
         if verb == "explain":
@@ -241,13 +285,15 @@ class Script:
 
     def make(self, length):
         steps = [self.insert] * 8 + [lambda: self.insert(copy=True)] * 2 + [self.asked] * 6
-        steps += [self.delete, self.alter, self.show, self.set_conflicts, self.show_log, self.crossed]
-        for _ in range(self.random.randint(1, 3)):
+        steps += [self.delete, self.alter, self.show, self.set_conflicts, self.show_log, self.crossed, self.turned]
+        for _ in range(self.random.randint(1, 4)):
             self.create()
         while len(self.statements) < length:
             if len(self.tables) < 5 and self.random.random() < 0.05:
                 self.create()
             self.random.choice(steps)()
+        if self.random.random() < 0.2:
+            self.wide()
         return self
 
 
@@ -287,23 +333,93 @@ def is_refutation(out, query, row):
         raise Differs("check says %s" % said.decode())
 
 
-def is_log(out, query, row):
-    """A row's formula and steps that follow, which are kept as the last log. Says whether they refute the formula."""
+def is_explained(out, query, row):
+    """Either of these; what is shown is its own evidence."""
+    return (is_refutation if out.peek() == "certain by refutation" else is_rejection)(out, query, row)
+
+
+class Followed:
+    """The clauses of a formula, and of the steps of a log that were taken."""
+
+    def __init__(self, clauses):
+        self.clauses = [frozenset(clause) for clause in clauses]
+        self.live, self.top = dict(enumerate(self.clauses, 1)), len(clauses)
+
+    def take(self, step):
+        """Takes a step, whose id has to rise and whose clause has to follow by its hints; gives the clause that it adds."""
+        if step[1] == "d":
+            for number in map(int, step[2:-1]):
+                del self.live[number]
+            return None
+        number, numbers = int(step[0]), list(map(int, step[1:]))
+        split = numbers.index(0)
+        clause, hints = frozenset(numbers[:split]), numbers[split + 1:-1]
+        if number <= self.top:
+            raise Differs("the ids don't rise: %s" % " ".join(step))
+        if len(clause) < split or any(-one in clause for one in clause):
+            raise Differs("a variable stands twice: %s" % " ".join(step))
+        self.follow(clause, hints, " ".join(step))
+        self.live[number], self.top = clause, number
+        self.clauses.append(clause)
+        return clause
+
+    def follow(self, clause, hints, shown):
+        """Each hint but the last makes one more literal true, and the last has none left; so no hint stands twice."""
+        true = {-one for one in clause}
+        for place, hint in enumerate(hints):
+            left = [one for one in self.live[hint] if -one not in true]
+            if not left:
+                if place + 1 < len(hints):
+                    raise Differs("hints behind the conflict: %s" % shown)
+                return
+            if len(left) > 1 or left[0] in true:
+                raise Differs("a hint makes no literal true: %s" % shown)
+            true.add(left[0])
+        raise Differs("no conflict: %s" % shown)
+
+
+def read_log(out, query, row):
+    """A row's formula and the steps of a log, which is kept as the last log: its variables, its clauses and the steps."""
     start = out.at
     variables, clauses, _ = query.formula(row)
     out.expect("p cnf %d %d" % (variables, len(clauses)), *(" ".join(map(str, clause + [0])) for clause in clauses), "lrat")
-    live = {number: frozenset(clause) for number, clause in enumerate(clauses, 1)}
-    steps = out.while_like(r"[0-9]+( d)?( -?[0-9]+)*")
+    steps = [step.split() for step in out.while_like(r"[0-9]+( d)?( -?[0-9]+)*")]
     out.log, out.owed = out.lines[start:out.at], None
-    return any([refutes(live, step.split()) for step in steps])
+    return variables, clauses, steps
+
+
+def is_log(out, query, row):
+    """A row's formula and a log whose steps follow. Says whether they refute the formula."""
+    _, clauses, steps = read_log(out, query, row)
+    followed = Followed(clauses)
+    return any([followed.take(step) == frozenset() for step in steps])
+
+
+def is_spent_log(out, query, row, budget):
+    """A row's formula and a log that adds as many clauses as the budget has, each new, and leaves a variable open."""
+    variables, clauses, steps = read_log(out, query, row)
+    if len(steps) != budget:
+        raise Differs("%d steps where %d conflicts are spent" % (len(steps), budget))
+    followed = Followed(clauses)
+    for step in steps:
+        before = list(followed.clauses)
+        clause = followed.take(step)
+        if not clause or not {abs(one) for one in clause} <= set(range(1, variables + 1)):
+            raise Differs("no clause of the formula's variables: %s" % " ".join(step))
+        if any(other <= clause for other in before):
+            raise Differs("a clause that isn't new: %s" % " ".join(step))
+    true = propagated(followed.clauses)
+    if true is None or len(true) == variables:
+        raise Differs("propagation ends the spent search")
+    out.spent.append(len(steps))
 
 
 def shows_log(out):
     """The last log: that of a spent search is seen here first."""
     if out.owed is None:
         out.expect(*out.log)
-    elif is_log(out, *out.owed):
-        raise Differs("a spent log refutes its formula")
+    else:
+        is_spent_log(out, *out.owed)
 
 
 def needs_search(query):
@@ -311,21 +427,27 @@ def needs_search(query):
     return query.plan() is None and not (len(query.tables) == 2 and query.classify()[0] == "polynomial")
 
 
-def is_spent_for(query, row, budget):
-    """Whether so many conflicts can be too few for a row's formula: fewer than 3 to its variables, and propagation alone
-    leaves a variable open and no clause false."""
-    variables, clauses, _ = query.formula(row)
+def propagated(clauses):
+    """The literals that propagation makes true; `None` where it makes all of a clause false."""
     true, found = set(), True
     while found:
         found = False
         for clause in clauses:
             left = [one for one in clause if -one not in true]
             if not left:
-                return False
+                return None
             if len(left) == 1 and left[0] not in true:
                 true.add(left[0])
                 found = True
-    return len(true) < variables and budget < 3 ** variables
+    return true
+
+
+def is_spent_for(query, row, budget):
+    """Whether so many conflicts can be too few for a row's formula: fewer than 3 to its variables, and propagation alone
+    leaves a variable open and no clause false."""
+    variables, clauses, _ = query.formula(row)
+    true = propagated(clauses)
+    return true is not None and len(true) < variables and budget < 3 ** variables
 
 
 def is_spent(out, query, budget, rows):
@@ -336,7 +458,7 @@ def is_spent(out, query, budget, rows):
     line = out.next()
     if line not in told or not is_spent_for(query, told[line], budget):
         raise Differs("%s\nhas no cause" % line)
-    out.owed = query, told[line]
+    out.owed = query, told[line], budget
     return True
 
 
@@ -344,29 +466,6 @@ def is_searched(out, query, budget, candidates, lines):
     """The certain rows, or `Spent`."""
     if not is_spent(out, query, budget, candidates):
         out.expect(*lines)
-
-
-def refutes(live, step):
-    """Checks a step of a log, takes it, and says whether it adds the empty clause."""
-    if step[1] == "d":
-        for number in map(int, step[2:-1]):
-            del live[number]
-        return False
-    numbers = list(map(int, step[1:]))
-    split = numbers.index(0)
-    clause, hints = frozenset(numbers[:split]), numbers[split + 1:-1]
-    false, number = {-one for one in clause}, int(step[0])
-    if number <= max(live):
-        raise Differs("the ids don't rise: %s" % " ".join(step))
-    for hint in hints:
-        left = [one for one in live[hint] if -one not in false]
-        if not left:
-            live[number] = clause
-            return not clause
-        if len(left) > 1:
-            raise Differs("a hint isn't unit: %s" % " ".join(step))
-        false.add(left[0])
-    raise Differs("no conflict: %s" % " ".join(step))
 
 
 def run(program, script, pieces):
@@ -386,7 +485,7 @@ def run(program, script, pieces):
 
 
 def compare(program, seed, pieces):
-    """Runs one script; says how many replies agreed."""
+    """Runs one script; gives how many replies agreed, and the number of steps of each spent log."""
     script = Script(seed).make(length=25)
     text = "\n".join(statement for statement, _ in script.statements) + "\n"
     ran = run(program, text.encode(), random.Random(seed) if pieces else None)
@@ -400,7 +499,7 @@ def compare(program, seed, pieces):
             raise Differs("seed %d\n%s\n-- %s" % (seed, shown, differs)) from differs
     if out.at != len(out.lines) or ran.returncode != refused:
         raise Differs("seed %d: the output goes on, or the status %d is wrong\n%s" % (seed, ran.returncode, text))
-    return len(script.statements)
+    return len(script.statements), out.spent
 
 
 def main():
@@ -410,14 +509,16 @@ def main():
     parser.add_argument("--count", type=int, default=200)
     parser.add_argument("--pieces", action="store_true")
     asked = parser.parse_args()
-    replies = 0
+    replies, logs = 0, []
     for seed in range(asked.seed, asked.seed + asked.count):
         try:
-            replies += compare(asked.program, seed, asked.pieces)
+            agreed, spent = compare(asked.program, seed, asked.pieces)
         except Differs as differs:
             print(differs)
             return 1
-    print("%d scripts, %d replies: no difference" % (asked.count, replies))
+        replies += agreed
+        logs += spent
+    print("%d scripts, %d replies, %d spent logs of %d steps: no difference" % (asked.count, replies, len(logs), sum(logs)))
     return 0
 
 
