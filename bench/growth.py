@@ -258,6 +258,21 @@ LOADS = [
 
 # Runs
 
+def write_scripts(make, n, script, other):
+    """Writes both scripts of a load, and says whether the peer has one. A process of its own makes them: what a process held
+    before a run would count as held by the run."""
+    child = os.fork()
+    if child == 0:
+        ours, theirs = make(n)
+        with open(script, "w", encoding="ascii") as file:
+            file.write("\n".join(ours) + "\n")
+        if theirs:
+            with open(other, "w", encoding="ascii") as file:
+                file.write("begin;\n" + "\n".join(theirs) + "\ncommit;\n")
+        os._exit(0 if theirs else 1)
+    return os.waitpid(child, 0)[1] == 0
+
+
 def run(words, script, limit):
     """Processor seconds and megabytes of a run; None where it doesn't end in time."""
     with open(script, "rb") as source:
@@ -320,18 +335,12 @@ def main():
                 continue
             cells = [name, "{:,}".format(int(size * words.scale))]
             for factor in (1, 4):
-                ours, theirs = make(max(int(size * words.scale) * factor, 1))
                 script, other = os.path.join(room, "ours"), os.path.join(room, "theirs")
-                with open(script, "w", encoding="ascii") as file:
-                    file.write("\n".join(ours) + "\n")
+                is_shared = write_scripts(make, max(int(size * words.scale) * factor, 1), script, other) and peer
                 mine = measured([words.program, "run"], script, words.limit, words.repeat)
-                its = None
-                if peer and theirs:
-                    with open(other, "w", encoding="ascii") as file:
-                        file.write("begin;\n" + "\n".join(theirs) + "\ncommit;\n")
-                    its = measured([peer, ":memory:"], other, words.limit, words.repeat)
+                its = measured([peer, ":memory:"], other, words.limit, words.repeat) if is_shared else None
                 ratio = "%.2f" % (mine[0] / its[0]) if mine and its and its[0] else ""
-                cells += [shown(mine), shown(its) if peer and theirs else "", ratio]
+                cells += [shown(mine), shown(its) if is_shared else "", ratio]
             print("| " + " | ".join(cells) + " |", flush=True)
 
 

@@ -13,7 +13,7 @@ import subprocess
 import sys
 import tempfile
 
-from growth import PROGRAM, measured, persons_and_towns, shown
+from growth import PROGRAM, measured, persons_and_towns, shown, write_scripts
 
 SOURCE = os.path.join(os.path.dirname(os.path.abspath(__file__)), "straight.cpp")
 
@@ -34,8 +34,7 @@ def main():
         straight, script = os.path.join(room, "straight"), os.path.join(room, "script")
         subprocess.run([os.environ.get("CXX", "c++"), "-std=c++17", "-O2", "-o", straight, SOURCE], check=True)
         for n in (20000, 300000):
-            with open(script, "w", encoding="ascii") as file:
-                file.write("\n".join(persons_and_towns(n)[0]) + "\n")
+            write_scripts(persons_and_towns, n, script, os.devnull)
             mine = [words.program, "run"]
             if not written(mine, script).endswith(written([straight], script)):
                 sys.exit("at n = %d the two write different rows" % n)
