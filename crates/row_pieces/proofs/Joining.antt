@@ -149,6 +149,20 @@ module _ (from : ℕ) (ps : List Piece) (numbered : AreNumbered from ps) (place 
                   let all = ap (λ z. length (joined z)) (take_all k ps (omega (arith, m))) in
                   (omega (arith, all, high), λ h. omega (arith, all, h))
 
+  -- a piece that begins by the place, with none behind it that does
+  pub last_has : (at : ℕ) (d : Piece) → at < length ps → (get_or ps at d).start ≤ place → place ≤ from + length (joined ps) → at + 1 ≡ length ps → IsPieceOf from ps place at
+  last_has at d w begins high last =
+      let a = numbered_at from ps at d numbered w in
+      let all = ap (λ z. length (joined z)) (take_all (at + 1) ps (omega (arith, last))) in
+      record { within = w; above = omega (arith, begins, a); below = omega (arith, all, high); inside = λ h. omega (arith, all, h) }
+
+  pub inner_has : (at : ℕ) (d e : Piece) → at + 1 < length ps → (get_or ps at d).start ≤ place → place < (get_or ps (at + 1) e).start → IsPieceOf from ps place at
+  inner_has at d e w begins before =
+      let here : at < length ps = omega (arith, w) in
+      let a = numbered_at from ps at d numbered here in
+      let b = numbered_at from ps (at + 1) e numbered w in
+      record { within = here; above = omega (arith, begins, a); below = omega (arith, before, b); inside = λ h. omega (arith, before, b) }
+
 -- the piece, its rows and what is behind it
 module _ (from : ℕ) (ps : List Piece) (numbered : AreNumbered from ps) (place i : ℕ) (found : IsPieceOf from ps place i) (piece : Piece) (is : piece ≡ get_or ps i piece) where
   pub starts : piece.start ≡ from + length (joined (take i ps))

@@ -6,6 +6,7 @@ mod guess;
 mod keep;
 mod mark;
 mod marked;
+mod near;
 mod piece;
 mod pieces;
 mod put;

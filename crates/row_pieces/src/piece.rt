@@ -1,9 +1,10 @@
 //! Pieces of the rows of a table, and the piece for a place.
 
-ghost use Rattle.std.specs.Prelude.{◌≡◌, ℕ, ◌≤◌, ◌<◌, ◌+◌, ◌-◌, ◌++◌, ◌^◌, Some, length, take, drop, slice_get};
+ghost use Rattle.std.specs.Prelude.{◌≡◌, ℕ, IsTrue, ◌≤◌, ◌<◌, ◌+◌, ◌-◌, ◌++◌, ◌^◌, Some, length, take, drop, slice_get};
 ghost use Rattle.row_pieces.specs.Joined.{joined, AreNumbered, IsPieceOf};
 
 use crate::marked::MarkedRows;
+use crate::near::{piece_about, piece_from};
 use cqa_value::Row;
 
 /// The most rows that a piece is left with where memory is had to cut it.
@@ -16,13 +17,34 @@ pub struct Piece {
     pub rows: MarkedRows,
 }
 
+/// Whether a piece begins at a place or before it, and no other piece behind it does.
+fn has_place(pieces: &[Piece], at: usize, place: usize) -> bool
+    ensures { IsTrue result → (from : ℕ) → AreNumbered from pieces.now → from ≤ place → place ≤ from + length (joined pieces.now) → IsPieceOf from pieces.now place at }
+{
+    if at >= pieces.len() || pieces[at].start > place {
+        return false;
+    }
+    at + 1 == pieces.len() || place < pieces[at + 1].start
+}
+
+/// The last piece that begins at a place or before it, looked for from one on that may be near it.
+pub fn piece_near(pieces: &[Piece], at: usize, place: usize) -> usize
+    ensures { (from : ℕ) → AreNumbered from pieces.now → from ≤ place → place ≤ from + length (joined pieces.now) → 0 < length pieces.now → IsPieceOf from pieces.now place result }
+{
+    let guess = piece_from(pieces, at, place);
+    if has_place(pieces, guess, place) {
+        return guess;
+    }
+    pieces
+        .partition_point(|piece| piece.start <= place)
+        .saturating_sub(1)
+}
+
 /// The last piece that begins at a place or before it.
 pub fn piece_of(pieces: &[Piece], place: usize) -> usize
     ensures { (from : ℕ) → AreNumbered from pieces.now → from ≤ place → place ≤ from + length (joined pieces.now) → 0 < length pieces.now → IsPieceOf from pieces.now place result }
 {
-    pieces
-        .partition_point(|piece| piece.start <= place)
-        .saturating_sub(1)
+    piece_near(pieces, piece_about(pieces, place), place)
 }
 
 /// The row at a place of a slice.

@@ -8,7 +8,7 @@ ghost use Rattle.row_pieces.specs.Joined.{joined, AreNumbered, IsOpen};
 
 use crate::add::add_behind;
 use crate::marked::MarkedRows;
-use crate::piece::{MOST_IN_PIECE, Piece, piece_of};
+use crate::piece::{MOST_IN_PIECE, Piece, piece_near};
 use cqa_value::{NoMemory, Row};
 
 /// Cuts a piece in two where memory is had for that, and gives the number of pieces up to its end.
@@ -45,7 +45,7 @@ fn make_room(pieces: &mut Vec<Piece>, end: usize, place: usize) -> usize
     ensures joined { joined pieces.new.items ≡ joined pieces.old.items }
 {
     let (front, _) = pieces.as_slice().split_at(end);
-    let at = piece_of(front, place);
+    let at = piece_near(front, end - 1, place);
     let len = pieces[at].rows.len();
     if len < MOST_IN_PIECE {
         return at + 1;
@@ -61,7 +61,7 @@ fn put_in(pieces: &mut Vec<Piece>, end: usize, place: usize, row: Row) -> Result
     ensures err { OnErr result (joined pieces.new.items ≡ joined pieces.old.items) }
 {
     let (front, _) = pieces.as_slice().split_at(end);
-    let at = piece_of(front, place);
+    let at = piece_near(front, end - 1, place);
     let piece = &mut pieces[at];
     piece.rows.insert(place - piece.start, row)?;
     Ok(at + 1)

@@ -2,7 +2,7 @@ use Rattle.std.proofs.Common.{subst, sym, leb, rules}
 use Rattle.std.proofs.lemmas.List.Sorted.{IsPartitionPoint-from_clause}
 use Rattle.row_pieces.specs.Joined.{IsPieceOf}
 use Rattle.row_pieces.proofs.Joining.{parted, found}
-use Rattle.row_pieces.proofs.piece.piece_of.Goals as goal
+use Rattle.row_pieces.proofs.piece.piece_near.Goals as goal
 
 pub returns : goal.returns
 returns c from n low high some =
