@@ -17,10 +17,8 @@ use crate::enough::told_rows;
 use crate::holding::all_hold;
 use cqa_model::{Plan, Query, variables};
 use cqa_value::Row;
-use plan_rows::{
-    Course, Memo, Setting, Taken, known_values, shared_or_none, table_of, turns_before_memo,
-};
-use row_cursor::{BlockCursor, RowIndex};
+use plan_rows::{Course, Memo, Setting, Taken, known_values, shared_or_none, turns_before_memo};
+use row_cursor::{BlockCursor, RowIndex, table_of};
 use row_pieces::Rows;
 use std::alloc::Global;
 use table_blocks::Database;

@@ -9,9 +9,10 @@ ghost use Rattle.weak_pairs.specs.Pairs.{IsPair};
 ghost use Rattle.pair_answers.specs.Kept.{IsAnswer, Rejects, id_of};
 
 use crate::lists::{both_columns, row_lists};
-use crate::starts::{block_starts, table_of};
+use crate::starts::block_starts;
 use cqa_model::{Query, RowId};
 use cqa_value::{Items, NoMemory, Row};
+use row_cursor::table_of;
 use std::alloc::Global;
 use table_blocks::Database;
 use weak_pairs::laws::pair_decided;

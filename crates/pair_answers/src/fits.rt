@@ -6,15 +6,13 @@ ghost use Rattle.cqa_model.specs.declared.query.ColRef.{ColRef as Column};
 ghost use Rattle.weak_pairs.specs.Pairs.{FitsAlone};
 ghost use Rattle.cqa_model.specs.Database.{nothing};
 ghost use Rattle.cqa_model.specs.Naming.{AreVariables};
-ghost use Rattle.cqa_model.specs.Plan.{TestHolds};
 ghost use Rattle.cqa_model.specs.Shape.{IsInRange, columns_of};
 ghost use Rattle.cqa_model.specs.Variables.{AreLinked};
 ghost use Rattle.pair_answers.specs.Fitting.{AnswerFits, GivenBy, GivenFits, IsGivenAt, OwnFits, TestsFit};
 
-use crate::shared::{are_linked, width};
 use cqa_model::{ColRef, Cond, Op, Query, Variables};
-use cqa_value::{Row, Value};
-use table_blocks::{same_value, value_or};
+use cqa_value::{NOTHING, Row};
+use row_cursor::{are_linked, test_holds, width_of};
 
 /// Whether two columns have these values alike, if they are linked.
 fn agrees(
@@ -32,7 +30,7 @@ fn agrees(
     requires right { IsInRange query.now.atoms right }
     ensures { IsTrue result ↔ (AreLinked query.now left right → slice_index_or a.now at nothing ≡ slice_index_or b.now to nothing) }
 {
-    !are_linked(query, names, left, right) || same_value(a, at, b, to)
+    !are_linked(query, names, left, right) || a.agrees(at, b, to)
 }
 
 /// Whether linked columns of a row have one value.
@@ -41,7 +39,7 @@ fn own_fits(query: &Query, names: &Variables, atom: u32, x: &Row) -> bool
     requires atom { atom < length query.now.atoms }
     ensures { IsTrue result ↔ OwnFits query.now atom x.now }
 {
-    let columns = width(query, atom);
+    let columns = width_of(query, atom);
     for i in 0..columns {
         for j in 0..columns {
             if !agrees(
@@ -67,7 +65,7 @@ fn answer_fits(query: &Query, names: &Variables, row: &Row, atom: u32, x: &Row) 
     requires atom { atom < length query.now.atoms }
     ensures { IsTrue result ↔ AnswerFits query.now row.now atom x.now }
 {
-    let columns = width(query, atom);
+    let columns = width_of(query, atom);
     for i in 0..columns {
         for k in 0..query.answer.len() as u32 {
             if !agrees(
@@ -87,23 +85,12 @@ fn answer_fits(query: &Query, names: &Variables, row: &Row, atom: u32, x: &Row) 
     true
 }
 
-/// Whether a row of an atom passes a condition, if it is a test of its own.
-fn test_holds(cond: &Cond, atom: u32, x: &Row) -> bool
-    ensures { IsTrue result ↔ TestHolds atom x.now cond.now }
-{
-    match cond {
-        Cond::Join { .. } => true,
-        Cond::Test { col, op, value } => col.atom != atom
-            || op.holds(value_or(x, col.col, &Value::Int(0)), value),
-    }
-}
-
 /// Whether a row of an atom passes all its tests.
 fn tests_fit(query: &Query, atom: u32, x: &Row) -> bool
     ensures { IsTrue result ↔ TestsFit query.now atom x.now }
 {
     for cond in query.conds.as_slice() {
-        if !test_holds(cond, atom, x) {
+        if !test_holds(atom, x, cond) {
             return false;
         }
     }
@@ -123,7 +110,7 @@ fn given_by(query: &Query, names: &Variables, atom: u32, x: &Row, i: u32, cond: 
             op: Op::Eq,
             value,
         } => !are_linked(query, names, ColRef { atom, col: i }, *col)
-            || value_or(x, i, &Value::Int(0)) == value,
+            || x.at_or(i, &NOTHING) == value,
         _ => true,
     }
 }
@@ -145,7 +132,7 @@ fn given_fits(query: &Query, names: &Variables, atom: u32, x: &Row) -> bool
     requires atom { atom < length query.now.atoms }
     ensures { IsTrue result ↔ GivenFits query.now atom x.now }
 {
-    let columns = width(query, atom);
+    let columns = width_of(query, atom);
     for i in 0..columns {
         for k in 0..query.conds.len() {
             if !given_at(query, names, atom, x, i, k) {

@@ -16,9 +16,9 @@ ghost use Rattle.pair_answers.specs.Lists.{AreColumns, AreListsAdded, AreRowList
 use crate::fits::fits_alone;
 use crate::plain::all_fit;
 use crate::shared::{Shared, shared_columns};
-use crate::starts::table_of;
 use cqa_model::{Query, Variables, variables};
 use cqa_value::{NoMemory, Row};
+use row_cursor::table_of;
 use row_pieces::Rows;
 use std::alloc::Global;
 use table_blocks::Database;

@@ -6,8 +6,8 @@ ghost use Rattle.cqa_model.specs.Shape.{IsInRange};
 ghost use Rattle.cqa_model.specs.Variables.{AreLinked};
 ghost use Rattle.pair_answers.specs.Fitting.{AllFit, AreApart, AreJoins, IsJoin};
 
-use crate::shared::{are_linked, width};
 use cqa_model::{ColRef, Cond, Query, Variables};
+use row_cursor::{are_linked, width_of};
 
 /// Whether a condition is a join.
 fn is_join(cond: &Cond) -> bool
@@ -53,7 +53,7 @@ fn are_apart(query: &Query, names: &Variables, atom: u32) -> bool
     requires atom { atom < length query.now.atoms }
     ensures { IsTrue result → AreApart query.now atom }
 {
-    let columns = width(query, atom);
+    let columns = width_of(query, atom);
     for i in 0..columns {
         for j in 0..columns {
             if !is_apart(query, names, atom, i, j) {

@@ -13,11 +13,11 @@ ghost use Rattle.plan_rows.specs.Fitting.{ColumnAgrees, AgreesAll, GivesAt};
 ghost use Rattle.plan_rows.specs.Knowing.{MayFit};
 ghost use Rattle.plan_rows.specs.Over.{IsPrepared};
 
-use crate::fitting::{linked, width_of};
 use crate::setting::Setting;
 use crate::taken_rows::Taken;
 use cqa_model::{ColRef, Cond, MOST_COLUMNS, Op, Query};
 use cqa_value::{Row, Value};
+use row_cursor::{are_linked, width_of};
 use table_blocks::{Probe, cell};
 
 /// The value that a test tells of a column.
@@ -63,7 +63,7 @@ fn told_by_row<'b>(
             atom: other,
             col: j,
         };
-        if linked(setting.query, &setting.variables, column, linked_column) {
+        if are_linked(setting.query, &setting.variables, column, linked_column) {
             return cell(row, j);
         }
     }

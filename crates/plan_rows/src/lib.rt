@@ -12,7 +12,7 @@ mod shared;
 mod taken_rows;
 
 pub use course::{Course, turns_before_memo};
-pub use fitting::{fits, suits, table_of, width_of};
+pub use fitting::{fits, suits};
 pub use known::known_values;
 pub use memo::Memo;
 pub use setting::Setting;

@@ -9,9 +9,9 @@ ghost use Rattle.cqa_model.specs.Variables.{AreLinked};
 ghost use Rattle.plan_rows.specs.Left.{AreAtoms, IsTold};
 ghost use Rattle.plan_rows.specs.Underway.{HasShared, AreShared};
 
-use crate::fitting::{linked, width_of};
 use cqa_model::{ColRef, Query, Variables};
 use cqa_value::{Items, NoMemory};
+use row_cursor::{are_linked, width_of};
 use std::alloc::Global;
 
 /// Whether an atom has a column that is linked to this one.
@@ -22,7 +22,7 @@ fn is_linked_to(query: &Query, variables: &Variables, atom: u32, column: ColRef)
     ensures { IsTrue result ↔ (i : ℕ) × (i < (atom_at query.now atom).width) × AreLinked query.now (record { atom = atom; col = i }) column }
 {
     for col in 0..width_of(query, atom) {
-        if linked(query, variables, ColRef { atom, col }, column) {
+        if are_linked(query, variables, ColRef { atom, col }, column) {
             return true;
         }
     }

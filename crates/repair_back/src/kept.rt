@@ -10,7 +10,7 @@ use crate::atoms::{is_used, key_of};
 use crate::choice::Choice;
 use cqa_model::Query;
 use cqa_value::NoMemory;
-use plan_rows::table_of;
+use row_cursor::table_of;
 use std::alloc::Global;
 use table_blocks::Database;
 

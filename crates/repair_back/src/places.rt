@@ -14,8 +14,8 @@ ghost use Rattle.repair_back.specs.Walking.{MayFit};
 
 use crate::atoms::key_of;
 use cqa_value::Row;
-use plan_rows::{Setting, Taken, known_values, table_of};
-use row_cursor::RowIndex;
+use plan_rows::{Setting, Taken, known_values};
+use row_cursor::{RowIndex, table_of};
 use table_blocks::Probe;
 
 /// The places from one to another, and an index by columns in which the rows that fit have these values, if there is one.

@@ -8,7 +8,8 @@ ghost use Rattle.repair_back.specs.Apart.{BringsNone, IsApart, AreApart, AreEnou
 
 use cqa_model::{ColRef, Query, Variables};
 use cqa_value::{NoMemory, Row};
-use plan_rows::{Course, is_told, width_of};
+use plan_rows::{Course, is_told};
+use row_cursor::width_of;
 use std::alloc::Global;
 
 /// A plan that is gone over, the row that no witness is to give, and for each number of first atoms how many of them are

@@ -6,7 +6,6 @@ ghost use Rattle.std.specs.List.Sorted.{IsStrictlySortedBy};
 ghost use Rattle.cqa_model.specs.Database.{block_cmp};
 ghost use Rattle.cqa_model.specs.Repairs.{SharesKey};
 
-use crate::cells::same_value;
 use cqa_value::Row;
 use row_pieces::Rows;
 
@@ -14,7 +13,7 @@ use row_pieces::Rows;
 pub fn same_key(key: &[u32], a: &Row, b: &Row) -> bool
     ensures { IsTrue result ↔ SharesKey key.now a.now b.now }
 {
-    key.iter().all(|place| same_value(a, *place, b, *place))
+    key.iter().all(|place| a.agrees(*place, b, *place))
 }
 
 /// Whether the rows at two places share a key.

@@ -16,8 +16,8 @@ mod table;
 mod test;
 
 pub use blocks::{block_end, same_key};
-pub use cells::{cell, same_value, value_or};
+pub use cells::{cell, passes};
 pub use database::Database;
 pub use probe::Probe;
 pub use steps::Steps;
-pub use test::{ColumnTest, compares};
+pub use test::ColumnTest;

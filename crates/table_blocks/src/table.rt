@@ -52,18 +52,21 @@ impl Table {
         }
     }
 
+    /// Its schema.
     pub fn schema(&self) -> &Schema
         ensures { result.now ≡ self.now.schema }
     {
         &self.schema
     }
 
+    /// The places of its key's columns, in the order of the key.
     pub fn key(&self) -> &[u32]
         ensures { result.now ≡ self.now.schema.key }
     {
         key_places(&self.schema)
     }
 
+    /// Its rows, in block order.
     pub fn rows(&self) -> Rows<'_>
         ensures is { result ≡ self.now.rows }
         ensures table { IsTable self.now }

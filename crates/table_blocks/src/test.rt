@@ -7,9 +7,10 @@ ghost use Rattle.cqa_model.specs.Query.{OpHolds};
 ghost use Rattle.table_blocks.specs.Spans.{first_key};
 ghost use Rattle.table_blocks.specs.Tables.{TestsHold};
 
+use crate::cells::passes;
 use crate::probe::Probe;
 use cqa_model::{MOST_COLUMNS, Op};
-use cqa_value::{NOTHING, Row, Value};
+use cqa_value::{Row, Value};
 use std::alloc::Global;
 
 /// A comparison of a table's column with a value.
@@ -20,26 +21,12 @@ pub struct ColumnTest {
     pub value: Value,
 }
 
-/// Whether two values stand in the relation of an operator.
-pub fn compares(op: Op, a: &Value, b: &Value) -> bool
-    ensures { IsTrue result ↔ OpHolds op a.now b.now }
-{
-    op.holds(a, b)
-}
-
-/// Whether a row passes a test; a row that is too narrow counts as 0 in the column.
-fn passes(row: &Row, test: &ColumnTest) -> bool
-    ensures { IsTrue result ↔ OpHolds test.now.op (slice_index_or row.now test.now.col nothing) test.now.value }
-{
-    test.op.holds(row.at_or(test.col, &NOTHING), &test.value)
-}
-
 /// Whether a row passes all tests.
 pub fn passes_all(row: &Row, tests: &[ColumnTest]) -> bool
     ensures { IsTrue result ↔ TestsHold tests.now row.now }
 {
     for test in tests {
-        if !passes(row, test) {
+        if !passes(row, test.col, test.op, &test.value) {
             return false;
         }
     }

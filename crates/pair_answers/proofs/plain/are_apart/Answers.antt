@@ -13,9 +13,9 @@ loop-j-preserved c = λ b l. go b l (ℕ_discrete b c.loop-j.j)
 pub loop-i-preserved : goal.loop-i-preserved
 loop-i-preserved c = λ a b la lb. go a b la lb (ℕ_discrete a c.loop-i.i)
   where
-    go : (a b : ℕ) → a < c.loop-i.i + 1 → b < c.width-columns.result → Dec (a ≡ c.loop-i.i) → a ≢ b → AreLinked c.args.query.now (record { atom = c.args.atom; col = a }) (record { atom = c.args.atom; col = b }) → ⊥
+    go : (a b : ℕ) → a < c.loop-i.i + 1 → b < c.width_of-columns.result → Dec (a ≡ c.loop-i.i) → a ≢ b → AreLinked c.args.query.now (record { atom = c.args.atom; col = a }) (record { atom = c.args.atom; col = b }) → ⊥
     go a b la lb (yes e) = subst (λ z. z ≢ b → AreLinked c.args.query.now (record { atom = c.args.atom; col = z }) (record { atom = c.args.atom; col = b }) → ⊥) (sym e) (c.loop-j.invariant b (let t = c.loop-j-test.false in omega (arith, lb, t)))
     go a b la lb (no n) = c.loop-i.invariant a b (omega (arith, la, n)) lb
 
 pub returns : goal.returns
-returns c = λ _ i j li lj. c.loop-i.invariant i j (let t = c.loop-i-test.false in let w = c.width-columns.ensures in omega (arith, li, t, w)) (let w = c.width-columns.ensures in omega (arith, lj, w))
+returns c = λ _ i j li lj. c.loop-i.invariant i j (let t = c.loop-i-test.false in let w = c.width_of-columns.ensures in omega (arith, li, t, w)) (let w = c.width_of-columns.ensures in omega (arith, lj, w))

@@ -9,8 +9,8 @@ use Rattle.pair_answers.proofs.shared.shared_columns.Goals.{then-linked+in_ok-pu
 pub loop-j-preserved : goal.loop-j-preserved
 loop-j-preserved c =
     let q = c.args.query.now in
-    let li : c.loop-i.i < (atom_at q 0).width = (let t = c.loop-i-test.true in let w = c.width-left_width.ensures in omega arith) in
-    let lj : c.loop-j.j < (atom_at q 1).width = (let t = c.loop-j-test.true in let w = c.width-right_width.ensures in omega arith) in
+    let li : c.loop-i.i < (atom_at q 0).width = (let t = c.loop-i-test.true in let w = c.width_of-left_width.ensures in omega arith) in
+    let lj : c.loop-j.j < (atom_at q 1).width = (let t = c.loop-j-test.true in let w = c.width_of-right_width.ensures in omega arith) in
     let few = c.loop-j.invariant.few in
     elim (c.if-linked.branch) [
       | then-linked+in_ok-push w ↦ record {
@@ -30,7 +30,7 @@ pub loop-i-preserved : goal.loop-i-preserved
 loop-i-preserved c =
     let q = c.args.query.now in
     let t = c.loop-j-test.false in
-    let w = c.width-right_width.ensures in
+    let w = c.width_of-right_width.ensures in
     let wide = (q.kept.each 1 (let two = c.requires.two in omega (arith, two))).width.1 in
     let j = c.loop-j.auto.j-end in
     let few = c.loop-j.invariant.few in
@@ -40,12 +40,12 @@ loop-i-preserved c =
     }
 
 pub returns-clause-shared : goal.returns-clause-shared
-returns-clause-shared c = shared-end c.args.query.now c.loop-i.cols.items c.loop-i.i (let t = c.loop-i-test.false in let w = c.width-left_width.ensures in omega arith) c.loop-i.invariant.shared
+returns-clause-shared c = shared-end c.args.query.now c.loop-i.cols.items c.loop-i.i (let t = c.loop-i-test.false in let w = c.width_of-left_width.ensures in omega arith) c.loop-i.invariant.shared
 
 pub returns-clause-few : goal.returns-clause-few
 returns-clause-few c =
     let few = c.loop-i.invariant.few in
     let wide = (c.args.query.now.kept.each 0 (let two = c.requires.two in omega (arith, two))).width.1 in
-    let w = c.width-left_width.ensures in
+    let w = c.width_of-left_width.ensures in
     let i = c.loop-i.auto.i-end in
     omega (arith, few, wide, w, i)

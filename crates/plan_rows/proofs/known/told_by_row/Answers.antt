@@ -6,11 +6,11 @@ use Rattle.plan_rows.specs.Fitting.{ColumnAgrees}
 use Rattle.plan_rows.proofs.Telling.{told-cell}
 use Rattle.plan_rows.proofs.known.told_by_row.Goals as goal
 
-pub returns-then-linked : goal.returns-then-linked
-returns-then-linked c =
+pub returns-then-are_linked : goal.returns-then-are_linked
+returns-then-are_linked c =
     let q = c.args.setting.now.query.now in
     let other = c.args.other in
     let j = c.loop-j.j in
     let inside : j < (atom_at q other).width = subst (λ n. j < n) c.width_of-j-end.ensures c.loop-j-test.true in
     told-cell (λ value. (y : List Cell) → ColumnAgrees q y c.args.column c.args.row.now other (atom_at q other).width → get_or y c.args.column.col nothing ≡ value) c.args.row.now j c.cell.result c.cell.ensures
-    (λ v e y agree. agree j inside (c.linked.ensures.0 c.if-linked.true) ∙ e)
+    (λ v e y agree. agree j inside (c.are_linked.ensures.0 c.if-are_linked.true) ∙ e)

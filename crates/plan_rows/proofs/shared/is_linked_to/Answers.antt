@@ -2,14 +2,14 @@ use Rattle.std.proofs.Common.{◌∙◌, ◌<◌, refl, sym, subst, below_more, 
 use Rattle.std.proofs.lemmas.Bool.{false≢true}
 use Rattle.plan_rows.proofs.shared.is_linked_to.Goals as goal
 
-pub returns-then-linked : goal.returns-then-linked
-returns-then-linked c = (
-  (λ e. (c.loop-col.col, subst (λ n. c.loop-col.col < n) c.width_of-col-end.ensures c.loop-col-test.true, c.linked.ensures.0 c.if-linked.true)),
+pub returns-then-are_linked : goal.returns-then-are_linked
+returns-then-are_linked c = (
+  (λ e. (c.loop-col.col, subst (λ n. c.loop-col.col < n) c.width_of-col-end.ensures c.loop-col-test.true, c.are_linked.ensures.0 c.if-are_linked.true)),
   (λ h. refl),
 )
 
 pub loop-col-preserved : goal.loop-col-preserved
-loop-col-preserved c = below_more _ _ c.loop-col.invariant (λ k. false≢true (sym c.if-linked.false ∙ c.linked.ensures.1 k))
+loop-col-preserved c = below_more _ _ c.loop-col.invariant (λ k. false≢true (sym c.if-are_linked.false ∙ c.are_linked.ensures.1 k))
 
 pub returns : goal.returns
 returns c = (
