@@ -1,4 +1,5 @@
-//! The certain rows of a pair, all of them in a time linear in the witnesses of all possible rows, but for sorting them.
+//! The certain rows of a pair, all of them in a time linear in their formulas, and in their witnesses where rows in no witness
+//! reject them, but for sorting them.
 //! A row with more witnesses than a formula takes is decided over the tables' rows, of which there are fewer; and so is the
 //! row of a query without answer columns, for which no candidate has to be looked for.
 
@@ -16,11 +17,11 @@ use cqa_model::Query;
 use cqa_value::{Fail, Items, NoMemory, Row};
 use join_witness::{Lookup, TooMany, Witness, candidates, lookup_of, witnesses_by};
 use pair_answers::is_certain;
-use repair_clauses::encode;
+use repair_clauses::{are_avoidable, encode};
 use std::alloc::Global;
 use table_blocks::Database;
 
-/// Whether a row is certain, by its formula.
+/// Whether a row is certain, by its formula where free rows alone don't tell.
 fn by_formula(
     alloc: Global,
     db: &Database,
@@ -33,6 +34,9 @@ fn by_formula(
     requires all { AreAllNames query.now db.now _row.now (names_of witnesses.now) }
     ensures { IfOk result (λ certain. IsTrue certain ↔ IsCertain db.now query.now _row.now) }
 {
+    if are_avoidable(alloc, db, query, witnesses)? {
+        return Ok(false);
+    }
     let formula = encode(alloc, db, query, witnesses)?;
     let certain = is_unsatisfiable(alloc, &formula.cnf);
     drop(formula);

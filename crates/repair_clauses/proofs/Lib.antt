@@ -16,3 +16,5 @@ pub mod Naming
 pub mod Encoding
 pub mod Deciding
 pub mod Candidates
+pub mod FreeRows
+pub mod Loosening

@@ -3,6 +3,7 @@ pub mod Alike
 pub mod Models
 pub mod Spans
 pub mod Runs
+pub mod Avoiding
 pub mod Laws
 pub mod Encodings
 pub mod Deciding

@@ -12,7 +12,7 @@ use join_witness::Witness;
 use std::alloc::Global;
 
 /// The place of the row of an atom in a witness.
-fn place_of(witness: &Witness, atom: usize) -> u32
+pub(crate) fn place_of(witness: &Witness, atom: usize) -> u32
     requires { atom < length witness.now.rows }
     ensures { result ≡ place_at witness.now.rows atom }
 {

@@ -63,7 +63,7 @@ fn solved_by_groups(alloc: Global, formula: Encoded, budget: u32) -> Result<Deci
     with_outcome(formula, found)
 }
 
-/// Decides whether every repair holds a witness of a row, with at most `budget` conflicts.
+/// Decides whether every repair holds a witness of a row, by searches of at most `budget` conflicts each.
 ///
 /// # Errors
 ///

@@ -1,7 +1,9 @@
 //! The formula of a row, by which it is decided whether every repair holds a witness of it (Dixit and Kolaitis, SAT 2019).
 //! The relevant blocks are found as runs of places, and a row's number from its place, so that no table is walked.
+//! A row that free rows alone keep from being certain needs no formula, and for it no block is walked either.
 #![tactic(auto)]
 
+mod avoiding;
 pub mod blocks;
 mod clauses;
 pub mod column;
@@ -13,6 +15,7 @@ mod relevant;
 mod run;
 pub mod span;
 
+pub use avoiding::are_avoidable;
 pub use clauses::{fill_block, fill_witness};
 pub use decision::{Decided, decide, solved};
 pub use formula::{Encoded, encode, formula_over};

@@ -1,5 +1,6 @@
 //! What is found out of one possible row: whether it is certain, and if that takes too long, why.
-//! Most small formulas are decided by a first look, and the solver gets what is left.
+//! Some rows are rejected by free rows alone, most small formulas are decided by a first look, and the solver gets what is
+//! left.
 
 ghost use Rattle.std.specs.Prelude.{◌*◌, ◌≡◌, ◌≤◌, IfOk, List, length};
 ghost use Rattle.cqa_value.specs.declared.value.Value.{Value};
@@ -19,7 +20,7 @@ use cqa_value::{Fail, NoMemory, Row};
 use flat_formula::Found;
 use join_witness::{Lookup, TooMany, Witness, witnesses_by};
 use repair_clauses::span::Span;
-use repair_clauses::{Decided, formula_over, relevant_blocks, solved};
+use repair_clauses::{Decided, are_avoidable, formula_over, relevant_blocks, solved};
 use std::alloc::Global;
 use table_blocks::Database;
 
@@ -55,7 +56,8 @@ fn judged(decided: Decided) -> Verdict
     }
 }
 
-/// What the solver finds out of the row whose relevant blocks are numbered, with at most `budget` conflicts.
+/// What the solver finds out of the row whose relevant blocks are numbered, by searches of at most `budget`
+/// conflicts each.
 fn judge_blocks(
     alloc: Global,
     db: &Database,
@@ -77,7 +79,7 @@ fn judge_blocks(
     Ok(judged(decided))
 }
 
-/// What is found out of the row whose relevant blocks are numbered, with at most `budget` conflicts of each of two searches:
+/// What is found out of the row whose relevant blocks are numbered, by searches of at most `budget` conflicts each:
 /// the first is over classes of rows that are alike, and the second, where the first comes to nothing, over rows.
 fn judge_classes(
     alloc: Global,
@@ -101,8 +103,8 @@ fn judge_classes(
     }
 }
 
-/// What is found out of the row whose witnesses these are, all of them and in order.
-fn judge_witnesses(
+/// What is found out of the row whose witnesses these are, by its formula.
+fn judge_formula(
     alloc: Global,
     db: &Database,
     query: &Query,
@@ -133,7 +135,28 @@ fn judge_witnesses(
     }
 }
 
-/// What is found out of one row, with at most `budget` conflicts.
+/// What is found out of the row whose witnesses these are, all of them and in order. Where it isn't certain by free rows
+/// alone, its blocks aren't walked. With a budget of 0 that isn't looked at.
+fn judge_witnesses(
+    alloc: Global,
+    db: &Database,
+    query: &Query,
+    witnesses: &[Witness],
+    budget: u32,
+    room: &mut Room,
+) -> Result<Verdict, NoMemory>
+    requires fits { FitsDatabase query.now db.now }
+    requires all { (row : List Value) × AreAllNames query.now db.now row (names_of witnesses.now) }
+    ensures { IfOk result (λ verdict. (row : List Value) → AreAllNames query.now db.now row (names_of witnesses.now) → (HasTooMany query.now db.now row → ⊥) → IsVerdict query.now db.now row budget verdict) }
+{
+    if budget > 0 && are_avoidable(alloc, db, query, witnesses)? {
+        Ok(Verdict::Rejected)
+    } else {
+        judge_formula(alloc, db, query, witnesses, budget, room)
+    }
+}
+
+/// What is found out of one row, by searches of at most `budget` conflicts each.
 ///
 /// # Errors
 ///

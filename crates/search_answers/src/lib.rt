@@ -1,5 +1,5 @@
-//! The certain rows of a query that has no plan, by search: each possible row is decided by its formula.
-//! A first look decides most small formulas. What it leaves open goes to the solver: over classes of rows that are alike, and
+//! The certain rows of a query that has no plan, by search: each possible row is rejected by rows in
+//! no witness, or decided by its formula. A first look decides most small formulas. What it leaves open goes to the solver: over classes of rows that are alike, and
 //! then over rows.
 #![tactic(auto)]
 

@@ -136,7 +136,8 @@ fn search_rows(
     }
 }
 
-/// The certain rows of a query, each possible row decided by its formula with at most `budget` conflicts, ascending.
+/// The certain rows of a query, each possible row decided by its formula, by searches of at most `budget`
+/// conflicts each, ascending.
 ///
 /// # Errors
 ///

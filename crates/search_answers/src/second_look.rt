@@ -78,7 +78,8 @@ fn formula_of_classes(
     Ok(Cnf { vars, clauses })
 }
 
-/// What the solver finds out of a row by the formula over classes of rows that are alike, with at most `budget` conflicts.
+/// What the solver finds out of a row by the formula over classes of rows that are alike, by searches of at
+/// most `budget` conflicts each.
 ///
 /// # Errors
 ///

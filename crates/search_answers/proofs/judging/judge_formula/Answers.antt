@@ -8,7 +8,7 @@ use Rattle.repair_clauses.specs.Encodings.{AreTold}
 use Rattle.search_answers.specs.Looking.{IsFoundOf}
 use Rattle.repair_clauses.proofs.Encoding.{ready, told}
 use Rattle.search_answers.proofs.FirstLooks.{rejected, certain}
-use Rattle.search_answers.proofs.judging.judge_witnesses.Goals as goal
+use Rattle.search_answers.proofs.judging.judge_formula.Goals as goal
 
 pub first_look-requires-clause-apart : goal.first_look-requires-clause-apart
 first_look-requires-clause-apart c =

@@ -1,0 +1,11 @@
+use Rattle.std.proofs.Common.{◌≡◌, length}
+use Rattle.join_witness.specs.Listing.{names_of}
+use Rattle.repair_clauses.specs.Avoiding.{AreMarked}
+use Rattle.repair_clauses.proofs.avoiding.are_avoidable.Given as goal
+
+-- the marks of the atoms so far are right
+abbrev pub invariant-loop-at : goal.invariant-loop-at
+invariant-loop-at l = record {
+  size : length l.marks.items ≡ length l.witnesses;
+  marks : AreMarked l.query l.db (names_of l.witnesses) l.marks.items;
+}
