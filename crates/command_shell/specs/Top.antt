@@ -5,18 +5,18 @@ use Rattle.std.specs.declared.alloc.Global.{Global}
 use Rattle.cqa_io.specs.Causes.{Rose}
 use Rattle.proof_check.specs.Verdicts.{IsVerdict, BeginsVerdict}
 use Rattle.command_shell.specs.declared.ending.Command.{Command}
-use Rattle.command_shell.specs.declared.input.TheConstants.{LIMIT}
 use Rattle.command_shell.specs.declared.ending.Command.TheVariants.{Run, Check, Demo}
 use Rattle.command_shell.specs.declared.ending.Ending.{Ending}
 use Rattle.command_shell.specs.declared.ending.Ending.TheVariants.{Answered, WithRefusal, BadWords, ReadFault, WriteFault, OutOfMemory, TooLong}
 use Rattle.cqa_session.specs.State.{State}
+use Rattle.cqa_session.specs.declared.session.TheConstants.{LONGEST_INPUT}
 use Rattle.case_maker.specs.Scripts.{script_bytes}
 use Rattle.cqa_session.specs.Runs.{Answers, CutShort}
 use Rattle.command_shell.specs.Demo.{IsSize, IsDemo, BeginsDemo, StopsIn}
 
 -- the most bytes of input that a call answers
 abbrev pub limit : ℕ
-limit = LIMIT
+limit = LONGEST_INPUT
 
 -- the words that stand for a command: `run` or `check` alone, or `demo` and a size
 abbrev pub StandFor : List (List ℕ) → Command → Type 0

@@ -6,7 +6,7 @@ ghost use Rattle.std.specs.Option.{option_copied};
 ghost use Rattle.cqa_io.specs.Causes.{Rose};
 ghost use Rattle.reply_text.specs.Texts.{is_refusal};
 ghost use Rattle.command_shell.specs.Parts.{CloseRow, AnswerRow, ProgressRow};
-ghost use Rattle.command_shell.specs.declared.input.TheConstants.{LIMIT};
+ghost use Rattle.cqa_session.specs.declared.session.TheConstants.{LONGEST_INPUT};
 
 use crate::ending::Stop;
 use crate::taker::Taker;
@@ -34,7 +34,7 @@ fn answer<T: Taker>(
     text: &[u8],
     block: Option<&[u8]>,
 ) -> Result<bool, Stop>
-    requires { length text.now ≤ LIMIT }
+    requires { length text.now ≤ LONGEST_INPUT }
     ensures row { AnswerRow T.took taker.old taker.new result (Rose (T.faults taker.old) (T.faults taker.new)) (T.written taker.old) (T.written taker.new) session.old (text.now, option_copied block.entry) session.new }
     ensures later { T.faults taker.old ≤ T.faults taker.new }
 {
@@ -62,7 +62,7 @@ fn answer_at<T: Taker>(
     text: Span,
     block: Option<Span>,
 ) -> Result<bool, Stop>
-    requires short { length bytes.now ≤ LIMIT }
+    requires short { length bytes.now ≤ LONGEST_INPUT }
     requires text { (text.from ≤ text.to) × (text.to ≤ length bytes.now) }
     requires block { IfSome block (λ b. (b.from ≤ b.to) × (b.to ≤ length bytes.now)) }
     ensures row { AnswerRow T.took taker.old taker.new result (Rose (T.faults taker.old) (T.faults taker.new)) (T.written taker.old) (T.written taker.new) session.old (statement_at bytes.now text block) session.new }
@@ -100,7 +100,7 @@ pub fn answer_held<T: Taker>(
     held: &mut Cutter,
     ended: bool,
 ) -> Result<bool, Stop>
-    requires { length held.old ≤ LIMIT }
+    requires { length held.old ≤ LONGEST_INPUT }
     ensures row { ProgressRow T.took taker.old taker.new result (Rose (T.faults taker.old) (T.faults taker.new)) (T.written taker.old) (T.written taker.new) session.old held.old ended session.new held.new }
     ensures fewer { length held.new ≤ length held.old }
     ensures later { T.faults taker.old ≤ T.faults taker.new }
@@ -126,7 +126,7 @@ pub fn answer_piece<T: Taker>(
     held: &mut Cutter,
     piece: &[u8],
 ) -> Result<bool, Stop>
-    requires { length held.old + length piece.now ≤ LIMIT }
+    requires { length held.old + length piece.now ≤ LONGEST_INPUT }
     ensures row { ProgressRow T.took taker.old taker.new result (Rose (T.faults taker.old) (T.faults taker.new)) (T.written taker.old) (T.written taker.new) session.old (held.old ++ piece.now) false session.new held.new }
     ensures fewer { length held.new ≤ length held.old + length piece.now }
     ensures later { T.faults taker.old ≤ T.faults taker.new }

@@ -8,7 +8,7 @@ ghost use Rattle.case_maker.specs.declared.script.TheConstants.{GREATEST_SIZE};
 ghost use Rattle.command_shell.specs.Parts.{WriteRow};
 ghost use Rattle.command_shell.specs.Top.{told, Ended};
 ghost use Rattle.command_shell.specs.Tallying.{InputRow, LineRow};
-ghost use Rattle.command_shell.specs.declared.input.TheConstants.{LIMIT};
+ghost use Rattle.cqa_session.specs.declared.session.TheConstants.{LONGEST_INPUT};
 
 use crate::ending::{Ending, Stop};
 use crate::pieces::run;
@@ -39,7 +39,7 @@ pub fn size_of(digits: &[u8]) -> Option<u32>
 
 /// Answers the statements of a script, and gives the numbers of its replies.
 fn tally_script(alloc: Global, session: &mut Session, script: Vec<u8>) -> Result<Tally, NoMemory>
-    requires { length script.items ≤ LIMIT }
+    requires { length script.items ≤ LONGEST_INPUT }
     ensures { InputRow result session.old script.items session.new }
 {
     let mut tally = Tally::new();

@@ -7,10 +7,8 @@ ghost use Rattle.command_shell.specs.Parts.{ReadRow};
 
 use crate::ending::ReadEnd;
 use cqa_io::{Failed, Source};
+use cqa_session::LONGEST_INPUT;
 use std::alloc::{AllocError, Global};
-
-/// The most bytes of input that a call answers.
-pub const LIMIT: usize = 268_435_456;
 
 /// How many bytes a read asks for, where so many are allowed.
 pub const PIECE: usize = 65_536;
@@ -56,8 +54,8 @@ fn read_by<S: Source>(source: &mut S, input: &mut Vec<u8>, piece: &mut [u8]) -> 
         × ReadRow result (IsAtEnd (S.left source.new)) (Rose (S.faults source.old) (S.faults source.new)) came input.new.items }
     ensures later { S.faults source.old ≤ S.faults source.new }
 {
-    while input.len() <= LIMIT {
-        match read_piece(source, piece, LIMIT + 1 - input.len()) {
+    while input.len() <= LONGEST_INPUT {
+        match read_piece(source, piece, LONGEST_INPUT + 1 - input.len()) {
             Err(Failed) => return ReadEnd::Fault,
             Ok(0) => return ReadEnd::End,
             Ok(count) => {

@@ -7,10 +7,10 @@ ghost use Rattle.command_shell.specs.Parts.{ending_with};
 
 use crate::answers::{answer_held, answer_piece};
 use crate::ending::{Ending, Stop};
-use crate::input::{LIMIT, PIECE, read_piece, zeros};
+use crate::input::{PIECE, read_piece, zeros};
 use crate::taker::Taker;
 use cqa_io::{Failed, Source};
-use cqa_session::Session;
+use cqa_session::{LONGEST_INPUT, Session};
 use script_lex::Cutter;
 use std::alloc::Global;
 
@@ -47,12 +47,12 @@ fn answer_pieces<S: Source, T: Taker>(
 {
     let mut came = 0;
     let mut refused = false;
-    while came <= LIMIT {
-        match read_piece(source, piece, LIMIT + 1 - came) {
+    while came <= LONGEST_INPUT {
+        match read_piece(source, piece, LONGEST_INPUT + 1 - came) {
             Err(Failed) => return Ending::ReadFault,
             Ok(0) => return ending_with(answer_held(alloc, session, taker, held, true), refused),
             Ok(count) => {
-                let kept = count.min(LIMIT - came);
+                let kept = count.min(LONGEST_INPUT - came);
                 match answer_piece(alloc, session, taker, held, &piece[..kept]) {
                     Ok(more) => refused |= more,
                     Err(stop) => return Ending::from(stop),
