@@ -4,4 +4,4 @@
 mod lines;
 mod script;
 
-pub use script::{GREATEST_SIZE, LONGEST_SCRIPT, script_of};
+pub use script::{GREATEST_SIZE, script_of};

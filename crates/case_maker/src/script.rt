@@ -2,7 +2,7 @@
 
 ghost use Rattle.std.specs.Prelude.{◌≡◌, ◌++◌, ◌+◌, ◌<◌, ◌≤◌, ◌^◌, [], IfOk, OnOk, length};
 ghost use Rattle.std.specs.List.{flat_map, range_with_len};
-ghost use Rattle.case_maker.specs.declared.script.TheConstants.{LONGEST_SCRIPT};
+ghost use Rattle.cqa_model.specs.declared.limits.TheConstants.{LONGEST_INPUT};
 ghost use Rattle.case_maker.specs.Scripts.{lines_of, script_bytes};
 
 use crate::lines::{Part, append_part};
@@ -11,9 +11,6 @@ use std::alloc::Global;
 
 /// The greatest size of a script.
 pub const GREATEST_SIZE: u32 = 100_000;
-
-/// The most bytes of a script, which are what the program reads of an input.
-pub const LONGEST_SCRIPT: usize = 268_435_456;
 
 /// What stands before the first block.
 const TABLES: &[u8] = b"create table person (id int, city int, primary key (id));
@@ -68,7 +65,7 @@ pub fn script_of(alloc: Global, size: u32) -> Result<Vec<u8>, NoMemory>
     requires some { 1 ≤ size }
     requires few { size ≤ GREATEST_SIZE }
     ensures text { IfOk result (λ text. text.items ≡ script_bytes size) }
-    ensures short { IfOk result (λ text. length text.items ≤ LONGEST_SCRIPT) }
+    ensures short { IfOk result (λ text. length text.items ≤ LONGEST_INPUT) }
 {
     let mut out = Vec::new(alloc);
     append_script(size, &mut out)?;

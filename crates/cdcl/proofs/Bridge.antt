@@ -3,7 +3,7 @@ use Rattle.std.proofs.Common.{◌≡◌, ℕ, zero, suc, ◌≤◌, ◌+◌, ℤ
 use Rattle.std.specs.Prelude.{Contains}
 use Rattle.std.proofs.lemmas.Map.{update_here, update_apart}
 use Rattle.std.proofs.lemmas.Option.{slice_get-get_or}
-use Rattle.std.proofs.lemmas.List.{map-append, length-append}
+use Rattle.std.proofs.lemmas.List.{map-append, length-append, length_push}
 use Rattle.std.proofs.lemmas.List.Elements.{Contains-push}
 use Rattle.cnf_form.specs.declared.formula.Lit.{Lit}
 use Rattle.cnf_form.specs.declared.formula.Cnf.{Cnf}
@@ -17,7 +17,7 @@ use Rattle.implication_graph.specs.Trail.{At}
 use Rattle.implication_graph.specs.Analysis.{ChainPasses}
 use Rattle.cdcl.specs.Lines.{AreLines, IsLineStep, IsLastStep, EndsEmpty, EndsSpent, added_lits, learnt}
 use Rattle.cdcl.specs.Outcomes.{AreConsecutive}
-use Rattle.cdcl.proofs.States.{length_push, literals_count}
+use Rattle.cdcl.proofs.States.{literals_count}
 use Rattle.implication_graph.proofs.Places.{At-push_cases}
 
 -- the clause at each place is live under the id that follows the place

@@ -4,12 +4,13 @@ use Rattle.std.proofs.Common.{◌≡◌, ℕ, ◌<◌, ◌≤◌, ◌+◌, true,
 use Rattle.std.proofs.lemmas.Grind.{common_steps}
 use Rattle.std.specs.Prelude.{Contains}
 use Rattle.std.proofs.lemmas.List.{map-append}
+use Rattle.cqa_value.proofs.Words.{mem-tail, mem-cases, mem-head}
 use Rattle.cnf_form.specs.declared.formula.Lit.{Lit}
 use Rattle.cnf_form.specs.Literals.{opposite, Denied, AllDenied, literals}
 use Rattle.implication_graph.specs.Trail.{IsConsistent, IsOpen, At, held}
 use Rattle.cdcl.specs.Settled.{IsSettled, AllSettled}
 use Rattle.cdcl.proofs.SettledLemmas.{not_reached, stays_open}
-use Rattle.cnf_form.proofs.Lits.{lit_cases, cons_cases, contains_here, contains_later}
+use Rattle.cnf_form.proofs.Lits.{lit_cases}
 use Rattle.cnf_form.specs.declared.log.Step.{Step}
 use Rattle.cnf_form.specs.declared.log.Step.TheVariants.{Add, Delete}
 use Rattle.implication_graph.specs.Analysis.{ChainPasses}
@@ -54,11 +55,11 @@ held_or_denied t l h = elim (lit_cases h.0 l) [
 
 some_held : (t c : List Lit) → ((l : Lit) → Contains c l → HasVar t l.var) → ((l : Lit) × Contains c l × Contains t l) ⊎ AllDenied t c
 some_held t [] f = inr (λ m i. absurd (omega (arith, i.1)))
-some_held t (l ∷ c) f = elim (held_or_denied t l (f l (contains_here l c))) [
-  | inl i ↦ inl (l, contains_here l c, i)
-  | inr d ↦ elim (some_held t c (λ m i. f m (contains_later l c m i))) [
-    | inl s ↦ inl (s.0, contains_later l c s.0 s.1, s.2)
-    | inr a ↦ inr (λ m i. elim (cons_cases l c m i) [ inl e ↦ subst (λ (x : Lit). Denied t x) e d | inr j ↦ a m j ])
+some_held t (l ∷ c) f = elim (held_or_denied t l (f l (mem-head l c))) [
+  | inl i ↦ inl (l, mem-head l c, i)
+  | inr d ↦ elim (some_held t c (λ m i. f m (mem-tail m l c i))) [
+    | inl s ↦ inl (s.0, mem-tail s.0 l c s.1, s.2)
+    | inr a ↦ inr (λ m i. elim (mem-cases m l c i) [ inl e ↦ subst (λ (x : Lit). Denied t x) e d | inr j ↦ a m j ])
   ]
 ]
 
@@ -120,4 +121,4 @@ db_push db log log' step d d' e f p =
 
 pub none_below : (xs : List ℕ) → ((s : ℕ) → Contains xs s → s < 0) → length xs ≡ 0
 none_below [] f = refl
-none_below (x ∷ xs) f = absurd (omega (arith, f x (contains_here x xs)))
+none_below (x ∷ xs) f = absurd (omega (arith, f x (mem-head x xs)))

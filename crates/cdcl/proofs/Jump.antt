@@ -3,6 +3,7 @@ use Rattle.implication_graph.specs.Trail.{At, IsConsistent, IsOpen, held, AllInR
 use Rattle.std.proofs.Common.{take, ◌≡◌, ℕ, zero, suc, ◌<◌, ◌≤◌, ◌-◌, ℤ, List, [], ◌∷◌, ◌++◌, ◌⊎◌, inl, inr, refl, sym, ◌∙◌, ap, subst, arith, length, get_or, Option, ◌+◌}
 use Rattle.std.specs.Prelude.{Contains}
 use Rattle.std.proofs.lemmas.List.Elements.{Contains-push_cases, Contains-append_left, Contains-push}
+use Rattle.std.proofs.lemmas.List.{take-take}
 use Rattle.cnf_form.specs.declared.formula.Lit.{Lit}
 use Rattle.cnf_form.specs.Literals.{literals, opposite}
 use Rattle.cdcl.specs.Settled.{IsSettled, AllSettledTo}
@@ -19,7 +20,7 @@ use Rattle.cdcl.specs.Looking.{IsWatchful}
 use Rattle.cdcl.proofs.TrailLemmas.{settled_by_open}
 use Rattle.implication_graph.proofs.Works.{At-get_or, At-same, At-take, At-in_take, At-contains, contains_taken}
 use Rattle.implication_graph.proofs.Places.{apart_by_places, consistent}
-use Rattle.cdcl.proofs.States.{held_take, take_of_take, last_is}
+use Rattle.cdcl.proofs.States.{held_take, last_is}
 
 pub end_within : (db : List (List Lit)) (t : List Lit) (start : ℕ) (lits : List Lit) (hints : List ℤ) (a : Lit) (end : ℕ)
     → IsApart t → IsLearntClause db t start lits hints a end → end ≤ start
@@ -132,7 +133,7 @@ left_by trail0 trail1 trail2 start s end same e p kept h =
       within = λ q l a.
           let b = At-take p.0 (held trail1) q l (subst (λ (xs : List Lit). At xs q l) two a) in
           At-take start (held trail0) q l (subst (λ (xs : List Lit). At xs q l) one b.1);
-      kept = kept ∙ ap (λ (xs : List Lit). take end xs) one ∙ take_of_take end start (held trail0) h;
+      kept = kept ∙ ap (λ (xs : List Lit). take end xs) one ∙ take-take end start (held trail0) h;
     }
 
 -- all that is known of a learnt clause after the jump back

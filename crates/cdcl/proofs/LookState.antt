@@ -3,9 +3,10 @@ use Rattle.std.proofs.Common.{set, get_or-set_other, get_or-set_same, ◌≡◌,
 use Rattle.std.specs.Prelude.{Contains}
 use Rattle.std.proofs.lemmas.List.{length-set}
 use Rattle.std.proofs.lemmas.List.Elements.{Contains-push_cases, Contains-append_cases, Contains-append_left, Contains-append_right, Contains-push}
+use Rattle.std.proofs.lemmas.Bool.{cases_eq}
 use Rattle.cnf_form.specs.declared.formula.Lit.{Lit}
 use Rattle.cnf_form.specs.Literals.{opposite, Denied}
-use Rattle.cnf_form.proofs.Lits.{nat_cases, equal_or_not}
+use Rattle.cnf_form.proofs.Lits.{equal_or_not}
 use Rattle.implication_graph.specs.declared.trail.Entry.{Entry}
 use Rattle.cdcl.specs.declared.watch.Pair.{Pair}
 use Rattle.implication_graph.specs.Trail.{At, held}
@@ -20,7 +21,7 @@ use Rattle.cdcl.proofs.WatchState.{code_one, code_small, watching_relist, watchi
 pub lists_more : (lists : List (List ℕ)) (n count i k : ℕ) → k < count → AreLists lists n count → AreLists (listed_at lists i k) n count
 lists_more lists n count i k h a = record {
   room = length-set lists i (get_or lists i [] ++ k ∷ []) ∙ a.room;
-  below = λ j x c. elim (nat_cases j i) [
+  below = λ j x c. elim (cases_eq j i) [
     | inl e ↦ elim (in_range i j e x c) [
       | inl q ↦ a.below i x q
       | inr q ↦ omega (arith, q, h)
@@ -49,7 +50,7 @@ lists_wider lists n count count' h a = record { room = a.room; below = λ i k c.
 pub lists_put : (lists : List (List ℕ)) (n count i : ℕ) (own : List ℕ) → ((k : ℕ) → Contains own k → k < count) → AreLists lists n count → AreLists (set lists i own) n count
 lists_put lists n count i own small a = record {
   room = length-set lists i own ∙ a.room;
-  below = λ j x c. elim (nat_cases j i) [
+  below = λ j x c. elim (cases_eq j i) [
     | inl e ↦ elim (cases j e x c) [ inl q ↦ small x q | inr q ↦ absurd q ]
     | inr o ↦ a.below j x (subst (λ (xs : List ℕ). Contains xs x) (get_or-set_other lists i j own [] o) c)
   ];

@@ -1,10 +1,11 @@
 -- Lemmas on settled lists and on propagation.
 use Rattle.std.proofs.Common.{◌≢◌, ℕ, true, List, [], ◌∷◌, inl, inr, refl, sym, ◌∙◌, subst, arith}
 use Rattle.std.specs.Prelude.{Contains}
+use Rattle.cqa_value.proofs.Words.{mem-cases}
 use Rattle.cnf_form.specs.declared.formula.Lit.{Lit}
 use Rattle.cnf_form.specs.Literals.{opposite, Denied, OthersDenied}
 use Rattle.cnf_form.specs.Propagation.{IsPropagation, ReachesEmpty, StaysOpen}
-use Rattle.cnf_form.proofs.Lits.{equal_or_not, cons_cases}
+use Rattle.cnf_form.proofs.Lits.{equal_or_not}
 use Rattle.implication_graph.specs.Trail.{IsConsistent, IsOpen}
 use Rattle.cdcl.specs.Settled.{IsSettled, AllSettled}
 
@@ -32,7 +33,7 @@ propagation_within f t [] s p l i = absurd (no_member l i)
   where
     no_member : (l : Lit) → Contains [] l → ⊥
     no_member l i = absurd (omega (arith, i.1))
-propagation_within f t (m ∷ before) s p l i = elim (cons_cases m before l i) [
+propagation_within f t (m ∷ before) s p l i = elim (mem-cases l m before i) [
   | inl e ↦ subst (λ (x : Lit). Contains t x) e
       (s p.0.0 p.0.1 m (λ x ix nx. propagation_within f t before s p.1 (opposite x) (p.0.3 x ix nx)))
   | inr r ↦ propagation_within f t before s p.1 l r

@@ -2,7 +2,7 @@
 use Rattle.implication_graph.specs.Trail.{At, held, ArePlaces, AllInRange, AllLow}
 use Rattle.std.proofs.Common.{take, ◌≡◌, ℕ, zero, suc, ◌<◌, ◌≤◌, ◌+◌, ◌-◌, List, [], ◌∷◌, ◌++◌, ◌⊎◌, inl, inr, refl, sym, ◌∙◌, ap, subst, arith, length, get_or, Option, Some, None}
 use Rattle.std.specs.Prelude.{Contains}
-use Rattle.std.proofs.lemmas.List.{length-map, map-append, take-append-le, length-take, take_all}
+use Rattle.std.proofs.lemmas.List.{length-map, map-append, take-append-le, length-take, take_all, take-take, length_push}
 use Rattle.std.proofs.lemmas.List.Elements.{Contains-push_cases, Contains-append_left, Contains-push}
 use Rattle.cnf_form.specs.declared.formula.Lit.{Lit}
 use Rattle.cnf_form.specs.declared.formula.Clause.{Clause}
@@ -12,12 +12,6 @@ use Rattle.implication_graph.specs.Analysis.{IsForcedBy}
 use Rattle.cdcl.specs.State.{IsState}
 use Rattle.implication_graph.proofs.Works.{At-same, At-take, At-contains}
 use Rattle.implication_graph.proofs.Places.{At-push_cases, At-push_old, At-push_new}
-
-pub take_of_take : {X : Type 0} (p s : ℕ) (xs : List X) → p ≤ s → take p (take s xs) ≡ take p xs
-take_of_take zero s xs h = refl
-take_of_take (suc p) zero xs h = absurd (omega arith)
-take_of_take (suc p) (suc s) [] h = refl
-take_of_take {X} (suc p) (suc s) (x ∷ xs) h = ap (λ (ys : List X). x ∷ ys) (take_of_take p s xs (omega arith))
 
 pub held_take : (s : ℕ) (trail : List Entry) → held (take s trail) ≡ take s (held trail)
 held_take zero trail = refl
@@ -30,10 +24,6 @@ held_push trail e = map-append (λ (x : Entry). x.lit) trail (e ∷ [])
 pub length_held : (trail : List Entry) → length (held trail) ≡ length trail
 length_held trail = length-map trail (λ (x : Entry). x.lit)
 
-pub length_push : {X : Type 0} (xs : List X) (x : X) → length (xs ++ x ∷ []) ≡ length xs + 1
-length_push [] x = refl
-length_push (y ∷ ys) x = let r = length_push ys x in omega (arith, r)
-
 -- what stands before a place stays when more is put on
 pub take_put : (p : ℕ) (trail : List Entry) (e : Entry) → p ≤ length trail → take p (held (trail ++ e ∷ [])) ≡ take p (held trail)
 take_put p trail e h =
@@ -41,7 +31,7 @@ take_put p trail e h =
     ap (λ (xs : List Lit). take p xs) (held_push trail e) ∙ take-append-le p (held trail) (e.lit ∷ []) l
 
 pub take_cut : (p s : ℕ) (trail : List Entry) → p ≤ s → take p (held (take s trail)) ≡ take p (held trail)
-take_cut p s trail h = ap (λ (xs : List Lit). take p xs) (held_take s trail) ∙ take_of_take p s (held trail) h
+take_cut p s trail h = ap (λ (xs : List Lit). take p xs) (held_take s trail) ∙ take-take p s (held trail) h
 
 forced_by_same : (db : List (List Lit)) (t u : List Lit) (p : ℕ) (e : Entry) → take p t ≡ take p u → IsForcedBy db t p e → IsForcedBy db u p e
 forced_by_same db t u p e same f = record {
@@ -209,7 +199,7 @@ literals_count cs = length-map cs (λ (c : Clause). c.lits)
 
 pub prefix_more : {X : Type 0} (new old first : List X) (s : ℕ) → new ≡ take s old → (k : ℕ) × (old ≡ take k first) → (k : ℕ) × (new ≡ take k first)
 prefix_more {X} new old first s e p = elim (cases s p.0) [
-  | inl h ↦ (s, e ∙ ap (λ (xs : List X). take s xs) p.1 ∙ take_of_take s p.0 first h)
+  | inl h ↦ (s, e ∙ ap (λ (xs : List X). take s xs) p.1 ∙ take-take s p.0 first h)
   | inr h ↦ (p.0, e ∙ take_all s old (shorter h) ∙ p.1)
 ]
   where

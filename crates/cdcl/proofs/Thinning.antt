@@ -3,8 +3,8 @@ use Rattle.std.proofs.Common.{set, get_or, get_or-set_other, get_or-set_same, �
 use Rattle.std.specs.Prelude.{Contains}
 use Rattle.std.proofs.lemmas.List.{length-set}
 use Rattle.std.proofs.lemmas.List.Elements.{Contains-push_cases, Contains-append_left, Contains-push}
+use Rattle.std.proofs.lemmas.Bool.{cases_eq}
 use Rattle.cnf_form.specs.declared.formula.Lit.{Lit}
-use Rattle.cnf_form.proofs.Lits.{nat_cases}
 use Rattle.cdcl.specs.declared.watch.Pair.{Pair}
 use Rattle.cdcl.specs.Watching.{IsListed, IsWatching, IsThinned, AreThinned, AreLists, code_of}
 
@@ -43,7 +43,7 @@ pub lists_set : (n at : ℕ) (first lists : List (List ℕ)) (own : List ℕ) �
     → AreThinned n first lists → AreThinned n first (set lists at own)
 lists_set n at first lists own range thin t = record {
   room = length-set lists at own ∙ t.room;
-  each = λ i. elim (nat_cases i at) [
+  each = λ i. elim (cases_eq i at) [
     | inl e ↦
         let a : IsThinned n (get_or first at []) own = record {
           kept = λ k f j. thin.kept k f ((t.each at).kept k f j);

@@ -1,18 +1,18 @@
 -- The values of variables, read off a trail.
 use Rattle.std.proofs.Common.{◌≡◌, ℕ, zero, suc, ◌<◌, ◌+◌, ◌-◌, Bool, false, List, [], ◌∷◌, ◌++◌, inl, inr, refl, ◌∙◌, subst, arith, length, get_or, replicate, Option, Some, None}
 use Rattle.std.specs.Prelude.{Contains}
+use Rattle.std.proofs.lemmas.Bool.{cases_eq}
+use Rattle.std.proofs.lemmas.List.{length_push}
 use Rattle.cnf_form.specs.declared.formula.Lit.{Lit}
-use Rattle.cnf_form.proofs.Lits.{nat_cases}
 use Rattle.implication_graph.specs.Trail.{held, ValueIs, AllLow, AreAllInRange}
 use Rattle.cdcl.specs.Watching.{IsWatching, AreLists}
-use Rattle.cdcl.proofs.States.{length_push}
 use Rattle.cnf_form.specs.Literals.{SatisfiesAll}
 use Rattle.cdcl.specs.declared.solver.Solver.{Solver}
 use Rattle.cdcl.specs.State.{IsState, IsSound}
 use Rattle.cdcl.specs.Visits.{AgreesBelow, AgreesWith, IsModelled, OpenVarIs}
 use Rattle.cdcl.specs.Outcomes.{assignment}
 use Rattle.search_heuristics.specs.Open.{NextIs}
-use Rattle.implication_graph.proofs.Places.{has_var}
+use Rattle.implication_graph.proofs.Places.{has_var, some_none}
 
 get_push_old : (xs : List Bool) (x : Bool) (k : ℕ) → k < length xs → get_or (xs ++ x ∷ []) k false ≡ get_or xs k false
 get_push_old [] x k h = absurd (omega arith)
@@ -24,7 +24,7 @@ get_push_new [] x = refl
 get_push_new (y ∷ ys) x = get_push_new ys x
 
 pub agrees_push : (n : ℕ) (values : List Bool) (x : Bool) (t : List Lit) → length values + 1 ≡ n → ValueIs t n x → AgreesBelow n values t → AgreesBelow (n + 1) (values ++ x ∷ []) t
-agrees_push n values x t len is agrees l i low h = elim (nat_cases l.var n) [
+agrees_push n values x t len is agrees l i low h = elim (cases_eq l.var n) [
   | inl e ↦ subst (λ (k : ℕ). get_or (values ++ x ∷ []) k false ≡ l.positive) (place e) (get_push_new values x ∙ is l i e)
   | inr ne ↦ get_push_old values x (l.var - 1) (omega (arith, len, low, h, ne)) ∙ agrees l i low (omega (arith, h, ne))
 ]
@@ -93,15 +93,12 @@ lists_push xs n a = record {
   below = λ i k c. absurd (empty_push (xs ++ [] ∷ []) (empty_push xs (λ j m d. let r = a.below j m d in omega (arith, r))) i k c);
 }
 
-none_some : (p : ℕ) (o : Option ℕ) → o ≡ None → o ≡ Some p → ⊥
-none_some p o e f = cc
-
 -- where the places say that a variable is open, it is
 pub open_var_is : (s : Solver) → IsSound s → (r : Option ℕ) → NextIs s.places.items r → OpenVarIs s r
 open_var_is s sound None m = λ v low k. let q = m v low k in has_var (held s.trail.items) s.places.items v q.0 sound.places_are q.1
 open_var_is s sound (Some v) m = (
   m.0,
   m.1,
-  λ h. none_some h.1.0 _ m.2
+  λ h. some_none h.1.0 _ m.2
       (subst (λ (n : ℕ). get_or s.places.items n None ≡ Some h.1.0) h.2 (sound.places_are.every h.1.0 h.0 (h.1.1, h.1.2))),
 )

@@ -2,12 +2,12 @@
 use Rattle.std.proofs.Common.{take, drop, set, get_or, append_assoc, ◌≡◌, ℕ, ◌<◌, ◌≤◌, ◌+◌, List, [], ◌∷◌, ◌++◌, inl, inr, refl, sym, ◌∙◌, ap, subst, arith, length}
 use Rattle.std.specs.Prelude.{Contains, Vec}
 use Rattle.std.specs.declared.alloc.Global.{Global}
-use Rattle.std.proofs.lemmas.List.{length-append}
+use Rattle.std.proofs.lemmas.List.{length-append, take_more_set}
 use Rattle.std.proofs.lemmas.List.Elements.{Contains-append_right}
+use Rattle.cqa_value.proofs.Words.{mem-head}
 use Rattle.cnf_form.specs.declared.formula.Lit.{Lit}
 use Rattle.cnf_form.specs.declared.formula.Clause.{Clause}
 use Rattle.cnf_form.specs.Literals.{literals, Denied, opposite}
-use Rattle.cnf_form.proofs.Lits.{contains_here}
 use Rattle.implication_graph.specs.declared.trail.Entry.{Entry}
 use Rattle.cdcl.specs.declared.watch.Pair.{Pair}
 use Rattle.cdcl.specs.declared.solver.Solver.{Solver}
@@ -22,11 +22,11 @@ use Rattle.implication_graph.proofs.Works.{At-same}
 use Rattle.implication_graph.proofs.Places.{At-push_old, consistent, trail_fits}
 use Rattle.cdcl.proofs.States.{db_at, literals_count, length_held}
 use Rattle.cdcl.proofs.WatchState.{code_small, watching_next, watching_settled}
-use Rattle.cdcl.proofs.Stretches.{take_set, drop_set, next_index}
+use Rattle.cdcl.proofs.Stretches.{drop_set, next_index}
 use Rattle.cdcl.proofs.LookState.{looking_kept, looking_drop, looking_force, looking_first, looking_last}
 
 pub small_at : (s : Solver) (lit : Lit) (kept rest : List ℕ) (k : ℕ) → IsLookingAt s lit kept (k ∷ rest) → k < length s.pairs.items
-small_at s lit kept rest k l = l.entries k (Contains-append_right kept (k ∷ rest) k (contains_here k rest))
+small_at s lit kept rest k l = l.entries k (Contains-append_right kept (k ∷ rest) k (mem-head k rest))
 
 pub within_at : (s : Solver) (lit : Lit) (kept rest : List ℕ) (k : ℕ) → IsLookingAt s lit kept (k ∷ rest) → k < length s.clauses.items
 within_at s lit kept rest k l =
@@ -163,7 +163,7 @@ pub kept_next : (s : Solver) (lit : Lit) (kept at kept' x : ℕ) (list list' : L
     → IsLookingAt s lit (take kept list ++ x ∷ []) (drop (at + 1) list) → IsLookingAt s lit (take kept' list') (drop (at + 1) list')
 kept_next s lit kept at kept' x list list' order range e f l =
     let front : take kept' list' ≡ take kept list ++ x ∷ [] =
-    ap (λ (xs : List ℕ). take kept' xs) f ∙ ap (λ (n : ℕ). take n (set list kept x)) e ∙ take_set list kept x (omega (arith, order, range)) in
+    ap (λ (xs : List ℕ). take kept' xs) f ∙ ap (λ (n : ℕ). take n (set list kept x)) e ∙ take_more_set list kept x (omega (arith, order, range)) in
     let back : drop (at + 1) list' ≡ drop (at + 1) list =
     ap (λ (xs : List ℕ). drop (at + 1) xs) f ∙ drop_set list kept x (at + 1) (omega (arith, order)) in
     subst (λ (xs : List ℕ). IsLookingAt s lit xs (drop (at + 1) list')) (sym front) (subst (λ (xs : List ℕ). IsLookingAt s lit (take kept list ++ x ∷ []) xs) (sym back) l)

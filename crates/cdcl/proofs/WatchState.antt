@@ -1,11 +1,13 @@
 -- How what is watched changes with the trail, the clauses and the lists.
 use Rattle.std.proofs.Common.{take, set, get_or-set_other, get_or-set_same, ◌≡◌, ◌≢◌, ℕ, zero, suc, ◌<◌, ◌≤◌, ◌+◌, min, Bool, true, false, List, [], ◌∷◌, ◌++◌, ◌⊎◌, inl, inr, refl, sym, ◌∙◌, ap, subst, arith, length, get_or}
 use Rattle.std.specs.Prelude.{Contains}
-use Rattle.std.proofs.lemmas.List.{length-set, length-take, take-append-le, take_all}
+use Rattle.std.proofs.lemmas.List.{length-set, length-take, take-append-le, take_all, take-take, length_push}
 use Rattle.std.proofs.lemmas.List.Elements.{Contains-push_cases, Contains-append_cases, Contains-append_left, Contains-append_right, Contains-push}
+use Rattle.std.proofs.lemmas.Bool.{cases_eq}
+use Rattle.cqa_value.proofs.Words.{mem-cases}
 use Rattle.cnf_form.specs.declared.formula.Lit.{Lit}
 use Rattle.cnf_form.specs.Literals.{opposite, Denied}
-use Rattle.cnf_form.proofs.Lits.{nat_cases, equal_or_not, cons_cases, opposite-opposite}
+use Rattle.cnf_form.proofs.Lits.{equal_or_not, opposite-opposite}
 use Rattle.cdcl.specs.declared.watch.Pair.{Pair}
 use Rattle.implication_graph.specs.Trail.{At, IsConsistent}
 use Rattle.cdcl.specs.Settled.{IsSettled, AllSettledTo}
@@ -13,7 +15,6 @@ use Rattle.cdcl.specs.Watching.{sign_code, code_of, IsListed, listed_at, IsListe
 use Rattle.cdcl.proofs.SettledLemmas.{settled_by_true}
 use Rattle.implication_graph.proofs.Works.{At-same, At-contains, At-in_take, At-get_or}
 use Rattle.implication_graph.proofs.Places.{At-push_cases, At-push_old}
-use Rattle.cdcl.proofs.States.{length_push, take_of_take}
 use Rattle.cdcl.proofs.Watches.{watches_settle, watch_back, watch_put, watch_level, watch_look, watch_new}
 
 -- the literals of one code are one
@@ -46,7 +47,7 @@ code_small l n h = small l.var l.positive h
 pub At-set_cases : {X : Type 0} (xs : List X) (k : ℕ) (x : X) (j : ℕ) (y : X) → At (set xs k x) j y → ((j ≡ k) × (x ≡ y)) ⊎ ((j ≢ k) × At xs j y)
 At-set_cases xs k x j y a =
     let len = length-set xs k x in
-    elim (nat_cases j k) [
+    elim (cases_eq j k) [
       | inl e ↦ inl (e, sym (get_or-set_same xs k x y (omega (arith, a.0, len, e))) ∙ subst (λ (n : ℕ). get_or (set xs k x) n y ≡ y) e a.1)
       | inr n ↦ inr (n, (omega (arith, a.0, len), sym (get_or-set_other xs k j x y n) ∙ a.1))
     ]
@@ -126,7 +127,7 @@ watching_back {permanent} R db t level_starts s head pairs within rising w = rec
   inside = w.inside;
   ended = λ x i.
       let r = rising x i in
-      subst (λ (xs : List Lit). AllSettledTo permanent xs db) (sym (take_of_take x s t (omega (arith, r)))) (w.ended x (Contains-append_left level_starts (s ∷ []) x i));
+      subst (λ (xs : List Lit). AllSettledTo permanent xs db) (sym (take-take x s t (omega (arith, r)))) (w.ended x (Contains-append_left level_starts (s ∷ []) x i));
   each = λ k c pair f a b. elim (w.each k c pair f a b) [
     | inl base ↦ inl (
       base.0,
@@ -217,7 +218,7 @@ watching_settled {permanent} R db t level_starts head pairs k whole all w i c f 
 other_contains : (kept rest : List ℕ) (k j : ℕ) → j ≢ k → Contains (kept ++ k ∷ rest) j → Contains (kept ++ rest) j
 other_contains kept rest k j n i = elim (Contains-append_cases kept (k ∷ rest) j i) [
   | inl a ↦ Contains-append_left kept rest j a
-  | inr b ↦ elim (cons_cases k rest j b) [ inl e ↦ absurd (n (sym e)) | inr c ↦ Contains-append_right kept rest j c ]
+  | inr b ↦ elim (mem-cases j k rest b) [ inl e ↦ absurd (n (sym e)) | inr c ↦ Contains-append_right kept rest j c ]
 ]
 
 -- an index whose clause does not watch the literal leaves its list
@@ -237,14 +238,14 @@ watching_drop {permanent} db t level_starts head pairs out kept rest lists k no_
       first = p.first;
       second = p.second;
       first_in = (
-        λ e. elim (nat_cases j k) [
+        λ e. elim (cases_eq j k) [
           | inl same ↦ absurd (no_watch pair (subst (λ (n : ℕ). At pairs n pair) same b) (inl e))
           | inr n ↦ other_contains kept rest k j n (p.first_in.0 e)
         ],
         p.first_in.1,
       );
       second_in = (
-        λ e. elim (nat_cases j k) [
+        λ e. elim (cases_eq j k) [
           | inl same ↦ absurd (no_watch pair (subst (λ (n : ℕ). At pairs n pair) same b) (inr e))
           | inr n ↦ other_contains kept rest k j n (p.second_in.0 e)
         ],
@@ -255,7 +256,7 @@ watching_drop {permanent} db t level_starts head pairs out kept rest lists k no_
 }
 
 pub listed_more : (lists : List (List ℕ)) (i x : ℕ) (l : Lit) (k : ℕ) → IsListed lists l k → IsListed (listed_at lists i x) l k
-listed_more lists i x l k h = elim (nat_cases (code_of l) i) [
+listed_more lists i x l k h = elim (cases_eq (code_of l) i) [
   | inl e ↦
       let range : i < length lists = inside lists (code_of l) k h i e in
       subst (λ (n : ℕ). Contains (get_or (listed_at lists i x) n []) k) (sym e)
@@ -389,14 +390,14 @@ pub pending_held : {permanent : ℕ} (db : List (List Lit)) (t : List Lit) (pair
     → IsPending permanent t db pairs out (k ∷ rest) → IsPending permanent t db pairs out rest
 pending_held {permanent} db t pairs out k rest holds p j c pair f a b has = elim (p j c pair f a b has) [
   | inr h ↦ inr h
-  | inl i ↦ elim (cons_cases k rest j i) [ inl e ↦ inr (holds c (subst (λ (n : ℕ). At db n c) (sym e) a)) | inr r ↦ inl r ]
+  | inl i ↦ elim (mem-cases j k rest i) [ inl e ↦ inr (holds c (subst (λ (n : ℕ). At db n c) (sym e) a)) | inr r ↦ inl r ]
 ]
 
 pub pending_drop : {permanent : ℕ} (db : List (List Lit)) (t : List Lit) (pairs : List Pair) (out : Lit) (k : ℕ) (rest : List ℕ) → ((pair : Pair) → At pairs k pair → HasWatch pair out → ⊥)
     → IsPending permanent t db pairs out (k ∷ rest) → IsPending permanent t db pairs out rest
 pending_drop {permanent} db t pairs out k rest no_watch p j c pair f a b has = elim (p j c pair f a b has) [
   | inr h ↦ inr h
-  | inl i ↦ elim (cons_cases k rest j i) [ inl e ↦ absurd (no_watch pair (subst (λ (n : ℕ). At pairs n pair) (sym e) b) has) | inr r ↦ inl r ]
+  | inl i ↦ elim (mem-cases j k rest i) [ inl e ↦ absurd (no_watch pair (subst (λ (n : ℕ). At pairs n pair) (sym e) b) has) | inr r ↦ inl r ]
 ]
 
 pub pending_move : {permanent : ℕ} (db : List (List Lit)) (t : List Lit) (pairs : List Pair) (out : Lit) (k : ℕ) (rest : List ℕ) (made : Pair)
@@ -405,7 +406,7 @@ pending_move {permanent} db t pairs out k rest made holds p j c pair f a b has =
   | inl e ↦ inr (holds (subst (λ (n : ℕ). n < permanent) e.0 f) c (subst (λ (n : ℕ). At db n c) e.0 a) (subst (λ (q : Pair). HasWatch q out) (sym e.1) has))
   | inr o ↦ elim (p j c pair f a o.1 has) [
     | inr h ↦ inr h
-    | inl i ↦ elim (cons_cases k rest j i) [ inl e ↦ absurd (o.0 (sym e)) | inr r ↦ inl r ]
+    | inl i ↦ elim (mem-cases j k rest i) [ inl e ↦ absurd (o.0 (sym e)) | inr r ↦ inl r ]
   ]
 ]
 

@@ -3,11 +3,12 @@ use Rattle.implication_graph.specs.Trail.{At, IsConsistent}
 use Rattle.std.proofs.Common.{take, ◌≡◌, ◌≢◌, ℕ, ◌<◌, ◌≤◌, ◌+◌, min, List, [], ◌∷◌, ◌++◌, ◌⊎◌, inl, inr, subst, arith, length}
 use Rattle.std.specs.Prelude.{Contains}
 use Rattle.std.proofs.lemmas.List.Elements.{Contains-push_cases, Contains-append_left, Contains-push}
+use Rattle.cqa_value.proofs.Words.{mem-tail, mem-cases, mem-head}
 use Rattle.cnf_form.specs.declared.formula.Lit.{Lit}
 use Rattle.cnf_form.specs.Literals.{opposite, Denied}
 use Rattle.cdcl.specs.Settled.{IsSettled}
 use Rattle.cdcl.proofs.SettledLemmas.{settled_by_two, settled_by_true}
-use Rattle.cnf_form.proofs.Lits.{equal_or_not, cons_cases, contains_here, contains_later}
+use Rattle.cnf_form.proofs.Lits.{equal_or_not}
 use Rattle.cdcl.specs.Watching.{WatchIs}
 use Rattle.implication_graph.proofs.Works.{At-take, At-contains, At-in_take, At-same}
 use Rattle.implication_graph.proofs.Places.{At-push_cases, At-push_old}
@@ -15,10 +16,10 @@ use Rattle.implication_graph.proofs.Places.{At-push_cases, At-push_old}
 contains_or_not : (t : List Lit) (l : Lit) → Contains t l ⊎ (Contains t l → ⊥)
 contains_or_not [] l = inr (λ i. omega (arith, i.1))
 contains_or_not (x ∷ t) l = elim (equal_or_not x l) [
-  | inl e ↦ inl (subst (λ (y : Lit). Contains (x ∷ t) y) e (contains_here x t))
+  | inl e ↦ inl (subst (λ (y : Lit). Contains (x ∷ t) y) e (mem-head x t))
   | inr n ↦ elim (contains_or_not t l) [
-    | inl i ↦ inl (contains_later x t l i)
-    | inr o ↦ inr (λ i. elim (cons_cases x t l i) [ inl e ↦ n e | inr j ↦ o j ])
+    | inl i ↦ inl (mem-tail l x t i)
+    | inr o ↦ inr (λ i. elim (mem-cases l x t i) [ inl e ↦ n e | inr j ↦ o j ])
   ]
 ]
 

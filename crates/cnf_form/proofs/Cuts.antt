@@ -1,14 +1,10 @@
 -- Written tokens and lines are cut where they end.
 use Rattle.std.proofs.Common.{◌≡◌, ℕ, ◌<◌, ◌==◌, ◌||◌, ◌&&◌, Bool, true, false, cond, List, [], ◌∷◌, ◌++◌, refl, ◌∙◌, ap, arith, length, nat_eq}
 use Rattle.std.specs.Cmp.Lexicographic.{pointwise}
-use Rattle.std.proofs.lemmas.Bool.{ne_eqb}
+use Rattle.std.proofs.lemmas.Bool.{ne_eqb, or_parts}
 use Rattle.cnf_form.specs.Lines.{begins_blank, front, is_blank, is_comment, lines, tokens}
 use Rattle.cnf_form.specs.Formulas.{is_lrat}
 use Rattle.cnf_form.proofs.Numerals.{NoEnds}
-
-no_end : (k n : Bool) → k || n ≡ false → (k ≡ false) × (n ≡ false)
-no_end true n e = absurd (cc)
-no_end false n e = (refl, e)
 
 -- one byte more of a token
 more_token : (b : ℕ) (rest : List ℕ) → is_blank b ≡ false → tokens (b ∷ rest) ≡ cond (begins_blank rest) ((b ∷ []) ∷ tokens rest) (front b (tokens rest))
@@ -16,18 +12,18 @@ more_token b rest h = ap (λ (c : Bool). cond c (tokens rest) (cond (begins_blan
 
 pub token_space : (t rest : List ℕ) → 0 < length t → NoEnds t → tokens (t ++ 32 ∷ rest) ≡ t ∷ tokens rest
 token_space [] rest h n = absurd (omega (arith, h))
-token_space (b ∷ []) rest h n = more_token b (32 ∷ rest) (no_end (is_blank b) (b == 10) n.0).0
+token_space (b ∷ []) rest h n = more_token b (32 ∷ rest) (or_parts (is_blank b) (b == 10) n.0).0
 token_space (b ∷ x ∷ xs) rest h n =
-    more_token b (x ∷ (xs ++ 32 ∷ rest)) (no_end (is_blank b) (b == 10) n.0).0
-    ∙ ap (λ (c : Bool). cond c ((b ∷ []) ∷ tokens (x ∷ (xs ++ 32 ∷ rest))) (front b (tokens (x ∷ (xs ++ 32 ∷ rest))))) (no_end (is_blank x) (x == 10) n.1.0).0
+    more_token b (x ∷ (xs ++ 32 ∷ rest)) (or_parts (is_blank b) (b == 10) n.0).0
+    ∙ ap (λ (c : Bool). cond c ((b ∷ []) ∷ tokens (x ∷ (xs ++ 32 ∷ rest))) (front b (tokens (x ∷ (xs ++ 32 ∷ rest))))) (or_parts (is_blank x) (x == 10) n.1.0).0
     ∙ ap (front b) (token_space (x ∷ xs) rest (omega arith) n.1)
 
 pub token_last : (t : List ℕ) → 0 < length t → NoEnds t → tokens t ≡ t ∷ []
 token_last [] h n = absurd (omega (arith, h))
-token_last (b ∷ []) h n = more_token b [] (no_end (is_blank b) (b == 10) n.0).0
+token_last (b ∷ []) h n = more_token b [] (or_parts (is_blank b) (b == 10) n.0).0
 token_last (b ∷ x ∷ xs) h n =
-    more_token b (x ∷ xs) (no_end (is_blank b) (b == 10) n.0).0
-    ∙ ap (λ (c : Bool). cond c ((b ∷ []) ∷ tokens (x ∷ xs)) (front b (tokens (x ∷ xs)))) (no_end (is_blank x) (x == 10) n.1.0).0
+    more_token b (x ∷ xs) (or_parts (is_blank b) (b == 10) n.0).0
+    ∙ ap (λ (c : Bool). cond c ((b ∷ []) ∷ tokens (x ∷ xs)) (front b (tokens (x ∷ xs)))) (or_parts (is_blank x) (x == 10) n.1.0).0
     ∙ ap (front b) (token_last (x ∷ xs) (omega arith) n.1)
 
 -- no byte is an LF
@@ -37,7 +33,7 @@ NoLf (b ∷ bs) = ((b == 10) ≡ false) × NoLf bs
 
 pub no_lf : (t : List ℕ) → NoEnds t → NoLf t
 no_lf [] n = tt
-no_lf (b ∷ bs) n = ((no_end (is_blank b) (b == 10) n.0).1, no_lf bs n.1)
+no_lf (b ∷ bs) n = ((or_parts (is_blank b) (b == 10) n.0).1, no_lf bs n.1)
 
 pub no_lf_both : (s t : List ℕ) → NoLf s → NoLf t → NoLf (s ++ t)
 no_lf_both [] t a b = b

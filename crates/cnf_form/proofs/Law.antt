@@ -3,18 +3,18 @@ use Rattle.std.proofs.Common.{◌≡◌, ℕ, zero, suc, ◌<◌, ◌≤◌, ◌
 use Rattle.std.specs.Prelude.{Contains}
 use native.Mathlib.Numerals.{unary_clauses}
 use Rattle.std.specs.List.{IsDistinct, AllByRecursion}
-use Rattle.std.proofs.lemmas.Bool.{ne_eqb, eqb-true, eq-eqb}
+use Rattle.std.proofs.lemmas.Bool.{ne_eqb, eqb-true, eq-eqb, cases_eq}
 use Rattle.std.proofs.lemmas.Map.Steps.{length-le_from_distinct_below}
 use Rattle.std.proofs.lemmas.Map.Views.{Contains-from_any}
 use Rattle.std.proofs.lemmas.List.{length-map}
 use Rattle.std.proofs.lemmas.List.Elements.{Contains-push, Contains-append_left}
+use Rattle.cqa_value.proofs.Words.{mem-tail, mem-cases, mem-head, Contains-from_map}
 use Rattle.cnf_form.specs.declared.formula.Lit.{Lit}
 use Rattle.cnf_form.specs.Literals.{literals}
 use Rattle.cnf_form.specs.declared.log.Step.{Step}
 use Rattle.cnf_form.specs.declared.log.Step.TheVariants.{Add, Delete}
 use Rattle.cnf_form.specs.Logs.{added}
 use Rattle.cnf_form.specs.Spent.{NoVarTwice, IsFit, AreNew, OnlyAdds, SpentLogsEnd}
-use Rattle.cnf_form.proofs.Lits.{cons_cases, contains_here, contains_later, nat_cases}
 
 -- the digit of a variable: 0 absent, 1 positive, 2 negative
 abbrev digit_of : Bool → ℕ
@@ -44,7 +44,7 @@ digit_small (l ∷ c) v = small (eqb l.var v) l.positive (digit c v) (digit_smal
 digit_inside : (c : List Lit) (l : Lit) → NoVarTwice c → Contains c l → digit c l.var ≡ digit_of l.positive
 unfolding digit
 digit_inside [] l o i = absurd (omega (arith, i.1))
-digit_inside (m ∷ c) l o i = elim (cons_cases m c l i) [
+digit_inside (m ∷ c) l o i = elim (mem-cases l m c i) [
   | inl e ↦ ap (λ (b : Bool). cond b (digit_of m.positive) (digit c l.var)) (eq-eqb m.var l.var (ap (λ (x : Lit). x.var) e)) ∙ ap (λ (x : Lit). digit_of x.positive) e
   | inr j ↦ ap (λ (b : Bool). cond b (digit_of m.positive) (digit c l.var)) (ne_eqb m.var l.var (λ e. o.0 (l, j, sym e))) ∙ digit_inside c l o.1 j
 ]
@@ -57,11 +57,11 @@ digit_found [] l e = absurd (none l.positive e)
     none : (p : Bool) → (let z : ℕ = 0 in z ≡ digit_of p) → ⊥
     none true e = omega arith
     none false e = omega arith
-digit_found (m ∷ c) l e = elim (nat_cases m.var l.var) [
+digit_found (m ∷ c) l e = elim (cases_eq m.var l.var) [
   | inl q ↦
       let f : digit_of m.positive ≡ digit_of l.positive = sym (ap (λ (b : Bool). cond b (digit_of m.positive) (digit c l.var)) (eq-eqb m.var l.var q)) ∙ e in
-      subst (λ (x : Lit). Contains (m ∷ c) x) (same m l q (sign m.positive l.positive f)) (contains_here m c)
-  | inr n ↦ contains_later m c l (digit_found c l (sym (ap (λ (b : Bool). cond b (digit_of m.positive) (digit c l.var)) (ne_eqb m.var l.var n)) ∙ e))
+      subst (λ (x : Lit). Contains (m ∷ c) x) (same m l q (sign m.positive l.positive f)) (mem-head m c)
+  | inr n ↦ mem-tail l m c (digit_found c l (sym (ap (λ (b : Bool). cond b (digit_of m.positive) (digit c l.var)) (ne_eqb m.var l.var n)) ∙ e))
 ]
   where
     sign : (p q : Bool) → digit_of p ≡ digit_of q → p ≡ q
@@ -83,7 +83,7 @@ digits_same (suc n) c d e v h k =
     let p = digit_small c (suc n) in let q = digit_small d (suc n) in
     let lo : digit c (suc n) ≡ digit d (suc n) = low (digit c (suc n)) (digit d (suc n)) (number n c) (number n d) p q e in
     let hi : number n c ≡ number n d = omega (arith, lo, e) in
-    elim (nat_cases v (suc n)) [
+    elim (cases_eq v (suc n)) [
       | inl s ↦ subst (λ (x : ℕ). digit c x ≡ digit d x) (sym s) lo
       | inr ne ↦ digits_same n c d hi v h (omega arith)
     ]
@@ -118,28 +118,21 @@ number_not_zero n c f e =
 
 later_new : (n : ℕ) (db cs : List (List Lit)) (c d : List Lit) → AreNew n db cs → Contains db c → Contains cs d → ((m : Lit) → Contains c m → Contains d m) → ⊥
 later_new n db [] c d a i j sub = omega (arith, j.1)
-later_new n db (x ∷ xs) c d a i j sub = elim (cons_cases x xs d j) [
+later_new n db (x ∷ xs) c d a i j sub = elim (mem-cases d x xs j) [
   | inl e ↦ a.1 c i (λ m k. subst (λ (y : List Lit). Contains y m) (sym e) (sub m k))
   | inr r ↦ later_new n (db ++ x ∷ []) xs c d a.2 (Contains-append_left db (x ∷ []) c i) r sub
 ]
 
 each_fit : (n : ℕ) (db cs : List (List Lit)) → AreNew n db cs → (c : List Lit) → Contains cs c → IsFit n c
 each_fit n db [] a c i = absurd (omega (arith, i.1))
-each_fit n db (x ∷ xs) a c i = elim (cons_cases x xs c i) [
+each_fit n db (x ∷ xs) a c i = elim (mem-cases c x xs i) [
   | inl e ↦ subst (λ (y : List Lit). IsFit n y) e a.0
   | inr r ↦ each_fit n (db ++ x ∷ []) xs a.2 c r
 ]
 
-none_of : (x : ℕ) (ys : List ℕ) → ((y : ℕ) → Contains ys y → x ≡ y → ⊥) → AllByRecursion (λ y. eqb x y ≡ false) ys
+pub none_of : (x : ℕ) (ys : List ℕ) → ((y : ℕ) → Contains ys y → x ≡ y → ⊥) → AllByRecursion (λ y. eqb x y ≡ false) ys
 none_of x [] f = tt
-none_of x (y ∷ ys) f = (ne_eqb x y (f y (contains_here y ys)), none_of x ys (λ z i. f z (contains_later y ys z i)))
-
-Contains-from_map : {X Y : Type 0} (f : X → Y) (xs : List X) (y : Y) → Contains (map f xs) y → (x : X) × Contains xs x × (f x ≡ y)
-Contains-from_map f [] y i = absurd (omega (arith, i.1))
-Contains-from_map f (z ∷ zs) y i = elim (cons_cases (f z) (map f zs) y i) [
-  | inl e ↦ (z, contains_here z zs, e)
-  | inr r ↦ let q = Contains-from_map f zs y r in (q.0, contains_later z zs q.0 q.1, q.2)
-]
+none_of x (y ∷ ys) f = (ne_eqb x y (f y (mem-head y ys)), none_of x ys (λ z i. f z (mem-tail z y ys i)))
 
 distinct_numbers : (n : ℕ) (db cs : List (List Lit)) → AreNew n db cs → IsDistinct eqb (map (number n) cs)
 unfolding IsDistinct
@@ -167,7 +160,7 @@ law n db cs a =
     positive k = let r = number_small k [] in omega (arith, r)
 
     below : (q : ℕ) → Contains (0 ∷ map (number n) cs) q → q < 3 ^ n
-    below q i = elim (cons_cases 0 (map (number n) cs) q i) [
+    below q i = elim (mem-cases q 0 (map (number n) cs) i) [
       | inl e ↦ let p = positive n in omega (arith, p, e)
       | inr r ↦ let x = Contains-from_map (number n) cs q r in let s = number_small n x.0 in omega (arith, s, x.2)
     ]

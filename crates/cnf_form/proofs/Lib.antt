@@ -1,5 +1,4 @@
 -- Lemmas of formulas and logs, by the definitions that they are of.
-pub mod Prefixed
 pub mod Numerals
 pub mod Cuts
 pub mod RoundTrip

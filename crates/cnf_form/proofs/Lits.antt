@@ -1,18 +1,8 @@
 -- Lemmas on literals, closed lists and propagation.
-use Rattle.std.proofs.Common.{◌≡◌, ◌≢◌, ℕ, zero, suc, Bool, true, false, List, ◌∷◌, ◌⊎◌, inl, inr, refl, sym, ◌∙◌, ap, arith}
-use Rattle.std.specs.Prelude.{Contains}
+use Rattle.std.proofs.Common.{◌≡◌, ◌≢◌, ℕ, Bool, true, false, ◌⊎◌, inl, inr, refl, sym, ◌∙◌, ap}
+use Rattle.std.proofs.lemmas.Bool.{cases_eq}
 use Rattle.cnf_form.specs.declared.formula.Lit.{Lit}
 use Rattle.cnf_form.specs.Literals.{negated, opposite}
-
-pub cons_cases : {X : Type 0} (y : X) (xs : List X) (x : X) → Contains (y ∷ xs) x → (y ≡ x) ⊎ Contains xs x
-cons_cases y xs x (zero, i, e) = inl e
-cons_cases y xs x (suc k, i, e) = inr (k, omega (arith, i), e)
-
-pub contains_here : {X : Type 0} (y : X) (xs : List X) → Contains (y ∷ xs) y
-contains_here y xs = (0, omega arith, refl)
-
-pub contains_later : {X : Type 0} (y : X) (xs : List X) (x : X) → Contains xs x → Contains (y ∷ xs) x
-contains_later y xs x (k, i, e) = (suc k, omega (arith, i), e)
 
 pub negated-negated : (b : Bool) → negated (negated b) ≡ b
 negated-negated true = refl
@@ -28,13 +18,10 @@ bool_cases true false = inr refl
 bool_cases false true = inr refl
 bool_cases false false = inl refl
 
-pub nat_cases : (a b : ℕ) → (a ≡ b) ⊎ (a ≢ b)
-nat_cases a b = grind arith
-
 -- a literal is either another one, its opposite, or of another variable
 pub lit_cases : (a b : Lit) → (a ≡ b) ⊎ ((a ≡ opposite b) ⊎ (a.var ≢ b.var))
 lit_cases a b =
-    elim (nat_cases a.var b.var) [
+    elim (cases_eq a.var b.var) [
       | inl e ↦ elim (bool_cases a.positive b.positive) [
         | inl p ↦ inl (same a b e p)
         | inr p ↦ inr (inl (same a (opposite b) e p))

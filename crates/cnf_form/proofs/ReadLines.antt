@@ -1,7 +1,8 @@
 -- The lines of a formula, one by one.
 use Rattle.std.proofs.Common.{◌≡◌, ◌≢◌, ℕ, ◌<◌, ◌≤◌, ◌+◌, ◌-◌, ◌==◌, ◌||◌, suc, Bool, true, false, cond, List, [], ◌∷◌, ◌++◌, ◌⊎◌, inl, inr, refl, sym, ◌∙◌, ap, subst, arith, length, drop, append_assoc, Option, Ok, Err}
 use Rattle.std.specs.Prelude.{Result}
-use Rattle.std.proofs.lemmas.List.{append-nil}
+use Rattle.std.proofs.lemmas.List.{append-nil, length-append}
+use Rattle.std.proofs.Math.Seq.{drop-append_seam}
 use Rattle.cnf_form.specs.declared.formula.Lit.{Lit}
 use Rattle.cnf_form.specs.declared.formula.Clause.{Clause}
 use Rattle.cnf_form.specs.declared.body.Body.{Body}
@@ -53,19 +54,11 @@ line_end (b ∷ bs) = go (b == 10) (line_end bs)
 pub end_of_end : (text rest new : List ℕ) → IsEndOf rest text → IsEndOf new rest → IsEndOf new text
 end_of_end text rest new a b = (a.0 ++ b.0, a.1 ∙ ap (λ (s : List ℕ). a.0 ++ s) b.1 ∙ sym (append_assoc a.0 b.0 new))
 
-drop_before : (before rest : List ℕ) → drop (length before) (before ++ rest) ≡ rest
-drop_before [] rest = refl
-drop_before (b ∷ bs) rest = drop_before bs rest
-
-length_before : (before rest : List ℕ) → length (before ++ rest) ≡ length before + length rest
-length_before [] rest = omega arith
-length_before (b ∷ bs) rest = let r = length_before bs rest in omega (arith, r)
-
 pub end_drop : (text rest : List ℕ) → IsEndOf rest text → drop (length text - length rest) text ≡ rest
 end_drop text rest e =
-    let a = ap length e.1 in let b = length_before e.0 rest in
+    let a = ap length e.1 in let b = length-append e.0 rest in
     let k : length text - length rest ≡ length e.0 = omega (arith, a, b) in
-    ap (λ (n : ℕ). drop n text) k ∙ ap (drop (length e.0)) e.1 ∙ drop_before e.0 rest
+    ap (λ (n : ℕ). drop n text) k ∙ ap (drop (length e.0)) e.1 ∙ drop-append_seam e.0 rest
 
 pub past_more : (first n : ℕ) (text rest new : List ℕ) → length rest ≢ 0 → new ≡ after_line rest → is_lrat (line_of rest) ≡ false → IsPast first n text rest → IsPast first (n + 1) text new
 past_more first n text rest new h e f p = let c = lines_cons rest h ∙ ap (λ (s : List ℕ). line_of rest ∷ lines s) (sym e) in record {

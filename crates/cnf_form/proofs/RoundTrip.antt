@@ -6,6 +6,7 @@ use Rattle.std.specs.List.{flat_map}
 use Rattle.std.proofs.lemmas.List.{append-nil}
 use Rattle.cqa_value.specs.declared.memory.Fail.{Fail}
 use Rattle.cqa_value.specs.declared.memory.Fail.TheVariants.{NoMemory, Refused}
+use Rattle.cqa_value.proofs.Words.{mem-tail, mem-head}
 use Rattle.cnf_form.specs.declared.fault.FormatFault.{FormatFault}
 use Rattle.cnf_form.specs.declared.formula.Lit.{Lit}
 use Rattle.cnf_form.specs.declared.formula.Clause.{Clause}
@@ -15,7 +16,7 @@ use Rattle.cnf_form.specs.Lines.{is_comment, is_nil, is_skipped, lines, tokens}
 use Rattle.cnf_form.specs.Numbers.{signed_of, unsigned_of}
 use Rattle.cnf_form.specs.Formulas.{FormulaIs, Token, after_lrat, body_tokens, both, by_header, clauses_from, content, ended, formula_in, formula_of, has_lrat, header, is_lrat, literal, lrat_line, numbers, tagged, with_vars}
 use Rattle.cnf_form.specs.Writing.{IsWritable, ReadsBack, clause_bytes, clause_line, header_line, lit_bytes, proof_bytes}
-use Rattle.cnf_form.proofs.Lits.{contains_here, contains_later, negated-negated}
+use Rattle.cnf_form.proofs.Lits.{negated-negated}
 use Rattle.cnf_form.proofs.ReadTokens.{other_goes, zero_goes}
 use Rattle.cnf_form.proofs.Numerals.{NoEnds, decimal_begins, decimal_no_ends, decimal_signed, decimal_some, decimal_unsigned, fits, minus_signed}
 use Rattle.cnf_form.proofs.Cuts.{NoLf, line_cut, no_lf, no_lf_both, no_mark, token_last, token_space}
@@ -50,7 +51,7 @@ AreSmall limit (l ∷ c) = (1 ≤ l.var) × (l.var ≤ limit) × AreSmall limit 
 
 pub are_small : (limit : ℕ) (c : List Lit) → AreVars limit c → AreSmall limit c
 are_small limit [] a = tt
-are_small limit (l ∷ c) a = let k = a l (contains_here l c) in (k.0, k.1, are_small limit c (λ m i. a m (contains_later l c m i)))
+are_small limit (l ∷ c) a = let k = a l (mem-head l c) in (k.0, k.1, are_small limit c (λ m i. a m (mem-tail m l c i)))
 
 -- a literal and the bytes after it
 lit_split : (l : Lit) (c : List Lit) (more : List ℕ) → flat_map lit_bytes (l ∷ c) ++ more ≡ lit_token l ++ 32 ∷ (flat_map lit_bytes c ++ more)
@@ -110,7 +111,7 @@ AllSmall limit (c ∷ cs) = AreSmall limit c.lits × AllSmall limit cs
 
 all_small : (limit : ℕ) (cs : List Clause) → ((c : List Lit) → Contains (literals cs) c → AreVars limit c) → AllSmall limit cs
 all_small limit [] a = tt
-all_small limit (c ∷ cs) a = (are_small limit c.lits (a c.lits (contains_here c.lits (literals cs))), all_small limit cs (λ d i. a d (contains_later c.lits (literals cs) d i)))
+all_small limit (c ∷ cs) a = (are_small limit c.lits (a c.lits (mem-head c.lits (literals cs))), all_small limit cs (λ d i. a d (mem-tail d c.lits (literals cs) i)))
 
 mark : List ℕ
 mark = 108 ∷ 114 ∷ 97 ∷ 116 ∷ []

@@ -3,13 +3,14 @@ use Rattle.std.proofs.Common.{◌≡◌, ℕ, zero, suc, ℤ, pos, negsuc, Bool,
 use Rattle.std.specs.Prelude.{Contains}
 use Rattle.std.proofs.lemmas.Bool.{cases_eq}
 use Rattle.std.proofs.lemmas.Map.{update_here, update_apart}
+use Rattle.cqa_value.proofs.Words.{mem-tail, mem-cases, mem-head}
 use Rattle.cnf_form.specs.declared.formula.Lit.{Lit}
 use Rattle.cnf_form.specs.declared.formula.Cnf.{Cnf}
 use Rattle.cnf_form.specs.declared.log.Step.{Step}
 use Rattle.cnf_form.specs.declared.log.Step.TheVariants.{Add, Delete}
 use Rattle.cnf_form.specs.Literals.{negated, opposite, AllDenied, OthersDenied, MakesTrue, Satisfies}
 use Rattle.cnf_form.specs.Logs.{Live, HintsPass, AdditionPasses, numbered, with_clause, without, after_deletion, StepsPass, Passes, added, Refutes}
-use Rattle.cnf_form.proofs.Lits.{bool_cases, cons_cases, contains_here, contains_later, equal_or_not}
+use Rattle.cnf_form.proofs.Lits.{bool_cases, equal_or_not}
 use Rattle.cnf_form.specs.Literals.{HasBothSigns, SatisfiesAll, literals}
 
 not_negated : (b : Bool) → b ≡ negated b → ⊥
@@ -35,7 +36,7 @@ unit_true v held c l t d s = elim (equal_or_not s.0 l) [
 ]
 
 true_more : (v : ℕ → Bool) (held : List Lit) (l : Lit) → MakesAllTrue v held → MakesTrue v l → MakesAllTrue v (l ∷ held)
-true_more v held l t m x i = elim (cons_cases l held x i) [
+true_more v held l t m x i = elim (mem-cases x l held i) [
   | inl e ↦ subst (λ (y : Lit). MakesTrue v y) e m
   | inr r ↦ t x r
 ]
@@ -53,9 +54,9 @@ hints_sound v live held (pos id ∷ hints) m t h =
 true_or_opposed : (v : ℕ → Bool) (c : List Lit) → Satisfies v c ⊎ MakesAllTrue v (map opposite c)
 true_or_opposed v [] = inr (λ l i. absurd (omega (arith, i.1)))
 true_or_opposed v (l ∷ c) = elim (bool_cases (v l.var) l.positive) [
-  | inl e ↦ inl (l, contains_here l c, e)
+  | inl e ↦ inl (l, mem-head l c, e)
   | inr e ↦ elim (true_or_opposed v c) [
-    | inl s ↦ inl (s.0, contains_later l c s.0 s.1, s.2)
+    | inl s ↦ inl (s.0, mem-tail s.0 l c s.1, s.2)
     | inr t ↦ inr (true_more v (map opposite c) (opposite l) t e)
   ]
 ]
@@ -101,7 +102,7 @@ steps_sound : (v : ℕ → Bool) (live : Live) (top : ℕ) (steps : List Step) �
 steps_sound v live top [] m p c i = absurd (omega (arith, i.1))
 steps_sound v live top (Add id clause hints ∷ steps) m p c i =
     let s : Satisfies v clause.lits = addition_sound v live clause.lits hints m p.0.1 in
-    elim (cons_cases clause.lits (added steps) c i) [
+    elim (mem-cases c clause.lits (added steps) i) [
       | inl e ↦ subst (λ (x : List Lit). Satisfies v x) e s
       | inr r ↦ steps_sound v (with_clause live id clause.lits) id steps (models_more v live id clause.lits m s) p.1 c r
     ]
@@ -111,8 +112,8 @@ steps_sound v live top (Delete ids ∷ steps) m p c i =
 numbered_models : (v : ℕ → Bool) (cs : List (List Lit)) → SatisfiesAll v cs → Models v (numbered cs)
 numbered_models v cs s zero d e = absurd (none_some d e)
 numbered_models v [] s (suc k) d e = absurd (none_some d e)
-numbered_models v (c ∷ cs) s (suc zero) d e = subst (λ (x : List Lit). Satisfies v x) (some_same c d e) (s c (contains_here c cs))
-numbered_models v (c ∷ cs) s (suc (suc k)) d e = numbered_models v cs (λ x i. s x (contains_later c cs x i)) (suc k) d e
+numbered_models v (c ∷ cs) s (suc zero) d e = subst (λ (x : List Lit). Satisfies v x) (some_same c d e) (s c (mem-head c cs))
+numbered_models v (c ∷ cs) s (suc (suc k)) d e = numbered_models v cs (λ x i. s x (mem-tail x c cs i)) (suc k) d e
 
 -- what a passing log adds follows from the formula
 pub additions_follow : (cnf : Cnf) (steps : List Step) → Passes cnf steps → (c : List Lit) → Contains (added steps) c → (v : ℕ → Bool) → SatisfiesAll v (literals cnf.clauses) → Satisfies v c

@@ -22,6 +22,7 @@ impl Model for Calls {
 }
 
 impl Calls {
+    /// No call was made so far; those with these numbers, counted from 1, will fail.
     pub fn new(failing: Vec<u64>) -> Calls
         ensures { result ≡ record { failing = failing.items; done = 0 } }
     {

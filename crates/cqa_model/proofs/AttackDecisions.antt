@@ -2,6 +2,7 @@
 -- derived until it has all of it.
 use Rattle.std.proofs.Common.{◌≡◌, true, ℕ, zero, suc, ◌<◌, ◌≤◌, ◌⊎◌, inl, inr, List, [], ◌∷◌, ◌++◌, length, sym, subst, arith, Contains}
 use Rattle.std.proofs.lemmas.List.Elements.{All-contains, Contains-append_left, Contains-append_right}
+use Rattle.std.proofs.Math.Bool.{Bool-discrete}
 use native.Mathlib.Decide.{ℕ_discrete}
 use Rattle.cqa_model.specs.declared.query.ColRef.{ColRef}
 use Rattle.cqa_model.specs.declared.query.Query.{Query}
@@ -11,7 +12,7 @@ use Rattle.cqa_model.specs.Closures.{HasVariable, IsDerived, IsDerivation, Count
 use Rattle.cqa_model.specs.Graph.{AreTogether, IsReached, Attacks}
 use Rattle.cqa_model.specs.Plan.{IsUnattacked}
 use Rattle.cqa_model.proofs.Classic.{stable, mem-head, mem-tail, mem-nil, mem-cases, mem-eq, dec_both, dec_three, dec_or, dec_if, dec_each, dec_some}
-use Rattle.cqa_model.proofs.Values.{dec_by, dec_not, bool_discrete}
+use Rattle.cqa_model.proofs.Values.{dec_by, dec_not}
 use Rattle.cqa_model.proofs.Decisions.{dec_linked}
 use Rattle.cqa_model.proofs.Views.{linked-self, linked-sym, has_variable-linked}
 use Rattle.cqa_model.proofs.Reification.{remove}
@@ -135,7 +136,7 @@ module _ (q : Query) (view : View) (closed : IsClosed q view) (within : (K : ℕ
     uses = CountsFor q view G
 
     dec_strict : Dec (IsStrict q G)
-    dec_strict = bool_discrete (atom_at q G).strict true
+    dec_strict = Bool-discrete (atom_at q G).strict true
 
     abbrev derived : List ColRef → ColRef → Type 0
     derived = IsDerived q view uses (IsKeyVar q view G)

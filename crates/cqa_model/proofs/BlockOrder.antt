@@ -1,13 +1,13 @@
 -- Block order: it is a total order of rows, and rows of one key stand side by side.
-use Rattle.std.proofs.Common.{◌≡◌, ℕ, zero, suc, ◌<◌, ◌≤◌, List, [], ◌∷◌, length, get_or, refl, ap, sym, ◌∙◌, subst, arith}
+use Rattle.std.proofs.Common.{◌≡◌, ℕ, ◌<◌, ◌≤◌, List, [], ◌∷◌, length, get_or, refl, ap, sym, ◌∙◌, subst, arith}
 use native.Mathlib.Decide.{ℕ_discrete}
-use Rattle.std.specs.List.{AllByRecursion}
 use Rattle.std.specs.List.Sorted.{IsStrictlySortedBy}
 use Rattle.std.specs.Cmp.{IsTotalOrder}
 use Rattle.std.specs.Ordering.{ordering_reverse, ordering_then, is_eq}
 use Rattle.std.specs.declared.cmp.Ordering.{Ordering}
 use Rattle.std.specs.declared.cmp.Ordering.TheVariants.{Less, Equal, Greater}
 use Rattle.std.proofs.lemmas.Cmp.{on_total, then_total}
+use Rattle.std.proofs.lemmas.Map.Keys.{Less-from_sorted}
 use Rattle.cqa_value.specs.declared.value.Value.{Value}
 use Rattle.cqa_value.specs.Values.{row_cmp, row_cmp_total, row_ties, row_decides}
 use Rattle.cqa_model.specs.Database.{key_of, block_cmp}
@@ -41,19 +41,6 @@ then_equal Greater p e = (cc)
 pub block_exact : (key : List ℕ) (x y : List Value) → block_cmp key x y ≡ Equal → x ≡ y
 block_exact key x y e = row_exact x y (then_equal (row_cmp (key_of key x) (key_of key y)) (row_cmp x y) e)
 
-all-at : {A : Type 0} (P : A → Type 0) (xs : List A) (i : ℕ) (d : A) → AllByRecursion P xs → i < length xs → P (get_or xs i d)
-all-at P [] i d h l = absurd (omega arith)
-all-at P (x ∷ xs) zero d h l = h.0
-all-at P (x ∷ xs) (suc i) d h l = all-at P xs i d h.1 (omega arith)
-
-pub sorted-less : {A : Type 0} (cmp : A → A → Ordering) (xs : List A) (i j : ℕ) (d : A) → IsStrictlySortedBy cmp xs → i < j → j < length xs → cmp (get_or xs i d) (get_or xs j d) ≡ Less
-unfolding IsStrictlySortedBy
-sorted-less cmp [] i j d s lt l = absurd (omega arith)
-sorted-less cmp (x ∷ xs) zero zero d s lt l = absurd (omega arith)
-sorted-less cmp (x ∷ xs) zero (suc j) d s lt l = all-at (λ y. cmp x y ≡ Less) xs j d s.0 (omega arith)
-sorted-less cmp (x ∷ xs) (suc i) zero d s lt l = absurd (omega arith)
-sorted-less cmp (x ∷ xs) (suc i) (suc j) d s lt l = sorted-less cmp xs i j d s.1 (omega arith) (omega arith)
-
 -- between two rows of one key stand only rows of this key
 key-between : (key : List ℕ) (x y z : List Value) → block_cmp key x y ≡ Less → block_cmp key y z ≡ Less → SharesKey key x z → SharesKey key x y
 key-between key x y z xy yz s = go (row_cmp (key_of key x) (key_of key y)) refl
@@ -75,4 +62,4 @@ grouped key rows sorted i j k ij jk l s = go (ℕ_discrete i j) (ℕ_discrete j 
     go (yes e) d = shares-eq key (get_or rows i []) (get_or rows j []) (ap (λ n. get_or rows n []) e)
     go (no f) (yes e) = subst (λ n. SharesKey key (get_or rows i []) (get_or rows n [])) (sym e) s
     go (no f) (no g) = key-between key (get_or rows i []) (get_or rows j []) (get_or rows k [])
-        (sorted-less (block_cmp key) rows i j [] sorted (omega arith) (omega arith)) (sorted-less (block_cmp key) rows j k [] sorted (omega arith) l) s
+        (Less-from_sorted (block_cmp key) rows i j [] sorted (omega arith) (omega arith)) (Less-from_sorted (block_cmp key) rows j k [] sorted (omega arith) l) s

@@ -30,7 +30,7 @@ column name = record { name = name ∷ []; kind = IntKind }
 same_letter : (a b : ℕ) → (a ∷ []) ≡ (b ∷ []) → a ≡ b
 same_letter a b e = (cc)
 
-same_number : (a b : ℕ) → Int (pos a) ≡ Int (pos b) → a ≡ b
+pub same_number : (a b : ℕ) → Int (pos a) ≡ Int (pos b) → a ≡ b
 same_number a b e = (cc)
 
 abbrev r_schema : Schema

@@ -4,6 +4,7 @@ use Rattle.std.proofs.Math.Seq.{drop-cons}
 use Rattle.std.proofs.Math.ListN.{replicate}
 use Rattle.std.proofs.lemmas.List.{get_or-replicate, get_or_past, get_or_default, length-replicate}
 use Rattle.std.proofs.lemmas.Bool.{false≢true}
+use Rattle.std.proofs.lemmas.List.Elements.{Contains-get_or}
 use native.Mathlib.Decide.{dec_le}
 use Rattle.cqa_model.specs.declared.query.Op.TheVariants.{Eq}
 use Rattle.cqa_model.specs.declared.query.Cond.{Cond}
@@ -35,17 +36,14 @@ joined-classes ks i j k l r old new ej li lj ek jn hs h step c ca cc' =
     let e : drop j ks ≡ Join l r ∷ drop i ks = subst (λ z. drop j ks ≡ z ∷ drop i ks) (sym ek ∙ jn) (drop-cons ks j k lt ∙ ap (λ z. get_or ks j k ∷ drop z ks) sj) in
     step (number c) (omega (arith, ca, cc')) ∙ rw (h l hs.0.0 hs.0.1, h r hs.1.0 hs.1.1, h c ca cc', e) refl
 
-at_in : {A : Type 0} (xs : List A) (d : A) (j : ℕ) → j < length xs → Contains xs (get_or xs j d)
-at_in xs d j l = (j, l, get_or_default xs j (get_or xs j d) d l)
-
 pub answers-small : (q : Query) (answer : List ColRef) → answer ≡ q.answer → AreSmallColumns answer
-answers-small q answer e j l = range-small q (get_or answer j origin) (q.kept.answer_in_range (get_or answer j origin) (subst (λ z. Contains z (get_or answer j origin)) e (at_in answer origin j l)))
+answers-small q answer e j l = range-small q (get_or answer j origin) (q.kept.answer_in_range (get_or answer j origin) (subst (λ z. Contains z (get_or answer j origin)) e (Contains-get_or answer j origin l)))
 
 abbrev no_cond : Cond
 no_cond = Join origin origin
 
 pub tests-small : (q : Query) (conds : List Cond) → conds ≡ q.conds → AreSmallTests conds
-tests-small q conds e j l = go (get_or conds j no_cond) (subst (λ z. Contains z (get_or conds j no_cond)) e (at_in conds no_cond j l))
+tests-small q conds e j l = go (get_or conds j no_cond) (subst (λ z. Contains z (get_or conds j no_cond)) e (Contains-get_or conds j no_cond l))
   where
     go : (k : Cond) → Contains q.conds k → IsSmallTest k
     go (Join c d) m = tt
@@ -82,7 +80,7 @@ module _ (q : Query) (v : Variables) (answer : List ColRef) (conds : List Cond) 
 
   from_answer : (c : ColRef) → IsInRange q.atoms c → IsAnswerClass v.class answer (length answer) (label q.conds c) → IsConstant q c
   from_answer c r w =
-      let n : Contains q.answer (get_or answer w.0 origin) = subst (λ z. Contains z (get_or answer w.0 origin)) ea (at_in answer origin w.0 w.1) in
+      let n : Contains q.answer (get_or answer w.0 origin) = subst (λ z. Contains z (get_or answer w.0 origin)) ea (Contains-get_or answer w.0 origin w.1) in
       (get_or answer w.0 origin, linked c (get_or answer w.0 origin) r (q.kept.answer_in_range (get_or answer w.0 origin) n) w.2, inl n)
 
   test : (c : ColRef) → IsInRange q.atoms c → (k : Cond) → Contains q.conds k → IsEqualityClass v.class k (label q.conds c) → IsConstant q c
@@ -90,7 +88,7 @@ module _ (q : Query) (v : Variables) (answer : List ColRef) (conds : List Cond) 
   test c r (Test d op x) m h = (d, linked c d r (q.kept.conds_in_range (Test d op x) m d (mem-head d [])) h.1, inr (x, subst (λ z. Contains q.conds (Test d z x)) h.0 m))
 
   from_test : (c : ColRef) → IsInRange q.atoms c → IsTestClass v.class conds (length conds) (label q.conds c) → IsConstant q c
-  from_test c r w = test c r (get_or conds w.0 no_cond) (subst (λ z. Contains z (get_or conds w.0 no_cond)) et (at_in conds no_cond w.0 w.1)) w.2
+  from_test c r w = test c r (get_or conds w.0 no_cond) (subst (λ z. Contains z (get_or conds w.0 no_cond)) et (Contains-get_or conds w.0 no_cond w.1)) w.2
 
   marked : (c : ColRef) → IsConstant q c → IsMarked v.constant (label q.conds c)
   marked c (d, l, inl m) =

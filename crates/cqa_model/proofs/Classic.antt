@@ -1,7 +1,8 @@
 -- Reasoning towards ⊥, where any case may be split, and finite choice.
-use Rattle.std.proofs.Common.{◌≡◌, ℕ, zero, suc, ◌<◌, ◌⊎◌, inl, inr, List, [], ◌∷◌, length, get_or, refl, ap, sym, subst, arith, Contains, map, le_of_suc-le-suc, suc-le-suc}
+use Rattle.std.proofs.Common.{◌≡◌, ℕ, zero, suc, ◌<◌, ◌⊎◌, inl, inr, List, [], ◌∷◌, length, get_or, refl, ap, sym, subst, arith, Contains, le_of_suc-le-suc}
 use native.Mathlib.Decide.{ℕ_discrete}
 use Rattle.cqa_value.specs.declared.value.Value.{Value}
+pub use Rattle.cqa_value.proofs.Words.{mem-head, mem-tail, mem-nil, mem-cases, map_agree, dec_both}
 use Rattle.cqa_model.proofs.Values.{dec_by, value_discrete, row_discrete}
 
 abbrev pub Classically : Type 0 → Type 0
@@ -37,36 +38,10 @@ choose {A} d (suc n) R h = make (h 0 (omega arith)) (choose d n (λ i x. R (suc 
     make : ((x : A) × R 0 x) → ((xs : List A) × (length xs ≡ n) × ((i : ℕ) → i < n → R (suc i) (get_or xs i d))) → (xs : List A) × (length xs ≡ suc n) × ((i : ℕ) → i < suc n → R i (get_or xs i d))
     make p q = (p.0 ∷ q.0, ap suc q.1, both p.0 p.1 q.0 q.2)
 
--- membership by cases on the list
-pub mem-head : {A : Type 0} (x : A) (xs : List A) → Contains (x ∷ xs) x
-mem-head x xs = (0, omega arith, refl)
-
-pub mem-tail : {A : Type 0} (x y : A) (xs : List A) → Contains xs x → Contains (y ∷ xs) x
-mem-tail x y xs m = (suc m.0, suc-le-suc m.1, m.2)
-
-pub mem-nil : {A : Type 0} (x : A) → Contains [] x → ⊥
-mem-nil x m = let l : m.0 < 0 = m.1 in omega arith
-
-pub mem-cases : {A : Type 0} (x y : A) (xs : List A) → Contains (y ∷ xs) x → (y ≡ x) ⊎ Contains xs x
-mem-cases x y xs (zero, l, e) = inl e
-mem-cases x y xs (suc k, l, e) = inr (k, le_of_suc-le-suc l, e)
-
 pub mem-eq : {A : Type 0} (x y : A) (xs : List A) → x ≡ y → Contains xs x → Contains xs y
 mem-eq x y xs e m = subst (λ z. Contains xs z) e m
 
-pub map_agree : {A B : Type 0} (f g : A → B) (xs : List A) → map f xs ≡ map g xs → (x : A) → Contains xs x → f x ≡ g x
-map_agree f g [] e x m = absurd (mem-nil x m)
-map_agree f g (y ∷ ys) e x m = elim (mem-cases x y ys m) [
-  | inl h ↦ let e0 : f y ≡ g y = cc in cc
-  | inr h ↦ let e1 : map f ys ≡ map g ys = cc in map_agree f g ys e1 x h
-]
-
 -- decisions
-pub dec_both : {A B : Type 0} → Dec A → Dec B → Dec (A × B)
-dec_both (yes a) (yes b) = yes (a, b)
-dec_both (yes a) (no f) = no (λ p. f p.1)
-dec_both (no f) d = no (λ p. f p.0)
-
 pub dec_three : {A B C : Type 0} → Dec A → Dec B → Dec C → Dec (A × B × C)
 dec_three d e f = dec_by (λ p. (p.0, p.1.0, p.1.1)) (λ p. (p.0, (p.1, p.2))) (dec_both d (dec_both e f))
 

@@ -6,11 +6,15 @@ use Rattle.cqa_model.specs.declared.query.Query.{Query}
 use Rattle.cqa_model.specs.declared.variable_class.Variables.{Variables}
 use Rattle.cqa_model.specs.Shape.{IsInRange}
 use Rattle.cqa_model.specs.Variables.{number, IsJoined, IsChain, AreLinked, IsLeast, IsName}
-use Rattle.cqa_model.specs.Labels.{label}
+use Rattle.cqa_model.specs.Labels.{label, column}
 use Rattle.cqa_model.specs.Naming.{AreVariables, class_at}
 use Rattle.cqa_model.proofs.Classic.{mem-head, mem-tail}
 use Rattle.cqa_model.proofs.Views.{linked-self, linked-trans}
 use Rattle.cqa_model.proofs.Labels.{AreNarrow, label-linked, linked-label, label-least}
+use Rattle.cqa_model.proofs.Decisions.{column_eq}
+
+pub column-number : (d : ColRef) → d.col < 16 → column (number d) ≡ d
+column-number d l = column_eq (column (number d)) d (omega (arith, l)) (omega (arith, l))
 
 module _ (q : Query) where
   pub range-small : (c : ColRef) → IsInRange q.atoms c → (c.atom < 12) × (c.col < 16)

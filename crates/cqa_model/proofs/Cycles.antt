@@ -9,12 +9,12 @@ use Rattle.cqa_model.specs.Variables.{View, whole, after}
 use Rattle.cqa_model.specs.Graph.{Attacks, IsWalk, HasCycle}
 use Rattle.cqa_model.specs.Plan.{IsUnattacked, IsElimination, IsPlan}
 use Rattle.cqa_model.specs.Laws.{PlanOrCycle}
-use Rattle.cqa_model.proofs.Classic.{dec_both}
 use Rattle.cqa_model.proofs.Values.{dec_not}
 use Rattle.cqa_model.proofs.Reification.{remove}
 use Rattle.cqa_model.proofs.Attacks.{IsClosed, after-closed, rest, kept}
 use Rattle.cqa_model.proofs.Interface.{dec_fixed_after}
 use Rattle.cqa_model.proofs.AttackDecisions.{attacked}
+use Rattle.cqa_model.proofs.Classic.{dec_both}
 pub use Rattle.cqa_model.proofs.AttackDecisions.{below, below-all}
 
 module _ (q : Query) (view : View) where

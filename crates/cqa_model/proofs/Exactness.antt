@@ -1,7 +1,8 @@
 -- Where a plan holds, each repair has a witness; and a row in a witness fits.
-use Rattle.std.proofs.Common.{◌≡◌, ℕ, zero, suc, ◌<◌, inl, inr, List, [], ◌∷◌, length, get_or, map, refl, ap, sym, ◌∙◌, subst, arith, Contains, le_of_suc-le-suc}
+use Rattle.std.proofs.Common.{◌≡◌, ℕ, suc, ◌<◌, inl, inr, List, [], ◌∷◌, length, get_or, map, refl, ap, sym, ◌∙◌, subst, arith, Contains}
 use native.Mathlib.Decide.{ℕ_discrete}
 use Rattle.std.proofs.lemmas.List.Elements.{Contains-get_or}
+use Rattle.std.proofs.lemmas.List.{get_or-map}
 use Rattle.cqa_model.specs.declared.query.Cond.{Cond}
 use Rattle.cqa_model.specs.declared.query.Cond.TheVariants.{Join, Test}
 use Rattle.cqa_model.specs.declared.query.ColRef.{ColRef}
@@ -19,7 +20,7 @@ use Rattle.cqa_model.proofs.Classic.{choose, mem-head, mem-tail, mem-nil, mem-ca
 use Rattle.cqa_model.proofs.Views.{linked-sym, linked-join, value-linked, view-in_range, view-not_taken, taken-in_range}
 use Rattle.cqa_model.proofs.Reification.{placed, kept-stored, row_of_block}
 
-map_is : {A : Type 0} (f : A → Value) (d : A) (xs : List A) (ys : List Value) → length ys ≡ length xs →
+pub map_is : {A : Type 0} (f : A → Value) (d : A) (xs : List A) (ys : List Value) → length ys ≡ length xs →
     ((i : ℕ) → i < length xs → f (get_or xs i d) ≡ get_or ys i nothing) → map f xs ≡ ys
 map_is f d [] [] l h = refl
 map_is f d [] (y ∷ ys) l h = absurd (omega arith)
@@ -28,11 +29,6 @@ map_is f d (x ∷ xs) (y ∷ ys) l h =
     let e : f x ≡ y = h 0 (omega arith) in
     let es : map f xs ≡ ys = map_is f d xs ys (omega arith) (λ i k. h (suc i) (omega arith)) in
     cc
-
-map_at : {A : Type 0} (f : A → Value) (d : A) (xs : List A) (i : ℕ) → i < length xs → get_or (map f xs) i nothing ≡ f (get_or xs i d)
-map_at f d [] i l = absurd (omega arith)
-map_at f d (x ∷ xs) zero l = refl
-map_at f d (x ∷ xs) (suc i) l = map_at f d xs i (le_of_suc-le-suc l)
 
 module _ (q : Query) (row : List Value) where
   -- the rows taken are of different atoms, and fit each other
@@ -186,4 +182,4 @@ module _ (q : Query) (keys : List (List ℕ)) (tables : List (List (List Value))
       answers : (i : ℕ) → i < length q.answer → (get_or q.answer i (record { atom = 0; col = 0 })).atom ≡ F → get_or y (get_or q.answer i (record { atom = 0; col = 0 })).col nothing ≡ get_or row i nothing
       answers i l e =
           ap (λ z. get_or z (get_or q.answer i (record { atom = 0; col = 0 })).col nothing) (sym at_F ∙ ap (λ z. row_at w z) (sym e))
-          ∙ sym (map_at (value w) (record { atom = 0; col = 0 }) q.answer i l) ∙ ap (λ z. get_or z i nothing) h.answers
+          ∙ sym (get_or-map (value w) q.answer i (record { atom = 0; col = 0 }) nothing l) ∙ ap (λ z. get_or z i nothing) h.answers

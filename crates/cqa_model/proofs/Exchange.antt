@@ -6,6 +6,7 @@ use Rattle.cqa_model.specs.declared.query.Cond.TheVariants.{Join, Test}
 use Rattle.cqa_model.specs.declared.query.ColRef.{ColRef}
 use Rattle.cqa_model.specs.declared.query.Query.{Query}
 use Rattle.cqa_value.specs.declared.value.Value.{Value}
+use Rattle.cqa_value.proofs.Words.{map_alike}
 use Rattle.cqa_model.specs.Shape.{IsInRange, columns_of}
 use Rattle.cqa_model.specs.Query.{OpHolds, atom_key, rows_of, row_at, value, CondHolds}
 use Rattle.cqa_model.specs.Repairs.{SharesKey, IsRepairBy}
@@ -20,13 +21,6 @@ use Rattle.cqa_model.proofs.Classic.{Classically, choice, same_value, mem-head, 
 use Rattle.cqa_model.proofs.Repairs.{shares-sym, shares-eq}
 use Rattle.cqa_model.proofs.Views.{linked-self, linked-join, view-in_range, taken-in_range, free-left, agree-not_free}
 use Rattle.cqa_model.proofs.Agreement.{agreement}
-
-pub map_alike : {A B : Type 0} (f g : A → B) (xs : List A) → ((x : A) → Contains xs x → f x ≡ g x) → map f xs ≡ map g xs
-map_alike f g [] h = refl
-map_alike f g (x ∷ xs) h =
-    let e : f x ≡ g x = h x (mem-head x xs) in
-    let es : map f xs ≡ map g xs = map_alike f g xs (λ y m. h y (mem-tail y x xs m)) in
-    cc
 
 module _ (q : Query) (keys : List (List ℕ)) (tables : List (List (List Value))) (fits : FitsTables q keys tables)
     (row : List Value) (taken : List Placed) (all : AllFit q row taken) (r s : List (List (List Value))) (hr : IsRepairBy keys tables r)

@@ -1,29 +1,18 @@
 -- A row is certain exactly where no assignment satisfies its formula.
 use Rattle.std.proofs.Common.{◌≡◌, ℕ, ◌<◌, ◌⊎◌, ◌↔◌, inl, inr, List, [], length, get_or, refl, sym, ◌∙◌, subst, Contains, Bool, true, false, true≢false}
+use Rattle.std.proofs.Math.Bool.{Bool-discrete}
 use native.Mathlib.Decide.{ℕ_discrete}
 use Rattle.cqa_model.specs.declared.query.Query.{Query}
 use Rattle.cqa_value.specs.declared.value.Value.{Value}
+use Rattle.cqa_value.proofs.Words.{yes_of, no_of, is_yes}
 use Rattle.cqa_model.specs.Query.{atom_at, atom_key, rows_of, row_at, IsWitness}
 use Rattle.cqa_model.specs.Repairs.{SharesKey, HasOne, IsRepairBy}
 use Rattle.cqa_model.proofs.Fitting.{IsCertainBy, FitsTables}
 use Rattle.cqa_model.specs.Formula.{Satisfies}
 use Rattle.cqa_model.proofs.Classic.{find_below, stable, dec_if, dec_below, dec_mem}
-use Rattle.cqa_model.proofs.Values.{bool_discrete}
 use Rattle.cqa_model.proofs.Repairs.{sublist-stored, shares-self}
 use Rattle.cqa_model.proofs.Preferring.{preferring}
 use Rattle.cqa_model.proofs.Witnesses.{dec_witness, at_table, witness-stored}
-
-abbrev is_yes : {A : Type 0} → Dec A → Bool
-is_yes (yes a) = true
-is_yes (no f) = false
-
-yes_of : {A : Type 0} (d : Dec A) → A → is_yes d ≡ true
-yes_of (yes b) a = refl
-yes_of (no f) a = absurd (f a)
-
-no_of : {A : Type 0} (d : Dec A) → (A → ⊥) → is_yes d ≡ false
-no_of (yes b) f = absurd (f b)
-no_of (no g) f = refl
 
 module _ (q : Query) (keys : List (List ℕ)) (tables : List (List (List Value))) (row : List Value) (fits : FitsTables q keys tables) where
   -- a certain row's formula has no satisfying assignment
@@ -34,7 +23,7 @@ module _ (q : Query) (keys : List (List ℕ)) (tables : List (List (List Value))
       IsTrue t x = (F : ℕ) → F < length q.atoms → (atom_at q F).table ≡ t → a F x ≡ true
 
       dec_true : (t : ℕ) (x : List Value) → Dec (IsTrue t x)
-      dec_true t x = dec_below (λ F. (atom_at q F).table ≡ t → a F x ≡ true) (λ F. dec_if (ℕ_discrete (atom_at q F).table t) (bool_discrete (a F x) true)) (length q.atoms)
+      dec_true t x = dec_below (λ F. (atom_at q F).table ≡ t → a F x ≡ true) (λ F. dec_if (ℕ_discrete (atom_at q F).table t) (Bool-discrete (a F x) true)) (length q.atoms)
 
       go : (r : List (List (List Value))) × IsRepairBy keys tables r × ((t : ℕ) → t < length tables → (x z : List Value) → Contains (get_or tables t []) x → IsTrue t x →
           Contains (get_or r t []) z → SharesKey (get_or keys t []) z x → IsTrue t z) → ⊥

@@ -22,7 +22,7 @@ pub mod Preferring
 pub mod Witnesses
 pub mod Formula
 mod Example
-mod BrokenKey
+pub mod BrokenKey
 pub mod Mending
 pub mod Labels
 pub mod Columns

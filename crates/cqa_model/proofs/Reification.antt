@@ -4,6 +4,7 @@ use native.Mathlib.Decide.{ℕ_discrete}
 use Rattle.std.proofs.lemmas.List.Elements.{Contains-append_left, Contains-append_right}
 use Rattle.cqa_model.specs.declared.query.Query.{Query}
 use Rattle.cqa_value.specs.declared.value.Value.{Value}
+use Rattle.cqa_value.proofs.Words.{Contains-map}
 use Rattle.cqa_model.specs.Query.{atom_at, atom_key, rows_of, IsStrict, row_at}
 use Rattle.cqa_model.specs.Repairs.{SharesKey, HasOne, IsRepairBy}
 use Rattle.cqa_model.proofs.Fitting.{FitsTables}
@@ -38,13 +39,6 @@ remove {A} (a ∷ xs) x m = elim (mem-cases x a xs m) [
 
 abbrev pub placed : ℕ → List Value → Placed
 placed F x = record { atom = F; row = x }
-
-pub mem-map : {A B : Type 0} (f : A → B) (xs : List A) (x : A) → Contains xs x → Contains (map f xs) (f x)
-mem-map f [] x m = absurd (mem-nil x m)
-mem-map f (a ∷ xs) x m = elim (mem-cases x a xs m) [
-  | inl e ↦ mem-eq (f a) (f x) (f a ∷ map f xs) (ap f e) (mem-head (f a) (map f xs))
-  | inr n ↦ mem-tail (f x) (f a) (map f xs) (mem-map f xs x n)
-]
 
 module _ (q : Query) (keys : List (List ℕ)) (tables : List (List (List Value))) (fits : FitsTables q keys tables)
     (row : List Value) (taken : List Placed) (all : AllFit q row taken) where
@@ -202,5 +196,5 @@ module _ (q : Query) (keys : List (List ℕ)) (tables : List (List (List Value))
           go : Dec (K ≡ n) → (K < n → Contains (kept_rows n) (placed K y)) → Contains (map (placed n) (rows_of q s n) ++ kept_rows n) (placed K y)
           go (yes e) next = Contains-append_left (map (placed n) (rows_of q s n)) (kept_rows n) (placed K y)
               (subst (λ t. Contains (map (placed n) (rows_of q s n)) (placed t y)) (sym e)
-              (mem-map (placed n) (rows_of q s n) y (subst (λ t. Contains (rows_of q s t) y) e m)))
+              (Contains-map (placed n) (rows_of q s n) y (subst (λ t. Contains (rows_of q s t) y) e m)))
           go (no ne) next = Contains-append_right (map (placed n) (rows_of q s n)) (kept_rows n) (placed K y) (next (omega arith))

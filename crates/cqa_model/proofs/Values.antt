@@ -1,5 +1,5 @@
 -- Values, operators and rows are decided.
-use Rattle.std.proofs.Common.{◌≡◌, Bool, true, false, List, refl, ap, Ordering, Less, Equal, Greater}
+use Rattle.std.proofs.Common.{◌≡◌, List, refl, ap, Ordering, Less, Equal, Greater}
 use native.Mathlib.Decide.{ℕ_discrete}
 use mathlib.Core.List.{List-discrete}
 use lib.IntN.{ℤ_discrete}
@@ -17,12 +17,6 @@ dec_by f g (no h) = no (λ b. h (g b))
 pub dec_not : {A : Type 0} → Dec A → Dec (A → ⊥)
 dec_not (yes a) = no (λ f. f a)
 dec_not (no f) = yes f
-
-pub bool_discrete : (a b : Bool) → Dec (a ≡ b)
-bool_discrete false false = yes refl
-bool_discrete false true = no (λ e. cc e)
-bool_discrete true false = no (λ e. cc e)
-bool_discrete true true = yes refl
 
 pub value_discrete : (x y : Value) → Dec (x ≡ y)
 value_discrete (Int x) (Int y) = dec_by (λ e. ap Int e) (λ e. cc e) (ℤ_discrete x y)

@@ -13,8 +13,8 @@ mod variable_class;
 
 pub use class::Class;
 pub use limits::{
-    COLUMN_NUMBERS, LONGEST_NAME, MOST_ANSWER_COLUMNS, MOST_ATOMS, MOST_COLUMNS, MOST_ROWS,
-    MOST_TABLES,
+    COLUMN_NUMBERS, LONGEST_INPUT, LONGEST_NAME, MOST_ANSWER_COLUMNS, MOST_ATOMS, MOST_COLUMNS,
+    MOST_ROWS, MOST_TABLES,
 };
 pub use naming::variables;
 pub use query::{Atom, ColRef, Cond, Op, Plan, Query, RowId};

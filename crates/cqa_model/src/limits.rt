@@ -1,4 +1,7 @@
-//! The limits of schemas, queries and databases. A definition or a clause that needs one cites it by its name.
+//! The limits of inputs, schemas, queries and databases. A definition or a clause that needs one cites it by its name.
+
+/// The most bytes of an input, and so of each text in it.
+pub const LONGEST_INPUT: usize = 268_435_456;
 
 /// The most tables of a database.
 pub const MOST_TABLES: u32 = 64;

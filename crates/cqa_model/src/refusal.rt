@@ -9,8 +9,7 @@ pub enum Refusal {
     /// The byte at the offset begins no token, it is the quote that begins a text without an end, or it is the first
     /// byte after the longest UTF-8 prefix of a text's bytes that aren't UTF-8.
     BadByte { at: u32 },
-    /// The tokens are no statement; the offset is that of the first that can't stand there, or the text's length. It is
-    /// 0 at a statement that isn't answered yet.
+    /// The tokens are no statement; the offset is that of the first that can't stand there, or the text's length.
     Syntax { at: u32 },
     /// The text has this many bytes, more than a statement may have.
     StatementTooLong { len: u32 },

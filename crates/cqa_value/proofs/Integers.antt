@@ -30,7 +30,7 @@ fits_from : (z : ℤ) → is_in_range z ≡ true → FitsSigned w64 z
 fits_from (pos n) e = record { sfits = (Decides-ltb n (2 ^ 63)).0 e }
 fits_from (negsuc n) e = record { sfits = (Decides-ltb n (2 ^ 63)).0 e }
 
-fits_to : (z : ℤ) → FitsSigned w64 z → is_in_range z ≡ true
+pub fits_to : (z : ℤ) → FitsSigned w64 z → is_in_range z ≡ true
 fits_to (pos n) f = (Decides-ltb n (2 ^ 63)).1 f.sfits
 fits_to (negsuc n) f = (Decides-ltb n (2 ^ 63)).1 f.sfits
 

@@ -1,3 +1,4 @@
 pub mod Integers
-mod Prefixes
+pub mod Prefixes
+pub mod Words
 pub mod Written

@@ -1,5 +1,5 @@
 -- What stands in front stays, and literals that are joined one by one.
-use Rattle.std.proofs.Common.{◌≡◌, ℕ, ◌≤◌, List, ◌∷◌, ◌++◌, length, take, Result, Ok, Err, OnErr, sym, ap, ◌∙◌, arith, codes}
+use Rattle.std.proofs.Common.{◌≡◌, ℕ, ◌≤◌, List, ◌∷◌, ◌++◌, length, take, sym, ap, ◌∙◌, arith, codes}
 use Rattle.std.proofs.Math.Seq.{take-append_seam}
 use Rattle.std.proofs.lemmas.List.{append_assoc, length-append, take-take, take_all}
 use Rattle.std.specs.Io.{StartsWith}
@@ -15,10 +15,6 @@ begins_shorter start more front now e s =
 
 pub begins_over : (start one two three front now : List ℕ) → front ≡ start ++ one ++ two ++ three → StartsWith now front → StartsWith now start
 begins_over start one two three front now e = begins_shorter start (one ++ (two ++ three)) front now (simp append_assoc at e)
-
-pub on_err : {T E P : Type 0} (r : Result T E) → P → OnErr r P
-on_err (Ok x) p = tt
-on_err (Err e) p = p
 
 abbrev pub separated : Value → List ℕ
 separated value = codes ", " ++ literal_bytes value

@@ -1,7 +1,5 @@
 -- What is written of rows is read as the same rows.
-use mir.Syntax.{w64}
-use Rattle.std.proofs.Common.{◌≡◌, ◌≤◌, ◌^◌, ◌∷◌, [], ℤ, pos, negsuc, true, FitsSigned, List, All, map, length, refl, ap, subst, arith}
-use Rattle.std.proofs.lemmas.Bool.Decides.{Decides-ltb}
+use Rattle.std.proofs.Common.{◌≡◌, ◌≤◌, ◌∷◌, [], List, All, map, length, refl, ap, subst, arith}
 use Rattle.std.proofs.lemmas.List.Elements.{All-head, All-tail}
 use Rattle.std.proofs.lemmas.List.Folds.{flat_map-map}
 use Rattle.std.specs.List.{AllZip, flat_map}
@@ -11,19 +9,14 @@ use Rattle.cqa_value.specs.declared.value.Kind.{Kind}
 use Rattle.cqa_value.specs.declared.value.Value.{Value}
 use Rattle.cqa_value.specs.declared.value.Value.TheVariants.{Int, Text}
 use Rattle.cqa_value.specs.Values.{kind_of}
-use Rattle.cqa_value.specs.Literals.{is_in_range}
 use Rattle.cqa_value.specs.Valid.{IsValidRow, IsValidValue}
 use Rattle.csv_rows.specs.Blocks.{HoldsRows, IsFieldOf, IsRecordOf}
 use Rattle.csv_rows.specs.Texts.{record_bytes, rows_bytes, value_bytes}
-use Rattle.cqa_value.proofs.Integers.{written}
+use Rattle.cqa_value.proofs.Integers.{written, fits_to}
 use Rattle.csv_rows.proofs.Quoting.{HaveFields, written_read}
 
-in_range : (n : ℤ) → FitsSigned w64 n → is_in_range n ≡ true
-in_range (pos n) f = (Decides-ltb n (2 ^ 63)).1 f.sfits
-in_range (negsuc n) f = (Decides-ltb n (2 ^ 63)).1 f.sfits
-
 field_again : (value : Value) → IsValidValue value → IsFieldOf (kind_of value) (value_bytes value) value
-field_again (Int n) s = (refl, written n (in_range n s))
+field_again (Int n) s = (refl, written n (fits_to n s))
 field_again (Text b) s = (refl, refl, s)
 
 record_again : (row : List Value) → IsValidRow row → IsRecordOf (map kind_of row) (map value_bytes row) row

@@ -1,6 +1,5 @@
 -- Bytes that are no name give a text column no value.
 use Rattle.std.proofs.Common.{◌≡◌, ◌≤◌, ◌<◌, ◌↔◌, ℕ, List, Result, Err, length, IsUtf8, arith}
-use Rattle.std.proofs.lemmas.Str.{utf8_valid_len-IsUtf8, utf8_valid_len-IsValidUpTo}
 use Rattle.std.specs.Str.{IsValidUpTo}
 use Rattle.cqa_value.specs.declared.memory.Fail.{Fail}
 use Rattle.cqa_value.specs.declared.memory.Fail.TheVariants.{Refused}
@@ -10,10 +9,8 @@ use Rattle.cqa_value.specs.declared.value.Kind.{Kind}
 use Rattle.cqa_value.specs.declared.value.Kind.TheVariants.{Text as TextKind}
 use Rattle.cqa_value.specs.declared.value.Value.{Value}
 use Rattle.cqa_value.specs.declared.value.Value.TheVariants.{Int, Text}
+use Rattle.cqa_value.proofs.Prefixes.{no_fault}
 use Rattle.csv_rows.specs.Blocks.{IsFieldOf}
-
-no_fault : (text : List ℕ) (n : ℕ) → IsUtf8 text → IsValidUpTo text n → ⊥
-no_fault text n u v = omega (arith, utf8_valid_len-IsUtf8 text u, utf8_valid_len-IsValidUpTo text n v, v.short)
 
 pub no_name : {T : Type 0} (r : Result T (Fail NameFault)) (field : List ℕ) (fault : NameFault) → r ≡ Err (Refused fault)
     → ((at : ℕ) → (r ≡ Err (Refused (NotUtf8 at))) ↔ IsValidUpTo field at) → (r ≡ Err (Refused TooLong)) ↔ (IsUtf8 field × (1024 < length field))

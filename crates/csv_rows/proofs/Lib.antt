@@ -4,4 +4,3 @@ pub mod OneWay
 pub mod PlainRows
 mod Quoting
 mod Records
-mod Rows

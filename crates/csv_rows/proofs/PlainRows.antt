@@ -1,5 +1,5 @@
 -- Plain fields and records are read as they stand.
-use Rattle.std.proofs.Common.{◌≡◌, ◌==◌, ◌||◌, ◌++◌, ◌∷◌, ◌∙◌, [], ℕ, Bool, true, false, not, List, Some, None, refl, sym, ap, append_assoc, append-nil, ◌+◌, ◌<◌, ◌≤◌, zero, suc, length, take, drop, get_or, arith}
+use Rattle.std.proofs.Common.{◌≡◌, ◌==◌, ◌||◌, ◌++◌, ◌∷◌, ◌∙◌, [], ℕ, Bool, true, false, not, List, Some, None, refl, sym, ap, append_assoc, append-nil, ◌+◌, ◌<◌, ◌≤◌, suc, length, take, drop, get_or, arith}
 use Rattle.std.proofs.lemmas.List.{take-append-drop, drop-drop, take_more, take_all, map-append}
 use Rattle.std.proofs.Math.Seq.{drop-cons}
 use Rattle.std.proofs.lemmas.Bool.{ne_eqb}
@@ -151,12 +151,6 @@ kinds_more columns i column d some e =
 
 pub kinds_all : (columns front : List Column) (last : Column) (i : ℕ) → columns ≡ front ++ last ∷ [] → length front ≤ i → kinds columns ≡ kinds (take i front) ++ last.kind ∷ []
 kinds_all columns front last i e all = ap kinds (e ∙ ap (λ z. z ++ last ∷ []) (sym (take_all i front all))) ∙ map-append (λ (z : Column). z.kind) (take i front) (last ∷ [])
-
-pub nothing_left : (at : ℕ) (bytes : List ℕ) → length bytes ≤ at → drop at bytes ≡ []
-nothing_left zero [] h = refl
-nothing_left (suc at) [] h = refl
-nothing_left zero (b ∷ bs) h = absurd (omega (arith, h))
-nothing_left (suc at) (b ∷ bs) h = nothing_left at bs (omega (arith, h))
 
 -- All records of a block have been read where nothing is left of it.
 pub all_read : (kinds : List Kind) (block rest : List ℕ) (records : List (List (List ℕ))) (rows : List (List Value)) → strip_bom block ≡ block → rest ≡ []

@@ -1,6 +1,6 @@
 -- The rows that can stand in a block, and the others.
 use Rattle.std.proofs.Common.{◌≡◌, ◌++◌, ◌∙◌, ◌∷◌, [], ℕ, Bool, true, false, inl, inr, not, List, codes, refl, ap, append_assoc}
-use Rattle.std.proofs.lemmas.Bool.{cases_Bool}
+use Rattle.std.proofs.lemmas.Bool.{cases_Bool, true≢false}
 use Rattle.std.specs.List.{filter, list_any}
 use Rattle.cqa_value.specs.declared.value.Value.{Value}
 use Rattle.csv_rows.specs.Ends.{plain_rows, row_has_end}
@@ -14,14 +14,11 @@ appended old a b c d e x1 x2 x3 x4 x5 e1 e2 e3 e4 e5 = two old (a ++ b ++ c ++ d
     two : (old piece now rest new : List ℕ) → now ≡ old ++ piece → new ≡ now ++ rest → new ≡ old ++ (piece ++ rest)
     two old piece now rest new before after = after ∙ ap (λ l. l ++ rest) before ∙ append_assoc old piece rest
 
-true_not_false : true ≡ false → ⊥
-true_not_false e = cc e
-
 -- where no item passes, none is kept
 none_kept : {X : Type 0} (test : X → Bool) (xs : List X) → list_any test xs ≡ false → filter test xs ≡ []
 none_kept test [] none = refl
 none_kept test (x ∷ xs) none = elim (cases_Bool (test x)) [
-  | inl is ↦ absurd (true_not_false (rw is at none))
+  | inl is ↦ absurd (true≢false (rw is at none))
   | inr is ↦ rw is (none_kept test xs (rw is at none))
 ]
 

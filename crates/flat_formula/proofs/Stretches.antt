@@ -1,20 +1,15 @@
 -- Clauses stay the same stretches of a pool that grows.
 use Rattle.std.proofs.lemmas.Option.{slice_get-map, slice_get-get_or}
 use Rattle.std.specs.Option.{option_map}
-use Rattle.std.proofs.Common.{◌≡◌, ℕ, ◌<◌, ◌≤◌, ◌+◌, ◌-◌, get_or, Some, slice_get, inl, inr, List, [], ◌∷◌, ◌++◌, length, map, take, drop, refl, sym, ◌∙◌, ap, subst, arith, Contains, length-append, length-drop}
+use Rattle.std.proofs.Common.{◌≡◌, ℕ, ◌<◌, ◌≤◌, ◌+◌, ◌-◌, get_or, Some, slice_get, inl, inr, List, [], ◌∷◌, ◌++◌, length, map, take, refl, sym, ◌∙◌, ap, subst, arith, Contains, length-append}
 use Rattle.std.specs.List.{slice_range}
 use Rattle.std.proofs.Math.Seq.{drop-append_seam}
-use Rattle.std.proofs.lemmas.List.{take-append-le, drop-append-le, take_all, map_push, length-map}
+use Rattle.std.proofs.lemmas.List.{take_all, map_push, length-map}
 use Rattle.std.proofs.lemmas.List.Elements.{Contains-push_cases}
+use Rattle.cqa_value.proofs.Words.{mem-tail, mem-head, slice_range-append_left}
 use Rattle.cnf_form.specs.declared.formula.Lit.{Lit}
-use Rattle.cnf_form.proofs.Lits.{contains_here, contains_later}
 use Rattle.flat_formula.specs.declared.flat.Stretch.{Stretch}
 use Rattle.flat_formula.specs.Flat.{clauses_of, AreWithin}
-
-range-kept : (pool lits : List Lit) (s e : ℕ) → s ≤ e → e ≤ length pool → slice_range (pool ++ lits) s e ≡ slice_range pool s e
-range-kept pool lits s e order within =
-    ap (take (e - s)) (drop-append-le s pool lits (omega (arith, order, within)))
-    ∙ take-append-le (e - s) (drop s pool) lits (let k = length-drop s pool in omega (arith, k, order, within))
 
 range-new : (pool lits : List Lit) → slice_range (pool ++ lits) (length pool) (length (pool ++ lits)) ≡ lits
 range-new pool lits =
@@ -24,9 +19,9 @@ range-new pool lits =
 clauses-kept : (pool lits : List Lit) (ss : List Stretch) → AreWithin pool ss → clauses_of (pool ++ lits) ss ≡ clauses_of pool ss
 clauses-kept pool lits [] w = refl
 clauses-kept pool lits (s ∷ ss) w =
-    let here = w s (contains_here s ss) in
-    let e : slice_range (pool ++ lits) s.start s.end ≡ slice_range pool s.start s.end = range-kept pool lits s.start s.end here.0 here.1 in
-    let es : clauses_of (pool ++ lits) ss ≡ clauses_of pool ss = clauses-kept pool lits ss (λ t m. w t (contains_later s ss t m)) in
+    let here = w s (mem-head s ss) in
+    let e : slice_range (pool ++ lits) s.start s.end ≡ slice_range pool s.start s.end = slice_range-append_left pool lits s.start s.end here.0 here.1 in
+    let es : clauses_of (pool ++ lits) ss ≡ clauses_of pool ss = clauses-kept pool lits ss (λ t m. w t (mem-tail t s ss m)) in
     cc
 
 pub clauses-added : (pool lits : List Lit) (ss : List Stretch) (s : Stretch) → AreWithin pool ss → s.start ≡ length pool → s.end ≡ length (pool ++ lits) →

@@ -3,15 +3,13 @@ use Rattle.std.proofs.Common.{◌≡◌, ℕ, ◌<◌, ◌+◌, inl, inr, Bool, 
 use Rattle.std.proofs.lemmas.List.{take_more}
 use Rattle.std.proofs.lemmas.List.Elements.{Contains-push_cases}
 use Rattle.std.proofs.lemmas.Option.{get_or_from_slice_get, slice_get_within}
+use Rattle.cqa_value.proofs.Words.{Contains-slice_get}
 use Rattle.cnf_form.specs.declared.formula.Lit.{Lit}
 use Rattle.cnf_form.specs.declared.formula.Truth.{Truth}
 use Rattle.flat_formula.specs.Looks.{AreBelow, AreAllBelow, HasTrue, HaveTrue}
 
-pub at_place : {A : Type 0} (xs : List A) (k : ℕ) (x : A) → slice_get xs k ≡ Some x → Contains xs x
-at_place xs k x e = (k, slice_get_within xs k x e, get_or_from_slice_get xs k x x e)
-
 pub are_below : (n m : ℕ) (f : List (List Lit)) (at : ℕ) (c : List Lit) → AreAllBelow n f → slice_get f at ≡ Some c → m ≡ n → AreBelow m c
-are_below n m f at c h e same l i = subst (λ k. l.var < k) (sym same) (h c (at_place f at c e) l i)
+are_below n m f at c h e same l i = subst (λ k. l.var < k) (sym same) (h c (Contains-slice_get f at c e) l i)
 
 next_clause : (f : List (List Lit)) (at : ℕ) (c : List Lit) → slice_get f at ≡ Some c → take (at + 1) f ≡ take at f ++ c ∷ []
 next_clause f at c e = take_more f at c (slice_get_within f at c e) ∙ ap (λ x. take at f ++ x ∷ []) (get_or_from_slice_get f at c c e)

@@ -3,29 +3,30 @@ use Rattle.std.proofs.Common.{◌≡◌, ℕ, zero, suc, ◌<◌, ◌≤◌, ◌
 use Rattle.std.specs.Prelude.{Contains}
 use Rattle.std.proofs.lemmas.List.{length-drop, length-set}
 use Rattle.std.proofs.lemmas.List.Elements.{Contains-append_left, Contains-push}
+use Rattle.std.proofs.lemmas.Option.{same_Some}
+use Rattle.cqa_value.proofs.Words.{mem-tail, mem-cases, mem-head}
 use Rattle.cnf_form.specs.declared.formula.Lit.{Lit}
-use Rattle.cnf_form.proofs.Lits.{cons_cases, contains_here, contains_later}
 use Rattle.implication_graph.specs.Trail.{At, ArePlaces}
 use Rattle.implication_graph.specs.Marks.{IsSeen, AllClear, AllMet}
 use Rattle.implication_graph.specs.Analysis.{AtMostSeen, Grow, NoneSeen}
-use Rattle.implication_graph.proofs.Works.{seen_cases, seen_more, some_same, At-same, At-get_or}
+use Rattle.implication_graph.proofs.Works.{seen_cases, seen_more, At-same, At-get_or}
 
 -- a list without one of its members
 without : (ws : List ℕ) (p : ℕ) → Contains ws p → (vs : List ℕ) × (length vs + 1 ≡ length ws) × ((q : ℕ) → Contains ws q → (q ≡ p → ⊥) → Contains vs q)
 without [] p i = absurd (omega (arith, i.1))
-without (w ∷ ws) p i = elim (cons_cases w ws p i) [
+without (w ∷ ws) p i = elim (mem-cases p w ws i) [
   | inl e ↦ (
     ws,
     omega arith,
-    λ q j n. elim (cons_cases w ws q j) [ inl f ↦ absurd (n (sym f ∙ e)) | inr r ↦ r ],
+    λ q j n. elim (mem-cases q w ws j) [ inl f ↦ absurd (n (sym f ∙ e)) | inr r ↦ r ],
   )
   | inr r ↦
       let rest = without ws p r in (
         w ∷ rest.0,
         omega (arith, rest.1),
-        λ q j n. elim (cons_cases w ws q j) [
-          | inl f ↦ subst (λ (x : ℕ). Contains (w ∷ rest.0) x) f (contains_here w rest.0)
-          | inr k ↦ contains_later w rest.0 q (rest.2 q k n)
+        λ q j n. elim (mem-cases q w ws j) [
+          | inl f ↦ subst (λ (x : ℕ). Contains (w ∷ rest.0) x) f (mem-head w rest.0)
+          | inr k ↦ mem-tail q w rest.0 (rest.2 q k n)
         ],
       )
 ]
@@ -39,8 +40,8 @@ at_most_more t places start end seen count v place are is range m = record {
   all = λ p l g h a s. elim (seen_cases seen v l.var range s) [
     | inl e ↦
         let q : get_or places v None ≡ Some p = subst (λ (n : ℕ). get_or places n None ≡ Some p) e (are.every p l a) in
-        subst (λ (n : ℕ). Contains (place ∷ m.places) n) (some_same place p (sym is ∙ q)) (contains_here place m.places)
-    | inr r ↦ contains_later place m.places p (m.all p l g h a r)
+        subst (λ (n : ℕ). Contains (place ∷ m.places) n) (same_Some place p (sym is ∙ q)) (mem-head place m.places)
+    | inr r ↦ mem-tail p place m.places (m.all p l g h a r)
   ];
 }
 
@@ -98,7 +99,7 @@ read_true seen v b range e f = At-same seen v (get_or seen v false) true (At-get
 
 drop_cases : (met : List ℕ) (i d w : ℕ) → i < length met → Contains (drop i met) w → (get_or met i d ≡ w) ⊎ Contains (drop (suc i) met) w
 drop_cases [] i d w h j = absurd (omega arith)
-drop_cases (m ∷ ms) zero d w h j = cons_cases m ms w j
+drop_cases (m ∷ ms) zero d w h j = mem-cases w m ms j
 drop_cases (m ∷ ms) (suc i) d w h j = drop_cases ms i d w (omega arith) j
 
 -- the marks of a list's variables are cleared, one after the other

@@ -2,19 +2,19 @@
 use Rattle.cnf_form.specs.Literals.{HasVar}
 use Rattle.implication_graph.specs.Trail.{At, IsConsistent, IsOpen, ArePlaces, AllInRange, IsApart}
 use Rattle.std.proofs.Common.{set, get_or-set_other, get_or-set_same, ◌≡◌, ℕ, zero, suc, ◌<◌, ◌≤◌, ◌+◌, Bool, true, false, List, [], ◌∷◌, ◌++◌, ◌⊎◌, map, inl, inr, refl, sym, ◌∙◌, ap, subst, arith, length, get_or, Option, Some, None}
-use Rattle.std.specs.Prelude.{Contains}
 use Rattle.std.proofs.lemmas.List.{length-map}
 use Rattle.std.proofs.lemmas.Grind.{common_steps}
 use Rattle.cnf_form.specs.declared.formula.Lit.{Lit}
 use Rattle.cnf_form.specs.Literals.{opposite, negated}
-use Rattle.cnf_form.proofs.Lits.{nat_cases}
-use Rattle.implication_graph.proofs.Works.{At-same, At-get_or, some_same, Contains-from_map}
-use Rattle.std.specs.List.{IsDistinct, AllByRecursion}
+use Rattle.cnf_form.proofs.Law.{none_of}
+use Rattle.implication_graph.proofs.Works.{At-same, At-get_or}
+use Rattle.std.specs.List.{IsDistinct}
 use Rattle.std.proofs.Math.Dec.{eqb}
-use Rattle.std.proofs.lemmas.Bool.{ne_eqb, eqb-true}
+use Rattle.std.proofs.lemmas.Bool.{eqb-true, cases_eq}
 use Rattle.std.proofs.lemmas.Map.Steps.{length-le_from_distinct_below}
 use Rattle.std.proofs.lemmas.Map.Views.{Contains-from_any}
-use Rattle.cnf_form.proofs.Lits.{contains_here, contains_later}
+use Rattle.std.proofs.lemmas.Option.{same_Some}
+use Rattle.cqa_value.proofs.Words.{Contains-from_map}
 
 pub At-push_cases : {X : Type 0} (xs : List X) (x : X) (k : ℕ) (y : X) → At (xs ++ x ∷ []) k y → At xs k y ⊎ ((k ≡ length xs) × (x ≡ y))
 At-push_cases [] x zero y a = inr (refl, a.1)
@@ -34,16 +34,16 @@ pub At-push_new : {X : Type 0} (xs : List X) (x : X) → At (xs ++ x ∷ []) (le
 At-push_new [] x = (omega arith, refl)
 At-push_new (y ∷ ys) x = let r = At-push_new ys x in (omega (arith, r.0), r.1)
 
-some_none : (n : ℕ) (o : Option ℕ) → o ≡ None → o ≡ Some n → ⊥
+pub some_none : (n : ℕ) (o : Option ℕ) → o ≡ None → o ≡ Some n → ⊥
 some_none n o a b = cc
 
 pub places_put : (t : List Lit) (places : List (Option ℕ)) (l : Lit) → ArePlaces t places → l.var < length places → IsOpen t l.var
     → ArePlaces (t ++ l ∷ []) (set places l.var (Some (length t)))
 places_put t places l are range free = record {
-  right = λ v p is. elim (nat_cases v l.var) [
+  right = λ v p is. elim (cases_eq v l.var) [
     | inl e ↦
         let q : Some (length t) ≡ Some p = sym (get_or-set_same places l.var (Some (length t)) None range) ∙ subst (λ (n : ℕ). get_or (set places l.var (Some (length t))) n None ≡ Some p) e is in
-        let len : length t ≡ p = some_same _ _ q in
+        let len : length t ≡ p = same_Some _ _ q in
         let new = At-push_new t l in
         (omega (arith, len, new.0), λ m a. ap (λ (x : Lit). x.var) (At-same (t ++ l ∷ []) p m l a (subst (λ (n : ℕ). At (t ++ l ∷ []) n l) len new)) ∙ sym e)
     | inr n ↦
@@ -52,7 +52,7 @@ places_put t places l are range free = record {
         (omega (arith, r.0, new.0), λ m a. elim (At-push_cases t l p m a) [ inl b ↦ r.1 m b | inr b ↦ absurd (omega (arith, b.0, r.0)) ])
   ];
   every = λ p m a. elim (At-push_cases t l p m a) [
-    | inl b ↦ elim (nat_cases m.var l.var) [
+    | inl b ↦ elim (cases_eq m.var l.var) [
       | inl e ↦ absurd (free (m, (p, b.0, b.1), e))
       | inr n ↦ get_or-set_other places l.var m.var (Some (length t)) None n ∙ are.every p m b
     ]
@@ -64,12 +64,12 @@ places_put t places l are range free = record {
 pub places_off : (t : List Lit) (places : List (Option ℕ)) (l : Lit) → ArePlaces (t ++ l ∷ []) places → l.var < length places
     → ArePlaces t (set places l.var None)
 places_off t places l are range = record {
-  right = λ v p is. elim (nat_cases v l.var) [
+  right = λ v p is. elim (cases_eq v l.var) [
     | inl e ↦ absurd (some_none p (get_or (set places l.var None) v None)
         (subst (λ (n : ℕ). get_or (set places l.var None) n None ≡ None) (sym e) (get_or-set_same places l.var None None range)) is)
     | inr n ↦
         let r = are.right v p (sym (get_or-set_other places l.var v None None n) ∙ is) in (
-          elim (nat_cases p (length t)) [
+          elim (cases_eq p (length t)) [
             | inl e ↦ absurd (n (sym (r.1 l (subst (λ (k : ℕ). At (t ++ l ∷ []) k l) (sym e) (At-push_new t l)))))
             | inr ne ↦ let len = length_one t l in omega (arith, r.0, len)
           ],
@@ -78,9 +78,9 @@ places_off t places l are range = record {
   ];
   every = λ p m a.
       let q : get_or places m.var None ≡ Some p = are.every p m (At-push_old t (l ∷ []) p m a) in
-      elim (nat_cases m.var l.var) [
+      elim (cases_eq m.var l.var) [
         | inl e ↦ let s : get_or places l.var None ≡ Some (length t) = are.every (length t) l (At-push_new t l) in
-            let k : p ≡ length t = some_same _ _ (sym q ∙ subst (λ (n : ℕ). get_or places n None ≡ Some (length t)) (sym e) s) in
+            let k : p ≡ length t = same_Some _ _ (sym q ∙ subst (λ (n : ℕ). get_or places n None ≡ Some (length t)) (sym e) s) in
             absurd (omega (arith, a.0, k))
         | inr n ↦ get_or-set_other places l.var m.var None None n ∙ q
       ];
@@ -94,7 +94,7 @@ pub consistent : (t : List Lit) (places : List (Option ℕ)) → ArePlaces t pla
 consistent t places are l i d =
     let p : get_or places l.var None ≡ Some i.0 = are.every i.0 l (i.1, i.2) in
     let q : get_or places l.var None ≡ Some d.0 = are.every d.0 (opposite l) (d.1, d.2) in
-    let e : i.0 ≡ d.0 = some_same _ _ (sym p ∙ q) in
+    let e : i.0 ≡ d.0 = same_Some _ _ (sym p ∙ q) in
     apart l (At-same t d.0 l (opposite l) (subst (λ (k : ℕ). At t k l) e (i.1, i.2)) (d.1, d.2))
   where
     clash : (b : Bool) → b ≡ negated b → ⊥
@@ -108,11 +108,7 @@ pub apart_by_places : (t : List Lit) (places : List (Option ℕ)) → ArePlaces 
 apart_by_places t places are p q l m a b e =
     let x : get_or places l.var None ≡ Some p = are.every p l a in
     let y : get_or places m.var None ≡ Some q = are.every q m b in
-    some_same p q (sym x ∙ subst (λ (n : ℕ). get_or places n None ≡ Some q) (sym e) y)
-
-none_of : (x : ℕ) (ys : List ℕ) → ((y : ℕ) → Contains ys y → x ≡ y → ⊥) → AllByRecursion (λ y. eqb x y ≡ false) ys
-none_of x [] f = tt
-none_of x (y ∷ ys) f = (ne_eqb x y (f y (contains_here y ys)), none_of x ys (λ z i. f z (contains_later y ys z i)))
+    same_Some p q (sym x ∙ subst (λ (n : ℕ). get_or places n None ≡ Some q) (sym e) y)
 
 distinct_vars : (t : List Lit) → IsApart t → IsDistinct eqb (map (λ (l : Lit). l.var) t)
 unfolding IsDistinct

@@ -3,11 +3,12 @@ use Rattle.implication_graph.specs.Trail.{At, ArePlaces, IsApart, EndIs}
 use Rattle.std.proofs.Common.{take, ◌≡◌, ℕ, ◌<◌, ◌≤◌, ◌+◌, Bool, ℤ, List, [], ◌∷◌, ◌++◌, ◌⊎◌, map, inl, inr, refl, sym, ◌∙◌, ap, subst, arith, Option}
 use Rattle.std.specs.Prelude.{Contains}
 use Rattle.std.proofs.lemmas.List.Elements.{Contains-push_cases, Contains-append_left, Contains-push}
+use Rattle.cqa_value.proofs.Words.{mem-cases, mem-head, Contains-map, Contains-from_map, cases_next}
 use Rattle.cnf_form.specs.declared.formula.Lit.{Lit}
 use Rattle.cnf_form.specs.Literals.{opposite, Denied}
-use Rattle.cnf_form.proofs.Lits.{opposite-opposite, cons_cases, contains_here}
+use Rattle.cnf_form.proofs.Lits.{opposite-opposite}
 use Rattle.implication_graph.specs.Analysis.{AreKept, IsLearntClause, NoneSeen, Works}
-use Rattle.implication_graph.proofs.Works.{At-in_take, At-same, At-contains, Contains-map, Contains-from_map, once_more, place_cases}
+use Rattle.implication_graph.proofs.Works.{At-in_take, At-same, At-contains, once_more}
 use Rattle.implication_graph.proofs.Places.{apart_by_places}
 
 -- all that is marked below the level is to be walked over; above it, the literal of the first unique implication point is
@@ -16,10 +17,10 @@ pub works_below : (db : List (List Lit)) (t : List Lit) (start : ℕ) (seen : Li
 works_below db t start seen place hints u after at none w = record {
   chain = λ have' within low high. w.chain have' within
       (λ m i. absurd (omega (arith, i.1)))
-      (λ p l h b s. elim (place_cases p place h) [
+      (λ p l h b s. elim (cases_next p place h) [
         | inl lt ↦ elim (below_or p start) [ inl below ↦ high p l below b s | inr g ↦ absurd (none p l g lt b s) ]
         | inr e ↦ subst (λ (x : Lit). Contains have' x) (opposite-opposite u ∙ At-same t place u l at (subst (λ (n : ℕ). At t n l) e b))
-            (low (opposite u) (contains_here (opposite u) []))
+            (low (opposite u) (mem-head (opposite u) []))
       ]);
 }
   where
@@ -32,7 +33,7 @@ pub works_keep : (db : List (List Lit)) (t : List Lit) (seen : List Bool) (lits 
 works_keep db t seen lits place hints x at w = record {
   chain = λ have' within low high. w.chain have' within
       (λ m i. low m (Contains-append_left lits (opposite x ∷ []) m i))
-      (λ p l h b s. elim (place_cases p place h) [
+      (λ p l h b s. elim (cases_next p place h) [
         | inl lt ↦ high p l lt b s
         | inr e ↦ subst (λ (y : Lit). Contains have' y) (opposite-opposite x ∙ At-same t place x l at (subst (λ (n : ℕ). At t n l) e b))
             (low (opposite x) (Contains-push lits (opposite x)))
@@ -91,7 +92,7 @@ shorter_clause db t places start seen lits place hints u end are after at kept e
             | inl j ↦ subst (λ (x : Lit). Contains t x) q.2 (kept_denied t start 0 lits kept q.0 j)
             | inr e ↦ subst (λ (x : Lit). Contains t x) (sym (opposite-opposite u) ∙ ap opposite e ∙ q.2) (At-contains t place u at)
           ])
-          (λ m i. elim (cons_cases (opposite u) lits m i) [
+          (λ m i. elim (mem-cases m (opposite u) lits i) [
             | inl e ↦ subst (λ (y : Lit). Denied (map opposite all) y) e (Contains-map opposite all (opposite u) (Contains-push lits (opposite u)))
             | inr j ↦ Contains-map opposite all m (Contains-append_left lits (opposite u ∷ []) m j)
           ])

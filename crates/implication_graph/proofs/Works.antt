@@ -1,21 +1,22 @@
 -- Why the hints of a learnt clause pass.
 use Rattle.cnf_form.specs.Literals.{HasVar}
 use Rattle.implication_graph.specs.Trail.{At, IsConsistent, held, EndIs, AfterIs}
-use Rattle.std.proofs.Common.{take, ◌≡◌, ℕ, zero, suc, ◌<◌, ◌≤◌, ◌+◌, Bool, true, false, ℤ, pos, List, [], ◌∷◌, ◌++◌, ◌⊎◌, map, inl, inr, refl, sym, ◌∙◌, ap, subst, arith, length, get_or, Some}
+use Rattle.std.proofs.Common.{take, ◌≡◌, ℕ, zero, suc, ◌<◌, ◌≤◌, ◌+◌, Bool, true, false, ℤ, pos, List, [], ◌∷◌, ◌++◌, ◌⊎◌, map, inl, inr, refl, sym, ◌∙◌, ap, subst, arith, length, get_or}
 use Rattle.std.specs.Prelude.{Contains}
 use Rattle.std.proofs.lemmas.List.Elements.{Contains-push_cases, Contains-append_left, Contains-push}
-use Rattle.std.proofs.lemmas.List.{length-map, reverse-append}
+use Rattle.std.proofs.lemmas.List.{length-map, reverse-append, take_all}
 use Rattle.std.proofs.Common.{reverse, max}
 use Rattle.cnf_form.specs.declared.formula.Clause.{Clause}
 use Rattle.cnf_form.specs.Literals.{literals}
 use Rattle.cnf_form.specs.declared.formula.Lit.{Lit}
 use Rattle.cnf_form.specs.Literals.{opposite, Denied, AllDenied, OthersDenied}
-use Rattle.cnf_form.proofs.Lits.{nat_cases, cons_cases, contains_here, contains_later}
 use Rattle.implication_graph.specs.declared.trail.Entry.{Entry}
 use Rattle.cnf_form.specs.Spent.{NoVarTwice}
 use Rattle.implication_graph.specs.Analysis.{Grow, AllSeen, Works}
 use Rattle.implication_graph.specs.Marks.{IsSeen}
 use Rattle.std.proofs.Common.{set, get_or-set_other, get_or-set_same}
+use Rattle.std.proofs.lemmas.Bool.{cases_eq}
+use Rattle.cqa_value.proofs.Words.{mem-tail, mem-cases, mem-head, cases_next}
 
 pub At-map : {X Y : Type 0} (f : X → Y) (xs : List X) (k : ℕ) (x : X) → At xs k x → At (map f xs) k (f x)
 At-map f [] k x a = absurd (omega (arith, a.0))
@@ -43,10 +44,6 @@ At-same (z ∷ zs) (suc k) x y a b = At-same zs k x y (omega (arith, a.0), a.1) 
 pub At-contains : {X : Type 0} (xs : List X) (k : ℕ) (x : X) → At xs k x → Contains xs x
 At-contains xs k x a = (k, a.0, a.1)
 
-pub take_all : {X : Type 0} (xs : List X) → take (length xs) xs ≡ xs
-take_all [] = refl
-take_all (x ∷ xs) = ap (λ (ys : List _). x ∷ ys) (take_all xs)
-
 -- what is denied before a place, and marked, is denied by such a list
 denied_by : (t : List Lit) (seen : List Bool) (place : ℕ) (have' : List Lit)
     → ((p : ℕ) (l : Lit) → p < place → At t p l → IsSeen seen l.var → Contains have' l)
@@ -54,9 +51,6 @@ denied_by : (t : List Lit) (seen : List Bool) (place : ℕ) (have' : List Lit)
 denied_by t seen place have' high m s d =
     let a : (d.0 < place) × At t d.0 (opposite m) = At-take place t d.0 (opposite m) (d.1, d.2) in
     high d.0 (opposite m) a.0 a.1 s
-
-pub place_cases : (p q : ℕ) → p < q + 1 → (p < q) ⊎ (p ≡ q)
-place_cases p q h = grind arith
 
 pub works_first : (db : List (List Lit)) (t : List Lit) (seen : List Bool) (lits : List Lit) (h : ℤ) (i : ℕ) (c : List Lit)
     → h ≡ pos (i + 1) → At db i c → AllDenied t c → AllSeen seen c → Works db t seen lits (length t) (h ∷ [])
@@ -67,14 +61,14 @@ works_first db t seen lits h i c e a d all = record {
     c,
     a,
     inl (λ m j. denied_by t seen (length t) have' high m (all m j)
-        (subst (λ (x : List Lit). Denied x m) (sym (take_all t)) (d m j))),
+        (subst (λ (x : List Lit). Denied x m) (sym (take_all (length t) t (omega arith))) (d m j))),
   );
 }
 
 pub works_skip : (db : List (List Lit)) (t : List Lit) (seen : List Bool) (lits : List Lit) (place : ℕ) (hints : List ℤ) (x : Lit)
     → At t place x → (IsSeen seen x.var → ⊥) → Works db t seen lits (place + 1) hints → Works db t seen lits place hints
 works_skip db t seen lits place hints x a unseen w = record {
-  chain = λ have' within low high. w.chain have' within low (λ p l h b s. elim (place_cases p place h) [
+  chain = λ have' within low high. w.chain have' within low (λ p l h b s. elim (cases_next p place h) [
     | inl lt ↦ high p l lt b s
     | inr e ↦ absurd (unseen (subst (λ (y : Lit). IsSeen seen y.var)
         (At-same t place l x (subst (λ (n : ℕ). At t n l) e b) a) s))
@@ -99,29 +93,15 @@ works_resolve db t seen seen' lits place hints x hint r c named k a b inside oth
         others = λ m j n. denied_by t seen' place have' high m (all m j) (others m j n);
       },
       w.chain (x ∷ have')
-          (λ l j. elim (cons_cases x have' l j) [ inl e ↦ subst (λ (y : Lit). Contains t y) e (At-contains t place x a) | inr q ↦ within l q ])
-          (λ m j. contains_later x have' (opposite m) (low m j))
-          (λ p l h q s. elim (place_cases p place h) [
-            | inl lt ↦ contains_later x have' l (high p l lt q (grow.more l.var s))
-            | inr e ↦ subst (λ (y : Lit). Contains (x ∷ have') y) (At-same t place x l a (subst (λ (n : ℕ). At t n l) e q)) (contains_here x have')
+          (λ l j. elim (mem-cases l x have' j) [ inl e ↦ subst (λ (y : Lit). Contains t y) e (At-contains t place x a) | inr q ↦ within l q ])
+          (λ m j. mem-tail (opposite m) x have' (low m j))
+          (λ p l h q s. elim (cases_next p place h) [
+            | inl lt ↦ mem-tail l x have' (high p l lt q (grow.more l.var s))
+            | inr e ↦ subst (λ (y : Lit). Contains (x ∷ have') y) (At-same t place x l a (subst (λ (n : ℕ). At t n l) e q)) (mem-head x have')
           ]),
     ),
   );
 }
-
-pub Contains-map : {X Y : Type 0} (f : X → Y) (xs : List X) (x : X) → Contains xs x → Contains (map f xs) (f x)
-Contains-map f [] x i = absurd (omega (arith, i.1))
-Contains-map {X} {Y} f (y ∷ ys) x i = elim (cons_cases y ys x i) [
-  | inl e ↦ subst (λ (z : X). Contains (f y ∷ map f ys) (f z)) e (contains_here (f y) (map f ys))
-  | inr r ↦ contains_later (f y) (map f ys) (f x) (Contains-map f ys x r)
-]
-
-pub Contains-from_map : {X Y : Type 0} (f : X → Y) (xs : List X) (y : Y) → Contains (map f xs) y → (x : X) × Contains xs x × (f x ≡ y)
-Contains-from_map f [] y i = absurd (omega (arith, i.1))
-Contains-from_map f (z ∷ zs) y i = elim (cons_cases (f z) (map f zs) y i) [
-  | inl e ↦ (z, contains_here z zs, e)
-  | inr r ↦ let q = Contains-from_map f zs y r in (q.0, contains_later z zs q.0 q.1, q.2)
-]
 
 pub contains_taken : (n : ℕ) (t : List Lit) (l : Lit) → Contains (take n t) l → Contains t l
 contains_taken n t l i = let a = At-take n t i.0 l (i.1, i.2) in At-contains t i.0 l a.1
@@ -131,9 +111,9 @@ once_more [] x o n = ((λ h. omega (arith, h.1.1)), tt)
 once_more (l ∷ c) x o n = (
   (λ h. elim (Contains-push_cases c x h.0 h.1) [
     | inl j ↦ o.0 (h.0, j, h.2)
-    | inr e ↦ n (l, contains_here l c, sym h.2 ∙ ap (λ (y : Lit). y.var) (sym e))
+    | inr e ↦ n (l, mem-head l c, sym h.2 ∙ ap (λ (y : Lit). y.var) (sym e))
   ]),
-  once_more c x o.1 (λ h. n (h.0, contains_later l c h.0 h.1, h.2)),
+  once_more c x o.1 (λ h. n (h.0, mem-tail h.0 l c h.1, h.2)),
 )
 
 pub At-get_or : {X : Type 0} (xs : List X) (k : ℕ) (d : X) → k < length xs → At xs k (get_or xs k d)
@@ -152,25 +132,19 @@ pub grow_on : (a b c : List Bool) → Grow a b → Grow b c → Grow a c
 grow_on a b c g h = record { same = h.same ∙ g.same; more = λ v s. h.more v (g.more v s) }
 
 pub seen_cases : (seen : List Bool) (v w : ℕ) → v < length seen → IsSeen (set seen v true) w → (w ≡ v) ⊎ IsSeen seen w
-seen_cases seen v w h s = elim (nat_cases w v) [
+seen_cases seen v w h s = elim (cases_eq w v) [
   | inl e ↦ inl e
   | inr n ↦ inr (sym (get_or-set_other seen v w true false n) ∙ s)
 ]
 
 pub seen_more : (seen : List Bool) (v w : ℕ) → v < length seen → IsSeen seen w → IsSeen (set seen v true) w
-seen_more seen v w range s = elim (nat_cases w v) [
+seen_more seen v w range s = elim (cases_eq w v) [
   | inl e ↦ subst (λ (n : ℕ). IsSeen (set seen v true) n) (sym e) (get_or-set_same seen v true false range)
   | inr n ↦ get_or-set_other seen v w true false n ∙ s
 ]
 
 pub held_length : (trail : List Entry) (k : ℕ) → k < length (held trail) → k < length trail
 held_length trail k h = let e = length-map trail (λ (e : Entry). e.lit) in omega (arith, e)
-
-pub unseen : (b : Bool) → b ≡ false → b ≡ true → ⊥
-unseen b e f = cc
-
-pub some_same : (a b : ℕ) → Some a ≡ Some b → a ≡ b
-some_same a b e = cc
 
 pub literals_length : (cs : List Clause) (k : ℕ) → k < length (literals cs) → k < length cs
 literals_length cs k h = let e = length-map cs (λ (c : Clause). c.lits) in omega (arith, e)

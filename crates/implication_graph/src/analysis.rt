@@ -127,6 +127,7 @@ pub(crate) fn push_hint(
     Ok(())
 }
 
+/// Puts a literal behind the others.
 pub(crate) fn push_lit(lits: &mut Vec<Lit>, lit: Lit) -> Result<(), NoMemory>
     ensures { OnOk result (lits.new.items ≡ lits.old.items ++ lit ∷ []) }
 {

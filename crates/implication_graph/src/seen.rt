@@ -53,6 +53,7 @@ fn clear_marks(seen: &mut Vec<bool>, met: &[u32])
 }
 
 impl SeenBuffer {
+    /// A buffer without marks. It takes memory only where marks are taken out.
     pub fn new(alloc: Global) -> SeenBuffer {
         SeenBuffer {
             marks: Vec::new(alloc),

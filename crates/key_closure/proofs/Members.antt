@@ -4,7 +4,7 @@ use native.Mathlib.Decide.{dec_le}
 use Rattle.std.proofs.Math.ListN.{replicate}
 use Rattle.std.proofs.lemmas.Bool.{false≢true}
 use Rattle.std.proofs.lemmas.List.{get_or-replicate, get_or_past, get_or_default, length-replicate}
-use Rattle.std.proofs.lemmas.List.Elements.{All-contains}
+use Rattle.std.proofs.lemmas.List.Elements.{All-contains, Contains-get_or}
 use Rattle.cqa_model.specs.declared.query.Atom.{Atom}
 use Rattle.cqa_model.specs.declared.query.ColRef.{ColRef}
 use Rattle.cqa_model.specs.declared.query.Query.{Query}
@@ -32,9 +32,6 @@ none_in n k h = go (dec_le (suc k) n)
     go (yes l) = let e : get_or (replicate n false) k false ≡ false = get_or-replicate n k false false l in false≢true (sym e ∙ h)
     go (no f) = let e : get_or (replicate n false) k false ≡ false = get_or_past (replicate n false) k false (rw length-replicate (omega (arith, f))) in false≢true (sym e ∙ h)
 
-pub at-contains : (xs : List ℕ) (j : ℕ) → j < length xs → Contains xs (get_or xs j 0)
-at-contains xs j l = (j, l, get_or_default xs j (get_or xs j 0) 0 l)
-
 pub key-in_range : (q : Query) (F p : ℕ) → F < length q.atoms → Contains (atom_key q F) p → IsInRange q.atoms (record { atom = F; col = p })
 key-in_range q F p lF m = (lF, All-contains (λ x. x < (atom_at q F).width) (atom_key q F) p (q.kept.each F lF).key_in_range m)
 
@@ -44,7 +41,7 @@ pub key_place : (q : Query) (atoms : List Atom) (F : ℕ) (a : Atom) (key : List
 key_place q atoms F a key j eq lF ea ek lj =
     let d : Atom = record { table = 0; width = 0; key = []; strict = false } in
     let e : get_or atoms F a ≡ nth_atom q.atoms F = ap (λ z. get_or z F a) eq ∙ get_or_default q.atoms F a d lF in
-    range-small q (record { atom = F; col = get_or key j 0 }) (key-in_range q F (get_or key j 0) lF (subst (λ z. Contains z (get_or key j 0)) (ek ∙ ap (λ z. z.key) e) (at-contains key j lj)))
+    range-small q (record { atom = F; col = get_or key j 0 }) (key-in_range q F (get_or key j 0) lF (subst (λ z. Contains z (get_or key j 0)) (ek ∙ ap (λ z. z.key) e) (Contains-get_or key j 0 lj)))
 
 module _ (q : Query) where
   pub is_in-range : (s : VarSet) (c : ColRef) → IsIn q s c → IsInRange q.atoms c
@@ -113,7 +110,7 @@ module _ (q : Query) where
 
           into : (c : ColRef) → IsInRange q.atoms c → Has s (label q.conds c) → IsKeyVar q (seen q view) F c
           into c r m = let w = (h (label q.conds c)).0 m in
-              let n : Contains (atom_key q F) (get_or (atom_key q F) w.0 0) = at-contains (atom_key q F) w.0 w.1 in
+              let n : Contains (atom_key q F) (get_or (atom_key q F) w.0 0) = Contains-get_or (atom_key q F) w.0 0 w.1 in
               (free-into c r w.2, (get_or (atom_key q F) w.0 0, n, linked-at c (record { atom = F; col = get_or (atom_key q F) w.0 0 }) r (key-in_range q F (get_or (atom_key q F) w.0 0) lF n) w.3))
 
           from : (c : ColRef) → IsInRange q.atoms c → IsKeyVar q (seen q view) F c → Has s (label q.conds c)
@@ -129,7 +126,7 @@ module _ (q : Query) where
       pub key-proper : (s : VarSet) → ((k : ℕ) → Has s k ↔ IsKeyClass v view F (atom_key q F) (length (atom_key q F)) k) → IsProper q s
       key-proper s h k m =
           let w = (h k).0 m in
-          let r : IsInRange q.atoms (record { atom = F; col = get_or (atom_key q F) w.0 0 }) = key-in_range q F (get_or (atom_key q F) w.0 0) lF (at-contains (atom_key q F) w.0 w.1) in
+          let r : IsInRange q.atoms (record { atom = F; col = get_or (atom_key q F) w.0 0 }) = key-in_range q F (get_or (atom_key q F) w.0 0) lF (Contains-get_or (atom_key q F) w.0 0 w.1) in
           (record { atom = F; col = get_or (atom_key q F) w.0 0 }, r, subst (λ z. IsName q (record { atom = F; col = get_or (atom_key q F) w.0 0 }) z) (sym w.3) (hv.names (record { atom = F; col = get_or (atom_key q F) w.0 0 }) r))
 
   -- inclusion and meeting by classes and by variables

@@ -1,7 +1,6 @@
 -- Hints followed in turn.
-use Rattle.std.proofs.Common.{◌≡◌, ℕ, ◌<◌, ◌≤◌, ◌+◌, ℤ, pos, List, [], ◌∷◌, inl, inr, refl, sym, subst, length, drop, get_or, add-one, Option, Some, None, Bool, true, false}
-use Rattle.std.proofs.Math.Seq.{drop-cons}
-use Rattle.std.proofs.lemmas.List.{drop_all}
+use Rattle.std.proofs.Common.{◌≡◌, ℕ, ◌<◌, ◌≤◌, ◌+◌, ℤ, pos, List, [], ◌∷◌, inl, inr, refl, sym, subst, length, drop, get_or, Option, Some, None, Bool, true, false}
+use Rattle.std.proofs.lemmas.List.{drop_all, drop_more}
 use Rattle.cnf_form.specs.declared.formula.Lit.{Lit}
 use Rattle.lrat_check.specs.declared.fault.LogCause.{LogCause}
 use Rattle.lrat_check.specs.declared.fault.LogCause.TheVariants.{NoConflict}
@@ -71,26 +70,23 @@ follow_on live held hint us rest (Known id c e l k) =
 abbrev pub Along : Live → List Truth → List ℤ → List Truth → List ℤ → Type 0
 Along live ts all us rest = (start : List Lit) → Shows ts start → (held : List Lit) × Shows us held × Leads live held rest start all
 
-split : (all : List ℤ) (i : ℕ) → i < length all → drop i all ≡ get_or all i (pos 0) ∷ drop (i + 1) all
-split all i h = rw add-one (drop-cons all i (pos 0) h)
-
 pub along_more : (live : Live) (ts us vs : List Truth) (all : List ℤ) (i : ℕ) → i < length all → Along live ts all us (drop i all)
     → ((held : List Lit) → Shows us held → FollowIs live held (get_or all i (pos 0)) vs follow.On) → Along live ts all vs (drop (i + 1) all)
 along_more live ts us vs all i h a k start s =
-    let b : (held : List Lit) × Shows us held × Leads live held (get_or all i (pos 0) ∷ drop (i + 1) all) start all = subst (λ (r : List ℤ). (held : List Lit) × Shows us held × Leads live held r start all) (split all i h) (a start s) in
+    let b : (held : List Lit) × Shows us held × Leads live held (get_or all i (pos 0) ∷ drop (i + 1) all) start all = subst (λ (r : List ℤ). (held : List Lit) × Shows us held × Leads live held r start all) (drop_more all i (pos 0) h) (a start s) in
     let n : (next : List Lit) × Shows vs next × Leads live next (drop (i + 1) all) b.0 (get_or all i (pos 0) ∷ drop (i + 1) all) = follow_on live b.0 (get_or all i (pos 0)) vs (drop (i + 1) all) (k b.0 b.1) in
     (n.0, n.1, λ f x. b.2 f (n.2 f x))
 
 pub along_pass : (live : Live) (ts us vs : List Truth) (all : List ℤ) (i : ℕ) → i < length all → Along live ts all us (drop i all)
     → ((held : List Lit) → Shows us held → FollowIs live held (get_or all i (pos 0)) vs follow.Pass) → (start : List Lit) → Shows ts start → HintsPass live start all
 along_pass live ts us vs all i h a k start s =
-    let b : (held : List Lit) × Shows us held × Leads live held (get_or all i (pos 0) ∷ drop (i + 1) all) start all = subst (λ (r : List ℤ). (held : List Lit) × Shows us held × Leads live held r start all) (split all i h) (a start s) in
+    let b : (held : List Lit) × Shows us held × Leads live held (get_or all i (pos 0) ∷ drop (i + 1) all) start all = subst (λ (r : List ℤ). (held : List Lit) × Shows us held × Leads live held r start all) (drop_more all i (pos 0) h) (a start s) in
     b.2 None (follow_pass live b.0 (get_or all i (pos 0)) vs (drop (i + 1) all) (k b.0 b.1))
 
 pub along_fail : (live : Live) (ts us vs : List Truth) (all : List ℤ) (i : ℕ) (cause : LogCause) → i < length all → Along live ts all us (drop i all)
     → ((held : List Lit) → Shows us held → FollowIs live held (get_or all i (pos 0)) vs (follow.Fail cause)) → (start : List Lit) → Shows ts start → HintsFail live start all cause
 along_fail live ts us vs all i cause h a k start s =
-    let b : (held : List Lit) × Shows us held × Leads live held (get_or all i (pos 0) ∷ drop (i + 1) all) start all = subst (λ (r : List ℤ). (held : List Lit) × Shows us held × Leads live held r start all) (split all i h) (a start s) in
+    let b : (held : List Lit) × Shows us held × Leads live held (get_or all i (pos 0) ∷ drop (i + 1) all) start all = subst (λ (r : List ℤ). (held : List Lit) × Shows us held × Leads live held r start all) (drop_more all i (pos 0) h) (a start s) in
     b.2 (Some cause) (follow_fail live b.0 (get_or all i (pos 0)) vs (drop (i + 1) all) cause (k b.0 b.1))
 
 pub along_end : (live : Live) (ts us : List Truth) (all : List ℤ) (i : ℕ) → length all ≤ i → Along live ts all us (drop i all) → (start : List Lit) → Shows ts start → HintsFail live start all NoConflict

@@ -1,6 +1,6 @@
 -- The clauses of a formula under their ids.
 use Rattle.std.proofs.Common.{◌≡◌, ◌≢◌, ℕ, ◌<◌, ◌+◌, zero, suc, List, [], ◌∷◌, ◌++◌, inl, inr, refl, sym, ◌∙◌, ap, subst, arith, length, take, get_or, add-one, Some}
-use Rattle.std.proofs.lemmas.List.{length-take-le}
+use Rattle.std.proofs.lemmas.List.{length-take-le, take_more}
 use Rattle.std.proofs.lemmas.Bool.{cases_eq}
 use mathlib.Core.Path.{fun_ext}
 use Rattle.std.proofs.lemmas.Map.{update_here, update_apart}
@@ -8,7 +8,6 @@ use Rattle.cnf_form.specs.declared.formula.Lit.{Lit}
 use Rattle.cnf_form.specs.declared.formula.Clause.{Clause}
 use Rattle.cnf_form.specs.Literals.{literals}
 use Rattle.cnf_form.specs.Logs.{Live, numbered, with_clause}
-use Rattle.lrat_check.proofs.Takes.{take_more}
 
 push_here : (cs : List Clause) (c : Clause) → numbered (literals (cs ++ c ∷ [])) (suc (length cs)) ≡ Some c.lits
 push_here [] c = refl

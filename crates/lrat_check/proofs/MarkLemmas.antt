@@ -4,11 +4,12 @@ use Rattle.std.specs.Prelude.{Contains}
 use Rattle.std.proofs.lemmas.Bool.{cases_eq}
 use Rattle.std.proofs.lemmas.List.{get_or-set_same, get_or-set_other, length-set, take_all}
 use Rattle.std.proofs.lemmas.List.Elements.{Contains-push_cases, Contains-append_left, Contains-push, Contains-get_or}
+use Rattle.cqa_value.proofs.Words.{Contains-from_take}
 use Rattle.cnf_form.specs.declared.formula.Lit.{Lit}
 use Rattle.cnf_form.specs.declared.formula.Truth.{Truth}
 use Rattle.cnf_form.specs.declared.formula.Truth.TheVariants as truth
 use Rattle.lrat_check.specs.Marks.{truth_at, IsFalse, IsValid, HasOne, HasTwo, FoundIs}
-use Rattle.lrat_check.proofs.Takes.{more_cases, more_left, more_here, take_inside}
+use Rattle.lrat_check.proofs.Takes.{more_cases, more_left, more_here}
 
 found_false_one : (ts : List Truth) (c : List Lit) (i : ℕ) (d l : Lit) → i < length c → HasOne ts (take i c) l → IsFalse ts (get_or c i d) → HasOne ts (take (i + 1) c) l
 found_false_one ts c i d l h f n = record {
@@ -52,7 +53,7 @@ found_two ts c i d l h f apart n = record {
   one = l;
   other = get_or c i d;
   apart = apart;
-  one_inside = take_inside c i l f.inside;
+  one_inside = Contains-from_take i c l f.inside;
   other_inside = Contains-get_or c i d h;
   one_free = f.free;
   other_free = n;

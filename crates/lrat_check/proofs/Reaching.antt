@@ -1,17 +1,17 @@
 -- One step more of a check.
 use Rattle.std.proofs.Common.{◌<◌, ◌+◌, take, get_or, ◌≡◌, ℕ, zero, suc, List, [], ◌∷◌, ◌++◌, ◌⊎◌, inl, inr, refl, sym, ◌∙◌, ap, subst, arith, length, Option, Some, None, Bool, true, false}
 use Rattle.std.specs.Prelude.{Contains}
+use Rattle.std.proofs.lemmas.List.{take_more}
+use Rattle.cqa_value.proofs.Words.{mem-tail, mem-cases, mem-head}
 use Rattle.cnf_form.specs.declared.log.Step.{Step}
 use Rattle.cnf_form.specs.declared.log.Step.TheVariants.{Add, Delete}
 use Rattle.cnf_form.specs.Logs.{Live, StepPasses, StepsPass, added, live_after, top_after}
-use Rattle.cnf_form.proofs.Lits.{cons_cases, contains_here, contains_later}
 use Rattle.lrat_check.specs.declared.fault.LogCause.{LogCause}
 use Rattle.lrat_check.specs.Failing.{FailsAt, StepFails}
 use Rattle.lrat_check.specs.Steps.{AddsEmpty, StepIs}
 use Rattle.lrat_check.specs.declared.fault.LogFault.{LogFault}
 use Rattle.lrat_check.specs.declared.checker.Checker.{Checker}
 use Rattle.lrat_check.specs.Reached.{HasPassed, Reached, ReachedBy, live_through, top_through}
-use Rattle.lrat_check.proofs.Takes.{take_more}
 
 passes_more : (start : Live) (first : ℕ) (xs : List Step) (s : Step) → StepsPass start first xs → StepPasses (live_through start xs) (top_through first xs) s → StepsPass start first (xs ++ s ∷ [])
 passes_more start first [] s p q = (q, tt)
@@ -36,25 +36,25 @@ fails_more start first (x ∷ xs) ys (suc n) cause f = (f.0, fails_more (live_af
 
 -- whether the empty clause is among those that were added
 added_here : (xs : List Step) (s : Step) → AddsEmpty s → Contains (added (xs ++ s ∷ [])) []
-added_here [] (Add id clause hints) e = subst (λ (c : _). Contains (c ∷ []) []) (sym e) (contains_here [] [])
+added_here [] (Add id clause hints) e = subst (λ (c : _). Contains (c ∷ []) []) (sym e) (mem-head [] [])
 added_here [] (Delete ids) e = absurd e
-added_here (Add id clause hints ∷ xs) s e = contains_later clause.lits (added (xs ++ s ∷ [])) [] (added_here xs s e)
+added_here (Add id clause hints ∷ xs) s e = mem-tail [] clause.lits (added (xs ++ s ∷ [])) (added_here xs s e)
 added_here (Delete ids ∷ xs) s e = added_here xs s e
 
 added_before : (xs : List Step) (s : Step) → Contains (added xs) [] → Contains (added (xs ++ s ∷ [])) []
 added_before [] s k = absurd (omega (arith, k.1))
-added_before (Add id clause hints ∷ xs) s k = elim (cons_cases clause.lits (added xs) [] k) [
-  | inl e ↦ subst (λ (c : _). Contains (c ∷ added (xs ++ s ∷ [])) []) (sym e) (contains_here [] (added (xs ++ s ∷ [])))
-  | inr r ↦ contains_later clause.lits (added (xs ++ s ∷ [])) [] (added_before xs s r)
+added_before (Add id clause hints ∷ xs) s k = elim (mem-cases [] clause.lits (added xs) k) [
+  | inl e ↦ subst (λ (c : _). Contains (c ∷ added (xs ++ s ∷ [])) []) (sym e) (mem-head [] (added (xs ++ s ∷ [])))
+  | inr r ↦ mem-tail [] clause.lits (added (xs ++ s ∷ [])) (added_before xs s r)
 ]
 added_before (Delete ids ∷ xs) s k = added_before xs s k
 
 added_cases : (xs : List Step) (s : Step) → Contains (added (xs ++ s ∷ [])) [] → Contains (added xs) [] ⊎ AddsEmpty s
-added_cases [] (Add id clause hints) k = elim (cons_cases clause.lits [] [] k) [ inl e ↦ inr e | inr r ↦ absurd (omega (arith, r.1)) ]
+added_cases [] (Add id clause hints) k = elim (mem-cases [] clause.lits [] k) [ inl e ↦ inr e | inr r ↦ absurd (omega (arith, r.1)) ]
 added_cases [] (Delete ids) k = absurd (omega (arith, k.1))
-added_cases (Add id clause hints ∷ xs) s k = elim (cons_cases clause.lits (added (xs ++ s ∷ [])) [] k) [
-  | inl e ↦ inl (subst (λ (c : _). Contains (c ∷ added xs) []) (sym e) (contains_here [] (added xs)))
-  | inr r ↦ elim (added_cases xs s r) [ inl l ↦ inl (contains_later clause.lits (added xs) [] l) | inr e ↦ inr e ]
+added_cases (Add id clause hints ∷ xs) s k = elim (mem-cases [] clause.lits (added (xs ++ s ∷ [])) k) [
+  | inl e ↦ inl (subst (λ (c : _). Contains (c ∷ added xs) []) (sym e) (mem-head [] (added xs)))
+  | inr r ↦ elim (added_cases xs s r) [ inl l ↦ inl (mem-tail [] clause.lits (added xs) l) | inr e ↦ inr e ]
 ]
 added_cases (Delete ids ∷ xs) s k = added_cases xs s k
 

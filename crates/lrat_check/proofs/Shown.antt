@@ -3,13 +3,14 @@ use Rattle.std.proofs.Common.{◌≡◌, ◌≢◌, ℕ, ◌<◌, ◌≤◌, ◌
 use Rattle.std.specs.Prelude.{Contains}
 use Rattle.std.proofs.lemmas.Bool.{cases_eq}
 use Rattle.std.proofs.lemmas.List.{take_all}
+use Rattle.cqa_value.proofs.Words.{mem-tail, mem-cases, mem-head, Contains-from_take}
 use Rattle.cnf_form.specs.declared.formula.Lit.{Lit}
 use Rattle.cnf_form.specs.Literals.{negated, opposite}
 use Rattle.cnf_form.specs.declared.formula.Truth.{Truth}
 use Rattle.cnf_form.specs.declared.formula.Truth.TheVariants as truth
 use Rattle.lrat_check.specs.Marks.{truth_at, sign, IsMarkedTrue, IsFalse, Shows, HoldIs, Assumed}
-use Rattle.cnf_form.proofs.Lits.{cons_cases, contains_here, contains_later, negated-negated, opposite-opposite}
-use Rattle.lrat_check.proofs.Takes.{more_cases, more_left, more_here, take_inside}
+use Rattle.cnf_form.proofs.Lits.{negated-negated, opposite-opposite}
+use Rattle.lrat_check.proofs.Takes.{more_cases, more_left, more_here}
 use Rattle.cnf_form.specs.Literals.{HasBothSigns}
 
 pub sign_same : (a b : Bool) → sign a ≡ sign b → a ≡ b
@@ -34,22 +35,22 @@ same_literal x y e p =
 pub shown_new : (ts us : List Truth) (l : Lit) → truth_at ts l.var ≡ truth.Open → truth_at us l.var ≡ sign l.positive
     → ((v : ℕ) → v ≢ l.var → truth_at us v ≡ truth_at ts v) → (held : List Lit) → Shows ts held → Shows us (l ∷ held)
 shown_new ts us l unset here others held s = record {
-  marked = λ m k. elim (cons_cases l held m k) [
+  marked = λ m k. elim (mem-cases m l held k) [
     | inl e ↦ subst (λ (x : Lit). IsMarkedTrue us x) e here
     | inr r ↦ others m.var (λ e. sign_open m.positive (sym (s.marked m r) ∙ ap (λ (v : ℕ). truth_at ts v) e ∙ unset)) ∙ s.marked m r
   ];
   present = λ m t. elim (cases_eq m.var l.var) [
     | inl e ↦ subst (λ (x : Lit). Contains (l ∷ held) x)
         (same_literal l m (sym e) (sign_same l.positive m.positive (sym here ∙ ap (λ (v : ℕ). truth_at us v) (sym e) ∙ t)))
-        (contains_here l held)
-    | inr apart ↦ contains_later l held m (s.present m (sym (others m.var apart) ∙ t))
+        (mem-head l held)
+    | inr apart ↦ mem-tail m l held (s.present m (sym (others m.var apart) ∙ t))
   ];
 }
 
 pub shown_again : (ts : List Truth) (l : Lit) → IsMarkedTrue ts l → (held : List Lit) → Shows ts held → Shows ts (l ∷ held)
 shown_again ts l t held s = record {
-  marked = λ m k. elim (cons_cases l held m k) [ inl e ↦ subst (λ (x : Lit). IsMarkedTrue ts x) e t | inr r ↦ s.marked m r ];
-  present = λ m u. contains_later l held m (s.present m u);
+  marked = λ m k. elim (mem-cases m l held k) [ inl e ↦ subst (λ (x : Lit). IsMarkedTrue ts x) e t | inr r ↦ s.marked m r ];
+  present = λ m u. mem-tail m l held (s.present m u);
 }
 
 -- a literal that is not open and not true is false
@@ -69,16 +70,16 @@ map_push (y ∷ c) x = ap (λ (r : List Lit). opposite y ∷ r) (map_push c x)
 
 pub map_cases : (c : List Lit) (m : Lit) → Contains (map opposite c) m → Contains c (opposite m)
 map_cases [] m k = absurd (omega (arith, k.1))
-map_cases (y ∷ c) m k = elim (cons_cases (opposite y) (map opposite c) m k) [
-  | inl e ↦ subst (λ (x : Lit). Contains (y ∷ c) x) (sym (opposite-opposite y) ∙ ap (λ (x : Lit). opposite x) e) (contains_here y c)
-  | inr r ↦ contains_later y c (opposite m) (map_cases c m r)
+map_cases (y ∷ c) m k = elim (mem-cases m (opposite y) (map opposite c) k) [
+  | inl e ↦ subst (λ (x : Lit). Contains (y ∷ c) x) (sym (opposite-opposite y) ∙ ap (λ (x : Lit). opposite x) e) (mem-head y c)
+  | inr r ↦ mem-tail (opposite m) y c (map_cases c m r)
 ]
 
 pub map_inside : (c : List Lit) (m : Lit) → Contains c m → Contains (map opposite c) (opposite m)
 map_inside [] m k = absurd (omega (arith, k.1))
-map_inside (y ∷ c) m k = elim (cons_cases y c m k) [
-  | inl e ↦ subst (λ (x : Lit). Contains (map opposite (y ∷ c)) (opposite x)) e (contains_here (opposite y) (map opposite c))
-  | inr r ↦ contains_later (opposite y) (map opposite c) (opposite m) (map_inside c m r)
+map_inside (y ∷ c) m k = elim (mem-cases m y c k) [
+  | inl e ↦ subst (λ (x : Lit). Contains (map opposite (y ∷ c)) (opposite x)) e (mem-head (opposite y) (map opposite c))
+  | inr r ↦ mem-tail (opposite m) (opposite y) (map opposite c) (map_inside c m r)
 ]
 
 -- the same members, the same marks
@@ -87,16 +88,16 @@ shown_as ts a b to from s = record { marked = λ m k. s.marked m (from m k); pre
 
 pub shown_more : (ts : List Truth) (c : List Lit) (i : ℕ) (d : Lit) → i < length c → Shows ts (opposite (get_or c i d) ∷ map opposite (take i c)) → Shows ts (map opposite (take (i + 1) c))
 shown_more ts c i d h s = shown_as ts (opposite (get_or c i d) ∷ map opposite (take i c)) (map opposite (take (i + 1) c))
-    (λ m k. elim (cons_cases (opposite (get_or c i d)) (map opposite (take i c)) m k) [
+    (λ m k. elim (mem-cases m (opposite (get_or c i d)) (map opposite (take i c)) k) [
       | inl e ↦ subst (λ (x : Lit). Contains (map opposite (take (i + 1) c)) x) e (map_inside (take (i + 1) c) (get_or c i d) (more_here c i d h))
       | inr r ↦ subst (λ (x : Lit). Contains (map opposite (take (i + 1) c)) x) (opposite-opposite m)
           (map_inside (take (i + 1) c) (opposite m) (more_left c i d h (opposite m) (map_cases (take i c) m r)))
     ])
     (λ m k. elim (more_cases c i d h (opposite m) (map_cases (take (i + 1) c) m k)) [
-      | inl r ↦ contains_later (opposite (get_or c i d)) (map opposite (take i c)) m
+      | inl r ↦ mem-tail m (opposite (get_or c i d)) (map opposite (take i c))
           (subst (λ (x : Lit). Contains (map opposite (take i c)) x) (opposite-opposite m) (map_inside (take i c) (opposite m) r))
       | inr e ↦ subst (λ (x : Lit). Contains (opposite (get_or c i d) ∷ map opposite (take i c)) x) (ap (λ (x : Lit). opposite x) e ∙ opposite-opposite m)
-          (contains_here (opposite (get_or c i d)) (map opposite (take i c)))
+          (mem-head (opposite (get_or c i d)) (map opposite (take i c)))
     ])
     s
 
@@ -111,7 +112,7 @@ one_sign ts c s b = let l : Lit = b.0 in
 pub both_signs : (ts : List Truth) (c : List Lit) (i : ℕ) (d : Lit) → i < length c → Shows ts (map opposite (take i c)) → IsFalse ts (opposite (get_or c i d)) → HasBothSigns c
 both_signs ts c i d h s f = let l : Lit = get_or c i d in
     let k : Contains (map opposite (take i c)) l = s.present l (f ∙ ap sign (negated-negated l.positive)) in
-    (l, take_inside c (i + 1) l (more_here c i d h), take_inside c i (opposite l) (map_cases (take i c) l k))
+    (l, Contains-from_take (i + 1) c l (more_here c i d h), Contains-from_take i c (opposite l) (map_cases (take i c) l k))
 
 pub hold_default : (ts : List Truth) (l : Lit) (t : Truth) (b : Bool) → truth_at ts l.var ≡ t → (t ≡ truth.Open → ⊥) → (b ≡ true → t ≡ sign l.positive) → (b ≡ false → t ≡ sign l.positive → ⊥) → HoldIs ts ts l b
 hold_default ts l t true = λ e o yes no. shown_again ts l (e ∙ yes refl)

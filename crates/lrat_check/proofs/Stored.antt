@@ -4,6 +4,7 @@ use Rattle.std.specs.Prelude.{option_map, slice_range}
 use Rattle.std.proofs.lemmas.Bool.{cases_eq}
 use Rattle.std.proofs.lemmas.Map.{update_here, update_apart}
 use Rattle.std.proofs.lemmas.Grind.{common_steps}
+use Rattle.cqa_value.proofs.Words.{slice_range-append_left}
 use Rattle.cnf_form.specs.declared.formula.Lit.{Lit}
 use Rattle.cnf_form.specs.Logs.{with_clause}
 use Rattle.lrat_check.specs.declared.places.Place.{Place}
@@ -11,15 +12,12 @@ use Rattle.lrat_check.specs.declared.places.Places.{Places}
 use Rattle.lrat_check.specs.Places.{AreWithin, place_of, with_place}
 use Rattle.lrat_check.specs.Store.{live_in}
 
-range_kept : (pool c : List Lit) (from to : ℕ) → from ≤ to → to ≤ length pool → slice_range (pool ++ c) from to ≡ slice_range pool from to
-range_kept pool c from to a b = grind (arith, common_steps)
-
 range_end : (pool c : List Lit) (from to : ℕ) → from ≡ length pool → to ≡ length pool + length c → slice_range (pool ++ c) from to ≡ c
 range_end pool c from to a b = grind (arith, common_steps)
 
 all_kept : (pool c : List Lit) (o : Option Place) → ((p : Place) → o ≡ Some p → (p.from ≤ p.to) × (p.to ≤ length pool)) → option_map (λ p. slice_range (pool ++ c) p.from p.to) o ≡ option_map (λ p. slice_range pool p.from p.to) o
 all_kept pool c None w = refl
-all_kept pool c (Some p) w = ap Some (range_kept pool c p.from p.to (w p refl).0 (w p refl).1)
+all_kept pool c (Some p) w = ap Some (slice_range-append_left pool c p.from p.to (w p refl).0 (w p refl).1)
 
 pub added_live : (pool c : List Lit) (places new : Places) (id : ℕ) (p : Place) → AreWithin pool places → p.from ≡ length pool → p.to ≡ length pool + length c
     → ((q : ℕ) → place_of new q ≡ with_place (place_of places) id p q) → (k : ℕ) → live_in (pool ++ c) new k ≡ with_clause (live_in pool places) id c k

@@ -1,12 +1,8 @@
 -- Members of the first elements of a list.
-use Rattle.std.proofs.Common.{◌≡◌, ℕ, ◌<◌, ◌+◌, List, [], ◌∷◌, ◌++◌, ◌⊎◌, sym, subst, length, get_or, take, drop, add-one}
+use Rattle.std.proofs.Common.{◌≡◌, ℕ, ◌<◌, ◌+◌, List, [], ◌∷◌, ◌⊎◌, sym, subst, length, get_or, take}
 use Rattle.std.specs.Prelude.{Contains}
-use Rattle.std.proofs.Math.Seq.{take-suc}
-use Rattle.std.proofs.lemmas.List.{take-append-drop}
+use Rattle.std.proofs.lemmas.List.{take_more}
 use Rattle.std.proofs.lemmas.List.Elements.{Contains-push_cases, Contains-append_left, Contains-push}
-
-pub take_more : {X : Type 0} (xs : List X) (i : ℕ) (d : X) → i < length xs → take (i + 1) xs ≡ take i xs ++ get_or xs i d ∷ []
-take_more xs i d h = rw add-one (take-suc xs i d h)
 
 pub more_cases : {X : Type 0} (xs : List X) (i : ℕ) (d : X) → i < length xs → (x : X) → Contains (take (i + 1) xs) x → Contains (take i xs) x ⊎ (get_or xs i d ≡ x)
 more_cases {X} xs i d h x k = Contains-push_cases (take i xs) (get_or xs i d) x (subst (λ (ys : List X). Contains ys x) (take_more xs i d h) k)
@@ -16,6 +12,3 @@ more_left {X} xs i d h x k = subst (λ (ys : List X). Contains ys x) (sym (take_
 
 pub more_here : {X : Type 0} (xs : List X) (i : ℕ) (d : X) → i < length xs → Contains (take (i + 1) xs) (get_or xs i d)
 more_here {X} xs i d h = subst (λ (ys : List X). Contains ys (get_or xs i d)) (sym (take_more xs i d h)) (Contains-push (take i xs) (get_or xs i d))
-
-pub take_inside : {X : Type 0} (xs : List X) (i : ℕ) (x : X) → Contains (take i xs) x → Contains xs x
-take_inside {X} xs i x k = subst (λ (ys : List X). Contains ys x) (take-append-drop i xs) (Contains-append_left (take i xs) (drop i xs) x k)

@@ -50,6 +50,7 @@ pub struct Gathered {
 }
 
 impl Gathered {
+    /// Nothing gathered so far. It takes memory only where something is.
     pub fn new(alloc: Global) -> Gathered {
         Gathered {
             lits: Vec::new(alloc),

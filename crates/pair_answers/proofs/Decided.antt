@@ -5,6 +5,7 @@ use Rattle.std.proofs.lemmas.List.{take_more, append-nil}
 use Rattle.std.proofs.lemmas.List.Elements.{filter_map-append}
 use Rattle.std.specs.List.{filter}
 use Rattle.cqa_value.specs.declared.value.Value.{Value}
+use Rattle.cqa_value.proofs.Words.{Contains-filter}
 use Rattle.cqa_model.specs.declared.query.Query.{Query}
 use Rattle.cqa_model.specs.Database.{Table, stored}
 use Rattle.cqa_model.specs.Query.{rows_of, FitsDatabase}
@@ -12,7 +13,6 @@ use Rattle.cqa_model.specs.Certain.{IsCertain}
 use Rattle.cqa_model.specs.Plan.{Placed}
 use Rattle.cqa_model.proofs.Classic.{mem-head, mem-tail, mem-nil, mem-cases}
 use Rattle.cqa_model.proofs.Reification.{placed}
-use Rattle.table_blocks.proofs.Membership.{contains_filter}
 use Rattle.weak_pairs.specs.declared.decide.Decision.{Decision}
 use Rattle.weak_pairs.specs.declared.decide.Decision.TheVariants.{Certain, Rejected}
 use Rattle.weak_pairs.specs.Pairs.{IsPair, IsStored}
@@ -98,7 +98,7 @@ module _ (db : List Table) (q : Query) (row : List Value) (pair : IsPair q) (fit
 
         into : (F : ℕ) → F < length q.atoms → (x : List Value) → Contains (rows_of q kept F) x → (i : ℕ) × Contains (taken_rows own) i × (place i ≡ placed F x)
         into F l x m =
-            let c = ((contains_filter (chosen F) (rows_of q (stored db) F) x).0 (subst (λ z. Contains z x) (are F l) m)).1 in
+            let c = ((Contains-filter (chosen F) (rows_of q (stored db) F) x).0 (subst (λ z. Contains z x) (are F l) m)).1 in
             let t = (tie F x).0 c in
             (t.1, taken-in own t.0 t.1 t.2 t.3, t.4)
 
@@ -107,7 +107,7 @@ module _ (db : List Table) (q : Query) (row : List Value) (pair : IsPair q) (fit
             let t = taken-from own i m in
             let h = ch t.0 i t.2 in
             let s : IsStored q (stored db) (placed F x) = subst (λ z. IsStored q (stored db) z) e (numbering.stored i (numbering.within t.0 i h.0 h.1)) in
-            subst (λ z. Contains z x) (sym (are F l)) ((contains_filter (chosen F) (rows_of q (stored db) F) x).1 (s.1, (tie F x).1 (t.0, i, t.1, t.2, e)))
+            subst (λ z. Contains z x) (sym (are F l)) ((Contains-filter (chosen F) (rows_of q (stored db) F) x).1 (s.1, (tie F x).1 (t.0, i, t.1, t.2, e)))
 
   answer : (d : Decision) → IsDecided lists first d → IsAnswer q db row d
   answer Certain d = law.certain db q row ls.cols place first lists fits long pair ls.shared numbering ls.lists_are d

@@ -6,13 +6,14 @@ use Rattle.std.proofs.Math.ListN.{get_or-map}
 use Rattle.std.proofs.lemmas.List.{length-append, length-map, get_or_append_left, get_or-append-add, get_or_default}
 use Rattle.std.proofs.lemmas.List.Elements.{Contains-get_or, Contains-append_left, Contains-append_right, Contains-append_cases}
 use Rattle.cqa_value.specs.declared.value.Value.{Value}
+use Rattle.cqa_value.proofs.Words.{Contains-map, Contains-from_map}
 use Rattle.cqa_model.specs.declared.query.Query.{Query}
 use Rattle.cqa_model.specs.Query.{atom_key, rows_of}
 use Rattle.cqa_model.specs.Repairs.{SharesKey}
 use Rattle.cqa_model.specs.Blocks.{AreBlocks}
 use Rattle.cqa_model.specs.Plan.{Placed}
-use Rattle.cqa_model.proofs.Classic.{mem-head, mem-tail, mem-nil, mem-cases}
-use Rattle.cqa_model.proofs.Reification.{placed, mem-map}
+use Rattle.cqa_model.proofs.Classic.{mem-nil, mem-cases}
+use Rattle.cqa_model.proofs.Reification.{placed}
 use Rattle.weak_pairs.specs.Pairs.{IsStored, InBlock}
 use Rattle.weak_pairs.specs.Peeling.{IsBlock, In}
 use Rattle.weak_pairs.specs.Numbering.{AreNumbered}
@@ -20,13 +21,6 @@ use Rattle.weak_pairs.specs.Outcomes.{AreStarts, IsSplit}
 use Rattle.pair_answers.specs.Starts.{ends_from, starts_from}
 use Rattle.pair_answers.specs.Numbers.{placed_in, numbered, place_of}
 use Rattle.pair_answers.proofs.Begins.{flat, ends-length, start-next, start-within, start-rises, at-block, block-at, ends-append, ends-map, flat-append, flat-map}
-
-pub map-mem : {A B : Type 0} (f : A → B) (xs : List A) (y : B) → Contains (map f xs) y → (x : A) × Contains xs x × (f x ≡ y)
-map-mem f [] y m = absurd (mem-nil y m)
-map-mem f (a ∷ xs) y m = elim (mem-cases y (f a) (map f xs) m) [
-  | inl e ↦ (a, mem-head a xs, e)
-  | inr n ↦ let h = map-mem f xs y n in (h.0, mem-tail h.0 a xs h.1, h.2)
-]
 
 some-in : (bs : List (List (List Value))) (x : List Value) (b : List (List Value)) → Contains bs b → Contains b x → Contains (flat bs) x
 some-in [] x b m n = absurd (mem-nil b m)
@@ -119,7 +113,7 @@ module _ (q : Query) (tables : List (List (List Value))) (two : length q.atoms �
   -- rows of one atom's block
   together : (F : ℕ) (bs : List (List (List Value))) → AreBlocks (atom_key q F) (rows_of q tables F) bs → (c : List (List Value)) (b : List Placed) → IsOf F bs c b →
       (t u : Placed) → Contains b t → Contains b u → InBlock q tables t u
-  together F bs h c b of t u mt mu = go (map-mem (placed F) c t (subst (λ z. Contains z t) of.1 mt)) (map-mem (placed F) c u (subst (λ z. Contains z u) of.1 mu))
+  together F bs h c b of t u mt mu = go (Contains-from_map (placed F) c t (subst (λ z. Contains z t) of.1 mt)) (Contains-from_map (placed F) c u (subst (λ z. Contains z u) of.1 mu))
     where
       go : (x : List Value) × Contains c x × (placed F x ≡ t) → (y : List Value) × Contains c y × (placed F y ≡ u) → InBlock q tables t u
       go (x, hx, ex) (y, hy, ey) = subst (λ z. InBlock q tables z u) ex (subst (λ z. InBlock q tables (placed F x) z) ey
@@ -134,14 +128,14 @@ module _ (q : Query) (tables : List (List (List Value))) (two : length q.atoms �
   -- rows of two blocks of one atom
   parted : (F : ℕ) (bs : List (List (List Value))) → AreBlocks (atom_key q F) (rows_of q tables F) bs → (u v : ℕ) → u < v → v < length bs → (t s : Placed) →
       Contains (map (placed F) (get_or bs u [])) t → Contains (map (placed F) (get_or bs v [])) s → InBlock q tables t s → ⊥
-  parted F bs h u v l k t s mt ms b = go (map-mem (placed F) (get_or bs u []) t mt) (map-mem (placed F) (get_or bs v []) s ms)
+  parted F bs h u v l k t s mt ms b = go (Contains-from_map (placed F) (get_or bs u []) t mt) (Contains-from_map (placed F) (get_or bs v []) s ms)
     where
       go : (x : List Value) × Contains (get_or bs u []) x × (placed F x ≡ t) → (y : List Value) × Contains (get_or bs v []) y × (placed F y ≡ s) → ⊥
       go (x, hx, ex) (y, hy, ey) = h.apart u v l k x y hx hy
           (subst (λ z. SharesKey (atom_key q z.atom) z.row y) (sym ex) (subst (λ z. SharesKey (atom_key q t.atom) t.row z.row) (sym ey) b.2))
 
   atom-is : (F : ℕ) (c : List (List Value)) (t : Placed) → Contains (map (placed F) c) t → t.atom ≡ F
-  atom-is F c t m = let h = map-mem (placed F) c t m in ap (λ z. z.atom) (sym h.2)
+  atom-is F c t m = let h = Contains-from_map (placed F) c t m in ap (λ z. z.atom) (sym h.2)
 
   apart : (u v : ℕ) → u < v → v < length blocks → (t s : Placed) → Contains (get_or blocks u []) t → Contains (get_or blocks v []) s → InBlock q tables t s → ⊥
   apart u v l k t s mt ms b = elim (block-of v k) [
@@ -176,8 +170,8 @@ module _ (q : Query) (tables : List (List (List Value))) (two : length q.atoms �
 
   stored-row : (t : Placed) → Contains (numbered q tables) t → IsStored q tables t
   stored-row t m = elim (Contains-append_cases (placed_in 0 (rows_of q tables 0)) (placed_in 1 (rows_of q tables 1)) t m) [
-    | inl n ↦ of 0 (omega (arith, two)) (map-mem (placed 0) (rows_of q tables 0) t n)
-    | inr n ↦ of 1 (omega (arith, two)) (map-mem (placed 1) (rows_of q tables 1) t n)
+    | inl n ↦ of 0 (omega (arith, two)) (Contains-from_map (placed 0) (rows_of q tables 0) t n)
+    | inr n ↦ of 1 (omega (arith, two)) (Contains-from_map (placed 1) (rows_of q tables 1) t n)
   ]
     where
       of : (F : ℕ) → F < length q.atoms → (x : List Value) × Contains (rows_of q tables F) x × (placed F x ≡ t) → IsStored q tables t
@@ -187,8 +181,8 @@ module _ (q : Query) (tables : List (List (List Value))) (two : length q.atoms �
   row-number t (l, m) = go t.atom t.row l m
     where
       go : (F : ℕ) (x : List Value) → F < length q.atoms → Contains (rows_of q tables F) x → Contains (numbered q tables) (placed F x)
-      go zero x l m = Contains-append_left (placed_in 0 (rows_of q tables 0)) (placed_in 1 (rows_of q tables 1)) (placed 0 x) (mem-map (placed 0) (rows_of q tables 0) x m)
-      go (suc zero) x l m = Contains-append_right (placed_in 0 (rows_of q tables 0)) (placed_in 1 (rows_of q tables 1)) (placed 1 x) (mem-map (placed 1) (rows_of q tables 1) x m)
+      go zero x l m = Contains-append_left (placed_in 0 (rows_of q tables 0)) (placed_in 1 (rows_of q tables 1)) (placed 0 x) (Contains-map (placed 0) (rows_of q tables 0) x m)
+      go (suc zero) x l m = Contains-append_right (placed_in 0 (rows_of q tables 0)) (placed_in 1 (rows_of q tables 1)) (placed 1 x) (Contains-map (placed 1) (rows_of q tables 1) x m)
       go (suc (suc F)) x l m = absurd (omega (arith, l, two))
 
   pub numbering : AreNumbered q tables place (length (numbered q tables)) start

@@ -1,7 +1,7 @@
 -- One more pair of columns.
 use Rattle.std.proofs.Common.{◌≡◌, ℕ, ◌+◌, ◌<◌, ◌≤◌, ◌⊎◌, inl, inr, List, [], ◌∷◌, ◌++◌, sym, subst, arith, Contains}
 use native.Mathlib.Decide.{ℕ_discrete}
-use Rattle.std.proofs.lemmas.List.Elements.{Contains-append_left, Contains-append_right}
+use Rattle.std.proofs.lemmas.List.Elements.{Contains-append_left, Contains-append_right, Contains-push_cases}
 use Rattle.cqa_model.specs.declared.query.Query.{Query}
 use Rattle.cqa_model.specs.Query.{atom_at}
 use Rattle.cqa_model.specs.Variables.{AreLinked}
@@ -9,13 +9,6 @@ use Rattle.cqa_model.proofs.Classic.{mem-head, mem-tail, mem-nil, mem-cases}
 use Rattle.weak_pairs.specs.Numbering.{AreShared}
 use Rattle.pair_answers.specs.declared.shared.Shared.{Shared}
 use Rattle.pair_answers.specs.Shared.{AreSharedSoFar, pairs_of}
-
-mem-append : {A : Type 0} (xs : List A) (y x : A) → Contains (xs ++ y ∷ []) x → Contains xs x ⊎ (y ≡ x)
-mem-append [] y x m = elim (mem-cases x y [] m) [ inl e ↦ inr e | inr n ↦ absurd (mem-nil x n) ]
-mem-append (z ∷ xs) y x m = elim (mem-cases x z (xs ++ y ∷ []) m) [
-  | inl e ↦ inl (subst (λ w. Contains (z ∷ xs) w) e (mem-head z xs))
-  | inr n ↦ elim (mem-append xs y x n) [ inl h ↦ inl (mem-tail x z xs h) | inr e ↦ inr e ]
-]
 
 module _ (q : Query) (cols : List Shared) (i j : ℕ) (so : AreSharedSoFar q cols i j) (li : i < (atom_at q 0).width) (lj : j < (atom_at q 1).width) where
   before : (a b : ℕ) → (a < i) ⊎ ((a ≡ i) × (b < j + 1)) → Dec (b ≡ j) → ((a < i) ⊎ ((a ≡ i) × (b < j))) ⊎ ((a ≡ i) × (b ≡ j))
@@ -28,7 +21,7 @@ module _ (q : Query) (cols : List Shared) (i j : ℕ) (so : AreSharedSoFar q col
 
   pub shared-more : AreLinked q (record { atom = 0; col = i }) (record { atom = 1; col = j }) → AreSharedSoFar q (cols ++ its i j ∷ []) i (j + 1)
   shared-more l = record {
-    linked = λ s m. elim (mem-append cols (its i j) s m) [
+    linked = λ s m. elim (Contains-push_cases cols (its i j) s m) [
       | inl n ↦ so.linked s n
       | inr e ↦ subst (λ z. (z.left < (atom_at q 0).width) × (z.right < (atom_at q 1).width) × AreLinked q (record { atom = 0; col = z.left }) (record { atom = 1; col = z.right })) e (li, lj, l)
     ];

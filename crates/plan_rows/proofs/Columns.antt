@@ -1,13 +1,12 @@
 -- The columns of first atoms of an order that are linked to columns of the others.
 use Rattle.std.proofs.Common.{◌≡◌, ℕ, zero, suc, ◌<◌, ◌+◌, List, [], ◌∷◌, ◌++◌, length, get_or, take, drop, sym, ap, ◌∙◌, subst, arith, Contains}
 use native.Mathlib.Decide.{dec_lt}
-use Rattle.std.proofs.Math.Seq.{get_or-append_seam}
+use Rattle.std.proofs.Math.Seq.{get_or-append_seam, take-append_seam, drop-append_seam}
 use Rattle.std.proofs.lemmas.List.{length-append, get_or_append_left, get_or_default}
 use Rattle.cqa_model.specs.declared.query.ColRef.{ColRef}
 use Rattle.cqa_model.specs.declared.query.Query.{Query}
 use Rattle.cqa_model.proofs.Classic.{mem-tail}
 use Rattle.plan_rows.specs.Underway.{HasShared, AreShared}
-use Rattle.plan_rows.proofs.PlanParts.{front-of, back-of}
 
 -- a property of each atom of a list, by places
 pub each-atom : (P : ℕ → Type 0) (atoms : List ℕ) (n : ℕ) → length atoms ≡ n → ((k : ℕ) → k < n → P (get_or atoms k 0)) → (F : ℕ) → Contains atoms F → P F
@@ -28,7 +27,7 @@ shared-more q order shared columns count front rest size ef er h new before behi
     go (no k) =
         let t : length (shared ++ columns ∷ []) ≡ length shared + 1 = length-append shared (columns ∷ []) in
         let at : length before ≡ length shared = omega (arith, k, l, t) in
-        let bf : before ≡ front = sym (front-of before behind) ∙ (ap (take (length before)) (sym e) ∙ (ap (λ n. take n order) (at ∙ size) ∙ sym ef)) in
-        let br : behind ≡ rest = sym (back-of before behind) ∙ (ap (drop (length before)) (sym e) ∙ (ap (λ n. drop n order) (at ∙ size) ∙ sym er)) in
+        let bf : before ≡ front = sym (take-append_seam before behind) ∙ (ap (take (length before)) (sym e) ∙ (ap (λ n. take n order) (at ∙ size) ∙ sym ef)) in
+        let br : behind ≡ rest = sym (drop-append_seam before behind) ∙ (ap (drop (length before)) (sym e) ∙ (ap (λ n. drop n order) (at ∙ size) ∙ sym er)) in
         let last : get_or (shared ++ columns ∷ []) (length before) [] ≡ columns = ap (λ n. get_or (shared ++ columns ∷ []) n []) at ∙ get_or-append_seam shared columns [] [] in
         subst (λ cs. HasShared q before behind cs) (sym last) (subst (λ b. HasShared q b behind columns) (sym bf) (subst (λ b. HasShared q front b columns) (sym br) new))

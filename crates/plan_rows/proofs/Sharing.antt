@@ -6,9 +6,11 @@ use Rattle.std.proofs.lemmas.List.{length-append, length-map, append_assoc, get_
 use Rattle.std.proofs.lemmas.List.Elements.{All-contains, Contains-get_or, Contains-append_left, Contains-append_right, Contains-append_cases}
 use Rattle.std.specs.List.{All}
 use Rattle.std.specs.BTreeMap.{get}
+use Rattle.std.proofs.lemmas.Option.{none-some}
 use Rattle.cqa_value.specs.declared.value.Value.{Value}
 use Rattle.cqa_value.specs.declared.value.Value.TheVariants.{Int}
 use Rattle.cqa_value.specs.Values.{nothing, row_cmp}
+use Rattle.cqa_value.proofs.Words.{same_head, same_tail}
 use Rattle.cqa_model.specs.declared.query.ColRef.{ColRef}
 use Rattle.cqa_model.specs.declared.query.Query.{Query}
 use Rattle.cqa_model.specs.Database.{stored}
@@ -16,6 +18,7 @@ use Rattle.cqa_model.specs.Query.{atom_at}
 use Rattle.cqa_model.specs.Variables.{AreLinked}
 use Rattle.cqa_model.specs.Plan.{Placed, Fits, PlanHolds, answer_at}
 use Rattle.cqa_model.proofs.Classic.{mem-head, mem-tail, mem-nil, mem-cases, map_agree}
+use Rattle.cqa_model.proofs.BrokenKey.{same_number}
 use Rattle.plan_rows.specs.Taking.{taken_value}
 use Rattle.plan_rows.specs.Fitting.{AgreesAll, Suits}
 use Rattle.plan_rows.specs.Over.{IsPrepared}
@@ -36,25 +39,15 @@ value-taken (s ∷ ss) c t m e = go (s.atom == c.atom) refl (λ n. value-taken s
     go false f next (inl h) = absurd (false≢true (sym f ∙ eq-eqb s.atom c.atom (ap (λ z. z.atom) h ∙ e)))
     go false f next (inr n) = let r = next n in (r.0, mem-tail r.0 s ss r.1, r.2, r.3)
 
--- the parts of lists that are equal
-heads : {A : Type 0} (x y : A) (xs ys : List A) → x ∷ xs ≡ y ∷ ys → x ≡ y
-heads x y xs ys e = (cc)
-
-tails : {A : Type 0} (x y : A) (xs ys : List A) → x ∷ xs ≡ y ∷ ys → xs ≡ ys
-tails x y xs ys e = (cc)
-
 parts : {A : Type 0} (xs ys us vs : List A) → length xs ≡ length ys → xs ++ us ≡ ys ++ vs → (xs ≡ ys) × (us ≡ vs)
 parts [] [] us vs l e = (refl, e)
 parts [] (y ∷ ys) us vs l e = absurd (omega (arith, l))
 parts (x ∷ xs) [] us vs l e = absurd (omega (arith, l))
 parts (x ∷ xs) (y ∷ ys) us vs l e =
-    let r = parts xs ys us vs (omega (arith, l)) (tails x y (xs ++ us) (ys ++ vs) e) in
-    let h : x ≡ y = heads x y (xs ++ us) (ys ++ vs) e in
+    let r = parts xs ys us vs (omega (arith, l)) (same_tail x y (xs ++ us) (ys ++ vs) e) in
+    let h : x ≡ y = same_head x y (xs ++ us) (ys ++ vs) e in
     let t : xs ≡ ys = r.0 in
     (cc, r.1)
-
-same_number : (a b : ℕ) → Int (pos a) ≡ Int (pos b) → a ≡ b
-same_number a b e = (cc)
 
 -- the atoms of the rows taken
 pub in-atoms : (taken : List Placed) (t : Placed) → Contains taken t → Contains (atoms_of taken) t.atom
@@ -196,7 +189,7 @@ same-rest s taken others plan row other key u v atoms k l h =
     split : (map (taken_value taken) (get_or s.shared.now (length taken) []) ≡ map (taken_value others) (get_or s.shared.now (length taken) [])) × ((if k.settled then [] else row) ≡ (if l.settled then [] else other))
     split = parts (map (taken_value taken) (get_or s.shared.now (length taken) [])) (map (taken_value others) (get_or s.shared.now (length taken) [])) (if k.settled then [] else row) (if l.settled then [] else other)
         (length-map (get_or s.shared.now (length taken) []) (taken_value taken) ∙ sym (length-map (get_or s.shared.now (length taken) []) (taken_value others)))
-        (tails (Int (pos (length plan))) (Int (pos (length plan))) _ _ keys)
+        (same_tail (Int (pos (length plan))) (Int (pos (length plan))) _ _ keys)
 
     moved : PlanHolds s.setting.query.now (stored s.setting.db.now) row others plan
     moved = same-plan s.setting.query.now (stored s.setting.db.now) row taken others plan (same-shared s taken others plan u v atoms k.there split.0) h
@@ -209,7 +202,7 @@ same-key s taken others plan left row other key u v k l h =
     (same-rest s taken others plan row other key u (subst (IsUnderway s others) (sym split.1) v) split.0 k (subst (λ p. IsKey s.setting.query.now s.shared.now others p other key) (sym split.1) l) h)
   where
     count : length plan ≡ length left
-    count = same_number (length plan) (length left) (heads (Int (pos (length plan))) (Int (pos (length left))) _ _ (sym k.is ∙ l.is))
+    count = same_number (length plan) (length left) (same_head (Int (pos (length plan))) (Int (pos (length left))) _ _ (sym k.is ∙ l.is))
 
     orders : atoms_of taken ++ plan ≡ atoms_of others ++ left
     orders = sym u.place ∙ v.place
@@ -250,10 +243,6 @@ key-made s taken plan row columns item place settled (Some key) u e l i c says m
   where
     at : place ≡ length taken
     at = let n = passed-count s taken plan u in omega (arith, e, n)
-
--- nothing is remembered at first
-none-some : (b : Bool) → None ≡ Some b → ⊥
-none-some b e = cc e
 
 pub none-right : (s : Course) (memo : Memo) → ((key : List Value) → get row_cmp memo.known key ≡ None) → IsRight s memo
 none-right s memo n k b g = absurd (none-some b (sym (n k) ∙ g))

@@ -2,8 +2,9 @@
 use Rattle.std.proofs.Common.{◌≡◌, ℕ, suc, ◌<◌, ◌+◌, ◌⊎◌, inl, inr, List, [], ◌∷◌, ◌++◌, length, map, get_or, refl, ap, sym, ◌∙◌, subst, arith, Contains, Option, Some, None}
 use Rattle.std.specs.List.{slice_index, flat_map, range_with_len}
 use Rattle.std.proofs.lemmas.List.{get_or-map}
-use Rattle.std.proofs.lemmas.List.Elements.{All-contains, Contains-append_left, Contains-append_right}
+use Rattle.std.proofs.lemmas.List.Elements.{All-contains, Contains-append_left, Contains-append_right, Contains-append_cases}
 use Rattle.cqa_value.specs.declared.value.Value.{Value}
+use Rattle.cqa_value.proofs.Words.{Contains-map, Contains-from_map, Contains-from_flat_map, Contains-range, in_range}
 use Rattle.cqa_model.specs.declared.query.Query.{Query}
 use Rattle.cqa_model.specs.Database.{nothing}
 use Rattle.cqa_model.specs.Query.{atom_at, atom_key}
@@ -13,18 +14,18 @@ use Rattle.plan_sql.specs.declared.fitting.Fitting.{Fitting}
 use Rattle.sql_text.specs.Meaning.{IsChoice, Selects}
 use Rattle.plan_sql.specs.Variables.{without, ascending, variables_of, key_variables}
 use Rattle.plan_sql.specs.Statement.{held, fit_each, tables_of, asked, asked_known, level_of, blocks_select}
-use Rattle.plan_sql.proofs.Membership.{dec_has, without-into, without-from, ascending-into, ascending-from, append-from, flat-from, map-into, map-from, range-into, range-from}
+use Rattle.plan_sql.proofs.Membership.{dec_has, without-into, without-from, ascending-into, ascending-from}
 use Rattle.plan_sql.proofs.Seeing.{IsKnown, IsRight, held-known, held-right, cells-right}
 use Rattle.plan_sql.proofs.Suiting.{variable, variable-at, Suits, AllSuit, fit_each-known, fit_each-new, fit_each-into, fit_each-from}
 
 -- the variables of an atom are those of its columns
 pub variables-from : (q : Query) (F v : ℕ) → Contains (variables_of q F) v → (i : ℕ) × (i < (atom_at q F).width) × (variable q F i ≡ v)
 variables-from q F v m =
-    let r = map-from (λ i. variable q F i) (range_with_len 0 (atom_at q F).width) v m in
-    (r.0, (let l : r.0 < 0 + (atom_at q F).width = range-from (atom_at q F).width 0 r.0 r.1 in omega arith), r.2)
+    let r = Contains-from_map (λ i. variable q F i) (range_with_len 0 (atom_at q F).width) v m in
+    (r.0, (let l : r.0 < 0 + (atom_at q F).width = (in_range 0 (atom_at q F).width r.0 r.1).1 in omega arith), r.2)
 
 pub variables-into : (q : Query) (F i : ℕ) → i < (atom_at q F).width → Contains (variables_of q F) (variable q F i)
-variables-into q F i l = map-into (λ z. variable q F z) (range_with_len 0 (atom_at q F).width) i (range-into (atom_at q F).width 0 i (omega arith) (omega arith))
+variables-into q F i l = Contains-map (λ z. variable q F z) (range_with_len 0 (atom_at q F).width) i (Contains-range 0 (atom_at q F).width i (omega arith) (omega arith))
 
 module _ (q : Query) (F : ℕ) (lF : F < length q.atoms) where
   pub key-width : (p : ℕ) → Contains (atom_key q F) p → p < (atom_at q F).width
@@ -39,11 +40,11 @@ module _ (q : Query) (F : ℕ) (lF : F < length q.atoms) where
   -- the variables of a block are those of its context, and of its key
   pub block-cases : (context : List ℕ) (v : ℕ) → Contains (context ++ without (ascending (key_variables q F)) context) v →
       Contains context v ⊎ ((Contains context v → ⊥) × ((p : ℕ) × Contains (atom_key q F) p × (variable q F p ≡ v)))
-  block-cases context v m = elim (append-from context (without (ascending (key_variables q F)) context) v m) [
+  block-cases context v m = elim (Contains-append_cases context (without (ascending (key_variables q F)) context) v m) [
     | inl n ↦ inl n
     | inr n ↦
         let k = without-from (ascending (key_variables q F)) context v n in
-        let r = map-from (λ i. slice_index (variables_of q F) i) (atom_key q F) v (ascending-from (key_variables q F) v k.0) in
+        let r = Contains-from_map (λ i. slice_index (variables_of q F) i) (atom_key q F) v (ascending-from (key_variables q F) v k.0) in
         inr (k.1, (r.0, r.1, sym (variable-at q F r.0 (key-width r.0 r.1)) ∙ r.2))
   ]
 
@@ -55,7 +56,7 @@ module _ (q : Query) (F : ℕ) (lF : F < length q.atoms) where
       go (no f) = Contains-append_right context (without (ascending (key_variables q F)) context) (variable q F p)
           (without-into (ascending (key_variables q F)) context (variable q F p)
           (ascending-into (key_variables q F) (variable q F p) (variable-small p (key-width p m))
-          (subst (λ z. Contains (key_variables q F) z) (variable-at q F p (key-width p m)) (map-into (λ i. slice_index (variables_of q F) i) (atom_key q F) p m))) f)
+          (subst (λ z. Contains (key_variables q F) z) (variable-at q F p (key-width p m)) (Contains-map (λ i. slice_index (variables_of q F) i) (atom_key q F) p m))) f)
 
   pub block-context : (context : List ℕ) (v : ℕ) → Contains context v → Contains (context ++ without (ascending (key_variables q F)) context) v
   block-context context v m = Contains-append_left context (without (ascending (key_variables q F)) context) v m
@@ -89,7 +90,7 @@ module _ (q : Query) (F : ℕ) (lF : F < length q.atoms) where
       where
         in_context : (rows : Option ℕ) → IsAvailable rows given context (F ∷ Fs) → Contains context v → IsKnown (fit_each q (length (asked rows)) (F ∷ Fs) (start rows)).known v
         in_context None h n =
-            let f = flat-from (λ G. variables_of q G) (F ∷ Fs) v (h v n) in
+            let f = Contains-from_flat_map (λ G. variables_of q G) (F ∷ Fs) v (h v n) in
             let i = variables-from q f.0 v f.2 in
             subst (λ z. IsKnown (fit_each q 0 (F ∷ Fs) (start None)).known z) i.2 (fit_each-new q [] (F ∷ Fs) 0 (start None) f.0 i.0 f.1 i.1)
         in_context (Some p) h n = fit_each-known q [] (F ∷ Fs) 1 (start (Some p)) v (held-known 0 0 given v (h v n))

@@ -5,6 +5,7 @@ use Rattle.std.specs.Option.{unwrap_or}
 use Rattle.std.proofs.lemmas.List.{get_or-map, length-map, ext_get_or, get_or_default}
 use Rattle.std.proofs.lemmas.List.Elements.{Contains-get_or}
 use Rattle.cqa_value.specs.declared.value.Value.{Value}
+use Rattle.cqa_value.proofs.Words.{Contains-flat_map, in_range, Contains-filter}
 use Rattle.cqa_model.specs.declared.query.ColRef.{ColRef}
 use Rattle.cqa_model.specs.declared.query.Query.{Query}
 use Rattle.cqa_model.specs.Database.{nothing, stored, keys_of}
@@ -12,7 +13,7 @@ use Rattle.cqa_model.specs.Shape.{IsInRange}
 use Rattle.cqa_model.specs.Query.{rows_of}
 use Rattle.cqa_model.specs.Variables.{whole}
 use Rattle.cqa_model.specs.Plan.{answer_at, PlanHolds, IsPlanOf}
-use Rattle.cqa_model.proofs.Classic.{mem-head, mem-tail, mem-nil, mem-cases}
+use Rattle.cqa_model.proofs.Classic.{mem-nil}
 use Rattle.cqa_model.proofs.Databases.{rewriting_is_exact}
 use Rattle.cqa_model.proofs.Elimination.{plan-eliminates}
 use Rattle.cqa_model.proofs.Fitting.{FitsTables, fits_tables}
@@ -23,7 +24,7 @@ use Rattle.plan_sql.specs.Variables.{has, all_below, ascending, variables_of, an
 use Rattle.plan_sql.specs.Statement.{cell, held, find, cell_of, cells_of, steps_of, sql_of}
 use Rattle.plan_sql.specs.Laws.{SqlIsExact, SqlIsWide}
 use Rattle.plan_sql.proofs.Rel.{Rel}
-use Rattle.plan_sql.proofs.Membership.{ascending-into, ascending-from, flat-into, range-low}
+use Rattle.plan_sql.proofs.Membership.{ascending-into, ascending-from}
 use Rattle.plan_sql.proofs.Seeing.{find-cases, held-known, held-right, cells-right}
 use Rattle.plan_sql.proofs.Suiting.{variable, variable-at}
 use Rattle.plan_sql.proofs.Witnessing.{Agrees, witness}
@@ -36,25 +37,17 @@ abbrev IsApart : List ℕ → Type 0
 IsApart [] = Unit {0}
 IsApart (v ∷ vs) = (Contains vs v → ⊥) × IsApart vs
 
-filter-contains : (test : ℕ → Bool) (us : List ℕ) (v : ℕ) → Contains (filter test us) v → Contains us v
-filter-contains test [] v m = m
-filter-contains test (u ∷ us) v m = go (test u) m (filter-contains test us v)
-  where
-    go : (b : Bool) → Contains (cond b (u ∷ filter test us) (filter test us)) v → (Contains (filter test us) v → Contains us v) → Contains (u ∷ us) v
-    go true m next = elim (mem-cases v u (filter test us) m) [ inl e ↦ subst (λ z. Contains (u ∷ us) z) e (mem-head u us) | inr n ↦ mem-tail v u us (next n) ]
-    go false m next = mem-tail v u us (next m)
-
 filter-apart : (test : ℕ → Bool) (us : List ℕ) → IsApart us → IsApart (filter test us)
 filter-apart test [] a = tt
 filter-apart test (u ∷ us) a = go (test u) (filter-apart test us a.1)
   where
     go : (b : Bool) → IsApart (filter test us) → IsApart (cond b (u ∷ filter test us) (filter test us))
-    go true next = ((λ m. a.0 (filter-contains test us u m)), next)
+    go true next = ((λ m. a.0 ((Contains-filter test us u).0 m).0), next)
     go false next = next
 
 range-apart : (n a : ℕ) → IsApart (range_with_len a n)
 range-apart zero a = tt
-range-apart (suc n) a = (λ m. let l : a + 1 ≤ a = range-low n (a + 1) a m in omega arith, range-apart n (a + 1))
+range-apart (suc n) a = (λ m. let l : a + 1 ≤ a = (in_range (a + 1) n a m).0 in omega arith, range-apart n (a + 1))
 
 below-apart : (n : ℕ) → IsApart (all_below n)
 unfolding all_below
@@ -116,7 +109,7 @@ module _ (q : Query) where
             let a = answer-of v (ascending-from (answer_variables q) v m) in
             let r = answer-range a.0 a.1 in
             run-has q (ascending (answer_variables q)) (F ∷ plan) v m
-            (flat-into (λ G. variables_of q G) (F ∷ plan) (answer_at q a.0).atom v (plan-all q (whole q) (F ∷ plan) (plan-eliminates q (whole q) (F ∷ plan) is_plan) (answer_at q a.0).atom r.0)
+            (Contains-flat_map (λ G. variables_of q G) (F ∷ plan) (answer_at q a.0).atom v (plan-all q (whole q) (F ∷ plan) (plan-eliminates q (whole q) (F ∷ plan) is_plan) (answer_at q a.0).atom r.0)
             (subst (λ z. Contains (variables_of q (answer_at q a.0).atom) z) (sym a.2) (variables-into q (answer_at q a.0).atom (answer_at q a.0).col r.1)));
         asked = tt;
       }

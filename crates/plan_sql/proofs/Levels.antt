@@ -4,9 +4,10 @@ use Rattle.std.specs.List.{slice_index, flat_map, range_with_len}
 use Rattle.std.specs.Option.{is_some}
 use Rattle.std.proofs.lemmas.Bool.Decides.{nat_tests}
 use Rattle.std.proofs.lemmas.List.{get_or-map, length-map, length_push, length-append, ext_get_or}
-use Rattle.std.proofs.lemmas.List.Elements.{Contains-append_left, Contains-append_right, Contains-get_or}
+use Rattle.std.proofs.lemmas.List.Elements.{Contains-append_left, Contains-append_right, Contains-get_or, Contains-append_cases}
 use Rattle.std.proofs.lemmas.List.FromFn.{length-map-range_with_len}
 use Rattle.cqa_value.specs.declared.value.Value.{Value}
+use Rattle.cqa_value.proofs.Words.{Contains-map, Contains-from_map, Contains-from_flat_map, Contains-range, in_range}
 use Rattle.cqa_model.specs.declared.query.Query.{Query}
 use Rattle.cqa_model.specs.Database.{nothing}
 use Rattle.cqa_model.specs.Repairs.{SharesKey}
@@ -32,7 +33,7 @@ use Rattle.plan_sql.specs.Variables.{without, ascending, variables_of, key_varia
 use Rattle.plan_sql.specs.Runs.{add, add_all, is_enough, run_from, run_of}
 use Rattle.plan_sql.specs.Statement.{cell, first_cells, held, cell_of, cells_of, see_all, columns_of, level_of, blocks_select, plain, keyed, fitting_of, fit_body, rows_select, agreement, fails_body, holding_of, good_body, step, holds_step, down, next_context, steps_of}
 use Rattle.plan_sql.proofs.Rel.{Rel, new-into, new-from, old-into, old-from, Stays, stays-self, stays-push, stays-trans}
-use Rattle.plan_sql.proofs.Membership.{within-into, within-from, without-from, without-into, ascending-into, ascending-from, append-from, flat-from, map-into, map-from, range-into, range-from, dec_has, columns-into}
+use Rattle.plan_sql.proofs.Membership.{within-into, within-from, without-from, without-into, ascending-into, ascending-from, dec_has, columns-into}
 use Rattle.plan_sql.proofs.Seeing.{IsKnown, held-known, held-right, cell_of-right, cell_of-found, cells-right, see_all-find, see_all-known, see_all-new}
 use Rattle.plan_sql.proofs.Suiting.{variable, variable-at, Suits}
 use Rattle.plan_sql.proofs.Witnessing.{Agrees, IsFixed, agrees-more, agrees-kept, agrees-less, agrees-suits, fixed-same, fits-from, Witnessed, witness}
@@ -151,10 +152,10 @@ module _ (e : ℕ → Value) (columns context : List ℕ) (within_columns : (v :
   agreement-into k m = subst (λ z. Meets (map e columns ∷ map e context ∷ []) z) r.2 (left ∙ sym (get_or-map e context r.0 0 nothing small))
     where
       r : (j : ℕ) × Contains (range_with_len 0 (length context)) j × (Same (cell_of (held 0 0 columns) (slice_index context j)) (cell 1 j) ≡ k)
-      r = map-from (λ j. Same (cell_of (held 0 0 columns) (slice_index context j)) (cell 1 j)) (range_with_len 0 (length context)) k m
+      r = Contains-from_map (λ j. Same (cell_of (held 0 0 columns) (slice_index context j)) (cell 1 j)) (range_with_len 0 (length context)) k m
 
       small : r.0 < length context
-      small = let l : r.0 < 0 + length context = range-from (length context) 0 r.0 r.1 in omega arith
+      small = let l : r.0 < 0 + length context = (in_range 0 (length context) r.0 r.1).1 in omega arith
 
       left : cell_value (map e columns ∷ map e context ∷ []) (cell_of (held 0 0 columns) (slice_index context r.0)) ≡ e (slice_index context r.0)
       left = cell_of-right (map e columns ∷ map e context ∷ []) e (held 0 0 columns) (slice_index context r.0)
@@ -168,7 +169,7 @@ module _ (e : ℕ → Value) (columns context : List ℕ) (within_columns : (v :
       each j lj =
           let small : j < length context = omega (arith, lj, l) in
           let same = met (Same (cell_of (held 0 0 columns) (slice_index context j)) (cell 1 j))
-          (map-into (λ i. Same (cell_of (held 0 0 columns) (slice_index context i)) (cell 1 i)) (range_with_len 0 (length context)) j (range-into (length context) 0 j (omega arith) (omega arith))) in
+          (Contains-map (λ i. Same (cell_of (held 0 0 columns) (slice_index context i)) (cell 1 i)) (range_with_len 0 (length context)) j (Contains-range 0 (length context) j (omega arith) (omega arith))) in
           sym same
           ∙ cell_of-right (map e columns ∷ h ∷ []) e (held 0 0 columns) (slice_index context j)
           (held-right (map e columns ∷ h ∷ []) e 0 columns (λ i li. get_or-map e columns i 0 nothing li))
@@ -321,7 +322,7 @@ module _ (q : Query) (keys : List (List ℕ)) (tables : List (List (List Value))
         all_known = (see_all (variables_of q F) 1 (columns_of q F) (record { known = held 0 0 bl; all = [] })).known
 
         column-known : (v : ℕ) → Contains columns v → IsKnown all_known v
-        column-known v m = elim (append-from bl (without next bl) v m) [
+        column-known v m = elim (Contains-append_cases bl (without next bl) v m) [
           | inl n ↦ in_block n
           | inr n ↦ elim (next_in v (without-from next bl v n).0) [
             | inl c ↦ in_block (block-context q F lF context v c)
@@ -542,7 +543,7 @@ module _ (q : Query) (keys : List (List ℕ)) (tables : List (List (List Value))
 
   next-from : (context : List ℕ) (F : ℕ) (plan : List ℕ) (v : ℕ) → Contains (next_context q context F plan) v → Contains context v ⊎ Contains (variables_of q F) v
   next-from context F plan v m =
-      append-from context (variables_of q F) v (ascending-from (context ++ variables_of q F) v (within-from (ascending (context ++ variables_of q F)) (flat_map (λ G. variables_of q G) plan) v m).0)
+      Contains-append_cases context (variables_of q F) v (ascending-from (context ++ variables_of q F) v (within-from (ascending (context ++ variables_of q F)) (flat_map (λ G. variables_of q G) plan) v m).0)
 
   -- what is fixed once a row of F is taken
   module _ (F : ℕ) (lF : F < length q.atoms) (y : List Value) (taken : List Placed) (given context plan : List ℕ) (fine : IsFine taken given context (F ∷ plan))
@@ -558,7 +559,7 @@ module _ (q : Query) (keys : List (List ℕ)) (tables : List (List (List Value))
       known = known_next;
       wanted = λ v f m.
           within-into (ascending (context ++ variables_of q F)) (flat_map (λ G. variables_of q G) plan) v (ascending-into (context ++ variables_of q F) v (small v m) (among v f m)) m;
-      held_fixed = λ v m. elim (append-from (context ++ without (ascending (key_variables q F)) context) (without (next_context q context F plan) (context ++ without (ascending (key_variables q F)) context)) v m) [
+      held_fixed = λ v m. elim (Contains-append_cases (context ++ without (ascending (key_variables q F)) context) (without (next_context q context F plan) (context ++ without (ascending (key_variables q F)) context)) v m) [
         | inl n ↦ elim (block-cases q F lF context v n) [
           | inl k ↦ fixed-more (placed F y) taken v (fine.known v k)
           | inr k ↦ fixed-here F y taken v k.1.0 (key-width q F lF k.1.0 k.1.1) k.1.2
@@ -569,7 +570,7 @@ module _ (q : Query) (keys : List (List ℕ)) (tables : List (List (List Value))
       where
         small : (v : ℕ) → Contains (flat_map (λ G. variables_of q G) plan) v → v < 192
         small v m =
-            let h = flat-from (λ G. variables_of q G) plan v m in
+            let h = Contains-from_flat_map (λ G. variables_of q G) plan v m in
             let i = variables-from q h.0 v h.2 in
             subst (λ z. z < 192) i.2 (variable-small q h.0 (view-in_range q (placed F y ∷ taken) h.0 (plan-in plan (view_of q (placed F y ∷ taken)) is_plan h.0 h.1)) i.0 i.1)
 

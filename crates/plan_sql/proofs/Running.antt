@@ -1,46 +1,34 @@
 -- The run of an atom: it begins with the atom, is a part of the plan, and has the variables that are to be found in it.
-use Rattle.std.proofs.Common.{◌≡◌, ℕ, ◌⊎◌, inl, inr, Bool, true, false, ◌&&◌, ◌||◌, List, [], ◌∷◌, ◌++◌, map, refl, ap, sym, ◌∙◌, subst, cond, Contains}
+use Rattle.std.proofs.Common.{◌≡◌, ℕ, ◌⊎◌, inl, inr, Bool, true, false, ◌||◌, List, [], ◌∷◌, ◌++◌, map, refl, ap, sym, ◌∙◌, subst, cond, Contains}
 use Rattle.std.specs.List.{flat_map}
-use Rattle.std.proofs.lemmas.Bool.{false≢true}
-use Rattle.std.proofs.lemmas.List.Elements.{Contains-append_left, Contains-append_right}
+use Rattle.std.proofs.lemmas.Bool.{false≢true, and_parts, or_right, or_cases}
+use Rattle.std.proofs.lemmas.List.Elements.{Contains-append_left, Contains-append_right, Contains-append_cases}
 use Rattle.cqa_model.specs.declared.query.Query.{Query}
 use Rattle.cqa_model.proofs.Classic.{mem-head, mem-tail, mem-nil, mem-cases}
 use Rattle.plan_sql.specs.Variables.{has, meets, variables_of}
 use Rattle.plan_sql.specs.Runs.{add, add_all, in_some, covers, is_enough, run_from, run_of}
-use Rattle.plan_sql.proofs.Membership.{has-into, has-from, append-from}
-
-or-cases : (a b : Bool) → (a || b) ≡ true → (a ≡ true) ⊎ (b ≡ true)
-or-cases true b e = inl refl
-or-cases false b e = inr e
-
-and-cases : (a b : Bool) → (a && b) ≡ true → (a ≡ true) × (b ≡ true)
-and-cases true b e = (refl, e)
-and-cases false b e = absurd (false≢true e)
-
-or-right : (a b : Bool) → b ≡ true → (a || b) ≡ true
-or-right true b e = refl
-or-right false b e = e
+use Rattle.plan_sql.proofs.Membership.{has-into, has-from}
 
 -- what is in a group once one list was added is in the list, or was in a group
 added : (vs : List ℕ) (groups : List (List ℕ)) (v : ℕ) → in_some (add vs groups) v ≡ true → Contains vs v ⊎ (in_some groups v ≡ true)
-added vs [] v h = elim (or-cases (has vs v) false h) [ inl a ↦ inl (has-from vs v a) | inr b ↦ absurd (false≢true b) ]
+added vs [] v h = elim (or_cases (has vs v) false h) [ inl a ↦ inl (has-from vs v a) | inr b ↦ absurd (false≢true b) ]
 added vs (g ∷ gs) v h = go (meets vs g) h (added (vs ++ g) gs v) (added vs gs v)
   where
     go : (b : Bool) → in_some (cond b (add (vs ++ g) gs) (g ∷ add vs gs)) v ≡ true →
         (in_some (add (vs ++ g) gs) v ≡ true → Contains (vs ++ g) v ⊎ (in_some gs v ≡ true)) → (in_some (add vs gs) v ≡ true → Contains vs v ⊎ (in_some gs v ≡ true)) →
         Contains vs v ⊎ (in_some (g ∷ gs) v ≡ true)
     go true h both one = elim (both h) [
-      | inl m ↦ elim (append-from vs g v m) [ inl a ↦ inl a | inr b ↦ inr (ap (λ z. z || in_some gs v) (has-into g v b)) ]
-      | inr n ↦ inr (or-right (has g v) (in_some gs v) n)
+      | inl m ↦ elim (Contains-append_cases vs g v m) [ inl a ↦ inl a | inr b ↦ inr (ap (λ z. z || in_some gs v) (has-into g v b)) ]
+      | inr n ↦ inr (or_right (has g v) (in_some gs v) n)
     ]
-    go false h both one = elim (or-cases (has g v) (in_some (add vs gs) v) h) [
+    go false h both one = elim (or_cases (has g v) (in_some (add vs gs) v) h) [
       | inl a ↦ inr (ap (λ z. z || in_some gs v) a)
-      | inr b ↦ elim (one b) [ inl m ↦ inl m | inr n ↦ inr (or-right (has g v) (in_some gs v) n) ]
+      | inr b ↦ elim (one b) [ inl m ↦ inl m | inr n ↦ inr (or_right (has g v) (in_some gs v) n) ]
     ]
 
 covered : (groups : List (List ℕ)) (vs : List ℕ) (v : ℕ) → covers groups vs ≡ true → Contains vs v → in_some groups v ≡ true
 covered groups [] v h m = absurd (mem-nil v m)
-covered groups (u ∷ vs) v h m = let b = and-cases (in_some groups u) (covers groups vs) h in elim (mem-cases v u vs m) [
+covered groups (u ∷ vs) v h m = let b = and_parts (in_some groups u) (covers groups vs) h in elim (mem-cases v u vs m) [
   | inl e ↦ ap (in_some groups) (sym e) ∙ b.0
   | inr n ↦ covered groups vs v b.1 n
 ]
@@ -72,10 +60,10 @@ module _ (q : Query) (wanted : List ℕ) (all : List (List ℕ)) where
           ((in_some (add (variables_of q F) groups) v ≡ true) ⊎ Contains (flat_map (λ G. variables_of q G) plan) v →
           (in_some (add (variables_of q F) groups) v ≡ true) ⊎ Contains (flat_map (λ G. variables_of q G) (run_from q wanted all (add (variables_of q F) groups) plan)) v) →
           (in_some groups v ≡ true) ⊎ Contains (variables_of q F ++ flat_map (λ G. variables_of q G) (cond b [] (run_from q wanted all (add (variables_of q F) groups) plan))) v
-      go true e next = here [] (covered (add (variables_of q F) groups) wanted v (and-cases (covers (add (variables_of q F) groups) wanted) _ e).0 m)
+      go true e next = here [] (covered (add (variables_of q F) groups) wanted v (and_parts (covers (add (variables_of q F) groups) wanted) _ e).0 m)
       go false e next = elim h [
         | inl a ↦ inl a
-        | inr n ↦ elim (append-from (variables_of q F) (flat_map (λ G. variables_of q G) plan) v n) [
+        | inr n ↦ elim (Contains-append_cases (variables_of q F) (flat_map (λ G. variables_of q G) plan) v n) [
           | inl k ↦ inr (Contains-append_left (variables_of q F) (flat_map (λ G. variables_of q G) (run_from q wanted all (add (variables_of q F) groups) plan)) v k)
           | inr k ↦ elim (next (inr k)) [
             | inl a ↦ here (run_from q wanted all (add (variables_of q F) groups) plan) a

@@ -4,7 +4,7 @@ use native.Mathlib.Decide.{ℕ_discrete}
 use Rattle.std.specs.List.{slice_index}
 use Rattle.std.specs.Option.{unwrap_or}
 use Rattle.std.proofs.lemmas.Bool.Decides.{nat_tests}
-use Rattle.std.proofs.lemmas.List.Elements.{Contains-append_left, Contains-append_right}
+use Rattle.std.proofs.lemmas.List.Elements.{Contains-append_left, Contains-append_right, Contains-append_cases}
 use Rattle.cqa_value.specs.declared.value.Value.{Value}
 use Rattle.cqa_model.proofs.Classic.{mem-head, mem-tail, mem-nil, mem-cases}
 use Rattle.sql_text.specs.declared.syntax.Cell.{Cell}
@@ -14,7 +14,6 @@ use Rattle.plan_sql.specs.declared.fitting.Known.{Known}
 use Rattle.plan_sql.specs.declared.fitting.Fitting.{Fitting}
 use Rattle.sql_text.specs.Meaning.{cell_value, Meets, MeetsAll}
 use Rattle.plan_sql.specs.Statement.{cell, held, find, cell_of, cells_of, see_by, see, see_all}
-use Rattle.plan_sql.proofs.Membership.{append-from}
 
 -- an assignment with another value for one variable
 abbrev pub update : (ℕ → Value) → ℕ → Value → ℕ → Value
@@ -115,7 +114,7 @@ module _ (w : List (List Value)) where
   meets-right xs ys h k m = h k (Contains-append_right xs ys k m)
 
   pub meets-both : (xs ys : List Cmp) → MeetsAll w xs → MeetsAll w ys → MeetsAll w (xs ++ ys)
-  meets-both xs ys h g k m = elim (append-from xs ys k m) [ inl n ↦ h k n | inr n ↦ g k n ]
+  meets-both xs ys h g k m = elim (Contains-append_cases xs ys k m) [ inl n ↦ h k n | inr n ↦ g k n ]
 
   meets-one : (k : Cmp) → Meets w k → MeetsAll w (k ∷ [])
   meets-one k h l m = elim (mem-cases l k [] m) [ inl e ↦ subst (λ z. Meets w z) e h | inr n ↦ absurd (mem-nil l n) ]
@@ -168,7 +167,7 @@ module _ (w : List (List Value)) where
   see_by-into env s v c None e r m h = (right, m)
     where
       right : IsRight env (s.known ++ record { variable = v; cell = c } ∷ [])
-      right k n = elim (append-from s.known (record { variable = v; cell = c } ∷ []) k n) [
+      right k n = elim (Contains-append_cases s.known (record { variable = v; cell = c } ∷ []) k n) [
         | inl a ↦ r k a
         | inr b ↦ elim (mem-cases k (record { variable = v; cell = c }) [] b) [ inl f ↦ subst (λ (z : Known). cell_value w z.cell ≡ env z.variable) f h | inr z ↦ absurd (mem-nil k z) ]
       ]
@@ -244,7 +243,7 @@ module _ (w : List (List Value)) where
           x = cell_value w c
 
           right : IsRight (update env v x) (s.known ++ record { variable = v; cell = c } ∷ [])
-          right k n = elim (append-from s.known (record { variable = v; cell = c } ∷ []) k n) [
+          right k n = elim (Contains-append_cases s.known (record { variable = v; cell = c } ∷ []) k n) [
             | inl a ↦ r k a ∙ sym (update-other env v x k.variable (λ g. unknown s.known k v f a g))
             | inr b ↦ elim (mem-cases k (record { variable = v; cell = c }) [] b) [
               | inl g ↦ subst (λ (z : Known). cell_value w z.cell ≡ update env v x z.variable) g (sym (update-same env v x))

@@ -4,6 +4,7 @@ use Rattle.std.specs.List.{slice_index}
 use Rattle.std.proofs.lemmas.Bool.Decides.{nat_tests}
 use Rattle.std.proofs.lemmas.List.FromFn.{get_or-map-range_with_len}
 use Rattle.cqa_value.specs.declared.value.Value.{Value}
+use Rattle.cqa_value.proofs.Words.{Contains-flat_map, Contains-from_flat_map}
 use Rattle.cqa_model.specs.declared.query.Cond.{Cond}
 use Rattle.cqa_model.specs.declared.query.Cond.TheVariants.{Join, Test}
 use Rattle.cqa_model.specs.declared.query.Query.{Query}
@@ -17,7 +18,7 @@ use Rattle.plan_sql.specs.declared.fitting.Fitting.{Fitting}
 use Rattle.sql_text.specs.Meaning.{Meets, MeetsAll}
 use Rattle.plan_sql.specs.Variables.{has, variables_of}
 use Rattle.plan_sql.specs.Statement.{cell, see_all, test_at, tests_at, fit_on, columns_of, fit_each}
-use Rattle.plan_sql.proofs.Membership.{has-into, flat-into, flat-from, columns-into, columns-from}
+use Rattle.plan_sql.proofs.Membership.{has-into, columns-into, columns-from}
 use Rattle.plan_sql.proofs.Seeing.{IsKnown, IsRight, Continues, meets-left, meets-right, meets-both, see_all-keeps, see_all-known, see_all-new, see_all-into, see_all-from}
 
 -- the number of a column's variable
@@ -43,7 +44,7 @@ TestedOn F columns x (Test c op y) = c.atom ≡ F → Contains columns c.col →
 
 module _ (q : Query) (w : List (List Value)) (F place : ℕ) where
   pub tests-into : (columns : List ℕ) → Tested q F (get_or w place []) → MeetsAll w (tests_at q F place columns)
-  tests-into columns h k m = let r = flat-from (λ (z : Cond). test_at F place columns z) q.conds k m in go r.0 r.1 r.2
+  tests-into columns h k m = let r = Contains-from_flat_map (λ (z : Cond). test_at F place columns z) q.conds k m in go r.0 r.1 r.2
     where
       go : (c : Cond) → Contains q.conds c → Contains (test_at F place columns c) k → Meets w k
       go (Join c d) n o = absurd (mem-nil k o)
@@ -61,7 +62,7 @@ module _ (q : Query) (w : List (List Value)) (F place : ℕ) where
   tests-from columns h (Test c op x) m = λ e n.
       let t : (eqb c.atom F && has columns c.col) ≡ true = let a : has columns c.col ≡ true = has-into columns c.col n in grind (arith, nat_tests) in
       h (Compare (cell place c.col) op x)
-      (flat-into (λ (z : Cond). test_at F place columns z) q.conds (Test c op x) (Compare (cell place c.col) op x) m
+      (Contains-flat_map (λ (z : Cond). test_at F place columns z) q.conds (Test c op x) (Compare (cell place c.col) op x) m
       (subst (λ b. Contains (cond b (Compare (cell place c.col) op x ∷ []) []) (Compare (cell place c.col) op x)) (sym t) (mem-head (Compare (cell place c.col) op x) [])))
 
   pub fit_on-into : (env : ℕ → Value) (columns : List ℕ) (s : Fitting) → ((i : ℕ) → Contains columns i → i < (atom_at q F).width) → IsRight w env s.known → MeetsAll w s.all →

@@ -1,5 +1,5 @@
 -- Assignments of values to variables, and the rows that a plan takes.
-use Rattle.std.proofs.Common.{◌≡◌, ℕ, ◌<◌, ◌⊎◌, inl, inr, List, ◌∷◌, length, get_or, refl, ap, sym, ◌∙◌, subst, arith, Contains}
+use Rattle.std.proofs.Common.{◌≡◌, ℕ, ◌<◌, ◌⊎◌, inl, inr, List, ◌∷◌, length, get_or, refl, ap, sym, ◌∙◌, subst, Contains}
 use Rattle.std.proofs.lemmas.List.{get_or-map}
 use Rattle.std.proofs.lemmas.List.Elements.{Contains-get_or}
 use Rattle.cqa_value.specs.declared.value.Value.{Value}
@@ -12,12 +12,10 @@ use Rattle.cqa_model.specs.Shape.{IsInRange}
 use Rattle.cqa_model.specs.Query.{OpHolds, atom_at, rows_of, row_at, value}
 use Rattle.cqa_model.specs.Labels.{label, column}
 use Rattle.cqa_model.specs.Repairs.{IsRepairBy}
-use Rattle.cqa_model.specs.Variables.{number}
 use Rattle.cqa_model.specs.Partial.{view_of, AllFit, IsPartial}
 use Rattle.cqa_model.specs.Plan.{Placed, TestHolds, answer_at, Fits, PlanHolds, IsPlan}
 use Rattle.cqa_model.proofs.Classic.{mem-head, mem-tail, mem-cases}
-use Rattle.cqa_model.proofs.Columns.{range-small, least-of}
-use Rattle.cqa_model.proofs.Decisions.{column_eq}
+use Rattle.cqa_model.proofs.Columns.{range-small, least-of, column-number}
 use Rattle.cqa_model.proofs.Existence.{some_repair}
 use Rattle.cqa_model.proofs.Elimination.{plan-eliminates}
 use Rattle.cqa_model.proofs.Exactness.{sound}
@@ -26,9 +24,6 @@ use Rattle.cqa_model.proofs.Labels.{label-linked}
 use Rattle.cqa_model.proofs.Reification.{kept-stored, placed}
 use Rattle.cqa_model.proofs.Views.{value-linked, view-in_range, taken-in_range}
 use Rattle.plan_sql.proofs.Suiting.{variable, Suits}
-
-column-number : (d : ColRef) → d.col < 16 → column (number d) ≡ d
-column-number d l = column_eq (column (number d)) d (omega (arith, l)) (omega (arith, l))
 
 module _ (q : Query) (row : List Value) where
   -- an assignment has the values of the candidate and of the rows taken

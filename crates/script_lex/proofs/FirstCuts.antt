@@ -1,8 +1,9 @@
 -- What stands first, from the places of its parts.
-use Rattle.std.proofs.Common.{◌≡◌, ◌+◌, ◌-◌, ◌<◌, ◌≤◌, ◌==◌, ℕ, Bool, true, false, List, [], ◌∷◌, ◌++◌, length, take, drop, get_or, slice_range, Option, Some, None, refl, sym, ◌∙◌, ap, subst, arith, append_assoc, add-one, drop-cons, length-take, length-drop, length-append, if◌then◌else◌}
+use Rattle.std.proofs.Common.{◌≡◌, ◌+◌, ◌-◌, ◌<◌, ◌≤◌, ◌==◌, ℕ, Bool, true, false, List, [], ◌∷◌, ◌++◌, length, take, drop, get_or, slice_range, Option, Some, None, refl, sym, ◌∙◌, ap, subst, arith, append_assoc, length-take, length-drop, length-append, if◌then◌else◌}
 use Rattle.std.proofs.lemmas.Bool.Decides.{nat_tests}
-use Rattle.std.proofs.lemmas.List.{take_all, take-append-drop, drop-drop}
+use Rattle.std.proofs.lemmas.List.{take_all, take-append-drop, drop-drop, drop_more}
 use Rattle.std.proofs.Math.Seq.{take-append_seam, drop-append_seam}
+use Rattle.cqa_value.proofs.Words.{clash}
 use Rattle.script_lex.specs.declared.blocks.BlockEnd.{BlockEnd}
 use Rattle.script_lex.specs.declared.cutting.Cut.TheVariants as cuts
 use Rattle.script_lex.specs.declared.modes.Mode.{Mode}
@@ -12,15 +13,8 @@ use Rattle.script_lex.specs.declared.modes.Stop.{Stop}
 use Rattle.script_lex.specs.Bytes.{is_blank}
 use Rattle.script_lex.specs.ScriptParts.{Stands, BeginsAt, EndsAt, HasNoEnd, SkipsAt, BlockEndsAt, HasNoBlock}
 use Rattle.script_lex.specs.Scripts.{after, is_gap_byte, is_text_byte, Leads, IsGap, IsSpace, BeginsOutright, IsText, IsCopy, Skips, IsBlock, Follows, First, IsCut}
-use Rattle.script_lex.proofs.Runs.{clash}
 use Rattle.script_lex.proofs.Leading.{Leads-rest, stop_same, stop_none, semicolon_ends, outright_stays, gap_same, outright-semicolon, outright-take, last_dash}
 use Rattle.script_lex.proofs.BlockLines.{skips_same}
-
-pub rest_of : (bytes : List ℕ) (from : ℕ) → take (length bytes - from) (drop from bytes) ≡ drop from bytes
-rest_of bytes from = take_all (length bytes - from) (drop from bytes) (omega (arith, length-drop from bytes))
-
-headed : (bytes : List ℕ) (i : ℕ) → i < length bytes → drop i bytes ≡ get_or bytes i 0 ∷ drop (i + 1) bytes
-headed bytes i lt = rw (add-one, drop-cons bytes i 0) refl
 
 -- a gap that goes over to a dash of something else
 pub start_dash : (bytes : List ℕ) (stop : Stop) → Stands regions.Gap bytes stop → stop.mode ≡ Dash → BeginsAt bytes (stop.at - 1)
@@ -33,7 +27,7 @@ start_dash bytes stop h dash = go (take stop.at bytes) refl (subst (λ m. Leads 
         no_dash : get_or (drop stop.at bytes) 0 0 ≡ b → b ≡ 45 → ⊥
         no_dash k l =
             let lt : stop.at < length bytes = omega (arith, ap length e, length-drop stop.at bytes) in
-            let here : get_or bytes stop.at 0 ≡ 45 = ap (λ z. get_or z 0 0) (sym (headed bytes stop.at lt)) ∙ k ∙ l in
+            let here : get_or bytes stop.at 0 ≡ 45 = ap (λ z. get_or z 0 0) (sym (drop_more bytes stop.at 0 lt)) ∙ k ∙ l in
             clash (is_gap_byte Dash 45) refl (subst (λ z. is_gap_byte Dash z ≡ false) here (subst (λ m. is_gap_byte m (get_or bytes stop.at 0) ≡ false) dash (h.here lt)))
 
     go : (xs : List ℕ) → take stop.at bytes ≡ xs → Leads is_gap_byte Outside xs Dash → BeginsAt bytes (stop.at - 1)
@@ -92,7 +86,7 @@ start_other bytes stop h no_dash lt = go stop.mode refl
     go Outside e = record {
       within = lt;
       gap = record { leads = subst (λ m. Leads is_gap_byte Outside (take stop.at bytes) m) e h.leads };
-      outright = subst BeginsOutright (sym (headed bytes stop.at lt)) (outright (get_or bytes stop.at 0) (drop (stop.at + 1) bytes) (subst (λ m. is_gap_byte m (get_or bytes stop.at 0) ≡ false) e (h.here lt)));
+      outright = subst BeginsOutright (sym (drop_more bytes stop.at 0 lt)) (outright (get_or bytes stop.at 0) (drop (stop.at + 1) bytes) (subst (λ m. is_gap_byte m (get_or bytes stop.at 0) ≡ false) e (h.here lt)));
     }
     go Dash e = absurd (no_dash e)
     go Text e = absurd (gap_no_text (take stop.at bytes) Outside stop.mode h.leads (λ k. absurd (cc k)) e)
@@ -127,7 +121,7 @@ cut_unended ended bytes from h n = (
 
 -- the bytes at a text's end
 at_end : (bytes : List ℕ) (count : ℕ) → EndsAt bytes count → bytes ≡ take count bytes ++ 59 ∷ drop (count + 1) bytes
-at_end bytes count h = sym (take-append-drop count bytes) ∙ ap (λ z. take count bytes ++ z) (headed bytes count h.within ∙ ap (λ z. z ∷ drop (count + 1) bytes) h.here)
+at_end bytes count h = sym (take-append-drop count bytes) ∙ ap (λ z. take count bytes ++ z) (drop_more bytes count 0 h.within ∙ ap (λ z. z ∷ drop (count + 1) bytes) h.here)
 
 text_range : (bytes : List ℕ) (from count : ℕ) → slice_range bytes from (from + count) ≡ take count (drop from bytes)
 text_range bytes from count = ap (λ z. take z (drop from bytes)) (omega arith)

@@ -1,7 +1,8 @@
 -- Where bytes lead, from mode to mode.
-use Rattle.std.proofs.Common.{◌≡◌, ◌+◌, ◌<◌, ◌==◌, ℕ, zero, suc, Bool, true, false, not, ◌&&◌, List, [], ◌∷◌, ◌++◌, length, take, drop, get_or, refl, sym, ◌∙◌, ap, subst, arith, length-drop, if◌then◌else◌}
+use Rattle.std.proofs.Common.{◌≡◌, ◌+◌, ◌<◌, ◌==◌, ℕ, zero, suc, Bool, true, false, not, ◌&&◌, List, [], ◌∷◌, ◌++◌, length, take, drop, get_or, refl, sym, ◌∙◌, ap, subst, arith, length-drop, if◌then◌else◌, take-add}
 use Rattle.std.proofs.lemmas.Bool.Decides.{nat_tests}
 use Rattle.std.proofs.lemmas.List.{take_more}
+use Rattle.cqa_value.proofs.Words.{clash}
 use Rattle.script_lex.specs.declared.modes.Mode.{Mode}
 use Rattle.script_lex.specs.declared.modes.Mode.TheVariants.{Outside, Dash, Text, Comment}
 use Rattle.script_lex.specs.declared.modes.Region.{Region}
@@ -11,7 +12,6 @@ use Rattle.script_lex.specs.declared.bytes.Class.TheVariants.{NotQuote, Plain}
 use Rattle.script_lex.specs.Bytes.{is_blank, quote, dash, semicolon, test_of, AllPass, Runs}
 use Rattle.script_lex.specs.ScriptParts.{passes_in, Reaches, Stays}
 use Rattle.script_lex.specs.Scripts.{after, is_outside, Leads, is_gap_byte, is_text_byte, IsGap, IsSpace, BeginsOutright, IsText}
-use Rattle.script_lex.proofs.Runs.{clash, take_both}
 
 -- one byte more
 pub Leads-push : (test : Mode → ℕ → Bool) (from : Mode) (xs : List ℕ) (to : Mode) (b : ℕ) → Leads test from xs to → test to b ≡ true → Leads test from (xs ++ b ∷ []) (after to b)
@@ -50,7 +50,7 @@ text_leads bytes n r = record { within = r.within; leads = Leads-still NotQuote 
 pub reaches_on : (region : Region) (bytes : List ℕ) (at n : ℕ) (mode : Mode) → Reaches region bytes (record { at = at; mode = mode }) → Stays region mode (drop at bytes) n → Reaches region bytes (record { at = at + n; mode = mode })
 reaches_on region bytes at n mode h stays = record {
   within = omega (arith, h.within, stays.within, length-drop at bytes);
-  leads = rw (take_both at n bytes) (Leads-append (passes_in region) Outside (take at bytes) (take n (drop at bytes)) mode mode h.leads stays.leads);
+  leads = rw (take-add at n bytes) (Leads-append (passes_in region) Outside (take at bytes) (take n (drop at bytes)) mode mode h.leads stays.leads);
 }
 
 -- bytes that begin with others lead on from where those lead

@@ -3,6 +3,7 @@ use Rattle.std.proofs.Common.{◌≡◌, inl, inr, ◌+◌, ◌<◌, ◌≤◌, 
 use Rattle.std.proofs.lemmas.Bool.Decides.{nat_tests}
 use Rattle.std.proofs.lemmas.Bool.{cases_lt}
 use Rattle.std.proofs.lemmas.List.{take_all}
+use Rattle.cqa_value.proofs.Words.{clash}
 use Rattle.script_lex.specs.declared.bytes.Class.{Class}
 use Rattle.script_lex.specs.declared.bytes.Class.TheVariants as classes
 use Rattle.script_lex.specs.declared.kinds.Symbol.{Symbol}
@@ -12,7 +13,6 @@ use Rattle.script_lex.specs.declared.pieces.PieceKind.TheVariants.{Blank, Commen
 use Rattle.script_lex.specs.Bytes.{is_blank, is_letter, is_digit, test_of, AllPass, Runs}
 use Rattle.script_lex.specs.TokenParts.{is_single, EndsQuoted}
 use Rattle.script_lex.specs.Tokens.{symbol_bytes, IsQuoted, IsPiece, IsLongest, NoPiece}
-use Rattle.script_lex.proofs.Runs.{clash}
 use Rattle.script_lex.proofs.FirstBytes.{begins, first_of, none_empty, word_longer, digit_longer, blank_longer, single_longer}
 use Rattle.script_lex.proofs.Quotes.{no_quoted}
 

@@ -16,7 +16,7 @@ abbrev run : Bool → List ℕ → Option Bool
 run o [] = Some o
 run o (b ∷ bs) = then_run (step_of o b) (λ p. run p bs)
 
-is_39 : (b : ℕ) → (b == 39) ≡ true → b ≡ 39
+pub is_39 : (b : ℕ) → (b == 39) ≡ true → b ≡ 39
 is_39 b e = grind (arith, nat_tests)
 
 quoted_runs : (value : List ℕ) → run true (doubled value ++ 39 ∷ []) ≡ Some false

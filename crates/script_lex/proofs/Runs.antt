@@ -1,19 +1,9 @@
 -- Runs of bytes that pass a test.
-use Rattle.std.proofs.Common.{◌≡◌, ◌+◌, ◌-◌, ◌<◌, ◌≤◌, ℕ, zero, suc, Bool, true, false, List, [], ◌∷◌, ◌++◌, length, take, drop, get_or, refl, sym, ◌∙◌, ap, subst, arith, length-drop}
-use Rattle.std.proofs.Math.Seq.{take-nil}
+use Rattle.std.proofs.Common.{◌≡◌, ◌+◌, ◌-◌, ◌<◌, ◌≤◌, ℕ, zero, suc, Bool, true, false, List, [], ◌∷◌, ◌++◌, length, take, drop, get_or, refl, ◌∙◌, ap, subst, arith, length-drop, take-add}
 use Rattle.std.proofs.lemmas.List.{take_more, drop-take}
+use Rattle.cqa_value.proofs.Words.{clash}
 use Rattle.script_lex.specs.declared.bytes.Class.{Class}
 use Rattle.script_lex.specs.Bytes.{test_of, AllPass, Runs}
-
--- the first bytes, and then some of the others
-pub take_both : (n m : ℕ) (bytes : List ℕ) → take (n + m) bytes ≡ take n bytes ++ take m (drop n bytes)
-take_both zero m bytes = let same : zero + m ≡ m = omega arith in ap (λ k. take k bytes) same
-take_both (suc n) m [] = take-nil (suc n + m) ∙ sym (take-nil m)
-take_both (suc n) m (b ∷ bytes) = let same : suc n + m ≡ suc (n + m) = omega arith in ap (λ k. take k (b ∷ bytes)) same ∙ ap (λ z. b ∷ z) (take_both n m bytes)
-
-pub clash : (b : Bool) → b ≡ true → b ≡ false → ⊥
-clash true h k = (cc)
-clash false h k = (cc)
 
 pub AllPass-push : (test : ℕ → Bool) (xs : List ℕ) (b : ℕ) → AllPass test xs → test b ≡ true → AllPass test (xs ++ b ∷ [])
 AllPass-push test [] b h k = (k, tt)
@@ -72,7 +62,7 @@ run_behind class bytes known n within each r =
     let rest = length-drop known bytes in
     record {
       within = omega (arith, r.within, rest);
-      each = rw (take_both known n bytes) (AllPass-append (test_of class) (take known bytes) (take n (drop known bytes)) each r.each);
+      each = rw (take-add known n bytes) (AllPass-append (test_of class) (take known bytes) (take n (drop known bytes)) each r.each);
       stop = λ m more le all. r.stop (m - known) (omega arith) (omega (arith, rest))
           (subst (AllPass (test_of class)) (drop-take known (m - known) bytes)
           (AllPass-drop (test_of class) known (take (known + (m - known)) bytes)

@@ -5,6 +5,7 @@ use Rattle.std.proofs.lemmas.Bool.{cases_order}
 use Rattle.std.proofs.lemmas.Str.{utf8_valid_len-IsValidUpTo}
 use Rattle.std.specs.List.{AllByRecursion}
 use Rattle.std.specs.Str.Lossy.{utf8_valid_len}
+use Rattle.std.proofs.lemmas.List.{take_rest}
 use Rattle.cqa_value.specs.declared.memory.Fail.{Fail}
 use Rattle.cqa_value.specs.declared.memory.Fail.TheVariants.{NoMemory, Refused}
 use Rattle.script_lex.specs.declared.kinds.Span.{Span}
@@ -21,7 +22,6 @@ use Rattle.script_lex.specs.declared.pieces.Piece.{Piece}
 use Rattle.script_lex.specs.Bytes.{is_digit}
 use Rattle.script_lex.specs.TokenParts.{RefusesByte, Found}
 use Rattle.script_lex.specs.Tokens.{longest_text, symbol_bytes, IsQuoted, IsPiece, IsLongest, NoPiece, Splits, inside_of, IsClean, IsUnclean, kept, tokens_of, Spells, IsBadAt, IsBadByte, IsFault}
-use Rattle.script_lex.proofs.FirstCuts.{rest_of}
 use Rattle.script_lex.proofs.FirstBytes.{begins, first_of, none_empty}
 use Rattle.script_lex.proofs.Quotes.{no_quoted}
 
@@ -53,7 +53,7 @@ piece_at at kind n = record { kind = kind; span = record { from = at; to = at + 
 pub SoFar-piece : (text : List ℕ) (at : ℕ) (tokens new : List Token) (kind : PieceKind) (n : ℕ) → SoFar text at tokens → Found (take (length text - at) (drop at text)) (Some (kind, n)) → IsClean text (piece_at at kind n)
     → new ≡ tokens ++ kept kind (record { from = at; to = at + n }) → SoFar text (at + n) new
 SoFar-piece text at tokens new kind n h f c e =
-    let found = rw rest_of at f in
+    let found = rw take_rest at f in
     let p : Piece = piece_at at kind n in
     let w : n ≤ length (drop at text) = found.0.within in
     let k : n ≡ (at + n) - at = omega arith in
@@ -81,7 +81,7 @@ text_two (b ∷ bs) p = let h = quoted_some bs p.1 in omega (arith, h)
 
 pub text_wide : (text : List ℕ) (at : ℕ) (kind : PieceKind) (n : ℕ) → at ≤ length text → Found (take (length text - at) (drop at text)) (Some (kind, n)) → kind ≡ (OfToken Text) → (at + 2 ≤ at + n) × (at + n ≤ length text)
 text_wide text at kind n le f e =
-    let s = rw rest_of at f in
+    let s = rw take_rest at f in
     let w : n ≤ length (drop at text) = s.0.within in
     let two = text_two (take n (drop at text)) (subst (λ z. IsPiece z (take n (drop at text))) e s.0.piece) in
     (omega (arith, two, length-take n (drop at text)), omega (arith, length-drop at text, w))
@@ -89,7 +89,7 @@ text_wide text at kind n le f e =
 pub SoFar-bad : (text : List ℕ) (at place : ℕ) (tokens : List Token) (kind : PieceKind) (n : ℕ) → SoFar text at tokens → Found (take (length text - at) (drop at text)) (Some (kind, n))
     → IsUnclean text (piece_at at kind n) place → IsBadByte text place
 SoFar-bad text at place tokens kind n h f u =
-    let s = rw rest_of at f in
+    let s = rw take_rest at f in
     let k : n ≡ (at + n) - at = omega arith in
     record {
       pieces = h.pieces;
@@ -100,7 +100,7 @@ SoFar-bad text at place tokens kind n h f u =
     }
 
 pub SoFar-none : (text : List ℕ) (at : ℕ) (tokens : List Token) → SoFar text at tokens → at < length text → Found (take (length text - at) (drop at text)) None → IsBadByte text at
-SoFar-none text at tokens h lt f = record { pieces = h.pieces; end = at; splits = h.splits; clean = h.clean; bad = inl (refl, lt, rw rest_of at f) }
+SoFar-none text at tokens h lt f = record { pieces = h.pieces; end = at; splits = h.splits; clean = h.clean; bad = inl (refl, lt, rw take_rest at f) }
 
 pub SoFar-whole : (text : List ℕ) (at : ℕ) (tokens : List Token) → SoFar text at tokens → length text ≤ at → Spells text tokens
 SoFar-whole text at tokens h le =

@@ -18,6 +18,7 @@ pub enum Class {
     Plain,
 }
 
+/// Whether a byte is of a class.
 pub fn is_in(class: Class, byte: u8) -> bool
     ensures { result ≡ test_of class byte }
 {

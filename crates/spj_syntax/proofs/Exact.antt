@@ -1,10 +1,11 @@
 -- A walk answers exactly what the shape spells, where one token ahead decides each step.
 use Rattle.std.proofs.Common.{◌≡◌, ◌⊎◌, inl, inr, ℕ, Bool, true, false, not, ◌&&◌, ◌||◌, nat_eq, List, [], ◌∷◌, ◌++◌, Option, Some, None, refl, sym, ◌∙◌, ap, subst, append_assoc, pos}
 use Rattle.std.specs.List.{AllByRecursion}
-use Rattle.std.specs.Cmp.Lexicographic.{pointwise}
-use Rattle.std.proofs.lemmas.Bool.{and_parts}
+use Rattle.std.specs.Cmp.Lexicographic.{pointwise, same_text}
+use Rattle.std.proofs.lemmas.Bool.{and_parts, and_from, not-true, or_right, or_left, or_cases}
 use Rattle.std.proofs.lemmas.Bool.Decides.{Decides-eqb}
 use Rattle.std.proofs.lemmas.Slice.Eq.{slice_eq-Decides}
+use Rattle.cqa_value.proofs.Words.{clash_not}
 use Rattle.script_lex.specs.declared.kinds.Symbol.{Symbol}
 use Rattle.spj_syntax.specs.Lexemes.{Lexeme, Word, Number, Quoted, Mark}
 use Rattle.spj_syntax.specs.Shapes.{Terminal, word, name, int, text, mark, matches, primary, Shape, one, ◌⨾◌, ◌∣◌, many, nothing, code, Generates, joined, Stuck, FirstFault}
@@ -18,30 +19,6 @@ append_nil (p ∷ l) = ap (λ k. p ∷ k) (append_nil l)
 append_empty : (a b : List Lexeme) → a ++ b ≡ [] → (a ≡ []) × (b ≡ [])
 append_empty [] b e = (refl, e)
 append_empty (x ∷ a) b e = (cc)
-
-or_parts : (b c : Bool) → (b || c) ≡ true → (b ≡ true) ⊎ (c ≡ true)
-or_parts true c h = inl refl
-or_parts false c h = inr h
-
-or_left : (b c : Bool) → b ≡ true → (b || c) ≡ true
-or_left true c h = refl
-or_left false c h = (cc)
-
-or_right : (b c : Bool) → c ≡ true → (b || c) ≡ true
-or_right true c h = refl
-or_right false c h = h
-
-and_both : (b c : Bool) → b ≡ true → c ≡ true → (b && c) ≡ true
-and_both true c h k = k
-and_both false c h k = (cc)
-
-not_true : (b : Bool) → not b ≡ true → b ≡ true → ⊥
-not_true true h k = (cc)
-not_true false h k = (cc)
-
-not_false : (b : Bool) → not b ≡ true → b ≡ false
-not_false true h = (cc)
-not_false false h = refl
 
 only_some : (b : Bool) (o : Option (List Shape)) (l : List Shape) → only_if b o ≡ Some l → (b ≡ true) × (o ≡ Some l)
 only_some true o l e = (refl, e)
@@ -83,14 +60,14 @@ as_shapes p ls s = (ls, [], s, refl, sym (append_nil ls))
 nullable_sound : (p : Shape) → nullable p ≡ true → Generates p []
 nullable_sound (one x) h = (cc)
 nullable_sound (p ⨾ q) h = let e = and_parts (nullable p) (nullable q) h in ([], [], nullable_sound p e.0, nullable_sound q e.1, refl)
-nullable_sound (p ∣ q) h = elim (or_parts (nullable p) (nullable q) h) [ inl e ↦ inl (nullable_sound p e) | inr e ↦ inr (nullable_sound q e) ]
+nullable_sound (p ∣ q) h = elim (or_cases (nullable p) (nullable q) h) [ inl e ↦ inl (nullable_sound p e) | inr e ↦ inr (nullable_sound q e) ]
 nullable_sound (many p) h = ([], tt, refl)
 nullable_sound nothing h = refl
 
 nullable_complete : (p : Shape) (ls : List Lexeme) → Generates p ls → ls ≡ [] → nullable p ≡ true
 nullable_complete (one x) ls s e = let f : ls ≡ s.0 ∷ [] = s.2 in (cc)
 nullable_complete (p ⨾ q) ls s e =
-    let f = append_empty s.0 s.1 (sym s.4 ∙ e) in and_both (nullable p) (nullable q) (nullable_complete p s.0 s.2 f.0) (nullable_complete q s.1 s.3 f.1)
+    let f = append_empty s.0 s.1 (sym s.4 ∙ e) in and_from (nullable p) (nullable q) (nullable_complete p s.0 s.2 f.0) (nullable_complete q s.1 s.3 f.1)
 nullable_complete (p ∣ q) ls s e = elim s [ inl t ↦ or_left (nullable p) (nullable q) (nullable_complete p ls t e) | inr t ↦ or_right (nullable p) (nullable q) (nullable_complete q ls t e) ]
 nullable_complete (many p) ls s e = refl
 nullable_complete nothing ls s e = refl
@@ -123,9 +100,6 @@ after_sound nothing t l a e s = (cc)
 -- each shape spells something
 same_bytes : (w : List ℕ) → pointwise nat_eq w w ≡ true
 same_bytes w = (slice_eq-Decides Decides-eqb w w (pointwise nat_eq w w) refl).1 refl
-
-equal_bytes : (v w : List ℕ) → pointwise nat_eq v w ≡ true → v ≡ w
-equal_bytes v w h = (slice_eq-Decides Decides-eqb v w (pointwise nat_eq v w) refl).0 h
 
 abbrev sample_lexeme : Terminal → Lexeme
 sample_lexeme (word w) = Word w
@@ -204,11 +178,11 @@ same_code : (s r : Symbol) → nat_eq (code s) (code r) ≡ true → code s ≡ 
 same_code s r h = (Decides-eqb (code s) (code r)).0 h
 
 differ_sound : (x y : Terminal) (t : Lexeme) → differ x y ≡ true → matches x t ≡ true → matches y t ≡ true → ⊥
-differ_sound (word w) (word v) (Word u) d h k = not_true (pointwise nat_eq w v) d (subst (λ z. pointwise nat_eq w z ≡ true) (sym (equal_bytes v u k)) h)
-differ_sound (word w) name (Word u) d h k = not_true (pointwise nat_eq primary u) k (subst (λ z. pointwise nat_eq primary z ≡ true) (equal_bytes w u h) d)
-differ_sound name (word w) (Word u) d h k = not_true (pointwise nat_eq primary u) h (subst (λ z. pointwise nat_eq primary z ≡ true) (equal_bytes w u k) d)
+differ_sound (word w) (word v) (Word u) d h k = clash_not (pointwise nat_eq w v) d (subst (λ z. pointwise nat_eq w z ≡ true) (sym (same_text v u (sym k))) h)
+differ_sound (word w) name (Word u) d h k = clash_not (pointwise nat_eq primary u) k (subst (λ z. pointwise nat_eq primary z ≡ true) (same_text w u (sym h)) d)
+differ_sound name (word w) (Word u) d h k = clash_not (pointwise nat_eq primary u) h (subst (λ z. pointwise nat_eq primary z ≡ true) (same_text w u (sym k)) d)
 differ_sound (mark s) (mark r) (Mark q) d h k =
-    not_true (nat_eq (code s) (code r)) d ((Decides-eqb (code s) (code r)).1 (same_code s q h ∙ sym (same_code r q k)))
+    clash_not (nat_eq (code s) (code r)) d ((Decides-eqb (code s) (code r)).1 (same_code s q h ∙ sym (same_code r q k)))
 differ_sound int _ (Word u) d h k = (cc)
 differ_sound text _ (Word u) d h k = (cc)
 differ_sound _ int (Word u) d h k = (cc)
@@ -257,7 +231,7 @@ decided_good (p ∣ q) h =
 decided_good (many p) h =
     let e = and_parts (decided p && not (nullable p)) (apart (ends p) (first p)) h in
     let f = and_parts (decided p) (not (nullable p)) e.0 in
-    (decided_good p f.0, not_false (nullable p) f.1, apart_sound (ends p) (first p) e.1)
+    (decided_good p f.0, not-true (nullable p) f.1, apart_sound (ends p) (first p) e.1)
 decided_good nothing h = tt
 
 abbrev first_all : List Shape → List Terminal
@@ -418,7 +392,7 @@ all_nullable (p ∷ k) h = let e = and_parts (nullable p) (nullable_all k) h in 
 nullable_if : (k : List Shape) (ls : List Lexeme) → GeneratesAll k ls → ls ≡ [] → nullable_all k ≡ true
 nullable_if [] ls s e = refl
 nullable_if (p ∷ k) ls s e =
-    let f = append_empty s.0 s.1 (sym s.4 ∙ e) in and_both (nullable p) (nullable_all k) (nullable_complete p s.0 s.2 f.0) (nullable_if k s.1 s.3 f.1)
+    let f = append_empty s.0 s.1 (sym s.4 ∙ e) in and_from (nullable p) (nullable_all k) (nullable_complete p s.0 s.2 f.0) (nullable_if k s.1 s.3 f.1)
 
 sample_all : (k : List Shape) → (ls : List Lexeme) × GeneratesAll k ls
 sample_all [] = ([], refl)

@@ -1,7 +1,8 @@
 -- A word that the grammar takes as a name is a name.
-use Rattle.std.proofs.Common.{◌≡◌, ◌≤◌, ℕ, Bool, true, false, ◌&&◌, List, [], ◌∷◌, length, refl, subst, arith, codes}
+use Rattle.std.proofs.Common.{◌≡◌, ◌≤◌, ℕ, true, false, List, [], ◌∷◌, length, refl, subst, arith, codes}
 use Rattle.std.specs.List.{list_all}
 use Rattle.std.proofs.lemmas.Bool.Decides.{nat_tests}
+use Rattle.std.proofs.lemmas.Bool.{and_from}
 use Rattle.script_lex.specs.declared.kinds.TokenKind.TheVariants as token
 use Rattle.script_lex.specs.Tokens.{IsToken}
 use Rattle.script_lex.specs.Bytes.{AllPass, is_word_byte}
@@ -16,16 +17,13 @@ letter_same b h = grind (arith, nat_tests)
 byte_same : (b : ℕ) → is_word_byte b ≡ true → is_letter_or_digit b ≡ true
 byte_same b h = grind (arith, nat_tests)
 
-both : {x y : Bool} → x ≡ true → y ≡ true → (x && y) ≡ true
-both e f = rw (e, f) refl
-
 bytes_same : (bs : List ℕ) → AllPass is_word_byte bs → list_all is_letter_or_digit bs ≡ true
 bytes_same [] h = refl
-bytes_same (b ∷ bs) h = both (byte_same b h.0) (bytes_same bs h.1)
+bytes_same (b ∷ bs) h = and_from _ _ (byte_same b h.0) (bytes_same bs h.1)
 
 word_same : (w : List ℕ) → IsToken token.Word w → is_word w ≡ true
 word_same [] h = absurd h
-word_same (b ∷ bs) h = both (letter_same b h.0) (bytes_same bs h.1)
+word_same (b ∷ bs) h = and_from _ _ (letter_same b h.0) (bytes_same bs h.1)
 
 pub is_name : (w : List ℕ) → IsToken token.Word w → matches name (Word w) ≡ true → length w ≤ 64 → IsName w
 is_name w h m s = record {

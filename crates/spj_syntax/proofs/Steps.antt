@@ -24,6 +24,7 @@ use Rattle.spj_syntax.specs.Walk.{nullable, followed_by, or_else, only_if, after
 use Rattle.std.specs.Result.{IsErrAnd, IfOk}
 use Rattle.std.proofs.Common.{Result, Ok, Err}
 use Rattle.std.proofs.lemmas.Result.{err_from_is_err_and}
+use Rattle.std.proofs.Math.Bool.{or-false}
 use Rattle.spj_syntax.specs.declared.reader.Stop.{Stop}
 use Rattle.spj_syntax.specs.declared.reader.Stop.TheVariants.{NoMemory, Syntax}
 use Rattle.spj_syntax.specs.declared.lists.Between.{Between}
@@ -149,13 +150,9 @@ has-or : (o r : Option (List Shape)) → has (or_else o r) ≡ (has o || has r)
 has-or None r = refl
 has-or (Some l) r = refl
 
-or_false : (b : Bool) → (b || false) ≡ b
-or_false true = refl
-or_false false = refl
-
 pub opens-both : (p q : Shape) (s : List Lexeme) → nullable p ≡ false → opens (p ⨾ q) s ≡ opens p s
 opens-both p q [] n = refl
-opens-both p q (t ∷ s) n = has-or (followed_by (after p t) (q ∷ [])) (only_if (nullable p) (after q t)) ∙ ap (λ b. has (followed_by (after p t) (q ∷ [])) || has (only_if b (after q t))) n ∙ or_false (has (followed_by (after p t) (q ∷ []))) ∙ has-followed (after p t) (q ∷ [])
+opens-both p q (t ∷ s) n = has-or (followed_by (after p t) (q ∷ [])) (only_if (nullable p) (after q t)) ∙ ap (λ b. has (followed_by (after p t) (q ∷ [])) || has (only_if b (after q t))) n ∙ or-false (has (followed_by (after p t) (q ∷ []))) ∙ has-followed (after p t) (q ∷ [])
 
 pub opens-either : (p q : Shape) (s : List Lexeme) → opens (p ∣ q) s ≡ (opens p s || opens q s)
 opens-either p q [] = refl

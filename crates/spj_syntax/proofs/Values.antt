@@ -1,10 +1,11 @@
 -- The values of texts and integers.
-use Rattle.std.proofs.Common.{◌≡◌, ◌<◌, ◌≤◌, ◌^◌, List, [], ◌∷◌, ℕ, zero, suc, pos, neg_ℤ, Bool, true, false, ◌&&◌, ◌||◌, nat_eq, length, drop, refl, ap, arith, length-drop, if◌then◌else◌}
+use Rattle.std.proofs.Common.{◌≡◌, ◌<◌, ◌≤◌, ◌^◌, List, [], ◌∷◌, ℕ, zero, suc, pos, neg_ℤ, Bool, true, false, ◌&&◌, nat_eq, length, drop, refl, ap, arith, length-drop, if◌then◌else◌}
 use Rattle.std.proofs.lemmas.Bool.Decides.{Decides-ltb, nat_tests}
 use Rattle.std.proofs.lemmas.Str.Parse.{numerals_by_value, tells_all_ascii_digits, digits_value_short}
 use Rattle.std.specs.List.{list_any}
 use Rattle.std.specs.Str.{all_ascii_digits}
 use Rattle.std.specs.Str.Parse.{digits_value}
+use Rattle.std.proofs.lemmas.Bool.{or_parts}
 use Rattle.cqa_value.specs.Literals.{are_digits, has_minus, without_minus, integer_of, is_in_range}
 use Rattle.spj_syntax.specs.Lexemes.{undoubled}
 
@@ -28,10 +29,6 @@ undoubled_no_longer (b ∷ c ∷ bytes) = go (nat_eq 39 b && nat_eq 39 c) (undou
     go true h k = omega (arith, h)
     go false h k = omega (arith, k)
 
-both_false : (a b : Bool) → a || b ≡ false → (a ≡ false) × (b ≡ false)
-both_false true b h = absurd (cc)
-both_false false b h = (refl, h)
-
 no_quote : (b : ℕ) → nat_eq b 39 ≡ false → nat_eq 39 b ≡ false
 no_quote b h = grind (arith, nat_tests)
 
@@ -40,7 +37,7 @@ pub undoubled_same : (bytes : List ℕ) → list_any (λ b. nat_eq b 39) bytes �
 undoubled_same [] h = refl
 undoubled_same (b ∷ []) h = refl
 undoubled_same (b ∷ c ∷ bytes) h =
-    let parts = both_false (nat_eq b 39) (list_any (λ z. nat_eq z 39) (c ∷ bytes)) h in
+    let parts = or_parts (nat_eq b 39) (list_any (λ z. nat_eq z 39) (c ∷ bytes)) h in
     rw (no_quote b parts.0) (ap (λ z. b ∷ z) (undoubled_same (c ∷ bytes) parts.1))
 
 few_digits : (digits : List ℕ) → are_digits digits ≡ true → length digits ≤ 18 → digits_value 10 digits < 2 ^ 63

@@ -1,5 +1,6 @@
 -- How walks go together, with no condition on the grammar.
 use Rattle.std.proofs.Common.{◌≡◌, Bool, true, false, ◌&&◌, ◌||◌, List, [], ◌∷◌, ◌++◌, Option, Some, None, refl, sym, ◌∙◌, ap, subst, append_assoc, length, ◌≤◌, ◌<◌, arith}
+use Rattle.std.proofs.Math.Bool.{and-true}
 use Rattle.spj_syntax.specs.Lexemes.{Lexeme}
 use Rattle.spj_syntax.specs.Shapes.{Terminal, matches, Shape, one, ◌⨾◌, ◌∣◌, many, nothing}
 use Rattle.spj_syntax.specs.Walk.{nullable, followed_by, or_else, only_if, after, after_all, nullable_all, Outcome, Past, Stopped, ended, next, walk, on, read, has, starts}
@@ -94,19 +95,15 @@ after_all-both p q t =
       or_none (or_else (followed_by (after p t) (q ∷ [])) (only_if (nullable p) (after q t))),
     ) refl
 
-true_and : (b : Bool) → (b && true) ≡ b
-true_and true = refl
-true_and false = refl
-
 pub read-both : (p q : Shape) (ts : List Lexeme) → read (p ⨾ q) ts ≡ on (read p ts) (λ rest. read q rest)
 unfolding read walk
-read-both p q [] = rw (true_and (nullable p && nullable q)) (at_end (nullable p))
+read-both p q [] = rw (and-true (nullable p && nullable q)) (at_end (nullable p))
   where
     at_end : (b : Bool) → ended (b && nullable q) [] ≡ on (ended (b && true) []) (λ rest. walk (q ∷ []) rest)
-    at_end true = rw (true_and (nullable q)) refl
+    at_end true = rw (and-true (nullable q)) refl
     at_end false = refl
 read-both p q (t ∷ ts) =
-    rw (after_all-both p q t) (ap (λ b. next (after_all (p ∷ q ∷ []) t) (λ l. walk l ts) (ended b (t ∷ ts))) (true_and (nullable p && nullable q) ∙ ap (λ b. nullable p && b) (sym (true_and (nullable q))))
+    rw (after_all-both p q t) (ap (λ b. next (after_all (p ∷ q ∷ []) t) (λ l. walk l ts) (ended b (t ∷ ts))) (and-true (nullable p && nullable q) ∙ ap (λ b. nullable p && b) (sym (and-true (nullable q))))
     ∙ walk-append (t ∷ ts) (p ∷ []) (q ∷ []))
 
 pub one_past : (x : Terminal) (t : Lexeme) (ts : List Lexeme) → matches x t ≡ true → read (one x) (t ∷ ts) ≡ Past ts
@@ -155,7 +152,7 @@ right_read p q t ts n h = rw n (go (after p t) h)
 
 pub either_end : (p q : Shape) → read (p ∣ q) [] ≡ ended (nullable p || nullable q) []
 unfolding read walk
-either_end p q = rw (true_and (nullable p || nullable q)) refl
+either_end p q = rw (and-true (nullable p || nullable q)) refl
 
 pub nothing_read : (ts : List Lexeme) → read nothing ts ≡ Past ts
 unfolding read walk
@@ -187,7 +184,7 @@ many_more p t ts h = go (after p t) h ∙ walk-append (t ∷ ts) (p ∷ []) (man
 
 pub end_read : (p : Shape) → read p [] ≡ ended (nullable p) []
 unfolding read walk
-end_read p = ap (λ b. ended b []) (true_and (nullable p))
+end_read p = ap (λ b. ended b []) (and-true (nullable p))
 
 abbrev left_of : Outcome → List Lexeme
 left_of (Past rest) = rest

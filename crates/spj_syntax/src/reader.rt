@@ -67,6 +67,7 @@ impl<'a> Model for Reader<'a> {
 }
 
 impl<'a> Reader<'a> {
+    /// All tokens of a text, still to be read.
     pub fn new(text: &'a [u8], tokens: &'a [Token]) -> Reader<'a>
         requires readable { All (IsReadable text.now) tokens.now }
         requires few { length tokens.now ≤ most_tokens }
@@ -110,6 +111,7 @@ impl<'a> Reader<'a> {
         commas + 1
     }
 
+    /// What stands first.
     #[inline(always)]
     pub fn peek(&self) -> Seen<'a>
         ensures front { front_of self.now ≡ seen result }
@@ -128,6 +130,7 @@ impl<'a> Reader<'a> {
         }
     }
 
+    /// Goes past the first token.
     #[inline(always)]
     pub fn advance(&mut self)
         requires { IsSome (front_of self.old) }
@@ -136,6 +139,7 @@ impl<'a> Reader<'a> {
         self.tokens = &self.tokens[1..];
     }
 
+    /// Whether a word stands first, this one.
     pub fn sees_word(&self, wanted: &[u8]) -> bool
         ensures { Opens result (one (word wanted.now)) self.now }
     {
@@ -145,6 +149,7 @@ impl<'a> Reader<'a> {
         }
     }
 
+    /// Whether a name stands first: any word but `primary`.
     pub fn sees_name(&self) -> bool
         ensures { Opens result (one name) self.now }
     {
@@ -154,6 +159,7 @@ impl<'a> Reader<'a> {
         }
     }
 
+    /// Whether an integer or a text stands first.
     #[inline(always)]
     pub fn sees_literal(&self) -> bool
         ensures { Opens result literal self.now }
@@ -161,6 +167,7 @@ impl<'a> Reader<'a> {
         matches!(self.peek(), Seen::Int(_) | Seen::Text(_))
     }
 
+    /// Whether this mark stands first.
     #[inline(always)]
     pub fn sees_mark(&self, symbol: Symbol) -> bool
         ensures { Opens result (one (mark symbol)) self.now }
@@ -171,6 +178,7 @@ impl<'a> Reader<'a> {
         }
     }
 
+    /// Reads this word.
     pub fn word(&mut self, wanted: &[u8]) -> Result<(), Stop>
         ensures { Reads (one (word wanted.now)) (λ _. Word wanted.now ∷ []) result self.old self.new }
     {
@@ -182,6 +190,7 @@ impl<'a> Reader<'a> {
         }
     }
 
+    /// Reads this mark.
     #[inline(always)]
     pub fn mark(&mut self, symbol: Symbol) -> Result<(), Stop>
         ensures { Reads (one (mark symbol)) (λ _. Mark symbol ∷ []) result self.old self.new }
@@ -194,6 +203,7 @@ impl<'a> Reader<'a> {
         }
     }
 
+    /// Reads a name.
     pub fn name(&mut self, alloc: Global) -> Result<Name, Stop>
         ensures reads { Reads (one name) name_tokens result self.old self.new }
         ensures named { IfOk result (λ n. IsName n) }
@@ -211,7 +221,7 @@ impl<'a> Reader<'a> {
         }
     }
 
-    /// The bytes of an integer.
+    /// Reads an integer, and gives its bytes.
     pub fn int(&mut self) -> Result<&'a [u8], Stop>
         ensures reads { Reads (one int) (λ digits. Number (integer_of digits.now) ∷ []) result self.old self.new }
         ensures digits { IfOk result (λ digits. IsTrue (are_digits (without_minus digits.now))) }

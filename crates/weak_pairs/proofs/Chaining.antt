@@ -1,19 +1,12 @@
 -- The rows of a bucket, chained backwards: one row more, and how far a chain was gone back.
-use Rattle.std.proofs.Common.{◌≡◌, ◌≢◌, ℕ, ◌+◌, ◌<◌, ◌≤◌, inl, inr, List, [], ◌∷◌, ◌++◌, length, replicate, refl, sym, ◌∙◌, ap, subst, arith, set, get_or, get_or-set_other, get_or-set_same}
+use Rattle.std.proofs.Common.{◌≡◌, ◌≢◌, ℕ, ◌+◌, ◌<◌, ◌≤◌, inl, inr, List, [], ◌∷◌, ◌++◌, length, replicate, refl, sym, ◌∙◌, ap, subst, arith, set, get_or}
 use native.Mathlib.Decide.{ℕ_discrete, dec_lt}
 use Rattle.std.proofs.lemmas.List.{length-set, length_push, get_or-replicate, get_or_append_left, get_or_push}
+use Rattle.cqa_value.proofs.Words.{each_put}
 use Rattle.weak_pairs.specs.declared.lists.Lists.{Lists}
 use Rattle.weak_pairs.specs.Digests.{bucket_count, bucket_at, lists_in}
 use Rattle.weak_pairs.proofs.Coding.{one-bucket, in-some}
 use Rattle.weak_pairs.specs.EdgeNumbers.{HaveOne, AreChained, AreLast, IsLinked}
-
--- what is true of each place of a list, once a number is put in of which it is true
-each_put : (P : ℕ → ℕ → Type 0) (xs : List ℕ) (i x b : ℕ) → i < length xs → P i x → (b ≢ i → P b (get_or xs b 0)) → P b (get_or (set xs i x) b 0)
-each_put P xs i x b inside this others = go (ℕ_discrete b i)
-  where
-    go : Dec (b ≡ i) → P b (get_or (set xs i x) b 0)
-    go (yes same) = subst (λ c. P c (get_or (set xs i x) c 0)) (sym same) (subst (P i) (sym (get_or-set_same xs i x 0 inside)) this)
-    go (no other) = subst (P b) (sym (get_or-set_other xs i b x 0 other)) (others other)
 
 -- what is true of each place of a list, once a number more is behind it of which it is true
 each_pushed : (P : ℕ → ℕ → Type 0) (xs : List ℕ) (k x i : ℕ) → length xs ≡ k → i < k + 1 → P k x → (i < k → P i (get_or xs i 0)) → P i (get_or (xs ++ x ∷ []) i 0)

@@ -2,18 +2,19 @@
 use Rattle.std.proofs.Common.{◌≡◌, ◌≢◌, ℕ, zero, suc, ◌<◌, ◌≤◌, ◌⊎◌, inl, inr, List, length, set, refl, ap, sym, ◌∙◌, subst, arith, Bool, true, Option, Some, None}
 use native.Mathlib.Decide.{ℕ_discrete}
 use Rattle.std.specs.Prelude.{slice_index}
+use Rattle.std.proofs.lemmas.Option.{same_Some, none-some}
 use Rattle.weak_pairs.specs.declared.peel.Ends.{Ends}
 use Rattle.weak_pairs.specs.Peeling.{IsBlock, In, ends_of, AreLaidOut, row_of, IsServed, open_count, IsState, HasOne, IsSettled, IsOther, AreChosen}
-use Rattle.weak_pairs.proofs.Peeling.{some_is, none_some, served_or_open, other-is, state, fewer, done-step, go-step, ready-step, at_or, all_settled, chosen-of}
+use Rattle.weak_pairs.proofs.Peeling.{served_or_open, other-is, state, fewer, done-step, go-step, ready-step, at_or, all_settled, chosen-of}
 
 -- an option is this number, or isn't
 is_or : (o : Option ℕ) (v : ℕ) → (o ≡ Some v) ⊎ (o ≢ Some v)
-is_or None v = inr (λ e. none_some v e)
+is_or None v = inr (λ e. none-some v e)
 is_or (Some u) v = go (ℕ_discrete u v)
   where
     go : Dec (u ≡ v) → (Some u ≡ Some v) ⊎ (Some u ≢ Some v)
     go (yes e) = inl (ap Some e)
-    go (no n) = inr (λ e. n (some_is u v e))
+    go (no n) = inr (λ e. n (same_Some u v e))
 
 -- the first blocks are all served, or one of them is open
 find-open : (own : List (Option ℕ)) (k : ℕ) → ((v : ℕ) × (v < k) × (row_of own v ≡ None)) ⊎ ((v : ℕ) → v < k → IsServed own v)
@@ -50,7 +51,7 @@ module _ (start edge : List ℕ) (ends : List Ends) (laid : AreLaidOut start edg
   from-any n rec own taken few st settled = go (find-open own (length own))
     where
       open-at : (v : ℕ) → IsBlock start v → row_of own v ≡ None → IsSettled start edge own taken v → HasChosen
-      open-at v b o (inl s) = absurd (none_some s.0 (sym o ∙ s.1))
+      open-at v b o (inl s) = absurd (none-some s.0 (sym o ∙ s.1))
       open-at v b o (inr h) = rec own taken few st v b o (h.0, h.2, h.4) (λ u bu n. settled u bu)
 
       go : ((v : ℕ) × (v < length own) × (row_of own v ≡ None)) ⊎ ((v : ℕ) → v < length own → IsServed own v) → HasChosen
@@ -72,7 +73,7 @@ module _ (start edge : List ℕ) (ends : List Ends) (laid : AreLaidOut start edg
 
       next : FromOpen n → (w : ℕ) → IsBlock start w → ((u : ℕ) → IsBlock start u → u ≢ w → IsSettled start edge (set own at (Some one.0)) (set taken (slice_index edge one.0) true) u) → IsServed (set own at (Some one.0)) w ⊎ HasOne start edge (set taken (slice_index edge one.0) true) w → IsServed (set own at (Some one.0)) w ⊎ (row_of (set own at (Some one.0)) w ≡ None) → HasChosen
       next rec w bw rest ready (inl s) = from-any n rec (set own at (Some one.0)) (set taken (slice_index edge one.0) true) few_new st_new (λ u bu. all_settled start edge (set own at (Some one.0)) (set taken (slice_index edge one.0) true) w s u (λ k. rest u bu k))
-      next rec w bw rest (inl s) (inr free) = absurd (none_some s.0 (sym free ∙ s.1))
+      next rec w bw rest (inl s) (inr free) = absurd (none-some s.0 (sym free ∙ s.1))
       next rec w bw rest (inr has) (inr free) = rec (set own at (Some one.0)) (set taken (slice_index edge one.0) true) few_new st_new w bw free has rest
 
       go : FromOpen n → (w : Option ℕ) × IsOther start edge (slice_index edge one.0) at w → HasChosen

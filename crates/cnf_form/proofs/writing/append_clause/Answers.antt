@@ -1,4 +1,5 @@
-use Rattle.cnf_form.proofs.Prefixed.{begins_shorter, on_err}
+use Rattle.cqa_value.proofs.Words.{on_err}
+use Rattle.cqa_value.proofs.Written.{begins_shorter}
 use Rattle.cnf_form.proofs.writing.append_clause.Goals as goal
 
 pub returns-in_err-append_lit-clause-err : goal.returns-in_err-append_lit-clause-err

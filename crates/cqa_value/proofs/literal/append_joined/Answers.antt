@@ -1,7 +1,8 @@
 use Rattle.std.proofs.Common.{◌++◌, take, ap, ◌∙◌, codes, rules}
 use Rattle.std.specs.List.{flat_map}
 use Rattle.cqa_value.specs.Literals.{literal_bytes}
-use Rattle.cqa_value.proofs.Written.{begins_over, joined, on_err, separated}
+use Rattle.cqa_value.proofs.Written.{begins_over, joined, separated}
+use Rattle.cqa_value.proofs.Words.{on_err}
 use Rattle.cqa_value.proofs.literal.append_joined.Goals as goal
 
 pub returns-in_err-append_literal-2-clause-err : goal.returns-in_err-append_literal-2-clause-err

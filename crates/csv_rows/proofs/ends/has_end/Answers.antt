@@ -1,5 +1,5 @@
-use Rattle.std.proofs.Common.{◌≡◌, ◌∙◌, ◌<◌, ◌+◌, ◌-◌, ℕ, zero, suc, List, [], ◌∷◌, Bool, false, drop, take, length, nat_eq, codes, ap, sym, refl, arith, length-drop}
-use Rattle.std.proofs.lemmas.List.{take_all}
+use Rattle.std.proofs.Common.{◌≡◌, ◌∙◌, ◌<◌, ◌+◌, ◌-◌, ℕ, zero, suc, List, [], ◌∷◌, Bool, false, drop, take, length, nat_eq, codes, ap, sym, refl, arith}
+use Rattle.std.proofs.lemmas.List.{take_rest}
 use Rattle.std.specs.List.{starts_with}
 use Rattle.csv_rows.specs.Ends.{has_end}
 use Rattle.csv_rows.proofs.ends.has_end.Goals as goal
@@ -10,12 +10,8 @@ skipped [] at l one two = absurd (omega (arith, l))
 skipped (byte ∷ bytes) zero l one two = rw (one, two) refl
 skipped (byte ∷ bytes) (suc at) l one two = skipped bytes at (omega (arith, l)) one two
 
--- from a place to the end
-rest_is : (text : List ℕ) (at : ℕ) → take (length text - at) (drop at text) ≡ drop at text
-rest_is text at = let size = length-drop at text in take_all (length text - at) (drop at text) (omega (arith, size))
-
 tested : (text needle : List ℕ) (at : ℕ) (result : Bool) → result ≡ starts_with nat_eq (take (length text - at) (drop at text)) needle → result ≡ false → starts_with nat_eq (drop at text) needle ≡ false
-tested text needle at result value is = ap (λ rest. starts_with nat_eq rest needle) (sym (rest_is text at)) ∙ sym value ∙ is
+tested text needle at result value is = ap (λ rest. starts_with nat_eq rest needle) (sym (take_rest text at)) ∙ sym value ∙ is
 
 pub loop-at-preserved : goal.loop-at-preserved
 loop-at-preserved c =

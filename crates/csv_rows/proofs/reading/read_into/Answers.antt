@@ -1,11 +1,11 @@
 use Rattle.std.proofs.Common.{◌++◌, ◌∷◌, ◌∙◌, [], Some, sym, refl, arith}
 use Rattle.std.proofs.lemmas.List.{length-append}
+use Rattle.cqa_value.proofs.Words.{all_zip_push}
 use Rattle.csv.specs.Reading.{Reached, default_config, reader_source, reader_state, strip_bom}
 use Rattle.csv.specs.Records.{fields_of}
 use Rattle.csv.specs.declared.parser.State.TheVariants.{StartRecord}
 use Rattle.csv.proofs.ReadFacts.{rows-end, rows-more}
 use Rattle.csv_rows.specs.Blocks.{IsRecordOf, kinds}
-use Rattle.csv_rows.proofs.Rows.{zip_more}
 use Rattle.csv_rows.proofs.reading.read_into.Goals as goal
 
 pub loop-number-init : goal.loop-number-init
@@ -64,7 +64,7 @@ loop-number-preserved c =
       more.0,
       more.1,
       more.2,
-      rw pushed (zip_more (IsRecordOf (kinds c.args.columns.now)) inv.3 c.loop-number.rows fields row inv.7 is),
+      rw pushed (all_zip_push (IsRecordOf (kinds c.args.columns.now)) inv.3 c.loop-number.rows fields row inv.7 is),
       omega (arith, inv.8, length-append inv.3 (fields ∷ [])),
       rw pushed (omega (arith, inv.9, length-append c.loop-number.rows (row ∷ []))),
     )

@@ -4,9 +4,11 @@ use Rattle.cnf_form.specs.Literals.{OthersDenied, literals}
 use Rattle.cnf_form.specs.declared.formula.Lit.{Lit}
 use Rattle.implication_graph.specs.declared.trail.Entry.{Entry}
 use Rattle.implication_graph.specs.Analysis.{IsForcedBy, Works}
-use Rattle.implication_graph.proofs.Works.{held_at, At-get_or, At-contains, At-same, works_skip, works_resolve, unseen, some_same, literals_length, reverse_push}
+use Rattle.implication_graph.proofs.Works.{held_at, At-get_or, At-contains, At-same, works_skip, works_resolve, literals_length, reverse_push}
 use Rattle.std.specs.Prelude.{Contains, take}
+use Rattle.std.proofs.lemmas.Option.{same_Some}
 use Rattle.implication_graph.proofs.Marking.{at_most_walked, read_false, read_true}
+use Rattle.cqa_value.proofs.Words.{clash}
 use Rattle.implication_graph.proofs.analysis.resolve.Goals as goal
 
 abbrev none : Entry
@@ -21,7 +23,7 @@ pub returns-then-not-index-clause-works : goal.returns-then-not-index-clause-wor
 returns-then-not-index-clause-works c =
     let m = c.args.marks.now in
     works_skip (literals c.args.clauses.now) (held c.args.trail.now) m.seen.items [] c.args.at (reverse c.args.hints.now.items) _
-    (held_at c.args.trail.now c.args.at none c.requires.at) (unseen _ (read_false m.seen.items _ _ c.index.ensures c.if-not-index.true)) c.requires.works
+    (held_at c.args.trail.now c.args.at none c.requires.at) (λ seen. clash _ seen (read_false m.seen.items _ _ c.index.ensures c.if-not-index.true)) c.requires.works
 
 pub overflow_sub-marks : goal.overflow_sub-marks
 overflow_sub-marks c =
@@ -47,7 +49,7 @@ pub literals_at-clause-requires : goal.literals_at-clause-requires
 literals_at-clause-requires c =
     let forced : IsForcedBy (literals c.args.clauses.now) (held c.args.trail.now) c.args.at (get_or c.args.trail.now c.args.at none) =
     c.requires.reasons _ (At-get_or c.args.trail.now c.args.at none c.requires.at) in
-    let e : forced.reason ≡ c.in-Some.reason = some_same _ _ (sym forced.is ∙ c.in-Some.is) in
+    let e : forced.reason ≡ c.in-Some.reason = same_Some _ _ (sym forced.is ∙ c.in-Some.is) in
     literals_length c.args.clauses.now c.in-Some.reason (subst (λ (n : ℕ). n < length (literals c.args.clauses.now)) e (forced.there.0))
 
 pub mark_all-requires-clause-range : goal.mark_all-requires-clause-range
@@ -60,7 +62,7 @@ returns-in_ok-push_hint-clause-works c =
     let entry = get_or c.args.trail.now c.args.at none in
     let forced : IsForcedBy db t c.args.at entry =
     c.requires.reasons _ (At-get_or c.args.trail.now c.args.at none c.requires.at) in
-    let e : forced.reason ≡ c.in-Some.reason = some_same _ _ (sym forced.is ∙ c.in-Some.is) in
+    let e : forced.reason ≡ c.in-Some.reason = same_Some _ _ (sym forced.is ∙ c.in-Some.is) in
     let same : forced.clause ≡ c.literals_at-clause.result.now =
     At-same db c.in-Some.reason _ _ (subst (λ (n : ℕ). At db n forced.clause) e forced.there) c.literals_at-clause.ensures in
     subst (λ (hs : List ℤ). Works db t c.mark_all.new.marks.seen.items [] c.args.at hs)

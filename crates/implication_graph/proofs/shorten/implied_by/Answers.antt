@@ -1,11 +1,12 @@
 use Rattle.std.proofs.Common.{◌≡◌, ◌<◌, ℕ, None, false, get_or, length, subst, sym, ◌∙◌, take}
 use Rattle.std.specs.Prelude.{Contains}
+use Rattle.std.proofs.lemmas.Option.{same_Some}
 use Rattle.cnf_form.specs.declared.formula.Lit.{Lit}
 use Rattle.cnf_form.specs.Literals.{literals, OthersDenied}
 use Rattle.implication_graph.specs.declared.trail.Entry.{Entry}
 use Rattle.implication_graph.specs.Trail.{At, held}
 use Rattle.implication_graph.specs.Analysis.{IsForcedBy}
-use Rattle.implication_graph.proofs.Works.{At-get_or, At-same, held_at, literals_length, some_same}
+use Rattle.implication_graph.proofs.Works.{At-get_or, At-same, held_at, literals_length}
 use Rattle.implication_graph.proofs.shorten.implied_by.Goals as goal
 
 abbrev none : Entry
@@ -15,7 +16,7 @@ pub is_implied-requires-clause-reason : goal.is_implied-requires-clause-reason
 is_implied-requires-clause-reason c =
     let forced : IsForcedBy (literals c.args.clauses.now) (held c.args.trail.now) c.args.at (get_or c.args.trail.now c.args.at none) =
     c.requires.reasons _ _ _ (At-get_or c.args.trail.now c.args.at none c.requires.at) c.in-Some.is in
-    let e : forced.reason ≡ c.in-Some.reason = some_same _ _ (sym forced.is ∙ c.in-Some.is) in
+    let e : forced.reason ≡ c.in-Some.reason = same_Some _ _ (sym forced.is ∙ c.in-Some.is) in
     literals_length c.args.clauses.now c.in-Some.reason (subst (λ (n : ℕ). n < length (literals c.args.clauses.now)) e (forced.there.0))
 
 pub returns : goal.returns
@@ -25,7 +26,7 @@ returns c =
     let entry = get_or c.args.trail.now c.args.at none in
     let forced : IsForcedBy db t c.args.at entry =
     c.requires.reasons _ _ _ (At-get_or c.args.trail.now c.args.at none c.requires.at) c.in-Some.is in
-    let e : forced.reason ≡ c.in-Some.reason = some_same _ _ (sym forced.is ∙ c.in-Some.is) in (
+    let e : forced.reason ≡ c.in-Some.reason = same_Some _ _ (sym forced.is ∙ c.in-Some.is) in (
       literals_length c.args.clauses.now c.in-Some.reason (subst (λ (n : ℕ). n < length db) e (forced.there.0)),
       λ x a.
           let is : entry.lit ≡ x = At-same t c.args.at entry.lit x (held_at c.args.trail.now c.args.at none c.requires.at) a in (

@@ -1,12 +1,13 @@
 use Rattle.std.proofs.Common.{arith, ◌≡◌, ◌<◌, ℕ, List, Option, Some, None, false, length, refl, subst, sym, ◌∙◌}
 use Rattle.std.specs.Prelude.{⊤, MatchOption}
 use Rattle.std.proofs.lemmas.List.{length-map}
+use Rattle.std.proofs.lemmas.Option.{same_Some}
 use Rattle.cnf_form.specs.Literals.{literals}
 use Rattle.cnf_form.specs.declared.formula.Clause.{Clause}
 use Rattle.implication_graph.specs.declared.trail.Entry.{Entry}
 use Rattle.implication_graph.specs.Trail.{At, held}
 use Rattle.implication_graph.specs.Analysis.{AreReasons, IsForcedBy}
-use Rattle.implication_graph.proofs.Works.{At-get_or, literals_length, some_same}
+use Rattle.implication_graph.proofs.Works.{At-get_or, literals_length}
 use Rattle.implication_graph.proofs.shorten.reason_of.Goals as goal
 
 abbrev none : Entry
@@ -17,7 +18,7 @@ reason_in : (clauses : List Clause) (trail : List Entry) (at : ℕ) (e : Entry) 
 reason_in clauses trail at e are a None is = tt
 reason_in clauses trail at e are a (Some r) is =
     let forced : IsForcedBy (literals clauses) (held trail) at e = are at e r a is in
-    let q : forced.reason ≡ r = some_same _ _ (sym forced.is ∙ is) in
+    let q : forced.reason ≡ r = same_Some _ _ (sym forced.is ∙ is) in
     literals_length clauses r (subst (λ (n : ℕ). n < length (literals clauses)) q (forced.there.0))
 
 pub returns : goal.returns

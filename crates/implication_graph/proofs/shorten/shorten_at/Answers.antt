@@ -4,8 +4,9 @@ use Rattle.cnf_form.specs.Literals.{literals}
 use Rattle.implication_graph.specs.declared.trail.Entry.{Entry}
 use Rattle.implication_graph.specs.Trail.{held}
 use Rattle.implication_graph.specs.Analysis.{AllSeen, AreKept, Works}
-use Rattle.implication_graph.proofs.Works.{At-contains, At-same, held_at, reverse_push, unseen, works_resolve, works_skip}
+use Rattle.implication_graph.proofs.Works.{At-contains, At-same, held_at, reverse_push, works_resolve, works_skip}
 use Rattle.implication_graph.proofs.Marking.{read_false}
+use Rattle.cqa_value.proofs.Words.{clash}
 use Rattle.implication_graph.proofs.Shortening.{kept_on, kept_push, works_keep}
 use Rattle.implication_graph.proofs.shorten.shorten_at.Goals as goal
 
@@ -24,7 +25,7 @@ pub returns-then-not-index-clause-works : goal.returns-then-not-index-clause-wor
 returns-then-not-index-clause-works c u w =
     let m = c.args.marks.now in
     works_skip (literals c.args.clauses.now) (held c.args.trail.now) m.seen.items (u ∷ c.args.lits.now.items) c.args.at (reverse c.args.hints.now.items)
-    (get_or c.args.trail.now c.args.at none).lit (held_at c.args.trail.now c.args.at none c.requires.at) (unseen _ (read_false m.seen.items _ _ c.index.ensures c.if-not-index.true)) w
+    (get_or c.args.trail.now c.args.at none).lit (held_at c.args.trail.now c.args.at none c.requires.at) (λ seen. clash _ seen (read_false m.seen.items _ _ c.index.ensures c.if-not-index.true)) w
 
 pub returns-in_ok-push_hint-in-Some-clause-kept : goal.returns-in_ok-push_hint-in-Some-clause-kept
 returns-in_ok-push_hint-in-Some-clause-kept c start h k = kept_on (held c.args.trail.now) start c.args.at c.args.lits.now.items k

@@ -1,5 +1,5 @@
 use Rattle.std.proofs.Common.{◌≡◌, ◌-◌, ◌++◌, ◌∷◌, [], List, sym, subst, ap, length, ◌∙◌, arith}
-use Rattle.std.proofs.lemmas.List.{map-append}
+use Rattle.std.proofs.lemmas.List.{map-append, length_push}
 use Rattle.cnf_form.specs.declared.formula.Lit.{Lit}
 use Rattle.cnf_form.specs.declared.formula.Clause.{Clause}
 use Rattle.cnf_form.specs.Literals.{literals}
@@ -7,7 +7,7 @@ use Rattle.implication_graph.specs.declared.trail.Entry.{Entry}
 use Rattle.implication_graph.specs.Trail.{At, held}
 use Rattle.cdcl.specs.State.{IsState}
 use Rattle.cdcl.specs.Looking.{CanWatch, IsPairFor}
-use Rattle.cdcl.proofs.States.{state_learnt, length_push, length_held}
+use Rattle.cdcl.proofs.States.{state_learnt, length_held}
 use Rattle.cdcl.proofs.Learning.{learnt_watchful, learnt_base, learnt_pair}
 use Rattle.cdcl.proofs.solver.Solver.add_learnt.Goals as goal
 

@@ -1,9 +1,9 @@
 use Rattle.std.proofs.Common.{◌≡◌, ◌++◌, ◌∷◌, [], List, inl, sym, subst, length, arith}
+use Rattle.std.proofs.lemmas.List.{length_push}
 use Rattle.cnf_form.specs.Literals.{literals}
 use Rattle.cdcl.specs.declared.watch.Pair.{Pair}
 use Rattle.implication_graph.specs.Trail.{held}
 use Rattle.cdcl.specs.Watching.{IsListed, IsWatching, AreLists}
-use Rattle.cdcl.proofs.States.{length_push}
 use Rattle.cdcl.proofs.WatchState.{watching_attach}
 use Rattle.cdcl.proofs.LookState.{lists_wider}
 use Rattle.cdcl.proofs.solver.Solver.attach_none.Goals as goal

@@ -1,12 +1,12 @@
-use Rattle.std.proofs.Common.{◌≡◌, ◌<◌, ◌+◌, ℕ, List, ◌∷◌, ◌++◌, [], take, drop, set, get_or, length, refl, ◌∙◌, ap, subst, arith}
+use Rattle.std.proofs.Common.{◌≡◌, ◌<◌, ◌+◌, ℕ, List, ◌∷◌, ◌++◌, [], take, drop, set, get_or, length, refl, ◌∙◌, ap, subst, sym, arith}
 use Rattle.std.specs.Prelude.{Vec}
 use Rattle.std.specs.declared.alloc.Global.{Global}
-use Rattle.std.proofs.lemmas.List.{length-set}
+use Rattle.std.proofs.lemmas.List.{length-set, drop_all, append-nil}
 use Rattle.cdcl.specs.declared.look.Visit.{Visit}
 use Rattle.implication_graph.specs.Trail.{held}
 use Rattle.cdcl.specs.Watching.{code_of}
 use Rattle.cdcl.specs.Looking.{IsLookingAt, VisitIs}
-use Rattle.cdcl.proofs.Stretches.{next_index, drop_end, append_none}
+use Rattle.cdcl.proofs.Stretches.{next_index}
 use Rattle.cdcl.proofs.Visiting.{code_in, conflict_at, visited_at, first_at, last_at, grown_same, grown_more, stays_more, stays_all, dropped_next, kept_next}
 use Rattle.cdcl.proofs.solver.Solver.look_through.Goals.{in-Dropped, in-Kept}
 use Rattle.cdcl.proofs.solver.Solver.look_through.Goals as goal
@@ -100,18 +100,18 @@ pub returns-clause-ready : goal.returns-clause-ready
 returns-clause-ready c =
     let list = c.loop-at.list.items in
     let kept = c.loop-at.kept in
-    let none : drop c.loop-at.at list ≡ [] = drop_end list c.loop-at.at (omega (arith, c.loop-at-test.false, c.loop-at.invariant.len)) in
+    let none : drop c.loop-at.at list ≡ [] = drop_all c.loop-at.at list (omega (arith, c.loop-at-test.false, c.loop-at.invariant.len)) in
     let l : IsLookingAt c.loop-at.self c.args.lit (take kept list) [] =
     subst (λ (xs : List ℕ). IsLookingAt c.loop-at.self c.args.lit (take kept list) xs) none c.loop-at.invariant.looking in
     let put : c.put_list-2.new.lists.items ≡ set c.loop-at.self.lists.items (code_of c.args.lit) c.truncate.new.self.items =
     c.put_list-2.ensures ∙ ap (λ (i : ℕ). set c.loop-at.self.lists.items i c.truncate.new.self.items) c.code-2.ensures in
     last_at c.loop-at.self c.args.lit c.put_list-2.new.lists (take kept list) [] c.truncate.new.self.items
-    (stays_all c.args.self.now c.loop-at.self c.loop-at.invariant.stays c.requires.ready.all) (c.truncate.ensures.items ∙ append_none (take kept list)) put l
+    (stays_all c.args.self.now c.loop-at.self c.loop-at.invariant.stays c.requires.ready.all) (c.truncate.ensures.items ∙ (sym (append-nil (take kept list)))) put l
 
 pub returns-clause-conflict : goal.returns-clause-conflict
 returns-clause-conflict c =
     let list = c.loop-at.list.items in
-    let none : drop c.loop-at.at list ≡ [] = drop_end list c.loop-at.at (omega (arith, c.loop-at-test.false, c.loop-at.invariant.len)) in
+    let none : drop c.loop-at.at list ≡ [] = drop_all c.loop-at.at list (omega (arith, c.loop-at-test.false, c.loop-at.invariant.len)) in
     let l : IsLookingAt c.loop-at.self c.args.lit (take c.loop-at.kept list) [] =
     subst (λ (xs : List ℕ). IsLookingAt c.loop-at.self c.args.lit (take c.loop-at.kept list) xs) none c.loop-at.invariant.looking in
     l.pending

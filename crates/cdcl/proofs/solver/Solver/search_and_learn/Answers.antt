@@ -1,11 +1,11 @@
 use Rattle.std.proofs.Common.{◌≡◌, ◌<◌, ◌≤◌, ℕ, Option, None, List, [], ◌∷◌, ◌++◌, ◌∙◌, subst, ap, length, arith}
 use Rattle.std.specs.Prelude.{Vec}
 use Rattle.std.specs.declared.alloc.Global.{Global}
+use Rattle.std.proofs.lemmas.List.{length_push}
 use Rattle.cnf_form.specs.declared.formula.Clause.{Clause}
 use Rattle.cnf_form.specs.Literals.{literals}
 use Rattle.cdcl.specs.Visits.{SearchIs, ConflictIs}
 use Rattle.cdcl.specs.Lines.{IsLineStep, learnt}
-use Rattle.cdcl.proofs.States.{length_push}
 use Rattle.cdcl.proofs.Ends.{modelled, refuted_end, spent_end, log_push, db_push, none_below}
 use Rattle.cdcl.proofs.solver.Solver.search_and_learn.Goals as goal
 
