@@ -1,4 +1,2 @@
 pub mod Inserted
 pub mod Joined
-pub mod Marks
-pub mod Retained

@@ -2,10 +2,6 @@
 #![tactic(auto)]
 
 mod add;
-mod guess;
-mod keep;
-mod mark;
-mod marked;
 mod near;
 mod piece;
 mod pieces;
