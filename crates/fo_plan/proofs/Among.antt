@@ -4,9 +4,10 @@ use native.Mathlib.Decide.{dec_lt}
 use Rattle.std.specs.declared.cmp.Ordering.{Ordering}
 use Rattle.std.specs.List.Sorted.{IsStrictlySortedBy}
 use Rattle.std.proofs.lemmas.Grind.{flat_map-append}
-use Rattle.std.proofs.lemmas.List.{append-nil, get_or_append_left, get_or-append-add, get_or_default}
+use Rattle.std.proofs.lemmas.List.{append-nil, get_or_append_left, get_or-append-add}
 use Rattle.std.proofs.lemmas.List.Elements.{All-contains, Contains-get_or, Contains-append_left, Contains-append_right, Contains-append_cases}
 use Rattle.cqa_value.specs.declared.value.Value.{Value}
+use Rattle.cqa_value.proofs.Words.{member_place}
 use Rattle.cqa_model.specs.declared.query.Query.{Query}
 use Rattle.cqa_model.specs.Database.{Table, block_cmp, stored}
 use Rattle.cqa_model.specs.Query.{atom_at, atom_key, rows_of, FitsDatabase}
@@ -26,10 +27,6 @@ sorted-back : {A : Type 0} (cmp : A → A → Ordering) (xs ys : List A) → IsS
 unfolding IsStrictlySortedBy
 sorted-back cmp [] ys s = s
 sorted-back cmp (x ∷ xs) ys s = sorted-back cmp xs ys s.1
-
--- a place of a row in a list
-place-in : (rows : List (List Value)) (x : List Value) → Contains rows x → (i : ℕ) × (i < length rows) × (get_or rows i [] ≡ x)
-place-in rows x m = (m.0, m.1, get_or_default rows m.0 [] x m.1 ∙ m.2)
 
 -- the blocks of two lists without a common key
 module _ (key : List ℕ) (xs ys : List (List Value)) (cs bs : List (List (List Value))) (ha : AreBlocks key xs cs) (hb : AreBlocks key ys bs)
@@ -88,7 +85,7 @@ module _ (key : List ℕ) (rows : List (List Value)) (sorted : IsStrictlySortedB
 
   -- a row of the span keeps those before it from those behind
   before-behind : (z : List Value) → Contains span z → (x y : List Value) → Contains s.before x → Contains s.behind y → SharesKey key x y → ⊥
-  before-behind z mz x y mx my t = go (place-in s.before x mx) (place-in span z mz) (place-in s.behind y my)
+  before-behind z mz x y mx my t = go (member_place s.before x [] mx) (member_place span z [] mz) (member_place s.behind y [] my)
     where
       all : List (List Value)
       all = s.before ++ (span ++ s.behind)

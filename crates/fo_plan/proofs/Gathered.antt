@@ -1,7 +1,7 @@
 -- What the rows taken and the rest of a plan give, block by block.
-use Rattle.std.proofs.Common.{◌≡◌, ◌≢◌, ℕ, zero, suc, ◌<◌, ◌≤◌, ◌+◌, ◌-◌, ◌⊎◌, ◌↔◌, inl, inr, Bool, IsTrue, IsFalse, true, false, cond, List, [], ◌∷◌, ◌++◌, length, get_or, map, take, drop, refl, ap, sym, ◌∙◌, subst, arith, Contains, ◌==◌, below_more, Result, Ok, Err, OnOk}
+use Rattle.std.proofs.Common.{◌≡◌, ◌≢◌, ℕ, ◌<◌, ◌≤◌, ◌+◌, ◌-◌, ◌⊎◌, ◌↔◌, inl, inr, Bool, IsTrue, IsFalse, true, false, cond, List, [], ◌∷◌, ◌++◌, length, get_or, map, take, drop, refl, ap, sym, ◌∙◌, subst, arith, Contains, ◌==◌, below_more, Result, Ok, Err, OnOk}
 use Rattle.std.proofs.lemmas.Bool.{false≢true}
-use Rattle.std.proofs.lemmas.List.{length-map}
+use Rattle.std.proofs.lemmas.List.{length-map, get_or-map}
 use Rattle.std.proofs.lemmas.List.Elements.{All-contains, Contains-get_or, Contains-append_left, Contains-append_right, Contains-append_cases}
 use Rattle.std.specs.List.{All}
 use Rattle.cqa_value.specs.declared.memory.NoMemory.{NoMemory}
@@ -11,6 +11,7 @@ use Rattle.cqa_model.specs.declared.query.Query.{Query}
 use Rattle.cqa_model.specs.Query.{atom_at}
 use Rattle.cqa_model.specs.Plan.{Placed, PlanHolds, answer_at}
 use Rattle.cqa_model.proofs.Classic.{mem-head, mem-tail, mem-nil, mem-cases}
+use Rattle.cqa_model.proofs.Exactness.{map_is}
 use Rattle.plan_rows.specs.Taking.{taken_value, AreAgreed}
 use Rattle.plan_rows.specs.Fitting.{Suits, GivesAt}
 use Rattle.fo_plan.specs.Holding.{RowHolds, AllHold}
@@ -85,21 +86,6 @@ adds-same P Q h old new a row = (
   (λ s. elim s [ inl k ↦ (a row).1 (inl k) | inr p ↦ (a row).1 (inr ((h row).1 p)) ]),
 )
 
-map_is : {A : Type 0} (f : A → Value) (d : A) (xs : List A) (ys : List Value) → length ys ≡ length xs →
-    ((i : ℕ) → i < length xs → f (get_or xs i d) ≡ get_or ys i nothing) → map f xs ≡ ys
-map_is f d [] [] l h = refl
-map_is f d [] (y ∷ ys) l h = absurd (omega arith)
-map_is f d (x ∷ xs) [] l h = absurd (omega arith)
-map_is f d (x ∷ xs) (y ∷ ys) l h =
-    let e : f x ≡ y = h 0 (omega arith) in
-    let es : map f xs ≡ ys = map_is f d xs ys (omega arith) (λ i k. h (suc i) (omega arith)) in
-    cc
-
-map_at : {A : Type 0} (f : A → Value) (d : A) (xs : List A) (i : ℕ) → i < length xs → get_or (map f xs) i nothing ≡ f (get_or xs i d)
-map_at f d [] i l = absurd (omega arith)
-map_at f d (x ∷ xs) zero l = refl
-map_at f d (x ∷ xs) (suc i) l = map_at f d xs i (Rattle.std.proofs.Common.le_of_suc-le-suc l)
-
 -- the answer of the rows taken, where each answer column is of one of them
 module _ (q : Query) (taken : List Placed) (agreed : AreAgreed q taken) (of_column : (i : ℕ) → i < length q.answer → (t : Placed) × Contains taken t × (t.atom ≡ (answer_at q i).atom)) where
   in_range : (i : ℕ) → i < length q.answer → ((answer_at q i).atom < length q.atoms) × ((answer_at q i).col < (atom_at q (answer_at q i).atom).width)
@@ -117,7 +103,7 @@ module _ (q : Query) (taken : List Placed) (agreed : AreAgreed q taken) (of_colu
   pub is-answer : (row : List Value) → map (taken_value taken) q.answer ≡ row → IsAnswer q taken row
   is-answer row e = (
     sym (ap length e) ∙ length-map q.answer (taken_value taken),
-    (λ t m i l f. at t m i l f ∙ sym (map_at (taken_value taken) (record { atom = 0; col = 0 }) q.answer i l) ∙ ap (λ z. get_or z i nothing) e),
+    (λ t m i l f. at t m i l f ∙ sym (get_or-map (taken_value taken) q.answer i (record { atom = 0; col = 0 }) nothing l) ∙ ap (λ z. get_or z i nothing) e),
   )
     where
       at : (t : Placed) → Contains taken t → (i : ℕ) → i < length q.answer → (answer_at q i).atom ≡ t.atom → get_or t.row (answer_at q i).col nothing ≡ taken_value taken (answer_at q i)

@@ -5,6 +5,7 @@ use Rattle.std.specs.declared.cmp.Ordering.{Ordering}
 use Rattle.std.specs.declared.cmp.Ordering.TheVariants.{Less}
 use Rattle.std.specs.List.Sorted.{IsStrictlySortedBy}
 use Rattle.std.proofs.lemmas.List.Elements.{All-contains, Contains-append_left, Contains-append_right, Contains-append_cases}
+use Rattle.std.proofs.Math.Seq.{take-append_seam, drop-append_seam}
 use Rattle.cqa_value.specs.declared.value.Value.{Value}
 use Rattle.cqa_value.specs.Values.{nothing}
 use Rattle.cqa_model.specs.declared.query.Query.{Query}
@@ -16,7 +17,6 @@ use Rattle.cqa_model.proofs.Repairs.{shares-self}
 use Rattle.cqa_model.proofs.Classic.{mem-head, mem-tail}
 use Rattle.table_blocks.specs.Spans.{first_key, IsSpan}
 use Rattle.table_blocks.specs.Tables.{rows_at, key_at}
-use Rattle.plan_rows.proofs.PlanParts.{front-of, back-of}
 use Rattle.fo_plan.specs.Enough.{IsEnough}
 
 pub sorted-part : {A : Type 0} (cmp : A → A → Ordering) (before part behind : List A) → IsStrictlySortedBy cmp (before ++ (part ++ behind)) → IsStrictlySortedBy cmp part
@@ -35,10 +35,10 @@ sorted-part cmp (b ∷ before) part behind s = sorted-part cmp before part behin
 -- the span, cut out of the rows
 module _ (key : List ℕ) (rows : List (List Value)) (probe : List Value) (start : ℕ) (span : List (List Value)) (s : IsSpan key rows probe start span) where
   pub span-back : drop start rows ≡ span ++ s.behind
-  span-back = ap (λ n. drop n rows) (sym s.place) ∙ (ap (drop (length s.before)) s.parts ∙ back-of s.before (span ++ s.behind))
+  span-back = ap (λ n. drop n rows) (sym s.place) ∙ (ap (drop (length s.before)) s.parts ∙ drop-append_seam s.before (span ++ s.behind))
 
   pub span-cut : take (length span) (drop start rows) ≡ span
-  span-cut = ap (take (length span)) span-back ∙ front-of span s.behind
+  span-cut = ap (take (length span)) span-back ∙ take-append_seam span s.behind
 
   pub span-start : start ≤ length rows
   span-start = let e = ap length s.parts in let l = length-append s.before (span ++ s.behind) in let p = s.place in omega (arith, e, l, p)

@@ -1,8 +1,8 @@
 -- Where the first of the rows taken have all variables that a rest of a plan shares with any, there is no witness with them
 -- once there is none with all.
-use Rattle.std.proofs.Common.{◌≡◌, ℕ, zero, suc, ◌+◌, ◌-◌, ◌<◌, ◌≤◌, inl, inr, Option, Some, None, IfSome, IsSome, Bool, true, false, not, List, [], ◌∷◌, ◌++◌, length, get_or, take, drop, refl, ap, sym, ◌∙◌, subst, arith, Contains}
+use Rattle.std.proofs.Common.{◌≡◌, ℕ, zero, suc, ◌+◌, ◌-◌, ◌<◌, ◌≤◌, inl, inr, Option, Some, None, IfSome, IsSome, Bool, List, [], ◌∷◌, ◌++◌, length, get_or, take, drop, refl, ap, sym, ◌∙◌, subst, arith, Contains}
 use native.Mathlib.Decide.{dec_lt}
-use Rattle.std.proofs.Math.Seq.{get_or-append_seam}
+use Rattle.std.proofs.Math.Seq.{get_or-append_seam, take-append_seam, drop-append_seam}
 use Rattle.std.proofs.lemmas.Bool.{false≢true}
 use Rattle.std.proofs.lemmas.List.{length-append, append_assoc, append-nil, get_or_default, get_or_append_left, get_or-append-add, get_or-take, length-take-le}
 use Rattle.std.proofs.lemmas.List.Elements.{Contains-get_or, Contains-append_right, Contains-append_cases}
@@ -22,7 +22,6 @@ use Rattle.cqa_model.proofs.Elimination.{plan-eliminates}
 use Rattle.cqa_model.proofs.Exactness.{full, forget, fits_of}
 use Rattle.plan_rows.specs.Left.{AreAtoms, IsTold}
 use Rattle.plan_rows.specs.Underway.{atoms_of}
-use Rattle.plan_rows.proofs.PlanParts.{front-of, back-of}
 use Rattle.plan_rows.proofs.Sharing.{length-atoms, in-atoms, of-atoms}
 use Rattle.repair_back.specs.Flags.{kept_tables}
 use Rattle.repair_back.specs.Apart.{IsApart, AreApart, AreEnough}
@@ -67,8 +66,8 @@ apart-at q order rest enough place n h ep l en front between e le G m =
     let before : length front + m.0 < place = omega (arith, inside, whole, la) in
     let here : get_or order (length front + m.0) 0 ≡ G =
     ap (λ o. get_or o (length front + m.0) 0) e ∙ (get_or-append-add front (between ++ rest) m.0 0 ∙ (get_or_append_left between rest 0 m.0 m.1 ∙ (get_or_default between m.0 0 G m.1 ∙ m.2))) in
-    let left : drop place order ≡ rest = ap (λ o. drop place o) (e ∙ sym (append_assoc front between rest)) ∙ (ap (λ k. drop k ((front ++ between) ++ rest)) (sym whole) ∙ back-of (front ++ between) rest) in
-    let first : take (length front) order ≡ front = ap (λ o. take (length front) o) e ∙ front-of front (between ++ rest) in
+    let left : drop place order ≡ rest = ap (λ o. drop place o) (e ∙ sym (append_assoc front between rest)) ∙ (ap (λ k. drop k ((front ++ between) ++ rest)) (sym whole) ∙ drop-append_seam (front ++ between) rest) in
+    let first : take (length front) order ≡ front = ap (λ o. take (length front) o) e ∙ take-append_seam front (between ++ rest) in
     let all = told-first q order (drop place order) (length front) place (omega (arith, ep)) (λ k low high. h place l k (let z : get_or enough place 0 ≤ k = omega (arith, en, le, low) in z) high) (suc (length front + m.0)) (length front + m.0) (omega arith) (omega arith) before in
     subst (λ r. IsApart q front G r) left (subst (λ A. IsApart q front A (drop place order)) here (subst (λ b. IsApart q b (get_or order (length front + m.0) 0) (drop place order)) first all))
 
@@ -235,7 +234,3 @@ module _ (q : Query) (db : List Table) (row : List Value) (flags : List (List Bo
   pub some-none : (taken : List Placed) (r : Option ℕ) → IfSome r (λ count. count ≤ length taken) → IfSome r (λ count. HasNoneFrom db q row taken flags count) → IsSome r → HasNone db q row taken flags
   some-none taken None l h s = absurd (false≢true s)
   some-none taken (Some count) l h s = whole-none taken count l h
-
-pub of-not : (b : Bool) → not b ≡ false → b ≡ true
-of-not true e = refl
-of-not false e = absurd (false≢true (sym e))

@@ -5,33 +5,17 @@ use Rattle.std.specs.Ordering.{ordering_reverse}
 use Rattle.std.specs.List.Sorted.{IsStrictlySortedBy}
 use Rattle.std.specs.declared.cmp.Ordering.{Ordering}
 use Rattle.std.specs.declared.cmp.Ordering.TheVariants.{Equal, Greater}
-use Rattle.std.proofs.lemmas.Bool.{false≢true}
+use Rattle.std.proofs.lemmas.Bool.{false≢true, and_parts, and_from, not_from_false, false_from_ne_true}
+use Rattle.std.proofs.lemmas.Map.Keys.{Less-from_sorted}
 use Rattle.cqa_value.specs.declared.value.Value.{Value}
 use Rattle.cqa_value.specs.Values.{row_eq, row_decides}
+use Rattle.cqa_value.proofs.Words.{clash_not}
 use Rattle.cqa_model.specs.Database.{key_of, block_cmp}
 use Rattle.cqa_model.specs.Repairs.{SharesKey}
-use Rattle.cqa_model.proofs.BlockOrder.{grouped, sorted-less, shares-from_key, key-from_shares, block_total}
+use Rattle.cqa_model.proofs.BlockOrder.{grouped, shares-from_key, key-from_shares, block_total}
 use Rattle.cqa_model.proofs.Repairs.{shares-sym, shares-trans}
 use Rattle.repair_back.specs.Results.{is_of_block, is_contested}
 use Rattle.repair_back.proofs.Numbers.{cases_order}
-
-both-true : (a b : Bool) → (a && b) ≡ true → (a ≡ true) × (b ≡ true)
-both-true true true e = (refl, refl)
-both-true true false e = absurd (false≢true e)
-both-true false b e = absurd (false≢true e)
-
-true-both : (a b : Bool) → a ≡ true → b ≡ true → (a && b) ≡ true
-true-both true true e f = refl
-true-both true false e f = absurd (false≢true f)
-true-both false b e f = absurd (false≢true e)
-
-not-false : (a : Bool) → not a ≡ true → a ≡ true → ⊥
-not-false true e f = false≢true e
-not-false false e f = false≢true f
-
-not-true : (a : Bool) → (a ≡ true → ⊥) → not a ≡ true
-not-true true f = absurd (f refl)
-not-true false f = refl
 
 any-at : (p : List Value → Bool) (xs : List (List Value)) → list_any p xs ≡ true → (i : ℕ) × (i < length xs) × (p (get_or xs i []) ≡ true)
 any-at p [] e = absurd (false≢true e)
@@ -68,12 +52,12 @@ module _ (key : List ℕ) (rows : List (List Value)) (order : IsStrictlySortedBy
   -- rows at two places are two rows
   apart : (i j : ℕ) → i < j → j < length rows → get_or rows i [] ≡ get_or rows j [] → ⊥
   apart i j l lj e = turned (block_cmp key (get_or rows i []) (get_or rows i [])) ((block_total key).antisymm (get_or rows i []) (get_or rows i []))
-      (subst (λ y. block_cmp key (get_or rows i []) y ≡ Less) (sym e) (sorted-less (block_cmp key) rows i j [] order l lj))
+      (subst (λ y. block_cmp key (get_or rows i []) y ≡ Less) (sym e) (Less-from_sorted (block_cmp key) rows i j [] order l lj))
 
   is_rival : (i : ℕ) → i < length rows → SharesKey key x (get_or rows i []) → (x ≡ get_or rows i [] → ⊥) → is_contested key rows x ≡ true
   is_rival i l s ne = at-any (λ y. is_of_block key x y && not (row_eq x y)) rows i l
-      (true-both (is_of_block key x (get_or rows i [])) (not (row_eq x (get_or rows i []))) ((row_decides (key_of key x) (key_of key (get_or rows i []))).1 (key-from_shares key x (get_or rows i []) s))
-      (not-true (row_eq x (get_or rows i [])) (λ e. ne ((row_decides x (get_or rows i [])).0 e))))
+      (and_from (is_of_block key x (get_or rows i [])) (not (row_eq x (get_or rows i []))) ((row_decides (key_of key x) (key_of key (get_or rows i []))).1 (key-from_shares key x (get_or rows i []) s))
+      (not_from_false (row_eq x (get_or rows i [])) (false_from_ne_true (row_eq x (get_or rows i [])) (λ e. ne ((row_decides x (get_or rows i [])).0 e)))))
 
   pub next-rival : place + 1 < length rows → SharesKey key x (get_or rows (place + 1) []) → is_contested key rows x ≡ true
   next-rival l s = is_rival (place + 1) l s (apart place (place + 1) (omega arith) l)
@@ -90,7 +74,7 @@ module _ (key : List ℕ) (rows : List (List Value)) (order : IsStrictlySortedBy
       go (i, l, e) = side (cases_order i place)
         where
           b : (is_of_block key x (get_or rows i []) ≡ true) × (not (row_eq x (get_or rows i [])) ≡ true)
-          b = both-true (is_of_block key x (get_or rows i [])) (not (row_eq x (get_or rows i []))) e
+          b = and_parts (is_of_block key x (get_or rows i [])) (not (row_eq x (get_or rows i []))) e
 
           s : SharesKey key x (get_or rows i [])
           s = shares-from_key key x (get_or rows i []) ((row_decides (key_of key x) (key_of key (get_or rows i []))).0 b.0)
@@ -101,5 +85,5 @@ module _ (key : List ℕ) (rows : List (List Value)) (order : IsStrictlySortedBy
             shares-trans key x (get_or rows i []) (get_or rows (place - 1) []) s
                 (grouped key rows order i (place - 1) place (omega (arith, k)) (omega (arith, k)) there (shares-sym key x (get_or rows i []) s)),
           )
-          side (inr (inl k)) = absurd (not-false (row_eq x (get_or rows i [])) b.1 ((row_decides x (get_or rows i [])).1 (ap (λ n. get_or rows n []) (sym k))))
+          side (inr (inl k)) = absurd (clash_not (row_eq x (get_or rows i [])) b.1 ((row_decides x (get_or rows i [])).1 (ap (λ n. get_or rows n []) (sym k))))
           side (inr (inr k)) = inl (omega (arith, k, l), grouped key rows order place (place + 1) i (omega arith) (omega (arith, k)) l s)

@@ -1,22 +1,13 @@
 -- The ends of blocks of rows in block order.
-use Rattle.std.proofs.Common.{◌≡◌, ℕ, ◌<◌, ◌≤◌, ◌↔◌, ◌⊎◌, ◌-◌, inl, inr, Bool, List, Some, [], length, get_or, slice_get, sym, subst, arith}
-use Rattle.std.specs.Bool.{IsTrue}
+use Rattle.std.proofs.Common.{ℕ, ◌<◌, ◌≤◌, ◌⊎◌, inl, inr, List, [], length, get_or, arith}
 use Rattle.std.specs.List.Sorted.{IsStrictlySortedBy}
-use Rattle.std.proofs.lemmas.Option.{get_or_from_slice_get}
 use Rattle.cqa_value.specs.declared.value.Value.{Value}
+use Rattle.cqa_value.proofs.Words.{cases_le}
 use Rattle.cqa_model.specs.Database.{block_cmp}
 use Rattle.cqa_model.specs.Repairs.{SharesKey}
 use Rattle.cqa_model.proofs.BlockOrder.{grouped}
 use Rattle.cqa_model.proofs.Repairs.{shares-sym, shares-trans}
 use Rattle.repair_back.specs.Walking.{Begins, IsBlock}
-use Rattle.repair_back.proofs.Numbers.{cases_le}
-
-pub shared : (key : List ℕ) (rows : List (List Value)) (at other : ℕ) (a b : List Value) (t : Bool) → slice_get rows at ≡ Some a → slice_get rows other ≡ Some b →
-    IsTrue t ↔ SharesKey key a b → IsTrue t ↔ SharesKey key (get_or rows at []) (get_or rows other [])
-shared key rows at other a b t ra rb same =
-    let ea : a ≡ get_or rows at [] = sym (get_or_from_slice_get rows at a [] ra) in
-    let eb : b ≡ get_or rows other [] = sym (get_or_from_slice_get rows other b [] rb) in
-    subst (λ y. IsTrue t ↔ SharesKey key (get_or rows at []) y) eb (subst (λ x. IsTrue t ↔ SharesKey key x b) ea same)
 
 module _ (key : List ℕ) (rows : List (List Value)) (order : IsStrictlySortedBy (block_cmp key) rows) (at end : ℕ) (within : end ≤ length rows) (above : at < end)
     (alike : (i : ℕ) → at ≤ i → i < end → SharesKey key (get_or rows at []) (get_or rows i [])) (stop : end < length rows → SharesKey key (get_or rows at []) (get_or rows end []) → ⊥) where
@@ -42,12 +33,6 @@ module _ (key : List ℕ) (rows : List (List Value)) (order : IsStrictlySortedBy
       go (inl b) = stop le (shares-trans key (get_or rows at []) (get_or rows i []) (get_or rows end []) (alike i b l) s)
       go (inr b) = stop le (shares-trans key (get_or rows at []) (get_or rows i []) (get_or rows end [])
           (shares-sym key (get_or rows i []) (get_or rows at []) (grouped key rows order i at end (omega (arith, b)) (omega (arith, above)) le s)) s)
-
--- a place begins a block where the row before it is of another
-pub block_start-begins : (key : List ℕ) (rows : List (List Value)) → IsStrictlySortedBy (block_cmp key) rows → (start : ℕ) → (0 < start → SharesKey key (get_or rows (start - 1) []) (get_or rows start []) → ⊥) → Begins key rows start
-block_start-begins key rows order start off i low l s =
-    let near = grouped key rows order i (start - 1) start (omega (arith, low)) (omega (arith, low)) l s in
-    off (omega (arith, low)) (shares-trans key (get_or rows (start - 1) []) (get_or rows i []) (get_or rows start []) (shares-sym key (get_or rows i []) (get_or rows (start - 1) []) near) s)
 
 -- the row at a place is of the block that begins there, or before it
 pub in-block : (key : List ℕ) (rows : List (List Value)) (start end at : ℕ) → IsBlock key rows start end → at < length rows → SharesKey key (get_or rows start []) (get_or rows at []) → at < end

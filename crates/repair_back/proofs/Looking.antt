@@ -1,6 +1,7 @@
 -- Where rows are looked for that may fit.
-use Rattle.std.proofs.Common.{◌≡◌, ℕ, suc, zero, ◌<◌, ◌≤◌, ◌⊎◌, inl, inr, Option, Some, None, List, [], ◌∷◌, length, take, get_or, refl, ap, sym, ◌∙◌, subst, arith, IfSome}
+use Rattle.std.proofs.Common.{◌≡◌, ℕ, ◌<◌, ◌≤◌, ◌⊎◌, inl, inr, Option, Some, None, List, [], length, get_or, ap, sym, ◌∙◌, subst, arith, IfSome, le_of_eq}
 use Rattle.std.specs.Option.{option_copied}
+use Rattle.std.proofs.lemmas.List.{take_all}
 use Rattle.cqa_value.specs.declared.value.Value.{Value}
 use Rattle.cqa_model.specs.declared.query.Query.{Query}
 use Rattle.cqa_model.specs.Database.{key_of}
@@ -12,14 +13,8 @@ use Rattle.repair_back.specs.declared.places.Places.{Places}
 use Rattle.repair_back.specs.Looking.{AreThere, IsPassedIn, IsPassed}
 use Rattle.repair_back.specs.Walking.{MayFit}
 
-take-whole : (columns : List ℕ) (n : ℕ) → n ≡ length columns → take n columns ≡ columns
-take-whole [] zero e = refl
-take-whole [] (suc n) e = refl
-take-whole (c ∷ columns) zero e = absurd (omega (arith, e))
-take-whole (c ∷ columns) (suc n) e = ap (λ cs. c ∷ cs) (take-whole columns n (omega (arith, e)))
-
 pub whole-known : (columns : List ℕ) (values y : List Value) → length values ≡ length columns → first_key columns values y ≡ values → key_of columns y ≡ values
-whole-known columns values y size e = ap (λ cs. key_of cs y) (sym (take-whole columns (length values) size)) ∙ e
+whole-known columns values y size e = ap (λ cs. key_of cs y) (sym (take_all (length values) columns (le_of_eq (sym size)))) ∙ e
 
 passed-in : (o : Option Indexed) (values : List Value) (rows : List (List Value)) (fits : List Value → Type 0) (n : ℕ) → IfSome o (λ x. (x.rows ≡ rows) × (length x.rows ≡ n)) → ((y : List Value) → fits y → HasKnown o values y) →
     (from to : ℕ) → IsPassedIn o values from to → (i : ℕ) → from < i → i < to → fits (get_or rows i []) → ⊥

@@ -1,12 +1,12 @@
 -- Flags that a model sets.
-use Rattle.std.proofs.Common.{◌≡◌, ℕ, ◌+◌, ◌<◌, ◌≤◌, ◌≢◌, ◌⊎◌, ◌↔◌, inl, inr, Bool, true, false, List, [], length, get_or, set, slice_get, Some, refl, ap, sym, ◌∙◌, subst, arith, length-set, get_or-set_same, get_or-set_other, zero, suc, ◌∷◌, le_of_suc-le-suc}
+use Rattle.std.proofs.Common.{◌≡◌, ℕ, ◌+◌, ◌<◌, ◌≤◌, ◌≢◌, ◌⊎◌, ◌↔◌, inl, inr, Bool, true, false, List, [], length, get_or, set, slice_get, Some, refl, ap, sym, ◌∙◌, subst, arith, length-set, get_or-set_same, get_or-set_other}
 use Rattle.std.proofs.lemmas.Bool.{false≢true}
 use native.Mathlib.Decide.{ℕ_discrete}
-use Rattle.std.proofs.lemmas.Option.{slice_get_within, get_or_from_slice_get}
+use Rattle.std.proofs.lemmas.Option.{slice_get_within, get_or_from_slice_get, slice_get-get_or}
+use Rattle.cqa_value.proofs.Words.{cases_next}
 use Rattle.cqa_model.specs.declared.query.RowId.{RowId}
 use Rattle.repair_back.specs.Flags.{IsFlagged}
 use Rattle.repair_back.specs.Results.{IsListed}
-use Rattle.repair_back.proofs.Numbers.{cases_next}
 
 -- one of the first names
 abbrev IsListedTo : ℕ → List RowId → List Bool → RowId → Type 0
@@ -16,11 +16,6 @@ pub record MarkedTo (old flags : List (List Bool)) (listed : List RowId) (model 
   pub size : length flags ≡ length old
   pub long : (t : ℕ) → length (get_or flags t []) ≡ length (get_or old t [])
   pub is : (t p : ℕ) → p < length (get_or old t []) → IsFlagged (get_or flags t []) p ↔ (IsFlagged (get_or old t []) p ⊎ IsListedTo at listed model (record { table = t; place = p }))
-
-got : {A : Type 0} (xs : List A) (i : ℕ) (d : A) → i < length xs → slice_get xs i ≡ Some (get_or xs i d)
-got [] i d l = absurd (omega arith)
-got (x ∷ xs) zero d l = refl
-got (x ∷ xs) (suc i) d l = got xs i d (le_of_suc-le-suc l)
 
 pub marked-none : (old : List (List Bool)) (listed : List RowId) (model : List Bool) → MarkedTo old old listed model 0
 marked-none old listed model = record {
@@ -66,10 +61,10 @@ module _ (old flags : List (List Bool)) (listed : List RowId) (model : List Bool
       long t (yes q) = subst (λ u. length (get_or (set flags name.table f) u []) ≡ length (get_or old u [])) (sym q) (ap length here ∙ size ∙ ap length old_here ∙ h.long name.table)
 
       mine : slice_get listed at ≡ Some name
-      mine = got listed at d ll ∙ ap Some (sym is_name)
+      mine = slice_get-get_or listed at d ll ∙ ap Some (sym is_name)
 
       marked : slice_get model at ≡ Some true
-      marked = got model at b lm ∙ ap Some e
+      marked = slice_get-get_or model at b lm ∙ ap Some e
 
       the_name : (x y : RowId) → slice_get listed at ≡ Some x → slice_get listed at ≡ Some y → x ≡ y
       the_name x y ex ey = sym (get_or_from_slice_get listed at x x ex) ∙ get_or_from_slice_get listed at y x ey

@@ -4,6 +4,7 @@ use native.Mathlib.Decide.{ℕ_discrete}
 use Rattle.std.proofs.lemmas.List.{get_or_default}
 use Rattle.std.proofs.lemmas.List.Elements.{Contains-get_or}
 use Rattle.cqa_value.specs.declared.value.Value.{Value}
+use Rattle.cqa_value.proofs.Words.{member_place, cases_le, cases_next}
 use Rattle.cqa_model.specs.declared.query.Query.{Query}
 use Rattle.cqa_model.specs.Database.{Table, stored, keys_of}
 use Rattle.cqa_model.specs.Repairs.{SharesKey}
@@ -23,11 +24,6 @@ use Rattle.repair_back.specs.Walking.{IsBlock}
 use Rattle.repair_back.proofs.Choosing.{flag-there, kept_of-into, kept_of-out, exchanged-choice, exchanged-here}
 use Rattle.repair_back.proofs.Keeping.{kept-atom}
 use Rattle.repair_back.proofs.Stepping.{reached-lacks, reached-joined, reached-self, reached-step, held-witness}
-use Rattle.repair_back.proofs.Numbers.{cases_le, cases_next}
-
--- a place of a row
-pub place-of : (rows : List (List Value)) (x : List Value) → Contains rows x → (i : ℕ) × (i < length rows) × (get_or rows i [] ≡ x)
-place-of rows x m = (m.0, m.1, get_or_default rows m.0 [] x m.1 ∙ m.2)
 
 -- what holds of the rows before a place, and of the row there, holds of the rows up to it
 held_on : (rows : List (List Value)) (P : List Value → Type 0) (start next : ℕ) → ((i : ℕ) → start ≤ i → i < next → P (get_or rows i [])) → P (get_or rows next [])
@@ -154,7 +150,7 @@ module _ (q : Query) (db : List Table) (fits : FitsDatabase q db) (row : List Va
   block-holds plan rows at next is block holds = (
     get_or rows at [],
     subst (λ (rs : List (List Value)). Contains rs (get_or rows at [])) is (Contains-get_or rows at [] (let some = block.some in let within = block.within in omega (arith, some, within))),
-    λ y my s. let p = place-of rows y (subst (λ (rs : List (List Value)). Contains rs y) (sym is) my) in
+    λ y my s. let p = member_place rows y [] (subst (λ (rs : List (List Value)). Contains rs y) (sym is) my) in
         let b = (block.exactly p.0 p.1).0 (subst (λ z. SharesKey (atom_key q F) (get_or rows at []) z) (sym p.2) s) in
         subst (λ z. RowHolds db q row taken F plan z) p.2 (holds p.0 b.0 b.1),
   )

@@ -1,10 +1,11 @@
 -- The names of the rows whose flags are set, and what they are the names of.
 use Rattle.std.proofs.Common.{◌≡◌, ℕ, zero, suc, ◌+◌, ◌<◌, ◌≤◌, inl, inr, Bool, true, false, cond, List, [], ◌∷◌, ◌++◌, length, get_or, take, map, refl, ap, sym, ◌∙◌, subst, arith, Contains, le_of_suc-le-suc, Less}
-use Rattle.std.proofs.lemmas.List.{take_more, flat_map_more, get_or_default}
+use Rattle.std.proofs.lemmas.List.{take_more, flat_map_more, get_or_default, take_all}
 use Rattle.std.specs.List.{AllByRecursion}
 use Rattle.std.specs.List.Sorted.{IsStrictlySortedBy}
 use Rattle.std.specs.Ordering.{nat_cmp}
 use Rattle.cqa_value.specs.declared.value.Value.{Value}
+use Rattle.cqa_value.proofs.Words.{nat_cmp_less}
 use Rattle.cqa_model.specs.declared.query.Query.{Query}
 use Rattle.cqa_model.specs.declared.query.Atom.{Atom}
 use Rattle.cqa_model.specs.declared.query.RowId.{RowId}
@@ -60,14 +61,8 @@ module _ (table : ℕ) (old : List RowId) (flags : List Bool) (place : ℕ) (l :
       names ≡ old ++ names_in table (places_from 0 (take (place + 1) flags))
   named-clear names h e = h ∙ ap (λ ns. old ++ ns) (sym (joined-none (names_in table (places_from 0 (take place flags)))) ∙ sym (next-names false e))
 
-take-all : {A : Type 0} (n : ℕ) (xs : List A) → length xs ≤ n → take n xs ≡ xs
-take-all zero [] l = refl
-take-all zero (x ∷ xs) l = absurd (omega arith)
-take-all (suc n) [] l = refl
-take-all (suc n) (x ∷ xs) l = ap (λ ys. x ∷ ys) (take-all n xs (le_of_suc-le-suc l))
-
 pub named-all : (table : ℕ) (old : List RowId) (flags : List Bool) (place : ℕ) (names : List RowId) → length flags ≤ place → names ≡ old ++ names_in table (places_from 0 (take place flags)) → names ≡ old ++ names_in table (places_from 0 flags)
-named-all table old flags place names l h = h ∙ ap (λ bs. old ++ names_in table (places_from 0 bs)) (take-all place flags l)
+named-all table old flags place names l h = h ∙ ap (λ bs. old ++ names_in table (places_from 0 bs)) (take_all place flags l)
 
 -- one atom more
 pub atoms-more : (atoms : List Atom) (flags : List (List Bool)) (old names new : List RowId) (i : ℕ) (atom : Atom) → i < length atoms → atom ≡ get_or atoms i atom →
@@ -78,7 +73,7 @@ atoms-more atoms flags old names new i atom l is h f e n =
     ∙ ap (λ as'. old ++ names_kept as' flags) (sym (take_more atoms i atom l ∙ ap (λ a. take i atoms ++ a ∷ []) (sym is)))
 
 pub atoms-all : (atoms : List Atom) (flags : List (List Bool)) (old names : List RowId) (i : ℕ) → length atoms ≤ i → names ≡ old ++ names_kept (take i atoms) flags → names ≡ old ++ names_kept atoms flags
-atoms-all atoms flags old names i l h = h ∙ ap (λ as'. old ++ names_kept as' flags) (take-all i atoms l)
+atoms-all atoms flags old names i l h = h ∙ ap (λ as'. old ++ names_kept as' flags) (take_all i atoms l)
 
 -- places of flags
 pub places-flagged : (n : ℕ) (bs : List Bool) (p : ℕ) → Contains (places_from n bs) p → (k : ℕ) × (p ≡ n + k) × IsFlagged bs k
@@ -95,12 +90,9 @@ places-flagged n (false ∷ bs) p m = later n (places-flagged (suc n) bs p m)
     later : (n : ℕ) → ((k : ℕ) × (p ≡ suc n + k) × IsFlagged bs k) → (k : ℕ) × (p ≡ n + k) × IsFlagged (false ∷ bs) k
     later n (k, e, f) = (suc k, (let z : p ≡ n + suc k = omega (arith, e) in z), f)
 
-less_cmp : (x y : ℕ) → x < y → nat_cmp x y ≡ Less
-less_cmp x y l = grind (arith, l)
-
 after-first : (n m : ℕ) (bs : List Bool) → n < m → AllByRecursion (λ p. nat_cmp n p ≡ Less) (places_from m bs)
 after-first n m [] l = tt
-after-first n m (true ∷ bs) l = (less_cmp n m l, after-first n (suc m) bs (omega (arith, l)))
+after-first n m (true ∷ bs) l = (nat_cmp_less n m l, after-first n (suc m) bs (omega (arith, l)))
 after-first n m (false ∷ bs) l = after-first n (suc m) bs (omega (arith, l))
 
 pub places-rise : (n : ℕ) (bs : List Bool) → IsStrictlySortedBy nat_cmp (places_from n bs)

@@ -2,13 +2,14 @@
 use Rattle.std.proofs.Common.{◌≡◌, ℕ, ◌<◌, ◌≤◌, ◌↔◌, ◌⊎◌, inl, inr, Bool, true, false, List, [], length, get_or, sym, ◌∙◌, subst, arith}
 use Rattle.std.proofs.lemmas.Bool.{false≢true}
 use Rattle.cqa_value.specs.declared.value.Value.{Value}
+use Rattle.cqa_value.proofs.Words.{cases_le}
 use Rattle.cqa_model.specs.Repairs.{SharesKey}
 use Rattle.cqa_model.proofs.Repairs.{shares-sym, shares-trans}
 use Rattle.repair_back.specs.Flags.{IsFlagged, IsChoice}
 use Rattle.repair_back.specs.Results.{IsPick}
 use Rattle.repair_back.specs.Walking.{Begins, IsBlock}
 use Rattle.repair_back.proofs.Choosing.{flag-there}
-use Rattle.repair_back.proofs.Numbers.{cases_le, cases_order}
+use Rattle.repair_back.proofs.Numbers.{cases_order}
 
 -- two picks of one block are one
 pick_apart : (key : List ℕ) (rows : List (List Value)) (P : ℕ → Type 0) (p r : ℕ) → IsPick key rows P p → IsPick key rows P r → SharesKey key (get_or rows p []) (get_or rows r []) → p < r → ⊥

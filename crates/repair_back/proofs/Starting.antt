@@ -1,12 +1,13 @@
 -- Flags for each table of a query, and the first of each block.
 use Rattle.std.proofs.Common.{◌≡◌, ℕ, zero, suc, ◌+◌, ◌<◌, ◌≤◌, ◌≢◌, ◌⊎◌, inl, inr, Bool, false, List, [], ◌∷◌, ◌++◌, length, get_or, set, replicate, refl, ap, sym, ◌∙◌, subst, arith, length-set, get_or-set_same, get_or-set_other, length-append}
 use Rattle.std.proofs.lemmas.Bool.{false≢true}
+use Rattle.std.proofs.lemmas.List.{length-replicate}
+use Rattle.cqa_value.proofs.Words.{cases_next}
 use Rattle.cqa_model.specs.declared.query.Query.{Query}
 use Rattle.cqa_model.specs.Database.{Table, stored}
 use Rattle.cqa_model.specs.Query.{atom_at, atom_key, rows_of, FitsDatabase}
 use Rattle.repair_back.specs.Flags.{IsFlagged, IsChoice, flags_of, AreLong, AreBlank, AreChosen}
 use Rattle.repair_back.specs.Results.{IsPick}
-use Rattle.repair_back.proofs.Numbers.{cases_next}
 
 -- the tables before one have flags
 pub record BlankTo (q : Query) (db : List Table) (table : ℕ) (flags : List (List Bool)) : Type 0 where
@@ -28,10 +29,6 @@ none-false zero p f = false≢true f
 none-false (suc n) zero f = false≢true f
 none-false (suc n) (suc p) f = none-false n p f
 
-long-replicate : (n : ℕ) → length (replicate n false) ≡ n
-long-replicate zero = refl
-long-replicate (suc n) = ap suc (long-replicate n)
-
 pub blank-none : (q : Query) (db : List Table) (flags : List (List Bool)) → flags ≡ [] → BlankTo q db 0 flags
 blank-none q db flags e = record {
   size = ap length e;
@@ -51,7 +48,7 @@ blank-more q db table flags new count f h is e counts = subst (λ fs. BlankTo q 
         (((atom_at q F).table < length flags) × (flags_of q (flags ++ f ∷ []) F ≡ flags_of q flags F)) ⊎ ((((atom_at q F).table ≡ length flags) × (flags_of q (flags ++ f ∷ []) F ≡ f)) ⊎ ((length flags < (atom_at q F).table) × (flags_of q (flags ++ f ∷ []) F ≡ []))) →
         length (flags_of q (flags ++ f ∷ []) F) ≡ length (rows_of q (stored db) F)
     long F l t (inl (b, g)) = ap length g ∙ h.long F l (subst (λ n. (atom_at q F).table < n) h.size b)
-    long F l t (inr (inl (b, g))) = ap length (g ∙ is) ∙ long-replicate count ∙ counts F l (b ∙ h.size)
+    long F l t (inr (inl (b, g))) = ap length (g ∙ is) ∙ length-replicate count false ∙ counts F l (b ∙ h.size)
     long F l t (inr (inr (b, g))) = absurd (let size = h.size in omega (arith, t, b, size))
 
     none : (F : ℕ) → F < length q.atoms → (p : ℕ) → IsFlagged (flags_of q (flags ++ f ∷ []) F) p →

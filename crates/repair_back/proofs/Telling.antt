@@ -8,7 +8,6 @@ use Rattle.cqa_model.specs.Database.{Table, key_of, stored}
 use Rattle.cqa_model.specs.Repairs.{SharesKey}
 use Rattle.cqa_model.specs.Query.{atom_at, atom_key, rows_of, FitsDatabase}
 use Rattle.cqa_model.specs.Plan.{Placed, Fits}
-use Rattle.cqa_model.proofs.Classic.{mem-head, mem-tail}
 use Rattle.table_blocks.specs.Spans.{first_key, IsSpan}
 use Rattle.table_blocks.specs.Tables.{key_at, rows_at}
 use Rattle.repair_back.specs.Walking.{MayFit}

@@ -1,4 +1,4 @@
-//! The ends of blocks in rows that are in block order.
+//! The starts and ends of blocks in rows that are in block order.
 
 ghost use Rattle.std.specs.Prelude.{◌<◌, ◌≤◌, [], length, slice_index_or};
 ghost use Rattle.std.specs.List.Sorted.{IsStrictlySortedBy};
@@ -6,7 +6,6 @@ ghost use Rattle.cqa_model.specs.Database.{block_cmp};
 ghost use Rattle.cqa_model.specs.Repairs.{SharesKey};
 ghost use Rattle.repair_back.specs.Walking.{Begins, IsBlock};
 
-use crate::rivals::share_key;
 use row_pieces::Rows;
 
 /// The place behind the block that begins at a place.
@@ -17,7 +16,7 @@ pub(crate) fn block_end(rows: &Rows<'_>, key: &[u32], at: usize) -> usize
     ensures block { IsBlock key.now rows.now at result }
     ensures begins { Begins key.now rows.now result }
 {
-    table_blocks::block_end(rows, key, at)
+    row_blocks::block_end(rows, key, at)
 }
 
 /// The place of the first row of the block of the row at a place.
@@ -28,9 +27,5 @@ pub(crate) fn block_start(rows: &Rows<'_>, key: &[u32], at: usize) -> usize
     ensures begins { Begins key.now rows.now result }
     ensures same { SharesKey key.now (slice_index_or rows.now result []) (slice_index_or rows.now at []) }
 {
-    let mut start = at;
-    while start > 0 && share_key(rows, key, start - 1, start) {
-        start -= 1;
-    }
-    start
+    row_blocks::block_start(rows, key, at)
 }

@@ -9,26 +9,18 @@ ghost use Rattle.repair_back.specs.Results.{is_contested, is_contested_in, conte
 use crate::repair::Repair;
 use cqa_model::RowId;
 use cqa_value::{Items, NoMemory};
+use row_blocks::goes_on;
 use row_pieces::Rows;
 use std::alloc::Global;
-use table_blocks::{Database, same_key};
-
-/// Whether the rows at two places share a key.
-pub(crate) fn share_key(rows: &Rows<'_>, key: &[u32], at: usize, other: usize) -> bool
-    requires at { at < length rows.now }
-    requires other { other < length rows.now }
-    ensures { IsTrue result ↔ SharesKey key.now (slice_index_or rows.now at []) (slice_index_or rows.now other []) }
-{
-    same_key(key, rows.get(at), rows.get(other))
-}
+use table_blocks::Database;
 
 /// Whether there is a row behind the one at a place that shares its key.
-fn goes_on(rows: &Rows<'_>, key: &[u32], place: usize) -> bool
+fn has_next(rows: &Rows<'_>, key: &[u32], place: usize) -> bool
     requires { place < length rows.now }
     ensures { IsTrue result ↔ ((place + 1 < length rows.now) × SharesKey key.now (slice_index_or rows.now place []) (slice_index_or rows.now (place + 1) [])) }
 {
     let count = rows.len();
-    place + 1 < count && share_key(rows, key, place, place + 1)
+    place + 1 < count && goes_on(rows, key, place, place + 1)
 }
 
 /// Whether another row is of the block of the row at a place.
@@ -37,13 +29,13 @@ fn has_rival(rows: &Rows<'_>, key: &[u32], place: usize) -> bool
     requires there { place < length rows.now }
     ensures { result ≡ is_contested key.now rows.now (slice_index_or rows.now place []) }
 {
-    if goes_on(rows, key, place) {
+    if has_next(rows, key, place) {
         return true;
     }
     if place == 0 {
         return false;
     }
-    share_key(rows, key, place, place - 1)
+    goes_on(rows, key, place, place - 1)
 }
 
 /// Whether another row is of the block of the row with a name.

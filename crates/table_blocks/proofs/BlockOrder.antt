@@ -14,7 +14,7 @@ is_equal Less e = (cc)
 is_equal Equal e = refl
 is_equal Greater e = (cc)
 
-row_alike : (a : List Value) → row_cmp a a ≡ Equal
+pub row_alike : (a : List Value) → row_cmp a a ≡ Equal
 row_alike a = is_equal (row_cmp a a) (sym (row_ties a a) ∙ row_equiv.refl a)
 
 pub block_alike : (key : List ℕ) (a : List Value) → block_cmp key a a ≡ Equal

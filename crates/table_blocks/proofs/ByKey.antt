@@ -11,10 +11,10 @@ use Rattle.std.proofs.lemmas.List.{get_or-take, length-take-le, take-append-drop
 use Rattle.std.proofs.lemmas.List.Elements.{filter-append}
 use Rattle.std.proofs.lemmas.List.Sorted.{ranks_by, sorted_far}
 use Rattle.std.proofs.lemmas.Option.{slice_get-get_or, slice_get_within, get_or_from_slice_get}
+use Rattle.std.proofs.lemmas.Map.Keys.{Less-from_sorted}
 use Rattle.cqa_value.specs.declared.value.Value.{Value}
 use Rattle.cqa_value.specs.Values.{row_cmp, row_cmp_total, row_ties}
 use Rattle.cqa_model.specs.Database.{key_of, block_cmp}
-use Rattle.cqa_model.proofs.BlockOrder.{sorted-less}
 use Rattle.table_blocks.specs.Lists.{shown}
 use Rattle.table_blocks.specs.Keys.{AscendByKey, same_key, first_sharing}
 use Rattle.table_blocks.proofs.Sharing.{none_passes, second_of_two, same_self}
@@ -136,7 +136,7 @@ ascend key rows s k d low high = go (row_cmp (key_of key x) (key_of key y)) refl
     go : (o : Ordering) → row_cmp (key_of key x) (key_of key y) ≡ o → below key y x ≡ false
     go Less e = ap is_lt (row_cmp_total.antisymm (key_of key y) (key_of key x) ∙ ap ordering_reverse e)
     go Equal e = ap is_lt (row_cmp_total.antisymm (key_of key y) (key_of key x) ∙ ap ordering_reverse e)
-    go Greater e = absurd (clash (sym (ap (λ o. ordering_then o (row_cmp x y)) e) ∙ sorted-less (block_cmp key) rows k (k + 1) d s (omega arith) high))
+    go Greater e = absurd (clash (sym (ap (λ o. ordering_then o (row_cmp x y)) e) ∙ Less-from_sorted (block_cmp key) rows k (k + 1) d s (omega arith) high))
       where
         clash : Greater ≡ Less → ⊥
         clash e = (cc)

@@ -6,23 +6,23 @@ use Rattle.std.proofs.Math.Seq.{get_or-append_seam}
 use Rattle.std.proofs.lemmas.List.Elements.{Contains-append_cases, Contains-get_or}
 use Rattle.std.proofs.lemmas.Option.{slice_get_within}
 use Rattle.cqa_value.specs.declared.value.Value.{Value}
+use Rattle.cqa_value.proofs.Words.{mem-tail, mem-cases, mem-head, mem-nil}
 use Rattle.std.proofs.Props.{props}
 use Rattle.cqa_model.specs.declared.schema.Column.{Column}
 use Rattle.cqa_model.specs.declared.schema.Schema.{Schema}
 use Rattle.cqa_model.specs.Shape.{IsSchema}
 use Rattle.cqa_model.specs.Database.{Table, IsTable, IsDatabase, names_of, row_total}
 use Rattle.table_blocks.specs.Tables.{AreValidRows, IsStored, with_rows, with_mark, rows_at}
-use Rattle.table_blocks.proofs.Membership.{contains_none, contains_head, contains_later, contains_cases}
 
 pub without_rows : (schema : Schema) → IsTable (record { schema = schema; rows = [] })
 unfolding IsStrictlySortedBy
-without_rows schema = record { in_order = tt; of_schema = λ row h. absurd (contains_none row h); strict = λ t x y m. absurd (contains_none x m) }
+without_rows schema = record { in_order = tt; of_schema = λ row h. absurd (mem-nil row h); strict = λ t x y m. absurd (mem-nil x m) }
 
 no_tables : IsDatabase []
-no_tables = record { few_tables = omega arith; each = λ t h. absurd (contains_none t h); names_differ = λ i j a b e. absurd (omega (arith, a)); few_rows = omega arith }
+no_tables = record { few_tables = omega arith; each = λ t h. absurd (mem-nil t h); names_differ = λ i j a b e. absurd (omega (arith, a)); few_rows = omega arith }
 
 pub none_stored : IsStored []
-none_stored = record { database = no_tables; valid = λ t h. absurd (contains_none t h) }
+none_stored = record { database = no_tables; valid = λ t h. absurd (mem-nil t h) }
 
 -- one table holds no more rows than all
 pub rows_within : (db : List Table) (i : ℕ) → length (rows_at db i) ≤ row_total db
@@ -57,10 +57,10 @@ total_set t w (u ∷ db) (suc i) e = let more = total_set t w db i e in omega (a
 
 member_set : (w : Table) (db : List Table) (i : ℕ) (x : Table) → Contains (slice_set db i w) x → (w ≡ x) ⊎ Contains db x
 member_set w [] i x h = inr h
-member_set w (u ∷ db) zero x h = elim (contains_cases w db x h) [ inl e ↦ inl e | inr l ↦ inr (contains_later u db x l) ]
-member_set w (u ∷ db) (suc i) x h = elim (contains_cases u (slice_set db i w) x h) [
-  | inl e ↦ inr (subst (Contains (u ∷ db)) e (contains_head u db))
-  | inr l ↦ elim (member_set w db i x l) [ inl e ↦ inl e | inr m ↦ inr (contains_later u db x m) ]
+member_set w (u ∷ db) zero x h = elim (mem-cases x w db h) [ inl e ↦ inl e | inr l ↦ inr (mem-tail x u db l) ]
+member_set w (u ∷ db) (suc i) x h = elim (mem-cases x u (slice_set db i w) h) [
+  | inl e ↦ inr (subst (Contains (u ∷ db)) e (mem-head u db))
+  | inr l ↦ elim (member_set w db i x l) [ inl e ↦ inl e | inr m ↦ inr (mem-tail x u db m) ]
 ]
 
 database_set : (t w : Table) → w.schema.name ≡ t.schema.name → (db : List Table) (i : ℕ) → slice_get db i ≡ Some t → IsDatabase db → IsTable w → row_total (slice_set db i w) ≤ 1_000_000 → IsDatabase (slice_set db i w)
@@ -88,7 +88,7 @@ set_same [] i t e = refl
 set_same (u ∷ db) zero t e = ap (λ z. z ∷ db) (sym (some_is u t e))
 set_same (u ∷ db) (suc i) t e = ap (λ l. u ∷ l) (set_same db i t e)
 
-total_push : (db : List Table) (t : Table) → row_total (db ++ t ∷ []) ≡ row_total db + length t.rows
+pub total_push : (db : List Table) (t : Table) → row_total (db ++ t ∷ []) ≡ row_total db + length t.rows
 total_push [] t = omega arith
 total_push (u ∷ db) t = let more = total_push db t in omega (arith, more)
 
@@ -127,7 +127,7 @@ database_push db schema d room other =
       few_tables = omega (arith, long, room);
       each = λ x h. elim (Contains-append_cases db (t ∷ []) x h) [
         | inl l ↦ d.each x l
-        | inr r ↦ elim (contains_cases t [] x r) [ inl q ↦ subst IsTable q (without_rows schema) | inr n ↦ absurd (contains_none x n) ]
+        | inr r ↦ elim (mem-cases x t [] r) [ inl q ↦ subst IsTable q (without_rows schema) | inr n ↦ absurd (mem-nil x n) ]
       ];
       names_differ = λ i j a b q. new_name (names_of db) schema.name i j other (omega (arith, a, long, many)) (omega (arith, b, long, many))
           (λ k l c f p. d.names_differ k l (omega (arith, c, many)) (omega (arith, f, many)) p) (ap (λ l. get_or l i []) (sym names) ∙ q ∙ ap (λ l. get_or l j []) names);
@@ -141,7 +141,7 @@ stored_push db schema s room other =
       database = database_push db schema s.database room other;
       valid = λ x h. elim (Contains-append_cases db (t ∷ []) x h) [
         | inl l ↦ s.valid x l
-        | inr r ↦ elim (contains_cases t [] x r) [ inl q ↦ subst (λ z. AreValidRows z.rows) q (λ row m. absurd (contains_none row m)) | inr n ↦ absurd (contains_none x n) ]
+        | inr r ↦ elim (mem-cases x t [] r) [ inl q ↦ subst (λ z. AreValidRows z.rows) q (λ row m. absurd (mem-nil row m)) | inr n ↦ absurd (mem-nil x n) ]
       ];
     }
 
@@ -174,7 +174,7 @@ rows_at-with_rows [] i rows h = absurd (omega (arith, h))
 rows_at-with_rows (t ∷ db) zero rows h = refl
 rows_at-with_rows (t ∷ db) (suc i) rows h = rows_at-with_rows db i rows (omega (arith, h))
 
-kept_once : (columns : List Column) (key : List ℕ) → IsProp (IsSchema columns key)
+pub kept_once : (columns : List Column) (key : List ℕ) → IsProp (IsSchema columns key)
 kept_once columns key = hlevel props
 
 -- a schema that is marked is the schema with the mark

@@ -1,17 +1,17 @@
 -- The first fault, a column or a row further on.
 use Rattle.std.proofs.Common.{◌≡◌, ℕ, zero, suc, ◌+◌, ◌<◌, List, [], ◌∷◌, length, map, drop, get_or, slice_get, Option, Some, None, refl, sym, ap, ◌∙◌, subst, arith, rules, Bool, true, false, ◌==◌, inl, inr, Contains}
 use Rattle.std.specs.Prelude.{if◌then◌else◌}
-use Rattle.std.proofs.lemmas.Option.{slice_get_within, slice_get_read, get_or_from_slice_get}
+use Rattle.std.proofs.lemmas.Option.{slice_get_within, slice_get_read, get_or_from_slice_get, none-some}
 use Rattle.cqa_value.specs.declared.value.Kind.{Kind}
 use Rattle.cqa_value.specs.declared.value.Kind.TheVariants.{Int as IntKind, Text as TextKind}
 use Rattle.cqa_value.specs.declared.value.Value.{Value}
 use Rattle.cqa_value.specs.Values.{kind_of}
+use Rattle.cqa_value.proofs.Words.{mem-cases, mem-nil}
 use Rattle.cqa_model.specs.declared.schema.Column.{Column}
 use Rattle.cqa_model.specs.declared.refusal.Refusal.{Refusal}
 use Rattle.cqa_model.specs.declared.refusal.Refusal.TheVariants.{WrongArity, TypeMismatch}
 use Rattle.cqa_model.specs.declared.refusal.Place.TheVariants.{Cell}
 use Rattle.table_blocks.specs.Tables.{first_of, same_kind, cell_fault, kind_fault, row_fault, rows_fault}
-use Rattle.table_blocks.proofs.Membership.{contains_none, contains_cases}
 use native.Mathlib.Decide.{dec_lt}
 use Rattle.std.proofs.lemmas.List.Elements.{at_read}
 
@@ -79,24 +79,18 @@ kind_read columns seen at column same inside read = slice_get-map (λ c. c.kind)
 pub value_read : (values seen : List Value) (at : ℕ) (value : Value) → seen ≡ values → at < length values → value ≡ get_or seen at value → slice_get values at ≡ Some value
 value_read values seen at value same inside read = slice_get_read values (length values) at value refl inside (read ∙ ap (λ l. get_or l at value) same)
 
-none_some : {A : Type 0} (x : A) → None ≡ Some x → ⊥
-none_some x e = (cc)
-
-some_none : {A : Type 0} (x : A) → Some x ≡ None → ⊥
-some_none x e = (cc)
-
 -- neither of two faults is there
-both_none : (a b : Option Refusal) → first_of a b ≡ None → (a ≡ None) × (b ≡ None)
+pub both_none : (a b : Option Refusal) → first_of a b ≡ None → (a ≡ None) × (b ≡ None)
 both_none None b e = (refl, e)
-both_none (Some f) b e = absurd (some_none f e)
+both_none (Some f) b e = absurd (none-some f (sym e))
 
 kind_same : (row column : ℕ) (kind : Kind) (value : Value) → cell_fault row column kind value ≡ None → kind_of value ≡ kind
 kind_same row column kind value e = go (kind_of value) kind e
   where
     go : (a b : Kind) → (if same_kind a b then None else Some (TypeMismatch (Cell row column))) ≡ None → a ≡ b
     go IntKind IntKind e = refl
-    go IntKind TextKind e = absurd (some_none _ e)
-    go TextKind IntKind e = absurd (some_none _ e)
+    go IntKind TextKind e = absurd (none-some _ (sym e))
+    go TextKind IntKind e = absurd (none-some _ (sym e))
     go TextKind TextKind e = refl
 
 kinds_same : (row column : ℕ) (kinds : List Kind) (values : List Value) → length values ≡ length kinds → kind_fault row column kinds values ≡ None → map kind_of values ≡ kinds
@@ -114,14 +108,14 @@ row_fits kinds number row e =
   where
     long : (b : Bool) → (length row == length kinds) ≡ b → (if b then None else Some (WrongArity number)) ≡ None → length row ≡ length kinds
     long true e n = search (rules, e)
-    long false e n = absurd (some_none _ n)
+    long false e n = absurd (none-some _ (sym n))
 
 -- rows without a fault have a value of the right kind in each column
 pub rows_fit : (kinds : List Kind) (number : ℕ) (rows : List (List Value)) → rows_fault kinds number rows ≡ None → (row : List Value) → Contains rows row → map kind_of row ≡ kinds
-rows_fit kinds number [] e row h = absurd (contains_none row h)
+rows_fit kinds number [] e row h = absurd (mem-nil row h)
 rows_fit kinds number (r ∷ rows) e row h =
     let none = both_none (row_fault kinds number r) (rows_fault kinds (number + 1) rows) e in
-    elim (contains_cases r rows row h) [ inl q ↦ subst (λ x. map kind_of x ≡ kinds) q (row_fits kinds number r none.0) | inr l ↦ rows_fit kinds (number + 1) rows none.1 row l ]
+    elim (mem-cases row r rows h) [ inl q ↦ subst (λ x. map kind_of x ≡ kinds) q (row_fits kinds number r none.0) | inr l ↦ rows_fit kinds (number + 1) rows none.1 row l ]
 
 -- what holds of each element so far, and of the next
 pub read_more : {X : Type 0} (P : X → Type 0) (xs : List X) (at : ℕ) → ((k : ℕ) (d : X) → k < at → P (get_or xs k d)) → at < length xs → (x : X) → x ≡ get_or xs at x → P x → (k : ℕ) (d : X) → k < at + 1 → P (get_or xs k d)

@@ -1,30 +1,15 @@
 -- Searches by halving and by doubling steps, over items that a test parts.
-use Rattle.std.proofs.Common.{◌≡◌, ◌+◌, ◌-◌, ◌/◌, ◌<◌, ◌≤◌, ◌^◌, ℕ, suc, zero, length, List, Bool, true, false, refl, sym, subst, ◌∙◌, arith, slice_index_or, take, drop, ◌∷◌, [], Bor, true≢false, not}
+use Rattle.std.proofs.Common.{◌≡◌, ◌+◌, ◌-◌, ◌/◌, ◌<◌, ◌≤◌, ◌^◌, ℕ, suc, zero, length, List, Bool, true, false, sym, subst, ◌∙◌, arith, slice_index_or, take, drop}
 use Rattle.std.proofs.Math.Nat.{pow-suc}
-use Rattle.std.specs.List.{AllWithin, HoldsAt}
+use Rattle.std.specs.List.{AllWithin}
 use Rattle.std.specs.List.Sorted.{IsPartitionedBy, IsPartitionPoint}
 use Rattle.std.proofs.lemmas.List.{get_or-take, get_or-drop, length-take-le, length-drop}
-use Rattle.std.specs.Fn.{ComputesKey, Called, Mut}
 use native.Mathlib.Decide.{dec_lt}
 
 -- the half of a number has a digit less
 pub halves : (size left : ℕ) → 0 < size → size < 2 ^ left → (e : ℕ) × (left ≡ e + 1) × (size / 2 < 2 ^ e)
 halves size zero a b = absurd (omega (arith, a, b))
 halves size (suc e) a b = (e, omega arith, let p = pow-suc 2 e in omega (arith, a, b, p))
-
-pub front_passes : {X : Type 0} (p : X → Bool) (xs : List X) (at : ℕ) → IsPartitionedBy p xs → at < length xs → HoldsAt (λ y. p y ≡ true) xs at → AllWithin (λ y. p y ≡ true) xs 0 (at + 1)
-front_passes p xs at h l q k d a b = h k at d (omega (arith, b)) l (q d)
-
-one_of : (b : Bool) → (b ≡ true → ⊥) → b ≡ false
-one_of true h = absurd (h refl)
-one_of false h = refl
-
-pub denied : (b : Bool) → not b ≡ true → b ≡ false
-denied true h = absurd (true≢false (sym h))
-denied false h = refl
-
-pub back_fails : {X : Type 0} (p : X → Bool) (xs : List X) (at : ℕ) → IsPartitionedBy p xs → at < length xs → HoldsAt (λ y. p y ≡ false) xs at → AllWithin (λ y. p y ≡ false) xs at (length xs)
-back_fails p xs at h l q k d a b = one_of (p (slice_index_or xs k d)) (λ t. true≢false (sym (h at k d a b t) ∙ q d))
 
 -- a part of the items from a place to another, behind which the test fails and before which it holds
 module _ {X : Type 0} (p : X → Bool) (xs : List X) (from to : ℕ) (order : from ≤ to) (within : to ≤ length xs) where
@@ -57,7 +42,3 @@ module _ {X : Type 0} (p : X → Bool) (xs : List X) (from to : ℕ) (order : fr
       behind : (k : ℕ) (d : X) → from + at ≤ k → k < length xs → Dec (k < to) → p (slice_index_or xs k d) ≡ false
       behind k d a b (yes l) = moved false k d (omega (arith, a)) l (point.1 (k - from) d (omega (arith, a)) (omega (arith, l, a, part_long)))
       behind k d a b (no n) = back k d (omega (arith, n)) b
-
--- what a call answers, and that the test goes on answering so
-pub answers : {F A R : Type 0} {g : Mut F (Bor A × Unit {0}) R} {f f' : F} (h : A → R) {x : Bor A} {r : R} → ComputesKey g h f → Called g f (x, tt) r f' → ComputesKey g h f' × (r ≡ h x.now)
-answers {g} {f} {f'} h {x} {r} k e = (record { at = λ xs. (k.at ((x, tt) ∷ xs) r f' e).1 }, (k.at ((x, tt) ∷ []) r f' e).0)

@@ -18,4 +18,3 @@ pub mod Sharing
 pub mod ByKey
 pub mod Reordering
 pub mod Taking
-pub mod BlockEnds

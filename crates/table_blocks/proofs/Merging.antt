@@ -7,12 +7,13 @@ use Rattle.std.specs.Ordering.{ordering_reverse}
 use Rattle.std.specs.declared.cmp.Ordering.{Ordering}
 use Rattle.std.specs.declared.cmp.Ordering.TheVariants.{Less, Equal, Greater}
 use Rattle.std.proofs.lemmas.List.Elements.{Contains-append_cases, Contains-append_left, Contains-append_right, Contains-get_or}
-use Rattle.std.proofs.lemmas.List.{take-append-drop, take-append-le, length-take-le, get_or-drop, length-drop}
+use Rattle.std.proofs.lemmas.List.{take-append-drop, take-append-le, length-take-le, get_or-drop, length-drop, take-take}
 use Rattle.std.proofs.lemmas.Option.{slice_get-get_or}
+use Rattle.cqa_value.proofs.Words.{mem-tail, mem-cases, mem-head, mem-nil, recursion_from_members, member_by_recursion, sorted_cons, sorted_join}
 use Rattle.row_pieces.specs.Inserted.{with_item, with_items, AreRising}
+use Rattle.row_pieces.proofs.Putting.{rising_low}
 use Rattle.table_blocks.specs.Tables.{IsPlace, ArePlaces}
-use Rattle.table_blocks.proofs.Membership.{contains_head, contains_later, contains_cases, contains_none}
-use Rattle.table_blocks.proofs.Placing.{take_of_take, places-long, place_order}
+use Rattle.table_blocks.proofs.Placing.{places-long, place_order}
 use Rattle.table_blocks.proofs.Sorting.{earlier_below, greater}
 
 -- an item more is there
@@ -21,13 +22,13 @@ with_item-members at y xs x =
     let whole = take-append-drop at xs in (
       λ h. elim (Contains-append_cases (take at xs) (y ∷ drop at xs) x h) [
         | inl f ↦ inr (subst (λ l. Contains l x) whole (Contains-append_left (take at xs) (drop at xs) x f))
-        | inr b ↦ elim (contains_cases y (drop at xs) x b) [ inl e ↦ inl e | inr l ↦ inr (subst (λ l. Contains l x) whole (Contains-append_right (take at xs) (drop at xs) x l)) ]
+        | inr b ↦ elim (mem-cases x y (drop at xs) b) [ inl e ↦ inl e | inr l ↦ inr (subst (λ l. Contains l x) whole (Contains-append_right (take at xs) (drop at xs) x l)) ]
       ],
       λ h. elim h [
-        | inl e ↦ Contains-append_right (take at xs) (y ∷ drop at xs) x (subst (Contains (y ∷ drop at xs)) e (contains_head y (drop at xs)))
+        | inl e ↦ Contains-append_right (take at xs) (y ∷ drop at xs) x (subst (Contains (y ∷ drop at xs)) e (mem-head y (drop at xs)))
         | inr m ↦ elim (Contains-append_cases (take at xs) (drop at xs) x (subst (λ l. Contains l x) (sym whole) m)) [
           | inl f ↦ Contains-append_left (take at xs) (y ∷ drop at xs) x f
-          | inr b ↦ Contains-append_right (take at xs) (y ∷ drop at xs) x (contains_later y (drop at xs) x b)
+          | inr b ↦ Contains-append_right (take at xs) (y ∷ drop at xs) x (mem-tail x y (drop at xs) b)
         ]
       ],
     )
@@ -40,13 +41,13 @@ with_item-long at y xs =
 
 -- items that are put in are there beside those that were there, and each counts
 pub with_items-members : {A : Type 0} (xs more : List A) (places : List ℕ) → length places ≡ length more → (x : A) → Contains (with_items xs more places) x ↔ (Contains xs x ⊎ Contains more x)
-with_items-members xs [] places l x = (λ h. inl h, λ h. elim h [ inl m ↦ m | inr n ↦ absurd (contains_none x n) ])
+with_items-members xs [] places l x = (λ h. inl h, λ h. elim h [ inl m ↦ m | inr n ↦ absurd (mem-nil x n) ])
 with_items-members xs (y ∷ more) [] l x = absurd (omega (arith, l))
 with_items-members xs (y ∷ more) (at ∷ places) l x =
     let here = with_item-members at y (with_items xs more places) x in
     let rest = with_items-members xs more places (omega (arith, l)) x in (
-      λ h. elim (here.0 h) [ inl e ↦ inr (subst (Contains (y ∷ more)) e (contains_head y more)) | inr m ↦ elim (rest.0 m) [ inl k ↦ inl k | inr k ↦ inr (contains_later y more x k) ] ],
-      λ h. here.1 (elim h [ inl k ↦ inr (rest.1 (inl k)) | inr k ↦ elim (contains_cases y more x k) [ inl e ↦ inl e | inr n ↦ inr (rest.1 (inr n)) ] ]),
+      λ h. elim (here.0 h) [ inl e ↦ inr (subst (Contains (y ∷ more)) e (mem-head y more)) | inr m ↦ elim (rest.0 m) [ inl k ↦ inl k | inr k ↦ inr (mem-tail x y more k) ] ],
+      λ h. here.1 (elim h [ inl k ↦ inr (rest.1 (inl k)) | inr k ↦ elim (mem-cases x y more k) [ inl e ↦ inl e | inr n ↦ inr (rest.1 (inr n)) ] ]),
     )
 
 pub with_items-long : {A : Type 0} (xs more : List A) (places : List ℕ) → length places ≡ length more → length (with_items xs more places) ≡ length xs + length more
@@ -66,36 +67,24 @@ none_fewer xs (y ∷ more) (at ∷ places) =
     let rest = none_fewer xs more places in
     omega (arith, one, rest)
 
-rising_within : (from to : ℕ) (places : List ℕ) → AreRising from to places → from ≤ to
-rising_within from to [] rise = rise
-rising_within from to (at ∷ places) rise = let first = rise.0 in let rest = rising_within at to places rise.1 in omega (arith, first, rest)
-
 -- what stands before all places stays
 front_stays : {A : Type 0} (xs more : List A) (places : List ℕ) (from : ℕ) → AreRising from (length xs) places → take from (with_items xs more places) ≡ take from xs
 front_stays xs [] places from rise = refl
 front_stays xs (y ∷ more) [] from rise = refl
 front_stays xs (y ∷ more) (at ∷ places) from rise =
     let grown = with_items xs more places in
-    let within = rising_within at (length xs) places rise.1 in
+    let within = rising_low at (length xs) places rise.1 in
     let more_long = none_fewer xs more places in
     let front = length-take-le at grown (omega (arith, within, more_long)) in
     let order = rise.0 in
     take-append-le from (take at grown) (y ∷ drop at grown) (omega (arith, order, front))
-    ∙ ap (take from) (front_stays xs more places at rise.1) ∙ take_of_take from at xs rise.0
+    ∙ ap (take from) (front_stays xs more places at rise.1) ∙ take-take from at xs rise.0
 
 module _ {A : Type 0} (cmp : A → A → Ordering) (total : IsTotalOrder cmp) (exact : (a b : A) → cmp a b ≡ Equal → a ≡ b) (alike : (a : A) → cmp a a ≡ Equal) where
-  all_by : (P : A → Type 0) (xs : List A) → ((x : A) → Contains xs x → P x) → AllByRecursion P xs
-  all_by P [] h = tt
-  all_by P (x ∷ xs) h = (h x (contains_head x xs), all_by P xs (λ y m. h y (contains_later x xs y m)))
-
-  pub of_all : (P : A → Type 0) (xs : List A) → AllByRecursion P xs → (x : A) → Contains xs x → P x
-  of_all P [] h x m = absurd (contains_none x m)
-  of_all P (y ∷ xs) h x m = elim (contains_cases y xs x m) [ inl e ↦ subst P e h.0 | inr l ↦ of_all P xs h.1 x l ]
-
   pub sorted_front : (us vs : List A) → IsStrictlySortedBy cmp (us ++ vs) → IsStrictlySortedBy cmp us
   unfolding IsStrictlySortedBy
   sorted_front [] vs s = tt
-  sorted_front (u ∷ us) vs s = (all_by (λ y. cmp u y ≡ Less) us (λ x m. of_all (λ y. cmp u y ≡ Less) (us ++ vs) s.0 x (Contains-append_left us vs x m)), sorted_front us vs s.1)
+  sorted_front (u ∷ us) vs s = (recursion_from_members (λ y. cmp u y ≡ Less) us (λ x m. member_by_recursion (λ y. cmp u y ≡ Less) (us ++ vs) s.0 x (Contains-append_left us vs x m)), sorted_front us vs s.1)
 
   pub sorted_back : (us vs : List A) → IsStrictlySortedBy cmp (us ++ vs) → IsStrictlySortedBy cmp vs
   unfolding IsStrictlySortedBy
@@ -105,26 +94,11 @@ module _ {A : Type 0} (cmp : A → A → Ordering) (total : IsTotalOrder cmp) (e
   -- what stands before is below what stands behind
   pub across : (us vs : List A) → IsStrictlySortedBy cmp (us ++ vs) → (u v : A) → Contains us u → Contains vs v → cmp u v ≡ Less
   unfolding IsStrictlySortedBy
-  across [] vs s u v m n = absurd (contains_none u m)
-  across (w ∷ us) vs s u v m n = elim (contains_cases w us u m) [
-    | inl e ↦ subst (λ z. cmp z v ≡ Less) e (of_all (λ y. cmp w y ≡ Less) (us ++ vs) s.0 v (Contains-append_right us vs v n))
+  across [] vs s u v m n = absurd (mem-nil u m)
+  across (w ∷ us) vs s u v m n = elim (mem-cases u w us m) [
+    | inl e ↦ subst (λ z. cmp z v ≡ Less) e (member_by_recursion (λ y. cmp w y ≡ Less) (us ++ vs) s.0 v (Contains-append_right us vs v n))
     | inr l ↦ across us vs s.1 u v l n
   ]
-
-  pub sorted_cons : (y : A) (vs : List A) → ((v : A) → Contains vs v → cmp y v ≡ Less) → IsStrictlySortedBy cmp vs → IsStrictlySortedBy cmp (y ∷ vs)
-  unfolding IsStrictlySortedBy
-  sorted_cons y vs below s = (all_by (λ v. cmp y v ≡ Less) vs below, s)
-
-  pub sorted_join : (us vs : List A) → IsStrictlySortedBy cmp us → IsStrictlySortedBy cmp vs → ((u v : A) → Contains us u → Contains vs v → cmp u v ≡ Less) → IsStrictlySortedBy cmp (us ++ vs)
-  unfolding IsStrictlySortedBy
-  sorted_join [] vs s t below = t
-  sorted_join (u ∷ us) vs s t below = (
-    all_by (λ y. cmp u y ≡ Less) (us ++ vs) (λ x m. elim (Contains-append_cases us vs x m) [
-      | inl l ↦ of_all (λ y. cmp u y ≡ Less) us s.0 x l
-      | inr r ↦ below u x (contains_head u us) r
-    ]),
-    sorted_join us vs s.1 t (λ a b m n. below a b (contains_later u us a m) n),
-  )
 
   -- what stands at its place or behind it is above it, where it isn't there itself
   above : (xs : List A) (y : A) (at : ℕ) → IsStrictlySortedBy cmp xs → IsPlace cmp xs y at → (Contains xs y → ⊥) → (x : A) → Contains (drop at xs) x → cmp y x ≡ Less
@@ -145,8 +119,8 @@ module _ {A : Type 0} (cmp : A → A → Ordering) (total : IsTotalOrder cmp) (e
       let front = take at xs in
       let rest = drop at xs in
       let split : IsStrictlySortedBy cmp (front ++ rest) = subst (IsStrictlySortedBy cmp) (sym (take-append-drop at xs)) s in
-      sorted_join front (y ∷ rest) (sorted_front front rest split) (sorted_cons y rest over (sorted_back front rest split)) (λ u v h k. elim (contains_cases y rest v k) [
-        | inl e ↦ subst (λ z. cmp u z ≡ Less) e (of_all (λ z. cmp z y ≡ Less) front below u h)
+      sorted_join cmp front (y ∷ rest) (sorted_front front rest split) (sorted_cons cmp y rest over (sorted_back front rest split)) (λ u v h k. elim (mem-cases v y rest k) [
+        | inl e ↦ subst (λ z. cmp u z ≡ Less) e (member_by_recursion (λ z. cmp z y ≡ Less) front below u h)
         | inr l ↦ across front rest split u v h l
       ])
 
@@ -172,16 +146,16 @@ module _ {A : Type 0} (cmp : A → A → Ordering) (total : IsTotalOrder cmp) (e
   merged_sorted stored (y ∷ more) [] s t apart h = absurd h
   merged_sorted stored (y ∷ more) (at ∷ places) s t apart h =
       let xs = with_items stored more places in
-      let sorted = merged_sorted stored more places s t.1 (λ x m k. apart x m (contains_later y more x k)) h.1 in
+      let sorted = merged_sorted stored more places s t.1 (λ x m k. apart x m (mem-tail x y more k)) h.1 in
       let front : take at xs ≡ take at stored = front_stays stored more places at (rising_behind stored y at more places h.0 t h.1) in
-      let apart_y : Contains stored y → ⊥ = λ m. apart y m (contains_head y more) in
+      let apart_y : Contains stored y → ⊥ = λ m. apart y m (mem-head y more) in
       put_sorted xs y at sorted (subst (AllByRecursion (λ x. cmp x y ≡ Less)) (sym front) h.0.below)
       (λ x k. elim ((with_items-members stored more places (places-long cmp stored more places h.1) x).0 (subst (λ l. Contains l x) (take-append-drop at xs) (Contains-append_right (take at xs) (drop at xs) x k))) [
         | inl m ↦ elim (Contains-append_cases (take at stored) (drop at stored) x (subst (λ l. Contains l x) (sym (take-append-drop at stored)) m)) [
           | inl f ↦ absurd (not_self x (across (take at xs) (drop at xs) (subst (IsStrictlySortedBy cmp) (sym (take-append-drop at xs)) sorted) x x (subst (λ l. Contains l x) (sym front) f) k))
           | inr b ↦ above stored y at s h.0 apart_y x b
         ]
-        | inr m ↦ of_all (λ z. cmp y z ≡ Less) more t.0 x m
+        | inr m ↦ member_by_recursion (λ z. cmp y z ≡ Less) more t.0 x m
       ])
     where
       not_self : (x : A) → cmp x x ≡ Less → ⊥

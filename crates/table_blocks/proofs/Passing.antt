@@ -2,15 +2,11 @@
 use Rattle.std.proofs.Common.{◌≡◌, Bool, true, false, not, List, [], ◌∷◌, slice_index_or, sym, refl, true≢false}
 use Rattle.std.specs.Bool.{IsTrue}
 use Rattle.cqa_value.specs.declared.value.Value.{Value}
+use Rattle.cqa_value.proofs.Words.{dec_both}
 use Rattle.cqa_model.specs.Database.{nothing}
 use Rattle.cqa_model.proofs.Values.{dec_op}
 use Rattle.table_blocks.specs.declared.test.ColumnTest.{ColumnTest}
 use Rattle.table_blocks.specs.Tables.{TestsHold}
-
-dec_both : {A B : Type 0} → Dec A → Dec B → Dec (A × B)
-dec_both (yes a) (yes b) = yes (a, b)
-dec_both (yes a) (no g) = no (λ h. g h.1)
-dec_both (no f) d = no (λ h. f h.0)
 
 -- whether all tests hold is decided
 pub dec_tests : (tests : List ColumnTest) (row : List Value) → Dec (TestsHold tests row)

@@ -1,33 +1,15 @@
 -- The places of sorted rows among other sorted rows.
-use Rattle.std.proofs.Common.{◌≡◌, ◌≤◌, ◌<◌, ◌+◌, ℕ, zero, suc, Bool, true, false, cond, List, [], ◌∷◌, ◌++◌, length, take, get_or, set, refl, sym, ap, ◌∙◌, subst, arith}
+use Rattle.std.proofs.Common.{◌≡◌, ◌≤◌, ◌<◌, ◌+◌, ℕ, suc, Bool, true, false, cond, List, [], ◌∷◌, ◌++◌, length, take, get_or, set, refl, sym, ap, ◌∙◌, subst, arith}
 use native.Mathlib.Decide.{dec_lt}
 use Rattle.std.specs.List.{filter}
 use Rattle.std.proofs.lemmas.List.Elements.{filter-append}
 use Rattle.std.specs.Cmp.{IsTotalOrder}
 use Rattle.std.specs.declared.cmp.Ordering.{Ordering}
 use Rattle.std.specs.declared.cmp.Ordering.TheVariants.{Less, Equal}
-use Rattle.std.proofs.lemmas.List.{get_or-take, length-take-le, take_more, append-nil}
+use Rattle.std.proofs.lemmas.List.{get_or-take, length-take-le, take_more, append-nil, take_more_set}
 use Rattle.std.proofs.lemmas.Option.{slice_get-get_or}
 use Rattle.table_blocks.specs.Tables.{IsPlace, ArePlaces}
 use Rattle.table_blocks.proofs.Sorting.{each_at}
-
-pub take_of_take : {A : Type 0} (m n : ℕ) (xs : List A) → m ≤ n → take m (take n xs) ≡ take m xs
-take_of_take zero n xs l = refl
-take_of_take (suc m) zero xs l = absurd (omega (arith, l))
-take_of_take (suc m) (suc n) [] l = refl
-take_of_take (suc m) (suc n) (x ∷ xs) l = ap (λ ys. x ∷ ys) (take_of_take m n xs (omega (arith, l)))
-
--- one more of the first elements is written
-pub take-set : {A : Type 0} (xs : List A) (n : ℕ) (x : A) → n < length xs → take (n + 1) (set xs n x) ≡ take n xs ++ x ∷ []
-take-set {A = A} xs n x l = ap (λ m. take m (set xs n x)) (plus_one n) ∙ go xs n l
-  where
-    plus_one : (n : ℕ) → n + 1 ≡ suc n
-    plus_one n = omega arith
-
-    go : (xs : List A) (n : ℕ) → n < length xs → take (suc n) (set xs n x) ≡ take n xs ++ x ∷ []
-    go [] n l = absurd (omega (arith, l))
-    go (y ∷ xs) zero l = refl
-    go (y ∷ xs) (suc n) l = ap (λ ys. y ∷ ys) (go xs n (omega (arith, l)))
 
 module _ {A : Type 0} (cmp : A → A → Ordering) (stored : List A) where
   pub places-long : (rows : List A) (places : List ℕ) → ArePlaces cmp stored rows places → length places ≡ length rows
@@ -66,7 +48,7 @@ module _ {A : Type 0} (cmp : A → A → Ordering) (stored : List A) (p : A → 
       → ArePlaces cmp stored (filter p (take (at + 1) xs)) (take (fresh + 1) (set places fresh place))
   places_more places fresh place passes room is so_far =
       subst (λ rows. ArePlaces cmp stored rows (take (fresh + 1) (set places fresh place))) (sym (tried ∙ ap (λ b. filter p (take at xs) ++ cond b (get_or xs at d ∷ []) []) passes))
-      (subst (ArePlaces cmp stored (filter p (take at xs) ++ get_or xs at d ∷ [])) (sym (take-set places fresh place room))
+      (subst (ArePlaces cmp stored (filter p (take at xs) ++ get_or xs at d ∷ [])) (sym (take_more_set places fresh place room))
       (places-push cmp stored (filter p (take at xs)) (take fresh places) (get_or xs at d) place so_far is))
 
   pub places_same : (places : List ℕ) → p (get_or xs at d) ≡ false → ArePlaces cmp stored (filter p (take at xs)) places → ArePlaces cmp stored (filter p (take (at + 1) xs)) places

@@ -5,11 +5,10 @@ use Rattle.std.specs.Ordering.{ordering_reverse}
 use Rattle.std.specs.declared.cmp.Ordering.{Ordering}
 use Rattle.std.specs.declared.cmp.Ordering.TheVariants.{Less, Equal, Greater}
 use Rattle.cqa_value.specs.declared.value.Value.{Value}
+use Rattle.cqa_value.proofs.Words.{mem-tail, mem-cases, mem-head, mem-nil, member_by_recursion, sorted_cons}
 use Rattle.cqa_model.specs.Database.{block_cmp}
 use Rattle.table_blocks.specs.Keys.{by_ordering, with_row, block_order}
 use Rattle.table_blocks.proofs.BlockOrder.{block_total, block_exact, block_alike}
-use Rattle.table_blocks.proofs.Membership.{contains_none, contains_head, contains_later, contains_cases}
-use Rattle.table_blocks.proofs.Merging.{sorted_cons, of_all}
 
 module _ (key : List ℕ) where
   cmp : List Value → List Value → Ordering
@@ -24,43 +23,43 @@ module _ (key : List ℕ) where
 
   head_below : (x : List Value) (rows : List (List Value)) → IsInOrder (x ∷ rows) → (y : List Value) → Contains rows y → block_cmp key x y ≡ Less
   unfolding IsStrictlySortedBy
-  head_below x rows s = of_all (block_cmp key) (block_total key) (block_exact key) (block_alike key) (λ y. block_cmp key x y ≡ Less) rows s.0
+  head_below x rows s = member_by_recursion (λ y. block_cmp key x y ≡ Less) rows s.0
 
   no_rows : IsInOrder []
   unfolding IsStrictlySortedBy
   no_rows = tt
 
   joined : (x : List Value) (rows : List (List Value)) → ((y : List Value) → Contains rows y → block_cmp key x y ≡ Less) → IsInOrder rows → IsInOrder (x ∷ rows)
-  joined = sorted_cons (block_cmp key) (block_total key) (block_exact key) (block_alike key)
+  joined = sorted_cons (block_cmp key)
 
   with_row-members : (row : List Value) (rows : List (List Value)) (x : List Value) → Contains (with_row key row rows) x ↔ ((row ≡ x) ⊎ Contains rows x)
-  with_row-members row [] x = (λ h. contains_cases row [] x h, λ h. elim h [ inl e ↦ subst (Contains (row ∷ [])) e (contains_head row []) | inr m ↦ absurd (contains_none x m) ])
+  with_row-members row [] x = (λ h. mem-cases x row [] h, λ h. elim h [ inl e ↦ subst (Contains (row ∷ [])) e (mem-head row []) | inr m ↦ absurd (mem-nil x m) ])
   with_row-members row (y ∷ rows) x = go (block_cmp key row y) refl (with_row-members row rows x)
     where
       go : (o : Ordering) → block_cmp key row y ≡ o → Contains (with_row key row rows) x ↔ ((row ≡ x) ⊎ Contains rows x)
           → Contains (by_ordering o (row ∷ (y ∷ rows)) (y ∷ rows) (y ∷ with_row key row rows)) x ↔ ((row ≡ x) ⊎ Contains (y ∷ rows) x)
-      go Less e more = (λ h. contains_cases row (y ∷ rows) x h, λ h. elim h [ inl q ↦ subst (Contains (row ∷ (y ∷ rows))) q (contains_head row (y ∷ rows)) | inr m ↦ contains_later row (y ∷ rows) x m ])
-      go Equal e more = (λ h. inr h, λ h. elim h [ inl q ↦ subst (Contains (y ∷ rows)) (sym (block_exact key row y e) ∙ q) (contains_head y rows) | inr m ↦ m ])
+      go Less e more = (λ h. mem-cases x row (y ∷ rows) h, λ h. elim h [ inl q ↦ subst (Contains (row ∷ (y ∷ rows))) q (mem-head row (y ∷ rows)) | inr m ↦ mem-tail x row (y ∷ rows) m ])
+      go Equal e more = (λ h. inr h, λ h. elim h [ inl q ↦ subst (Contains (y ∷ rows)) (sym (block_exact key row y e) ∙ q) (mem-head y rows) | inr m ↦ m ])
       go Greater e more = (
-        λ h. elim (contains_cases y (with_row key row rows) x h) [
-          | inl q ↦ inr (subst (Contains (y ∷ rows)) q (contains_head y rows))
-          | inr m ↦ elim (more.0 m) [ inl q ↦ inl q | inr l ↦ inr (contains_later y rows x l) ]
+        λ h. elim (mem-cases x y (with_row key row rows) h) [
+          | inl q ↦ inr (subst (Contains (y ∷ rows)) q (mem-head y rows))
+          | inr m ↦ elim (more.0 m) [ inl q ↦ inl q | inr l ↦ inr (mem-tail x y rows l) ]
         ],
         λ h. elim h [
-          | inl q ↦ contains_later y (with_row key row rows) x (more.1 (inl q))
-          | inr m ↦ elim (contains_cases y rows x m) [
-            | inl q ↦ subst (Contains (y ∷ with_row key row rows)) q (contains_head y (with_row key row rows))
-            | inr l ↦ contains_later y (with_row key row rows) x (more.1 (inr l))
+          | inl q ↦ mem-tail x y (with_row key row rows) (more.1 (inl q))
+          | inr m ↦ elim (mem-cases x y rows m) [
+            | inl q ↦ subst (Contains (y ∷ with_row key row rows)) q (mem-head y (with_row key row rows))
+            | inr l ↦ mem-tail x y (with_row key row rows) (more.1 (inr l))
           ]
         ],
       )
 
   with_row-sorted : (row : List Value) (rows : List (List Value)) → IsInOrder rows → IsInOrder (with_row key row rows)
-  with_row-sorted row [] s = joined row [] (λ y m. absurd (contains_none y m)) no_rows
+  with_row-sorted row [] s = joined row [] (λ y m. absurd (mem-nil y m)) no_rows
   with_row-sorted row (y ∷ rows) s = go (block_cmp key row y) refl (with_row-sorted row rows (tail_sorted y rows s))
     where
       go : (o : Ordering) → block_cmp key row y ≡ o → IsInOrder (with_row key row rows) → IsInOrder (by_ordering o (row ∷ (y ∷ rows)) (y ∷ rows) (y ∷ with_row key row rows))
-      go Less e more = joined row (y ∷ rows) (λ z m. elim (contains_cases y rows z m) [
+      go Less e more = joined row (y ∷ rows) (λ z m. elim (mem-cases z y rows m) [
         | inl q ↦ subst (λ z. block_cmp key row z ≡ Less) q e
         | inr l ↦ (block_total key).trans row y z e (head_below y rows s z l)
       ]) s
@@ -79,8 +78,8 @@ module _ (key : List ℕ) where
   order_members (row ∷ rows) x =
       let more = order_members rows x in
       let here = with_row-members row (block_order key rows) x in (
-        λ h. elim (here.0 h) [ inl q ↦ subst (Contains (row ∷ rows)) q (contains_head row rows) | inr m ↦ contains_later row rows x (more.0 m) ],
-        λ h. here.1 (elim (contains_cases row rows x h) [ inl q ↦ inl q | inr m ↦ inr (more.1 m) ]),
+        λ h. elim (here.0 h) [ inl q ↦ subst (Contains (row ∷ rows)) q (mem-head row rows) | inr m ↦ mem-tail x row rows (more.0 m) ],
+        λ h. here.1 (elim (mem-cases x row rows h) [ inl q ↦ inl q | inr m ↦ inr (more.1 m) ]),
       )
 
   not_both : (x y : List Value) → block_cmp key x y ≡ Less → block_cmp key y x ≡ Less → ⊥
@@ -89,13 +88,13 @@ module _ (key : List ℕ) where
   -- lists in block order that have the same rows are one
   pub ordered_once : (xs ys : List (List Value)) → IsInOrder xs → IsInOrder ys → ((x : List Value) → Contains xs x ↔ Contains ys x) → xs ≡ ys
   ordered_once [] [] s t same = refl
-  ordered_once [] (y ∷ ys) s t same = absurd (contains_none y ((same y).1 (contains_head y ys)))
-  ordered_once (x ∷ xs) [] s t same = absurd (contains_none x ((same x).0 (contains_head x xs)))
+  ordered_once [] (y ∷ ys) s t same = absurd (mem-nil y ((same y).1 (mem-head y ys)))
+  ordered_once (x ∷ xs) [] s t same = absurd (mem-nil x ((same x).0 (mem-head x xs)))
   ordered_once (x ∷ xs) (y ∷ ys) s t same =
-      let first : x ≡ y = heads (contains_cases y ys x ((same x).0 (contains_head x xs))) (contains_cases x xs y ((same y).1 (contains_head y ys))) in
+      let first : x ≡ y = heads (mem-cases x y ys ((same x).0 (mem-head x xs))) (mem-cases y x xs ((same y).1 (mem-head y ys))) in
       let rest : xs ≡ ys = ordered_once xs ys (tail_sorted x xs s) (tail_sorted y ys t) (λ z. (
-        λ m. elim (contains_cases y ys z ((same z).0 (contains_later x xs z m))) [ inl q ↦ absurd (not_self x z (head_below x xs s z m) (first ∙ q)) | inr l ↦ l ],
-        λ m. elim (contains_cases x xs z ((same z).1 (contains_later y ys z m))) [ inl q ↦ absurd (not_self y z (head_below y ys t z m) (sym first ∙ q)) | inr l ↦ l ],
+        λ m. elim (mem-cases z y ys ((same z).0 (mem-tail z x xs m))) [ inl q ↦ absurd (not_self x z (head_below x xs s z m) (first ∙ q)) | inr l ↦ l ],
+        λ m. elim (mem-cases z x xs ((same z).1 (mem-tail z y ys m))) [ inl q ↦ absurd (not_self y z (head_below y ys t z m) (sym first ∙ q)) | inr l ↦ l ],
       )) in
       (λ i. first i ∷ rest i)
     where
@@ -116,11 +115,11 @@ module _ (key : List ℕ) where
 
   with_row-long : (row : List Value) (rows : List (List Value)) → (Contains rows row → ⊥) → length (with_row key row rows) ≡ 1 + length rows
   with_row-long row [] apart = omega arith
-  with_row-long row (y ∷ rows) apart = go (block_cmp key row y) refl (with_row-long row rows (λ m. apart (contains_later y rows row m)))
+  with_row-long row (y ∷ rows) apart = go (block_cmp key row y) refl (with_row-long row rows (λ m. apart (mem-tail row y rows m)))
     where
       go : (o : Ordering) → block_cmp key row y ≡ o → length (with_row key row rows) ≡ 1 + length rows → length (by_ordering o (row ∷ (y ∷ rows)) (y ∷ rows) (y ∷ with_row key row rows)) ≡ 1 + length (y ∷ rows)
       go Less e more = omega arith
-      go Equal e more = absurd (apart (subst (Contains (y ∷ rows)) (sym (block_exact key row y e)) (contains_head y rows)))
+      go Equal e more = absurd (apart (subst (Contains (y ∷ rows)) (sym (block_exact key row y e)) (mem-head y rows)))
       go Greater e more = omega (arith, more)
 
 -- rows in the block order of one key are as many in that of another

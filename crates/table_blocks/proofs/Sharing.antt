@@ -3,23 +3,20 @@ use Rattle.std.proofs.Common.{◌≡◌, inl, inr, ℕ, Bool, true, false, not, 
 use Rattle.std.specs.Bool.{Decides}
 use Rattle.std.specs.List.{filter}
 use Rattle.std.proofs.lemmas.List.Elements.{filter-append, Contains-append_cases}
+use Rattle.std.proofs.lemmas.Bool.{and_parts}
 use Rattle.cqa_value.specs.declared.value.Value.{Value}
 use Rattle.cqa_value.specs.Values.{row_eq, row_decides}
+use Rattle.cqa_value.proofs.Words.{mem-tail, mem-cases, mem-head, mem-nil, Contains-slice_get, Contains-filter}
 use Rattle.cqa_model.specs.Database.{SharesKey, AreConsistent, key_of, nothing}
 use Rattle.cqa_model.proofs.BlockOrder.{shares-from_key, key-from_shares}
 use Rattle.table_blocks.specs.Keys.{same_key, first_sharing, first_other}
-use Rattle.table_blocks.proofs.Membership.{contains_filter, contains_got, contains_head, contains_none, contains_later, contains_cases}
 
 first_of_filter : {A : Type 0} (xs : List A) → slice_get xs 0 ≡ None → (x : A) → Contains xs x → ⊥
-first_of_filter [] e x m = contains_none x m
+first_of_filter [] e x m = mem-nil x m
 first_of_filter {A} (y ∷ xs) e x m = clash e
   where
     clash : {z : A} → Some z ≡ None → ⊥
     clash e = (cc)
-
-both_true : (a b : Bool) → a && b ≡ true → (a ≡ true) × (b ≡ true)
-both_true true b e = (refl, e)
-both_true false b e = absurd (true≢false (sym e))
 
 -- no row passes
 pub none_passes : (p : List Value → Bool) (rows : List (List Value)) → ((x : List Value) → Contains rows x → p x ≡ true → ⊥) → slice_get (filter p rows) 0 ≡ None
@@ -27,18 +24,18 @@ none_passes p rows h = go (filter p rows) refl
   where
     go : (xs : List (List Value)) → filter p rows ≡ xs → slice_get (filter p rows) 0 ≡ None
     go [] e = ap (λ l. slice_get l 0) e
-    go (x ∷ xs) e = let k = (contains_filter p rows x).0 (subst (λ l. Contains l x) (sym e) (contains_head x xs)) in absurd (h x k.0 k.1)
+    go (x ∷ xs) e = let k = (Contains-filter p rows x).0 (subst (λ l. Contains l x) (sym e) (mem-head x xs)) in absurd (h x k.0 k.1)
 
 -- tests that agree at each row
 filter_alike : (p q : List Value → Bool) (rows : List (List Value)) → ((x : List Value) → Contains rows x → p x ≡ q x) → filter p rows ≡ filter q rows
 filter_alike p q [] h = refl
 filter_alike p q (x ∷ rows) h =
-    let more = filter_alike p q rows (λ y m. h y (contains_later x rows y m)) in
-    (λ i. cond (h x (contains_head x rows) i) (x ∷ more i) (more i))
+    let more = filter_alike p q rows (λ y m. h y (mem-tail y x rows m)) in
+    (λ i. cond (h x (mem-head x rows) i) (x ∷ more i) (more i))
 
 -- the first that passes is there, and passes
 passing : (p : List Value → Bool) (rows : List (List Value)) (k : List Value) → slice_get (filter p rows) 0 ≡ Some k → Contains rows k × (p k ≡ true)
-passing p rows k e = (contains_filter p rows k).0 (contains_got (filter p rows) 0 k e)
+passing p rows k e = (Contains-filter p rows k).0 (Contains-slice_get (filter p rows) 0 k e)
 
 first_of_two : {A : Type 0} (xs ys : List A) (x : A) → slice_get xs 0 ≡ Some x → slice_get (xs ++ ys) 0 ≡ Some x
 first_of_two [] ys x e = absurd (none e)
@@ -92,8 +89,8 @@ module _ (key : List ℕ) where
         other x = same_key key row x && not (row_eq row x)
 
         go : (o : Option (List Value)) → first_sharing key before row ≡ o → first_other key before row ≡ None
-        go None none = none_passes _ before (λ x m p. let b = both_true _ _ p in first_of_filter (filter (same_key key row) before) none x ((contains_filter (same_key key row) before x).1 (m, b.0)))
-        go (Some k) found = none_passes _ before (λ x m p. let b = both_true _ _ p in
+        go None none = none_passes _ before (λ x m p. let b = and_parts _ _ p in first_of_filter (filter (same_key key row) before) none x ((Contains-filter (same_key key row) before x).1 (m, b.0)))
+        go (Some k) found = none_passes _ before (λ x m p. let b = and_parts _ _ p in
             let same : kept ≡ k = some_same (sym first ∙ first_left before (row ∷ rest) row k found) in
             let is : x ≡ row = shares_kept (found ∙ ap Some (sym same)) x m b.0 ∙ e in
             true≢false (sym b.1 ∙ ap not ((row_decides row x).1 (sym is))))
@@ -133,14 +130,14 @@ module _ (key : List ℕ) where
     joined e x y mx my s = elim (Contains-append_cases before (row ∷ []) x mx) [
       | inl l ↦ elim (Contains-append_cases before (row ∷ []) y my) [
         | inl r ↦ one x y l r s
-        | inr r ↦ elim (contains_cases row [] y r) [ inl q ↦ beside x l (λ p m. sym (s p m ∙ ap (λ z. get_or z p nothing) (sym q))) ∙ q | inr n ↦ absurd (contains_none y n) ]
+        | inr r ↦ elim (mem-cases y row [] r) [ inl q ↦ beside x l (λ p m. sym (s p m ∙ ap (λ z. get_or z p nothing) (sym q))) ∙ q | inr n ↦ absurd (mem-nil y n) ]
       ]
-      | inr l ↦ elim (contains_cases row [] x l) [
+      | inr l ↦ elim (mem-cases x row [] l) [
         | inl q ↦ elim (Contains-append_cases before (row ∷ []) y my) [
           | inl r ↦ sym q ∙ sym (beside y r (λ p m. ap (λ z. get_or z p nothing) q ∙ s p m))
-          | inr r ↦ elim (contains_cases row [] y r) [ inl t ↦ sym q ∙ t | inr n ↦ absurd (contains_none y n) ]
+          | inr r ↦ elim (mem-cases y row [] r) [ inl t ↦ sym q ∙ t | inr n ↦ absurd (mem-nil y n) ]
         ]
-        | inr n ↦ absurd (contains_none x n)
+        | inr n ↦ absurd (mem-nil x n)
       ]
     ]
       where
@@ -152,7 +149,7 @@ module _ (key : List ℕ) where
         beside x m s = go (first_sharing key before row) refl
           where
             go : (o : Option (List Value)) → first_sharing key before row ≡ o → x ≡ row
-            go None none = absurd (first_of_filter (filter (same_key key row) before) none x ((contains_filter (same_key key row) before x).1 (m, (same_decides row x).1 s)))
+            go None none = absurd (first_of_filter (filter (same_key key row) before) none x ((Contains-filter (same_key key row) before x).1 (m, (same_decides row x).1 s)))
             go (Some k) found =
                 let same : kept ≡ k = some_same (sym first ∙ first_left before (row ∷ rest) row k found) in
                 shares_kept (found ∙ ap Some (sym same)) x m ((same_decides row x).1 s) ∙ e

@@ -1,18 +1,19 @@
 -- Rows in block order are parted by a probe.
 use Rattle.std.proofs.Common.{◌≡◌, ◌+◌, ◌<◌, ◌≤◌, ℕ, suc, zero, length, List, [], ◌∷◌, ◌++◌, Bool, true, false, refl, sym, ◌∙◌, ap, subst, arith, take, drop, get_or, true≢false, slice_get, Some, not, ◌==◌, length-append}
 use Rattle.std.specs.List.Sorted.{IsStrictlySortedBy, IsPartitionedBy, IsPartitionPoint}
-use Rattle.std.specs.Ordering.{ordering_then, ordering_index, is_eq}
+use Rattle.std.specs.Ordering.{ordering_then, ordering_index}
 use Rattle.std.specs.declared.cmp.Ordering.{Ordering}
 use Rattle.std.specs.declared.cmp.Ordering.TheVariants.{Less, Equal, Greater}
 use Rattle.std.proofs.lemmas.List.{get_or-take, get_or-drop, length-take-le, length-drop, take-append-drop, drop_more}
 use Rattle.std.proofs.lemmas.Option.{get_or_from_slice_get}
 use Rattle.std.proofs.lemmas.List.Elements.{All-from_get_or}
+use Rattle.std.proofs.lemmas.Map.Keys.{Less-from_sorted}
 use native.Mathlib.Decide.{dec_lt}
 use Rattle.cqa_value.specs.declared.value.Value.{Value}
-use Rattle.cqa_value.specs.Values.{value_cmp, row_cmp, row_cmp_total, row_ties, row_equiv}
+use Rattle.cqa_value.specs.Values.{value_cmp, row_cmp, row_cmp_total}
 use Rattle.cqa_model.specs.Database.{nothing, key_of, block_cmp}
-use Rattle.cqa_model.proofs.BlockOrder.{row_exact, sorted-less}
-use Rattle.table_blocks.proofs.BlockOrder.{block_total, block_exact, block_alike}
+use Rattle.cqa_model.proofs.BlockOrder.{row_exact}
+use Rattle.table_blocks.proofs.BlockOrder.{block_total, block_exact, block_alike, row_alike}
 use Rattle.table_blocks.proofs.Merging.{sorted_back}
 use Rattle.table_blocks.specs.Spans.{first_key, probe_cmp, comes_before, IsSpan}
 
@@ -64,19 +65,11 @@ module _ (key : List ℕ) (rows : List (List Value)) (probe : List Value) (sorte
       go (yes l) =
           let x = get_or rows i d in
           let y = get_or rows j d in
-          let below = then_below (row_cmp (key_of key x) (key_of key y)) (row_cmp x y) (sorted-less (block_cmp key) rows i j d sorted l b) in
+          let below = then_below (row_cmp (key_of key x) (key_of key y)) (row_cmp x y) (Less-from_sorted (block_cmp key) rows i j d sorted l b) in
           let first : IsBelow (row_cmp (first_key key probe x) (first_key key probe y)) =
           rw (take_key (length probe) key x, take_key (length probe) key y) (first_below (length probe) (key_of key x) (key_of key y) below) in
           below_too ties (first_key key probe x) (first_key key probe y) probe first t
       go (no n) = let same : j ≡ i = omega (arith, n, a) in subst (λ k. comes_before ties (probe_cmp key probe (get_or rows k d)) ≡ true) same t
-
-row_alike : (a : List Value) → row_cmp a a ≡ Equal
-row_alike a = is_equal (row_cmp a a) (sym (row_ties a a) ∙ row_equiv.refl a)
-  where
-    is_equal : (o : Ordering) → is_eq o ≡ true → o ≡ Equal
-    is_equal Less e = (cc)
-    is_equal Equal e = refl
-    is_equal Greater e = (cc)
 
 between : (o : Ordering) → comes_before false o ≡ false → comes_before true o ≡ true → o ≡ Equal
 between Less e f = (cc)

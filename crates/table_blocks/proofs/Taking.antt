@@ -10,17 +10,17 @@ use Rattle.cqa_model.specs.declared.refusal.Refusal.{Refusal}
 use Rattle.cqa_model.specs.declared.refusal.Refusal.TheVariants.{KeyTaken, KeyBroken}
 use Rattle.cqa_model.specs.Database.{AreConsistent, SharesKey, block_cmp, nothing}
 use Rattle.cqa_model.specs.Refusal.{first_of, Checked}
-use Rattle.std.specs.Prelude.{Result, Ok, Err, OnErr}
+use Rattle.std.specs.Prelude.{Result, Ok, Err}
 use Rattle.cqa_value.specs.declared.memory.Fail.{Fail}
+use Rattle.cqa_value.proofs.Words.{Contains-filter}
 use Rattle.cqa_model.proofs.BlockOrder.{grouped}
 use Rattle.table_blocks.specs.Keys.{same_key, first_sharing, first_other, taken_by, taken_fault, broken_fault}
-use Rattle.table_blocks.proofs.Membership.{contains_filter}
 use Rattle.table_blocks.proofs.Sharing.{none_other, other_found, joined, same_self, same_decides}
 
 -- rows of which some share a row's key are among those that were sorted
 pub still_there : (key : List ℕ) (sorted rows : List (List Value)) → ((row : List Value) → filter (same_key key row) sorted ≡ filter (same_key key row) rows) → (row : List Value) → Contains rows row → Contains sorted row
 still_there key sorted rows stable row m =
-    ((contains_filter (same_key key row) sorted row).0 (subst (λ l. Contains l row) (sym (stable row)) ((contains_filter (same_key key row) rows row).1 (m, same_self key row)))).0
+    ((Contains-filter (same_key key row) sorted row).0 (subst (λ l. Contains l row) (sym (stable row)) ((Contains-filter (same_key key row) rows row).1 (m, same_self key row)))).0
 
 module _ (key : List ℕ) (stored sorted rows : List (List Value)) (stable : (row : List Value) → filter (same_key key row) sorted ≡ filter (same_key key row) rows) (at : ℕ) (row : List Value) (inside : at < length rows) (is : row ≡ get_or rows at row)
     (so_far : taken_fault key stored 1 rows ≡ taken_fault key (stored ++ take at rows) (at + 1) (drop at rows)) (consistent : AreConsistent key (stored ++ take at rows)) (kept : List Value) (first : first_sharing key (stored ++ sorted) row ≡ Some kept) where
@@ -108,7 +108,3 @@ consistent_unbroken key rows s e x y (i, bi, ei) (j, bj, ej) shares = elim (case
 pub checked_weaker : {T : Type 0} (r : Result T (Fail Refusal)) (fault : Option Refusal) (P Q : T → Type 0) → ((v : T) → P v → Q v) → Checked r fault P → Checked r fault Q
 checked_weaker (Ok v) fault P Q f c = record { refused = c.refused; valid = c.valid; is = f v c.is }
 checked_weaker (Err e) fault P Q f c = record { refused = c.refused; valid = c.valid; is = tt }
-
-pub on_err : {T E P Q : Type 0} (r : Result T E) → (P → Q) → OnErr r P → OnErr r Q
-on_err (Ok v) f p = p
-on_err (Err e) f p = f p

@@ -1,7 +1,6 @@
 //! The tables of a database, each a list of rows in block order.
 #![tactic(auto)]
 
-mod blocks;
 mod cells;
 mod check;
 mod database;
@@ -15,7 +14,6 @@ mod steps;
 mod table;
 mod test;
 
-pub use blocks::{block_end, same_key};
 pub use cells::{cell, passes};
 pub use database::Database;
 pub use probe::Probe;

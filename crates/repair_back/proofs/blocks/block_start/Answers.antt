@@ -1,10 +1,21 @@
-use Rattle.std.proofs.Common.{sym, ◌∙◌, true≢false, [], get_or, arith}
-use Rattle.cqa_model.proofs.Repairs.{shares-self}
-use Rattle.repair_back.proofs.BlockEnds.{block_start-begins}
+use Rattle.std.proofs.Common.{ℕ, ◌≤◌, [], get_or, arith}
+use Rattle.cqa_model.specs.Repairs.{SharesKey}
+use Rattle.cqa_model.proofs.Repairs.{shares-sym, shares-trans}
 use Rattle.repair_back.proofs.blocks.block_start.Goals as goal
 
-pub loop-start-init : goal.loop-start-init
-loop-start-init c = record { below = omega arith; same = shares-self c.args.key.now (get_or c.args.rows.now c.args.at []) }
+pub returns-clause-begins : goal.returns-clause-begins
+returns-clause-begins c i low l s =
+    let key = c.args.key.now in
+    let rows = c.args.rows.now in
+    let start = c.block_start.result in
+    let e = c.block_start.ensures in
+    let here : SharesKey key (get_or rows c.args.at []) (get_or rows start []) = (e.block start e.before).1 (omega arith) in
+    let back : SharesKey key (get_or rows start []) (get_or rows i []) = shares-sym key (get_or rows i []) (get_or rows start []) s in
+    let b = e.before in
+    let first : start ≤ i = (e.block i (omega (arith, low, b))).0 (shares-trans key (get_or rows c.args.at []) (get_or rows start []) (get_or rows i []) here back) in
+    omega (arith, low, first)
 
-pub returns-else-share_key-clause-begins : goal.returns-else-share_key-clause-begins
-returns-else-share_key-clause-begins c = block_start-begins c.args.key.now c.args.rows.now c.requires.order c.loop-start.start (λ some s. true≢false (sym (c.share_key.ensures.1 s) ∙ c.if-share_key.false))
+pub returns-clause-same : goal.returns-clause-same
+returns-clause-same c =
+    let e = c.block_start.ensures in
+    shares-sym c.args.key.now (get_or c.args.rows.now c.args.at []) (get_or c.args.rows.now c.block_start.result []) ((e.block c.block_start.result e.before).1 (omega arith))

@@ -1,12 +1,12 @@
 use Rattle.std.proofs.Common.{◌-◌, Contains, get_or, subst, arith}
 use Rattle.std.proofs.lemmas.List.Elements.{Contains-get_or}
-use Rattle.plan_rows.proofs.PlanParts.{take-member}
+use Rattle.cqa_value.proofs.Words.{Contains-from_take}
 use Rattle.plan_rows.proofs.Columns.{drop-member}
 use Rattle.repair_back.proofs.Apart.{apart-more}
 use Rattle.repair_back.proofs.way.enough_at.Goals as goal
 
 pub brings-requires-clause-before : goal.brings-requires-clause-before
-brings-requires-clause-before c = λ F m. c.requires.order F (take-member (c.loop-enough.enough - 1) c.args.order.now F (subst (λ p. Contains p F) c.split_at-in-loop-enough.ensures.front m))
+brings-requires-clause-before c = λ F m. c.requires.order F (Contains-from_take (c.loop-enough.enough - 1) c.args.order.now F (subst (λ p. Contains p F) c.split_at-in-loop-enough.ensures.front m))
 
 pub brings-requires-clause-atom : goal.brings-requires-clause-atom
 brings-requires-clause-atom c =

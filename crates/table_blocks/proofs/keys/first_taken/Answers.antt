@@ -1,6 +1,7 @@
-use Rattle.std.proofs.Common.{◌≡◌, ◌∙◌, ◌+◌, Bool, true, false, not, true≢false, Some, length, sym, ap, refl, subst, arith}
+use Rattle.std.proofs.Common.{◌≡◌, ◌∙◌, ◌+◌, true, false, not, true≢false, Some, length, sym, ap, refl, subst, arith}
 use Rattle.std.specs.Prelude.{IfSome}
 use Rattle.std.proofs.lemmas.Option.{slice_get_read}
+use Rattle.std.proofs.lemmas.Bool.{not-false}
 use Rattle.cqa_value.specs.Values.{row_decides}
 use Rattle.cqa_model.specs.declared.refusal.Refusal.TheVariants.{KeyTaken}
 use Rattle.table_blocks.specs.Keys.{taken_fault}
@@ -22,15 +23,11 @@ returns-then-ne-clause-some c =
     subst (λ found. IfSome found (λ fresh. taken_fault c.args.key.now c.args.stored.now 1 rows ≡ Some (KeyTaken (c.loop-at.at + 1) kept fresh)))
     (sym (slice_get_read rows (length rows) c.loop-at.at row refl c.loop-at-test.true c.index-rows-at.is)) taken
 
-not_other : (b : Bool) → not b ≡ false → b ≡ true
-not_other true e = refl
-not_other false e = absurd (true≢false e)
-
 pub loop-at-preserved : goal.loop-at-preserved
 loop-at-preserved c =
     let row = c.index-rows-at.result in
     let kept = c.kept_row-kept.result.now in
-    let same = (row_decides kept row).0 (not_other _ (sym c.ne.ensures ∙ c.if-ne.false)) in
+    let same = (row_decides kept row).0 (not-false _ (sym c.ne.ensures ∙ c.if-ne.false)) in
     let more = goes_on c.args.key.now c.args.stored.now (shown c.args.sorted.now) c.args.rows.now c.requires.stable c.loop-at.at row c.loop-at-test.true c.index-rows-at.is c.loop-at.invariant.so_far c.loop-at.invariant.consistent kept c.kept_row-kept.ensures same in
     record { so_far = more.0; consistent = more.1 }
 

@@ -1,10 +1,7 @@
-use Rattle.std.proofs.Common.{◌≡◌, ◌∙◌, sym, ap, Some}
-use Rattle.std.proofs.lemmas.Option.{get_or_from_slice_get}
+use Rattle.std.proofs.Common.{◌∙◌, sym, ap, Some}
+use Rattle.std.proofs.lemmas.Option.{get_or_from_slice_get, same_Some}
 use Rattle.table_blocks.proofs.Taken.{taken-get}
 use Rattle.table_blocks.proofs.probe.value_at.Goals as goal
-
-same_value : {A : Type 0} (x y : A) → Some x ≡ Some y → x ≡ y
-same_value x y e = cc e
 
 pub unreachable-requires : goal.unreachable-requires
 unreachable-requires c =
@@ -16,4 +13,4 @@ pub returns : goal.returns
 returns c =
     let t = taken-get (λ x. x.now) c.args.slots.now c.args.at c.requires.taken c.requires.within in
     let e = get_or_from_slice_get c.args.slots.now c.args.at (Some t.0) _ t.1 in
-    t.2 ∙ ap (λ r. Some r.now) (same_value _ _ (sym e ∙ c.in-Some.is))
+    t.2 ∙ ap (λ r. Some r.now) (same_Some _ _ (sym e ∙ c.in-Some.is))

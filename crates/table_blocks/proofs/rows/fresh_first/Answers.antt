@@ -3,11 +3,12 @@ use Rattle.std.proofs.lemmas.List.{get_or-drop, get_or_default, length-set}
 use Rattle.std.specs.List.{AllByRecursion}
 use Rattle.std.specs.declared.cmp.Ordering.TheVariants.{Less}
 use Rattle.std.proofs.lemmas.List.Filters.{FiltersInPlace-more_no, FiltersInPlace-more_swap}
+use Rattle.cqa_value.proofs.Words.{Contains-slice_get}
 use Rattle.cqa_model.specs.Database.{block_cmp}
 use Rattle.table_blocks.specs.Tables.{IsPlace, is_among}
 use Rattle.table_blocks.proofs.BlockOrder.{block_total, block_exact, block_alike}
 use Rattle.table_blocks.proofs.Sorting.{below_later, absent}
-use Rattle.table_blocks.proofs.Membership.{among, not_among, contains_got}
+use Rattle.table_blocks.proofs.Membership.{among, not_among}
 use Rattle.table_blocks.proofs.Placing.{places_more, places_same}
 use Rattle.table_blocks.proofs.rows.fresh_first.Goals as goal
 use Rattle.table_blocks.proofs.rows.fresh_first.Goals.{then-not-stands, else-not-stands}
@@ -50,10 +51,10 @@ loop-at-preserved c =
         count = (let e = w.fresh-is in omega (arith, e, count));
         there = c.place_from-from.ensures.within;
         below = later;
-        fresh = (let known : not (is_among stored x) ≡ false = ap not ((among stored x).1 (contains_got stored c.place_from-from.result x (c.stands.ensures.0 w.if-not-stands.false))) in
+        fresh = (let known : not (is_among stored x) ≡ false = ap not ((among stored x).1 (Contains-slice_get stored c.place_from-from.result x (c.stands.ensures.0 w.if-not-stands.false))) in
             rw (w.rows-is, w.fresh-is) (FiltersInPlace-more_no {x = x} i there known (get_or_default c.loop-at.rows at row x there)));
         long = rw w.places-is c.loop-at.invariant.long;
         placed = rw (w.places-is, w.fresh-is) (places_same cmp stored (λ row. not (is_among stored row)) xs at row inside (take c.loop-at.fresh c.loop-at.places)
-            (subst (λ y. not (is_among stored y) ≡ false) same (ap not ((among stored x).1 (contains_got stored c.place_from-from.result x (c.stands.ensures.0 w.if-not-stands.false))))) c.loop-at.invariant.placed);
+            (subst (λ y. not (is_among stored y) ≡ false) same (ap not ((among stored x).1 (Contains-slice_get stored c.place_from-from.result x (c.stands.ensures.0 w.if-not-stands.false))))) c.loop-at.invariant.placed);
       }
     ]

@@ -3,18 +3,16 @@ use Rattle.std.specs.Prelude.{Result, Ok, Err, IfOk}
 use Rattle.std.specs.List.{filter}
 use Rattle.std.specs.List.Sorted.{IsStrictlySortedBy}
 use Rattle.std.proofs.lemmas.List.Kept.{IsStrictlySortedBy-filter}
+use Rattle.std.proofs.lemmas.Result.{IfOk-weaker}
 use Rattle.cqa_value.specs.declared.value.Value.{Value}
+use Rattle.cqa_value.proofs.Words.{Contains-filter}
 use Rattle.cqa_model.specs.Database.{block_cmp}
 use Rattle.table_blocks.specs.Keys.{block_order}
 use Rattle.table_blocks.specs.Tables.{is_among}
 use Rattle.table_blocks.proofs.Counting.{counted}
-use Rattle.table_blocks.proofs.Membership.{contains_filter, not_among}
+use Rattle.table_blocks.proofs.Membership.{not_among}
 use Rattle.table_blocks.proofs.Reordering.{order_sorted, order_members}
 use Rattle.table_blocks.proofs.rows.fresh_rows.Goals as goal
-
-if_ok : {T E : Type 0} (r : Result T E) (P Q : T → Type 0) → ((v : T) → P v → Q v) → IfOk r P → IfOk r Q
-if_ok (Ok v) P Q f p = f v p
-if_ok (Err e) P Q f p = tt
 
 if_both : {T E : Type 0} (r : Result T E) (P Q R : T → Type 0) → ((v : T) → P v → Q v → R v) → IfOk r P → IfOk r Q → IfOk r R
 if_both (Ok v) P Q R f p q = f v p q
@@ -31,7 +29,7 @@ module _ (key : List ℕ) (stored rows sorted : List (List Value)) (is : sorted 
   joined : (row : List Value) → Contains kept row ↔ (Contains rows row × (Contains stored row → ⊥))
   unfolding kept
   joined row =
-      let passes = contains_filter (λ row. not (is_among stored row)) sorted row in
+      let passes = Contains-filter (λ row. not (is_among stored row)) sorted row in
       let other = not_among stored row in
       let same = subst (λ sorted. Contains sorted row ↔ Contains rows row) (sym is) (order_members key rows row) in (
         λ h. let k = passes.0 h in (same.0 k.0, other.0 k.1),
@@ -44,7 +42,7 @@ without-requires-clause-given c = subst (IsStrictlySortedBy (block_cmp c.args.ke
 pub returns-clause-new : goal.returns-clause-new
 unfolding kept
 returns-clause-new c =
-    if_ok c.without.result (λ fresh. fresh.rows.items ≡ filter (λ row. not (is_among c.args.stored.now row)) c.put_in_order.new.rows.items) _
+    IfOk-weaker c.without.result (λ fresh. fresh.rows.items ≡ filter (λ row. not (is_among c.args.stored.now row)) c.put_in_order.new.rows.items) _
     (λ fresh e row. subst (λ rows. Contains rows row ↔ (Contains c.args.rows.items row × (Contains c.args.stored.now row → ⊥))) (sym e) (joined c.args.key.now c.args.stored.now c.args.rows.items c.put_in_order.new.rows.items c.put_in_order.ensures row))
     c.without.ensures.fresh
 
@@ -54,7 +52,7 @@ returns-clause-count c =
     let key = c.args.key.now in
     let stored = c.args.stored.now in
     let sorted = c.put_in_order.new.rows.items in
-    if_ok c.without.result (λ fresh. fresh.rows.items ≡ filter (λ row. not (is_among stored row)) sorted) _
+    IfOk-weaker c.without.result (λ fresh. fresh.rows.items ≡ filter (λ row. not (is_among stored row)) sorted) _
     (λ fresh e. counted key stored c.args.rows.items fresh.rows.items (subst (IsStrictlySortedBy (block_cmp key)) (sym e) (in_order key stored c.args.rows.items sorted c.put_in_order.ensures))
     (λ row. subst (λ rows. Contains rows row ↔ (Contains c.args.rows.items row × (Contains stored row → ⊥))) (sym e) (joined key stored c.args.rows.items sorted c.put_in_order.ensures row)))
     c.without.ensures.fresh

@@ -4,11 +4,11 @@ use Rattle.std.specs.List.Sorted.{IsStrictlySortedBy}
 use Rattle.std.proofs.lemmas.List.Kept.{IsStrictlySortedBy-filter}
 use Rattle.std.proofs.lemmas.List.Filters.{length-filter_both}
 use Rattle.cqa_value.specs.declared.value.Value.{Value}
+use Rattle.cqa_value.proofs.Words.{Contains-filter}
 use Rattle.cqa_model.specs.Database.{block_cmp}
 use Rattle.table_blocks.specs.Spans.{IsSpan}
 use Rattle.table_blocks.specs.Tables.{TestsHold}
 use Rattle.table_blocks.proofs.Passing.{dec_tests, is_yes, is_no, turned_round}
-use Rattle.table_blocks.proofs.Membership.{contains_filter}
 use Rattle.std.proofs.lemmas.Fn.{always_returns_same}
 use Rattle.table_blocks.proofs.Sparing.{spared_all}
 use Rattle.table_blocks.proofs.rows.remove.Goals as goal
@@ -34,7 +34,7 @@ retain_in-requires-clause-order c = let to = c.told_places-from.ensures.told.2 i
 pub returns-clause-spared : goal.returns-clause-spared
 returns-clause-spared c = record {
   in_order = subst (IsStrictlySortedBy (block_cmp c.args.key.now)) (sym (left c)) (IsStrictlySortedBy-filter (block_cmp c.args.key.now) (λ row. not (is_yes (dec_tests c.args.tests.now row))) c.args.rows.now c.requires);
-  members = λ row. (let kept = contains_filter (λ row. not (is_yes (dec_tests c.args.tests.now row))) c.args.rows.now row in
+  members = λ row. (let kept = Contains-filter (λ row. not (is_yes (dec_tests c.args.tests.now row))) c.args.rows.now row in
       let no_test = is_no (dec_tests c.args.tests.now row) in (
         λ h. let k = kept.0 (subst (λ rows. Contains rows row) (left c) h) in (k.0, no_test.0 k.1),
         λ h. subst (λ rows. Contains rows row) (sym (left c)) (kept.1 (h.0, no_test.1 h.1)),

@@ -1,14 +1,10 @@
 use Rattle.std.proofs.Common.{◌≡◌, ◌∙◌, length, sym, ap, subst}
-use Rattle.std.specs.Prelude.{Result, Ok, Err, OnErr}
 use Rattle.std.specs.List.Sorted.{IsStrictlySortedBy}
+use Rattle.cqa_value.proofs.Words.{on_err}
 use Rattle.cqa_model.specs.Database.{block_cmp}
 use Rattle.table_blocks.specs.Keys.{block_order}
 use Rattle.table_blocks.proofs.Reordering.{order_sorted, order_members, order_is, order_long}
 use Rattle.table_blocks.proofs.rows.reorder.Goals as goal
-
-on_err : {T E P : Type 0} (r : Result T E) → P → OnErr r P
-on_err (Ok v) p = tt
-on_err (Err e) p = p
 
 pub check_consistent-checked-requires : goal.check_consistent-checked-requires
 check_consistent-checked-requires c =

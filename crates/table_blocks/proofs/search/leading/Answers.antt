@@ -5,7 +5,9 @@ use Rattle.std.proofs.lemmas.Option.{slice_get_within, get_or_from_slice_get}
 use Rattle.std.proofs.lemmas.List.{length-take, length-drop}
 use Rattle.std.proofs.lemmas.List.Elements.{at_read}
 use borrow.Author.Rules.{of_calls}
-use Rattle.table_blocks.proofs.Halving.{answers, front_passes, back_fails, part_point}
+use Rattle.marked_rows.proofs.Halving.{front_passes, back_fails}
+use Rattle.marked_rows.proofs.Answering.{answers}
+use Rattle.table_blocks.proofs.Halving.{part_point}
 use Rattle.table_blocks.proofs.search.leading.Goals as goal
 use Rattle.table_blocks.proofs.search.leading.Goals.{then-next-len, else-next-len+then-not-passes}
 

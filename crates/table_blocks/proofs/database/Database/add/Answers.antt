@@ -1,5 +1,5 @@
 use Rattle.std.proofs.Common.{◌≡◌, ◌≤◌, ◌+◌, ℕ, ◌++◌, ◌∙◌, sym, ap, subst, arith, length, Some, slice_get, slice_set}
-use Rattle.std.specs.Prelude.{Result, Ok, Err, OnErr}
+use Rattle.cqa_value.proofs.Words.{on_err}
 use Rattle.cqa_model.specs.declared.schema.Schema.{Schema}
 use Rattle.cqa_model.specs.Database.{Table, AreConsistent, row_total}
 use Rattle.cqa_model.proofs.Places.{rows-at, key-at, mark-at}
@@ -7,10 +7,6 @@ use Rattle.table_blocks.specs.Tables.{AreMergeable, IsMerged, key_at}
 use Rattle.table_blocks.proofs.Changing.{set_with_rows, set_same}
 use Rattle.table_blocks.proofs.Naming.{named_more, at_place, values_set}
 use Rattle.table_blocks.proofs.database.Database.add.Goals as goal
-
-on_err : {T E P : Type 0} (r : Result T E) → P → OnErr r P
-on_err (Ok v) p = tt
-on_err (Err e) p = p
 
 -- the table that is found
 here : (c : goal.In-Some) → slice_get c.args.self.now c.args.table ≡ Some c.in-Some.found.now

@@ -1,12 +1,13 @@
 use Rattle.std.proofs.Common.{◌∙◌, ap, sym, subst, slice_set}
 use Rattle.std.specs.Prelude.{if◌then◌else◌, None, IfSome}
+use Rattle.std.proofs.lemmas.Result.{on_err_weaker}
 use Rattle.cqa_model.specs.Refusal.{Checked}
 use Rattle.cqa_model.proofs.Places.{rows-at, mark-at}
 use Rattle.table_blocks.specs.Keys.{broken_fault, block_order}
 use Rattle.table_blocks.specs.Tables.{rows_at, IsRekeyed}
 use Rattle.table_blocks.proofs.Changing.{set_same}
 use Rattle.table_blocks.proofs.Naming.{found_in, named_less, values_set}
-use Rattle.table_blocks.proofs.Taking.{checked_weaker, on_err}
+use Rattle.table_blocks.proofs.Taking.{checked_weaker}
 use Rattle.table_blocks.proofs.database.Database.set_key.Goals as goal
 
 pub invariant_of-self : goal.invariant_of-self
@@ -18,7 +19,7 @@ returns-clause-stored c = (invariant_of-self c).1
 
 pub returns-clause-err : goal.returns-clause-err
 returns-clause-err c =
-    on_err c.set_key.result (λ same.
+    on_err_weaker c.set_key.result (λ same.
     values_set c.self.inside.tables.entries c.args.table c.set_key.new.self ∙ ap (λ db. slice_set db c.args.table c.set_key.new.self) c.self.view_is
     ∙ ap (λ t. slice_set c.args.self.now c.args.table t) same ∙ set_same c.args.self.now c.args.table c.in-Some.found.now (found_in _ c.args.self.now c.args.table c.in-Some.found.now c.self.view_is c.in-Some.ensures.value)) c.set_key.ensures.err
 

@@ -1,9 +1,10 @@
 use Rattle.std.proofs.Common.{◌≡◌, ◌∙◌, ap, sym, length, arith, true, slice_set}
+use Rattle.std.proofs.lemmas.Result.{on_err_weaker}
 use Rattle.cqa_model.specs.Refusal.{Checked}
 use Rattle.table_blocks.specs.Keys.{broken_fault}
 use Rattle.table_blocks.proofs.Changing.{set_with_mark, set_same}
 use Rattle.table_blocks.proofs.Naming.{found_in, named_less, at_place, values_set}
-use Rattle.table_blocks.proofs.Taking.{checked_weaker, on_err}
+use Rattle.table_blocks.proofs.Taking.{checked_weaker}
 use Rattle.table_blocks.proofs.database.Database.set_strict.Goals as goal
 
 pub invariant_of-self : goal.invariant_of-self
@@ -15,7 +16,7 @@ returns-clause-stored c = (invariant_of-self c).1
 
 pub returns-clause-err : goal.returns-clause-err
 returns-clause-err c =
-    on_err c.set_strict.result (λ same.
+    on_err_weaker c.set_strict.result (λ same.
     values_set c.self.inside.tables.entries c.args.table c.set_strict.new.self ∙ ap (λ db. slice_set db c.args.table c.set_strict.new.self) c.self.view_is
     ∙ ap (λ t. slice_set c.args.self.now c.args.table t) same ∙ set_same c.args.self.now c.args.table c.in-Some.found.now (found_in _ c.args.self.now c.args.table c.in-Some.found.now c.self.view_is c.in-Some.ensures.value)) c.set_strict.ensures.err
 
