@@ -1,13 +1,8 @@
-//! Tests of what no clause says of answers: searches by formulas, weak pairs, repairs, orders of atoms and logs. Each call
-//! succeeds with ample memory, and with the answer that was worked out by hand, or by another program.
+//! Tests of what no clause says of answers: searches, weak pairs, repairs and orders of atoms. Each call succeeds with ample
+//! memory, and with the answer that was worked out by hand, or by another program.
 #![tactic(auto)]
 
 pub mod draws;
-pub mod fit;
-#[cfg(test)]
-mod formulas;
-#[cfg(test)]
-mod groups;
 #[cfg(test)]
 mod listing;
 pub mod making;

@@ -3,13 +3,7 @@
 //! is searched anew, row by row.
 #![tactic(auto)]
 
-mod accepted;
 mod guess;
-mod model;
-mod refutation;
 mod search;
-#[cfg(test)]
-mod tests;
 
-pub use accepted::is_accepted;
-pub use search::{MERGED_FROM, solve};
+pub use search::{MERGED_FROM, by_groups, solve};

@@ -6,10 +6,10 @@ ghost use Rattle.cnf_form.specs.Literals.{IsInRange};
 ghost use Rattle.cnf_form.specs.Logs.{Refutes};
 ghost use Rattle.cnf_form.specs.Spent.{IsSpentLog};
 ghost use Rattle.cdcl.specs.Outcomes.{AreConsecutive, IsModel, IsOnce, OutcomeIs};
+ghost use Rattle.answer_check.specs.Answers.{IsAnswer};
 
 use crate::guess::guess;
-use crate::model::is_model;
-use crate::refutation::is_refutation;
+use answer_check::is_answer;
 use cdcl::Outcome;
 use cnf_form::Cnf;
 use cqa_value::NoMemory;
@@ -18,17 +18,6 @@ use std::alloc::Global;
 /// The number of clauses from which on a formula is searched by groups first.
 pub const MERGED_FROM: usize = 1_000;
 
-/// Whether an outcome is a model or a refutation of a formula.
-fn is_answer(alloc: Global, cnf: &Cnf, budget: u32, outcome: &Outcome) -> Result<bool, NoMemory>
-    ensures { IfOk result (λ yes. yes ≡ true → OutcomeIs cnf.now budget outcome.now) }
-{
-    match outcome {
-        Outcome::Sat(values) => Ok(is_model(cnf, values.as_slice())),
-        Outcome::Unsat(log) => is_refutation(alloc, cnf, budget, log),
-        Outcome::Spent(_) => Ok(false),
-    }
-}
-
 /// An outcome, where it is an answer.
 fn checked(
     alloc: Global,
@@ -36,7 +25,7 @@ fn checked(
     budget: u32,
     outcome: Outcome,
 ) -> Result<Option<Outcome>, NoMemory>
-    ensures { IfOk result (λ found. IfSome found (OutcomeIs cnf.now budget)) }
+    ensures { IfOk result (λ found. IfSome found (IsAnswer cnf.now budget)) }
 {
     match is_answer(alloc, cnf, budget, &outcome) {
         Ok(true) => Ok(Some(outcome)),
@@ -51,9 +40,16 @@ fn checked(
     }
 }
 
-/// What is guessed, where it is an answer. A guess that is refused memory is none.
-fn guessed(alloc: Global, cnf: &Cnf, budget: u32) -> Result<Option<Outcome>, NoMemory>
-    ensures { IfOk result (λ found. IfSome found (OutcomeIs cnf.now budget)) }
+/// Decides a formula over one variable for each group of rows that exclude the same rows, by a search of at most `budget`
+/// conflicts, and carries over to the rows what is found. `None` where the formula has clauses of other forms than blocks,
+/// excluded rows and excluded pairs, where nothing is found within the limits, where what is found doesn't pass its check, or
+/// where memory is refused before that.
+///
+/// # Errors
+///
+/// `NoMemory` where memory is refused for the check.
+pub fn by_groups(alloc: Global, cnf: &Cnf, budget: u32) -> Result<Option<Outcome>, NoMemory>
+    ensures { IfOk result (λ found. IfSome found (IsAnswer cnf.now budget)) }
 {
     match guess(alloc, cnf, budget) {
         Ok(Some(outcome)) => checked(alloc, cnf, budget, outcome),
@@ -61,13 +57,13 @@ fn guessed(alloc: Global, cnf: &Cnf, budget: u32) -> Result<Option<Outcome>, NoM
     }
 }
 
-/// What the guess comes to, and where that is no answer, what the solver finds.
-fn guessed_or_searched(alloc: Global, cnf: &Cnf, budget: u32) -> Result<Outcome, NoMemory>
+/// What is found by groups, and where that is nothing, what the solver finds.
+fn grouped_or_searched(alloc: Global, cnf: &Cnf, budget: u32) -> Result<Outcome, NoMemory>
     requires range { IsInRange cnf.now }
     requires once { IsOnce cnf.now }
     ensures { IfOk result (λ outcome. OutcomeIs cnf.now budget outcome) }
 {
-    match guessed(alloc, cnf, budget)? {
+    match by_groups(alloc, cnf, budget)? {
         Some(outcome) => Ok(outcome),
         None => searched(alloc, cnf, budget),
     }
@@ -91,7 +87,7 @@ fn outcome_of(alloc: Global, cnf: &Cnf, budget: u32) -> Result<Outcome, NoMemory
     if cnf.clauses.len() < MERGED_FROM || budget == 0 {
         searched(alloc, cnf, budget)
     } else {
-        guessed_or_searched(alloc, cnf, budget)
+        grouped_or_searched(alloc, cnf, budget)
     }
 }
 

@@ -1,0 +1,4 @@
+pub mod Consecutive
+pub mod Outcomes
+pub mod Rising
+pub mod Walks

@@ -1,0 +1,12 @@
+-- Which outcomes of a search are answers.
+use Rattle.std.specs.Prelude.{ℕ}
+use Rattle.cnf_form.specs.declared.formula.Cnf.{Cnf}
+use Rattle.cdcl.specs.declared.outcome.Outcome.{Outcome}
+use Rattle.cdcl.specs.declared.outcome.Outcome.TheVariants.{Sat, Unsat, Spent}
+use Rattle.cdcl.specs.Outcomes.{OutcomeIs}
+
+-- a model of the formula, or a refutation of it within the budget; a spent log is no answer
+abbrev pub IsAnswer : Cnf → ℕ → Outcome → Type 0
+IsAnswer cnf budget (Sat values) = OutcomeIs cnf budget (Sat values)
+IsAnswer cnf budget (Unsat log) = OutcomeIs cnf budget (Unsat log)
+IsAnswer cnf budget (Spent log) = ⊥

@@ -1,2 +1,0 @@
--- What a formula must be before it is handed to the solver.
-pub mod Fit
