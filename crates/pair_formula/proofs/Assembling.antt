@@ -3,12 +3,12 @@ use Rattle.std.proofs.Common.{◌≡◌, ℕ, zero, suc, ◌+◌, ◌<◌, ◌�
 use native.Mathlib.Decide.{ℕ_discrete}
 use Rattle.std.proofs.lemmas.List.{get_or_default}
 use Rattle.std.proofs.lemmas.List.Elements.{Contains-get_or, Contains-append_left, Contains-append_right, Contains-append_cases}
+use Rattle.std.proofs.lemmas.Bool.{cases_Bool}
+use Rattle.cqa_value.proofs.Words.{Contains-map, Contains-from_map, yes_of, of_yes, is_yes, dec_one_below}
 use Rattle.cnf_form.specs.declared.formula.Lit.{Lit}
 use Rattle.cnf_form.specs.declared.formula.Cnf.{Cnf}
 use Rattle.cnf_form.specs.Literals.{literals, Satisfies, SatisfiesAll}
 use Rattle.cqa_model.proofs.Classic.{mem-head, mem-nil, mem-cases}
-use Rattle.repair_clauses.proofs.Truths.{bool_cases, is_yes, yes_of, from_yes, some_below}
-use Rattle.repair_clauses.proofs.Numbers.{in_map, from_map}
 use Rattle.weak_pairs.specs.Peeling.{IsBlock, In, AreChosen, AreBlocked, IsForced, row_of}
 use Rattle.weak_pairs.specs.Layout.{AreRows}
 use Rattle.pair_answers.specs.Starts.{starts_from}
@@ -90,19 +90,19 @@ module _ (cnf : Cnf) (g : Graph) (r : IsReadTo cnf g) where
 
     true-row : (v : ℕ) → IsBlock start v → (i : ℕ) × In start v i × (t (slice_index var i) ≡ true)
     true-row v b = of (here (map positive (block_at r.blocks v)) (Contains-append_left (map (map positive) r.blocks) (map not_both pairs) (map positive (block_at r.blocks v))
-        (in_map (map positive) r.blocks (block_at r.blocks v) (Contains-get_or r.blocks v [] l))))
+        (Contains-map (map positive) r.blocks (block_at r.blocks v) (Contains-get_or r.blocks v [] l))))
       where
         l : v < length r.blocks
         l = block-count cnf.vars r.blocks pairs r.graph v (to-first v b)
 
         of : ((m : Lit) × Contains (map positive (block_at r.blocks v)) m × (t m.var ≡ m.positive)) → (i : ℕ) × In start v i × (t (slice_index var i) ≡ true)
         of (m, k, e) =
-            let p = from_map positive (block_at r.blocks v) m k in
+            let p = Contains-from_map positive (block_at r.blocks v) m k in
             let i = row-of v p.0 l p.1 in
             (i.0, i.2, ap t i.3 ∙ subst (λ (z : Lit). t z.var ≡ z.positive) (sym p.2) e)
 
     one-false : (x y : ℕ) → Meet pairs x y → t x ≡ true → t y ≡ true → ⊥
-    one-false x y m tx ty = of (here (not_both (record { left = x; right = y })) (Contains-append_right (map (map positive) r.blocks) (map not_both pairs) (not_both (record { left = x; right = y })) (in_map not_both pairs (record { left = x; right = y }) m)))
+    one-false x y m tx ty = of (here (not_both (record { left = x; right = y })) (Contains-append_right (map (map positive) r.blocks) (map not_both pairs) (not_both (record { left = x; right = y })) (Contains-map not_both pairs (record { left = x; right = y }) m)))
       where
         of : ((l : Lit) × Contains (negative x ∷ negative y ∷ []) l × (t l.var ≡ l.positive)) → ⊥
         of (l, k, e) = elim (mem-cases l (negative x) (negative y ∷ []) k) [
@@ -155,7 +155,7 @@ module _ (cnf : Cnf) (g : Graph) (r : IsReadTo cnf g) where
           let b : IsBlock start v = subst (λ z. IsBlock z v) (sym r.start) (block-is cnf.vars r.blocks pairs r.graph v l) in
           let i = ch.each v b in
           let m = (var-in v i.0 b i.2).1 in
-          (positive (slice_index var i.0), in_map positive (block_at r.blocks v) (slice_index var i.0) m, set v i.0 i.1)
+          (positive (slice_index var i.0), Contains-map positive (block_at r.blocks v) (slice_index var i.0) m, set v i.0 i.1)
 
       from-one : (x y : ℕ) → AreAdjacent pairs x y → 1 ≤ x
       from-one x y a = let l = r.graph.listed x y a in (r.graph.small l.0 x l.1 l.2).0
@@ -170,7 +170,7 @@ module _ (cnf : Cnf) (g : Graph) (r : IsReadTo cnf g) where
           apart u i j hi.0 hi.1 (subst (λ z. In start z j) (sym same) hj.1) a
 
       of-pair : (p : Pair) → Contains pairs p → Satisfies value (not_both p)
-      of-pair p m = go (bool_cases (value p.left)) (bool_cases (value p.right))
+      of-pair p m = go (cases_Bool (value p.left)) (cases_Bool (value p.right))
         where
           go : (value p.left ≡ true) ⊎ (value p.left ≡ false) → (value p.right ≡ true) ⊎ (value p.right ≡ false) → Satisfies value (not_both p)
           go (inr e) b = (negative p.left, mem-head (negative p.left) (negative p.right ∷ []), e)
@@ -182,8 +182,8 @@ module _ (cnf : Cnf) (g : Graph) (r : IsReadTo cnf g) where
 
       pub chosen-satisfies : SatisfiesAll value (literals cnf.clauses)
       chosen-satisfies = subst (λ z. SatisfiesAll value z) (sym r.are) (λ c m. elim (Contains-append_cases (map (map positive) r.blocks) (map not_both pairs) c m) [
-        | inl b ↦ of-list c (from_map (map positive) r.blocks c b)
-        | inr b ↦ (let p = from_map not_both pairs c b in subst (λ z. Satisfies value z) p.2 (of-pair p.0 p.1))
+        | inl b ↦ of-list c (Contains-from_map (map positive) r.blocks c b)
+        | inr b ↦ (let p = Contains-from_map not_both pairs c b in subst (λ z. Satisfies value z) p.2 (of-pair p.0 p.1))
       ])
 
     abbrev IsMine : ℕ → Option ℕ → Type 0
@@ -195,7 +195,7 @@ module _ (cnf : Cnf) (g : Graph) (r : IsReadTo cnf g) where
     dec-mine x (Some i) = ℕ_discrete (slice_index var i) x
 
     dec-true : (x : ℕ) → Dec ((u : ℕ) × (u < length own) × IsMine x (row_of own u))
-    dec-true x = some_below (λ u. IsMine x (row_of own u)) (λ u. dec-mine x (row_of own u)) (length own)
+    dec-true x = dec_one_below (λ u. IsMine x (row_of own u)) (λ u. dec-mine x (row_of own u)) (length own)
 
     mine-of : (x : ℕ) (o : Option ℕ) → IsMine x o → (i : ℕ) × (o ≡ Some i) × (slice_index var i ≡ x)
     mine-of x None m = absurd m
@@ -204,4 +204,4 @@ module _ (cnf : Cnf) (g : Graph) (r : IsReadTo cnf g) where
     pub chosen-not : IsUnsatisfiable cnf → ⊥
     chosen-not un = un (λ x. is_yes (dec-true x)) (chosen-satisfies (λ x. is_yes (dec-true x))
         (λ u i e. yes_of (dec-true (slice_index var i)) (u, (let b = (ch.own_in u i e).0 in let s = ch.size in omega (arith, b, s)), subst (λ z. IsMine (slice_index var i) z) (sym e) refl))
-        (λ x l e. let h = from_yes (dec-true x) e in let i = mine-of x (row_of own h.0) h.2 in (h.0, i.0, i.1, i.2)))
+        (λ x l e. let h = of_yes (dec-true x) e in let i = mine-of x (row_of own h.0) h.2 in (h.0, i.0, i.1, i.2)))

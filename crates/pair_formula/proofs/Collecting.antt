@@ -5,7 +5,7 @@ use Rattle.cnf_form.specs.declared.formula.Lit.{Lit}
 use Rattle.cnf_form.specs.declared.formula.Clause.{Clause}
 use Rattle.cnf_form.specs.Literals.{literals}
 use Rattle.std.proofs.lemmas.List.Elements.{Contains-append_cases}
-use Rattle.repair_clauses.proofs.Numbers.{from_map}
+use Rattle.cqa_value.proofs.Words.{Contains-from_map}
 use Rattle.pair_answers.specs.Starts.{ends_from, starts_from}
 use Rattle.pair_answers.proofs.Begins.{ends-append, flat-append}
 use Rattle.pair_formula.specs.declared.graph.Pair.{Pair}
@@ -112,17 +112,17 @@ module _ (bs : List (List ℕ)) (ps : List Pair) (some : (v : ℕ) → v < lengt
 
   pub graph-some : (c : List Lit) → Contains (graph_clauses bs ps) c → 0 < length c
   graph-some c m = elim (Contains-append_cases (map (map positive) bs) (map not_both ps) c m) [
-    | inl b ↦ let p = from_map (map positive) bs c b in let v = p.1 in
+    | inl b ↦ let p = Contains-from_map (map positive) bs c b in let v = p.1 in
         let l = some v.0 v.1 in
         let e : block_at bs v.0 ≡ p.0 = get_or_default bs v.0 [] p.0 v.1 ∙ v.2 in
         subst (λ z. 0 < length z) p.2 (let k = length-map (p.0) positive in let n = ap (λ (z : List ℕ). length z) e in omega (arith, l, k, n))
-    | inr b ↦ let p = from_map not_both ps c b in subst (λ z. 0 < length z) p.2 (omega arith)
+    | inr b ↦ let p = Contains-from_map not_both ps c b in subst (λ z. 0 < length z) p.2 (omega arith)
   ]
 
   pub graph-two : (c : List Lit) → Contains (graph_clauses bs ps) c → is_positive c ≡ false → length c ≡ 2
   graph-two c m n = elim (Contains-append_cases (map (map positive) bs) (map not_both ps) c m) [
-    | inl b ↦ let p = from_map (map positive) bs c b in absurd (never p.0 (subst (λ z. 0 < length z) (sym p.2) (graph-some c m)) (ap is_positive p.2 ∙ n))
-    | inr b ↦ let p = from_map not_both ps c b in sym (ap (λ (z : List Lit). length z) p.2)
+    | inl b ↦ let p = Contains-from_map (map positive) bs c b in absurd (never p.0 (subst (λ z. 0 < length z) (sym p.2) (graph-some c m)) (ap is_positive p.2 ∙ n))
+    | inr b ↦ let p = Contains-from_map not_both ps c b in sym (ap (λ (z : List Lit). length z) p.2)
   ]
     where
       never : (xs : List ℕ) → 0 < length (map positive xs) → is_positive (map positive xs) ≡ false → ⊥

@@ -2,20 +2,20 @@
 use Rattle.std.proofs.Common.{◌≡◌, ◌≢◌, ℕ, ◌+◌, ◌<◌, ◌≤◌, ◌⊎◌, inl, inr, List, length, set, ap, sym, ◌∙◌, subst, arith, Some, None, slice_index, length-set}
 use native.Mathlib.Decide.{ℕ_discrete}
 use Rattle.std.proofs.lemmas.List.{get_or-set_same, get_or-set_other}
+use Rattle.std.proofs.lemmas.Option.{same_Some, none-some}
 use Rattle.weak_pairs.specs.declared.peel.Ends.{Ends}
 use Rattle.weak_pairs.specs.Peeling.{IsBlock, In, ends_of, AreLaidOut}
 use Rattle.weak_pairs.specs.Layout.{AreRows}
-use Rattle.weak_pairs.proofs.Peeling.{some_is, none_some}
 use Rattle.pair_formula.specs.Edges.{AreNone, AddsEnd, AreEndsSoFar, IsTwoEnded}
 
 pub ends-none : (start edge : List ℕ) (ends : List Ends) (count : ℕ) → AreNone count ends → AreEndsSoFar start edge ends count 0 0
 ends-none start edge ends count n = record {
   size = n.0;
   occurs = λ u j bu hj w. elim w [ inl l ↦ absurd (omega (arith, l)) | inr h ↦ (let l = h.1 in absurd (omega (arith, l))) ];
-  left = λ e u h. absurd (none_some u (sym (ap (λ (z : Ends). z.left) (n.1 e)) ∙ h));
-  right = λ e u h. absurd (none_some u (sym (ap (λ (z : Ends). z.right) (n.1 e)) ∙ h));
-  full = λ e u h k. none_some u (sym (ap (λ (z : Ends). z.right) (n.1 e)) ∙ h);
-  apart = λ e u h k. none_some u (sym (ap (λ (z : Ends). z.left) (n.1 e)) ∙ h);
+  left = λ e u h. absurd (none-some u (sym (ap (λ (z : Ends). z.left) (n.1 e)) ∙ h));
+  right = λ e u h. absurd (none-some u (sym (ap (λ (z : Ends). z.right) (n.1 e)) ∙ h));
+  full = λ e u h k. none-some u (sym (ap (λ (z : Ends). z.right) (n.1 e)) ∙ h);
+  apart = λ e u h k. none-some u (sym (ap (λ (z : Ends). z.left) (n.1 e)) ∙ h);
 }
 
 module _ (start edge : List ℕ) (count : ℕ) (rows : AreRows start edge count) (two : IsTwoEnded start edge) where
@@ -45,7 +45,7 @@ module _ (start edge : List ℕ) (count : ℕ) (rows : AreRows start edge count)
     -- and the ends that there were stay, since no edge has three
     keeps : (u : ℕ) → ((ends_of ends ei).left ≡ Some u) ⊎ ((ends_of ends ei).right ≡ Some u) → (added.left ≡ Some u) ⊎ (added.right ≡ Some u)
     keeps u (inl h) = elim adds [
-      | inl a ↦ absurd (none_some u (sym a.0 ∙ h))
+      | inl a ↦ absurd (none-some u (sym a.0 ∙ h))
       | inr b ↦ elim b [ inl s ↦ inl (ap (λ (z : Ends). z.left) s.1 ∙ h) | inr o ↦ inl (o.3 ∙ (sym o.1 ∙ h)) ]
     ]
     keeps u (inr h) = elim adds [
@@ -102,7 +102,7 @@ module _ (start edge : List ℕ) (count : ℕ) (rows : AreRows start edge count)
 
     left : (e u : ℕ) → Dec (e ≡ ei) → (ends_of next e).left ≡ Some u → IsBlock start u × ((j : ℕ) × In start u j × (slice_index edge j ≡ e))
     left e u (yes d) h = elim adds [
-      | inl a ↦ mine e d u (some_is v u (sym a.1 ∙ k))
+      | inl a ↦ mine e d u (same_Some v u (sym a.1 ∙ k))
       | inr b ↦ elim b [ inl s ↦ old-left e u d (sym (ap (λ (z : Ends). z.left) s.1) ∙ k) | inr o ↦ old-left e u d (o.1 ∙ (sym o.3 ∙ k)) ]
     ]
       where
@@ -113,7 +113,7 @@ module _ (start edge : List ℕ) (count : ℕ) (rows : AreRows start edge count)
     right : (e u : ℕ) → Dec (e ≡ ei) → (ends_of next e).right ≡ Some u → IsBlock start u × ((j : ℕ) × In start u j × (slice_index edge j ≡ e))
     right e u (yes d) h = elim adds [
       | inl a ↦ old-right e u d (sym a.2 ∙ k)
-      | inr b ↦ elim b [ inl s ↦ old-right e u d (sym (ap (λ (z : Ends). z.right) s.1) ∙ k) | inr o ↦ mine e d u (some_is v u (sym o.4 ∙ k)) ]
+      | inr b ↦ elim b [ inl s ↦ old-right e u d (sym (ap (λ (z : Ends). z.right) s.1) ∙ k) | inr o ↦ mine e d u (same_Some v u (sym o.4 ∙ k)) ]
     ]
       where
         k : added.right ≡ Some u
@@ -125,7 +125,7 @@ module _ (start edge : List ℕ) (count : ℕ) (rows : AreRows start edge count)
       | inl a ↦ fresh u (sym a.1 ∙ k) (sym a.2 ∙ k2) a.0
       | inr b ↦ elim b [
         | inl s ↦ so.apart ei u (sym (ap (λ (z : Ends). z.left) s.1) ∙ k) (sym (ap (λ (z : Ends). z.right) s.1) ∙ k2)
-        | inr o ↦ o.2 (some_is o.0 u (sym o.3 ∙ k) ∙ sym (some_is v u (sym o.4 ∙ k2)))
+        | inr o ↦ o.2 (same_Some o.0 u (sym o.3 ∙ k) ∙ sym (same_Some v u (sym o.4 ∙ k2)))
       ]
     ]
       where
@@ -141,8 +141,8 @@ module _ (start edge : List ℕ) (count : ℕ) (rows : AreRows start edge count)
 
     full : (e u : ℕ) → Dec (e ≡ ei) → (ends_of next e).right ≡ Some u → (ends_of next e).left ≡ None → ⊥
     full e u (yes d) h none = elim adds [
-      | inl a ↦ none_some v (sym k ∙ a.1)
-      | inr b ↦ elim b [ inl s ↦ none_some v (sym k ∙ (ap (λ (z : Ends). z.left) s.1 ∙ s.0)) | inr o ↦ none_some o.0 (sym k ∙ o.3) ]
+      | inl a ↦ none-some v (sym k ∙ a.1)
+      | inr b ↦ elim b [ inl s ↦ none-some v (sym k ∙ (ap (λ (z : Ends). z.left) s.1 ∙ s.0)) | inr o ↦ none-some o.0 (sym k ∙ o.3) ]
     ]
       where
         k : added.left ≡ None

@@ -5,3 +5,6 @@ pub mod Collecting
 pub mod Assembling
 pub mod Linked
 pub mod Sieving
+pub mod FullRuns
+pub mod FullSpans
+pub mod Pairing

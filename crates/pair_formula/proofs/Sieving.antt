@@ -5,14 +5,14 @@ use Rattle.std.proofs.lemmas.List.{append-nil, nil_from_length}
 use Rattle.std.proofs.lemmas.List.Elements.{Contains-append_right}
 use Rattle.cqa_value.specs.declared.value.Value.{Value}
 use Rattle.cqa_value.specs.Values.{row_cmp}
+use Rattle.cqa_value.proofs.Words.{sorted_cons, member_by_recursion}
 use Rattle.cqa_model.specs.declared.query.Query.{Query}
 use Rattle.cqa_model.specs.Database.{Table}
 use Rattle.cqa_model.specs.Query.{FitsDatabase}
 use Rattle.cqa_model.specs.Certain.{IsCertain, IsCandidate, IsCertainAnswer}
 use Rattle.cqa_model.proofs.Databases.{possible_is_candidate}
 use Rattle.cqa_model.proofs.Classic.{mem-head, mem-tail, mem-nil, mem-cases}
-use Rattle.row_cursor.proofs.Extending.{sorted-cons, sorted-nil}
-use Rattle.join_witness.proofs.Sorted.{each-of}
+use Rattle.row_cursor.proofs.Extending.{sorted-nil}
 use Rattle.repair_clauses.specs.Candidates.{AreCandidates}
 use Rattle.repair_clauses.proofs.Candidates.{has_length}
 use Rattle.pair_formula.specs.Sifting.{Sifts, AreSifted}
@@ -48,7 +48,7 @@ module _ (db : List Table) (q : Query) where
   unfolding IsStrictlySortedBy
   sifted-sorted [] answers e k = subst (IsStrictlySortedBy row_cmp) (sym e) (sorted-nil row_cmp)
   sifted-sorted (r ∷ rows) answers (inl (c, (later, e, s))) k = subst (IsStrictlySortedBy row_cmp) (sym e)
-      (sorted-cons row_cmp r later (λ y m. each-of (λ z. row_cmp r z ≡ Less) rows y k.0 (sifted-in rows later s y m).0) (sifted-sorted rows later s k.1))
+      (sorted_cons row_cmp r later (λ y m. member_by_recursion (λ z. row_cmp r z ≡ Less) rows k.0 y (sifted-in rows later s y m).0) (sifted-sorted rows later s k.1))
   sifted-sorted (r ∷ rows) answers (inr (n, s)) k = sifted-sorted rows answers s k.1
 
   -- the rows so far are sifted, and these are left
@@ -82,7 +82,7 @@ module _ (db : List Table) (q : Query) (fits : FitsDatabase q db) (none : q.answ
 
   pub lone-certain : (answers : List (List Value)) → IsCertain db q [] → answers ≡ [] ∷ [] → IsCertainAnswer db q answers
   lone-certain answers k is = subst (IsCertainAnswer db q) (sym is) (record {
-    ascending = sorted-cons row_cmp [] [] (λ y m. absurd (mem-nil y m)) (sorted-nil row_cmp);
+    ascending = sorted_cons row_cmp [] [] (λ y m. absurd (mem-nil y m)) (sorted-nil row_cmp);
     exactly = λ row. (λ m. elim (mem-cases row [] [] m) [ inl e ↦ subst (IsCertain db q) e k | inr n ↦ absurd (mem-nil row n) ], λ c. subst (Contains ([] ∷ [])) (sym (only row c)) (mem-head [] []));
   })
 

@@ -1,5 +1,4 @@
-//! The certain rows of a pair, all of them in a time linear in their formulas, and in their witnesses where rows in no witness
-//! reject them, but for sorting them.
+//! The certain rows of a pair, all of them in a time linear in their witnesses, but for sorting these.
 //! A row with more witnesses than a formula takes is decided over the tables' rows, of which there are fewer; and so is the
 //! row of a query without answer columns, for which no candidate has to be looked for.
 
@@ -13,15 +12,16 @@ ghost use Rattle.weak_pairs.specs.Pairs.{IsPair};
 ghost use Rattle.pair_formula.specs.Sifting.{Sifts, AreSifted};
 
 use crate::decide::is_unsatisfiable;
+use crate::formula::full_formula;
 use cqa_model::Query;
 use cqa_value::{Fail, Items, NoMemory, Row};
 use join_witness::{Lookup, TooMany, Witness, candidates, lookup_of, witnesses_by};
 use pair_answers::is_certain;
-use repair_clauses::{are_avoidable, encode};
+use repair_clauses::are_avoidable;
 use std::alloc::Global;
 use table_blocks::Database;
 
-/// Whether a row is certain, by its formula where free rows alone don't tell.
+/// Whether a row is certain, by its formula over full blocks where free rows alone don't tell.
 fn by_formula(
     alloc: Global,
     db: &Database,
@@ -37,9 +37,9 @@ fn by_formula(
     if are_avoidable(alloc, db, query, witnesses)? {
         return Ok(false);
     }
-    let formula = encode(alloc, db, query, witnesses)?;
-    let certain = is_unsatisfiable(alloc, &formula.cnf);
-    drop(formula);
+    let cnf = full_formula(alloc, db, query, witnesses)?;
+    let certain = is_unsatisfiable(alloc, &cnf);
+    drop(cnf);
     Ok(certain?)
 }
 

@@ -4,6 +4,7 @@ use Rattle.std.proofs.lemmas.List.{append-nil, length-map}
 use Rattle.std.proofs.lemmas.List.Elements.{Contains-append_cases}
 use Rattle.std.proofs.lemmas.Map.{update_here, update_apart}
 use Rattle.std.proofs.lemmas.Option.{slice_get_within}
+use Rattle.cqa_value.proofs.Words.{Contains-slice_get, slice_get-append_left}
 use Rattle.cnf_form.specs.declared.formula.Lit.{Lit}
 use Rattle.cnf_form.specs.declared.formula.Clause.{Clause}
 use Rattle.cnf_form.specs.declared.formula.Cnf.{Cnf}
@@ -13,7 +14,6 @@ use Rattle.cnf_form.specs.Literals.{literals, opposite}
 use Rattle.cnf_form.specs.Logs.{Live, HintsPass, StepsPass, Refutes, added, numbered, with_clause}
 use Rattle.cdcl.specs.Outcomes.{AreConsecutive}
 use Rattle.cqa_model.proofs.Classic.{mem-nil}
-use Rattle.repair_clauses.proofs.Numbers.{at_place}
 use Rattle.pair_formula.specs.declared.graph.Pair.{Pair}
 use Rattle.pair_formula.specs.Graph.{positive, negative, not_both, graph_clauses, block_at}
 use Rattle.pair_formula.specs.Edges.{pair_at}
@@ -21,18 +21,13 @@ use Rattle.pair_refutation.specs.Refuting.{all_clauses, StepFollows, StepsFollow
 
 -- ---- clauses by their ids
 
-get-more : {A : Type 0} (xs ys : List A) (k : ℕ) (x : A) → slice_get xs k ≡ Some x → slice_get (xs ++ ys) k ≡ Some x
-get-more [] ys k x e = absurd (mem-nil x (at_place [] k x e))
-get-more (z ∷ xs) ys zero x e = e
-get-more (z ∷ xs) ys (suc k) x e = get-more xs ys k x e
-
 get-behind : {A : Type 0} (xs ys : List A) (k : ℕ) → slice_get (xs ++ ys) (length xs + k) ≡ slice_get ys k
 get-behind {A} [] ys k = let e : length {A = A} [] + k ≡ k = omega arith in ap (λ z. slice_get ys z) e
 get-behind (x ∷ xs) ys k = let e : length (x ∷ xs) + k ≡ suc (length xs + k) = omega arith in ap (λ z. slice_get (x ∷ (xs ++ ys)) z) e ∙ get-behind xs ys k
 
 pub id-more : (cs ds : List (List Lit)) (id : ℕ) (c : List Lit) → numbered cs id ≡ Some c → numbered (cs ++ ds) id ≡ Some c
 id-more cs ds zero c e = e
-id-more cs ds (suc k) c e = get-more cs ds k c e
+id-more cs ds (suc k) c e = slice_get-append_left cs ds k c e
 
 id-below : (cs : List (List Lit)) (id : ℕ) (c : List Lit) → numbered cs id ≡ Some c → id ≤ length cs
 id-below cs zero c e = omega arith
@@ -43,7 +38,7 @@ id-next cs c = let e : length cs + 1 ≡ suc (length cs + 0) = omega arith in ap
 
 pub id-clause : (cs : List (List Lit)) (id : ℕ) (c : List Lit) → numbered cs id ≡ Some c → Contains cs c
 id-clause cs zero c e = (cc)
-id-clause cs (suc k) c e = at_place cs k c e
+id-clause cs (suc k) c e = Contains-slice_get cs k c e
 
 -- a clause of one more is the new one, or one of those before
 id-cases : (cs : List (List Lit)) (d : List Lit) (id : ℕ) (c : List Lit) → numbered (cs ++ d ∷ []) id ≡ Some c → (numbered cs id ≡ Some c) ⊎ ((id ≡ length cs + 1) × (c ≡ d))
@@ -52,7 +47,7 @@ id-cases cs d (suc k) c e = go cs k e
   where
     go : (xs : List (List Lit)) (j : ℕ) → slice_get (xs ++ d ∷ []) j ≡ Some c → (slice_get xs j ≡ Some c) ⊎ ((suc j ≡ length xs + 1) × (c ≡ d))
     go [] zero h = inr (refl, (cc))
-    go [] (suc j) h = absurd (mem-nil c (at_place [] j c h))
+    go [] (suc j) h = absurd (mem-nil c (Contains-slice_get [] j c h))
     go (x ∷ xs) zero h = inl h
     go (x ∷ xs) (suc j) h = elim (go xs j h) [ inl p ↦ inl p | inr p ↦ inr ((let n = p.0 in omega (arith, n)), p.1) ]
 
@@ -60,7 +55,7 @@ id-cases cs d (suc k) c e = go cs k e
 pub block-id : (blocks : List (List ℕ)) (pairs : List Pair) (v : ℕ) → v < length blocks → numbered (graph_clauses blocks pairs) (v + 1) ≡ Some (map positive (block_at blocks v))
 block-id blocks pairs v l =
     let e : v + 1 ≡ suc v = omega arith in
-    ap (λ z. numbered (graph_clauses blocks pairs) z) e ∙ get-more (map (map positive) blocks) (map not_both pairs) v (map positive (block_at blocks v)) (at-map blocks v l)
+    ap (λ z. numbered (graph_clauses blocks pairs) z) e ∙ slice_get-append_left (map (map positive) blocks) (map not_both pairs) v (map positive (block_at blocks v)) (at-map blocks v l)
   where
     at-map : (bs : List (List ℕ)) (k : ℕ) → k < length bs → slice_get (map (map positive) bs) k ≡ Some (map positive (block_at bs k))
     at-map [] k h = absurd (omega (arith, h))

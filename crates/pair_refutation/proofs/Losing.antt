@@ -3,6 +3,7 @@ use Rattle.std.proofs.Common.{◌≡◌, ◌≢◌, ◌⊎◌, inl, inr, ℕ, �
 use native.Mathlib.Decide.{ℕ_discrete}
 use Rattle.std.proofs.lemmas.List.{get_or-set_same, get_or-set_other, get_or_default, get_or_append_left, get_or-append-add, length-set}
 use Rattle.std.proofs.lemmas.List.Elements.{Contains-get_or, Contains-append_cases, Contains-append_left, Contains-push}
+use Rattle.cqa_value.proofs.Words.{Contains-map, Contains-from_map}
 use Rattle.cnf_form.specs.declared.formula.Lit.{Lit}
 use Rattle.cnf_form.specs.declared.formula.Cnf.{Cnf}
 use Rattle.cnf_form.specs.declared.log.Step.{Step}
@@ -10,7 +11,6 @@ use Rattle.cnf_form.specs.declared.log.Step.TheVariants.{Add}
 use Rattle.cnf_form.specs.Literals.{literals, opposite}
 use Rattle.cnf_form.specs.Logs.{Live, HintsPass, Refutes, added, numbered}
 use Rattle.cqa_model.proofs.Classic.{mem-head, mem-tail, mem-nil, mem-cases}
-use Rattle.repair_clauses.proofs.Numbers.{in_map, from_map}
 use Rattle.weak_pairs.specs.Peeling.{IsBlock, In, IsForced, IsStuck}
 use Rattle.pair_formula.specs.declared.graph.Pair.{Pair}
 use Rattle.pair_formula.specs.declared.graph.Graph.{Graph}
@@ -168,7 +168,7 @@ module _ (cnf : Cnf) (g : Graph) (r : IsReadTo cnf g) where
 
       row : (m : Lit) → Contains (map positive (block_at r.blocks v)) m → (i : ℕ) × In start v i × (m ≡ positive (slice_index var i))
       row m k =
-          let p = from_map positive (block_at r.blocks v) m k in
+          let p = Contains-from_map positive (block_at r.blocks v) m k in
           let i = row-of cnf g r v p.0 here p.1 in
           (i.0, i.2, sym p.2 ∙ ap positive (sym i.3))
 
@@ -182,7 +182,7 @@ module _ (cnf : Cnf) (g : Graph) (r : IsReadTo cnf g) where
 
         only-negative : (y : ℕ) → Contains held (positive y) → ⊥
         only-negative y k =
-            let p = from_map opposite lits (positive y) k in
+            let p = Contains-from_map opposite lits (positive y) k in
             let i = left.each p.0 p.1 in
             signs (slice_index var i.0) y (ap opposite (sym i.4) ∙ p.2)
 
@@ -204,7 +204,7 @@ module _ (cnf : Cnf) (g : Graph) (r : IsReadTo cnf g) where
           where
             said : (m : Lit) → (i : ℕ) × In start v i × (m ≡ positive (slice_index var i)) → (y : ℕ) × (m ≡ positive y) × (Contains held (negative y) ⊎ ((h : ℤ) × Contains hs h × Says live held h y))
             said m (i, hi, e) = elim (option-cases (option_at lost (slice_index var i))) [
-              | inl n ↦ (slice_index var i, e, inl (in_map opposite lits (positive (slice_index var i)) (left.all i hi.0 hi.1 n)))
+              | inl n ↦ (slice_index var i, e, inl (Contains-map opposite lits (positive (slice_index var i)) (left.all i hi.0 hi.1 n)))
               | inr s ↦ (slice_index var i, e, inr (pos s.0, hints.all i s.0 hi.0 hi.1 s.1, lost-says (slice_index var i) s.0 s.1))
             ]
 

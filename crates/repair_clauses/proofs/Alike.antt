@@ -1,8 +1,10 @@
 -- The formula over classes of rows that are alike has a satisfying assignment exactly where the rows have one.
 use Rattle.std.proofs.Common.{◌≡◌, ℕ, ◌<◌, ◌⊎◌, inl, inr, List, [], ◌∷◌, length, map, refl, sym, ◌∙◌, ap, subst, Contains, Bool, true, false}
+use Rattle.std.proofs.Math.Bool.{Bool-discrete}
 use mathlib.Core.List.{List-discrete}
 use native.Mathlib.Decide.{ℕ_discrete}
 use Rattle.cqa_value.specs.declared.value.Value.{Value}
+use Rattle.cqa_value.proofs.Words.{map_alike, clash, yes_of, no_of, is_yes, dec_one_below}
 use Rattle.cqa_model.specs.declared.query.Cond.{Cond}
 use Rattle.cqa_model.specs.declared.query.Cond.TheVariants.{Join, Test}
 use Rattle.cqa_model.specs.declared.query.ColRef.{ColRef}
@@ -18,14 +20,6 @@ use Rattle.cqa_model.proofs.Repairs.{shares-self, shares-eq, dec_shares}
 use Rattle.cqa_model.proofs.Witnesses.{dec_lists, dec_cond}
 use Rattle.repair_clauses.specs.Alike.{IsSpokenOf, AreAlike, AreClasses, IsInWitness, IsCovered, SatisfiesClasses}
 use Rattle.repair_clauses.specs.Laws.{ClassesAreExact}
-use Rattle.repair_clauses.proofs.Truths.{bool_discrete, clash, is_yes, yes_of, no_of, some_below}
-
-map_same : {A B : Type 0} (f g : A → B) (xs : List A) → ((x : A) → Contains xs x → f x ≡ g x) → map f xs ≡ map g xs
-map_same f g [] h = refl
-map_same f g (x ∷ xs) h =
-    let e = h x (mem-head x xs) in
-    let es : map f xs ≡ map g xs = map_same f g xs (λ y m. h y (mem-tail y x xs m)) in
-    cc
 
 -- whether a row is in a witness
 pub dec_in_witness : (q : Query) (tables : List (List (List Value))) (row : List Value) (F : ℕ) (x : List Value) → Dec (IsInWitness q tables row F x)
@@ -44,7 +38,7 @@ module _ (q : Query) (tables : List (List (List Value))) (row : List Value) wher
     size = size;
     kept = kept;
     holds = λ k m. cond k m (h.holds k m);
-    answers = sym (map_same (value w) (value u) q.answer (λ c m. same c (inr m) (q.kept.answer_in_range c m).0)) ∙ h.answers;
+    answers = sym (map_alike (value w) (value u) q.answer (λ c m. same c (inr m) (q.kept.answer_in_range c m).0)) ∙ h.answers;
   }
     where
       same : (c : ColRef) → IsSpokenOf q c → c.atom < length q.atoms → value w c ≡ value u c
@@ -106,8 +100,8 @@ module _ (q : Query) (tables : List (List (List Value))) (row : List Value) wher
     IsTrueClass a n = (F : ℕ) × (F < length q.atoms) × ((x : List Value) × Contains (rows_of q tables F) x × ((class F x ≡ n) × (IsInWitness q tables row F x × (a F x ≡ true))))
 
     dec_class : (a : ℕ → List Value → Bool) (n : ℕ) → Dec (IsTrueClass a n)
-    dec_class a n = some_below (λ F. (x : List Value) × Contains (rows_of q tables F) x × ((class F x ≡ n) × (IsInWitness q tables row F x × (a F x ≡ true))))
-        (λ F. dec_some (λ x. (class F x ≡ n) × (IsInWitness q tables row F x × (a F x ≡ true))) (λ x. dec_both (ℕ_discrete (class F x) n) (dec_both (dec_in_witness q tables row F x) (bool_discrete (a F x) true))) (rows_of q tables F)) (length q.atoms)
+    dec_class a n = dec_one_below (λ F. (x : List Value) × Contains (rows_of q tables F) x × ((class F x ≡ n) × (IsInWitness q tables row F x × (a F x ≡ true))))
+        (λ F. dec_some (λ x. (class F x ≡ n) × (IsInWitness q tables row F x × (a F x ≡ true))) (λ x. dec_both (ℕ_discrete (class F x) n) (dec_both (dec_in_witness q tables row F x) (Bool-discrete (a F x) true))) (rows_of q tables F)) (length q.atoms)
 
     to_classes : ((a : ℕ → List Value → Bool) × Satisfies q tables row a) → (t : ℕ → Bool) × SatisfiesClasses q tables row class t
     to_classes (a, s) = (

@@ -1,10 +1,11 @@
 -- The spans of one atom after the other.
-use Rattle.std.proofs.Common.{◌≡◌, ℕ, ◌<◌, ◌≤◌, ◌+◌, ◌↔◌, ◌⊎◌, inl, inr, List, [], ◌∷◌, ◌++◌, length, get_or, refl, sym, ◌∙◌, ap, subst, arith, Contains, Less, slice_get, Some}
+use Rattle.std.proofs.Common.{◌≡◌, ℕ, ◌<◌, ◌≤◌, ◌+◌, ◌↔◌, ◌⊎◌, inl, inr, List, [], ◌∷◌, ◌++◌, length, get_or, refl, sym, ◌∙◌, ap, subst, arith, Contains, slice_get, Some}
 use Rattle.std.specs.Ordering.{nat_cmp}
 use Rattle.std.specs.List.Sorted.{IsStrictlySortedBy}
 use Rattle.std.proofs.lemmas.List.Elements.{Contains-append_left, Contains-append_right, Contains-append_cases, Contains-get_or}
 use Rattle.std.proofs.lemmas.Option.{get_or_from_slice_get}
 use Rattle.cqa_value.specs.declared.value.Value.{Value}
+use Rattle.cqa_value.proofs.Words.{nat_cmp_less, cases_next, sorted_join}
 use Rattle.cqa_model.specs.declared.query.Query.{Query}
 use Rattle.cqa_model.specs.Database.{Table, stored}
 use Rattle.cqa_model.specs.Repairs.{SharesKey}
@@ -17,13 +18,9 @@ use Rattle.repair_clauses.specs.Clauses.{Variable, AreAll, row_of, IsStored}
 use Rattle.repair_clauses.specs.Spans.{at, IsIn, IsSpan, span_cmp, AreBased, AreBasedTo, AreSpans, AreSpansTo, IsPlaced}
 use Rattle.repair_clauses.specs.Runs.{Covers, IsRun, AreRuns}
 use Rattle.repair_clauses.proofs.Numbers.{place_of}
-use Rattle.join_witness.proofs.Sorted.{sorted-joined}
 use Rattle.repair_clauses.proofs.Order.{less_then}
 
-less_cmp : (x y : ℕ) → x < y → nat_cmp x y ≡ Less
-less_cmp x y l = grind (arith, l)
-
-based-joined : (n m k : ℕ) (ss ts : List Span) → AreBasedTo n ss m → AreBasedTo m ts k → AreBasedTo n (ss ++ ts) k
+pub based-joined : (n m k : ℕ) (ss ts : List Span) → AreBasedTo n ss m → AreBasedTo m ts k → AreBasedTo n (ss ++ ts) k
 based-joined n m k [] ts h g = subst (λ z. AreBasedTo z ts k) (sym h) g
 based-joined n m k (s ∷ ss) ts h g = (h.0, based-joined (n + s.count) m k ss ts h.1 g)
 
@@ -31,12 +28,9 @@ pub based-whole : (n m : ℕ) (ss : List Span) → AreBasedTo n ss m → AreBase
 based-whole n m [] h = tt
 based-whole n m (s ∷ ss) h = (h.0, based-whole (n + s.count) m ss h.1)
 
-none_sorted : IsStrictlySortedBy span_cmp []
+pub none_sorted : IsStrictlySortedBy span_cmp []
 unfolding IsStrictlySortedBy
 none_sorted = tt
-
-cases_eq : (j i : ℕ) → j < i + 1 → (j < i) ⊎ (j ≡ i)
-cases_eq j i l = grind (arith, l)
 
 module _ (q : Query) (db : List Table) (row : List Value) where
   pub spans-none : AreSpansTo q db row 0 0 []
@@ -101,16 +95,16 @@ module _ (q : Query) (db : List Table) (row : List Value) where
 
     pub spans-more : AreSpansTo q db row (n + 1) k (spans ++ runs)
     spans-more = record {
-      in_order = sorted-joined span_cmp spans runs h.in_order r.in_order (λ s t ms mt.
+      in_order = sorted_join span_cmp spans runs h.in_order r.in_order (λ s t ms mt.
           let l = (h.each s ms).0 in
           let e : t.atom ≡ n = (r.each t mt).of_atom in
-          less_then (nat_cmp s.atom t.atom) (nat_cmp s.start t.start) (less_cmp s.atom t.atom (omega (arith, l, e))));
+          less_then (nat_cmp s.atom t.atom) (nat_cmp s.start t.start) (nat_cmp_less s.atom t.atom (omega (arith, l, e))));
       based = based-joined 0 m k spans runs h.based count;
       each = λ s ms. elim (Contains-append_cases spans runs s ms) [
         | inl a ↦ let b = h.each s a in let b0 = b.0 in (omega (arith, b0), b.1)
         | inr a ↦ let g = r.each s a in let e : s.atom ≡ n = g.of_atom in (omega (arith, e), of_run s g)
       ];
-      every = λ x l st rel. every x (cases_eq x.atom n l) st rel;
+      every = λ x l st rel. every x (cases_next x.atom n l) st rel;
     }
       where
         every : (x : Variable) → (x.atom < n) ⊎ (x.atom ≡ n) → IsStored q db x → IsRelevant q (stored db) row x.atom (row_of q db x) → (s : Span) × Contains (spans ++ runs) s × IsIn s x

@@ -4,12 +4,12 @@ use Rattle.std.specs.List.Sorted.{IsPermutation, IsSorted}
 use Rattle.std.specs.Ordering.{nat_cmp}
 use Rattle.std.proofs.lemmas.List.{get_or-map}
 use Rattle.std.proofs.lemmas.List.Sorted.{IsNonDecreasingBy-from_sort, Contains-permutation, IsPermutation-sym}
+use Rattle.cqa_value.proofs.Words.{Contains-map, Contains-from_map}
 use Rattle.cqa_model.specs.declared.query.RowId.{RowId}
 use Rattle.join_witness.specs.declared.all_witnesses.Witness.{Witness}
 use Rattle.join_witness.specs.Listing.{names_of}
 use Rattle.repair_clauses.specs.Spans.{place_at}
 use Rattle.repair_clauses.specs.Runs.{AreColumn}
-use Rattle.repair_clauses.proofs.Numbers.{in_map, from_map}
 
 abbrev pub place_in : ℕ → Witness → ℕ
 place_in F w = place_at w.rows F
@@ -25,10 +25,10 @@ pub column_is : (ws : List Witness) (F : ℕ) (raw sorted : List ℕ) → raw �
 column_is ws F raw sorted is p up = record {
   in_order = λ i j le l. IsNonDecreasingBy-from_sort (λ n. n) sorted up i j 0 le l;
   from = λ n m.
-      let k = from_map (place_in F) ws n (subst (λ ns. Contains ns n) is (Contains-permutation sorted raw n (IsPermutation-sym raw sorted p) m)) in
-      (k.0.rows, in_map (λ (w : Witness). w.rows) ws k.0 k.1, k.2);
+      let k = Contains-from_map (place_in F) ws n (subst (λ ns. Contains ns n) is (Contains-permutation sorted raw n (IsPermutation-sym raw sorted p) m)) in
+      (k.0.rows, Contains-map (λ (w : Witness). w.rows) ws k.0 k.1, k.2);
   to = λ names m.
-      let k = from_map (λ (w : Witness). w.rows) ws names m in
+      let k = Contains-from_map (λ (w : Witness). w.rows) ws names m in
       subst (λ ns. Contains sorted (place_at ns F)) k.2
-      (Contains-permutation raw sorted (place_in F k.0) p (subst (λ ns. Contains ns (place_in F k.0)) (sym is) (in_map (place_in F) ws k.0 k.1)));
+      (Contains-permutation raw sorted (place_in F k.0) p (subst (λ ns. Contains ns (place_in F k.0)) (sym is) (Contains-map (place_in F) ws k.0 k.1)));
 }

@@ -4,6 +4,7 @@ use Rattle.std.specs.List.Sorted.{IsStrictlySortedBy}
 use Rattle.std.specs.Ordering.{nat_cmp}
 use Rattle.cqa_value.specs.declared.value.Value.{Value}
 use Rattle.cqa_value.specs.declared.memory.NoMemory.{NoMemory}
+use Rattle.cqa_value.proofs.Words.{Contains-map, member_by_recursion}
 use Rattle.cqa_model.specs.declared.query.Query.{Query}
 use Rattle.cqa_model.specs.Database.{Table}
 use Rattle.cqa_model.specs.Query.{FitsDatabase}
@@ -17,13 +18,11 @@ use Rattle.cnf_form.proofs.Sound.{refutation_sound}
 use Rattle.cdcl.specs.declared.outcome.Outcome.{Outcome}
 use Rattle.cdcl.specs.declared.outcome.Outcome.TheVariants.{Sat, Unsat, Spent}
 use Rattle.cdcl.specs.Outcomes.{AreConsecutive, IsModel, IsOnce, OutcomeIs, assignment}
-use Rattle.join_witness.proofs.Sorted.{each-of}
 use Rattle.repair_clauses.specs.declared.decision.Decided.{Decided}
 use Rattle.repair_clauses.specs.declared.formula.Encoded.{Encoded}
 use Rattle.repair_clauses.specs.Encodings.{IsEncoded}
 use Rattle.repair_clauses.specs.Deciding.{SaysOf}
 use Rattle.repair_clauses.specs.Spans.{at}
-use Rattle.repair_clauses.proofs.Numbers.{in_map}
 use Rattle.repair_clauses.proofs.Spans.{from_less}
 use Rattle.repair_clauses.proofs.Order.{clauses_rise}
 use Rattle.repair_clauses.proofs.Exact.{clauses_decide}
@@ -33,7 +32,7 @@ unfolding IsStrictlySortedBy
 no-var-twice [] s = tt
 no-var-twice (l ∷ c) s = (
   λ h.
-      let less = each-of (λ y. nat_cmp l.var y ≡ Less) (map (λ (m : Lit). m.var) c) h.0.var s.0 (in_map (λ (m : Lit). m.var) c h.0 h.1) in
+      let less = member_by_recursion (λ y. nat_cmp l.var y ≡ Less) (map (λ (m : Lit). m.var) c) s.0 h.0.var (Contains-map (λ (m : Lit). m.var) c h.0 h.1) in
       let below = from_less l.var h.0.var less in
       let same = h.2 in
       absurd (omega (arith, below, same)),

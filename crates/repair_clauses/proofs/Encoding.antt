@@ -2,8 +2,11 @@
 use Rattle.cqa_model.specs.declared.limits.TheConstants.{MOST_ATOMS, MOST_ROWS}
 use Rattle.std.proofs.Common.{◌*◌, ◌≡◌, ℕ, zero, suc, ◌<◌, ◌≤◌, ◌+◌, ◌-◌, ◌^◌, inl, inr, List, [], ◌∷◌, ◌++◌, length, get_or, map, take, sym, ◌∙◌, ap, subst, arith, Contains, slice_index_or, length-append}
 use Rattle.std.proofs.lemmas.List.{length-map, get_or-map, map_push, take_more, append_assoc, append-nil}
+use Rattle.std.proofs.lemmas.List.Elements.{Contains-get_or}
 use Rattle.std.proofs.lemmas.List.FromFn.{length-map-range_with_len}
+use Rattle.std.proofs.lemmas.Option.{get_or_from_slice_get, slice_get_within}
 use Rattle.cqa_value.specs.declared.value.Value.{Value}
+use Rattle.cqa_value.proofs.Words.{Contains-map, Contains-from_map}
 use Rattle.cqa_model.specs.declared.query.Atom.{Atom}
 use Rattle.cqa_model.specs.declared.query.Query.{Query}
 use Rattle.cqa_model.specs.declared.query.RowId.{RowId}
@@ -21,10 +24,9 @@ use Rattle.join_witness.proofs.Naming.{name, zip-push}
 use Rattle.repair_clauses.specs.declared.span.Span.{Span}
 use Rattle.repair_clauses.specs.declared.formula.Encoded.{Encoded}
 use Rattle.repair_clauses.specs.Clauses.{positive, negative, name_of, row_of}
-use Rattle.repair_clauses.specs.Spans.{at, place_at, AreBased, AreBasedTo, AreSpansTo, AreCovered, AreNumbers, IsIn, IsWitnessClause, variables_in, variables_of, numbers_in, formula_of, IsPlaced}
+use Rattle.repair_clauses.specs.Spans.{at, place_at, AreBased, AreBasedTo, AreSpansTo, AreCovered, AreNumbers, IsAt, IsIn, IsNamed, IsWitnessClause, variables_in, variables_of, numbers_in, formula_of, IsPlaced}
 use Rattle.repair_clauses.specs.Runs.{AreColumn, AreRuns}
 use Rattle.repair_clauses.specs.Encodings.{AddsWitnesses, AreReady, AreTold, IsEncoded}
-use Rattle.repair_clauses.proofs.Numbers.{in_map, from_map}
 use Rattle.repair_clauses.proofs.Spans.{spans_give_formula}
 use Rattle.repair_clauses.proofs.Atoms.{spans-more, spans-all}
 use Rattle.repair_clauses.proofs.Placing.{AreNumbersTo, are_apart, numbers-none, numbers-more, numbers-all}
@@ -32,7 +34,7 @@ use Rattle.repair_clauses.proofs.Naming.{named-size, of_names, placed}
 
 -- ---- bounds
 
-rows-few : (db : List Table) (t : ℕ) → length (slice_index_or (stored db) t []) ≤ row_total db
+pub rows-few : (db : List Table) (t : ℕ) → length (slice_index_or (stored db) t []) ≤ row_total db
 rows-few [] t = omega arith
 rows-few (table ∷ db) zero = omega arith
 rows-few (table ∷ db) (suc t) = let ih = rows-few db t in omega (arith, ih)
@@ -64,12 +66,17 @@ no_span = record { atom = 0; start = 0; count = 0; base = 0 }
 pub place_read : (names : List RowId) (F : ℕ) → F < length names → (get_or names F (name 0 0)).place ≡ place_at names F
 place_read names F l = sym (get_or-map (λ (y : RowId). y.place) names F (name 0 0) 0 l)
 
+pub span_read : (spans : List Span) (F p k : ℕ) → IsAt spans F p k → (k < length spans) × Contains spans (get_or spans k no_span) × IsIn (get_or spans k no_span) (at F p)
+span_read spans F p k (s, e, i) =
+    let l = slice_get_within spans k s e in
+    (l, Contains-get_or spans k no_span l, subst (λ (u : Span). IsIn u (at F p)) (sym (get_or_from_slice_get spans k s no_span e)) i)
+
 -- ---- the formula
 
 module _ (q : Query) (db : List Table) (row : List Value) where
   pub rows_long : (ws : List Witness) → AreAllNames q db row (names_of ws) → (F : ℕ) → F < length q.atoms → (w : Witness) → Contains ws w → F < length w.rows
   rows_long ws all F l w k =
-      let n = (all.exactly w.rows).0 (in_map (λ (x : Witness). x.rows) ws w k) in
+      let n = (all.exactly w.rows).0 (Contains-map (λ (x : Witness). x.rows) ws w k) in
       let size = named-size db q.atoms w.rows n.0 n.2 in
       omega (arith, size, l)
 
@@ -82,8 +89,8 @@ module _ (q : Query) (db : List Table) (row : List Value) where
       let r_rows = subst (λ x. AreRuns atom.key x n m column more) er r_key in
       let r_atom : AreRuns (atom_key q n) (rows_of q (stored db) n) n m column more = subst (λ (a : Atom). AreRuns a.key (rows_at db a.table) n m column more) is r_rows in
       spans-more q db row (map places_of all) (placed q db row all h) n m k spans more s here column
-      (λ p mp. let f = c.from p mp in (places_of f.0, in_map places_of all f.0 f.1, f.2))
-      (λ ps mp. let f = from_map places_of all ps mp in subst (λ x. Contains column (get_or x n 0)) f.2 (c.to f.0 f.1))
+      (λ p mp. let f = c.from p mp in (places_of f.0, Contains-map places_of all f.0 f.1, f.2))
+      (λ ps mp. let f = Contains-from_map places_of all ps mp in subst (λ x. Contains column (get_or x n 0)) f.2 (c.to f.0 f.1))
       r_atom b
 
   module _ (m : ℕ) (spans : List Span) (h : AreSpansTo q db row (length q.atoms) m spans) (small : m ≤ MOST_ATOMS * MOST_ROWS) where
@@ -101,7 +108,7 @@ module _ (q : Query) (db : List Table) (row : List Value) where
 
     pub told : (ws : List Witness) → AreAllNames q db row (names_of ws) → AreTold spans ws
     told ws all w k =
-        let n = (all.exactly w.rows).0 (in_map (λ (x : Witness). x.rows) ws w k) in
+        let n = (all.exactly w.rows).0 (Contains-map (λ (x : Witness). x.rows) ws w k) in
         let size = named-size db q.atoms w.rows n.0 n.2 in
         let few = q.kept.size.1 in
         let p : IsPlaced q db row (places_of w.rows) = of_names q db row w.rows n in (
@@ -116,7 +123,7 @@ module _ (q : Query) (db : List Table) (row : List Value) where
         )
 
     -- the row at a named place is in a block
-    pub named_in : (all : List (List RowId)) → AreAllNames q db row all → (F : ℕ) → F < length q.atoms → (p : ℕ) → ((names : List RowId) × Contains all names × (place_at names F ≡ p)) →
+    pub named_in : (all : List (List RowId)) → AreAllNames q db row all → (F : ℕ) → F < length q.atoms → (p : ℕ) → IsNamed all F p →
         (p < length (rows_of q (stored db) F)) × ((s : Span) × Contains spans s × IsIn s (at F p) × (s.base + s.count < 2 ^ 32))
     named_in all a F l p (names, mn, e) = subst (λ r. (r < length (rows_of q (stored db) F)) × ((s : Span) × Contains spans s × IsIn s (at F r) × (s.base + s.count < 2 ^ 32))) e (each.0, (s.0, s.1, s.2, base_small s.0 s.1))
       where

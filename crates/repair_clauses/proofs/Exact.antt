@@ -2,8 +2,10 @@
 use Rattle.std.proofs.Common.{◌≡◌, ℕ, zero, suc, ◌<◌, ◌+◌, ◌⊎◌, inl, inr, List, length, get_or, map, Option, Some, None, refl, sym, ◌∙◌, ap, subst, Contains, slice_get, Bool, true, false}
 use Rattle.std.proofs.lemmas.Option.{get_or_from_slice_get}
 use Rattle.std.proofs.lemmas.List.Elements.{Contains-get_or, Contains-append_left, Contains-append_right, Contains-append_cases}
+use Rattle.std.proofs.Math.Bool.{Bool-discrete}
 use native.Mathlib.Decide.{ℕ_discrete}
 use Rattle.cqa_value.specs.declared.value.Value.{Value}
+use Rattle.cqa_value.proofs.Words.{Contains-map, Contains-from_map, clash, yes_of, no_of, is_yes, dec_one_below}
 use Rattle.cqa_model.specs.declared.query.Query.{Query}
 use Rattle.cqa_model.specs.Database.{Table, stored}
 use Rattle.cqa_model.specs.Repairs.{SharesKey}
@@ -17,8 +19,7 @@ use Rattle.cnf_form.specs.declared.formula.Lit.{Lit}
 use Rattle.cnf_form.specs.Literals.{Satisfies, SatisfiesAll}
 use Rattle.repair_clauses.specs.Clauses.{Variable, HasNumber, SharesBlock, IsBlockOf, IsNumberOf, IsOfWitness, Formula, IsFormula, row_of, positive, negative, clauses}
 use Rattle.repair_clauses.specs.Laws.{IsSatisfiable, ClausesAreExact, ClausesDecide}
-use Rattle.repair_clauses.proofs.Truths.{bool_discrete, clash, is_yes, yes_of, no_of, some_below}
-use Rattle.repair_clauses.proofs.Numbers.{place_of, in_map, from_map}
+use Rattle.repair_clauses.proofs.Numbers.{place_of}
 use Rattle.repair_clauses.proofs.Rows.{number_below, number_of, numbered, dec_number, stored_row, is_stored, is_relevant, variable_at, block_numbers}
 
 module _ (q : Query) (db : List Table) (row : List Value) (f : Formula) (h : IsFormula q db row f) where
@@ -30,25 +31,25 @@ module _ (q : Query) (db : List Table) (row : List Value) (f : Formula) (h : IsF
       of_literal : (numbers : List ℕ) → IsBlockOf q db f.variables x numbers → ((l : Lit) × Contains (map positive numbers) l × (v l.var ≡ l.positive)) →
           (n : ℕ) × (y : Variable) × HasNumber f.variables n y × SharesBlock q db x y × (v n ≡ true)
       of_literal numbers b (l, ml, e) =
-          let p = from_map positive numbers l ml in
+          let p = Contains-from_map positive numbers l ml in
           let y = (b.exactly p.0).0 p.1 in
           (p.0, y.0, y.1, y.2, subst (λ (z : Lit). v z.var ≡ z.positive) (sym p.2) e)
 
       go : ((numbers : List ℕ) × IsBlockOf q db f.variables x numbers) → (n : ℕ) × (y : Variable) × HasNumber f.variables n y × SharesBlock q db x y × (v n ≡ true)
       go (numbers, b) = of_literal numbers b (sat (map positive numbers)
           (Contains-append_left (map (map positive) f.blocks) (map (map negative) f.witnesses) (map positive numbers)
-          (in_map (map positive) f.blocks numbers ((h.blocks.exactly numbers).1 (x, m, b)))))
+          (Contains-map (map positive) f.blocks numbers ((h.blocks.exactly numbers).1 (x, m, b)))))
 
   -- not all numbers of a witness are true
   pub witness_false : (v : ℕ → Bool) → SatisfiesAll v (clauses f) → (numbers : List ℕ) → IsOfWitness q db row f.variables numbers →
       (F : ℕ) × (F < length q.atoms) × (v (get_or numbers F 0) ≡ false)
   witness_false v sat numbers w = of_literal (sat (map negative numbers)
       (Contains-append_right (map (map positive) f.blocks) (map (map negative) f.witnesses) (map negative numbers)
-      (in_map (map negative) f.witnesses numbers ((h.witnesses.exactly numbers).1 w))))
+      (Contains-map (map negative) f.witnesses numbers ((h.witnesses.exactly numbers).1 w))))
     where
       of_literal : ((l : Lit) × Contains (map negative numbers) l × (v l.var ≡ l.positive)) → (F : ℕ) × (F < length q.atoms) × (v (get_or numbers F 0) ≡ false)
       of_literal (l, ml, e) =
-          let p = from_map negative numbers l ml in
+          let p = Contains-from_map negative numbers l ml in
           let at = place_of numbers p.0 p.1 in
           let here : get_or numbers at.0 0 ≡ p.0 = get_or_from_slice_get numbers at.0 p.0 0 at.2 in
           (at.0, subst (λ k. at.0 < k) w.size at.1, ap v here ∙ subst (λ (z : Lit). v z.var ≡ z.positive) (sym p.2) e)
@@ -72,7 +73,7 @@ module _ (q : Query) (db : List Table) (row : List Value) (f : Formula) (h : IsF
       (dec_number f.variables (λ y. (y.atom ≡ F) × (row_of q db y ≡ x)) (λ y. dec_both (ℕ_discrete y.atom F) (row_discrete (row_of q db y) x)) n)
 
   dec_true : (v : ℕ → Bool) (F : ℕ) (x : List Value) → Dec (IsTrueRow v F x)
-  dec_true v F x = some_below (λ n. IsNumberOf q db f.variables F x n × (v n ≡ true)) (λ n. dec_both (dec_of F x n) (bool_discrete (v n) true)) (1 + length f.variables)
+  dec_true v F x = dec_one_below (λ n. IsNumberOf q db f.variables F x n × (v n ≡ true)) (λ n. dec_both (dec_of F x n) (Bool-discrete (v n) true)) (1 + length f.variables)
 
   true_of : (v : ℕ → Bool) (F : ℕ) (x : List Value) (n : ℕ) → IsNumberOf q db f.variables F x n → v n ≡ true → IsTrueRow v F x
   true_of v F x n p e = (n, (number_below f.variables n p.0 p.1).1, (p, e))
@@ -120,8 +121,8 @@ module _ (q : Query) (db : List Table) (row : List Value) (f : Formula) (h : IsF
   to_numbers (a, s) = (
     value_of a,
     λ c m. elim (Contains-append_cases (map (map positive) f.blocks) (map (map negative) f.witnesses) c m) [
-      | inl b ↦ of_block c (from_map (map positive) f.blocks c b)
-      | inr w ↦ of_witness c (from_map (map negative) f.witnesses c w)
+      | inl b ↦ of_block c (Contains-from_map (map positive) f.blocks c b)
+      | inr w ↦ of_witness c (Contains-from_map (map negative) f.witnesses c w)
     ],
   )
     where
@@ -134,7 +135,7 @@ module _ (q : Query) (db : List Table) (row : List Value) (f : Formula) (h : IsF
               let p = number_of f.variables z mz in
               let same : SharesKey (atom_key q x.atom) (row_of q db x) (row_of q db z) = subst (λ u. SharesKey (atom_key q x.atom) (row_of q db x) u) (sym ze) sy in
               let ea : a z.atom (row_of q db z) ≡ true = ap (λ G. a G (row_of q db z)) za ∙ ap (a x.atom) ze ∙ ey in
-              (positive p.0, in_map positive numbers p.0 ((b.exactly p.0).1 (z, p.1, (sym za, same))), value_is a p.0 z p.1 ∙ ea)
+              (positive p.0, Contains-map positive numbers p.0 ((b.exactly p.0).1 (z, p.1, (sym za, same))), value_is a p.0 z p.1 ∙ ea)
 
           row_true : (x : Variable) → Contains f.variables x → IsBlockOf q db f.variables x numbers → IsRelevant q (stored db) row x.atom (row_of q db x) →
               ((y : List Value) × Contains (rows_of q (stored db) x.atom) y × SharesKey (atom_key q x.atom) (row_of q db x) y × (a x.atom y ≡ true)) → Satisfies (value_of a) (map positive numbers)
@@ -156,7 +157,7 @@ module _ (q : Query) (db : List Table) (row : List Value) (f : Formula) (h : IsF
               let y = w.each p.0 p.1 in
               let ea : a y.0.atom (row_of q db y.0) ≡ false = ap (λ G. a G (row_of q db y.0)) y.2 ∙ ap (a p.0) y.3 ∙ p.2 in (
                 negative (get_or numbers p.0 0),
-                in_map negative numbers (get_or numbers p.0 0) (Contains-get_or numbers p.0 0 (subst (λ k. p.0 < k) (sym w.size) p.1)),
+                Contains-map negative numbers (get_or numbers p.0 0) (Contains-get_or numbers p.0 0 (subst (λ k. p.0 < k) (sym w.size) p.1)),
                 value_is a (get_or numbers p.0 0) y.0 y.1 ∙ ea,
               )
 

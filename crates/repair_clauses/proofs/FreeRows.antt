@@ -4,6 +4,7 @@ use native.Mathlib.Decide.{ℕ_discrete}
 use Rattle.std.proofs.lemmas.Option.{get_or_from_slice_get, slice_get-get_or}
 use Rattle.std.proofs.lemmas.List.Elements.{Contains-get_or}
 use Rattle.cqa_value.specs.declared.value.Value.{Value}
+use Rattle.cqa_value.proofs.Words.{Contains-from_map, yes_of, no_of, is_yes, dec_one_below}
 use Rattle.cqa_model.specs.declared.query.Query.{Query}
 use Rattle.cqa_model.specs.declared.query.RowId.{RowId}
 use Rattle.cqa_model.specs.Database.{Table, IsDatabase, stored}
@@ -21,8 +22,7 @@ use Rattle.repair_clauses.specs.Clauses.{Variable, row_of}
 use Rattle.repair_clauses.specs.Spans.{at, place_at}
 use Rattle.repair_clauses.specs.Runs.{AreColumn}
 use Rattle.repair_clauses.specs.Avoiding.{HasFree, IsAvoidable}
-use Rattle.repair_clauses.proofs.Truths.{is_yes, yes_of, no_of, some_below}
-use Rattle.repair_clauses.proofs.Numbers.{place_of, from_map}
+use Rattle.repair_clauses.proofs.Numbers.{place_of}
 use Rattle.repair_clauses.proofs.Naming.{of_names, placed}
 
 module _ (q : Query) (db : List Table) (row : List Value) (all : List (List RowId)) (d : IsDatabase db) (h : AreAllNames q db row all) where
@@ -40,14 +40,14 @@ module _ (q : Query) (db : List Table) (row : List Value) (all : List (List RowI
   loose_of : (i : ℕ) → IsAvoidable q db all (get_or all i []) → (x : Variable) × IsLooseOf i x
   loose_of i a = (at a.atom (place_at (get_or all i []) a.atom), record { there = a.there; is = refl; places = a.places; column = a.column; free = a.free })
 
-  abbrev IsPlace : List (List Value) → ℕ → ℕ → Type 0
+  abbrev pub IsPlace : List (List Value) → ℕ → ℕ → Type 0
   IsPlace w F p = (p < length (rows_of q (stored db) F)) × (row_of q db (at F p) ≡ row_at w F)
 
   -- the names of a witness
-  abbrev IsNamed : List (List Value) → ℕ → Type 0
+  abbrev pub IsNamed : List (List Value) → ℕ → Type 0
   IsNamed w i = (i < length all) × ((F : ℕ) → F < length q.atoms → row_of q db (at F (place_at (get_or all i []) F)) ≡ row_at w F)
 
-  named : (w : List (List Value)) → IsWitness q (stored db) row w → (i : ℕ) × IsNamed w i
+  pub named : (w : List (List Value)) → IsWitness q (stored db) row w → (i : ℕ) × IsNamed w i
   named w hw = go (choose 0 (length q.atoms) (IsPlace w) (λ F lF. there F (place_of (rows_of q (stored db) F) (row_at w F) (hw.kept F lF))))
     where
       there : (F : ℕ) → ((j : ℕ) × (j < length (rows_of q (stored db) F)) × (slice_get (rows_of q (stored db) F) j ≡ Some (row_at w F))) → (j : ℕ) × IsPlace w F j
@@ -55,13 +55,13 @@ module _ (q : Query) (db : List Table) (row : List Value) (all : List (List RowI
 
       go : ((ps : List ℕ) × (length ps ≡ length q.atoms) × ((F : ℕ) → F < length q.atoms → IsPlace w F (get_or ps F 0))) → (i : ℕ) × IsNamed w i
       go (ps, size, each) =
-          let f = from_map places_of all ps (((placed q db row all h).exactly ps).1 (record { rows = w; witness = hw; size = size; each = each })) in
+          let f = Contains-from_map places_of all ps (((placed q db row all h).exactly ps).1 (record { rows = w; witness = hw; size = size; each = each })) in
           let i = place_of all f.0 f.1 in
           let e : places_of (get_or all i.0 []) ≡ ps = ap places_of (get_or_from_slice_get all i.0 f.0 [] i.2) ∙ f.2 in
           (i.0, (i.1, λ F l. ap (λ ns. row_of q db (at F (get_or ns F 0))) e ∙ (each F l).1))
 
   -- a row at two places of an atom stands at one
-  one_place : (F p r : ℕ) → p < length (rows_of q (stored db) F) → r < length (rows_of q (stored db) F) → row_of q db (at F p) ≡ row_of q db (at F r) → p ≡ r
+  pub one_place : (F p r : ℕ) → p < length (rows_of q (stored db) F) → r < length (rows_of q (stored db) F) → row_of q db (at F p) ≡ row_of q db (at F r) → p ≡ r
   one_place F p r lp lr e =
       stand-once db d (atom_at q F).table p r (row_of q db (at F r))
       (slice_get-get_or (rows_of q (stored db) F) p [] lp ∙ ap Some e) (slice_get-get_or (rows_of q (stored db) F) r [] lr)
@@ -72,7 +72,7 @@ module _ (q : Query) (db : List Table) (row : List Value) (all : List (List RowI
     IsOut F x = (k : ℕ) × (k < length all) × (((get_or loose k no_row).atom ≡ F) × (row_of q db (get_or loose k no_row) ≡ x))
 
     dec_out : (F : ℕ) (x : List Value) → Dec (IsOut F x)
-    dec_out F x = some_below (λ k. ((get_or loose k no_row).atom ≡ F) × (row_of q db (get_or loose k no_row) ≡ x))
+    dec_out F x = dec_one_below (λ k. ((get_or loose k no_row).atom ≡ F) × (row_of q db (get_or loose k no_row) ≡ x))
         (λ k. dec_both (ℕ_discrete (get_or loose k no_row).atom F) (row_discrete (row_of q db (get_or loose k no_row)) x)) (length all)
 
     -- all others stay

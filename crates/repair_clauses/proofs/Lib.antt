@@ -1,4 +1,3 @@
-pub mod Truths
 pub mod Numbers
 pub mod Rows
 pub mod Exact
@@ -6,7 +5,6 @@ pub mod Alike
 pub mod Models
 pub mod Order
 pub mod Spans
-pub mod BlockEnds
 pub mod Running
 pub mod Halving
 pub mod Atoms

@@ -5,17 +5,12 @@ use Rattle.std.specs.Bool.{IsTrue}
 use Rattle.std.proofs.lemmas.Option.{get_or_from_slice_get}
 use Rattle.std.proofs.lemmas.List.{get_or_append_left, get_or_push}
 use Rattle.cqa_value.specs.declared.value.Value.{Value}
+use Rattle.cqa_value.proofs.Words.{cases_le, cases_next}
 use Rattle.cqa_model.specs.Repairs.{SharesKey}
 use Rattle.cqa_model.proofs.Repairs.{shares-trans}
 use Rattle.repair_clauses.specs.Runs.{ArePlaces}
 use Rattle.repair_clauses.specs.Avoiding.{HasFree}
 use Rattle.repair_clauses.proofs.Numbers.{place_of}
-
-cases_le : (x y : ℕ) → (x ≤ y) ⊎ (y < x)
-cases_le x y = grind arith
-
-cases_eq : (j i : ℕ) → j < i + 1 → (j < i) ⊎ (j ≡ i)
-cases_eq j i l = grind (arith, l)
 
 -- what is known behind the first places, where one goes up
 pub record IsBelow (key : List ℕ) (rows : List (List Value)) (places : List ℕ) (n next : ℕ) (last : Bool) : Type 0 where
@@ -163,7 +158,7 @@ module _ (P : ℕ → Type 0) where
   Says n marks = (i : ℕ) → i < n → get_or marks i false ≡ true → P i
 
   pub says-push : (n : ℕ) (marks : List Bool) (x : Bool) → length marks ≡ n → Says n marks → (x ≡ true → P n) → Says (n + 1) (marks ++ x ∷ [])
-  says-push n marks x size s f i l e = go (cases_eq i n l)
+  says-push n marks x size s f i l e = go (cases_next i n l)
     where
       go : (i < n) ⊎ (i ≡ n) → P i
       go (inl u) = s i u (sym (get_or_append_left marks (x ∷ []) false i (omega (arith, u, size))) ∙ e)

@@ -4,6 +4,7 @@ use Rattle.std.proofs.lemmas.Option.{slice_get_within, slice_get-get_or, get_or_
 use Rattle.std.proofs.lemmas.List.{length-map}
 use Rattle.std.proofs.lemmas.List.Elements.{Contains-get_or}
 use Rattle.cqa_value.specs.declared.value.Value.{Value}
+use Rattle.cqa_value.proofs.Words.{Contains-map, Contains-from_map}
 use Rattle.cqa_model.specs.declared.query.Atom.{Atom}
 use Rattle.cqa_model.specs.declared.query.Query.{Query}
 use Rattle.cqa_model.specs.declared.query.RowId.{RowId}
@@ -16,7 +17,6 @@ use Rattle.join_witness.proofs.Naming.{name}
 use Rattle.repair_clauses.specs.Clauses.{AreAll}
 use Rattle.repair_clauses.specs.Spans.{place_at, IsPlaced}
 use Rattle.repair_clauses.specs.Runs.{ArePlaces, AreColumn}
-use Rattle.repair_clauses.proofs.Numbers.{in_map, from_map}
 
 module _ (db : List Table) where
   pub named-size : (atoms : List Atom) (names : List RowId) (w : List (List Value)) → AreNamed db atoms names w → length names ≡ length atoms
@@ -73,11 +73,11 @@ module _ (q : Query) (db : List Table) (row : List Value) where
     placed = record {
       in_order = h.in_order;
       exactly = λ ps. (
-        λ m. let p = from_map places_of all ps m in subst (IsPlaced q db row) p.2 (of_names p.0 ((h.exactly p.0).0 p.1)),
+        λ m. let p = Contains-from_map places_of all ps m in subst (IsPlaced q db row) p.2 (of_names p.0 ((h.exactly p.0).0 p.1)),
         λ p.
             let n : AreNamed db q.atoms (made db q.atoms ps) p.rows = made-named db q.atoms ps p.rows p.size p.witness.size
             (λ F l. slice_get-get_or (rows_of q (stored db) F) (get_or ps F 0) [] (p.each F l).0 ∙ ap Some (p.each F l).1) in
-            subst (λ qs. Contains (map places_of all) qs) (made-places db q.atoms ps p.size) (in_map places_of all (made db q.atoms ps) ((h.exactly (made db q.atoms ps)).1 (p.rows, p.witness, n))),
+            subst (λ qs. Contains (map places_of all) qs) (made-places db q.atoms ps p.size) (Contains-map places_of all (made db q.atoms ps) ((h.exactly (made db q.atoms ps)).1 (p.rows, p.witness, n))),
       );
     }
 

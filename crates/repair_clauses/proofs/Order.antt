@@ -7,14 +7,15 @@ use Rattle.std.specs.Cmp.Lexicographic.{slice_cmp}
 use Rattle.std.proofs.lemmas.Cmp.{nat_cmp_total, nat_list_cmp_total, on_total, then_total}
 use Rattle.std.proofs.lemmas.List.Elements.{Contains-append_cases}
 use Rattle.std.proofs.lemmas.Option.{get_or_from_slice_get, slice_get_within}
+use Rattle.std.proofs.lemmas.Map.Keys.{Less-from_sorted}
 use Rattle.cqa_value.specs.declared.value.Value.{Value}
+use Rattle.cqa_value.proofs.Words.{Contains-from_map}
 use Rattle.cqa_model.specs.declared.query.Query.{Query}
 use Rattle.cqa_model.specs.Database.{Table}
-use Rattle.cqa_model.proofs.BlockOrder.{sorted-less}
 use Rattle.cnf_form.specs.declared.formula.Lit.{Lit}
 use Rattle.repair_clauses.specs.Clauses.{Variable, variable_cmp, HasNumber, IsBlock, IsOfWitness, AreAll, Formula, positive, negative}
 use Rattle.repair_clauses.specs.Laws.{OneFormula, ClausesRise, Rises}
-use Rattle.repair_clauses.proofs.Numbers.{place_of, from_map}
+use Rattle.repair_clauses.proofs.Numbers.{place_of}
 use Rattle.repair_clauses.proofs.Rows.{number_below, one_variable}
 use Rattle.join_witness.proofs.Sorted.{one_sorted, sorted-from, not_less, not_both}
 
@@ -53,7 +54,7 @@ numbers_rise variables s (suc i) (suc j) x y hx hy l = go (cases i j)
     go (inr (inr gt)) = absurd (not_both variable_cmp variable_total x y l
         (subst (λ u. variable_cmp y u ≡ Less) (get_or_from_slice_get variables i x x hx)
         (subst (λ u. variable_cmp u (get_or variables i x) ≡ Less) (get_or_from_slice_get variables j y x hy)
-        (sorted-less variable_cmp variables j i x s gt (slice_get_within variables i x hx)))))
+        (Less-from_sorted variable_cmp variables j i x s gt (slice_get_within variables i x hx)))))
 
 pub less_then : (o p : Ordering) → o ≡ Less → ordering_then o p ≡ Less
 less_then Less p e = refl
@@ -81,10 +82,10 @@ map_var lit h (n ∷ numbers) = let e = h n in let es = map_var lit h numbers in
 
 pub clauses_rise : ClausesRise
 clauses_rise db q row f h c m = elim (Contains-append_cases (map (map positive) f.blocks) (map (map negative) f.witnesses) c m) [
-  | inl b ↦ let p = from_map (map positive) f.blocks c b in
+  | inl b ↦ let p = Contains-from_map (map positive) f.blocks c b in
       let x = (h.blocks.exactly p.0).0 p.1 in
       of_numbers positive (λ n. refl) p.0 c p.2 x.2.rises (λ n mn. let y = (x.2.exactly n).0 mn in number_below f.variables n y.0 y.1)
-  | inr b ↦ let p = from_map (map negative) f.witnesses c b in
+  | inr b ↦ let p = Contains-from_map (map negative) f.witnesses c b in
       let w = (h.witnesses.exactly p.0).0 p.1 in
       of_numbers negative (λ n. refl) p.0 c p.2 (witness_rises q db row f.variables h.variables.in_order p.0 w)
       (λ n mn. let at = place_of p.0 n mn in
@@ -96,7 +97,7 @@ clauses_rise db q row f h c m = elim (Contains-append_cases (map (map positive) 
         ((n : ℕ) → Contains numbers n → (1 ≤ n) × (n < 1 + length f.variables)) → Rises (length f.variables) c
     of_numbers lit is numbers c e s b = subst (Rises (length f.variables)) e (record {
       rises = subst (IsStrictlySortedBy nat_cmp) (sym (map_var lit is numbers)) s;
-      in_range = λ l ml. let p = from_map lit numbers l ml in
+      in_range = λ l ml. let p = Contains-from_map lit numbers l ml in
           let v : l.var ≡ p.0 = ap (λ (z : Lit). z.var) (sym p.2) ∙ is p.0 in
           subst (λ n. (1 ≤ n) × (n < 1 + length f.variables)) (sym v) (b p.0 p.1);
     })

@@ -4,22 +4,19 @@ use Rattle.std.specs.List.Sorted.{IsStrictlySortedBy}
 use Rattle.std.proofs.lemmas.List.Elements.{Contains-append_left, Contains-push, Contains-push_cases}
 use Rattle.std.specs.Ordering.{nat_cmp}
 use Rattle.cqa_value.specs.declared.value.Value.{Value}
+use Rattle.cqa_value.proofs.Words.{nat_cmp_less, cases_le, sorted_join}
 use Rattle.cqa_model.specs.Repairs.{SharesKey}
 use Rattle.cqa_model.proofs.Classic.{mem-nil, mem-cases}
 use Rattle.cqa_model.proofs.Repairs.{shares-sym, shares-trans}
 use Rattle.repair_clauses.specs.declared.span.Span.{Span}
-use Rattle.repair_clauses.specs.Spans.{span_cmp, AreBased, AreBasedTo}
+use Rattle.repair_clauses.specs.Spans.{span_cmp, AreBasedTo}
 use Rattle.repair_clauses.specs.Runs.{Covers, ArePlaces, IsRun, AreRuns}
-use Rattle.join_witness.proofs.Sorted.{sorted-joined}
 use Rattle.repair_clauses.proofs.Spans.{then_less, equal_self}
+use Rattle.repair_clauses.proofs.Atoms.{based-whole, none_sorted}
 
 based-push : (n m : ℕ) (ss : List Span) (s : Span) → AreBasedTo n ss m → s.base ≡ m → AreBasedTo n (ss ++ s ∷ []) (m + s.count)
 based-push n m [] s h e = (e ∙ sym h, ap (λ k. k + s.count) h)
 based-push n m (t ∷ ts) s h e = (h.0, based-push (n + t.count) m ts s h.1 e)
-
-based-from : (n m : ℕ) (ss : List Span) → AreBasedTo n ss m → AreBased n ss
-based-from n m [] h = tt
-based-from n m (t ∷ ts) h = (h.0, based-from (n + t.count) m ts h.1)
 
 -- the first i places have their blocks, and the last of these ends at a place
 pub record AreRunsTo (key : List ℕ) (rows : List (List Value)) (atom base : ℕ) (places : List ℕ) (i end next : ℕ) (spans : List Span) : Type 0 where
@@ -32,19 +29,9 @@ pub record AreRunsTo (key : List ℕ) (rows : List (List Value)) (atom base : �
   pub ends : (s : Span) → Contains spans s → s.start + s.count ≤ end
   pub last : 0 < end → (s : Span) × Contains spans s × (s.start + s.count ≡ end) × ((j : ℕ) → i ≤ j → j < length places → s.start ≤ get_or places j 0)
 
-none_sorted : IsStrictlySortedBy span_cmp []
-unfolding IsStrictlySortedBy
-none_sorted = tt
-
-single_sorted : (s : Span) → IsStrictlySortedBy span_cmp (s ∷ [])
+pub single_sorted : (s : Span) → IsStrictlySortedBy span_cmp (s ∷ [])
 unfolding IsStrictlySortedBy
 single_sorted s = (tt, tt)
-
-less_cmp : (x y : ℕ) → x < y → nat_cmp x y ≡ Less
-less_cmp x y l = grind (arith, l)
-
-cases_le : (x y : ℕ) → (x ≤ y) ⊎ (y < x)
-cases_le x y = grind arith
 
 cases_eq : (j i : ℕ) → j < suc i → (j < i) ⊎ (j ≡ i)
 cases_eq j i l = grind (arith, l)
@@ -65,7 +52,7 @@ module _ (key : List ℕ) (rows : List (List Value)) (atom base : ℕ) (places :
   pub runs-all : (i end next : ℕ) (spans : List Span) → AreRunsTo key rows atom base places i end next spans → length places ≤ i → AreRuns key rows atom base places spans
   runs-all i end next spans h l = record {
     in_order = h.in_order;
-    based = based-from base next spans h.based;
+    based = based-whole base next spans h.based;
     each = h.each;
     every = λ j lj. h.every j (omega (arith, l, lj));
   }
@@ -153,7 +140,7 @@ module _ (key : List ℕ) (rows : List (List Value)) (atom base : ℕ) (places :
       pub runs-more : AreRunsTo key rows atom base places (i + 1) stop (next + s.count) (spans ++ s ∷ [])
       runs-more = record {
         within = in';
-        in_order = sorted-joined span_cmp spans (s ∷ []) h.in_order (single_sorted s) (λ t u mt mu. subst (λ z. span_cmp t z ≡ Less) (only u mu) (less t mt));
+        in_order = sorted_join span_cmp spans (s ∷ []) h.in_order (single_sorted s) (λ t u mt mu. subst (λ z. span_cmp t z ≡ Less) (only u mu) (less t mt));
         based = based-push base next spans s h.based sb;
         small = let b = h.small in let a = after_last in omega (arith, b, a, ss, sc);
         each = λ t m. elim (Contains-push_cases spans s t m) [ inl n ↦ h.each t n | inr e ↦ subst (IsRun key rows atom places) e is_run ];
@@ -171,7 +158,7 @@ module _ (key : List ℕ) (rows : List (List Value)) (atom base : ℕ) (places :
               let b = h.ends t m in
               let c = (h.each t m).some in
               let a = after_last in
-              then_less (nat_cmp t.atom s.atom) (nat_cmp t.start s.start) (subst (λ z. nat_cmp t.atom z ≡ Rattle.std.proofs.Common.Equal) e (equal_self t.atom)) (less_cmp t.start s.start (omega (arith, b, c, a, ss)))
+              then_less (nat_cmp t.atom s.atom) (nat_cmp t.start s.start) (subst (λ z. nat_cmp t.atom z ≡ Rattle.std.proofs.Common.Equal) e (equal_self t.atom)) (nat_cmp_less t.start s.start (omega (arith, b, c, a, ss)))
 
           every : (j : ℕ) → (j < i) ⊎ (j ≡ i) → (t : Span) × Contains (spans ++ s ∷ []) t × Covers t (get_or places j 0)
           every j (inl l) = let t = h.every j l in (t.0, Contains-append_left spans (s ∷ []) t.0 t.1, t.2)

@@ -8,6 +8,7 @@ use Rattle.std.proofs.lemmas.Cmp.{nat_cmp_total}
 use Rattle.std.proofs.lemmas.List.Elements.{Contains-append_cases, Contains-append_left, Contains-append_right, Contains-get_or, recursion_from_All}
 use Rattle.std.proofs.lemmas.List.FromFn.{length-range_with_len, get_or-range_with_len}
 use Rattle.cqa_value.specs.declared.value.Value.{Value}
+use Rattle.cqa_value.proofs.Words.{Contains-map, Contains-from_map, nat_cmp_less, slice_get-append_left, all_zip_right, Contains-range, in_range, sorted_join, member_by_recursion}
 use Rattle.cqa_model.specs.declared.query.Query.{Query}
 use Rattle.cqa_model.specs.Database.{Table, stored}
 use Rattle.cqa_model.specs.Repairs.{SharesKey}
@@ -19,38 +20,16 @@ use Rattle.repair_clauses.specs.declared.span.Span.{Span}
 use Rattle.repair_clauses.specs.Clauses.{Variable, variable_cmp, AreVariables, HasNumber, SharesBlock, IsBlockOf, IsBlock, IsNumberOf, IsOfWitness, AreAll, row_of, IsStored}
 use Rattle.repair_clauses.specs.Spans.{at, IsIn, IsSpan, span_cmp, AreBased, AreSpans, variables_in, variables_of, numbers_in, IsPlaced, AreNumbers}
 use Rattle.repair_clauses.specs.Laws.{SpansGiveFormula}
-use Rattle.repair_clauses.proofs.Numbers.{in_map, from_map}
 use Rattle.repair_clauses.proofs.Rows.{numbered}
-use Rattle.join_witness.proofs.Sorted.{each-of, sorted-from, sorted-joined, one_sorted, one_place}
+use Rattle.join_witness.proofs.Sorted.{sorted-from, one_sorted, one_place}
 use Rattle.repair_clauses.proofs.Order.{variable_total, atom_less, numbers_rise}
-
-less_cmp : (x y : ℕ) → x < y → nat_cmp x y ≡ Less
-less_cmp x y l = grind (arith, l)
-
--- runs of numbers
-pub in_range : (a n k : ℕ) → Contains (range_with_len a n) k → (a ≤ k) × (k < a + n)
-in_range a zero k m = absurd (mem-nil k m)
-in_range a (suc n) k m = elim (mem-cases k a (range_with_len (a + 1) n) m) [
-  | inl e ↦ (omega (arith, e), omega (arith, e))
-  | inr h ↦ let p = in_range (a + 1) n k h in let l = p.0 in let u = p.1 in (omega (arith, l), omega (arith, u))
-]
-
-pub of_range : (a n k : ℕ) → a ≤ k → k < a + n → Contains (range_with_len a n) k
-of_range a n k l u =
-    let j : k - a < n = omega (arith, l, u) in
-    (k - a, subst (λ m. k - a < m) (sym (length-range_with_len a n)) j, get_or-range_with_len a n (k - a) k j ∙ omega (arith, l))
 
 pub range_rises : (a n : ℕ) → IsStrictlySortedBy nat_cmp (range_with_len a n)
 range_rises a n = sorted-from nat_cmp (range_with_len a n) 0 (λ i j l lj.
     let k : j < n = subst (λ m. j < m) (length-range_with_len a n) lj in
     let ei = get_or-range_with_len a n i 0 (omega (arith, l, k)) in
     let ej = get_or-range_with_len a n j 0 k in
-    less_cmp (get_or (range_with_len a n) i 0) (get_or (range_with_len a n) j 0) (omega (arith, ei, ej, l)))
-
-get-left : {A : Type 0} (xs ys : List A) (k : ℕ) (x : A) → slice_get xs k ≡ Some x → slice_get (xs ++ ys) k ≡ Some x
-get-left [] ys k x e = cc
-get-left (z ∷ xs) ys zero x e = e
-get-left (z ∷ xs) ys (suc k) x e = get-left xs ys k x e
+    nat_cmp_less (get_or (range_with_len a n) i 0) (get_or (range_with_len a n) j 0) (omega (arith, ei, ej, l)))
 
 get-right : {A : Type 0} (xs ys : List A) (k j : ℕ) → j ≡ length xs + k → slice_get (xs ++ ys) j ≡ slice_get ys k
 get-right [] ys k j e = ap (slice_get ys) (omega (arith, e))
@@ -69,7 +48,7 @@ length-run f a (suc n) = ap suc (length-run f (a + 1) n)
 -- the variables of a span
 pub in_run : (s : Span) (x : Variable) → Contains (variables_in s) x → IsIn s x
 in_run s x m =
-    let p = from_map (at s.atom) (range_with_len s.start s.count) x m in
+    let p = Contains-from_map (at s.atom) (range_with_len s.start s.count) x m in
     let r = in_range s.start s.count p.0 p.1 in
     subst (IsIn s) p.2 (refl, r.0, r.1)
 
@@ -77,7 +56,7 @@ pub as_at : (x : Variable) (F : ℕ) → x.atom ≡ F → x ≡ at F x.place
 as_at x F e = ap (λ G. at G x.place) e
 
 pub of_run : (s : Span) (x : Variable) → IsIn s x → Contains (variables_in s) x
-of_run s x i = subst (Contains (variables_in s)) (sym (as_at x s.atom i.0)) (in_map (at s.atom) (range_with_len s.start s.count) x.place (of_range s.start s.count x.place i.1 i.2))
+of_run s x i = subst (Contains (variables_in s)) (sym (as_at x s.atom i.0)) (Contains-map (at s.atom) (range_with_len s.start s.count) x.place (Contains-range s.start s.count x.place i.1 i.2))
 
 pub in_variables : (spans : List Span) (x : Variable) → Contains (variables_of spans) x → (s : Span) × Contains spans s × IsIn s x
 in_variables [] x m = absurd (mem-nil x m)
@@ -107,7 +86,7 @@ pub run_number : (n : ℕ) (spans : List Span) → AreBased n spans → (s : Spa
 run_number n [] b s m j l k e = absurd (mem-nil s m)
 run_number n (t ∷ ts) b s m j l k e = elim (mem-cases s t ts m) [
   | inl h ↦ subst (λ (u : Span). slice_get (variables_of (t ∷ ts)) k ≡ Some (at u.atom (u.start + j))) h
-      (get-left (variables_in t) (variables_of ts) k (at t.atom (t.start + j))
+      (slice_get-append_left (variables_in t) (variables_of ts) k (at t.atom (t.start + j))
       (let hb : s.base ≡ n = ap (λ (u : Span). u.base) (sym h) ∙ b.0 in
       let kj : j ≡ k = omega (arith, hb, e) in
       let lt : j < t.count = subst (λ (u : Span). j < u.count) (sym h) l in
@@ -141,7 +120,7 @@ from_less x y e = go (cases x y)
     go : (x < y) ⊎ ((x ≡ y) ⊎ (y < x)) → x < y
     go (inl l) = l
     go (inr (inl q)) = absurd (Rattle.join_witness.proofs.Sorted.not_less nat_cmp nat_cmp_total x (subst (λ z. nat_cmp x z ≡ Less) (sym q) e))
-    go (inr (inr g)) = absurd (Rattle.join_witness.proofs.Sorted.not_both nat_cmp nat_cmp_total x y e (less_cmp y x g))
+    go (inr (inr g)) = absurd (Rattle.join_witness.proofs.Sorted.not_both nat_cmp nat_cmp_total x y e (nat_cmp_less y x g))
 
 pub from_equal : (x y : ℕ) → nat_cmp x y ≡ Equal → x ≡ y
 from_equal x y e = grind (arith, e)
@@ -154,8 +133,8 @@ then_less Less p e l = refl
 then_less Equal p e l = l
 then_less Greater p e l = cc
 
-place_less : (x y : Variable) → x.atom ≡ y.atom → x.place < y.place → variable_cmp x y ≡ Less
-place_less x y e l = then_less (nat_cmp x.atom y.atom) (nat_cmp x.place y.place) (subst (λ z. nat_cmp x.atom z ≡ Equal) e (equal_self x.atom)) (less_cmp x.place y.place l)
+pub place_less : (x y : Variable) → x.atom ≡ y.atom → x.place < y.place → variable_cmp x y ≡ Less
+place_less x y e l = then_less (nat_cmp x.atom y.atom) (nat_cmp x.place y.place) (subst (λ z. nat_cmp x.atom z ≡ Equal) e (equal_self x.atom)) (nat_cmp_less x.place y.place l)
 
 run-sorted : (F a n : ℕ) → IsStrictlySortedBy variable_cmp (map (at F) (range_with_len a n))
 unfolding IsStrictlySortedBy
@@ -199,52 +178,34 @@ module _ (q : Query) (db : List Table) (row : List Value) where
         place_less x y (ix.0 ∙ ea ∙ sym iy.0) (omega (arith, l, u, v))
   ]
 
-  variables-sorted : (spans : List Span) → IsStrictlySortedBy span_cmp spans → ((s : Span) → Contains spans s → IsSpan q db row s) → IsStrictlySortedBy variable_cmp (variables_of spans)
+  pub variables-sorted : (spans : List Span) → IsStrictlySortedBy span_cmp spans → ((s : Span) → Contains spans s → IsSpan q db row s) → IsStrictlySortedBy variable_cmp (variables_of spans)
   unfolding IsStrictlySortedBy
   variables-sorted [] s h = tt
-  variables-sorted (t ∷ ts) s h = sorted-joined variable_cmp (variables_in t) (variables_of ts) (run-sorted t.atom t.start t.count)
+  variables-sorted (t ∷ ts) s h = sorted_join variable_cmp (variables_in t) (variables_of ts) (run-sorted t.atom t.start t.count)
       (variables-sorted ts s.1 (λ u m. h u (mem-tail u t ts m)))
       (λ x y mx my. let p = in_variables ts y my in
-      span_before t p.0 x y (h t (mem-head t ts)) (h p.0 (mem-tail p.0 t ts p.1)) (each-of (λ u. span_cmp t u ≡ Less) ts p.0 s.0 p.1) (in_run t x mx) p.2)
+      span_before t p.0 x y (h t (mem-head t ts)) (h p.0 (mem-tail p.0 t ts p.1)) (member_by_recursion (λ u. span_cmp t u ≡ Less) ts s.0 p.0 p.1) (in_run t x mx) p.2)
 
-  module _ (spans : List Span) (h : AreSpans q db row spans) where
+  -- some relevant blocks
+  module _ (spans : List Span) (in_order : IsStrictlySortedBy span_cmp spans) (based : AreBased 0 spans) (each : (s : Span) → Contains spans s → IsSpan q db row s) where
     stored_in : (s : Span) → Contains spans s → (x : Variable) → IsIn s x → IsStored q db x
     stored_in s m x i =
-        let w = (h.each s m).within in
+        let w = (each s m).within in
         let u = i.2 in
         let l : x.place < length (rows_of q (stored db) s.atom) = omega (arith, w, u) in
-        (subst (λ F. F < length q.atoms) (sym i.0) (h.each s m).there, subst (λ F. x.place < length (rows_of q (stored db) F)) (sym i.0) l)
+        (subst (λ F. F < length q.atoms) (sym i.0) (each s m).there, subst (λ F. x.place < length (rows_of q (stored db) F)) (sym i.0) l)
 
     -- a row of the block shares the key of the first
     shares_first : (s : Span) → Contains spans s → (p : ℕ) → s.start ≤ p → p < s.start + s.count → SharesKey (atom_key q s.atom) (row_of q db (at s.atom s.start)) (row_of q db (at s.atom p))
-    shares_first s m p l u = let w = (h.each s m).within in ((h.each s m).block p (omega (arith, u, w))).1 (l, u)
-
-    pub are_variables : AreVariables q db row (variables_of spans)
-    are_variables = record {
-      in_order = variables-sorted spans h.in_order h.each;
-      exactly = λ x. (
-        λ m. let p = in_variables spans x m in (stored_in p.0 p.1 x p.2, is_relevant p.0 p.1 x p.2),
-        λ s. let p = h.every x s.0 s.1 in of_variables spans p.0 x p.1 p.2,
-      );
-    }
-      where
-        is_relevant : (s : Span) → Contains spans s → (x : Variable) → IsIn s x → IsRelevant q (stored db) row x.atom (row_of q db x)
-        is_relevant s m x i =
-            let rel = (h.each s m).relevant in
-            let key = atom_key q s.atom in
-            let first = row_of q db (at s.atom s.start) in
-            let mine = row_of q db (at s.atom x.place) in
-            let sh : SharesKey key mine (row_at rel.0 s.atom) = shares-trans key mine first (row_at rel.0 s.atom) (shares-sym key first mine (shares_first s m x.place i.1 i.2)) rel.2 in
-            let there : IsRelevant q (stored db) row s.atom mine = (rel.0, rel.1, sh) in
-            subst (λ y. IsRelevant q (stored db) row y.atom (row_of q db y)) (sym (as_at x s.atom i.0)) there
+    shares_first s m p l u = let w = (each s m).within in ((each s m).block p (omega (arith, u, w))).1 (l, u)
 
     number_in : (s : Span) → Contains spans s → (x : Variable) → IsIn s x → (n : ℕ) → HasNumber (variables_of spans) n x → Contains (numbers_in s) n
     number_in s m x i zero hn = absurd hn
     number_in s m x i (suc k) hn =
-        let e : k ≡ s.base + (x.place - s.start) = one_place variable_cmp variable_total (variables_of spans) k (s.base + (x.place - s.start)) x are_variables.in_order hn (has_number spans h.based s m x i) in
+        let e : k ≡ s.base + (x.place - s.start) = one_place variable_cmp variable_total (variables_of spans) k (s.base + (x.place - s.start)) x (variables-sorted spans in_order each) hn (has_number spans based s m x i) in
         let l = i.1 in
         let u = i.2 in
-        of_range (suc s.base) s.count (suc k) (omega (arith, e)) (omega (arith, e, l, u))
+        Contains-range (suc s.base) s.count (suc k) (omega (arith, e)) (omega (arith, e, l, u))
 
     block_at : (s : Span) → Contains spans s → (p : ℕ) → s.start ≤ p → p < s.start + s.count → IsBlockOf q db (variables_of spans) (at s.atom p) (numbers_in s)
     block_at s m p l u = record { rises = range_rises (suc s.base) s.count; exactly = λ n. (to n, from n) }
@@ -266,7 +227,7 @@ module _ (q : Query) (db : List Table) (row : List Value) where
             let i : IsIn s y = (refl, omega arith, omega (arith, lj)) in
             let e : suc (s.base + ((s.start + j) - s.start)) ≡ n = omega (arith, r0) in (
               y,
-              subst (λ k. HasNumber (variables_of spans) k y) e (has_number spans h.based s m y i),
+              subst (λ k. HasNumber (variables_of spans) k y) e (has_number spans based s m y i),
               (
                 refl,
                 shares-trans (atom_key q s.atom) (row_of q db (at s.atom p)) (row_of q db (at s.atom s.start)) (row_of q db y)
@@ -281,7 +242,7 @@ module _ (q : Query) (db : List Table) (row : List Value) where
             let is : y ≡ at s.atom y.place = as_at y s.atom (sym sh.0) in
             let inside : y.place < length (rows_of q (stored db) s.atom) = subst (λ F. y.place < length (rows_of q (stored db) F)) (sym sh.0) st.1 in
             let shared : SharesKey (atom_key q s.atom) (row_of q db (at s.atom p)) (row_of q db (at s.atom y.place)) = subst (λ z. SharesKey (atom_key q s.atom) (row_of q db (at s.atom p)) (row_of q db z)) is sh.1 in
-            let b = ((h.each s m).block y.place inside).0 (shares-trans (atom_key q s.atom) (row_of q db (at s.atom s.start)) (row_of q db (at s.atom p)) (row_of q db (at s.atom y.place)) (shares_first s m p l u) shared) in
+            let b = ((each s m).block y.place inside).0 (shares-trans (atom_key q s.atom) (row_of q db (at s.atom s.start)) (row_of q db (at s.atom p)) (row_of q db (at s.atom y.place)) (shares_first s m p l u) shared) in
             number_in s m y (sym sh.0, b.0, b.1) n hn
 
     blocks-sorted : (n : ℕ) (ss : List Span) → AreBased n ss → ((s : Span) → Contains ss s → 0 < s.count) → IsStrictlySortedBy (slice_cmp nat_cmp) (map numbers_in ss)
@@ -302,17 +263,17 @@ module _ (q : Query) (db : List Table) (row : List Value) where
         first_less : (a m c k : ℕ) → 0 < m → 0 < k → a < c → slice_cmp nat_cmp (range_with_len (suc a) m) (range_with_len (suc c) k) ≡ Less
         first_less a zero c k lm lk l = absurd (omega (arith, lm))
         first_less a (suc m) c zero lm lk l = absurd (omega (arith, lk))
-        first_less a (suc m) c (suc k) lm lk l = Rattle.repair_clauses.proofs.Order.less_then (nat_cmp (suc a) (suc c)) (slice_cmp nat_cmp (range_with_len (suc a + 1) m) (range_with_len (suc c + 1) k)) (less_cmp (suc a) (suc c) (omega (arith, l)))
+        first_less a (suc m) c (suc k) lm lk l = Rattle.repair_clauses.proofs.Order.less_then (nat_cmp (suc a) (suc c)) (slice_cmp nat_cmp (range_with_len (suc a + 1) m) (range_with_len (suc c + 1) k)) (nat_cmp_less (suc a) (suc c) (omega (arith, l)))
 
     pub are_blocks : AreAll (IsBlock q db (variables_of spans)) (map numbers_in spans)
     are_blocks = record {
-      in_order = blocks-sorted 0 spans h.based (λ s m. (h.each s m).some);
-      exactly = λ numbers. (λ m. of_span numbers (from_map numbers_in spans numbers m), λ b. of_block numbers b.0 b.2 (in_variables spans b.0 b.1));
+      in_order = blocks-sorted 0 spans based (λ s m. (each s m).some);
+      exactly = λ numbers. (λ m. of_span numbers (Contains-from_map numbers_in spans numbers m), λ b. of_block numbers b.0 b.2 (in_variables spans b.0 b.1));
     }
       where
         of_span : (numbers : List ℕ) → ((s : Span) × Contains spans s × (numbers_in s ≡ numbers)) → IsBlock q db (variables_of spans) numbers
         of_span numbers (s, m, e) =
-            let c = (h.each s m).some in
+            let c = (each s m).some in
             let i : IsIn s (at s.atom s.start) = (refl, omega arith, omega (arith, c)) in
             subst (IsBlock q db (variables_of spans)) e (at s.atom s.start, of_variables spans s (at s.atom s.start) m i, block_at s m s.start i.1 i.2)
 
@@ -320,7 +281,28 @@ module _ (q : Query) (db : List Table) (row : List Value) where
         of_block numbers x b (s, m, i) =
             let c : IsBlockOf q db (variables_of spans) x (numbers_in s) = subst (λ y. IsBlockOf q db (variables_of spans) y (numbers_in s)) (sym (as_at x s.atom i.0)) (block_at s m x.place i.1 i.2) in
             let same : numbers_in s ≡ numbers = one_sorted nat_cmp nat_cmp_total (numbers_in s) numbers c.rises b.rises (λ n k. (b.exactly n).1 ((c.exactly n).0 k)) (λ n k. (c.exactly n).1 ((b.exactly n).0 k)) in
-            subst (Contains (map numbers_in spans)) same (in_map numbers_in spans s m)
+            subst (Contains (map numbers_in spans)) same (Contains-map numbers_in spans s m)
+
+  -- all of them
+  module _ (spans : List Span) (h : AreSpans q db row spans) where
+    pub are_variables : AreVariables q db row (variables_of spans)
+    are_variables = record {
+      in_order = variables-sorted spans h.in_order h.each;
+      exactly = λ x. (
+        λ m. let p = in_variables spans x m in (stored_in spans h.in_order h.based h.each p.0 p.1 x p.2, is_relevant p.0 p.1 x p.2),
+        λ s. let p = h.every x s.0 s.1 in of_variables spans p.0 x p.1 p.2,
+      );
+    }
+      where
+        is_relevant : (s : Span) → Contains spans s → (x : Variable) → IsIn s x → IsRelevant q (stored db) row x.atom (row_of q db x)
+        is_relevant s m x i =
+            let rel = (h.each s m).relevant in
+            let key = atom_key q s.atom in
+            let first = row_of q db (at s.atom s.start) in
+            let mine = row_of q db (at s.atom x.place) in
+            let sh : SharesKey key mine (row_at rel.0 s.atom) = shares-trans key mine first (row_at rel.0 s.atom) (shares-sym key first mine (shares_first spans h.in_order h.based h.each s m x.place i.1 i.2)) rel.2 in
+            let there : IsRelevant q (stored db) row s.atom mine = (rel.0, rel.1, sh) in
+            subst (λ y. IsRelevant q (stored db) row y.atom (row_of q db y)) (sym (as_at x s.atom i.0)) there
 
 -- numbers of places
 pub same_number : (variables : List Variable) → IsStrictlySortedBy variable_cmp variables → (m n : ℕ) (x : Variable) → HasNumber variables m x → HasNumber variables n x → m ≡ n
@@ -354,7 +336,7 @@ lex_less variables s F (p ∷ ps) (q ∷ qs) (m ∷ ms) (n ∷ ns) h k e = go (t
     go : (nat_cmp p q ≡ Less) ⊎ ((nat_cmp p q ≡ Equal) × (slice_cmp nat_cmp ps qs ≡ Less)) → (slice_cmp nat_cmp ps qs ≡ Less → slice_cmp nat_cmp ms ns ≡ Less) →
         ordering_then (nat_cmp m n) (slice_cmp nat_cmp ms ns) ≡ Less
     go (inl l) ih = Rattle.repair_clauses.proofs.Order.less_then (nat_cmp m n) (slice_cmp nat_cmp ms ns)
-        (less_cmp m n (numbers_rise variables s m n (at F p) (at F q) h.0 k.0 (place_less (at F p) (at F q) refl (from_less p q l))))
+        (nat_cmp_less m n (numbers_rise variables s m n (at F p) (at F q) h.0 k.0 (place_less (at F p) (at F q) refl (from_less p q l))))
     go (inr b) ih =
         let e : p ≡ q = from_equal p q b.0 in
         let same : m ≡ n = same_number variables s m n (at F q) (subst (λ z. HasNumber variables m (at F z)) e h.0) k.0 in
@@ -367,15 +349,6 @@ zip_left R (a ∷ xs) [] x z m = absurd z
 zip_left R (a ∷ xs) (b ∷ ys) x z m = elim (mem-cases x a xs m) [
   | inl e ↦ (b, mem-head b ys, subst (λ u. R u b) e z.0)
   | inr n ↦ let p = zip_left R xs ys x z.1 n in (p.0, mem-tail p.0 b ys p.1, p.2)
-]
-
-zip_right : {A B : Type 0} (R : A → B → Type 0) (xs : List A) (ys : List B) (y : B) → AllZip R xs ys → Contains ys y → (x : A) × Contains xs x × R x y
-zip_right R [] [] y z m = absurd (mem-nil y m)
-zip_right R [] (b ∷ ys) y z m = absurd z
-zip_right R (a ∷ xs) [] y z m = absurd z
-zip_right R (a ∷ xs) (b ∷ ys) y z m = elim (mem-cases y b ys m) [
-  | inl e ↦ (a, mem-head a xs, subst (λ u. R a u) e z.0)
-  | inr n ↦ let p = zip_right R xs ys y z.1 n in (p.0, mem-tail p.0 a xs p.1, p.2)
 ]
 
 same_lists : (xs ys : List ℕ) → length xs ≡ length ys → ((i : ℕ) → i < length xs → get_or xs i 0 ≡ get_or ys i 0) → xs ≡ ys
@@ -395,8 +368,8 @@ zip-sorted variables s [] (n ∷ ns) z h = absurd z
 zip-sorted variables s (p ∷ ps) [] z h = absurd z
 zip-sorted variables s (p ∷ ps) (n ∷ ns) z h = (
   recursion_from_All (λ y. slice_cmp nat_cmp n y ≡ Less) ns (λ k d l.
-      let r = zip_right (AreNumbers variables 0) ps ns (get_or ns k d) z.1 (Contains-get_or ns k d l) in
-      lex_less variables s 0 p r.0 n (get_or ns k d) z.0 r.2 (each-of (λ y. slice_cmp nat_cmp p y ≡ Less) ps r.0 h.0 r.1)),
+      let r = all_zip_right (AreNumbers variables 0) ps ns (get_or ns k d) z.1 (Contains-get_or ns k d l) in
+      lex_less variables s 0 p r.0 n (get_or ns k d) z.0 r.2 (member_by_recursion (λ y. slice_cmp nat_cmp p y ≡ Less) ps h.0 r.0 r.1)),
   zip-sorted variables s ps ns z.1 h.1,
 )
 
@@ -437,12 +410,12 @@ module _ (q : Query) (db : List Table) (row : List Value) (variables : List Vari
   pub are_witnesses : AreAll (IsOfWitness q db row variables) numbers
   are_witnesses = record {
     in_order = zip-sorted variables vs.in_order places numbers z h.in_order;
-    exactly = λ ns. (λ m. let p = zip_right (AreNumbers variables 0) places numbers ns z m in of_places p.0 ns p.2 ((h.exactly p.0).0 p.1), from_witness ns);
+    exactly = λ ns. (λ m. let p = all_zip_right (AreNumbers variables 0) places numbers ns z m in of_places p.0 ns p.2 ((h.exactly p.0).0 p.1), from_witness ns);
   }
 
 pub spans_give_formula : SpansGiveFormula
 spans_give_formula db q row spans places numbers h p z = record {
   variables = are_variables q db row spans h;
-  blocks = are_blocks q db row spans h;
+  blocks = are_blocks q db row spans h.in_order h.based h.each;
   witnesses = are_witnesses q db row (variables_of spans) (are_variables q db row spans h) places numbers p z;
 }

@@ -91,6 +91,10 @@ formula_of spans witnesses = record { variables = variables_of spans; blocks = m
 abbrev pub place_at : List RowId → ℕ → ℕ
 place_at names F = slice_index (places_of names) F
 
+-- one of the witnesses has the row at a place of an atom
+abbrev pub IsNamed : List (List RowId) → ℕ → ℕ → Type 0
+IsNamed all F p = (names : List RowId) × Contains all names × (place_at names F ≡ p)
+
 -- each of the named rows is in one of the spans, and its number is small
 abbrev pub AreCovered : List Span → List RowId → Type 0
 AreCovered spans names = (F : ℕ) → F < length names → (s : Span) × Contains spans s × IsIn s (at F (place_at names F)) × (s.base + s.count < 2 ^ 32)
@@ -105,6 +109,14 @@ IsBefore s t = (s.atom < t.atom) ⊎ ((s.atom ≡ t.atom) × (s.start + s.count 
 
 abbrev pub AreApart : List Span → Type 0
 AreApart spans = (i j : ℕ) (s t : Span) → i < j → slice_get spans i ≡ Some s → slice_get spans j ≡ Some t → IsBefore s t
+
+-- the span at an index of the list has the place of an atom
+abbrev pub IsAt : List Span → ℕ → ℕ → ℕ → Type 0
+IsAt spans F p k = (s : Span) × (slice_get spans k ≡ Some s) × IsIn s (at F p)
+
+-- at no other place of the list is a span with the place of an atom
+abbrev pub IsOnlyAt : List Span → ℕ → ℕ → ℕ → Type 0
+IsOnlyAt spans F p found = (k : ℕ) (s : Span) → slice_get spans k ≡ Some s → IsIn s (at F p) → k ≡ found
 
 -- the span begins at the place of an atom, or before it
 abbrev pub Begins : Span → ℕ → ℕ → Type 0

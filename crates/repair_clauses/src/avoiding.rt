@@ -13,12 +13,12 @@ ghost use Rattle.repair_clauses.specs.Avoiding.{AreLoose, AreMarked, IsLooseAt};
 ghost use Rattle.repair_clauses.specs.Runs.{ArePlaces};
 ghost use Rattle.repair_clauses.specs.Spans.{place_at};
 
-use crate::blocks::goes_on;
 use crate::column::{column, place_of};
 use crate::relevant::atom_of;
 use cqa_model::Query;
 use cqa_value::NoMemory;
 use join_witness::Witness;
+use row_blocks::goes_on;
 use row_pieces::Rows;
 use std::alloc::Global;
 use table_blocks::Database;

@@ -4,7 +4,6 @@
 #![tactic(auto)]
 
 mod avoiding;
-pub mod blocks;
 mod clauses;
 pub mod column;
 mod decision;
@@ -16,7 +15,7 @@ mod run;
 pub mod span;
 
 pub use avoiding::are_avoidable;
-pub use clauses::{fill_block, fill_witness};
+pub use clauses::{add_blocks, fill_block, fill_witness};
 pub use decision::{Decided, decide, solved};
 pub use formula::{Encoded, encode, formula_over};
 pub use relevant::{atom_of, relevant_blocks};

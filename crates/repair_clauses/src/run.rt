@@ -8,12 +8,11 @@ ghost use Rattle.cqa_model.specs.declared.limits.TheConstants.{MOST_ROWS};
 ghost use Rattle.repair_clauses.specs.Runs.{ArePlaces, AreRuns};
 ghost use Rattle.repair_clauses.specs.Spans.{AreBasedTo};
 
-use crate::blocks::block_start;
 use crate::span::Span;
 use cqa_value::{Items, NoMemory};
+use row_blocks::{block_end, block_start};
 use row_pieces::Rows;
 use std::alloc::Global;
-use table_blocks::block_end;
 
 /// Relevant blocks, and how many variables come up to their end.
 #[derive(Drop)]
@@ -24,7 +23,7 @@ pub struct Spans {
 
 /// The blocks of an atom's rows that have one of these places, in block order; their rows are numbered from `base` on.
 ///
-/// It looks at the rows of these blocks, and at no others but one on each side.
+/// It looks at few rows of a block, so its time grows with the places, and hardly with the blocks.
 ///
 /// # Errors
 ///

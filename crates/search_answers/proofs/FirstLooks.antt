@@ -2,6 +2,7 @@
 use Rattle.std.proofs.Common.{◌≡◌, ℕ, suc, ◌<◌, ◌+◌, inl, inr, List, [], ◌∷◌, length, map, sym, ap, subst, arith, Contains, Bool}
 use Rattle.std.proofs.lemmas.List.Elements.{Contains-append_cases}
 use Rattle.cqa_value.specs.declared.value.Value.{Value}
+use Rattle.cqa_value.proofs.Words.{Contains-from_map, in_range}
 use Rattle.cqa_model.specs.declared.query.Query.{Query}
 use Rattle.cqa_model.specs.declared.query.RowId.{RowId}
 use Rattle.cqa_model.specs.Database.{Table}
@@ -20,10 +21,9 @@ use Rattle.repair_clauses.specs.declared.span.Span.{Span}
 use Rattle.repair_clauses.specs.Clauses.{Variable, HasNumber, IsFormula, positive, negative}
 use Rattle.repair_clauses.specs.Spans.{AreBasedTo, AreSpansTo, AreNumbers, numbers_in, variables_of, formula_of}
 use Rattle.search_answers.specs.Looking.{AreClausesOf, IsFoundOf}
-use Rattle.repair_clauses.proofs.Numbers.{from_map}
 use Rattle.repair_clauses.proofs.Rows.{number_below}
 use Rattle.repair_clauses.proofs.Exact.{clauses_decide}
-use Rattle.repair_clauses.proofs.Spans.{in_range, spans_give_formula}
+use Rattle.repair_clauses.proofs.Spans.{spans_give_formula}
 use Rattle.repair_clauses.proofs.Atoms.{spans-all}
 use Rattle.repair_clauses.proofs.Naming.{placed}
 use Rattle.repair_clauses.proofs.Encoding.{based-below, variables-length}
@@ -40,14 +40,14 @@ numbered_place variables F (p ∷ ps) (k ∷ ns) n h m = elim (mem-cases n k ns 
 
 pub all_below : (spans : List Span) (m : ℕ) (places : List (List ℕ)) (cs : List (List Lit)) → AreBasedTo 0 spans m → AreClausesOf spans places cs → AreAllBelow (m + 1) cs
 all_below spans m places cs based h c mc l ml = elim (Contains-append_cases (map (map positive) (map numbers_in spans)) (map (map negative) h.numbers) c (subst (λ ds. Contains ds c) h.is mc)) [
-  | inl b ↦ of_block (from_map (map positive) (map numbers_in spans) c b)
-  | inr w ↦ of_witness (from_map (map negative) h.numbers c w)
+  | inl b ↦ of_block (Contains-from_map (map positive) (map numbers_in spans) c b)
+  | inr w ↦ of_witness (Contains-from_map (map negative) h.numbers c w)
 ]
   where
     of_block : ((ns : List ℕ) × Contains (map numbers_in spans) ns × (map positive ns ≡ c)) → l.var < m + 1
     of_block (ns, i, e) =
-        let s = from_map numbers_in spans ns i in
-        let n = from_map positive ns l (subst (λ d. Contains d l) (sym e) ml) in
+        let s = Contains-from_map numbers_in spans ns i in
+        let n = Contains-from_map positive ns l (subst (λ d. Contains d l) (sym e) ml) in
         let r = in_range (suc s.0.base) s.0.count n.0 (subst (λ ks. Contains ks n.0) (sym s.2) n.1) in
         let high = r.1 in
         let b = based-below 0 m spans based s.0 s.1 in
@@ -57,7 +57,7 @@ all_below spans m places cs based h c mc l ml = elim (Contains-append_cases (map
     of_witness : ((ns : List ℕ) × Contains h.numbers ns × (map negative ns ≡ c)) → l.var < m + 1
     of_witness (ns, i, e) =
         let z = zip-right (AreNumbers (variables_of spans) 0) places h.numbers h.numbered ns i in
-        let n = from_map negative ns l (subst (λ d. Contains d l) (sym e) ml) in
+        let n = Contains-from_map negative ns l (subst (λ d. Contains d l) (sym e) ml) in
         let x = numbered_place (variables_of spans) 0 z.0 ns n.0 z.2 n.1 in
         let b = number_below (variables_of spans) n.0 x.0 x.1 in
         let high = b.1 in

@@ -3,3 +3,4 @@ pub mod Quotient
 pub mod Marking
 pub mod ClassLists
 pub mod Searching
+pub mod WitnessRows

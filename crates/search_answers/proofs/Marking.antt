@@ -1,8 +1,8 @@
 -- Rows get the class of a row that is alike.
 use Rattle.std.proofs.Common.{◌≡◌, ℕ, ◌<◌, ◌+◌, ◌⊎◌, inl, inr, List, [], ◌∷◌, ◌++◌, length, get_or, set, Option, Some, None, refl, sym, ◌∙◌, ap, subst, arith, Contains, slice_get, slice_index_or}
-use Rattle.std.proofs.lemmas.Option.{get_or_from_slice_get, slice_get_within, slice_get-get_or}
-use Rattle.std.proofs.lemmas.List.{get_or-set_same, get_or-set_other, length-set, take_more, take_all}
-use Rattle.std.proofs.lemmas.List.Elements.{Contains-get_or, Contains-push, Contains-push_cases}
+use Rattle.std.proofs.lemmas.Option.{get_or_from_slice_get, slice_get_within, slice_get-get_or, same_Some, none-some}
+use Rattle.std.proofs.lemmas.List.{get_or-set_same, get_or-set_other, length-set}
+use Rattle.std.proofs.lemmas.List.Elements.{Contains-push, Contains-push_cases}
 use native.Mathlib.Decide.{ℕ_discrete}
 use Rattle.cqa_value.specs.declared.value.Value.{Value}
 use Rattle.cqa_model.specs.declared.query.ColRef.{ColRef}
@@ -13,8 +13,8 @@ use Rattle.cqa_model.specs.Repairs.{SharesKey}
 use Rattle.cqa_model.specs.Query.{rows_of}
 use Rattle.repair_clauses.specs.Alike.{AreAlike, IsSpokenOf}
 use Rattle.repair_clauses.specs.Clauses.{Variable, HasNumber, row_of}
-use Rattle.repair_clauses.specs.Spans.{at}
-use Rattle.search_answers.specs.Classing.{HasColumn, HasClass, IsNamed, AreClassedTo, Marks}
+use Rattle.repair_clauses.specs.Spans.{at, IsNamed}
+use Rattle.search_answers.specs.Classing.{HasColumn, HasClass, AreClassedTo, Marks}
 
 get-set_same : {A : Type 0} (xs : List A) (k : ℕ) (x : A) → k < length xs → slice_get (set xs k x) k ≡ Some x
 get-set_same xs k x l = slice_get-get_or (set xs k x) k x (let e = length-set xs k x in omega (arith, e, l)) ∙ ap Some (get_or-set_same xs k x x l)
@@ -28,9 +28,6 @@ get-unset : {A : Type 0} (xs : List A) (k j : ℕ) (x y : A) → (j ≡ k → �
 get-unset xs k j x y n e =
     let l = slice_get_within (set xs k x) j y e in
     slice_get-get_or xs j y (let s = length-set xs k x in omega (arith, s, l)) ∙ ap Some (sym (get_or-set_other xs k j x y n) ∙ get_or_from_slice_get (set xs k x) j y y e)
-
-some_same : {A : Type 0} (x y : A) → Some x ≡ Some y → x ≡ y
-some_same x y e = cc
 
 module _ (variables : List Variable) (columns : List ℕ) (rows : List (List Value)) (atom : ℕ) (old : List (Option ℕ)) where
   pub marks-none : Marks variables columns rows atom [] old old
@@ -57,8 +54,8 @@ module _ (variables : List Variable) (columns : List ℕ) (rows : List (List Val
       each : (F s i : ℕ) (c : HasClass variables (set mid k (Some n)) F s i) → Dec (c.0 ≡ k) → HasClass variables old F s i ⊎ ((F ≡ atom) × Contains (places ++ p ∷ []) s ×
           ((z : ℕ) × HasNumber variables i (at atom z) × SharesKey columns (slice_index_or rows z []) (slice_index_or rows s [])))
       each F s i (j, ej, ei) (yes e) =
-          let is : at F s ≡ at atom p = some_same (at F s) (at atom p) (sym ej ∙ (ap (slice_get variables) e ∙ ek)) in
-          let ni : n ≡ i = some_same n i (some_same (Some n) (Some i) (sym (get-set_same mid k (Some n) lk) ∙ (ap (slice_get (set mid k (Some n))) (sym e) ∙ ei))) in
+          let is : at F s ≡ at atom p = same_Some (at F s) (at atom p) (sym ej ∙ (ap (slice_get variables) e ∙ ek)) in
+          let ni : n ≡ i = same_Some n i (same_Some (Some n) (Some i) (sym (get-set_same mid k (Some n) lk) ∙ (ap (slice_get (set mid k (Some n))) (sym e) ∙ ei))) in
           let sp : p ≡ s = ap (λ (z : Variable). z.place) (sym is) in
           inr (
             ap (λ (z : Variable). z.atom) is,
@@ -74,10 +71,6 @@ module _ (variables : List Variable) (columns : List ℕ) (rows : List (List Val
       still F s i (j, ej, ei) (yes e) = (n, (k, subst (λ z. slice_get variables z ≡ Some (at F s)) e ej, get-set_same mid k (Some n) lk))
       still F s i (j, ej, ei) (no f) = (i, (j, ej, get-set_other mid k j (Some n) (Some i) f ei))
 
--- no row has a class yet
-none_some : (n : ℕ) → None ≡ Some n → ⊥
-none_some n e = cc
-
 module _ (q : Query) (db : List Table) (variables : List Variable) (all : List (List RowId)) where
   pub classed-none : (classes : List (Option ℕ)) → length classes ≡ length variables → ((k : ℕ) → k < length classes → get_or classes k None ≡ None) → AreClassedTo q db variables all 0 classes
   classed-none classes size none = record {
@@ -88,7 +81,7 @@ module _ (q : Query) (db : List Table) (variables : List Variable) (all : List (
   }
     where
       clash : (F p n : ℕ) → HasClass variables classes F p n → ⊥
-      clash F p n (k, ek, en) = none_some n (sym (none k (slice_get_within classes k (Some n) en)) ∙ get_or_from_slice_get classes k (Some n) None en)
+      clash F p n (k, ek, en) = none-some n (sym (none k (slice_get_within classes k (Some n) en)) ∙ get_or_from_slice_get classes k (Some n) None en)
 
   -- the rows of one atom more have classes
   pub classed-more : (n : ℕ) (columns places : List ℕ) (rows : List (List Value)) (old new : List (Option ℕ)) → AreClassedTo q db variables all n old → rows ≡ rows_of q (stored db) n →

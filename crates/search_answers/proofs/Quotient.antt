@@ -2,10 +2,11 @@
 use Rattle.std.proofs.Common.{◌≡◌, ℕ, suc, ◌<◌, ◌≤◌, ◌+◌, inl, inr, List, [], length, get_or, map, Option, Some, None, refl, sym, ◌∙◌, ap, subst, arith, Contains, slice_get, slice_index_or, Bool, true, false}
 use Rattle.std.specs.List.Sorted.{IsStrictlySortedBy}
 use Rattle.std.specs.Ordering.{nat_cmp}
-use Rattle.std.proofs.lemmas.Option.{get_or_from_slice_get, slice_get_within, slice_get-get_or}
+use Rattle.std.proofs.lemmas.Option.{get_or_from_slice_get, slice_get_within, slice_get-get_or, none-some}
 use Rattle.std.proofs.lemmas.List.Elements.{Contains-get_or, Contains-append_left, Contains-append_right, Contains-append_cases}
 use native.Mathlib.Decide.{ℕ_discrete}
 use Rattle.cqa_value.specs.declared.value.Value.{Value}
+use Rattle.cqa_value.proofs.Words.{Contains-map, Contains-from_map, Contains-slice_get, dec_one_below}
 use Rattle.cqa_model.specs.declared.query.Query.{Query}
 use Rattle.cqa_model.specs.declared.query.RowId.{RowId}
 use Rattle.cqa_model.specs.Database.{Table, IsDatabase, nothing, stored}
@@ -30,48 +31,33 @@ use Rattle.join_witness.proofs.Sorted.{one_place}
 use Rattle.repair_clauses.specs.declared.span.Span.{Span}
 use Rattle.repair_clauses.specs.Alike.{AreClasses, IsInWitness, IsCovered, SatisfiesClasses}
 use Rattle.repair_clauses.specs.Clauses.{Variable, HasNumber, IsStored, row_of, positive, negative, variable_cmp}
-use Rattle.repair_clauses.specs.Spans.{at, place_at, IsIn, AreSpans, AreSpansTo, variables_of}
-use Rattle.search_answers.specs.Classing.{HasClass, IsNamed, AreClassedTo, IsWhole, AreOfBlock, AreOfNames, AreClassClauses, AreQuotient, FoundSays}
-use Rattle.repair_clauses.proofs.Truths.{some_below}
-use Rattle.repair_clauses.proofs.Numbers.{place_of, in_map, from_map}
-use Rattle.repair_clauses.proofs.Rows.{number_below, one_variable, dec_number, is_stored}
+use Rattle.repair_clauses.specs.Spans.{at, place_at, IsIn, IsNamed, AreSpansTo, variables_of}
+use Rattle.search_answers.specs.Classing.{HasClass, AreClassedTo, AreNumberedTo, IsWhole, AreOfBlock, AreOfNames, AreClassClauses, AreQuotient, FoundSays}
+use Rattle.repair_clauses.proofs.Numbers.{place_of}
+use Rattle.repair_clauses.proofs.Spans.{as_at}
+use Rattle.repair_clauses.proofs.Rows.{number_below, one_variable, dec_number}
 use Rattle.repair_clauses.proofs.Order.{map_var, variable_total}
-use Rattle.repair_clauses.proofs.Spans.{are_variables}
-use Rattle.repair_clauses.proofs.Atoms.{spans-all}
 use Rattle.repair_clauses.proofs.Naming.{named-size, of_names, placed}
 use Rattle.repair_clauses.proofs.Alike.{classes_are_exact}
 use Rattle.repair_clauses.proofs.Deciding.{no-var-twice}
-
-some_same : {A : Type 0} (x y : A) → Some x ≡ Some y → x ≡ y
-some_same x y e = cc
-
-some_some : (m n : ℕ) → Some (Some m) ≡ Some (Some n) → m ≡ n
-some_some m n e = some_same m n (some_same (Some m) (Some n) e)
-
-none_some : (n : ℕ) → None ≡ Some (Some n) → ⊥
-none_some n e = cc
+use Rattle.search_answers.proofs.ClassLists.{some_some}
+use Rattle.search_answers.proofs.WitnessRows.{rising, span_at}
 
 dec_class : (o : Option (Option ℕ)) → Dec ((n : ℕ) × (o ≡ Some (Some n)))
-dec_class None = no (λ h. none_some h.0 h.1)
+dec_class None = no (λ h. none-some (Some h.0) h.1)
 dec_class (Some None) = no (λ h. no_none h.0 h.1)
   where
     no_none : (n : ℕ) → Some None ≡ Some (Some n) → ⊥
     no_none n e = cc
 dec_class (Some (Some n)) = yes (n, refl)
 
-one_at : (x : Variable) (F : ℕ) → x.atom ≡ F → x ≡ at F x.place
-one_at x F e = ap (λ G. at G x.place) e
-
 module _ (q : Query) (db : List Table) (d : IsDatabase db) (fits : FitsDatabase q db) (row : List Value) (m : ℕ) (spans : List Span) (h : AreSpansTo q db row (length q.atoms) m spans)
-    (all : List (List RowId)) (a : AreAllNames q db row all) where
+    (all : List (List RowId)) (a : AreAllNames q db row all) (numbered : List Span) (rows : AreNumberedTo all (length q.atoms) numbered) where
   abbrev vars : List Variable
-  vars = variables_of spans
+  vars = variables_of numbered
 
-  are_spans : AreSpans q db row spans
-  are_spans = spans-all q db row m spans h
-
-  pub sorted : IsStrictlySortedBy variable_cmp vars
-  sorted = (are_variables q db row spans are_spans).in_order
+  sorted : IsStrictlySortedBy variable_cmp vars
+  sorted = rising numbered rows.single
 
   -- a row stands at one place
   one_row : (F p r : ℕ) → F < length q.atoms → p < length (rows_of q (stored db) F) → r < length (rows_of q (stored db) F) → row_of q db (at F p) ≡ row_of q db (at F r) → p ≡ r
@@ -93,7 +79,7 @@ module _ (q : Query) (db : List Table) (d : IsDatabase db) (fits : FitsDatabase 
           (names : List RowId) × Contains all names × ((F : ℕ) → F < length q.atoms → HasPlaceOf w F (place_at names F))
       go (ps, size, each) =
           let mp = ((placed q db row all a).exactly ps).1 (record { rows = w; witness = hw; size = size; each = each }) in
-          let n = from_map places_of all ps mp in
+          let n = Contains-from_map places_of all ps mp in
           (n.0, n.1, λ F l. subst (λ xs. HasPlaceOf w F (get_or xs F 0)) (sym n.2) (each F l))
 
   named : (F : ℕ) → F < length q.atoms → (x : List Value) → IsInWitness q (stored db) row F x → (p : ℕ) × (p < length (rows_of q (stored db) F)) × (row_of q db (at F p) ≡ x) × IsNamed all F p
@@ -117,7 +103,7 @@ module _ (q : Query) (db : List Table) (d : IsDatabase db) (fits : FitsDatabase 
     IsHit F x k = ((y : Variable) × HasNumber vars (suc k) y × IsOf F x y) × ((n : ℕ) × (slice_get classes k ≡ Some (Some n)))
 
     dec_hit : (F : ℕ) (x : List Value) → Dec ((k : ℕ) × (k < length vars) × IsHit F x k)
-    dec_hit F x = some_below (IsHit F x)
+    dec_hit F x = dec_one_below (IsHit F x)
         (λ k. dec_both (dec_number vars (IsOf F x) (λ y. dec_both (ℕ_discrete y.atom F) (row_discrete (row_of q db y) x)) (suc k)) (dec_class (slice_get classes k))) (length vars)
 
     abbrev chosen : (F : ℕ) (x : List Value) → Dec ((k : ℕ) × (k < length vars) × IsHit F x k) → ℕ
@@ -131,13 +117,16 @@ module _ (q : Query) (db : List Table) (d : IsDatabase db) (fits : FitsDatabase 
     is_class F p n (k, ek, en) = go (dec_hit F (row_of q db (at F p)))
       where
         st : (y : Variable) (j : ℕ) → HasNumber vars (suc j) y → IsStored q db y
-        st y j e = is_stored q db row vars (are_variables q db row spans are_spans) y (Rattle.repair_clauses.proofs.Numbers.at_place vars j y e)
+        st y j e =
+            let s = span_at numbered rows.single j y e in
+            let b = rows.from s.0 (Contains-slice_get numbered j s.0 s.1) in
+            subst (IsStored q db) s.2 (b.0, (in_witness s.0.atom b.0 s.0.start b.1).0)
 
         go : (dec : Dec ((j : ℕ) × (j < length vars) × IsHit F (row_of q db (at F p)) j)) → chosen F (row_of q db (at F p)) dec ≡ n
         go (yes (j, l, ((y, ey, (ya, yr)), (i, ei)))) =
             let sp = st (at F p) k ek in
             let sy = st y j ey in
-            let is : y ≡ at F y.place = one_at y F ya in
+            let is : y ≡ at F y.place = as_at y F ya in
             let ly : y.place < length (rows_of q (stored db) F) = subst (λ G. y.place < length (rows_of q (stored db) G)) ya sy.1 in
             let same : y.place ≡ p = one_row F y.place p sp.0 ly sp.1 (ap (row_of q db) (sym is) ∙ yr) in
             let whole : y ≡ at F p = is ∙ ap (at F) same in
@@ -195,21 +184,21 @@ module _ (q : Query) (db : List Table) (d : IsDatabase db) (fits : FitsDatabase 
     module _ (cs : List (List Lit)) (k : AreClassClauses vars classes spans all cs) where
       block_in : (numbers : List ℕ) → Contains k.blocks numbers → Contains cs (map positive numbers)
       block_in numbers mn = subst (λ ds. Contains ds (map positive numbers)) (sym k.is)
-          (Contains-append_left (map (map positive) k.blocks) (map (map negative) k.witnesses) (map positive numbers) (in_map (map positive) k.blocks numbers mn))
+          (Contains-append_left (map (map positive) k.blocks) (map (map negative) k.witnesses) (map positive numbers) (Contains-map (map positive) k.blocks numbers mn))
 
       witness_in : (numbers : List ℕ) → Contains k.witnesses numbers → Contains cs (map negative numbers)
       witness_in numbers mn = subst (λ ds. Contains ds (map negative numbers)) (sym k.is)
-          (Contains-append_right (map (map positive) k.blocks) (map (map negative) k.witnesses) (map negative numbers) (in_map (map negative) k.witnesses numbers mn))
+          (Contains-append_right (map (map positive) k.blocks) (map (map negative) k.witnesses) (map negative numbers) (Contains-map (map negative) k.witnesses numbers mn))
 
       -- from clauses to classes
       from_sat : ((v : ℕ → Bool) × SatisfiesAll v cs) → (t : ℕ → Bool) × SatisfiesClasses q (stored db) row class t
       from_sat (v, sat) = (v, record { blocks = blocks; witnesses = witnesses })
         where
           some_true : (numbers : List ℕ) → Satisfies v (map positive numbers) → (n : ℕ) × Contains numbers n × (v n ≡ true)
-          some_true numbers (l, ml, e) = let p = from_map positive numbers l ml in (p.0, p.1, subst (λ (z : Lit). v z.var ≡ z.positive) (sym p.2) e)
+          some_true numbers (l, ml, e) = let p = Contains-from_map positive numbers l ml in (p.0, p.1, subst (λ (z : Lit). v z.var ≡ z.positive) (sym p.2) e)
 
           some_false : (numbers : List ℕ) → Satisfies v (map negative numbers) → (n : ℕ) × Contains numbers n × (v n ≡ false)
-          some_false numbers (l, ml, e) = let p = from_map negative numbers l ml in (p.0, p.1, subst (λ (z : Lit). v z.var ≡ z.positive) (sym p.2) e)
+          some_false numbers (l, ml, e) = let p = Contains-from_map negative numbers l ml in (p.0, p.1, subst (λ (z : Lit). v z.var ≡ z.positive) (sym p.2) e)
 
           Goal : ℕ → List Value → Type 0
           Goal F x = (y : List Value) × Contains (rows_of q (stored db) F) y × SharesKey (atom_key q F) x y × (v (class F y) ≡ true)
@@ -253,8 +242,8 @@ module _ (q : Query) (db : List Table) (d : IsDatabase db) (fits : FitsDatabase 
       to_sat (t, s) = (
         t,
         λ cl mc. elim (Contains-append_cases (map (map positive) k.blocks) (map (map negative) k.witnesses) cl (subst (λ ds. Contains ds cl) k.is mc)) [
-          | inl b ↦ let p = from_map (map positive) k.blocks cl b in subst (Satisfies t) p.2 (of_list p.0 (k.of_blocks.each p.0 p.1))
-          | inr w ↦ let p = from_map (map negative) k.witnesses cl w in subst (Satisfies t) p.2 (of_witness p.0 (k.of_names.each p.0 p.1))
+          | inl b ↦ let p = Contains-from_map (map positive) k.blocks cl b in subst (Satisfies t) p.2 (of_list p.0 (k.of_blocks.each p.0 p.1))
+          | inr w ↦ let p = Contains-from_map (map negative) k.witnesses cl w in subst (Satisfies t) p.2 (of_witness p.0 (k.of_names.each p.0 p.1))
         ],
       )
         where
@@ -285,7 +274,7 @@ module _ (q : Query) (db : List Table) (d : IsDatabase db) (fits : FitsDatabase 
                   let r = place y my sh in
                   let n = o.whole r.0 r.1 in
                   let is : class b.atom y ≡ n.0 = ap (class b.atom) (sym r.2) ∙ is_class b.atom r.0 n.0 n.1 in
-                  (positive n.0, in_map positive numbers n.0 ((o.exactly n.0).1 (r.0, r.1, n.1)), ap t (sym is) ∙ e)
+                  (positive n.0, Contains-map positive numbers n.0 ((o.exactly n.0).1 (r.0, r.1, n.1)), ap t (sym is) ∙ e)
 
           of_witness : (numbers : List ℕ) → ((names : List RowId) × Contains all names × AreOfNames vars classes names numbers) → Satisfies t (map negative numbers)
           of_witness numbers (names, mn, o) =
@@ -295,7 +284,7 @@ module _ (q : Query) (db : List Table) (d : IsDatabase db) (fits : FitsDatabase 
               let n = c.to p.0 (place_at names p.0) (p.1, (names, mn, refl)) in
               let is : class p.0 (row_at b.rows p.0) ≡ n.0 = ap (class p.0) (sym (b.each p.0 p.1).1) ∙ is_class p.0 (place_at names p.0) n.0 n.1 in
               let l : p.0 < length names = subst (λ z. p.0 < z) (sym (named-size db q.atoms names an.0 an.2)) p.1 in
-              (negative n.0, in_map negative numbers n.0 ((o.exactly n.0).1 (p.0, l, n.1)), ap t (sym is) ∙ p.2)
+              (negative n.0, Contains-map negative numbers n.0 ((o.exactly n.0).1 (p.0, l, n.1)), ap t (sym is) ∙ p.2)
 
       rejected : ((v : ℕ → Bool) × SatisfiesAll v cs) → IsCertain db q row → ⊥
       rejected s certain =
@@ -305,47 +294,47 @@ module _ (q : Query) (db : List Table) (d : IsDatabase db) (fits : FitsDatabase 
       certain_of : ((v : ℕ → Bool) → SatisfiesAll v cs → ⊥) → IsCertain db q row
       certain_of none = (databases.formula_is_exact db q row fits).1 (λ b s. let r = to_sat ((classes_are_exact db q row class are_classes).1 (b, s)) in none r.0 r.1)
 
-  pub found_says : (cs : List (List Lit)) → AreQuotient q db spans all cs → (f : Found) → FoundIs cs f → FoundSays q db row f
+  pub found_says : (cs : List (List Lit)) → AreQuotient q db numbered spans all cs → (f : Found) → FoundIs cs f → FoundSays q db row f
   found_says cs (classes, c, k) Satisfiable s = rejected classes c cs k s
   found_says cs (classes, c, k) Unsatisfiable s = certain_of classes c cs k s
   found_says cs (classes, c, k) Unclear s = tt
 
 -- ---- the clauses are well formed
 
-module _ (q : Query) (db : List Table) (spans : List Span) (all : List (List RowId)) (cs : List (List Lit)) where
-  class_number : (classes : List (Option ℕ)) → AreClassedTo q db (variables_of spans) all (length q.atoms) classes → (F p n : ℕ) → HasClass (variables_of spans) classes F p n → (1 ≤ n) × (n < 1 + length (variables_of spans))
-  class_number classes c F p n hc = let r = c.alike F p n hc in number_below (variables_of spans) n (at F r.0) r.1
+module _ (q : Query) (db : List Table) (numbered spans : List Span) (all : List (List RowId)) (cs : List (List Lit)) where
+  class_number : (classes : List (Option ℕ)) → AreClassedTo q db (variables_of numbered) all (length q.atoms) classes → (F p n : ℕ) → HasClass (variables_of numbered) classes F p n → (1 ≤ n) × (n < 1 + length (variables_of numbered))
+  class_number classes c F p n hc = let r = c.alike F p n hc in number_below (variables_of numbered) n (at F r.0) r.1
 
   -- the numbers of a clause rise, and are those of variables
   pub record RisesTo (cl : List Lit) : Type 0 where
     pub rises : IsStrictlySortedBy nat_cmp (map (λ (l : Lit). l.var) cl)
-    pub in_range : (l : Lit) → Contains cl l → (1 ≤ l.var) × (l.var < 1 + length (variables_of spans))
+    pub in_range : (l : Lit) → Contains cl l → (1 ≤ l.var) × (l.var < 1 + length (variables_of numbered))
 
   of_numbers : (lit : ℕ → Lit) → ((n : ℕ) → (lit n).var ≡ n) → (numbers : List ℕ) (cl : List Lit) → map lit numbers ≡ cl → IsStrictlySortedBy nat_cmp numbers →
-      ((n : ℕ) → Contains numbers n → (1 ≤ n) × (n < 1 + length (variables_of spans))) → RisesTo cl
+      ((n : ℕ) → Contains numbers n → (1 ≤ n) × (n < 1 + length (variables_of numbered))) → RisesTo cl
   of_numbers lit is numbers cl e s b = subst RisesTo e (record {
     rises = subst (IsStrictlySortedBy nat_cmp) (sym (map_var lit is numbers)) s;
-    in_range = λ l ml. let p = from_map lit numbers l ml in
+    in_range = λ l ml. let p = Contains-from_map lit numbers l ml in
         let v : l.var ≡ p.0 = ap (λ (z : Lit). z.var) (sym p.2) ∙ is p.0 in
-        subst (λ n. (1 ≤ n) × (n < 1 + length (variables_of spans))) (sym v) (b p.0 p.1);
+        subst (λ n. (1 ≤ n) × (n < 1 + length (variables_of numbered))) (sym v) (b p.0 p.1);
   })
 
-  pub rises_to : AreQuotient q db spans all cs → (cl : List Lit) → Contains cs cl → RisesTo cl
+  pub rises_to : AreQuotient q db numbered spans all cs → (cl : List Lit) → Contains cs cl → RisesTo cl
   rises_to (classes, c, k) cl mc = elim (Contains-append_cases (map (map positive) k.blocks) (map (map negative) k.witnesses) cl (subst (λ ds. Contains ds cl) k.is mc)) [
-    | inl b ↦ let p = from_map (map positive) k.blocks cl b in
+    | inl b ↦ let p = Contains-from_map (map positive) k.blocks cl b in
         let o = k.of_blocks.each p.0 p.1 in
         of_numbers positive (λ n. refl) p.0 cl p.2 o.2.rises (λ n mn. let f = (o.2.exactly n).0 mn in class_number classes c o.0.atom f.0 n f.2)
-    | inr w ↦ let p = from_map (map negative) k.witnesses cl w in
+    | inr w ↦ let p = Contains-from_map (map negative) k.witnesses cl w in
         let o = k.of_names.each p.0 p.1 in
         of_numbers negative (λ n. refl) p.0 cl p.2 o.2.rises (λ n mn. let f = (o.2.exactly n).0 mn in class_number classes c f.0 (place_at o.0 f.0) n f.2)
   ]
 
-  pub quotient_range : (cnf : Cnf) → literals cnf.clauses ≡ cs → cnf.vars ≡ length (variables_of spans) → AreQuotient q db spans all cs → IsInRange cnf
+  pub quotient_range : (cnf : Cnf) → literals cnf.clauses ≡ cs → cnf.vars ≡ length (variables_of numbered) → AreQuotient q db numbered spans all cs → IsInRange cnf
   quotient_range cnf e v h cl mc l ml =
       let r = (rises_to h cl (subst (λ ds. Contains ds cl) e mc)).in_range l ml in
       let low = r.0 in
       let high = r.1 in
       (low, omega (arith, high, v))
 
-  pub quotient_once : (cnf : Cnf) → literals cnf.clauses ≡ cs → AreQuotient q db spans all cs → IsOnce cnf
+  pub quotient_once : (cnf : Cnf) → literals cnf.clauses ≡ cs → AreQuotient q db numbered spans all cs → IsOnce cnf
   quotient_once cnf e h cl mc = no-var-twice cl (rises_to h cl (subst (λ ds. Contains ds cl) e mc)).rises

@@ -5,15 +5,16 @@ use Rattle.std.proofs.lemmas.List.{append-nil}
 use Rattle.std.proofs.lemmas.List.Elements.{Contains-append_left, Contains-append_right, Contains-append_cases, Contains-push, Contains-push_cases}
 use Rattle.cqa_value.specs.declared.value.Value.{Value}
 use Rattle.cqa_value.specs.Values.{row_cmp, row_cmp_total}
+use Rattle.cqa_value.proofs.Words.{sorted_join, sorted_cons, member_by_recursion}
 use Rattle.cqa_model.specs.declared.query.Query.{Query}
 use Rattle.cqa_model.specs.Database.{Table}
 use Rattle.cqa_model.specs.Query.{FitsDatabase}
 use Rattle.cqa_model.specs.Certain.{IsCertain, IsCandidate, IsCertainAnswer}
 use Rattle.cqa_model.proofs.Classic.{mem-head, mem-nil, mem-cases}
 use Rattle.cqa_model.proofs.Databases.{possible_is_candidate}
-use Rattle.row_cursor.proofs.Extending.{sorted-cons, sorted-nil}
+use Rattle.row_cursor.proofs.Extending.{sorted-nil}
 use Rattle.join_witness.specs.Listing.{HasTooMany}
-use Rattle.join_witness.proofs.Sorted.{each-of, not_less, not_both, sorted-joined}
+use Rattle.join_witness.proofs.Sorted.{not_less, not_both}
 use Rattle.search_answers.specs.declared.judging.Verdict.{Verdict}
 use Rattle.search_answers.specs.declared.search.Stop.{Stop}
 use Rattle.search_answers.specs.declared.search.Stop.TheVariants as stop
@@ -59,13 +60,13 @@ module _ (q : Query) (db : List Table) where
 
     head-less : {A : Type 0} (cmp : A → A → Ordering) (x : A) (xs : List A) → IsStrictlySortedBy cmp (x ∷ xs) → (y : A) → Contains xs y → cmp x y ≡ Less
     unfolding IsStrictlySortedBy
-    head-less cmp x xs s y m = each-of (λ z. cmp x z ≡ Less) xs y s.0 m
+    head-less cmp x xs s y m = member_by_recursion (λ z. cmp x z ≡ Less) xs s.0 y m
 
     front-less : {A : Type 0} (cmp : A → A → Ordering) (xs : List A) (y : A) (ys : List A) → IsStrictlySortedBy cmp (xs ++ y ∷ ys) → (x : A) → Contains xs x → cmp x y ≡ Less
     unfolding IsStrictlySortedBy
     front-less cmp [] y ys s x m = absurd (mem-nil x m)
     front-less cmp (z ∷ xs) y ys s x m = elim (mem-cases x z xs m) [
-      | inl e ↦ subst (λ u. cmp u y ≡ Less) e (each-of (λ w. cmp z w ≡ Less) (xs ++ y ∷ ys) y s.0 (Contains-append_right xs (y ∷ ys) y (mem-head y ys)))
+      | inl e ↦ subst (λ u. cmp u y ≡ Less) e (member_by_recursion (λ w. cmp z w ≡ Less) (xs ++ y ∷ ys) s.0 y (Contains-append_right xs (y ∷ ys) y (mem-head y ys)))
       | inr n ↦ front-less cmp xs y ys s.1 x n
     ]
 
@@ -111,11 +112,11 @@ module _ (q : Query) (db : List Table) where
     ]
 
     single : IsStrictlySortedBy row_cmp (row ∷ [])
-    single = sorted-cons row_cmp row [] (λ y m. absurd (mem-nil y m)) (sorted-nil row_cmp)
+    single = sorted_cons row_cmp row [] (λ y m. absurd (mem-nil y m)) (sorted-nil row_cmp)
 
     ascends : (new : List (List Value)) → Sifts q db row old new → IsStrictlySortedBy row_cmp new
     ascends new s = elim s.0 [
-      | inl k ↦ subst (IsStrictlySortedBy row_cmp) (sym k.0) (sorted-joined row_cmp old (row ∷ []) h.sifts.ascending single (λ x y mx my. elim (mem-cases y row [] my) [
+      | inl k ↦ subst (IsStrictlySortedBy row_cmp) (sym k.0) (sorted_join row_cmp old (row ∷ []) h.sifts.ascending single (λ x y mx my. elim (mem-cases y row [] my) [
         | inl e ↦ subst (λ z. row_cmp x z ≡ Less) e (front-less row_cmp h.done row later whole x ((h.sifts.exactly x).0 mx).0)
         | inr n ↦ absurd (mem-nil y n)
       ]))

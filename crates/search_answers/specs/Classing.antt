@@ -1,6 +1,6 @@
 -- Classes of rows that are alike, as code numbers them: a class is the number of one of its variables.
 use Rattle.cqa_model.specs.declared.limits.TheConstants.{MOST_ATOMS, MOST_ROWS}
-use Rattle.std.specs.Prelude.{◌*◌, ◌≡◌, ℕ, ◌<◌, ◌≤◌, ◌++◌, ◌↔◌, ◌⊎◌, Bool, List, [], Option, Some, None, length, map, Contains, slice_get, slice_index_or}
+use Rattle.std.specs.Prelude.{◌*◌, ◌≡◌, ℕ, suc, ◌∷◌, ◌<◌, ◌≤◌, ◌++◌, ◌↔◌, ◌⊎◌, Bool, List, [], Option, Some, length, map, Contains, slice_get, slice_index_or}
 use Rattle.std.specs.Ordering.{nat_cmp}
 use Rattle.std.specs.List.Sorted.{IsStrictlySortedBy}
 use Rattle.cqa_value.specs.declared.value.Value.{Value}
@@ -12,7 +12,9 @@ use Rattle.cqa_model.specs.Certain.{IsCertain}
 use Rattle.cqa_model.specs.Repairs.{SharesKey}
 use Rattle.join_witness.specs.declared.all_witnesses.Witness.{Witness}
 use Rattle.join_witness.specs.Listing.{AreAllNames, names_of}
+use Rattle.cnf_form.specs.declared.formula.Cnf.{Cnf}
 use Rattle.cnf_form.specs.declared.formula.Lit.{Lit}
+use Rattle.cnf_form.specs.Literals.{literals}
 use Rattle.cdcl.specs.declared.outcome.Outcome.{Outcome}
 use Rattle.cdcl.specs.declared.outcome.Outcome.TheVariants as outcome
 use Rattle.flat_formula.specs.declared.guess.Found.{Found}
@@ -20,7 +22,7 @@ use Rattle.flat_formula.specs.declared.guess.Found.TheVariants.{Satisfiable, Uns
 use Rattle.repair_clauses.specs.declared.span.Span.{Span}
 use Rattle.repair_clauses.specs.Alike.{AreAlike}
 use Rattle.repair_clauses.specs.Clauses.{Variable, HasNumber, row_of, positive, negative}
-use Rattle.repair_clauses.specs.Spans.{at, place_at, IsIn, AreSpansTo, variables_of}
+use Rattle.repair_clauses.specs.Spans.{at, place_at, IsIn, IsNamed, AreApart, AreSpansTo, variables_of}
 
 -- nothing is lost from a list
 abbrev pub LosesNone : List ℕ → List ℕ → Type 0
@@ -33,10 +35,6 @@ HasColumn atom columns c = c.atom ≡ atom → Contains columns c.col
 -- the row at a place of an atom has this class
 abbrev pub HasClass : List Variable → List (Option ℕ) → ℕ → ℕ → ℕ → Type 0
 HasClass variables classes F p n = (k : ℕ) × (slice_get variables k ≡ Some (at F p)) × (slice_get classes k ≡ Some (Some n))
-
--- the row at a place of an atom is in one of the named witnesses
-abbrev pub IsNamed : List (List RowId) → ℕ → ℕ → Type 0
-IsNamed all F p = (names : List RowId) × Contains all names × (place_at names F ≡ p)
 
 -- exactly the rows with a property have a class, and it is the number of a row of the same atom that is alike
 pub record AreClassed (q : Query) (db : List Table) (variables : List Variable) (P : ℕ → ℕ → Type 0) (classes : List (Option ℕ)) : Type 0 where
@@ -57,18 +55,35 @@ pub record Marks (variables : List Variable) (columns : List ℕ) (rows : List (
 abbrev pub AreWitnessed : Query → List Table → List Witness → List Span → Type 0
 AreWitnessed q db witnesses spans = (row : List Value) × (m : ℕ) × (m ≤ MOST_ATOMS * MOST_ROWS) × AreAllNames q db row (names_of witnesses) × AreSpansTo q db row (length q.atoms) m spans
 
--- the rows of the atoms before n that are in witnesses have classes
+-- at most `MOST_ATOMS * MOST_ROWS` spans of one row each, apart from each other and numbered one after the other
+pub record AreSingle (spans : List Span) : Type 0 where
+  pub few : length spans ≤ MOST_ATOMS * MOST_ROWS
+  pub each : (k : ℕ) (s : Span) → slice_get spans k ≡ Some s → (s.count ≡ 1) × (s.base ≡ k)
+  pub apart : AreApart spans
+
+-- exactly the rows with a property have a number, each by a span of its own
+pub record AreNumbered (P : ℕ → ℕ → Type 0) (spans : List Span) : Type 0 where
+  pub single : AreSingle spans
+  pub from : (s : Span) → Contains spans s → P s.atom s.start
+  pub to : (F p : ℕ) → P F p → (s : Span) × Contains spans s × IsIn s (at F p)
+
+-- exactly the rows of the atoms before n that are in witnesses have numbers
+abbrev pub AreNumberedTo : List (List RowId) → ℕ → List Span → Type 0
+AreNumberedTo all n spans = AreNumbered (λ F p. (F < n) × IsNamed all F p) spans
+
+-- the spans of the rows of an atom at these places, numbered from n on
+abbrev pub rows_from : ℕ → ℕ → List ℕ → List Span
+rows_from F n [] = []
+rows_from F n (p ∷ ps) = record { atom = F; start = p; count = 1; base = n } ∷ rows_from F (suc n) ps
+
+-- exactly the rows of the atoms before n that are in witnesses have classes
 abbrev pub AreClassedTo : Query → List Table → List Variable → List (List RowId) → ℕ → List (Option ℕ) → Type 0
 AreClassedTo q db variables all n classes = AreClassed q db variables (λ F p. (F < n) × IsNamed all F p) classes
 
--- the variables from a to b have these classes
-pub record AreRange (classes : List (Option ℕ)) (a b : ℕ) (numbers : List ℕ) : Type 0 where
-  pub each : (n : ℕ) → Contains numbers n → (k : ℕ) × (a ≤ k) × (k < b) × (slice_get classes k ≡ Some (Some n))
-  pub every : (k : ℕ) → a ≤ k → k < b → (n : ℕ) × Contains numbers n × (slice_get classes k ≡ Some (Some n))
-
--- a variable from a to b has no class
-abbrev pub IsBroken : List (Option ℕ) → ℕ → ℕ → Type 0
-IsBroken classes a b = (k : ℕ) × (a ≤ k) × (k < b) × (slice_get classes k ≡ Some None)
+-- the rows of an atom from a to b have these classes
+pub record AreRange (variables : List Variable) (classes : List (Option ℕ)) (F a b : ℕ) (numbers : List ℕ) : Type 0 where
+  pub each : (n : ℕ) → Contains numbers n → (p : ℕ) × (a ≤ p) × (p < b) × HasClass variables classes F p n
+  pub every : (p : ℕ) → a ≤ p → p < b → (n : ℕ) × Contains numbers n × HasClass variables classes F p n
 
 -- a literal
 abbrev pub signed : Bool → ℕ → Lit
@@ -107,10 +122,15 @@ pub record AreClassClauses (variables : List Variable) (classes : List (Option �
   pub of_names : AreNameLists variables classes all witnesses
   pub is : cs ≡ map (map positive) blocks ++ map (map negative) witnesses
 
--- the clauses of some classes of the rows that are in the witnesses
-abbrev pub AreQuotient : Query → List Table → List Span → List (List RowId) → List (List Lit) → Type 0
-AreQuotient q db spans all cs =
-    (classes : List (Option ℕ)) × AreClassedTo q db (variables_of spans) all (length q.atoms) classes × AreClassClauses (variables_of spans) classes spans all cs
+-- the clauses of some classes of the numbered rows
+abbrev pub AreQuotient : Query → List Table → List Span → List Span → List (List RowId) → List (List Lit) → Type 0
+AreQuotient q db numbered spans all cs =
+    (classes : List (Option ℕ)) × AreClassedTo q db (variables_of numbered) all (length q.atoms) classes × AreClassClauses (variables_of numbered) classes spans all cs
+
+-- the formula of some classes of the rows that are in the witnesses
+abbrev pub IsQuotient : Query → List Table → List Span → List (List RowId) → Cnf → Type 0
+IsQuotient q db spans all cnf =
+    (numbered : List Span) × AreNumberedTo all (length q.atoms) numbered × (cnf.vars ≡ length numbered) × AreQuotient q db numbered spans all (literals cnf.clauses)
 
 -- what an outcome finds out
 abbrev pub FoundOf : Outcome → Found → Type 0

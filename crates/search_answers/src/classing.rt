@@ -1,23 +1,24 @@
-//! The classes of a row's variables: variables of rows that are alike have one. A class is the number of one of them.
+//! The classes of the rows that are in witnesses: rows that are alike have one. A class is the number of one of them.
 //! Rows are sorted by what a query speaks of, so that those that are alike stand side by side.
 
-ghost use Rattle.std.specs.Prelude.{◌≡◌, ◌+◌, ◌<◌, ◌^◌, ◌↔◌, ◌⊎◌, ℕ, IfOk, Contains, length, slice_index_or, []};
+ghost use Rattle.std.specs.Prelude.{◌≡◌, ◌+◌, ◌<◌, ◌^◌, ◌*◌, ◌↔◌, ◌⊎◌, ℕ, List, IfOk, Contains, length, slice_index_or, []};
+ghost use Rattle.cqa_value.specs.declared.value.Value.{Value};
 ghost use Rattle.cqa_model.specs.Repairs.{SharesKey};
 ghost use Rattle.cqa_model.specs.Query.{FitsDatabase};
-ghost use Rattle.join_witness.specs.Listing.{names_of};
+ghost use Rattle.join_witness.specs.Listing.{AreAllNames, names_of};
 ghost use Rattle.repair_clauses.specs.declared.span.Span.{Span as Run};
 ghost use Rattle.repair_clauses.specs.Spans.{AreApart, AreBased, IsIn, at, variables_of};
-ghost use Rattle.search_answers.specs.Classing.{AreClassedTo, AreWitnessed, Marks};
+ghost use Rattle.search_answers.specs.Classing.{AreClassedTo, AreNumberedTo, Marks};
 
 use crate::spoken::spoken_columns;
 use cqa_model::Query;
 use cqa_value::{NOTHING, NoMemory, Row, compare};
 use join_witness::Witness;
 use repair_clauses::atom_of;
-use repair_clauses::blocks::goes_on;
 use repair_clauses::column::column;
 use repair_clauses::numbering::number;
 use repair_clauses::span::Span;
+use row_blocks::goes_on;
 use row_pieces::Rows;
 use std::alloc::Global;
 use std::cmp::Ordering;
@@ -70,17 +71,17 @@ fn first_alike(rows: &Rows<'_>, columns: &[u32], first: u32, place: u32) -> u32
 fn mark_rows(
     rows: &Rows<'_>,
     columns: &[u32],
-    spans: &[Span],
+    numbered: &[Span],
     atom: u32,
     places: &[u32],
     classes: &mut [Option<u32>],
 )
-    requires apart { AreApart spans.now }
-    requires based { AreBased 0 spans.now }
+    requires apart { AreApart numbered.now }
+    requires based { AreBased 0 numbered.now }
     requires there { (p : ℕ) → Contains places.now p → p < length rows.now }
-    requires covered { (p : ℕ) → Contains places.now p → (s : Run) × Contains spans.now s × IsIn s (at atom p) × (s.base + s.count < 2 ^ 32) }
-    requires size { length classes.old ≡ length (variables_of spans.now) }
-    ensures { Marks (variables_of spans.now) columns.now rows.now atom places.now classes.old classes.new }
+    requires covered { (p : ℕ) → Contains places.now p → (s : Run) × Contains numbered.now s × IsIn s (at atom p) × (s.base + s.count < 2 ^ 32) }
+    requires size { length classes.old ≡ length (variables_of numbered.now) }
+    ensures { Marks (variables_of numbered.now) columns.now rows.now atom places.now classes.old classes.new }
 {
     if places.is_empty() {
         return;
@@ -88,8 +89,8 @@ fn mark_rows(
     let mut first = places[0];
     for place in places {
         first = first_alike(rows, columns, first, *place);
-        let at = number(spans, atom, *place) - 1;
-        classes[at as usize] = Some(number(spans, atom, first));
+        let at = number(numbered, atom, *place) - 1;
+        classes[at as usize] = Some(number(numbered, atom, first));
     }
 }
 
@@ -98,16 +99,17 @@ fn mark_atom(
     alloc: Global,
     db: &Database,
     query: &Query,
-    spans: &[Span],
+    numbered: &[Span],
     witnesses: &[Witness],
     at: usize,
     classes: &mut [Option<u32>],
 ) -> Result<(), NoMemory>
     requires fits { FitsDatabase query.now db.now }
     requires there { at < length query.now.atoms }
-    requires blocks { AreWitnessed query.now db.now witnesses.now spans.now }
-    requires so_far { AreClassedTo query.now db.now (variables_of spans.now) (names_of witnesses.now) at classes.old }
-    ensures { IfOk result (λ done. AreClassedTo query.now db.now (variables_of spans.now) (names_of witnesses.now) (at + 1) classes.new) }
+    requires all { (row : List Value) × AreAllNames query.now db.now row (names_of witnesses.now) }
+    requires rows { AreNumberedTo (names_of witnesses.now) (length query.now.atoms) numbered.now }
+    requires so_far { AreClassedTo query.now db.now (variables_of numbered.now) (names_of witnesses.now) at classes.old }
+    ensures { IfOk result (λ done. AreClassedTo query.now db.now (variables_of numbered.now) (names_of witnesses.now) (at + 1) classes.new) }
 {
     let columns = spoken_columns(alloc, query, at)?;
     let mut places = column(alloc, witnesses, at)?;
@@ -116,7 +118,7 @@ fn mark_atom(
     mark_rows(
         &rows,
         columns.as_slice(),
-        spans,
+        numbered,
         at as u32,
         places.as_slice(),
         classes,
@@ -124,7 +126,7 @@ fn mark_atom(
     Ok(())
 }
 
-/// The class of each variable: the number of one whose row is alike, and none where its row is in no witness.
+/// The class of each numbered row, which are those in witnesses: the number of one that is alike.
 ///
 /// # Errors
 ///
@@ -133,23 +135,22 @@ pub fn classes_of(
     alloc: Global,
     db: &Database,
     query: &Query,
-    spans: &[Span],
-    vars: u32,
+    numbered: &[Span],
     witnesses: &[Witness],
 ) -> Result<Vec<Option<u32>>, NoMemory>
     requires fits { FitsDatabase query.now db.now }
-    requires blocks { AreWitnessed query.now db.now witnesses.now spans.now }
-    requires vars { vars ≡ length (variables_of spans.now) }
-    ensures { IfOk result (λ classes. AreClassedTo query.now db.now (variables_of spans.now) (names_of witnesses.now) (length query.now.atoms) classes.items) }
+    requires all { (row : List Value) × AreAllNames query.now db.now row (names_of witnesses.now) }
+    requires rows { AreNumberedTo (names_of witnesses.now) (length query.now.atoms) numbered.now }
+    ensures { IfOk result (λ classes. AreClassedTo query.now db.now (variables_of numbered.now) (names_of witnesses.now) (length query.now.atoms) classes.items) }
 {
     let mut classes = Vec::new(alloc);
-    classes.resize(vars as usize, None)?;
+    classes.resize(numbered.len(), None)?;
     for at in 0..query.atoms.len() {
         mark_atom(
             alloc,
             db,
             query,
-            spans,
+            numbered,
             witnesses,
             at,
             classes.as_mut_slice(),

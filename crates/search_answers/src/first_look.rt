@@ -92,8 +92,19 @@ fn pool_formula(spans: &[Span], witnesses: &[Witness], room: &mut Room) -> Resul
 /// So many witnesses may a row have whose formula is looked at without the solver.
 const FEW_WITNESSES: usize = 64;
 
+/// Blocks with more rows than so many times those of witnesses are wide.
+const WIDE: usize = 4;
+
+/// Whether a formula over all rows of the relevant blocks, so many, is small beside the witnesses. Where most of the rows are in
+/// no witness it isn't, and many candidates may have a witness through the same wide block: its rows must not be gone over for
+/// each of them.
+fn is_small(vars: u32, witnesses: &[Witness], atoms: usize) -> bool {
+    let rows = witnesses.len().saturating_mul(atoms);
+    witnesses.len() <= FEW_WITNESSES && vars as usize <= rows.saturating_mul(WIDE)
+}
+
 /// What is found out of the formula over numbered blocks without the solver. With a budget of 0 there is no guess either,
-/// so nothing is looked at.
+/// so nothing is looked at, nor is a formula that isn't small.
 ///
 /// # Errors
 ///
@@ -102,6 +113,7 @@ pub fn first_look(
     spans: &[Span],
     vars: u32,
     witnesses: &[Witness],
+    atoms: usize,
     budget: u32,
     room: &mut Room,
 ) -> Result<Found, NoMemory>
@@ -111,7 +123,7 @@ pub fn first_look(
     requires told { AreTold spans.now witnesses.now }
     ensures { IfOk result (IsFoundOf spans.now (map places_of (names_of witnesses.now))) }
 {
-    if budget == 0 || witnesses.len() > FEW_WITNESSES {
+    if budget == 0 || !is_small(vars, witnesses, atoms) {
         return Ok(Found::Unclear);
     }
     pool_formula(spans, witnesses, room)?;

@@ -96,7 +96,7 @@ fn judge_classes(
     ensures { IfOk result (λ verdict. (row : List Value) → AreAllNames query.now db.now row (names_of witnesses.now) → AreSpansTo query.now db.now row (length query.now.atoms) vars spans.now →
         (HasTooMany query.now db.now row → ⊥) → IsVerdict query.now db.now row budget verdict) }
 {
-    match second_look(alloc, db, query, spans, vars, witnesses, budget)? {
+    match second_look(alloc, db, query, spans, witnesses, budget)? {
         Found::Satisfiable => Ok(Verdict::Rejected),
         Found::Unsatisfiable => Ok(Verdict::Certain),
         Found::Unclear => judge_blocks(alloc, db, query, spans, vars, witnesses, budget),
@@ -119,7 +119,14 @@ fn judge_formula(
     let _tables = db.count();
     let mut spans = Vec::new(alloc);
     let vars = relevant_blocks(alloc, db, query, witnesses, &mut spans)?;
-    let found = first_look(spans.as_slice(), vars, witnesses, budget, room)?;
+    let found = first_look(
+        spans.as_slice(),
+        vars,
+        witnesses,
+        query.atoms.len(),
+        budget,
+        room,
+    )?;
     match found {
         Found::Satisfiable => Ok(Verdict::Rejected),
         Found::Unsatisfiable => Ok(Verdict::Certain),

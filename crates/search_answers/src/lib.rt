@@ -1,14 +1,16 @@
-//! The certain rows of a query that has no plan, by search: each possible row is rejected by rows in
-//! no witness, or decided by its formula. A first look decides most small formulas. What it leaves open goes to the solver: over classes of rows that are alike, and
-//! then over rows.
+//! The certain rows of a query that has no plan, by search: each possible row is rejected by rows in no witness, or decided by
+//! its formula. A first look decides most small formulas. What it leaves open goes to the solver: over classes of rows that are
+//! alike, and then over rows.
 #![tactic(auto)]
 
 mod class_clauses;
 mod classing;
 mod first_look;
 mod judging;
+mod rising;
 mod search;
 mod second_look;
 mod spoken;
+mod witness_rows;
 
 pub use search::{Searched, Stop, certain_by_search};

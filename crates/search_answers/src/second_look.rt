@@ -1,22 +1,22 @@
 //! A second look at a row's formula: rows that are alike are one variable, which makes most formulas smaller.
 
-ghost use Rattle.std.specs.Prelude.{◌*◌, ◌≡◌, ◌≤◌, List, IfOk, length};
+ghost use Rattle.std.specs.Prelude.{ℕ, List, IfOk, length};
 ghost use Rattle.cqa_value.specs.declared.value.Value.{Value};
 ghost use Rattle.cqa_model.specs.Query.{FitsDatabase};
 ghost use Rattle.cnf_form.specs.Literals.{IsInRange, literals};
 ghost use Rattle.cdcl.specs.Outcomes.{IsOnce};
 ghost use Rattle.flat_formula.specs.Findings.{FoundIs};
-ghost use Rattle.cqa_model.specs.declared.limits.TheConstants.{MOST_ATOMS, MOST_ROWS};
 ghost use Rattle.join_witness.specs.Listing.{AreAllNames, names_of};
 ghost use Rattle.repair_clauses.specs.Spans.{AreSpansTo};
-ghost use Rattle.search_answers.specs.Classing.{AreQuotient, FoundOf, FoundSays};
+ghost use Rattle.search_answers.specs.Classing.{AreNumberedTo, AreQuotient, AreWitnessed, FoundOf, FoundSays, IsQuotient};
 
 use crate::class_clauses::class_clauses;
 use crate::classing::classes_of;
+use crate::witness_rows::witness_rows;
 use cdcl::{Outcome, solve};
-use cnf_form::Cnf;
+use cnf_form::{Clause, Cnf};
 use cqa_model::Query;
-use cqa_value::NoMemory;
+use cqa_value::{Items, NoMemory};
 use flat_formula::Found;
 use join_witness::Witness;
 use repair_clauses::span::Span;
@@ -55,31 +55,49 @@ fn found_in(alloc: Global, cnf: &Cnf, budget: u32) -> Result<Found, NoMemory>
     }
 }
 
-/// The formula over classes of rows that are alike.
+/// The clauses over classes of rows that are alike.
+fn clauses_over(
+    alloc: Global,
+    db: &Database,
+    query: &Query,
+    numbered: &[Span],
+    spans: &[Span],
+    witnesses: &[Witness],
+) -> Result<Items<Clause>, NoMemory>
+    requires fits { FitsDatabase query.now db.now }
+    requires blocks { AreWitnessed query.now db.now witnesses.now spans.now }
+    requires rows { AreNumberedTo (names_of witnesses.now) (length query.now.atoms) numbered.now }
+    ensures { IfOk result (λ clauses. AreQuotient query.now db.now numbered.now spans.now (names_of witnesses.now) (literals clauses)) }
+{
+    let _tables = db.count();
+    let classes = classes_of(alloc, db, query, numbered, witnesses)?;
+    let clauses = class_clauses(alloc, numbered, classes.as_slice(), spans, witnesses);
+    drop(classes);
+    clauses
+}
+
+/// The formula over classes of rows that are alike. Its variables are the rows that are in witnesses.
 fn formula_of_classes(
     alloc: Global,
     db: &Database,
     query: &Query,
     spans: &[Span],
-    vars: u32,
     witnesses: &[Witness],
 ) -> Result<Cnf, NoMemory>
     requires fits { FitsDatabase query.now db.now }
-    requires small { vars ≤ MOST_ATOMS * MOST_ROWS }
-    requires blocks { (row : List Value) × AreAllNames query.now db.now row (names_of witnesses.now) × AreSpansTo query.now db.now row (length query.now.atoms) vars spans.now }
-    ensures vars { IfOk result (λ cnf. cnf.vars ≡ vars) }
-    ensures classes { IfOk result (λ cnf. AreQuotient query.now db.now spans.now (names_of witnesses.now) (literals cnf.clauses)) }
+    requires blocks { AreWitnessed query.now db.now witnesses.now spans.now }
+    ensures { IfOk result (IsQuotient query.now db.now spans.now (names_of witnesses.now)) }
 {
-    let _tables = db.count();
-    let classes = classes_of(alloc, db, query, spans, vars, witnesses)?;
-    let clauses = class_clauses(alloc, spans, classes.as_slice(), witnesses);
-    drop(classes);
+    let numbered = witness_rows(alloc, db, query, witnesses)?;
+    let vars = numbered.len() as u32;
+    let clauses = clauses_over(alloc, db, query, numbered.as_slice(), spans, witnesses);
+    drop(numbered);
     let clauses = clauses?;
     Ok(Cnf { vars, clauses })
 }
 
 /// What the solver finds out of a row by the formula over classes of rows that are alike, by searches of at
-/// most `budget` conflicts each.
+/// most `budget` conflicts each. Its time grows with the witnesses, and not with the relevant blocks.
 ///
 /// # Errors
 ///
@@ -89,18 +107,16 @@ pub fn second_look(
     db: &Database,
     query: &Query,
     spans: &[Span],
-    vars: u32,
     witnesses: &[Witness],
     budget: u32,
 ) -> Result<Found, NoMemory>
     requires fits { FitsDatabase query.now db.now }
-    requires small { vars ≤ MOST_ATOMS * MOST_ROWS }
-    requires blocks { (row : List Value) × AreAllNames query.now db.now row (names_of witnesses.now) × AreSpansTo query.now db.now row (length query.now.atoms) vars spans.now }
-    ensures { IfOk result (λ found. (row : List Value) → AreAllNames query.now db.now row (names_of witnesses.now) → AreSpansTo query.now db.now row (length query.now.atoms) vars spans.now →
+    requires blocks { AreWitnessed query.now db.now witnesses.now spans.now }
+    ensures { IfOk result (λ found. (row : List Value) (vars : ℕ) → AreAllNames query.now db.now row (names_of witnesses.now) → AreSpansTo query.now db.now row (length query.now.atoms) vars spans.now →
         FoundSays query.now db.now row found) }
 {
     let _tables = db.count();
-    let cnf = formula_of_classes(alloc, db, query, spans, vars, witnesses)?;
+    let cnf = formula_of_classes(alloc, db, query, spans, witnesses)?;
     let found = found_in(alloc, &cnf, budget);
     drop(cnf);
     found

@@ -10,7 +10,7 @@ use Rattle.search_answers.proofs.class_clauses.class_clauses.Goals as goal
 
 pub returns : goal.returns
 returns c =
-    let vars = variables_of c.args.spans.now in
+    let vars = variables_of c.args.numbered.now in
     let blocks = c.in_ok-blocks.blocks.items in
     let found = c.each_once.new.lists.items in
     let first : literals c.add_clauses.new.clauses.items ≡ map (map positive) blocks =

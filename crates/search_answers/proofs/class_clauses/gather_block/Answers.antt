@@ -1,15 +1,22 @@
-use Rattle.std.proofs.Common.{◌∙◌, ◌+◌, ◌<◌, None, Some, length, ap, arith}
-use Rattle.std.proofs.lemmas.Option.{slice_get-get_or}
+use Rattle.std.proofs.Common.{◌≡◌, ◌+◌, ℕ, None, Some, refl, sym, ◌∙◌, arith}
+use Rattle.repair_clauses.specs.Spans.{variables_of}
 use Rattle.search_answers.proofs.ClassLists.{range-none, range-more}
+use Rattle.search_answers.proofs.WitnessRows.{rising}
 use Rattle.search_answers.proofs.class_clauses.gather_block.Goals as goal
 
 pub loop-at-init : goal.loop-at-init
-loop-at-init c = range-none c.args.classes.now c.args.span.now.base c.args.numbers.now.items c.requires.none
+loop-at-init c = range-none (variables_of c.args.numbered.now) (rising c.args.numbered.now c.requires.single) c.args.classes.now c.args.span.now.atom c.args.span.now.start c.args.numbers.now.items c.requires.none
 
 pub loop-at-preserved : goal.loop-at-preserved
 loop-at-preserved c =
-    let classes = c.args.classes.now in
-    let k = c.args.span.now.base + c.loop-at.at in
-    let l : k < length classes = omega arith in
-    range-more classes c.args.span.now.base c.loop-at.at c.in-Some.class c.loop-at.numbers.items c.push.new.self.items c.loop-at.invariant
-    (slice_get-get_or classes k None l ∙ ap Some c.in-Some.is) c.in_ok-push-in-Some.ensures.items
+    range-more (variables_of c.args.numbered.now) (rising c.args.numbered.now c.requires.single) c.args.classes.now c.args.span.now.atom c.args.span.now.start c.loop-at.at c.in-Some.class
+    c.loop-at.numbers.items c.push.new.self.items c.loop-at.invariant ((c.class_at.ensures c.in-Some.class).0 c.in-Some.is) c.in_ok-push-in-Some.ensures.items
+
+no_class : (n : ℕ) → None ≡ Some n → ⊥
+no_class n e = cc
+
+pub returns-in-None-clause-some : goal.returns-in-None-clause-some
+returns-in-None-clause-some c = λ f whole.
+    let p = c.args.span.now.start + c.loop-at.at in
+    let n = whole p (refl, omega arith, omega arith) in
+    no_class n.0 (sym c.in-None.is ∙ (c.class_at.ensures n.0).1 n.1)

@@ -1,7 +1,8 @@
 use Rattle.std.proofs.Common.{◌+◌}
+use Rattle.repair_clauses.specs.Spans.{variables_of}
 use Rattle.search_answers.specs.Classing.{AreRange}
 use Rattle.search_answers.proofs.class_clauses.gather_block.Given as goal
 
 -- the classes of the rows so far
 abbrev pub invariant-loop-at : goal.invariant-loop-at
-invariant-loop-at l = AreRange l.classes l.span.base (l.span.base + l.at) l.numbers.items
+invariant-loop-at l = AreRange (variables_of l.numbered) l.classes l.span.atom l.span.start (l.span.start + l.at) l.numbers.items

@@ -1,26 +1,28 @@
-use Rattle.std.proofs.Common.{◌≡◌, ◌+◌, ◌++◌, ◌∷◌, ◌∙◌, List, [], take, ap, sym, subst, arith}
+use Rattle.std.proofs.Common.{◌≡◌, ◌+◌, ◌++◌, ◌∷◌, ◌∙◌, ◌≤◌, List, [], length, take, ap, sym, subst, arith}
 use Rattle.std.proofs.lemmas.List.{map_push, take_all}
+use Rattle.cqa_model.specs.declared.limits.TheConstants.{MOST_ATOMS}
+use Rattle.cqa_model.specs.declared.query.RowId.{RowId}
 use Rattle.join_witness.specs.declared.all_witnesses.Witness.{Witness}
 use Rattle.join_witness.specs.Listing.{names_of}
-use Rattle.repair_clauses.specs.Spans.{AreCovered, variables_of}
+use Rattle.repair_clauses.specs.Spans.{variables_of}
 use Rattle.search_answers.specs.Classing.{AreNameLists, AreOfNames}
 use Rattle.search_answers.proofs.ClassLists.{names-more, names-none, taken-next}
 use Rattle.search_answers.proofs.class_clauses.witness_lists.Goals as goal
 
 pub loop-witness-init : goal.loop-witness-init
-loop-witness-init c = subst (AreNameLists (variables_of c.args.spans.now) c.args.classes.now []) (sym c.in_ok-lists.ensures.items) (names-none (variables_of c.args.spans.now) c.args.classes.now)
+loop-witness-init c = subst (AreNameLists (variables_of c.args.numbered.now) c.args.classes.now []) (sym c.in_ok-lists.ensures.items) (names-none (variables_of c.args.numbered.now) c.args.classes.now)
 
-pub witness_list-requires-clause-covered : goal.witness_list-requires-clause-covered
-witness_list-requires-clause-covered c =
+pub witness_list-requires-clause-few : goal.witness_list-requires-clause-few
+witness_list-requires-clause-few c =
     let i = c.loop-witness.witness-index in
-    subst (AreCovered c.args.spans.now) (sym c.as_slice.ensures) (c.requires.told c.witness-item.result (i, omega arith, sym c.witness-item.is)).1
+    subst (λ (names : List RowId). length names ≤ MOST_ATOMS) (sym c.as_slice.ensures) (c.requires.few c.witness-item.result (i, omega arith, sym c.witness-item.is))
 
 pub loop-witness-preserved : goal.loop-witness-preserved
 loop-witness-preserved c =
     let i = c.loop-witness.witness-index in
     let w = c.witness-item.result in
     let ws = c.args.witnesses.now in
-    let vars = variables_of c.args.spans.now in
+    let vars = variables_of c.args.numbered.now in
     let numbers = c.in_ok-witness_list.field-0 in
     let names : names_of (take (i + 1) ws) ≡ names_of (take i ws) ++ w.rows ∷ [] = ap names_of (taken-next ws i w (omega arith) c.witness-item.is) ∙ map_push (λ (x : Witness). x.rows) (take i ws) w in
     subst (λ all. AreNameLists vars c.args.classes.now all c.push.new.self.items) (sym names)
@@ -28,4 +30,4 @@ loop-witness-preserved c =
     (subst (λ ns. AreOfNames vars c.args.classes.now ns numbers) c.as_slice.ensures c.in_ok-witness_list.ensures) c.in_ok-push.ensures.items)
 
 pub returns : goal.returns
-returns c = subst (λ (ws : List Witness). AreNameLists (variables_of c.args.spans.now) c.args.classes.now (names_of ws) c.loop-witness.lists.items) (take_all c.loop-witness.witness-index c.args.witnesses.now (omega arith)) c.loop-witness.invariant
+returns c = subst (λ (ws : List Witness). AreNameLists (variables_of c.args.numbered.now) c.args.classes.now (names_of ws) c.loop-witness.lists.items) (take_all c.loop-witness.witness-index c.args.witnesses.now (omega arith)) c.loop-witness.invariant

@@ -1,5 +1,5 @@
-use Rattle.std.proofs.Common.{sym, subst, List, length, map, Result, Ok, Err}
-use Rattle.std.specs.Prelude.{IfOk}
+use Rattle.std.proofs.Common.{sym, subst, List, length, map}
+use Rattle.std.proofs.lemmas.Result.{IfOk-weaker}
 use Rattle.flat_formula.specs.declared.guess.Found.{Found}
 use Rattle.join_witness.specs.Listing.{names_of, places_of}
 use Rattle.repair_clauses.specs.declared.span.Span.{Span}
@@ -54,15 +54,11 @@ judge_classes-requires-clause-blocks c =
     let row = c.requires.all.0 in
     (row, c.requires.all.1, subst (λ (ss : List Span). AreSpansTo q db row (length q.atoms) c.in_ok-vars.vars ss) (sym c.as_slice-in-Unclear.ensures.value) (c.in_ok-vars.ensures.blocks row c.requires.all.1))
 
-if-ok : {A E : Type 0} {P Q : A → Type 0} (r : Result A E) → ((x : A) → P x → Q x) → IfOk r P → IfOk r Q
-if-ok (Ok x) f h = f x h
-if-ok (Err e) f h = tt
-
 pub returns : goal.returns
 returns c =
     let q = c.args.query.now in
     let db = c.args.db.now in
-    if-ok c.judge_classes.result
+    IfOk-weaker c.judge_classes.result _ _
     (λ verdict says row all few. says row all
     (subst (λ (ss : List Span). AreSpansTo q db row (length q.atoms) c.in_ok-vars.vars ss) (sym c.as_slice-in-Unclear.ensures.value) (c.in_ok-vars.ensures.blocks row all)) few)
     c.judge_classes.ensures

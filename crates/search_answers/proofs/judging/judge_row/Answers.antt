@@ -1,12 +1,8 @@
-use Rattle.std.proofs.Common.{List, Result, Ok, Err, sym, subst}
-use Rattle.std.specs.Result.{IfOk}
+use Rattle.std.proofs.Common.{List, sym, subst}
+use Rattle.std.proofs.lemmas.Result.{IfOk-weaker}
 use Rattle.join_witness.specs.Listing.{AreAllNames, HasTooMany, IsOver, names_of}
 use Rattle.join_witness.specs.declared.all_witnesses.Witness.{Witness}
 use Rattle.search_answers.proofs.judging.judge_row.Goals as goal
-
-if-ok : {A E : Type 0} {P Q : A → Type 0} (r : Result A E) → ((a : A) → P a → Q a) → IfOk r P → IfOk r Q
-if-ok (Ok a) f h = f a h
-if-ok (Err e) f h = tt
 
 pub judge_witnesses-verdict-requires-clause-all : goal.judge_witnesses-verdict-requires-clause-all
 judge_witnesses-verdict-requires-clause-all c =
@@ -17,7 +13,7 @@ returns-in-Ok-clause-verdict c =
     let q = c.args.query.now in
     let row = c.args.row.now in
     let all = subst (λ (found : List Witness). AreAllNames q c.args.db.now row (names_of found)) (sym c.as_slice.ensures) c.in-Ok.ensures.all in
-    if-ok c.judge_witnesses-verdict.result (λ verdict judged. judged row all c.in-Ok.ensures.within) c.judge_witnesses-verdict.ensures
+    IfOk-weaker c.judge_witnesses-verdict.result _ _ (λ verdict judged. judged row all c.in-Ok.ensures.within) c.judge_witnesses-verdict.ensures
 
 pub returns-in-Err-Refused-clause-verdict : goal.returns-in-Err-Refused-clause-verdict
 returns-in-Err-Refused-clause-verdict c =

@@ -1,0 +1,101 @@
+-- The full blocks of a row, those of whose rows each is in a witness, and the numbers of their rows.
+use Rattle.cqa_model.specs.declared.limits.TheConstants.{MOST_ROWS}
+use Rattle.std.specs.Prelude.{◌≡◌, ◌⊎◌, ℕ, suc, ◌+◌, ◌-◌, ◌*◌, ◌<◌, ◌≤◌, ◌↔◌, ◌++◌, ◌∷◌, List, [], Option, Some, None, length, map, Contains, slice_index, slice_index_or}
+use Rattle.std.specs.List.Sorted.{IsStrictlySortedBy}
+use Rattle.cqa_value.specs.declared.value.Value.{Value}
+use Rattle.cqa_model.specs.declared.query.Query.{Query}
+use Rattle.cqa_model.specs.declared.query.RowId.{RowId}
+use Rattle.cqa_model.specs.Database.{Table, stored}
+use Rattle.cqa_model.specs.Repairs.{SharesKey}
+use Rattle.cqa_model.specs.Query.{atom_key, rows_of}
+use Rattle.cnf_form.specs.declared.formula.Lit.{Lit}
+use Rattle.repair_clauses.specs.declared.span.Span.{Span}
+use Rattle.repair_clauses.specs.Clauses.{row_of}
+use Rattle.repair_clauses.specs.Spans.{at, IsIn, IsNamed, span_cmp, AreBasedTo, place_at}
+use Rattle.repair_clauses.specs.Runs.{Covers, AreColumn}
+use Rattle.repair_clauses.specs.Avoiding.{HasFree}
+use Rattle.pair_formula.specs.declared.graph.Pair.{Pair}
+use Rattle.pair_formula.specs.Graph.{not_both}
+
+-- the row at a place is the next one of the same block
+abbrev pub Follows : List ℕ → List (List Value) → ℕ → ℕ → Type 0
+Follows key rows p r = (r ≡ p + 1) × SharesKey key (slice_index_or rows p []) (slice_index_or rows r [])
+
+-- the rows at the places from i on, before j, stand side by side, and are of one block
+abbrev pub IsInRow : List ℕ → List (List Value) → List ℕ → ℕ → ℕ → Type 0
+IsInRow key rows places i j = (k : ℕ) → i ≤ k → k < j →
+    (slice_index places k ≡ slice_index places i + (k - i)) × SharesKey key (slice_index_or rows (slice_index places i) []) (slice_index_or rows (slice_index places k) [])
+
+-- the block of the row at a place has a row right before it, or at the end
+abbrev pub HasMore : List ℕ → List (List Value) → ℕ → ℕ → Type 0
+HasMore key rows start end =
+    ((0 < start) × SharesKey key (slice_index_or rows start []) (slice_index_or rows (start - 1) [])) ⊎
+    ((end < length rows) × SharesKey key (slice_index_or rows start []) (slice_index_or rows end []))
+
+-- the block of a run of rows is added, exactly where it has no more
+abbrev pub IsRunAdded : List ℕ → List (List Value) → ℕ → ℕ → ℕ → ℕ → List Span → ℕ → List Span → Type 0
+IsRunAdded key rows atom base start end old vars new =
+    (HasMore key rows start end × (vars ≡ base) × (new ≡ old)) ⊎
+    ((HasMore key rows start end → ⊥) × (vars ≡ base + (end - start)) × (new ≡ old ++ record { atom = atom; start = start; count = end - start; base = base } ∷ []))
+
+-- a whole block of a table, all of whose rows are at places
+pub record IsFullRun (key : List ℕ) (rows : List (List Value)) (atom : ℕ) (places : List ℕ) (s : Span) : Type 0 where
+  pub of_atom : s.atom ≡ atom
+  pub some : 0 < s.count
+  pub within : s.start + s.count ≤ length rows
+  pub block : (i : ℕ) → i < length rows → SharesKey key (slice_index_or rows s.start []) (slice_index_or rows i []) ↔ Covers s i
+  pub full : (p : ℕ) → Covers s p → Contains places p
+
+-- exactly these blocks of a table, numbered from a base on
+pub record AreFullRuns (key : List ℕ) (rows : List (List Value)) (atom base : ℕ) (places : List ℕ) (vars : ℕ) (spans : List Span) : Type 0 where
+  pub in_order : IsStrictlySortedBy span_cmp spans
+  pub based : AreBasedTo base spans vars
+  pub small : vars ≤ base + length rows
+  pub each : (s : Span) → Contains spans s → IsFullRun key rows atom places s
+  pub every : (p : ℕ) → Contains places p → ((s : Span) × Contains spans s × Covers s p) ⊎ HasFree key rows places p
+
+-- exactly the full blocks of an atom, numbered from a base on
+abbrev pub AreFullOf : Query → List Table → List (List RowId) → ℕ → ℕ → ℕ → List Span → Type 0
+AreFullOf q db all F base vars spans = (places : List ℕ) × AreColumn all F places × AreFullRuns (atom_key q F) (rows_of q (stored db) F) F base places vars spans
+
+-- a whole block of an atom, all of whose rows are in witnesses
+pub record IsFullSpan (q : Query) (db : List Table) (all : List (List RowId)) (s : Span) : Type 0 where
+  pub there : s.atom < length q.atoms
+  pub some : 0 < s.count
+  pub within : s.start + s.count ≤ length (rows_of q (stored db) s.atom)
+  pub block : (i : ℕ) → i < length (rows_of q (stored db) s.atom) →
+      SharesKey (atom_key q s.atom) (row_of q db (at s.atom s.start)) (row_of q db (at s.atom i)) ↔ ((s.start ≤ i) × (i < s.start + s.count))
+  pub full : (p : ℕ) → s.start ≤ p → p < s.start + s.count → IsNamed all s.atom p
+
+-- the block of the row at a place of an atom has a row that is in no witness
+abbrev pub IsFree : Query → List Table → List (List RowId) → ℕ → ℕ → Type 0
+IsFree q db all F p = (places : List ℕ) × AreColumn all F places × HasFree (atom_key q F) (rows_of q (stored db) F) places p
+
+-- exactly the full blocks, and how many rows they have, at most `2 * MOST_ROWS`
+pub record AreFullSpans (q : Query) (db : List Table) (all : List (List RowId)) (vars : ℕ) (spans : List Span) : Type 0 where
+  pub in_order : IsStrictlySortedBy span_cmp spans
+  pub based : AreBasedTo 0 spans vars
+  pub small : vars ≤ 2 * MOST_ROWS
+  pub each : (s : Span) → Contains spans s → IsFullSpan q db all s
+  pub every : (F p : ℕ) → F < length q.atoms → IsNamed all F p → ((s : Span) × Contains spans s × IsIn s (at F p)) ⊎ IsFree q db all F p
+
+-- the number of the row at a place of an atom, if it is in one of the spans
+abbrev pub IsNumber : List Span → ℕ → ℕ → Option ℕ → Type 0
+IsNumber spans F p None = (s : Span) → Contains spans s → IsIn s (at F p) → ⊥
+IsNumber spans F p (Some n) = (s : Span) × Contains spans s × IsIn s (at F p) × (n ≡ suc (s.base + (p - s.start)))
+
+-- the numbers of the rows of a witness
+abbrev pub IsPairOf : List Span → List RowId → Pair → Type 0
+IsPairOf spans names p = IsNumber spans 0 (place_at names 0) (Some p.left) × IsNumber spans 1 (place_at names 1) (Some p.right)
+
+-- the clause of a witness is added, exactly where both of its rows have numbers
+abbrev pub AddsPair : List Span → List RowId → List (List Lit) → List (List Lit) → Type 0
+AddsPair spans names old new =
+    ((p : Pair) × IsPairOf spans names p × (new ≡ old ++ not_both p ∷ [])) ⊎ (((p : Pair) → IsPairOf spans names p → ⊥) × (new ≡ old))
+
+-- the clauses of these witnesses are added, exactly where both rows have numbers
+pub record AddsPairs (spans : List Span) (all : List (List RowId)) (old new : List (List Lit)) : Type 0 where
+  pub pairs : List Pair
+  pub is : new ≡ old ++ map not_both pairs
+  pub each : (p : Pair) → Contains pairs p → (names : List RowId) × Contains all names × IsPairOf spans names p
+  pub every : (names : List RowId) → Contains all names → ((p : Pair) × Contains pairs p × IsPairOf spans names p) ⊎ ((p : Pair) → IsPairOf spans names p → ⊥)

@@ -1,0 +1,145 @@
+//! The formula of a row of a pair over its full blocks: one of each full block's rows, and not both rows of a witness whose rows
+//! are in full blocks. A repair keeps out of each other witness by a row that is in none, so the formula decides the row.
+
+ghost use Rattle.std.specs.Prelude.{◌≡◌, ◌+◌, ◌-◌, ◌<◌, ◌≤◌, ◌↔◌, ◌^◌, suc, List, Contains, IfOk, length, map};
+ghost use Rattle.cqa_value.specs.declared.value.Value.{Value};
+ghost use Rattle.cqa_model.specs.Query.{FitsDatabase};
+ghost use Rattle.cqa_model.specs.Certain.{IsCertain};
+ghost use Rattle.cnf_form.specs.Literals.{literals};
+ghost use Rattle.join_witness.specs.Listing.{AreAllNames, names_of};
+ghost use Rattle.join_witness.specs.declared.all_witnesses.Witness.{Witness as Named};
+ghost use Rattle.weak_pairs.specs.Pairs.{IsPair};
+ghost use Rattle.repair_clauses.specs.declared.span.Span.{Span as Run};
+ghost use Rattle.repair_clauses.specs.Clauses.{positive};
+ghost use Rattle.repair_clauses.specs.Spans.{AreApart, numbers_in};
+ghost use Rattle.pair_formula.specs.Graph.{not_both};
+ghost use Rattle.pair_formula.specs.Full.{AddsPair, AddsPairs, IsNumber};
+ghost use Rattle.pair_formula.specs.Formulas.{IsPairFormula, IsUnsatisfiable};
+
+use crate::full::full_blocks;
+use cnf_form::{Clause, Cnf, Lit};
+use cqa_model::Query;
+use cqa_value::{Items, NoMemory};
+use join_witness::Witness;
+use repair_clauses::add_blocks;
+use repair_clauses::numbering::find_span;
+use repair_clauses::span::Span;
+use std::alloc::Global;
+use table_blocks::Database;
+
+/// The number of the row at a place of the span's atom.
+fn number_in(span: &Span, place: u32) -> u32
+    requires from { span.now.start ≤ place }
+    requires before { place < span.now.start + span.now.count }
+    requires small { span.now.base + span.now.count < 2 ^ 32 }
+    ensures { result ≡ suc (span.now.base + (place - span.now.start)) }
+{
+    span.base + 1 + (place - span.start)
+}
+
+/// The number of a row, if it is in one of the spans.
+fn number_of(spans: &[Span], atom: u32, place: u32) -> Option<u32>
+    requires apart { AreApart spans.now }
+    requires small { (s : Run) → Contains spans.now s → s.base + s.count < 2 ^ 32 }
+    ensures { IsNumber spans.now atom place result }
+{
+    match find_span(spans, atom, place) {
+        Some(found) => Some(number_in(&spans[found], place)),
+        None => None,
+    }
+}
+
+/// The clause of two rows that are not both kept.
+fn not_both_of(alloc: Global, left: u32, right: u32) -> Result<Clause, NoMemory>
+    ensures { IfOk result (λ clause. clause.lits ≡ not_both (record { left = left; right = right })) }
+{
+    let mut lits = Vec::with_capacity(alloc, 2)?;
+    lits.push(Lit {
+        var: left,
+        positive: false,
+    })?;
+    lits.push(Lit {
+        var: right,
+        positive: false,
+    })?;
+    Ok(Clause {
+        lits: Items::from_vec(lits),
+    })
+}
+
+/// Adds the clause of a witness if both of its rows are in spans.
+fn add_pair(
+    alloc: Global,
+    spans: &[Span],
+    witness: &Witness,
+    clauses: &mut Vec<Clause>,
+) -> Result<(), NoMemory>
+    requires two { length witness.now.rows ≡ 2 }
+    requires apart { AreApart spans.now }
+    requires small { (s : Run) → Contains spans.now s → s.base + s.count < 2 ^ 32 }
+    ensures { IfOk result (λ done. AddsPair spans.now witness.now.rows (literals clauses.old.items) (literals clauses.new.items)) }
+{
+    let names = witness.rows.as_slice();
+    if let Some(left) = number_of(spans, 0, names[0].place) {
+        if let Some(right) = number_of(spans, 1, names[1].place) {
+            clauses.push(not_both_of(alloc, left, right)?)?;
+        }
+    }
+    Ok(())
+}
+
+/// Adds the clause of each witness both of whose rows are in spans.
+fn add_pairs(
+    alloc: Global,
+    spans: &[Span],
+    witnesses: &[Witness],
+    clauses: &mut Vec<Clause>,
+) -> Result<(), NoMemory>
+    requires two { (w : Named) → Contains witnesses.now w → length w.rows ≡ 2 }
+    requires apart { AreApart spans.now }
+    requires small { (s : Run) → Contains spans.now s → s.base + s.count < 2 ^ 32 }
+    ensures { IfOk result (λ done. AddsPairs spans.now (names_of witnesses.now) (literals clauses.old.items) (literals clauses.new.items)) }
+{
+    for witness in witnesses {
+        add_pair(alloc, spans, witness, clauses)?;
+    }
+    Ok(())
+}
+
+/// The clauses of full blocks, and of the witnesses in them.
+fn clauses_of(
+    alloc: Global,
+    spans: &[Span],
+    witnesses: &[Witness],
+) -> Result<Items<Clause>, NoMemory>
+    requires two { (w : Named) → Contains witnesses.now w → length w.rows ≡ 2 }
+    requires apart { AreApart spans.now }
+    requires small { (s : Run) → Contains spans.now s → s.base + s.count < 2 ^ 32 }
+    ensures { IfOk result (λ clauses. AddsPairs spans.now (names_of witnesses.now) (map (map positive) (map numbers_in spans.now)) (literals clauses)) }
+{
+    let mut clauses = Vec::with_capacity(alloc, spans.len() + witnesses.len())?;
+    add_blocks(alloc, spans, &mut clauses)?;
+    add_pairs(alloc, spans, witnesses, &mut clauses)?;
+    Ok(Items::from_vec(clauses))
+}
+
+/// The formula over full blocks of the row whose witnesses these are. No assignment satisfies it exactly where the row is
+/// certain.
+pub(crate) fn full_formula(
+    alloc: Global,
+    db: &Database,
+    query: &Query,
+    witnesses: &[Witness],
+) -> Result<Cnf, NoMemory>
+    requires pair { IsPair query.now }
+    requires fits { FitsDatabase query.now db.now }
+    requires all { (row : List Value) × AreAllNames query.now db.now row (names_of witnesses.now) }
+    ensures graph { IfOk result IsPairFormula }
+    ensures certain { IfOk result (λ cnf. (row : List Value) → AreAllNames query.now db.now row (names_of witnesses.now) → IsUnsatisfiable cnf ↔ IsCertain db.now query.now row) }
+{
+    let _tables = db.count();
+    let mut spans = Vec::new(alloc);
+    let vars = full_blocks(alloc, db, query, witnesses, &mut spans)?;
+    let clauses = clauses_of(alloc, spans.as_slice(), witnesses)?;
+    Ok(Cnf { vars, clauses })
+}

@@ -1,0 +1,183 @@
+//! The full blocks of a row: those of whose rows each is in a witness. They are found from the witnesses' rows alone, in a
+//! time that doesn't grow with other blocks.
+//! Rows of one block stand side by side, so a block is full where a run of rows in witnesses has no row of the block beside it.
+
+ghost use Rattle.std.specs.Prelude.{◌≡◌, ◌+◌, ◌-◌, ◌<◌, ◌≤◌, ◌↔◌, ℕ, List, [], Contains, IfOk, IsTrue, length, slice_index};
+ghost use Rattle.std.specs.List.Sorted.{IsStrictlyIncreasing, IsStrictlySortedBy};
+ghost use Rattle.cqa_value.specs.declared.value.Value.{Value};
+ghost use Rattle.cqa_model.specs.Database.{block_cmp};
+ghost use Rattle.cqa_model.specs.Query.{FitsDatabase};
+ghost use Rattle.cqa_model.specs.declared.limits.TheConstants.{MOST_ROWS};
+ghost use Rattle.join_witness.specs.Listing.{AreAllNames, names_of};
+ghost use Rattle.weak_pairs.specs.Pairs.{IsPair};
+ghost use Rattle.repair_clauses.specs.Runs.{ArePlaces};
+ghost use Rattle.pair_formula.specs.Full.{AreFullOf, AreFullRuns, AreFullSpans, Follows, HasMore, IsInRow, IsRunAdded};
+
+use cqa_model::Query;
+use cqa_value::NoMemory;
+use join_witness::Witness;
+use repair_clauses::atom_of;
+use repair_clauses::column::column;
+use repair_clauses::span::Span;
+use row_blocks::goes_on;
+use row_pieces::Rows;
+use std::alloc::Global;
+use table_blocks::Database;
+
+/// Keeps one of places that are the same.
+fn each_once(places: &mut Vec<u32>)
+    requires in_order { (i j : ℕ) → i ≤ j → j < length places.old.items → slice_index places.old.items i ≤ slice_index places.old.items j }
+    ensures rises { IsStrictlyIncreasing places.new.items }
+    ensures same { (p : ℕ) → Contains places.new.items p ↔ Contains places.old.items p }
+{
+    places.dedup();
+}
+
+/// Whether the row at a place is the next one of the same block.
+fn follows(rows: &Rows<'_>, key: &[u32], place: u32, next: u32) -> bool
+    requires place { place < length rows.now }
+    requires next { next < length rows.now }
+    ensures { IsTrue result ↔ Follows key.now rows.now place next }
+{
+    next > 0 && next - 1 == place && goes_on(rows, key, place as usize, next as usize)
+}
+
+/// Where the run of rows ends that begins with the one at `at`: each is the next one of the block.
+fn run_end(rows: &Rows<'_>, key: &[u32], places: &[u32], at: usize) -> usize
+    requires places { ArePlaces rows.now places.now }
+    requires there { at < length places.now }
+    ensures some { at < result }
+    ensures within { result ≤ length places.now }
+    ensures run { IsInRow key.now rows.now places.now at result }
+    ensures stops { result < length places.now → Follows key.now rows.now (slice_index places.now (result - 1)) (slice_index places.now result) → ⊥ }
+{
+    let mut end = at + 1;
+    while end < places.len() && follows(rows, key, places[end - 1], places[end]) {
+        end += 1;
+    }
+    end
+}
+
+/// Whether the block of the row at `start` has a row right before it, or at `end`.
+fn has_more(rows: &Rows<'_>, key: &[u32], start: usize, end: usize) -> bool
+    requires start { start < end }
+    requires end { end ≤ length rows.now }
+    ensures { IsTrue result ↔ HasMore key.now rows.now start end }
+{
+    (start > 0 && goes_on(rows, key, start, start - 1))
+        || (end < rows.len() && goes_on(rows, key, start, end))
+}
+
+/// Adds the block of a run of rows if it has no others, and gives how many variables come up to its end.
+fn add_run(
+    rows: &Rows<'_>,
+    key: &[u32],
+    atom: u32,
+    base: u32,
+    start: usize,
+    end: usize,
+    spans: &mut Vec<Span>,
+) -> Result<u32, NoMemory>
+    requires start { start < end }
+    requires end { end ≤ length rows.now }
+    requires few { length rows.now ≤ MOST_ROWS }
+    requires small { base ≤ 1_000_000_000 }
+    ensures { IfOk result (λ vars. IsRunAdded key.now rows.now atom base start end spans.old.items vars spans.new.items) }
+{
+    if has_more(rows, key, start, end) {
+        return Ok(base);
+    }
+    let count = (end - start) as u32;
+    spans.push(Span {
+        atom,
+        start: start as u32,
+        count,
+        base,
+    })?;
+    Ok(base + count)
+}
+
+/// The blocks of one table all of whose rows are at places, and how many variables come up to their end; their rows are
+/// numbered from `base` on.
+fn full_runs(
+    rows: &Rows<'_>,
+    key: &[u32],
+    atom: u32,
+    base: u32,
+    places: &[u32],
+    spans: &mut Vec<Span>,
+) -> Result<u32, NoMemory>
+    requires few { length rows.now ≤ MOST_ROWS }
+    requires small { base ≤ MOST_ROWS }
+    requires places { ArePlaces rows.now places.now }
+    requires rises { IsStrictlyIncreasing places.now }
+    requires order { IsStrictlySortedBy (block_cmp key.now) rows.now }
+    requires none { spans.old.items ≡ [] }
+    ensures { IfOk result (λ vars. AreFullRuns key.now rows.now atom base places.now vars spans.new.items) }
+{
+    let mut vars = base;
+    let mut at = 0;
+    while at < places.len() {
+        let end = run_end(rows, key, places, at);
+        let start = places[at] as usize;
+        vars = add_run(rows, key, atom, vars, start, start + (end - at), spans)?;
+        at = end;
+    }
+    Ok(vars)
+}
+
+/// The full blocks of one atom; their rows are numbered from `base` on.
+fn full_of_atom(
+    alloc: Global,
+    db: &Database,
+    query: &Query,
+    witnesses: &[Witness],
+    at: usize,
+    base: u32,
+    spans: &mut Vec<Span>,
+) -> Result<u32, NoMemory>
+    requires fits { FitsDatabase query.now db.now }
+    requires all { (row : List Value) × AreAllNames query.now db.now row (names_of witnesses.now) }
+    requires there { at < length query.now.atoms }
+    requires small { base ≤ MOST_ROWS }
+    requires none { spans.old.items ≡ [] }
+    ensures blocks { IfOk result (λ vars. AreFullOf query.now db.now (names_of witnesses.now) at base vars spans.new.items) }
+    ensures small { IfOk result (λ vars. vars ≤ base + MOST_ROWS) }
+{
+    let atom = atom_of(query, at);
+    let mut places = column(alloc, witnesses, at)?;
+    each_once(&mut places);
+    let rows = db.rows(atom.table);
+    let vars = full_runs(
+        &rows,
+        atom.key.as_slice(),
+        at as u32,
+        base,
+        places.as_slice(),
+        spans,
+    );
+    drop(places);
+    let vars = vars?;
+    Ok(vars)
+}
+
+/// The full blocks of the row of a pair from all its witnesses, and how many rows they have.
+pub(crate) fn full_blocks(
+    alloc: Global,
+    db: &Database,
+    query: &Query,
+    witnesses: &[Witness],
+    spans: &mut Vec<Span>,
+) -> Result<u32, NoMemory>
+    requires pair { IsPair query.now }
+    requires fits { FitsDatabase query.now db.now }
+    requires all { (row : List Value) × AreAllNames query.now db.now row (names_of witnesses.now) }
+    requires none { spans.old.items ≡ [] }
+    ensures { IfOk result (λ vars. AreFullSpans query.now db.now (names_of witnesses.now) vars spans.new.items) }
+{
+    let first = full_of_atom(alloc, db, query, witnesses, 0, 0, spans)?;
+    let mut more = Vec::new(alloc);
+    let vars = full_of_atom(alloc, db, query, witnesses, 1, first, &mut more)?;
+    spans.append(&mut more)?;
+    Ok(vars)
+}
