@@ -146,13 +146,9 @@ but_text names steps select =
 unfoldable pub sources_text : Names → List Step → List Listed → List ℕ
 sources_text names steps sources = joined (codes ", ") (λ i. listed_text names steps (listed_at sources i)) (length sources)
 
--- the conditions of a select
-unfoldable pub where_text : Names → List Step → Select → List ℕ
-where_text names steps select = all_text names steps select ++ but_text names steps select
-
 -- what stands behind the columns of a select
 unfoldable pub rest_text : Names → List Step → Select → List ℕ
-rest_text names steps select = codes " FROM " ++ (sources_text names steps select.sources ++ where_text names steps select)
+rest_text names steps select = codes " FROM " ++ (sources_text names steps select.sources ++ (all_text names steps select ++ but_text names steps select))
 
 -- a column of a table is named by its variable; one of a step has that name
 abbrev pub named_text : Source → ℕ → List ℕ
@@ -177,26 +173,15 @@ columns_text names steps columns select = joined (codes ", ") (λ i. out_text na
 abbrev pub outs_text : Names → List Step → List ℕ → Select → List ℕ
 outs_text names steps columns select = if length select.cells == 0 then codes "1 AS one" else columns_text names steps columns select
 
--- a select of a step, behind its first word
-unfoldable pub select_text : Names → List Step → List ℕ → Select → List ℕ
-select_text names steps columns select = outs_text names steps columns select ++ rest_text names steps select
+-- a select of a step, behind its first words
+unfoldable pub select_text : List ℕ → Names → List Step → List ℕ → Select → List ℕ
+select_text words names steps columns select = words ++ (outs_text names steps columns select ++ rest_text names steps select)
 
--- the rows of a select, each once
-unfoldable pub distinct_text : Names → List Step → List ℕ → Select → List ℕ
-distinct_text names steps columns select = codes "SELECT DISTINCT " ++ select_text names steps columns select
-
--- the second select of a difference
-unfoldable pub other_text : Names → List Step → List ℕ → Select → List ℕ
-other_text names steps columns other = codes "\n  EXCEPT SELECT " ++ select_text names steps columns other
-
--- the difference of two selects
-unfoldable pub except_text : Names → List Step → List ℕ → Select → Select → List ℕ
-except_text names steps columns select other = codes "SELECT " ++ (select_text names steps columns select ++ other_text names steps columns other)
-
--- what a step has
+-- what a step has: the rows of a select, each once, or those that another hasn't
 abbrev pub body_text : Names → List Step → List ℕ → Body → List ℕ
-body_text names steps columns (Distinct select) = distinct_text names steps columns select
-body_text names steps columns (Except select other) = except_text names steps columns select other
+body_text names steps columns (Distinct select) = select_text (codes "SELECT DISTINCT ") names steps columns select
+body_text names steps columns (Except select other) =
+    select_text (codes "SELECT ") names steps columns select ++ select_text (codes "\n  EXCEPT SELECT ") names steps columns other
 
 -- a step with its name
 unfoldable pub step_text : Names → List Step → Step → List ℕ
@@ -220,13 +205,9 @@ answers_text q names steps select =
 unfoldable pub steps_text : Names → List Step → List ℕ
 steps_text names steps = joined (codes ",\n") (λ i. step_text names steps (step_at steps i)) (length steps)
 
--- behind the answer columns: the sources and the conditions of the last select, `;` and a line feed
-unfoldable pub end_text : Names → List Step → Select → List ℕ
-end_text names steps last = rest_text names steps last ++ codes ";\n"
-
--- the last select
+-- the last select, `;`, and a line feed
 unfoldable pub last_text : Query → Names → List Step → Select → List ℕ
-last_text q names steps last = codes "\nSELECT DISTINCT " ++ (answers_text q names steps last ++ end_text names steps last)
+last_text q names steps last = codes "\nSELECT DISTINCT " ++ (answers_text q names steps last ++ (rest_text names steps last ++ codes ";\n"))
 
 -- the text of a query: its steps and its last select
 unfoldable pub sql_bytes : Query → Names → Sql → List ℕ

@@ -1,9 +1,8 @@
 //! What stands at a place of a query's parts, and what stands for it where there is none.
 
-ghost use Rattle.std.specs.Prelude.{◌≡◌, ◌++◌, OnOk, OnErr, [], slice_index, slice_index_or};
-ghost use Rattle.std.specs.Io.{StartsWith};
+ghost use Rattle.std.specs.Prelude.{◌≡◌, ◌++◌, OnOk, [], slice_index, slice_index_or};
 ghost use Rattle.cqa_model.specs.Plan.{answer_at};
-ghost use Rattle.sql_text.specs.Texts.{cell_at, column_name, listed_at, quoted, step_at, table_name};
+ghost use Rattle.sql_text.specs.Texts.{cell_at, column_name, listed_at, step_at, table_name};
 
 use crate::words::append_quoted;
 use crate::{Alias, Cell, Listed, Names, Select, Source, Step, StepKind};
@@ -83,13 +82,9 @@ pub(crate) fn append_table_name(
     atom: usize,
     out: &mut Vec<u8>,
 ) -> Result<(), NoMemory>
-    ensures ok { OnOk result (out.new.items ≡ out.old.items ++ table_name names.now atom) }
-    ensures err { OnErr result (StartsWith out.new.items out.old.items) }
+    ensures { OnOk result (out.new.items ≡ out.old.items ++ table_name names.now atom) }
 {
-    match names.tables.as_slice().get(atom) {
-        Some(name) => append_quoted(name.bytes(), out),
-        None => append_quoted(b"", out),
-    }
+    append_quoted(name_at(names.tables.as_slice(), atom), out)
 }
 
 /// Appends the name of a column of an atom's table.
@@ -99,22 +94,20 @@ pub(crate) fn append_column_name(
     column: usize,
     out: &mut Vec<u8>,
 ) -> Result<(), NoMemory>
-    ensures ok { OnOk result (out.new.items ≡ out.old.items ++ column_name names.now atom column) }
-    ensures err { OnErr result (StartsWith out.new.items out.old.items) }
+    ensures { OnOk result (out.new.items ≡ out.old.items ++ column_name names.now atom column) }
 {
     match names.columns.as_slice().get(atom) {
-        Some(columns) => append_name_at(columns.as_slice(), column, out),
+        Some(columns) => append_quoted(name_at(columns.as_slice(), column), out),
         None => append_quoted(b"", out),
     }
 }
 
-/// Appends the name at a place between double quotes.
-fn append_name_at(names: &[Name], place: usize, out: &mut Vec<u8>) -> Result<(), NoMemory>
-    ensures ok { OnOk result (out.new.items ≡ out.old.items ++ quoted (slice_index_or names.now place [])) }
-    ensures err { OnErr result (StartsWith out.new.items out.old.items) }
+/// The name at a place.
+fn name_at(names: &[Name], place: usize) -> &[u8]
+    ensures { result.now ≡ slice_index_or names.now place [] }
 {
     match names.get(place) {
-        Some(name) => append_quoted(name.bytes(), out),
-        None => append_quoted(b"", out),
+        Some(name) => name.bytes(),
+        None => b"",
     }
 }

@@ -4,14 +4,14 @@ use cqa_model::Op;
 use cqa_value::{Items, Value};
 
 /// Where rows come from: the table of an atom, or the step at a place, before this one.
-#[derive(Clone, Copy, Debug, PartialEq, Eq)]
+#[derive(Clone, Copy)]
 pub enum Source {
     Table(u32),
     Step(usize),
 }
 
 /// The name of a source within a select.
-#[derive(Clone, Copy, Debug, PartialEq, Eq)]
+#[derive(Clone, Copy)]
 pub enum Alias {
     /// `x` and a number: a joined table.
     Joined(usize),
@@ -28,14 +28,14 @@ pub enum Alias {
 }
 
 /// A source with its alias.
-#[derive(Clone, Copy, Debug, PartialEq, Eq)]
+#[derive(Clone, Copy)]
 pub struct Listed {
     pub source: Source,
     pub alias: Alias,
 }
 
 /// A column of a source, by the place of the source in its select, and its own place.
-#[derive(Clone, Copy, Debug, PartialEq, Eq)]
+#[derive(Clone, Copy)]
 pub struct Cell {
     pub place: usize,
     pub column: usize,
@@ -66,7 +66,7 @@ pub enum Body {
 }
 
 /// What a step is for.
-#[derive(Clone, Copy, Debug, PartialEq, Eq)]
+#[derive(Clone, Copy)]
 pub enum StepKind {
     /// For each context, the blocks with a row that fits.
     Blocks,

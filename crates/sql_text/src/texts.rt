@@ -1,24 +1,20 @@
 //! Appends the text of a query.
 
 ghost use Rattle.std.specs.Prelude.{◌≡◌, ◌++◌, ◌==◌, ◌<◌, if◌then◌else◌, [], OnOk, OnErr, codes};
-ghost use Rattle.std.specs.Io.{StartsWith};
-ghost use Rattle.sql_text.specs.Texts.{all_text, answer_text, answer_columns_text, answers_text, body_text, but_text, cell_at, cell_text, cmp_at, cmp_text, cmps_text, column_text, columns_text, distinct_text, end_text, except_text, last_text, listed_at, listed_text, named_text, other_text, out_text, outs_text, rest_text, select_text, sources_text, source_text, sql_bytes, step_text, steps_text, step_at, where_text};
+ghost use Rattle.sql_text.specs.Texts.{all_text, answer_text, answer_columns_text, answers_text, body_text, but_text, cell_at, cell_text, cmp_at, cmp_text, cmps_text, column_text, columns_text, last_text, listed_at, listed_text, named_text, out_text, outs_text, rest_text, select_text, sources_text, source_text, sql_bytes, step_text, steps_text, step_at};
 
 use crate::places::{
     answer_at, append_column_name, append_table_name, cell_at, listed_at, number_at, step_name_at,
     variable_at,
 };
-use crate::words::{
-    append, append_alias, append_quoted, append_step_name, append_test, append_variable,
-};
+use crate::words::{append, append_alias, append_step_name, append_test, append_variable};
 use crate::{Body, Cell, Cmp, Listed, Names, Select, Source, Sql, Step};
 use cqa_model::Query;
 use cqa_value::NoMemory;
 
 /// Appends a separator before each item but the first.
 fn separate(before: usize, separator: &str, out: &mut Vec<u8>) -> Result<(), NoMemory>
-    ensures ok { OnOk result (out.new.items ≡ out.old.items ++ (if before == 0 then [] else separator.now)) }
-    ensures err { OnErr result (StartsWith out.new.items out.old.items) }
+    ensures { OnOk result (out.new.items ≡ out.old.items ++ (if before == 0 then [] else separator.now)) }
 {
     if before > 0 {
         append(separator, out)?;
@@ -34,8 +30,7 @@ fn append_column(
     column: usize,
     out: &mut Vec<u8>,
 ) -> Result<(), NoMemory>
-    ensures ok { OnOk result (out.new.items ≡ out.old.items ++ column_text names.now steps.now source column) }
-    ensures err { OnErr result (StartsWith out.new.items out.old.items) }
+    ensures { OnOk result (out.new.items ≡ out.old.items ++ column_text names.now steps.now source column) }
 {
     match source {
         Source::Table(atom) => append_column_name(names, atom as usize, column, out),
@@ -50,8 +45,7 @@ fn append_source(
     source: Source,
     out: &mut Vec<u8>,
 ) -> Result<(), NoMemory>
-    ensures ok { OnOk result (out.new.items ≡ out.old.items ++ source_text names.now steps.now source) }
-    ensures err { OnErr result (StartsWith out.new.items out.old.items) }
+    ensures { OnOk result (out.new.items ≡ out.old.items ++ source_text names.now steps.now source) }
 {
     match source {
         Source::Table(atom) => append_table_name(names, atom as usize, out),
@@ -63,14 +57,14 @@ fn append_source(
 }
 
 /// Appends a source with its alias.
+#[tactic(auto, unfolding(crate::specs::Texts::listed_text))]
 fn append_listed(
     names: &Names,
     steps: &[Step],
     listed: Listed,
     out: &mut Vec<u8>,
 ) -> Result<(), NoMemory>
-    ensures ok { OnOk result (out.new.items ≡ out.old.items ++ listed_text names.now steps.now listed) }
-    ensures err { OnErr result (StartsWith out.new.items out.old.items) }
+    ensures { OnOk result (out.new.items ≡ out.old.items ++ listed_text names.now steps.now listed) }
 {
     append_source(names, steps, listed.source, out)?;
     append(" AS ", out)?;
@@ -85,8 +79,7 @@ fn append_cell(
     cell: Cell,
     out: &mut Vec<u8>,
 ) -> Result<(), NoMemory>
-    ensures ok { OnOk result (out.new.items ≡ out.old.items ++ cell_text names.now steps.now sources.now cell) }
-    ensures err { OnErr result (StartsWith out.new.items out.old.items) }
+    ensures { OnOk result (out.new.items ≡ out.old.items ++ cell_text names.now steps.now sources.now cell) }
 {
     let listed = listed_at(sources, cell.place);
     append_alias(listed.alias, out)?;
@@ -102,8 +95,7 @@ fn append_cmp(
     cmp: &Cmp,
     out: &mut Vec<u8>,
 ) -> Result<(), NoMemory>
-    ensures ok { OnOk result (out.new.items ≡ out.old.items ++ cmp_text names.now steps.now sources.now cmp.now) }
-    ensures err { OnErr result (StartsWith out.new.items out.old.items) }
+    ensures { OnOk result (out.new.items ≡ out.old.items ++ cmp_text names.now steps.now sources.now cmp.now) }
 {
     match cmp {
         Cmp::Same { left, right } => {
@@ -126,8 +118,7 @@ fn append_cmps(
     cmps: &[Cmp],
     out: &mut Vec<u8>,
 ) -> Result<(), NoMemory>
-    ensures ok { OnOk result (out.new.items ≡ out.old.items ++ cmps_text names.now steps.now sources.now cmps.now) }
-    ensures err { OnErr result (StartsWith out.new.items out.old.items) }
+    ensures { OnOk result (out.new.items ≡ out.old.items ++ cmps_text names.now steps.now sources.now cmps.now) }
 {
     for place in 0..cmps.len() {
         separate(place, " AND ", out)?;
@@ -143,8 +134,7 @@ fn append_all(
     select: &Select,
     out: &mut Vec<u8>,
 ) -> Result<(), NoMemory>
-    ensures ok { OnOk result (out.new.items ≡ out.old.items ++ all_text names.now steps.now select.now) }
-    ensures err { OnErr result (StartsWith out.new.items out.old.items) }
+    ensures { OnOk result (out.new.items ≡ out.old.items ++ all_text names.now steps.now select.now) }
 {
     if select.all.is_empty() {
         return Ok(());
@@ -166,8 +156,7 @@ fn append_but(
     select: &Select,
     out: &mut Vec<u8>,
 ) -> Result<(), NoMemory>
-    ensures ok { OnOk result (out.new.items ≡ out.old.items ++ but_text names.now steps.now select.now) }
-    ensures err { OnErr result (StartsWith out.new.items out.old.items) }
+    ensures { OnOk result (out.new.items ≡ out.old.items ++ but_text names.now steps.now select.now) }
 {
     if select.but.is_empty() {
         return Ok(());
@@ -196,8 +185,7 @@ fn append_sources(
     sources: &[Listed],
     out: &mut Vec<u8>,
 ) -> Result<(), NoMemory>
-    ensures ok { OnOk result (out.new.items ≡ out.old.items ++ sources_text names.now steps.now sources.now) }
-    ensures err { OnErr result (StartsWith out.new.items out.old.items) }
+    ensures { OnOk result (out.new.items ≡ out.old.items ++ sources_text names.now steps.now sources.now) }
 {
     for place in 0..sources.len() {
         separate(place, ", ", out)?;
@@ -206,39 +194,25 @@ fn append_sources(
     Ok(())
 }
 
-/// Appends the conditions of a select.
-fn append_where(
-    names: &Names,
-    steps: &[Step],
-    select: &Select,
-    out: &mut Vec<u8>,
-) -> Result<(), NoMemory>
-    ensures ok { OnOk result (out.new.items ≡ out.old.items ++ where_text names.now steps.now select.now) }
-    ensures err { OnErr result (StartsWith out.new.items out.old.items) }
-{
-    append_all(names, steps, select, out)?;
-    append_but(names, steps, select, out)
-}
-
 /// Appends what stands behind the columns of a select.
+#[tactic(auto, unfolding(crate::specs::Texts::rest_text))]
 fn append_rest(
     names: &Names,
     steps: &[Step],
     select: &Select,
     out: &mut Vec<u8>,
 ) -> Result<(), NoMemory>
-    ensures ok { OnOk result (out.new.items ≡ out.old.items ++ rest_text names.now steps.now select.now) }
-    ensures err { OnErr result (StartsWith out.new.items out.old.items) }
+    ensures { OnOk result (out.new.items ≡ out.old.items ++ rest_text names.now steps.now select.now) }
 {
     append(" FROM ", out)?;
     append_sources(names, steps, select.sources.as_slice(), out)?;
-    append_where(names, steps, select, out)
+    append_all(names, steps, select, out)?;
+    append_but(names, steps, select, out)
 }
 
 /// Appends the name of a column that is a variable's, unless it has it.
 fn append_name(source: Source, variable: u32, out: &mut Vec<u8>) -> Result<(), NoMemory>
-    ensures ok { OnOk result (out.new.items ≡ out.old.items ++ named_text source variable) }
-    ensures err { OnErr result (StartsWith out.new.items out.old.items) }
+    ensures { OnOk result (out.new.items ≡ out.old.items ++ named_text source variable) }
 {
     match source {
         Source::Table(_) => {
@@ -250,6 +224,7 @@ fn append_name(source: Source, variable: u32, out: &mut Vec<u8>) -> Result<(), N
 }
 
 /// Appends a column of a select.
+#[tactic(auto, unfolding(crate::specs::Texts::out_text))]
 fn append_out(
     names: &Names,
     steps: &[Step],
@@ -258,8 +233,7 @@ fn append_out(
     place: usize,
     out: &mut Vec<u8>,
 ) -> Result<(), NoMemory>
-    ensures ok { OnOk result (out.new.items ≡ out.old.items ++ out_text names.now steps.now select.now columns.now place) }
-    ensures err { OnErr result (StartsWith out.new.items out.old.items) }
+    ensures { OnOk result (out.new.items ≡ out.old.items ++ out_text names.now steps.now select.now columns.now place) }
 {
     let cell = cell_at(select, place);
     append_cell(names, steps, select.sources.as_slice(), cell, out)?;
@@ -275,8 +249,7 @@ fn append_columns(
     select: &Select,
     out: &mut Vec<u8>,
 ) -> Result<(), NoMemory>
-    ensures ok { OnOk result (out.new.items ≡ out.old.items ++ columns_text names.now steps.now columns.now select.now) }
-    ensures err { OnErr result (StartsWith out.new.items out.old.items) }
+    ensures { OnOk result (out.new.items ≡ out.old.items ++ columns_text names.now steps.now columns.now select.now) }
 {
     for place in 0..select.cells.len() {
         separate(place, ", ", out)?;
@@ -293,8 +266,7 @@ fn append_outs(
     select: &Select,
     out: &mut Vec<u8>,
 ) -> Result<(), NoMemory>
-    ensures ok { OnOk result (out.new.items ≡ out.old.items ++ outs_text names.now steps.now columns.now select.now) }
-    ensures err { OnErr result (StartsWith out.new.items out.old.items) }
+    ensures { OnOk result (out.new.items ≡ out.old.items ++ outs_text names.now steps.now columns.now select.now) }
 {
     if select.cells.is_empty() {
         return append("1 AS one", out);
@@ -302,66 +274,21 @@ fn append_outs(
     append_columns(names, steps, columns, select, out)
 }
 
-/// Appends a select.
+/// Appends a select behind these words.
+#[tactic(auto, unfolding(crate::specs::Texts::select_text))]
 fn append_select(
+    words: &str,
     names: &Names,
     steps: &[Step],
     columns: &[u32],
     select: &Select,
     out: &mut Vec<u8>,
 ) -> Result<(), NoMemory>
-    ensures ok { OnOk result (out.new.items ≡ out.old.items ++ select_text names.now steps.now columns.now select.now) }
-    ensures err { OnErr result (StartsWith out.new.items out.old.items) }
+    ensures { OnOk result (out.new.items ≡ out.old.items ++ select_text words.now names.now steps.now columns.now select.now) }
 {
+    append(words, out)?;
     append_outs(names, steps, columns, select, out)?;
     append_rest(names, steps, select, out)
-}
-
-/// Appends the rows of a select, each once.
-fn append_distinct(
-    names: &Names,
-    steps: &[Step],
-    columns: &[u32],
-    select: &Select,
-    out: &mut Vec<u8>,
-) -> Result<(), NoMemory>
-    ensures ok { OnOk result (out.new.items ≡ out.old.items ++ distinct_text names.now steps.now columns.now select.now) }
-    ensures err { OnErr result (StartsWith out.new.items out.old.items) }
-{
-    append("SELECT DISTINCT ", out)?;
-    append_select(names, steps, columns, select, out)
-}
-
-/// Appends a difference's second select.
-fn append_other(
-    names: &Names,
-    steps: &[Step],
-    columns: &[u32],
-    other: &Select,
-    out: &mut Vec<u8>,
-) -> Result<(), NoMemory>
-    ensures ok { OnOk result (out.new.items ≡ out.old.items ++ other_text names.now steps.now columns.now other.now) }
-    ensures err { OnErr result (StartsWith out.new.items out.old.items) }
-{
-    append("\n  EXCEPT SELECT ", out)?;
-    append_select(names, steps, columns, other, out)
-}
-
-/// Appends the difference of two selects.
-fn append_except(
-    names: &Names,
-    steps: &[Step],
-    columns: &[u32],
-    select: &Select,
-    other: &Select,
-    out: &mut Vec<u8>,
-) -> Result<(), NoMemory>
-    ensures ok { OnOk result (out.new.items ≡ out.old.items ++ except_text names.now steps.now columns.now select.now other.now) }
-    ensures err { OnErr result (StartsWith out.new.items out.old.items) }
-{
-    append("SELECT ", out)?;
-    append_select(names, steps, columns, select, out)?;
-    append_other(names, steps, columns, other, out)
 }
 
 /// Appends what a step has.
@@ -372,24 +299,28 @@ fn append_body(
     body: &Body,
     out: &mut Vec<u8>,
 ) -> Result<(), NoMemory>
-    ensures ok { OnOk result (out.new.items ≡ out.old.items ++ body_text names.now steps.now columns.now body.now) }
-    ensures err { OnErr result (StartsWith out.new.items out.old.items) }
+    ensures { OnOk result (out.new.items ≡ out.old.items ++ body_text names.now steps.now columns.now body.now) }
 {
     match body {
-        Body::Distinct(select) => append_distinct(names, steps, columns, select, out),
-        Body::Except(select, other) => append_except(names, steps, columns, select, other, out),
+        Body::Distinct(select) => {
+            append_select("SELECT DISTINCT ", names, steps, columns, select, out)
+        }
+        Body::Except(select, other) => {
+            append_select("SELECT ", names, steps, columns, select, out)?;
+            append_select("\n  EXCEPT SELECT ", names, steps, columns, other, out)
+        }
     }
 }
 
 /// Appends a step.
+#[tactic(auto, unfolding(crate::specs::Texts::step_text))]
 fn append_step(
     names: &Names,
     steps: &[Step],
     step: &Step,
     out: &mut Vec<u8>,
 ) -> Result<(), NoMemory>
-    ensures ok { OnOk result (out.new.items ≡ out.old.items ++ step_text names.now steps.now step.now) }
-    ensures err { OnErr result (StartsWith out.new.items out.old.items) }
+    ensures { OnOk result (out.new.items ≡ out.old.items ++ step_text names.now steps.now step.now) }
 {
     append_step_name(step.kind, step.level, out)?;
     append(" AS (\n  ", out)?;
@@ -399,8 +330,7 @@ fn append_step(
 
 /// Appends all steps.
 fn append_steps(names: &Names, steps: &[Step], out: &mut Vec<u8>) -> Result<(), NoMemory>
-    ensures ok { OnOk result (out.new.items ≡ out.old.items ++ steps_text names.now steps.now) }
-    ensures err { OnErr result (StartsWith out.new.items out.old.items) }
+    ensures { OnOk result (out.new.items ≡ out.old.items ++ steps_text names.now steps.now) }
 {
     for place in 0..steps.len() {
         separate(place, ",\n", out)?;
@@ -410,6 +340,7 @@ fn append_steps(names: &Names, steps: &[Step], out: &mut Vec<u8>) -> Result<(), 
 }
 
 /// Appends an answer column.
+#[tactic(auto, unfolding(crate::specs::Texts::answer_text))]
 fn append_answer(
     query: &Query,
     names: &Names,
@@ -418,8 +349,7 @@ fn append_answer(
     place: usize,
     out: &mut Vec<u8>,
 ) -> Result<(), NoMemory>
-    ensures ok { OnOk result (out.new.items ≡ out.old.items ++ answer_text query.now names.now steps.now select.now place) }
-    ensures err { OnErr result (StartsWith out.new.items out.old.items) }
+    ensures { OnOk result (out.new.items ≡ out.old.items ++ answer_text query.now names.now steps.now select.now place) }
 {
     append_cell(
         names,
@@ -441,8 +371,7 @@ fn append_answer_columns(
     select: &Select,
     out: &mut Vec<u8>,
 ) -> Result<(), NoMemory>
-    ensures ok { OnOk result (out.new.items ≡ out.old.items ++ answer_columns_text query.now names.now steps.now select.now) }
-    ensures err { OnErr result (StartsWith out.new.items out.old.items) }
+    ensures { OnOk result (out.new.items ≡ out.old.items ++ answer_columns_text query.now names.now steps.now select.now) }
 {
     for place in 0..select.cells.len() {
         separate(place, ", ", out)?;
@@ -459,31 +388,16 @@ fn append_answers(
     select: &Select,
     out: &mut Vec<u8>,
 ) -> Result<(), NoMemory>
-    ensures ok { OnOk result (out.new.items ≡ out.old.items ++ answers_text query.now names.now steps.now select.now) }
-    ensures err { OnErr result (StartsWith out.new.items out.old.items) }
+    ensures { OnOk result (out.new.items ≡ out.old.items ++ answers_text query.now names.now steps.now select.now) }
 {
     if select.cells.is_empty() {
-        append("1 AS ", out)?;
-        return append_quoted(b"certain", out);
+        return append("1 AS \"certain\"", out);
     }
     append_answer_columns(query, names, steps, select, out)
 }
 
-/// Appends the end of a query.
-fn append_end(
-    names: &Names,
-    steps: &[Step],
-    last: &Select,
-    out: &mut Vec<u8>,
-) -> Result<(), NoMemory>
-    ensures ok { OnOk result (out.new.items ≡ out.old.items ++ end_text names.now steps.now last.now) }
-    ensures err { OnErr result (StartsWith out.new.items out.old.items) }
-{
-    append_rest(names, steps, last, out)?;
-    append(";\n", out)
-}
-
 /// Appends the last select of a query.
+#[tactic(auto, unfolding(crate::specs::Texts::last_text))]
 fn append_last(
     query: &Query,
     names: &Names,
@@ -491,19 +405,19 @@ fn append_last(
     last: &Select,
     out: &mut Vec<u8>,
 ) -> Result<(), NoMemory>
-    ensures ok { OnOk result (out.new.items ≡ out.old.items ++ last_text query.now names.now steps.now last.now) }
-    ensures err { OnErr result (StartsWith out.new.items out.old.items) }
+    ensures { OnOk result (out.new.items ≡ out.old.items ++ last_text query.now names.now steps.now last.now) }
 {
     append("\nSELECT DISTINCT ", out)?;
     append_answers(query, names, steps, last, out)?;
-    append_end(names, steps, last, out)
+    append_rest(names, steps, last, out)?;
+    append(";\n", out)
 }
 
 /// Appends the text of a query: steps and a last select, `;`, and a line feed.
 ///
 /// # Errors
 ///
-/// `NoMemory` where memory is refused; `out` still begins with what it had then.
+/// `NoMemory` where memory is refused; `out` is then as it was.
 pub fn append_sql(
     query: &Query,
     names: &Names,
@@ -511,7 +425,18 @@ pub fn append_sql(
     out: &mut Vec<u8>,
 ) -> Result<(), NoMemory>
     ensures ok { OnOk result (out.new.items ≡ out.old.items ++ sql_bytes query.now names.now sql.now) }
-    ensures err { OnErr result (StartsWith out.new.items out.old.items) }
+    ensures err { OnErr result (out.new.items ≡ out.old.items) }
+{
+    let mut text = Vec::new(*out.allocator());
+    append_query(query, names, sql, &mut text)?;
+    out.extend_from_slice(text.as_slice())?;
+    Ok(())
+}
+
+/// Appends a query.
+#[tactic(auto, unfolding(crate::specs::Texts::sql_bytes))]
+fn append_query(query: &Query, names: &Names, sql: &Sql, out: &mut Vec<u8>) -> Result<(), NoMemory>
+    ensures { OnOk result (out.new.items ≡ out.old.items ++ sql_bytes query.now names.now sql.now) }
 {
     append("WITH ", out)?;
     append_steps(names, sql.steps.as_slice(), out)?;

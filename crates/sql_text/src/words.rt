@@ -1,7 +1,6 @@
 //! Appends the words of a query's text.
 
-ghost use Rattle.std.specs.Prelude.{◌≡◌, ◌++◌, OnOk, OnErr};
-ghost use Rattle.std.specs.Io.{StartsWith};
+ghost use Rattle.std.specs.Prelude.{◌≡◌, ◌++◌, OnOk};
 ghost use Rattle.std.specs.Fmt.{decimal};
 ghost use Rattle.sql_text.specs.Texts.{alias_text, kind_word, literal_text as literal_sql, op_text, quoted, step_name, variable_text};
 
@@ -12,8 +11,7 @@ use itoa::Buffer;
 
 /// Appends words.
 pub(crate) fn append(words: &str, out: &mut Vec<u8>) -> Result<(), NoMemory>
-    ensures ok { OnOk result (out.new.items ≡ out.old.items ++ words.now) }
-    ensures err { OnErr result (StartsWith out.new.items out.old.items) }
+    ensures { OnOk result (out.new.items ≡ out.old.items ++ words.now) }
 {
     out.extend_from_slice(words.as_bytes())?;
     Ok(())
@@ -21,8 +19,7 @@ pub(crate) fn append(words: &str, out: &mut Vec<u8>) -> Result<(), NoMemory>
 
 /// Appends a number in decimal.
 pub(crate) fn append_number(number: usize, out: &mut Vec<u8>) -> Result<(), NoMemory>
-    ensures ok { OnOk result (out.new.items ≡ out.old.items ++ decimal number) }
-    ensures err { OnErr result (StartsWith out.new.items out.old.items) }
+    ensures { OnOk result (out.new.items ≡ out.old.items ++ decimal number) }
 {
     let mut buffer = Buffer::new();
     append(buffer.format(number), out)
@@ -30,8 +27,7 @@ pub(crate) fn append_number(number: usize, out: &mut Vec<u8>) -> Result<(), NoMe
 
 /// Appends a name between double quotes.
 pub(crate) fn append_quoted(name: &[u8], out: &mut Vec<u8>) -> Result<(), NoMemory>
-    ensures ok { OnOk result (out.new.items ≡ out.old.items ++ quoted name.now) }
-    ensures err { OnErr result (StartsWith out.new.items out.old.items) }
+    ensures { OnOk result (out.new.items ≡ out.old.items ++ quoted name.now) }
 {
     out.push(b'"')?;
     out.extend_from_slice(name)?;
@@ -41,8 +37,7 @@ pub(crate) fn append_quoted(name: &[u8], out: &mut Vec<u8>) -> Result<(), NoMemo
 
 /// Appends the column for a variable.
 pub(crate) fn append_variable(variable: u32, out: &mut Vec<u8>) -> Result<(), NoMemory>
-    ensures ok { OnOk result (out.new.items ≡ out.old.items ++ variable_text variable) }
-    ensures err { OnErr result (StartsWith out.new.items out.old.items) }
+    ensures { OnOk result (out.new.items ≡ out.old.items ++ variable_text variable) }
 {
     append("v", out)?;
     append_number(variable as usize, out)
@@ -67,8 +62,7 @@ pub(crate) fn append_step_name(
     level: usize,
     out: &mut Vec<u8>,
 ) -> Result<(), NoMemory>
-    ensures ok { OnOk result (out.new.items ≡ out.old.items ++ step_name kind level) }
-    ensures err { OnErr result (StartsWith out.new.items out.old.items) }
+    ensures { OnOk result (out.new.items ≡ out.old.items ++ step_name kind level) }
 {
     out.push(b'"')?;
     append(word_of(kind), out)?;
@@ -79,8 +73,7 @@ pub(crate) fn append_step_name(
 
 /// Appends an alias.
 pub(crate) fn append_alias(alias: Alias, out: &mut Vec<u8>) -> Result<(), NoMemory>
-    ensures ok { OnOk result (out.new.items ≡ out.old.items ++ alias_text alias) }
-    ensures err { OnErr result (StartsWith out.new.items out.old.items) }
+    ensures { OnOk result (out.new.items ≡ out.old.items ++ alias_text alias) }
 {
     match alias {
         Alias::Joined(number) => {
@@ -110,8 +103,7 @@ fn op_word(op: Op) -> &'static str
 
 /// Appends an operator and a literal.
 pub(crate) fn append_test(op: Op, value: &Value, out: &mut Vec<u8>) -> Result<(), NoMemory>
-    ensures ok { OnOk result (out.new.items ≡ out.old.items ++ (op_text op ++ literal_sql value.now)) }
-    ensures err { OnErr result (StartsWith out.new.items out.old.items) }
+    ensures { OnOk result (out.new.items ≡ out.old.items ++ (op_text op ++ literal_sql value.now)) }
 {
     append(op_word(op), out)?;
     append_literal(value, out)
@@ -119,8 +111,7 @@ pub(crate) fn append_test(op: Op, value: &Value, out: &mut Vec<u8>) -> Result<()
 
 /// Appends a literal.
 fn append_literal(value: &Value, out: &mut Vec<u8>) -> Result<(), NoMemory>
-    ensures ok { OnOk result (out.new.items ≡ out.old.items ++ literal_sql value.now) }
-    ensures err { OnErr result (StartsWith out.new.items out.old.items) }
+    ensures { OnOk result (out.new.items ≡ out.old.items ++ literal_sql value.now) }
 {
     match value {
         Value::Int(i64::MIN) => append("(-9223372036854775807 - 1)", out),

@@ -1,7 +1,8 @@
-use Rattle.std.proofs.Common.{◌≡◌, ◌++◌, codes}
-use Rattle.sql_text.specs.Texts.{joined, out_text}
+use Rattle.std.proofs.Common.{codes}
+use Rattle.sql_text.specs.Texts.{out_text}
+use Rattle.sql_text.proofs.Steps.{HasParts}
 use Rattle.sql_text.proofs.texts.append_columns.Given as goal
 
 -- those so far
 abbrev pub invariant-loop-place : goal.invariant-loop-place
-invariant-loop-place l = l.out.items ≡ l.fn.out.items ++ joined (codes ", ") (λ i. out_text l.names l.steps l.select l.columns i) l.place
+invariant-loop-place l = HasParts l.fn.out.items (codes ", ") (λ i. out_text l.names l.steps l.select l.columns i) l.place l.out.items

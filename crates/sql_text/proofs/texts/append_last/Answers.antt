@@ -1,8 +1,0 @@
-use Rattle.std.proofs.Common.{arith}
-use Rattle.std.proofs.lemmas.Grind.{common_steps}
-use Rattle.sql_text.specs.Texts.{last_text}
-use Rattle.sql_text.proofs.texts.append_last.Goals as goal
-
-pub returns-clause-ok : goal.returns-clause-ok
-unfolding last_text
-returns-clause-ok c = grind (arith, common_steps)
