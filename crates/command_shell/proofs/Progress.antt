@@ -3,6 +3,7 @@ use Rattle.std.proofs.Common.{◌≡◌, ◌⊎◌, inl, inr, ℕ, Bool, true, f
 use Rattle.std.proofs.lemmas.List.{take-append-drop}
 use Rattle.std.specs.Io.KnownBytes.{Appends, Keeps}
 use Rattle.std.proofs.KnownBytes.{Appends-nil, Appends-trans, Appends-kept}
+use Rattle.std.proofs.Math.Bool.{or-false, or-true}
 use Rattle.script_lex.specs.declared.kinds.Span.{Span}
 use Rattle.script_lex.specs.declared.cutting.Cut.TheVariants as cuts
 use Rattle.script_lex.specs.declared.modes.Mode.TheVariants.{Outside}
@@ -45,17 +46,9 @@ or_assoc : (a b c : Bool) → (a || (b || c)) ≡ ((a || b) || c)
 or_assoc true b c = refl
 or_assoc false b c = refl
 
-or_false : (b : Bool) → (b || false) ≡ b
-or_false true = refl
-or_false false = refl
-
 pub has_refusal-push : (xs : List Reply) (y : Reply) → has_refusal (xs ++ y ∷ []) ≡ (has_refusal xs || is_refusal y)
-has_refusal-push [] y = or_false (is_refusal y)
+has_refusal-push [] y = or-false (is_refusal y)
 has_refusal-push (x ∷ xs) y = ap (λ b. is_refusal x || b) (has_refusal-push xs y) ∙ or_assoc (is_refusal x) (has_refusal xs) (is_refusal y)
-
-or_true : (b : Bool) → (b || true) ≡ true
-or_true true = refl
-or_true false = refl
 
 closes_blank : (e : Bool) (rest : List ℕ) → IsSpace rest → Closes e rest []
 closes_blank true rest blank = blank
@@ -225,7 +218,7 @@ module _ {T : Type 0} {took : T → List ℕ → Reply → T → Type 0} {t_old 
         replies = s.replies ++ Refused Unfinished ∷ [];
         run = record { statements = s.statements; rest = rest; answered = s.replies; last = Refused Unfinished ∷ []; cut = Cuts-part true input s.statements rest s.begins cut; run = s.run; closes = (cut.0, refl, refl); all = refl };
         written_is = refl;
-        refused_is = row.1 ∙ sym (has_refusal-push s.replies (Refused Unfinished) ∙ or_true (has_refusal s.replies));
+        refused_is = row.1 ∙ sym (has_refusal-push s.replies (Refused Unfinished) ∙ or-true (has_refusal s.replies));
       },
       refl,
       record { mid = t_now; each = s.taken; closing = (t_new, one, refl) },

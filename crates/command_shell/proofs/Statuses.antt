@@ -3,6 +3,7 @@ use Rattle.std.proofs.Common.{◌≡◌, ◌≢◌, inl, inr, ◌≤◌, ◌+◌
 use Rattle.std.proofs.lemmas.List.{take-append-drop, length-append}
 use Rattle.std.specs.Io.KnownBytes.{Consumes}
 use Rattle.std.proofs.KnownBytes.{Appends-nil, Consumes-nil}
+use Rattle.std.proofs.lemmas.Bool.{false≢true}
 use Rattle.cqa_io.specs.Causes.{Rose}
 use Rattle.script_lex.specs.Scripts.{Statement, Begins}
 use Rattle.script_lex.proofs.Statements.{Begins-append}
@@ -14,18 +15,15 @@ use Rattle.cqa_session.specs.State.{State}
 use Rattle.cqa_session.specs.Runs.{CutShort}
 use Rattle.command_shell.specs.Top.{Call, Ended, Outside, RunRow, CheckRow, DemoRow, CountsReadFault, CountsWriteFault, code_of, limit, IsWithinLimit, IsCompleted}
 
-pub false_true : false ≡ true → ⊥
-false_true e = (cc)
-
 begins_open : (ended : Bool) → (ended ≡ true → false ≡ true) → (bytes : List ℕ) (s : List Statement) (rest : List ℕ) → Begins ended bytes s rest → Begins false bytes s rest
-begins_open true h bytes s rest b = absurd (false_true (h refl))
+begins_open true h bytes s rest b = absurd (false≢true (h refl))
 begins_open false h bytes s rest b = b
 
 -- what begins the replies to a front begins those to all
 pub of_front : {old : State} {new : State} {written : List ℕ} (bytes : List ℕ) (n : ℕ) (at_end : Type 0) → CutShort old (take n bytes) (false ≡ true) new written → CutShort old bytes at_end new written
 of_front bytes n at_end s = record {
   ended = false;
-  is_end = λ e. absurd (false_true e);
+  is_end = λ e. absurd (false≢true e);
   statements = s.statements;
   rest = s.rest ++ drop n bytes;
   replies = s.replies;
@@ -34,7 +32,7 @@ of_front bytes n at_end s = record {
   begins = subst (λ l. Begins false l s.statements (s.rest ++ drop n bytes)) (take-append-drop n bytes)
       (Begins-append false (take n bytes) (drop n bytes) s.statements s.rest (begins_open s.ended s.is_end (take n bytes) s.statements s.rest s.begins));
   run = s.run;
-  tail = elim s.tail [ inl e ↦ inl e | inr h ↦ absurd (false_true (s.is_end h.0)) ];
+  tail = elim s.tail [ inl e ↦ inl e | inr h ↦ absurd (false≢true (s.is_end h.0)) ];
   written_is = s.written_is;
 }
 

@@ -9,7 +9,7 @@ use Rattle.command_shell.specs.declared.ending.Command.TheVariants.{Run, Check, 
 use Rattle.command_shell.specs.declared.ending.Ending.{Ending}
 use Rattle.command_shell.specs.declared.ending.Ending.TheVariants.{Answered, WithRefusal, BadWords, ReadFault, WriteFault, OutOfMemory, TooLong}
 use Rattle.cqa_session.specs.State.{State}
-use Rattle.cqa_session.specs.declared.session.TheConstants.{LONGEST_INPUT}
+use Rattle.cqa_model.specs.declared.limits.TheConstants.{LONGEST_INPUT}
 use Rattle.case_maker.specs.Scripts.{script_bytes}
 use Rattle.cqa_session.specs.Runs.{Answers, CutShort}
 use Rattle.command_shell.specs.Demo.{IsSize, IsDemo, BeginsDemo, StopsIn}

@@ -6,7 +6,7 @@ ghost use Rattle.std.specs.Option.{option_copied};
 ghost use Rattle.cqa_io.specs.Causes.{Rose};
 ghost use Rattle.reply_text.specs.Texts.{is_refusal};
 ghost use Rattle.command_shell.specs.Parts.{CloseRow, AnswerRow, ProgressRow};
-ghost use Rattle.cqa_session.specs.declared.session.TheConstants.{LONGEST_INPUT};
+ghost use Rattle.cqa_model.specs.declared.limits.TheConstants.{LONGEST_INPUT};
 
 use crate::ending::Stop;
 use crate::taker::Taker;

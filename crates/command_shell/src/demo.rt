@@ -8,7 +8,7 @@ ghost use Rattle.case_maker.specs.declared.script.TheConstants.{GREATEST_SIZE};
 ghost use Rattle.command_shell.specs.Parts.{WriteRow};
 ghost use Rattle.command_shell.specs.Top.{told, Ended};
 ghost use Rattle.command_shell.specs.Tallying.{InputRow, LineRow};
-ghost use Rattle.cqa_session.specs.declared.session.TheConstants.{LONGEST_INPUT};
+ghost use Rattle.cqa_model.specs.declared.limits.TheConstants.{LONGEST_INPUT};
 
 use crate::ending::{Ending, Stop};
 use crate::pieces::run;

@@ -7,7 +7,7 @@ ghost use Rattle.command_shell.specs.Parts.{ReadRow};
 
 use crate::ending::ReadEnd;
 use cqa_io::{Failed, Source};
-use cqa_session::LONGEST_INPUT;
+use cqa_model::LONGEST_INPUT;
 use std::alloc::{AllocError, Global};
 
 /// How many bytes a read asks for, where so many are allowed.

@@ -10,7 +10,8 @@ use crate::ending::{Ending, Stop};
 use crate::input::{PIECE, read_piece, zeros};
 use crate::taker::Taker;
 use cqa_io::{Failed, Source};
-use cqa_session::{LONGEST_INPUT, Session};
+use cqa_model::LONGEST_INPUT;
+use cqa_session::Session;
 use script_lex::Cutter;
 use std::alloc::Global;
 

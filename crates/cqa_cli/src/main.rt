@@ -3,7 +3,7 @@
 
 use command_shell::run_words;
 use cqa_io::{StdSink, StdSource};
-use cqa_session::Session;
+use cqa_session::{CONFLICTS, Session};
 use std::env;
 use std::io::ErrorKind;
 use std::mem::forget;
@@ -14,9 +14,6 @@ const NO_WORDS: u8 = 7;
 
 /// The status where memory for the words is refused.
 const OUT_OF_MEMORY: u8 = 5;
-
-/// The most conflicts of a search, where a script doesn't set them.
-const CONFLICTS: u32 = 200_000;
 
 fn main(rt: HostRuntime) -> ExitCode {
     let alloc = rt.alloc();

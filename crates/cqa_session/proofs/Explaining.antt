@@ -1,7 +1,7 @@
 -- Why rows are certain, and why they aren't.
-use Rattle.std.proofs.Common.{◌≡◌, ◌<◌, ◌≤◌, ◌==◌, inl, inr, cond, ℕ, zero, suc, Bool, true, false, Option, Some, None, IfSome, if◌then◌else◌, List, [], ◌∷◌, length, get_or, slice_get, Contains, Result, Ok, Err, IfOk, refl, ap, ◌∙◌, subst, arith, eqb}
+use Rattle.std.proofs.Common.{◌≡◌, ◌<◌, ◌≤◌, ◌==◌, inr, ℕ, zero, suc, Bool, true, false, Option, Some, None, IfSome, if◌then◌else◌, List, [], ◌∷◌, length, get_or, slice_get, Contains, Result, Ok, Err, refl, ap, ◌∙◌, arith, eqb}
 use Rattle.std.proofs.lemmas.Bool.{eqb-true, ne_eqb}
-use Rattle.std.specs.List.{IsDistinct, filter}
+use Rattle.std.specs.List.{IsDistinct}
 use Rattle.std.proofs.lemmas.List.{length-map, get_or_default}
 use Rattle.std.proofs.lemmas.List.Elements.{All-contains, Contains-append_right, recursion_from_All}
 use Rattle.std.proofs.lemmas.Map.Views.{Contains-from_any}
@@ -9,12 +9,13 @@ use Rattle.std.proofs.lemmas.Map.Steps.{length-le_from_distinct_below}
 use Rattle.cqa_value.specs.declared.memory.Fail.{Fail}
 use Rattle.cqa_value.specs.declared.memory.Fail.TheVariants as fails
 use Rattle.cqa_value.specs.declared.value.Value.{Value}
+use Rattle.cqa_value.proofs.Words.{Contains-filter}
 use Rattle.cqa_model.specs.declared.query.Query.{Query}
 use Rattle.cqa_model.specs.declared.schema.Schema.{Schema}
 use Rattle.cqa_model.specs.Database.{Table}
 use Rattle.cqa_model.specs.Query.{atom_at, atom_key, kind_at}
 use Rattle.cqa_model.specs.Shape.{AreDistinct}
-use Rattle.cqa_model.proofs.Classic.{mem-head, mem-tail, mem-cases}
+use Rattle.cqa_model.proofs.Classic.{mem-head}
 use Rattle.cqa_model.specs.declared.query.RowId.{RowId}
 use Rattle.cqa_model.specs.declared.refusal.Refusal.{Refusal}
 use Rattle.cqa_model.specs.declared.refusal.Refusal.TheVariants.{WrongArity}
@@ -38,10 +39,6 @@ named [] table schema l is = absurd (omega (arith, l))
 named (t ∷ db) zero schema l is = ap (λ (s : Schema). s.name) is
 named (t ∷ db) (suc table) schema l is = named db table schema (omega (arith, l)) is
 
-pub ok-map : {A E : Type 0} {P Q : A → Type 0} (r : Result A E) → ((x : A) → P x → Q x) → IfOk r P → IfOk r Q
-ok-map (Ok x) f p = f x p
-ok-map (Err e) f p = tt
-
 -- a row that passes its check has the answer's length
 pub checked-length : (db : List Table) (q : Query) (row : List Value) → answer_fault db q row ≡ None → length row ≡ length q.answer
 checked-length db q row none = go (length row == length (answer_kinds db q)) refl none ∙ length-map q.answer (kind_at q db)
@@ -56,7 +53,7 @@ first-some db q row [] block f = absurd f
 first-some db q row (F ∷ plan) block f = f.blocks.some block (Contains-append_right f.before (block ∷ f.behind) block (mem-head block f.behind))
 
 -- a key has at most as many columns as a table may have
-are-distinct : (xs : List ℕ) → AreDistinct xs → IsDistinct eqb xs
+pub are-distinct : (xs : List ℕ) → AreDistinct xs → IsDistinct eqb xs
 unfolding IsDistinct
 are-distinct [] h = tt
 are-distinct (x ∷ xs) h = (
@@ -76,16 +73,8 @@ few-keys q F l =
     omega (arith, few, wide)
 
 -- rows that are contested are stored
-any-filter : {A : Type 0} (p : A → Bool) (xs : List A) (x : A) → Contains (filter p xs) x → Contains xs x
-any-filter p [] x m = m
-any-filter p (y ∷ xs) x m = go (p y) (any-filter p xs x) m
-  where
-    go : (b : Bool) → (Contains (filter p xs) x → Contains xs x) → Contains (cond b (y ∷ filter p xs) (filter p xs)) x → Contains (y ∷ xs) x
-    go true rest m = elim (mem-cases x y (filter p xs) m) [ inl e ↦ subst (Contains (y ∷ xs)) e (mem-head y xs) | inr n ↦ mem-tail x y xs (rest n) ]
-    go false rest m = mem-tail x y xs (rest m)
-
 pub contested-stored : (db : List Table) (names : List RowId) → AreStored db names → AreStored db (contested_of db names)
-contested-stored db names h name m = h name (any-filter (is_contested_in db) names name m)
+contested-stored db names h name m = h name ((Contains-filter (is_contested_in db) names name).0 m).0
 
 -- how the answer for a row ends the statement
 pub explained : (old new : State) (row : List Value) (select : Select) (query : Query) (result : Result Reply (Fail Refusal)) → query_fault old.tables select ≡ None → IsQueryOf old.tables select query →
@@ -103,23 +92,7 @@ first-atom db q row (F ∷ plan) block f h = h F (mem-head F plan)
 pub plan-told : (old : State) (q : Query) (row : List Value) (reply : Reply) → TellsWhy old.tables q row reply → (HasNoPlan q → ⊥) → MayTell old q row reply old
 plan-told old q row (replies.ByBlock table key) h plans = (h, refl)
 plan-told old q row (replies.Rejected lines) h plans = (h, (λ c. absurd (plans c.0)), refl)
-plan-told old q row (replies.Created name) h plans = absurd h
-plan-told old q row (replies.Altered name) h plans = absurd h
-plan-told old q row (replies.Inserted n) h plans = absurd h
-plan-told old q row (replies.Deleted n) h plans = absurd h
-plan-told old q row (replies.Copied n) h plans = absurd h
-plan-told old q row (replies.Rows rows) h plans = absurd h
-plan-told old q row (replies.Classified class lines) h plans = absurd h
-plan-told old q row (replies.Steps names) h plans = absurd h
-plan-told old q row (replies.Sql text) h plans = absurd h
-plan-told old q row replies.NoPlan h plans = absurd h
-plan-told old q row (replies.ByRefutation proof) h plans = absurd h
-plan-told old q row (replies.Conflicts n) h plans = absurd h
-plan-told old q row (replies.Tables lines) h plans = absurd h
-plan-told old q row (replies.Dumped script) h plans = absurd h
-plan-told old q row (replies.KeptLog proof) h plans = absurd h
-plan-told old q row replies.NoLog h plans = absurd h
-plan-told old q row (replies.Refused refusal) h plans = absurd h
+plan-told old q row _ h plans = absurd h
 
 -- a row that passes its check is told of
 pub passes-check : (fault : Option Refusal) (old new : State) (May : Reply → State → Type 0) (result : Result Reply (Fail Refusal)) → fault ≡ None → IsOutcome result old May new → IsOutcome result old (Replies fault old May) new

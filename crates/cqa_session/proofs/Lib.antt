@@ -3,7 +3,7 @@ pub mod Asking
 pub mod Copying
 pub mod Doing
 pub mod Dumping
-mod Explaining
+pub mod Explaining
 mod Modelled
 mod Naming
 mod LineSteps

@@ -1,11 +1,11 @@
 -- Steps of the code that writes down attacks.
 use Rattle.std.proofs.Common.{◌≡◌, ℕ, suc, ◌+◌, ◌*◌, ◌<◌, ◌≤◌, ◌↔◌, inl, inr, List, [], ◌∷◌, ◌++◌, length, get_or, AllPairs, Contains, sym, ap, subst, arith}
 use native.Mathlib.Decide.{ℕ_discrete, dec_le}
-use Rattle.std.proofs.lemmas.List.{get_or_default}
 use Rattle.std.proofs.lemmas.Slice.Zip.{AllZip-long}
 use Rattle.std.specs.List.{AllZip}
-use Rattle.std.proofs.lemmas.List.Elements.{Contains-push, Contains-push_cases, Contains-append_left}
+use Rattle.std.proofs.lemmas.List.Elements.{Contains-push, Contains-push_cases, Contains-append_left, Contains-get_or}
 use Rattle.std.proofs.lemmas.List.Quantifiers.{all_pairs_push}
+use Rattle.cqa_value.proofs.Words.{all_zip_push}
 use Rattle.cqa_model.specs.declared.query.Query.{Query}
 use Rattle.cqa_model.specs.Database.{Table}
 use Rattle.cqa_model.specs.Variables.{whole}
@@ -14,7 +14,6 @@ use Rattle.cqa_model.proofs.Classic.{mem-head, mem-tail, mem-nil}
 use Rattle.attack_graph.specs.declared.graph.Attacks.{Attacks as Graph}
 use Rattle.attack_graph.specs.Attacking.{HasAttack, HasWeakAttack, AreAttacks}
 use Rattle.query_resolve.specs.Resolved.{IsAtomOf, IsQueryOf}
-use Rattle.query_resolve.proofs.Members.{all_zip_next}
 use Rattle.spj_syntax.specs.declared.tree.Select.{Select}
 use Rattle.reply_text.specs.declared.reply.AttackLine.{AttackLine}
 use Rattle.cqa_session.specs.AttackLines.{Attack, IsBefore, IsLineOf, AreAttackLines}
@@ -25,9 +24,6 @@ pub record AreLines (g : Graph) (names : List (List ℕ)) (n : ℕ) (lines : Lis
   pub in_order : AllPairs IsBefore attacks
   pub exactly : (a : Attack) → Contains attacks a ↔ (HasAttack g a.from a.to × (12 * a.from + a.to < n))
   pub each : AllZip (IsLineOf (HasWeakAttack g) names) attacks lines
-
-at_in : {A : Type 0} (xs : List A) (d : A) (j : ℕ) → j < length xs → Contains xs (get_or xs j d)
-at_in xs d j l = (j, l, get_or_default xs j (get_or xs j d) d l)
 
 zip_map : {A B : Type 0} (R S : A → B → Type 0) (xs : List A) (ys : List B) → ((x : A) (y : B) → Contains xs x → R x y → S x y) → AllZip R xs ys → AllZip S xs ys
 zip_map R S [] [] f h = tt
@@ -76,7 +72,7 @@ module _ (g : Graph) (names : List (List ℕ)) where
     pub lines-more : (lines new : List AttackLine) (line : AttackLine) → AreLines g names n lines → HasAttack g a.from a.to → IsLineOf (HasWeakAttack g) names a line → new ≡ lines ++ line ∷ [] → AreLines g names (n + 1) new
     lines-more lines new line old attack is e = rw e (record {
       attacks = old.attacks ++ a ∷ [];
-      in_order = all_pairs_push IsBefore old.attacks a old.in_order (λ k d l. let m = (old.exactly (get_or old.attacks k d)).0 (at_in old.attacks d k l) in before (get_or old.attacks k d) (g.small (get_or old.attacks k d).from (get_or old.attacks k d).to m.0).1 m.1);
+      in_order = all_pairs_push IsBefore old.attacks a old.in_order (λ k d l. let m = (old.exactly (get_or old.attacks k d)).0 (Contains-get_or old.attacks k d l) in before (get_or old.attacks k d) (g.small (get_or old.attacks k d).from (get_or old.attacks k d).to m.0).1 m.1);
       exactly = λ b. (
         (λ m. elim (Contains-push_cases old.attacks a b m) [
           | inl o ↦ let w = (old.exactly b).0 o in (w.0, omega (arith, w.1))
@@ -84,7 +80,7 @@ module _ (g : Graph) (names : List (List ℕ)) where
         ]),
         (λ p. go b p (ℕ_discrete (12 * b.from + b.to) n)),
       );
-      each = all_zip_next (IsLineOf (HasWeakAttack g) names) old.attacks lines a line old.each is;
+      each = all_zip_push (IsLineOf (HasWeakAttack g) names) old.attacks lines a line old.each is;
     })
       where
         go : (b : Attack) → HasAttack g b.from b.to × (12 * b.from + b.to < n + 1) → Dec (12 * b.from + b.to ≡ n) → Contains (old.attacks ++ a ∷ []) b

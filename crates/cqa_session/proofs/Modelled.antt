@@ -1,22 +1,21 @@
 -- The repair that a model of a row's formula gives holds no witness of the row.
-use Rattle.std.proofs.Common.{◌≡◌, ◌<◌, ◌-◌, ℕ, zero, suc, Bool, true, false, Some, None, List, [], ◌∷◌, length, get_or, slice_get, map, flat_map, Contains, inl, inr, refl, sym, ap, ◌∙◌, subst, arith}
+use Rattle.std.proofs.Common.{◌≡◌, ◌<◌, ◌-◌, ℕ, zero, suc, Bool, true, false, Some, None, List, [], ◌∷◌, length, get_or, slice_get, map, Contains, refl, sym, ap, ◌∙◌, subst, arith}
 use Rattle.std.proofs.lemmas.List.{length-map}
-use Rattle.std.proofs.lemmas.List.Elements.{Contains-get_or, Contains-append_left, Contains-append_right}
+use Rattle.std.proofs.lemmas.List.Elements.{Contains-get_or}
 use Rattle.std.proofs.lemmas.Option.{get_or_from_slice_get}
 use Rattle.cqa_value.specs.declared.value.Value.{Value}
+use Rattle.cqa_value.proofs.Words.{Contains-map, Contains-from_map, Contains-flat_map, Contains-slice_get}
 use Rattle.cqa_model.specs.declared.query.Query.{Query}
 use Rattle.cqa_model.specs.declared.query.RowId.{RowId}
 use Rattle.cqa_model.specs.Database.{Table, stored}
 use Rattle.cqa_model.specs.Repairs.{IsRepair, IsTableRepair}
 use Rattle.cqa_model.specs.Query.{atom_at, atom_key, rows_of, FitsDatabase}
-use Rattle.cqa_model.proofs.Classic.{mem-cases, mem-nil}
 use Rattle.cnf_form.specs.Literals.{SatisfiesAll}
 use Rattle.cdcl.specs.Outcomes.{assignment, IsModel}
 use Rattle.repair_clauses.specs.declared.formula.Encoded.{Encoded}
 use Rattle.repair_clauses.specs.Clauses.{Variable, IsStored, name_of}
 use Rattle.repair_clauses.specs.Encodings.{IsEncoded}
 use Rattle.repair_clauses.specs.Models.{IsTrueVariable, IsPicked, IsPick as IsPickOf}
-use Rattle.repair_clauses.proofs.Numbers.{at_place, in_map, from_map}
 use Rattle.repair_clauses.proofs.Models.{models_reject}
 use Rattle.repair_back.specs.Results.{names_in, AreKept, AreStored, IsListed, IsPick, ArePicks, Rejects}
 
@@ -33,13 +32,6 @@ module _ {A B : Type 0} (g : A → B) where
       none y e = (cc)
   of-map (x ∷ xs) zero y e = (x, refl, cc)
   of-map (x ∷ xs) (suc k) y e = of-map xs k y e
-
-in-flat : {A C : Type 0} (f : A → List C) (xs : List A) (x : A) (y : C) → Contains xs x → Contains (f x) y → Contains (flat_map f xs) y
-in-flat f [] x y m n = absurd (mem-nil x m)
-in-flat f (z ∷ xs) x y m n = elim (mem-cases x z xs m) [
-  | inl e ↦ Contains-append_left (f z) (flat_map f xs) y (subst (λ w. Contains (f w) y) (sym e) n)
-  | inr l ↦ Contains-append_right (f z) (flat_map f xs) y (in-flat f xs x y l n)
-]
 
 true-there : (bs : List Bool) (k : ℕ) → get_or bs k false ≡ true → slice_get bs k ≡ Some true
 true-there [] k e = (cc)
@@ -58,7 +50,7 @@ module _ (q : Query) (db : List Table) (row : List Value) (e : Encoded) (model :
 
   pub names-stored : AreStored db e.rows
   names-stored name c =
-      let x = from_map (name_of q) h.formula.variables name (subst (λ ns. Contains ns name) h.rows c) in
+      let x = Contains-from_map (name_of q) h.formula.variables name (subst (λ ns. Contains ns name) h.rows c) in
       let s = variable-stored x.0 x.1 in
       (subst (λ (n : RowId). n.table < length db) x.2 (fits.there x.0.atom s.0), subst (λ (n : RowId). n.place < length (get_or (stored db) n.table [])) x.2 s.1)
 
@@ -69,7 +61,7 @@ module _ (q : Query) (db : List Table) (row : List Value) (e : Encoded) (model :
   listed-true : (F i : ℕ) → F < length q.atoms → IsListed e.rows model (name_at F i) → IsTrueVariable h.formula.variables (assignment model) (record { atom = F; place = i })
   listed-true F i l (k, nk, mk) =
       let x = of-map (name_of q) h.formula.variables k (name_at F i) (subst (λ ns. slice_get ns k ≡ Some (name_at F i)) h.rows nk) in
-      let s = variable-stored x.0 (at_place h.formula.variables k x.0 x.1) in
+      let s = variable-stored x.0 (Contains-slice_get h.formula.variables k x.0 x.1) in
       let atom : x.0.atom ≡ F = q.kept.apart x.0.atom F s.0 l (ap (λ (n : RowId). n.table) x.2) in
       let same = same-variable x.0 F i atom (ap (λ (n : RowId). n.place) x.2) in
       (suc k, x.1 ∙ ap Some same, subst (λ n. get_or model n false ≡ true) (let z : k ≡ suc k - 1 = omega arith in z) (get_or_from_slice_get model k true false mk))
@@ -98,9 +90,9 @@ module _ (q : Query) (db : List Table) (row : List Value) (e : Encoded) (model :
         record {
           repair = subst (λ key. IsTableRepair key (rows_of q (stored db) F) (rows_of q kept F)) (sym (fits.keyed F l)) (r.each t there);
           picks = λ x mx.
-              let p = from_map (λ at. get_or (rows_of q (stored db) F) at []) (k.places t) x (subst (λ xs. Contains xs x) (k.rows F l) mx) in
+              let p = Contains-from_map (λ at. get_or (rows_of q (stored db) F) at []) (k.places t) x (subst (λ xs. Contains xs x) (k.rows F l) mx) in
               let named : Contains names (name_at F p.0) = subst (λ ns. Contains ns (name_at F p.0)) (sym k.are)
-              (in-flat (λ atom. names_in atom.table (k.places atom.table)) q.atoms (atom_at q F) (name_at F p.0) (Contains-get_or q.atoms F (record { table = 0; width = 0; key = []; strict = false }) l) (in_map (λ at. record { table = t; place = at }) (k.places t) p.0 p.1)) in
+              (Contains-flat_map (λ atom. names_in atom.table (k.places atom.table)) q.atoms (atom_at q F) (name_at F p.0) (Contains-get_or q.atoms F (record { table = 0; width = 0; key = []; strict = false }) l) (Contains-map (λ at. record { table = t; place = at }) (k.places t) p.0 p.1)) in
               (p.0, p.2, pick-of F p.0 l (picks F l p.0 named));
         }
 

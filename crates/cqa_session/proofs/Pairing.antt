@@ -8,7 +8,9 @@ use Rattle.std.specs.Ordering.{nat_cmp}
 use Rattle.std.proofs.Math.ListN.{get_or-map}
 use Rattle.std.proofs.lemmas.List.{length-append, length-map, get_or_append_left, get_or-append-add, get_or_default, append-nil, map-append}
 use Rattle.std.proofs.lemmas.List.Elements.{Contains-get_or, recursion_from_All, All-from_recursion, All-contains, All-from_get_or}
+use Rattle.std.proofs.lemmas.Map.Keys.{Less-from_sorted}
 use Rattle.cqa_value.specs.declared.value.Value.{Value}
+use Rattle.cqa_value.proofs.Words.{Contains-map, Contains-from_map, nat_cmp_less, member_by_recursion}
 use Rattle.cqa_model.specs.declared.query.Query.{Query}
 use Rattle.cqa_model.specs.declared.query.Atom.{Atom}
 use Rattle.cqa_model.specs.declared.query.RowId.{RowId}
@@ -18,9 +20,9 @@ use Rattle.cqa_model.specs.Query.{atom_at, atom_key, rows_of, FitsDatabase}
 use Rattle.cqa_model.specs.Plan.{Placed}
 use Rattle.cqa_model.proofs.Classic.{mem-head, mem-tail, mem-nil, mem-cases}
 use Rattle.cqa_model.proofs.Repairs.{sublist-stored}
-use Rattle.cqa_model.proofs.BlockOrder.{block_total, sorted-less}
+use Rattle.cqa_model.proofs.BlockOrder.{block_total}
 use Rattle.cqa_model.proofs.Reification.{placed}
-use Rattle.join_witness.proofs.Sorted.{one_sorted, sorted-from, each-of}
+use Rattle.join_witness.proofs.Sorted.{one_sorted, sorted-from}
 use Rattle.join_witness.specs.Listing.{HasTooMany}
 use Rattle.pair_refutation.specs.declared.proving.Refuted.{Refuted}
 use Rattle.pair_refutation.specs.Proving as refutations
@@ -33,7 +35,6 @@ use Rattle.cqa_session.specs.Statements.Explain.{IsRefuted, MayTell}
 use Rattle.pair_answers.specs.Numbers.{placed_in, numbered, place_of}
 use Rattle.pair_answers.specs.Kept.{id_of, AreAscendingFrom}
 use Rattle.pair_answers.specs.Kept as pairs
-use Rattle.repair_clauses.proofs.Numbers.{in_map, from_map}
 use Rattle.repair_back.specs.Results.{names_in, rows_in, AreKept, AreStored, Rejects}
 
 -- ---- ascending numbers
@@ -52,11 +53,8 @@ ascending-rises least (n ∷ ns) h zero (suc j) l s = let r = ascending-above (n
 ascending-rises least (n ∷ ns) h (suc i) zero l s = absurd (omega (arith, l))
 ascending-rises least (n ∷ ns) h (suc i) (suc j) l s = ascending-rises (n + 1) ns h.1 i j (omega (arith, l)) (omega (arith, s))
 
-nat-less : (i j : ℕ) → i < j → nat_cmp i j ≡ Less
-nat-less i j l = grind arith
-
 ascending-sorted : (least : ℕ) (ns : List ℕ) → AreAscendingFrom least ns → IsStrictlySortedBy nat_cmp ns
-ascending-sorted least ns h = sorted-from nat_cmp ns 0 (λ i j l s. nat-less (get_or ns i 0) (get_or ns j 0) (ascending-rises least ns h i j l s))
+ascending-sorted least ns h = sorted-from nat_cmp ns 0 (λ i j l s. nat_cmp_less (get_or ns i 0) (get_or ns j 0) (ascending-rises least ns h i j l s))
 
 -- ---- the numbers below one, and the others
 
@@ -133,7 +131,7 @@ module _ (n : ℕ) where
 
   shift-in : (ks : List ℕ) (p : ℕ) → ((k : ℕ) → Contains ks k → n ≤ k) → Contains (shift ks) p → Contains ks (n + p)
   shift-in ks p low m =
-      let h = from_map (λ k. k - n) ks p m in
+      let h = Contains-from_map (λ k. k - n) ks p m in
       let l = low h.0 h.1 in
       let d = h.2 in
       subst (λ z. Contains ks z) (let e : h.0 ≡ n + p = omega (arith, l, d) in e) h.1
@@ -152,7 +150,7 @@ module _ (n : ℕ) where
     where
       go : (b : Bool) → nat_lt k n ≡ b → (Contains ks (n + p) → Contains (high ks) p) → Contains (cond b (high ks) (shift (k ∷ ks))) p
       go true e rest = rest (elim (mem-cases (n + p) k ks m) [ inl d ↦ absurd (let l = ltb-true k n e in omega (arith, l, d)) | inr t ↦ t ])
-      go false e rest = subst (λ z. Contains (shift (k ∷ ks)) z) (let e2 : (n + p) - n ≡ p = omega arith in e2) (in_map (λ j. j - n) (k ∷ ks) (n + p) m)
+      go false e rest = subst (λ z. Contains (shift (k ∷ ks)) z) (let e2 : (n + p) - n ≡ p = omega arith in e2) (Contains-map (λ j. j - n) (k ∷ ks) (n + p) m)
 
   -- the names of the numbers are those of both
   module _ (left right : ℕ) where
@@ -184,7 +182,7 @@ sublist-sorted key [] ys h s = tt
 sublist-sorted key (x ∷ xs) [] h s = absurd h
 sublist-sorted key (x ∷ xs) (y ∷ ys) (inl (e, h)) s = (
   subst (λ z. AllByRecursion (λ w. block_cmp key z w ≡ Less) xs) (sym e)
-      (recursion_from_All (λ w. block_cmp key y w ≡ Less) xs (All-from_get_or (λ w. block_cmp key y w ≡ Less) xs [] (λ i l. each-of (λ w. block_cmp key y w ≡ Less) ys (get_or xs i []) s.0 (sublist-stored xs ys h (get_or xs i []) (Contains-get_or xs i [] l))))),
+      (recursion_from_All (λ w. block_cmp key y w ≡ Less) xs (All-from_get_or (λ w. block_cmp key y w ≡ Less) xs [] (λ i l. member_by_recursion (λ w. block_cmp key y w ≡ Less) ys s.0 (get_or xs i []) (sublist-stored xs ys h (get_or xs i []) (Contains-get_or xs i [] l))))),
   sublist-sorted key xs ys h s.1,
 )
 sublist-sorted key (x ∷ xs) (y ∷ ys) (inr h) s = sublist-sorted key (x ∷ xs) ys h s.1
@@ -198,14 +196,14 @@ rows-sorted key rows ps s up within = sorted-from (block_cmp key) (rows_in rows 
     less : (i j : ℕ) → i < j → j < length ps → block_cmp key (get_or (rows_in rows ps) i []) (get_or (rows_in rows ps) j []) ≡ Less
     less i j l k =
         subst (λ z. block_cmp key z (get_or (rows_in rows ps) j []) ≡ Less) (sym (at i (omega (arith, l, k)))) (subst (λ z. block_cmp key (get_or rows (get_or ps i 0) []) z ≡ Less) (sym (at j k))
-        (sorted-less (block_cmp key) rows (get_or ps i 0) (get_or ps j 0) [] s (ascending-rises 0 ps up i j l k) (within (get_or ps j 0) (Contains-get_or ps j 0 k))))
+        (Less-from_sorted (block_cmp key) rows (get_or ps i 0) (get_or ps j 0) [] s (ascending-rises 0 ps up i j l k) (within (get_or ps j 0) (Contains-get_or ps j 0 k))))
 
 kept-rows : (key : List ℕ) (rows kept : List (List Value)) (ps : List ℕ) → IsStrictlySortedBy (block_cmp key) rows → IsSublist kept rows → AreAscendingFrom 0 ps → ((p : ℕ) → Contains ps p → p < length rows) →
     ((x : List Value) → Contains kept x → (p : ℕ) × Contains ps p × (get_or rows p [] ≡ x)) → ((p : ℕ) → Contains ps p → Contains kept (get_or rows p [])) → kept ≡ rows_in rows ps
 kept-rows key rows kept ps s sub up within to from =
     one_sorted (block_cmp key) (block_total key) kept (rows_in rows ps) (sublist-sorted key kept rows sub s) (rows-sorted key rows ps s up within)
-    (λ x m. let h = to x m in subst (λ z. Contains (rows_in rows ps) z) h.2 (in_map (λ p. get_or rows p []) ps h.0 h.1))
-    (λ x m. let h = from_map (λ p. get_or rows p []) ps x m in subst (λ z. Contains kept z) h.2 (from h.0 h.1))
+    (λ x m. let h = to x m in subst (λ z. Contains (rows_in rows ps) z) h.2 (Contains-map (λ p. get_or rows p []) ps h.0 h.1))
+    (λ x m. let h = Contains-from_map (λ p. get_or rows p []) ps x m in subst (λ z. Contains kept z) h.2 (from h.0 h.1))
 
 sorted-at : (tables : List Table) → ((table : Table) → Contains tables table → IsTable table) → (t : ℕ) → (key : List ℕ) × IsStrictlySortedBy (block_cmp key) (get_or (stored tables) t [])
 unfolding IsStrictlySortedBy
@@ -361,7 +359,7 @@ module _ (q : Query) (db : List Table) (row : List Value) (ids : List RowId) (ba
   pair-rejects = (h.kept, h.repair, pair-kept, h.none)
 
   pub pair-stored : AreStored db ids
-  pair-stored name m = go (from_map (id_of q (stored db)) h.numbers name (subst (λ z. Contains z name) h.named m))
+  pair-stored name m = go (Contains-from_map (id_of q (stored db)) h.numbers name (subst (λ z. Contains z name) h.named m))
     where
       inside : (i : ℕ) → i < n + length ys → (b : Bool) → nat_lt i n ≡ b → (z : RowId) → cond b (record { table = first; place = i }) (record { table = second; place = i - n }) ≡ z → (z.table < length db) × (z.place < length (get_or (stored db) z.table []))
       inside i l true e z d = subst (λ (u : RowId). (u.table < length db) × (u.place < length (get_or (stored db) u.table []))) d (fits.there 0 (omega (arith, two)), ltb-true i n e)

@@ -28,15 +28,7 @@ use Rattle.cqa_session.specs.Statements.ShowTables.{ShowsTables}
 use Rattle.cqa_session.specs.Statements.Dump.{Dumps}
 use Rattle.cqa_session.specs.Statements.ShowLog.{ShowsLog}
 
--- ---- what is asked of a query: the first of its checks that fails in a state, and what it may do where none fails
-
-abbrev pub asking_fault : State → Verb → Select → Option Refusal
-asking_fault old verbs.Ask select = query_fault old.tables select
-asking_fault old verbs.Possible select = query_fault old.tables select
-asking_fault old verbs.Classify select = query_fault old.tables select
-asking_fault old verbs.Plan select = query_fault old.tables select
-asking_fault old verbs.Sql select = query_fault old.tables select
-asking_fault old (verbs.Explain row) select = query_fault old.tables select
+-- ---- what is asked of a query: what it may do where none of the query's checks fails
 
 abbrev pub Asks : State → Verb → Select → Reply → State → Type 0
 Asks old verbs.Ask select reply new = AnswersCertain old select reply new
@@ -46,7 +38,7 @@ Asks old verbs.Plan select reply new = ShowsPlan old select reply new
 Asks old verbs.Sql select reply new = WritesSql old select reply new
 Asks old (verbs.Explain row) select reply new = Explains old row select reply new
 
--- ---- a statement, with the block that follows it: the same
+-- ---- a statement, with the block that follows it: the first of its checks that fails in a state, and what it may do where none fails
 
 abbrev pub fault_in : State → Statement → Option (List ℕ) → Option Refusal
 fault_in old (statements.Create raw) block = schema_fault old.tables raw
@@ -54,7 +46,7 @@ fault_in old (statements.Alter name change) block = alter_fault old.tables name 
 fault_in old (statements.Insert name rows) block = insert_into_fault old.tables name rows
 fault_in old (statements.Delete name tests) block = delete_from_fault old.tables name tests
 fault_in old (statements.Copy name) block = copy_into_fault old.tables name
-fault_in old (statements.Asking verb select) block = asking_fault old verb select
+fault_in old (statements.Asking verb select) block = query_fault old.tables select
 fault_in old (statements.SetConflicts conflicts) block = None
 fault_in old statements.ShowTables block = None
 fault_in old statements.Dump block = None

@@ -3,7 +3,8 @@
 ghost use Rattle.std.specs.Option.{option_copied};
 ghost use Rattle.std.specs.Prelude.{Ok};
 ghost use Rattle.spj_syntax.specs.Written.{IsSmall};
-ghost use Rattle.cqa_session.specs.Machine.{asking_fault, Asks, Does};
+ghost use Rattle.query_resolve.specs.Checks.{query_fault};
+ghost use Rattle.cqa_session.specs.Machine.{Asks, Does};
 ghost use Rattle.cqa_session.specs.Replying.{Replies, IsOutcome};
 
 use crate::Session;
@@ -35,7 +36,7 @@ fn asked(
     verb: &Verb,
     select: &Select,
 ) -> Result<Reply, Fail<Refusal>>
-    ensures { IsOutcome result session.old (Replies (asking_fault session.old verb.now select.now) session.old (Asks session.old verb.now select.now)) session.new }
+    ensures { IsOutcome result session.old (Replies (query_fault session.old.tables select.now) session.old (Asks session.old verb.now select.now)) session.new }
 {
     match verb {
         Verb::Ask => ask(alloc, session, select),

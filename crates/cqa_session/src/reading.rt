@@ -4,7 +4,7 @@ ghost use Rattle.std.specs.Prelude.{◌≡◌, ◌≤◌, ◌<◌, ◌^◌, ℕ,
 ghost use Rattle.script_lex.specs.declared.kinds.LexFault.TheVariants.{TooLong};
 ghost use Rattle.script_lex.specs.Tokens.{Spells, longest_text};
 ghost use Rattle.spj_syntax.specs.Written.{IsSmall};
-ghost use Rattle.cqa_session.specs.declared.session.TheConstants.{LONGEST_INPUT};
+ghost use Rattle.cqa_model.specs.declared.limits.TheConstants.{LONGEST_INPUT};
 ghost use Rattle.cqa_session.specs.Saying.{of_lexing, of_parsing, IsReadAs};
 
 use cqa_model::{LimitKind, Refusal};

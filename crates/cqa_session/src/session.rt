@@ -4,7 +4,7 @@ ghost use Rattle.std.specs.Prelude.{◌≡◌, ◌≤◌, IfOk, OnErr, Option, S
 ghost use Rattle.std.specs.Option.{option_copied};
 ghost use Rattle.spj_syntax.specs.declared.tree.Statement.{Statement};
 ghost use Rattle.cqa_model.specs.declared.refusal.Refusal.{Refusal as RefusalValue};
-ghost use Rattle.cqa_session.specs.declared.session.TheConstants.{LONGEST_INPUT};
+ghost use Rattle.cqa_model.specs.declared.limits.TheConstants.{LONGEST_INPUT};
 ghost use Rattle.cqa_session.specs.State.{opening_with, IsState};
 ghost use Rattle.cqa_session.specs.Saying.{Says, SaysOneThing};
 ghost use Rattle.cqa_session.specs.Replying.{IsOutcome};
@@ -19,8 +19,8 @@ use std::alloc::Global;
 use std::marker::Model;
 use table_blocks::Database;
 
-/// The most bytes of a text that a session is given.
-pub const LONGEST_INPUT: usize = 268_435_456;
+/// The most conflicts of a search, where a script doesn't set them.
+pub const CONFLICTS: u32 = 200_000;
 
 /// A session of the machine: its tables, how many conflicts a search may take, and the last log with its formula.
 #[derive(Drop)]

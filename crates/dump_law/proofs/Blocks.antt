@@ -1,18 +1,20 @@
 -- The records of rows that can stand in a block are lines of a block.
-use Rattle.std.proofs.Common.{◌≡◌, ◌⊎◌, inl, inr, ◌==◌, ◌||◌, not, ℕ, Bool, true, false, List, [], ◌∷◌, ◌++◌, Contains, codes, map, refl, sym, ap, ◌∙◌, subst, arith, append_assoc, nat_eq}
+use Rattle.std.proofs.Common.{◌≡◌, ◌⊎◌, inl, inr, ◌==◌, not, ℕ, Bool, true, false, List, [], ◌∷◌, ◌++◌, Contains, codes, map, refl, sym, ap, ◌∙◌, subst, arith, append_assoc, nat_eq}
 use Rattle.std.proofs.lemmas.Bool.Decides.{nat_tests}
 use Rattle.std.specs.List.{AllByRecursion, flat_map}
 use Rattle.std.proofs.lemmas.List.Folds.{flat_map-map}
+use Rattle.std.proofs.lemmas.Bool.{not-true, or_from, or_parts}
 use Rattle.cqa_value.specs.declared.value.Value.{Value}
 use Rattle.cqa_value.specs.declared.value.Value.TheVariants.{Int, Text}
 use Rattle.cqa_value.specs.Valid.{IsValidValue}
-use Rattle.table_blocks.proofs.Membership.{contains_filter, contains_head, contains_later}
+use Rattle.cqa_value.proofs.Words.{mem-tail, mem-head, clash, Contains-filter}
+use Rattle.cqa_value.proofs.Integers.{fits_to}
 use Rattle.script_lex.specs.Bytes.{is_not_line_feed, is_digit, AllPass}
 use Rattle.script_lex.specs.Scripts.{IsEndingLine, IsBlockLine, lines_text, IsBlock}
 use Rattle.script_lex.proofs.Runs.{AllPass-push}
 use Rattle.csv_rows.specs.Ends.{begins_with_end, has_end, value_has_end, row_has_end, plain_rows}
 use Rattle.csv_rows.specs.Texts.{doubled, field_bytes, record_bytes, rows_bytes, value_bytes}
-use Rattle.dump_law.proofs.Numbers.{in_range, is_written, IsWritten}
+use Rattle.dump_law.proofs.Numbers.{is_written, IsWritten}
 
 -- the bytes are lines of a block
 pub record AreLines (bytes : List ℕ) : Type 0 where
@@ -74,17 +76,9 @@ closes_feed rest h line a q = one_line line rest (record { one = a; inner = no_e
 closes_more : (b : ℕ) (bytes : List ℕ) → is_not_line_feed b ≡ true → Closes bytes → Closes (b ∷ bytes)
 closes_more b bytes e f line a q = subst AreLines (append_assoc line (b ∷ []) bytes) (f (line ++ b ∷ []) (AllPass-push is_not_line_feed line b a e) (holds_more line (b ∷ []) q))
 
-or_false : (x y : Bool) → (x || y) ≡ false → (x ≡ false) × (y ≡ false)
-or_false true y e = absurd (cc e)
-or_false false y e = (refl, e)
-
 end_later : (xs ys : List ℕ) → has_end (xs ++ ys) ≡ false → has_end ys ≡ false
 end_later [] ys e = e
-end_later (x ∷ xs) ys e = end_later xs ys (or_false (begins_with_end (x ∷ (xs ++ ys))) (has_end (xs ++ ys)) e).1
-
-clash : (x : Bool) → x ≡ true → x ≡ false → ⊥
-clash true a b = cc b
-clash false a b = cc a
+end_later (x ∷ xs) ys e = end_later xs ys (or_parts (begins_with_end (x ∷ (xs ++ ys))) (has_end (xs ++ ys)) e).1
 
 -- a line between two line feeds of a text without an end
 line_between : (line rest : List ℕ) → has_end (10 ∷ (line ++ 10 ∷ rest)) ≡ false → IsEndingLine line → ⊥
@@ -181,17 +175,13 @@ block_is ended block rest h = record {
   ends = (codes "\\.", inl refl, inl refl);
 }
 
-or_both : (x y : Bool) → x ≡ false → y ≡ false → (x || y) ≡ false
-or_both true y a b = absurd (cc a)
-or_both false y a b = b
-
 no_feed_first : (b : ℕ) (bytes : List ℕ) → is_not_line_feed b ≡ true → begins_with_end (b ∷ bytes) ≡ false
 no_feed_first b bytes h = let n : nat_eq 10 b ≡ false = grind (arith, nat_tests) in rw n refl
 
 -- bytes without a line feed have no line that ends a block
 no_feeds : (bytes : List ℕ) → AllPass is_not_line_feed bytes → has_end bytes ≡ false
 no_feeds [] a = refl
-no_feeds (b ∷ bytes) a = or_both (begins_with_end (b ∷ bytes)) (has_end bytes) (no_feed_first b bytes a.0) (no_feeds bytes a.1)
+no_feeds (b ∷ bytes) a = or_from (begins_with_end (b ∷ bytes)) (has_end bytes) (no_feed_first b bytes a.0) (no_feeds bytes a.1)
 
 digit_no_feed : (b : ℕ) → is_digit b ≡ true → is_not_line_feed b ≡ true
 digit_no_feed b h = grind (arith, nat_tests)
@@ -207,24 +197,20 @@ number_no_end bytes w = no_feeds bytes (elim w.is [
 ])
 
 value_no_end : (v : Value) → IsValidValue v → value_has_end v ≡ false → has_end (value_bytes v) ≡ false
-value_no_end (Int n) valid h = number_no_end (value_bytes (Int n)) (is_written n (in_range n valid))
+value_no_end (Int n) valid h = number_no_end (value_bytes (Int n)) (is_written n (fits_to n valid))
 value_no_end (Text t) valid h = h
 
 row_no_ends : (row : List Value) → AllByRecursion IsValidValue row → row_has_end row ≡ false → NoEnds (map value_bytes row)
 row_no_ends [] valid h = tt
-row_no_ends (v ∷ row) valid h = let k = or_false (value_has_end v) (row_has_end row) h in (value_no_end v valid.0 k.0, row_no_ends row valid.1 k.1)
-
-not_false : (b : Bool) → not b ≡ true → b ≡ false
-not_false true h = absurd (cc h)
-not_false false h = refl
+row_no_ends (v ∷ row) valid h = let k = or_parts (value_has_end v) (row_has_end row) h in (value_no_end v valid.0 k.0, row_no_ends row valid.1 k.1)
 
 -- the rows that can stand in a block
 pub plain_no_end : (rows : List (List Value)) (row : List Value) → Contains (plain_rows rows) row → row_has_end row ≡ false
-plain_no_end rows row m = not_false (row_has_end row) ((contains_filter (λ r. not (row_has_end r)) rows row).0 m).1
+plain_no_end rows row m = not-true (row_has_end row) ((Contains-filter (λ r. not (row_has_end r)) rows row).0 m).1
 
 each_no_ends : (rows : List (List Value)) → ((row : List Value) → Contains rows row → AllByRecursion IsValidValue row × (row_has_end row ≡ false)) → AllByRecursion NoEnds (map (map value_bytes) rows)
 each_no_ends [] h = tt
-each_no_ends (row ∷ rows) h = (row_no_ends row (h row (contains_head row rows)).0 (h row (contains_head row rows)).1, each_no_ends rows (λ x m. h x (contains_later row rows x m)))
+each_no_ends (row ∷ rows) h = (row_no_ends row (h row (mem-head row rows)).0 (h row (mem-head row rows)).1, each_no_ends rows (λ x m. h x (mem-tail x row rows m)))
 
 -- what is written of such rows is lines of a block
 pub rows_lines : (rows : List (List Value)) → ((row : List Value) → Contains rows row → AllByRecursion IsValidValue row × (row_has_end row ≡ false)) → AreLines (rows_bytes rows)

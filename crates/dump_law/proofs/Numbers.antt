@@ -1,6 +1,5 @@
 -- Integers as they are written.
-use mir.Syntax.{w64}
-use Rattle.std.proofs.Common.{◌≡◌, ◌⊎◌, inl, inr, ◌<◌, ◌≤◌, ◌^◌, ◌&&◌, ℕ, suc, Bool, true, false, ℤ, pos, negsuc, List, [], ◌∷◌, length, Some, None, FitsSigned, refl, ap, arith, if◌then◌else◌}
+use Rattle.std.proofs.Common.{◌≡◌, ◌⊎◌, inl, inr, ◌<◌, ◌≤◌, ◌^◌, ◌&&◌, ℕ, suc, Bool, true, false, ℤ, pos, negsuc, List, [], ◌∷◌, length, Some, None, refl, ap, arith, if◌then◌else◌}
 use Rattle.std.proofs.lemmas.Bool.Decides.{nat_tests, Decides-ltb}
 use Rattle.std.proofs.lemmas.Fmt.{decimal_is_IsNumeral, length_signed_le}
 use Rattle.std.proofs.lemmas.Str.Parse.{digit_from_value}
@@ -10,10 +9,6 @@ use Rattle.std.specs.Fmt.{decimal, signed_decimal}
 use Rattle.cqa_value.specs.Literals.{are_digits, without_minus, integer_of, is_in_range}
 use Rattle.cqa_value.proofs.Integers.{written}
 use Rattle.script_lex.specs.Bytes.{is_digit, AllPass}
-
-pub in_range : (n : ℤ) → FitsSigned w64 n → is_in_range n ≡ true
-in_range (pos n) f = (Decides-ltb n (2 ^ 63)).1 f.sfits
-in_range (negsuc n) f = (Decides-ltb n (2 ^ 63)).1 f.sfits
 
 -- a digit and more, with a dash before them or none
 pub record IsWritten (bytes : List ℕ) : Type 0 where

@@ -7,6 +7,7 @@ use Rattle.script_lex.specs.declared.modes.Mode.TheVariants.{Outside, Dash, Text
 use Rattle.script_lex.specs.Bytes.{is_letter, is_digit, is_word_byte, AllPass}
 use Rattle.script_lex.specs.Scripts.{after, is_text_byte, Leads}
 use Rattle.script_lex.proofs.Leading.{Leads-append}
+use Rattle.script_lex.proofs.Quotes.{is_39}
 use Rattle.dump_law.proofs.Quotes.{quoted}
 
 -- neither a quote nor a dash nor a `;`
@@ -76,9 +77,6 @@ quiet_minus b bytes a = (refl, (passes_dash b a.0, subst (λ m. Leads is_text_by
 
 inner : (b : ℕ) → (b == 39) ≡ false → after Text b ≡ Text
 inner b h = rw h refl
-
-is_39 : (b : ℕ) → (b == 39) ≡ true → b ≡ 39
-is_39 b e = grind (arith, nat_tests)
 
 within : (v : List ℕ) → Leads is_text_byte Text (doubled v) Text
 within [] = refl

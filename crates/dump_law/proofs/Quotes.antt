@@ -11,15 +11,13 @@ use Rattle.script_lex.specs.declared.pieces.PieceKind.TheVariants.{Token as OfTo
 use Rattle.script_lex.specs.TokenParts.{EndsQuoted}
 use Rattle.script_lex.specs.Tokens.{IsQuoted, IsLongest, inside}
 use Rattle.script_lex.proofs.Longest.{text_stands}
+use Rattle.script_lex.proofs.Quotes.{is_39}
 use Rattle.spj_syntax.specs.Lexemes.{undoubled}
 use Rattle.dump_law.proofs.Pieces.{is_stop, Stops}
 
 -- a value between quotes
 abbrev pub quoted : List ℕ → List ℕ
 quoted v = 39 ∷ (doubled v ++ 39 ∷ [])
-
-is_39 : (b : ℕ) → (b == 39) ≡ true → b ≡ 39
-is_39 b e = grind (arith, nat_tests)
 
 not_39 : (b : ℕ) → (b == 39) ≡ false → b ≡ 39 → ⊥
 not_39 b e h = grind (arith, nat_tests)

@@ -1,13 +1,13 @@
 -- The names of a valid schema resolve to it.
 use Rattle.std.proofs.Common.{◌≡◌, ◌+◌, ◌<◌, ◌≤◌, ◌&&◌, nat_eq, nat_lt, nat_le, is_some, is_none, ℕ, zero, suc, Bool, true, false, not, List, [], ◌∷◌, ◌++◌, Option, Some, None, length, map, get_or, refl, sym, ap, ◌∙◌, subst, arith, append_assoc, length-append}
 use mathlib.Core.HLevel.{is_prop→PathP}
-use Rattle.std.proofs.Props.{props}
 use Rattle.std.proofs.Math.Seq.{get_or-append_seam}
 use Rattle.std.proofs.lemmas.Bool.Decides.{nat_tests}
 use Rattle.std.proofs.lemmas.List.{length-map, map-append, get_or_append_left}
 use Rattle.std.proofs.lemmas.List.Elements.{recursion_from_All}
 use Rattle.std.specs.Cmp.Lexicographic.{pointwise}
 use Rattle.std.specs.List.{AllByRecursion, position}
+use Rattle.std.proofs.lemmas.Option.{same_Some}
 use Rattle.cqa_value.specs.declared.value.Kind.TheVariants.{Int}
 use Rattle.cqa_model.specs.declared.refusal.Refusal.{Refusal}
 use Rattle.cqa_model.specs.declared.refusal.Refusal.TheVariants.{TableExists, DuplicateColumn, BadKey, Limit}
@@ -19,15 +19,13 @@ use Rattle.cqa_model.specs.Refusal.{first_of}
 use Rattle.cqa_model.specs.Shape.{column_at, IsSchema}
 use Rattle.cqa_model.specs.Valid.{HasNames}
 use Rattle.table_blocks.specs.Tables.{table_named}
+use Rattle.table_blocks.proofs.Changing.{kept_once}
 use Rattle.query_resolve.specs.Names.{name_place, column_named, has_column}
 use Rattle.query_resolve.specs.Checks.{fault_unless, first_fault, table_fault, duplicate_fault, key_fault, names_fault, schema_fault}
 use Rattle.query_resolve.specs.Resolved.{ArePlacesOf, IsSchemaOf}
 use Rattle.query_resolve.proofs.Lookups.{named_at, named_nowhere}
 use Rattle.query_resolve.proofs.Members.{neither}
 use Rattle.dump_law.proofs.Statements.{key_names, raw_of}
-
-some_same : {A : Type 0} (x y : A) → Some x ≡ Some y → x ≡ y
-some_same x y e = cc e
 
 -- members with names, found by them
 module _ {A : Type 0} (f : A → List ℕ) (d : A) where
@@ -107,7 +105,7 @@ places_once columns [] (x ∷ xs) ys a b = absurd a
 places_once columns (n ∷ names) [] ys a b = absurd a
 places_once columns (n ∷ names) (x ∷ xs) [] a b = absurd b
 places_once columns (n ∷ names) (x ∷ xs) (y ∷ ys) a b =
-    let e = some_same x y (sym a.0 ∙ b.0) in
+    let e = same_Some x y (sym a.0 ∙ b.0) in
     let r = places_once columns names xs ys a.1 b.1 in
     λ i. e i ∷ r i
 
@@ -118,9 +116,6 @@ schema_is schema h = record {
   key = places_found schema.columns schema.key schema.kept schema.key (recursion_from_All (λ p. p < length schema.columns) schema.key schema.kept.key_in_range);
   strict = refl;
 }
-
-kept_once : (columns : List Column) (key : List ℕ) → IsProp (IsSchema columns key)
-kept_once columns key = hlevel props
 
 pub schema_once : (schema other : Schema) (h : HasNames schema) → IsSchemaOf (raw_of schema h) other → other ≡ schema
 schema_once schema other h k =

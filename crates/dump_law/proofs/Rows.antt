@@ -5,10 +5,12 @@ use Rattle.std.proofs.lemmas.List.Elements.{Contains-append_left, Contains-appen
 use Rattle.std.proofs.lemmas.List.Kept.{IsStrictlySortedBy-filter}
 use Rattle.std.specs.List.{filter}
 use Rattle.std.specs.List.Sorted.{IsStrictlySortedBy}
+use Rattle.std.proofs.lemmas.Bool.{and_parts, and_from, not_from_false, false_from_ne_true}
 use Rattle.cqa_value.specs.declared.value.Kind.{Kind}
 use Rattle.cqa_value.specs.declared.value.Kind.TheVariants as column_kinds
 use Rattle.cqa_value.specs.declared.value.Value.{Value}
 use Rattle.cqa_value.specs.Values.{kind_of, row_eq, row_decides}
+use Rattle.cqa_value.proofs.Words.{mem-tail, mem-cases, mem-head, mem-nil, clash_not, Contains-filter}
 use Rattle.cqa_model.specs.declared.schema.Schema.{Schema}
 use Rattle.cqa_model.specs.Database.{Table, IsRowOf, AreConsistent, block_cmp, kinds_of, row_total}
 use Rattle.cqa_model.specs.Refusal.{first_of}
@@ -16,9 +18,10 @@ use Rattle.table_blocks.specs.Keys.{same_key, first_other, taken_by, taken_fault
 use Rattle.table_blocks.specs.Tables.{rows_at, key_at, mark_at, kinds_at, with_rows, is_among, count_new, same_kind, kind_fault, row_fault, rows_fault, key_fault, insert_fault, IsMerged, Inserts}
 use Rattle.table_blocks.proofs.Counting.{counted}
 use Rattle.table_blocks.proofs.Inserting.{valid_insert}
-use Rattle.table_blocks.proofs.Membership.{among, contains_filter, contains_none, contains_head, contains_later, contains_cases}
+use Rattle.table_blocks.proofs.Membership.{among}
 use Rattle.table_blocks.proofs.Reordering.{ordered_once}
 use Rattle.table_blocks.proofs.Sharing.{none_passes, same_decides}
+use Rattle.table_blocks.proofs.Changing.{total_push}
 use Rattle.script_lex.proofs.FirstBytes.{eq_true}
 
 -- of some rows, those that are there already
@@ -30,21 +33,21 @@ abbrev pub Within : List (List Value) → List (List Value) → Type 0
 Within rows given = (row : List Value) → Contains given row → Contains rows row
 
 pub part_within : (rows got : List (List Value)) → Within rows (part rows got)
-part_within rows got row m = ((contains_filter (is_among got) rows row).0 m).0
+part_within rows got row m = ((Contains-filter (is_among got) rows row).0 m).0
 
 pub merged : (key : List ℕ) (rows got given : List (List Value)) → IsStrictlySortedBy (block_cmp key) rows → Within rows given → IsMerged key (part rows got) given (part rows (got ++ given))
 merged key rows got given sorted inside = record {
   in_order = IsStrictlySortedBy-filter (block_cmp key) (is_among (got ++ given)) rows sorted;
   members = λ row. (
-    λ m. let h = (contains_filter (is_among (got ++ given)) rows row).0 m in
+    λ m. let h = (Contains-filter (is_among (got ++ given)) rows row).0 m in
         elim (Contains-append_cases got given row ((among (got ++ given) row).0 h.1)) [
-          | inl g ↦ inl ((contains_filter (is_among got) rows row).1 (h.0, (among got row).1 g))
+          | inl g ↦ inl ((Contains-filter (is_among got) rows row).1 (h.0, (among got row).1 g))
           | inr g ↦ inr g
         ],
     λ h. elim h [
-      | inl m ↦ (let k = (contains_filter (is_among got) rows row).0 m in
-          (contains_filter (is_among (got ++ given)) rows row).1 (k.0, (among (got ++ given) row).1 (Contains-append_left got given row ((among got row).0 k.1))))
-      | inr g ↦ (contains_filter (is_among (got ++ given)) rows row).1 (inside row g, (among (got ++ given) row).1 (Contains-append_right got given row g))
+      | inl m ↦ (let k = (Contains-filter (is_among got) rows row).0 m in
+          (Contains-filter (is_among (got ++ given)) rows row).1 (k.0, (among (got ++ given) row).1 (Contains-append_left got given row ((among got row).0 k.1))))
+      | inr g ↦ (Contains-filter (is_among (got ++ given)) rows row).1 (inside row g, (among (got ++ given) row).1 (Contains-append_right got given row g))
     ],
   );
 }
@@ -55,7 +58,7 @@ merged_once key old given xs ys h k = ordered_once key xs ys h.in_order k.in_ord
 filter_all : (p : List Value → Bool) (rows : List (List Value)) → ((row : List Value) → Contains rows row → p row ≡ true) → filter p rows ≡ rows
 filter_all p [] h = refl
 filter_all p (row ∷ rows) h =
-    ap (λ b. cond b (row ∷ filter p rows) (filter p rows)) (h row (contains_head row rows)) ∙ ap (λ l. row ∷ l) (filter_all p rows (λ x m. h x (contains_later row rows x m)))
+    ap (λ b. cond b (row ∷ filter p rows) (filter p rows)) (h row (mem-head row rows)) ∙ ap (λ l. row ∷ l) (filter_all p rows (λ x m. h x (mem-tail x row rows m)))
 
 -- once all rows were put there, they are the rows
 pub part_all : (rows got : List (List Value)) → Within got rows → part rows got ≡ rows
@@ -80,30 +83,22 @@ row_fits kinds number row e =
 pub rows_fit : (kinds : List Kind) (number : ℕ) (rows : List (List Value)) → ((row : List Value) → Contains rows row → map kind_of row ≡ kinds) → rows_fault kinds number rows ≡ None
 rows_fit kinds number [] h = refl
 rows_fit kinds number (row ∷ rows) h =
-    rw (row_fits kinds number row (h row (contains_head row rows))) (rows_fit kinds (number + 1) rows (λ x m. h x (contains_later row rows x m)))
-
-both_true : (x y : Bool) → (x && y) ≡ true → (x ≡ true) × (y ≡ true)
-both_true true y e = (refl, e)
-both_true false y e = absurd (cc e)
-
-not_true : (x : Bool) → not x ≡ true → x ≡ true → ⊥
-not_true true e h = cc e
-not_true false e h = cc h
+    rw (row_fits kinds number row (h row (mem-head row rows))) (rows_fit kinds (number + 1) rows (λ x m. h x (mem-tail x row rows m)))
 
 none_taken : (key : List ℕ) (base before : List (List Value)) (number : ℕ) (given : List (List Value)) → AreConsistent key base → Within base before → Within base given → taken_fault key before number given ≡ None
 none_taken key base before number [] apart inside within = refl
 none_taken key base before number (row ∷ rows) apart inside within =
     let none : first_other key before row ≡ None =
     none_passes (λ other. same_key key row other && not (row_eq row other)) before (λ other m t.
-    let h = both_true (same_key key row other) (not (row_eq row other)) t in
-    not_true (row_eq row other) h.1 ((row_decides row other).1 (apart row other (within row (contains_head row rows)) (inside other m) ((same_decides key row other).0 h.0)))) in
+    let h = and_parts (same_key key row other) (not (row_eq row other)) t in
+    clash_not (row_eq row other) h.1 ((row_decides row other).1 (apart row other (within row (mem-head row rows)) (inside other m) ((same_decides key row other).0 h.0)))) in
     ap (λ o. first_of (taken_by number row o) (taken_fault key (before ++ row ∷ []) (number + 1) rows)) none
     ∙ none_taken key base (before ++ row ∷ []) (number + 1) rows apart
     (λ x m. elim (Contains-append_cases before (row ∷ []) x m) [
       | inl l ↦ inside x l
-      | inr r ↦ elim (contains_cases row [] x r) [ inl e ↦ subst (Contains base) e (within row (contains_head row rows)) | inr n ↦ absurd (contains_none x n) ]
+      | inr r ↦ elim (mem-cases x row [] r) [ inl e ↦ subst (Contains base) e (within row (mem-head row rows)) | inr n ↦ absurd (mem-nil x n) ]
     ])
-    (λ x m. within x (contains_later row rows x m))
+    (λ x m. within x (mem-tail x row rows m))
 
 -- two tests that no row passes both count no more than all rows
 apart_fit : (p q : List Value → Bool) (rows : List (List Value)) → ((x : List Value) → p x ≡ true → q x ≡ true → ⊥) → length (filter p rows) + length (filter q rows) ≤ length rows
@@ -117,26 +112,18 @@ apart_fit p q (x ∷ rows) apart = go (p x) (q x) (apart x) (apart_fit p q rows 
     go false true never more = omega (arith, more)
     go false false never more = omega (arith, more)
 
-not_is : (x : Bool) → (x ≡ true → ⊥) → not x ≡ true
-not_is true h = absurd (h refl)
-not_is false h = refl
-
-both_are : (x y : Bool) → x ≡ true → y ≡ true → (x && y) ≡ true
-both_are true y h k = k
-both_are false y h k = absurd (cc h)
-
 -- the rows that are there and those that are new are no more than all
 pub new_fit : (key : List ℕ) (rows got given : List (List Value)) → IsStrictlySortedBy (block_cmp key) rows → Within rows given → length (part rows got) + count_new (part rows got) given ≤ length rows
 new_fit key rows got given sorted inside =
     let is_new : List Value → Bool = λ row. is_among given row && not (is_among got row) in
     let size : length (filter is_new rows) ≡ count_new (part rows got) given =
     counted key (part rows got) given (filter is_new rows) (IsStrictlySortedBy-filter (block_cmp key) is_new rows sorted) (λ row. (
-      λ m. let h = (contains_filter is_new rows row).0 m in
-          let t = both_true (is_among given row) (not (is_among got row)) h.1 in
-          ((among given row).0 t.0, λ k. not_true (is_among got row) t.1 ((contains_filter (is_among got) rows row).0 k).1),
-      λ h. (contains_filter is_new rows row).1 (inside row h.0, both_are (is_among given row) (not (is_among got row)) ((among given row).1 h.0) (not_is (is_among got row) (λ g. h.1 ((contains_filter (is_among got) rows row).1 (inside row h.0, g))))),
+      λ m. let h = (Contains-filter is_new rows row).0 m in
+          let t = and_parts (is_among given row) (not (is_among got row)) h.1 in
+          ((among given row).0 t.0, λ k. clash_not (is_among got row) t.1 ((Contains-filter (is_among got) rows row).0 k).1),
+      λ h. (Contains-filter is_new rows row).1 (inside row h.0, and_from (is_among given row) (not (is_among got row)) ((among given row).1 h.0) (not_from_false (is_among got row) (false_from_ne_true (is_among got row) (λ g. h.1 ((Contains-filter (is_among got) rows row).1 (inside row h.0, g)))))),
     )) in
-    let fit = apart_fit (is_among got) is_new rows (λ x p q. not_true (is_among got x) (both_true (is_among given x) (not (is_among got x)) q).1 p) in
+    let fit = apart_fit (is_among got) is_new rows (λ x p q. clash_not (is_among got x) (and_parts (is_among given x) (not (is_among got x)) q).1 p) in
     omega (arith, size, fit)
 
 -- the last table of some
@@ -160,10 +147,6 @@ with_last : (done : List Table) (t : Table) (rows : List (List Value)) → with_
 with_last [] t rows = refl
 with_last (u ∷ done) t rows = ap (λ l. u ∷ l) (with_last done t rows)
 
-pub total_last : (done : List Table) (t : Table) → row_total (done ++ t ∷ []) ≡ row_total done + length t.rows
-total_last [] t = omega arith
-total_last (u ∷ done) t = omega (arith, total_last done t)
-
 -- a table with some of its rows, behind others
 abbrev pub having : List Table → Schema → List (List Value) → List (List Value) → List Table
 having done schema rows got = done ++ (record { schema = schema; rows = part rows got }) ∷ []
@@ -186,7 +169,7 @@ module _ (done : List Table) (schema : Schema) (rows : List (List Value)) (sorte
   no_fault got given inside =
       let t : Table = record { schema = schema; rows = part rows got } in
       let many : row_total (having done schema rows got) + count_new (rows_at (having done schema rows got) (length done)) given ≤ 1_000_000 =
-      subst (λ r. row_total (having done schema rows got) + count_new r given ≤ 1_000_000) (sym (rows_last done t)) (omega (arith, total_last done t, few, new_fit schema.key rows got given sorted inside)) in
+      subst (λ r. row_total (having done schema rows got) + count_new r given ≤ 1_000_000) (sym (rows_last done t)) (omega (arith, total_push done t, few, new_fit schema.key rows got given sorted inside)) in
       valid_insert (having done schema rows got) (length done) given (rows_fit (kinds_at (having done schema rows got) (length done)) 1 given (λ row m. fit row (inside row m) ∙ sym (kinds_last done t))) (free got given inside) many
 
   merged_last : (got given : List (List Value)) → Within rows given → IsMerged (key_at (having done schema rows got) (length done)) (rows_at (having done schema rows got) (length done)) given (part rows (got ++ given))

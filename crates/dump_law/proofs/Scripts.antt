@@ -5,6 +5,7 @@ use Rattle.std.proofs.lemmas.List.Elements.{recursion_from_All, Contains-append_
 use Rattle.std.specs.List.{AllByRecursion, flat_map}
 use Rattle.cqa_value.specs.declared.value.Value.{Value}
 use Rattle.cqa_value.specs.Valid.{IsValidValue}
+use Rattle.cqa_value.proofs.Words.{mem-tail, mem-head, Contains-filter}
 use Rattle.cqa_model.specs.declared.schema.Schema.{Schema}
 use Rattle.cqa_model.specs.Database.{Table, IsDatabase, IsTable, names_of, row_total}
 use Rattle.cqa_model.specs.Text.{schema_bytes}
@@ -16,7 +17,6 @@ use Rattle.dump_text.specs.Dumps.{create_words, create_text, copy_text, insert_t
 use Rattle.reply_text.specs.declared.reply.Reply.{Reply}
 use Rattle.reply_text.specs.Texts.{is_refusal}
 use Rattle.table_blocks.specs.Tables.{table_named}
-use Rattle.table_blocks.proofs.Membership.{contains_filter, contains_head, contains_later}
 use Rattle.cqa_session.specs.State.{State}
 use Rattle.cqa_session.specs.Runs.{Run, has_refusal}
 use Rattle.dump_law.proofs.Blocks.{rows_lines, plain_no_end}
@@ -63,8 +63,8 @@ inserts_cut : (schema : Schema) → HasNames schema → (rows : List (List Value
 inserts_cut schema h [] each = no_text
 inserts_cut schema h (row ∷ rows) each =
     both_texts (insert_text schema.name row) (flat_map (λ row. insert_text schema.name row) rows) (insert_statement schema.name row ∷ []) (map (insert_statement schema.name) rows)
-    (plain_cut (insert_bytes schema.name row) (insert_is_text schema.name row h.name (each row (contains_head row rows))) (insert_copies_not schema.name row))
-    (inserts_cut schema h rows (λ x m. each x (contains_later row rows x m)))
+    (plain_cut (insert_bytes schema.name row) (insert_is_text schema.name row h.name (each row (mem-head row rows))) (insert_copies_not schema.name row))
+    (inserts_cut schema h rows (λ x m. each x (mem-tail x row rows m)))
 
 values_of : (table : Table) → IsValidTable table → (row : List Value) → Contains table.rows row → AllByRecursion IsValidValue row
 values_of table valid row m = recursion_from_All IsValidValue row (valid.values row m)
@@ -73,8 +73,8 @@ table_cut : (table : Table) → IsValidTable table → IsCutInto (table_text tab
 table_cut table valid =
     let schema = table.schema in
     let create = plain_cut (create_words schema.strict ++ schema_bytes schema) (create_is_text schema valid.names) (create_copies_not schema) in
-    let copies = copies_cut schema valid.names (plain_rows table.rows) (λ row m. (values_of table valid row ((contains_filter (λ r. not (row_has_end r)) table.rows row).0 m).0, plain_no_end table.rows row m)) in
-    let inserts = inserts_cut schema valid.names (other_rows table.rows) (λ row m. values_of table valid row ((contains_filter row_has_end table.rows row).0 m).0) in
+    let copies = copies_cut schema valid.names (plain_rows table.rows) (λ row m. (values_of table valid row ((Contains-filter (λ r. not (row_has_end r)) table.rows row).0 m).0, plain_no_end table.rows row m)) in
+    let inserts = inserts_cut schema valid.names (other_rows table.rows) (λ row m. values_of table valid row ((Contains-filter row_has_end table.rows row).0 m).0) in
     let first = create_statement schema ∷ [] in
     let second = copy_statements schema.name (plain_rows table.rows) in
     both_texts (create_text schema ++ copy_text schema.name (plain_rows table.rows)) (flat_map (λ row. insert_text schema.name row) (other_rows table.rows)) (first ++ second) (map (insert_statement schema.name) (other_rows table.rows))
@@ -83,7 +83,7 @@ table_cut table valid =
 pub dump_cut : (db : List Table) → AreValid db → IsCutInto (dump_text db) (dump_statements db)
 dump_cut [] valid = no_text
 dump_cut (table ∷ db) valid =
-    both_texts (table_text table.schema table.rows) (dump_text db) (table_statements table.schema table.rows) (dump_statements db) (table_cut table (valid table (contains_head table db))) (dump_cut db (λ t m. valid t (contains_later table db t m)))
+    both_texts (table_text table.schema table.rows) (dump_text db) (table_statements table.schema table.rows) (dump_statements db) (table_cut table (valid table (mem-head table db))) (dump_cut db (λ t m. valid t (mem-tail t table db m)))
 
 -- ---- the run
 
@@ -117,8 +117,8 @@ all_put : (rows : List (List Value)) → Within (plain_rows rows ++ other_rows r
 all_put rows row m = go (row_has_end row) refl
   where
     go : (b : Bool) → row_has_end row ≡ b → Contains (plain_rows rows ++ other_rows rows) row
-    go true e = Contains-append_right (plain_rows rows) (other_rows rows) row ((contains_filter row_has_end rows row).1 (m, e))
-    go false e = Contains-append_left (plain_rows rows) (other_rows rows) row ((contains_filter (λ r. not (row_has_end r)) rows row).1 (m, ap not e))
+    go true e = Contains-append_right (plain_rows rows) (other_rows rows) row ((Contains-filter row_has_end rows row).1 (m, e))
+    go false e = Contains-append_left (plain_rows rows) (other_rows rows) row ((Contains-filter (λ r. not (row_has_end r)) rows row).1 (m, ap not e))
 
 module _ (s : State) (done : List Table) (table : Table) (is : IsTable table) (valid : IsValidTable table) (free : table_named done table.schema.name ≡ None) (room : length done < 64) (few : row_total done + length table.rows ≤ 1_000_000) where
   -- the table with some of its rows, behind the others
@@ -132,9 +132,9 @@ module _ (s : State) (done : List Table) (table : Table) (is : IsTable table) (v
   inserts_taken got [] inside = ap behind (append-nil got)
   inserts_taken got (row ∷ rows) inside = (
     behind (got ++ row ∷ []),
-    insert_takes s done table.schema valid.names table.rows is.in_order is.of_schema is.strict few valid.values found got row (inside row (contains_head row rows)),
+    insert_takes s done table.schema valid.names table.rows is.in_order is.of_schema is.strict few valid.values found got row (inside row (mem-head row rows)),
     subst (λ all. TakesAll (behind (got ++ row ∷ [])) (map (insert_statement table.schema.name) rows) (behind all)) (append_assoc got (row ∷ []) rows)
-        (inserts_taken (got ++ row ∷ []) rows (λ x m. inside x (contains_later row rows x m))),
+        (inserts_taken (got ++ row ∷ []) rows (λ x m. inside x (mem-tail x row rows m))),
   )
 
   copies_taken : (plain : List (List Value)) → Within table.rows plain → TakesAll (behind []) (copy_statements table.schema.name plain) (behind plain)
@@ -151,8 +151,8 @@ module _ (s : State) (done : List Table) (table : Table) (is : IsTable table) (v
       (with_tables s (done ++ (record { schema = table.schema; rows = [] }) ∷ []), create_takes s done table.schema valid.names free room, sym made) in
       subst (λ new. TakesAll (with_tables s done) (table_statements table.schema table.rows) new) whole
       (both_taken (with_tables s done) (behind plain) (behind (plain ++ other)) ((create_statement table.schema ∷ []) ++ copy_statements table.schema.name plain) (map (insert_statement table.schema.name) other)
-      (both_taken (with_tables s done) (behind []) (behind plain) (create_statement table.schema ∷ []) (copy_statements table.schema.name plain) create (copies_taken plain (λ row m. ((contains_filter (λ r. not (row_has_end r)) table.rows row).0 m).0)))
-      (inserts_taken plain other (λ row m. ((contains_filter row_has_end table.rows row).0 m).0)))
+      (both_taken (with_tables s done) (behind []) (behind plain) (create_statement table.schema ∷ []) (copy_statements table.schema.name plain) create (copies_taken plain (λ row m. ((Contains-filter (λ r. not (row_has_end r)) table.rows row).0 m).0)))
+      (inserts_taken plain other (λ row m. ((Contains-filter row_has_end table.rows row).0 m).0)))
 
 total_both : (done : List Table) (table : Table) (rest : List Table) → row_total done + length table.rows ≤ row_total (done ++ table ∷ rest)
 total_both [] table rest = omega arith
@@ -162,7 +162,7 @@ total_both (t ∷ done) table rest = omega (arith, total_both done table rest)
 tables_taken : (s : State) (done rest : List Table) → IsDatabase (done ++ rest) → AreValid (done ++ rest) → TakesAll (with_tables s done) (dump_statements rest) (with_tables s (done ++ rest))
 tables_taken s done [] is valid = ap (with_tables s) (append-nil done)
 tables_taken s done (table ∷ rest) is valid =
-    let there : Contains (done ++ table ∷ rest) table = Contains-append_right done (table ∷ rest) table (contains_head table rest) in
+    let there : Contains (done ++ table ∷ rest) table = Contains-append_right done (table ∷ rest) table (mem-head table rest) in
     let long : length (done ++ table ∷ rest) ≡ length done + length (table ∷ rest) = length-append done (table ∷ rest) in
     let most = is.few_tables in
     let total = is.few_rows in

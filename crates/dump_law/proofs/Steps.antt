@@ -5,9 +5,11 @@ use Rattle.std.proofs.lemmas.List.Elements.{recursion_from_All, Contains-get_or}
 use Rattle.std.specs.List.{AllByRecursion}
 use Rattle.std.specs.List.Sorted.{IsStrictlySortedBy}
 use Rattle.std.specs.Option.{option_map_or}
+use Rattle.std.proofs.lemmas.Option.{same_Some}
 use Rattle.cqa_value.specs.declared.value.Value.{Value}
 use Rattle.cqa_value.specs.Values.{kind_of}
 use Rattle.cqa_value.specs.Valid.{IsValidValue, IsValidRow}
+use Rattle.cqa_value.proofs.Words.{mem-cases, mem-nil}
 use Rattle.cqa_model.specs.declared.refusal.Refusal.{Refusal}
 use Rattle.cqa_model.specs.declared.refusal.Refusal.TheVariants.{UnknownTable}
 use Rattle.cqa_model.specs.declared.schema.Schema.{Schema}
@@ -22,7 +24,6 @@ use Rattle.spj_syntax.specs.Grammar.{statement}
 use Rattle.spj_syntax.specs.Parsed.{Fits, is_set}
 use Rattle.spj_syntax.specs.Written.{statement_tokens}
 use Rattle.script_lex.specs.Tokens.{tokens_of}
-use Rattle.table_blocks.proofs.Membership.{contains_cases, contains_none}
 use Rattle.table_blocks.specs.Tables.{table_named, kinds_at, rows_at, count_new, insert_fault, Inserts}
 use Rattle.csv_rows.specs.Blocks.{HoldsRows}
 use Rattle.csv_rows.specs.Texts.{rows_bytes}
@@ -94,9 +95,6 @@ create_takes s done schema h free room =
     (Created schema.name) (record { schema = schema; resolved = schema_is schema h; tables = refl; others = refl; replies = refl })
     (λ reply other d. (ap is_refusal d.replies, d.others ∙ ap (with_tables s) (d.tables ∙ ap (λ z. done ++ (record { schema = z; rows = [] }) ∷ []) (schema_once schema d.schema h d.resolved))))
 
-found_at : (a b : ℕ) (o : Option ℕ) → o ≡ Some a → o ≡ Some b → a ≡ b
-found_at a b o h k = cc (sym h ∙ k)
-
 on_found : (db : List Table) (name : List ℕ) (at : ℕ) (check : ℕ → Option Refusal) → table_named db name ≡ Some at → check at ≡ None → on_table db name check ≡ None
 on_found db name at check found none = ap (λ o. option_map_or check o (Some (UnknownTable name))) found ∙ none
 
@@ -130,11 +128,11 @@ module _ (s : State) (done : List Table) (schema : Schema) (h : HasNames schema)
       (λ reply other d. (
         ap is_refusal d.replies,
         d.others ∙ ap (with_tables s) (put_once done schema rows sorted fit strict few got (row ∷ []) other.tables d.count inside
-            (subst (λ at. Inserts (having done schema rows got) at (row ∷ []) other.tables d.count) (found_at d.table (length done) (table_named (having done schema rows got) schema.name) d.found (there got)) d.tables)),
+            (subst (λ at. Inserts (having done schema rows got) at (row ∷ []) other.tables d.count) (same_Some d.table (length done) (sym d.found ∙ (there got))) d.tables)),
       ))
     where
       one : (x : List Value) → Contains (row ∷ []) x → Contains rows x
-      one x n = elim (contains_cases row [] x n) [ inl e ↦ subst (Contains rows) e m | inr l ↦ absurd (contains_none x l) ]
+      one x n = elim (mem-cases x row [] n) [ inl e ↦ subst (Contains rows) e m | inr l ↦ absurd (mem-nil x l) ]
 
   module _ (plain : List (List Value)) (inside : Within rows plain) where
     holds : HoldsRows (kinds_at (having done schema rows []) (length done)) (rows_bytes plain) plain
@@ -167,4 +165,4 @@ module _ (s : State) (done : List Table) (schema : Schema) (h : HasNames schema)
         (on_found (having done schema rows []) schema.name (length done) (λ table. None) (there []) refl)
         (Copied count)
         (record { table = length done; found = there []; told = record { rows = plain; held = holds; valid = no_fault done schema rows sorted fit strict few [] plain inside; tables = put done schema rows sorted fit strict few [] plain inside; others = refl } })
-        (λ reply other d. told_once reply other (subst (λ at. TellsCopied (with_part []) at (rows_bytes plain) reply other) (found_at d.table (length done) (table_named (having done schema rows []) schema.name) d.found (there [])) d.told))
+        (λ reply other d. told_once reply other (subst (λ at. TellsCopied (with_part []) at (rows_bytes plain) reply other) (same_Some d.table (length done) (sym d.found ∙ (there []))) d.told))

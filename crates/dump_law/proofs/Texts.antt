@@ -1,20 +1,21 @@
 -- The texts of the statements of a dump have no `;` outside their quotes, and they are short.
-use Rattle.std.proofs.Common.{◌≡◌, inl, inr, ◌+◌, ◌*◌, ◌<◌, ◌≤◌, eqb, ℕ, suc, Bool, true, false, List, [], ◌∷◌, ◌++◌, codes, length, get_or, refl, sym, ap, ◌∙◌, subst, arith, append_assoc, length-append}
-use Rattle.std.proofs.lemmas.Bool.{eqb-true, ne_eqb}
-use Rattle.std.proofs.lemmas.List.{get_or_default}
+use Rattle.std.proofs.Common.{◌≡◌, inl, inr, ◌+◌, ◌*◌, ◌<◌, ◌≤◌, ℕ, Bool, true, false, List, [], ◌∷◌, ◌++◌, codes, length, get_or, refl, sym, ap, ◌∙◌, subst, arith, append_assoc, length-append}
+use Rattle.std.proofs.lemmas.Bool.{eqb-true}
 use Rattle.std.proofs.lemmas.List.Elements.{All-contains, recursion_from_All}
 use Rattle.std.proofs.lemmas.Map.Steps.{length-le_from_distinct_below}
 use Rattle.std.proofs.lemmas.Map.Views.{Contains-from_any}
-use Rattle.std.specs.List.{AllByRecursion, IsDistinct, flat_map, join_by}
+use Rattle.std.specs.List.{AllByRecursion, flat_map, join_by}
+use Rattle.cqa_session.proofs.Explaining.{are-distinct}
 use Rattle.cqa_value.specs.declared.value.Kind.{Kind}
 use Rattle.cqa_value.specs.declared.value.Kind.TheVariants as column_kinds
 use Rattle.cqa_value.specs.declared.value.Value.{Value}
 use Rattle.cqa_value.specs.declared.value.Value.TheVariants.{Int, Text}
 use Rattle.cqa_value.specs.Literals.{doubled, literal_bytes, row_bytes}
 use Rattle.cqa_value.specs.Valid.{IsValidValue}
+use Rattle.cqa_value.proofs.Integers.{fits_to}
 use Rattle.cqa_model.specs.declared.schema.Column.{Column}
 use Rattle.cqa_model.specs.declared.schema.Schema.{Schema}
-use Rattle.cqa_model.specs.Shape.{AreDistinct, column_at}
+use Rattle.cqa_model.specs.Shape.{column_at}
 use Rattle.cqa_model.specs.Text.{kind_word, column_text, columns_text, key_text, schema_bytes}
 use Rattle.cqa_model.specs.Valid.{IsName, HasNames}
 use Rattle.script_lex.specs.declared.kinds.TokenKind.TheVariants as kinds
@@ -23,7 +24,7 @@ use Rattle.script_lex.specs.Bytes.{is_word_byte, is_digit}
 use Rattle.script_lex.specs.Scripts.{BeginsOutright, IsText, IsCopy}
 use Rattle.script_lex.specs.Tokens.{IsToken}
 use Rattle.dump_text.specs.Dumps.{create_words}
-use Rattle.dump_law.proofs.Numbers.{in_range, is_written, few_digits, IsWritten}
+use Rattle.dump_law.proofs.Numbers.{is_written, few_digits, IsWritten}
 use Rattle.dump_law.proofs.Outside.{is_plain, Quiet, word_plain, letter_plain, digit_plain, mono, quiet_plain, quiet_both, quiet_words, quiet_minus, quiet_text}
 use Rattle.dump_law.proofs.Quotes.{doubled_length}
 use Rattle.dump_law.proofs.Statements.{columns_named, column_bytes, column_named_at}
@@ -113,7 +114,7 @@ quiet_number bytes w =
     ]
 
 quiet_literal : (v : Value) → IsValidValue v → Quiet (literal_bytes v)
-quiet_literal (Int n) valid = quiet_number (literal_bytes (Int n)) (is_written n (in_range n valid))
+quiet_literal (Int n) valid = quiet_number (literal_bytes (Int n)) (is_written n (fits_to n valid))
 quiet_literal (Text t) valid = quiet_text t
 
 quiet_row : (row : List Value) → AllByRecursion IsValidValue row → Quiet (row_bytes row)
@@ -159,19 +160,8 @@ column_short : (c : Column) → IsName c.name → length (column_bytes c) ≤ 71
 column_short c h =
     omega (arith, length-append (column_text c) (codes ", "), length-append (c.name ++ codes " ") (kind_word c.kind), length-append c.name (codes " "), kind_short c.kind, h.short)
 
-distinct : (xs : List ℕ) → AreDistinct xs → IsDistinct eqb xs
-unfolding IsDistinct
-distinct [] h = tt
-distinct (x ∷ xs) h = (
-  recursion_from_All (λ y. eqb x y ≡ false) xs (λ k d l. ne_eqb x (get_or xs k d) (λ e. other k (h 0 (suc k) (omega arith) (omega (arith, l)) (e ∙ get_or_default xs k d 0 l)))),
-  distinct xs (λ i j a b e. let same = h (suc i) (suc j) (omega (arith, a)) (omega (arith, b)) e in omega (arith, same)),
-)
-  where
-    other : (k : ℕ) → 0 ≡ suc k → ⊥
-    other k e = omega (arith, e)
-
 key_short : (schema : Schema) → length schema.key ≤ length schema.columns
-key_short schema = length-le_from_distinct_below schema.key (length schema.columns) (distinct schema.key schema.kept.key_apart) (λ p h. All-contains (λ c. c < length schema.columns) schema.key p schema.kept.key_in_range (Contains-from_any eqb-true p schema.key h))
+key_short schema = length-le_from_distinct_below schema.key (length schema.columns) (are-distinct schema.key schema.kept.key_apart) (λ p h. All-contains (λ c. c < length schema.columns) schema.key p schema.kept.key_in_range (Contains-from_any eqb-true p schema.key h))
 
 words_short : (b : Bool) → length (create_words b) ≤ 20
 words_short true = omega arith
@@ -205,7 +195,7 @@ pub copy_short : (name : List ℕ) → IsName name → length (codes "copy " ++ 
 copy_short name h = omega (arith, h.short)
 
 literal_short : (v : Value) → IsValidValue v → length (literal_bytes v) ≤ 2050
-literal_short (Int n) valid = omega (arith, few_digits n (in_range n valid))
+literal_short (Int n) valid = omega (arith, few_digits n (fits_to n valid))
 literal_short (Text t) valid = omega (arith, length-append (doubled t) (39 ∷ []), doubled_length t, valid.short)
 
 pub insert_short : (name : List ℕ) (row : List Value) → IsName name → AllByRecursion IsValidValue row → length row ≤ 16 → length (insert_bytes name row) ≤ 1_048_576

@@ -1,13 +1,15 @@
 -- The tokens of what a dump writes, from right to left.
-use Rattle.std.proofs.Common.{◌≡◌, ◌⊎◌, inl, inr, ◌+◌, ◌-◌, ◌<◌, ◌≤◌, ◌&&◌, ℕ, Bool, true, false, IsTrue, List, [], ◌∷◌, ◌++◌, codes, length, take, drop, refl, sym, ap, ◌∙◌, subst, arith, append_assoc, length-append}
+use Rattle.std.proofs.Common.{◌≡◌, ◌⊎◌, inl, inr, ◌+◌, ◌-◌, ◌<◌, ◌≤◌, ℕ, true, false, IsTrue, List, [], ◌∷◌, ◌++◌, codes, length, take, drop, refl, sym, ap, ◌∙◌, subst, arith, append_assoc, length-append}
 use Rattle.std.proofs.lemmas.Bool.Decides.{nat_tests}
 use Rattle.std.proofs.lemmas.List.{take_at, drop_at, append-nil}
 use Rattle.std.specs.List.{AllByRecursion, list_all, slice_range, flat_map, join_by}
 use Rattle.std.specs.Str.{IsUtf8}
+use Rattle.std.proofs.lemmas.Bool.{and_parts}
 use Rattle.cqa_value.specs.declared.value.Value.{Value}
 use Rattle.cqa_value.specs.declared.value.Value.TheVariants as values
 use Rattle.cqa_value.specs.Literals.{is_in_range, literal_bytes}
 use Rattle.cqa_value.specs.Valid.{IsValidValue}
+use Rattle.cqa_value.proofs.Integers.{fits_to}
 use Rattle.cqa_model.specs.Valid.{is_word, is_letter_or_digit, is_letter as is_name_letter}
 use Rattle.script_lex.specs.declared.kinds.Span.{Span}
 use Rattle.script_lex.specs.declared.kinds.Symbol.{Symbol}
@@ -24,7 +26,7 @@ use Rattle.script_lex.proofs.Longest.{blank_stands, single_stands}
 use Rattle.spj_syntax.specs.Lexemes.{Lexeme, Word, Number, Quoted, Mark, of_kind, undoubled}
 use Rattle.spj_syntax.specs.Parsed.{lexemes, Fits}
 use Rattle.spj_syntax.specs.Written.{each_after, listed_tokens, literal_tokens}
-use Rattle.dump_law.proofs.Numbers.{in_range, is_written, integer_again, IsWritten}
+use Rattle.dump_law.proofs.Numbers.{is_written, integer_again, IsWritten}
 use Rattle.dump_law.proofs.Pieces.{Stops, word_first, digits_first, minus_first}
 use Rattle.dump_law.proofs.Quotes.{quoted, text_first, inside_is, doubled_utf8, undoubled_is}
 
@@ -107,7 +109,7 @@ int_then bytes rest ls w fit stops more = piece_then (OfToken kinds.Int) bytes r
 
 pub literal_then : (v : Value) (rest : List ℕ) (ls : List Lexeme) → IsValidValue v → Stops rest → Spelled rest ls → Spelled (literal_bytes v ++ rest) (literal_tokens v ++ ls)
 literal_then (values.Int n) rest ls valid stops more =
-    let e = in_range n valid in
+    let e = fits_to n valid in
     let is = integer_again n e in
     subst (λ z. Spelled (literal_bytes (values.Int n) ++ rest) (Number z ∷ ls)) is
     (int_then (literal_bytes (values.Int n)) rest ls (is_written n e) (subst (λ z. IsTrue (is_in_range z)) (sym is) e, tt) stops more)
@@ -150,14 +152,10 @@ letter_same b h = grind (arith, nat_tests)
 byte_same : (b : ℕ) → is_letter_or_digit b ≡ true → is_word_byte b ≡ true
 byte_same b h = grind (arith, nat_tests)
 
-both : (x y : Bool) → (x && y) ≡ true → (x ≡ true) × (y ≡ true)
-both true y e = (refl, e)
-both false y e = absurd (cc e)
-
 bytes_same : (bs : List ℕ) → list_all is_letter_or_digit bs ≡ true → AllPass is_word_byte bs
 bytes_same [] e = tt
-bytes_same (b ∷ bs) e = let h = both (is_letter_or_digit b) (list_all is_letter_or_digit bs) e in (byte_same b h.0, bytes_same bs h.1)
+bytes_same (b ∷ bs) e = let h = and_parts (is_letter_or_digit b) (list_all is_letter_or_digit bs) e in (byte_same b h.0, bytes_same bs h.1)
 
 pub word_is : (w : List ℕ) → is_word w ≡ true → IsToken kinds.Word w
 word_is [] e = absurd (cc e)
-word_is (b ∷ bs) e = let h = both (is_name_letter b) (list_all is_letter_or_digit bs) e in (letter_same b h.0, bytes_same bs h.1)
+word_is (b ∷ bs) e = let h = and_parts (is_name_letter b) (list_all is_letter_or_digit bs) e in (letter_same b h.0, bytes_same bs h.1)

@@ -5,23 +5,21 @@ use Rattle.std.specs.Cmp.Lexicographic.{pointwise, same_text, bytes_decides}
 use Rattle.std.proofs.lemmas.Bool.{cases_lt}
 use Rattle.std.proofs.lemmas.Bool.Decides.{nat_tests}
 use Rattle.std.proofs.lemmas.Grind.{common_steps}
-use Rattle.std.proofs.lemmas.List.{get_or-take, length-take-le}
+use Rattle.std.proofs.lemmas.List.{get_or-take, length-take-le, append-nil}
 use Rattle.std.proofs.lemmas.List.Sums.{fails_before_first}
 use Rattle.std.proofs.lemmas.List.Quantifiers.{position-Some}
+use Rattle.std.proofs.lemmas.Option.{none-some}
+use Rattle.table_blocks.proofs.Faults.{both_none}
 use Rattle.cqa_value.specs.declared.value.Kind.TheVariants.{Int}
 use Rattle.cqa_model.specs.declared.schema.Column.{Column}
 use Rattle.cqa_model.specs.declared.refusal.Refusal.{Refusal}
 use Rattle.query_resolve.specs.Names.{column_named}
 use Rattle.query_resolve.specs.Checks.{fault_unless, first_fault}
-use Rattle.query_resolve.proofs.Members.{both_none}
-
-some_none : {A : Type 0} (x : A) → Some x ≡ None → ⊥
-some_none x e = (cc)
 
 -- a check that passes
 pub passes : (b : Bool) (refusal : Refusal) → fault_unless b refusal ≡ None → b ≡ true
 passes true refusal e = refl
-passes false refusal e = absurd (some_none refusal e)
+passes false refusal e = absurd (none-some refusal (sym e))
 
 pub at_most : (m n : ℕ) → nat_le m n ≡ true → m ≤ n
 at_most m n e = grind (arith, nat_tests)
@@ -61,14 +59,10 @@ module _ {A : Type 0} (f : A → List ℕ) (d : A) (xs : List A) (fresh : (j : �
     | inr above ↦ elim (cases_lt j i) [ inl below ↦ absurd (earlier j i below a (sym same)) | inr le ↦ omega (arith, above, le) ]
   ]
 
-nil_append : {A : Type 0} (xs : List A) → xs ++ [] ≡ xs
-nil_append [] = refl
-nil_append (x ∷ xs) = ap (λ l. x ∷ l) (nil_append xs)
-
 module _ {A : Type 0} (check : List A → A → Option Refusal) where
   passes_from : (before xs : List A) (j : ℕ) (d : A) → first_fault check before xs ≡ None → j < length xs → check (before ++ take j xs) (get_or xs j d) ≡ None
   passes_from before [] j d e inside = absurd (omega (arith, inside))
-  passes_from before (x ∷ xs) zero d e inside = ap (λ l. check l x) (nil_append before) ∙ (both_none (check before x) (first_fault check (before ++ x ∷ []) xs) e).0
+  passes_from before (x ∷ xs) zero d e inside = ap (λ l. check l x) (append-nil before) ∙ (both_none (check before x) (first_fault check (before ++ x ∷ []) xs) e).0
   passes_from before (x ∷ xs) (suc j) d e inside =
       ap (λ l. check l (get_or xs j d)) (sym (append_assoc before (x ∷ []) (take j xs))) ∙ passes_from (before ++ x ∷ []) xs j d (both_none (check before x) (first_fault check (before ++ x ∷ []) xs) e).1 (omega (arith, inside))
 

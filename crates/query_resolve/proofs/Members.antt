@@ -1,12 +1,13 @@
 -- The first fault of a list, a member further on, and the values of the members so far.
-use Rattle.std.proofs.Common.{◌≡◌, ℕ, zero, suc, ◌+◌, ◌<◌, ◌≤◌, List, [], ◌∷◌, ◌++◌, length, drop, take, get_or, slice_get, Option, Some, None, Result, Ok, Err, refl, sym, ap, ◌∙◌, subst, arith}
+use Rattle.std.proofs.Common.{◌≡◌, ℕ, suc, ◌+◌, ◌<◌, ◌≤◌, List, [], ◌∷◌, ◌++◌, length, drop, take, get_or, slice_get, Option, Some, None, Result, Ok, Err, refl, sym, ap, ◌∙◌, subst, arith}
 use Rattle.std.specs.List.{AllZip}
 use Rattle.std.specs.Result.{IsErrAnd}
-use Rattle.std.proofs.lemmas.List.{length-take-le, take_all}
+use Rattle.std.proofs.lemmas.List.{length-take-le, take_all, drop_all}
 use Rattle.std.proofs.lemmas.Option.{slice_get_within, slice_get_read, get_or_from_slice_get}
 use Rattle.std.proofs.Math.Seq.{drop-cons, take-suc}
 use Rattle.cqa_value.specs.declared.memory.Fail.{Fail}
 use Rattle.cqa_value.specs.declared.memory.Fail.TheVariants.{NoMemory, Refused}
+use Rattle.cqa_value.proofs.Words.{all_zip_push}
 use Rattle.cqa_model.specs.declared.refusal.Refusal.{Refusal}
 use Rattle.cqa_model.specs.Refusal.{first_of, IsRefusedAs, Checked}
 use Rattle.query_resolve.specs.Checks.{first_fault, by_number}
@@ -22,14 +23,6 @@ refused_second (Refused r) a b n h = ap (λ o. first_of o b) n ∙ h
 
 pub neither : (a b : Option Refusal) → a ≡ None → b ≡ None → first_of a b ≡ None
 neither a b p q = ap (λ o. first_of o b) p ∙ q
-
-some_none : {A : Type 0} (x : A) → Some x ≡ None → ⊥
-some_none x e = (cc)
-
--- neither of two faults is there
-pub both_none : (a b : Option Refusal) → first_of a b ≡ None → (a ≡ None) × (b ≡ None)
-both_none None b e = (refl, e)
-both_none (Some f) b e = absurd (some_none f e)
 
 -- an error that is handed on
 pub handed_on : {T : Type 0} (r : Result T (Fail Refusal)) (e : Fail Refusal) (fault : Option Refusal) (P : T → Type 0) → IsErrAnd r (λ x. x ≡ e) → IsRefusedAs e fault → Checked r fault P
@@ -48,16 +41,6 @@ take_next xs at x here = ap (λ n. take n xs) (sym (plus_one at)) ∙ take-suc x
 
 pub drop_next : {A : Type 0} (xs : List A) (at : ℕ) (x : A) → slice_get xs at ≡ Some x → drop at xs ≡ x ∷ drop (at + 1) xs
 drop_next xs at x here = drop-cons xs at x (slice_get_within xs at x here) ∙ ap (λ y. y ∷ drop (suc at) xs) (get_or_from_slice_get xs at x x here) ∙ ap (λ n. x ∷ drop n xs) (plus_one at)
-
--- a member that was read in a loop
-pub read : {A : Type 0} (xs : List A) (at : ℕ) (x : A) → at < length xs → x ≡ get_or xs at x → slice_get xs at ≡ Some x
-read xs at x inside is = slice_get_read xs (length xs) at x refl inside is
-
-pub all_zip_next : {A B : Type 0} (R : A → B → Type 0) (xs : List A) (ys : List B) (x : A) (y : B) → AllZip R xs ys → R x y → AllZip R (xs ++ x ∷ []) (ys ++ y ∷ [])
-all_zip_next R [] [] x y so h = (h, tt)
-all_zip_next R [] (b ∷ ys) x y so h = absurd so
-all_zip_next R (a ∷ xs) [] x y so h = absurd so
-all_zip_next R (a ∷ xs) (b ∷ ys) x y so h = (so.0, all_zip_next R xs ys x y so.1 h)
 
 -- the members before a place pass their checks and have their values
 pub record SoFar {A B : Type 0} (check : List A → A → Option Refusal) (R : A → B → Type 0) (xs : List A) (at : ℕ) (out : List B) : Type 0 where
@@ -78,9 +61,9 @@ start {check = check} {R = R} {xs = xs} {at = at} {out = out} z e = record {
 -- the member at a place passes its check and has its value
 pub more : {A B : Type 0} {check : List A → A → Option Refusal} {R : A → B → Type 0} {xs : List A} {at : ℕ} {out : List B} {x : A} {y : B} {next : List B} →
     SoFar check R xs at out → at < length xs → x ≡ get_or xs at x → Checked (Ok y) (check (take at xs) x) (R x) → next ≡ out ++ y ∷ [] → SoFar check R xs (at + 1) next
-more {check = check} {R = R} {xs = xs} {at = at} {out = out} {x = x} {y = y} so inside is checked e = let here = read xs at x inside is in record {
+more {check = check} {R = R} {xs = xs} {at = at} {out = out} {x = x} {y = y} so inside is checked e = let here = slice_get_read xs (length xs) at x refl inside is in record {
   fault = so.fault ∙ fault_next check xs at x here ∙ ap (λ o. first_of o (first_fault check (take (at + 1) xs) (drop (at + 1) xs))) checked.valid;
-  values = subst (λ o. AllZip R (take (at + 1) xs) o) (sym e) (subst (λ l. AllZip R l (out ++ y ∷ [])) (sym (take_next xs at x here)) (all_zip_next R (take at xs) out x y so.values checked.is));
+  values = subst (λ o. AllZip R (take (at + 1) xs) o) (sym e) (subst (λ l. AllZip R l (out ++ y ∷ [])) (sym (take_next xs at x here)) (all_zip_push R (take at xs) out x y so.values checked.is));
 }
 
 -- or its fault is the list's
@@ -88,13 +71,7 @@ pub stopped : {A B T : Type 0} {check : List A → A → Option Refusal} {R : A 
     SoFar check R xs at out → at < length xs → x ≡ get_or xs at x → Checked (Err e) (check (take at xs) x) (R x) → IsErrAnd r (λ f. f ≡ e) → Checked r (first_fault check [] xs) P
 stopped {check = check} {xs = xs} {at = at} {x = x} {P = P} {r = r} {e = e} so inside is checked same =
     handed_on r e (first_fault check [] xs) P same
-    (subst (IsRefusedAs e) (sym (so.fault ∙ fault_next check xs at x (read xs at x inside is))) (refused_first e (check (take at xs) x) (first_fault check (take (at + 1) xs) (drop (at + 1) xs)) checked.refused))
-
-drop_all : {A : Type 0} (at : ℕ) (xs : List A) → length xs ≤ at → drop at xs ≡ []
-drop_all zero [] h = refl
-drop_all (suc at) [] h = refl
-drop_all zero (x ∷ xs) h = absurd (omega (arith, h))
-drop_all (suc at) (x ∷ xs) h = drop_all at xs (omega (arith, h))
+    (subst (IsRefusedAs e) (sym (so.fault ∙ fault_next check xs at x (slice_get_read xs (length xs) at x refl inside is))) (refused_first e (check (take at xs) x) (first_fault check (take (at + 1) xs) (drop (at + 1) xs)) checked.refused))
 
 -- all members pass their checks and have their values
 pub finished : {A B : Type 0} {check : List A → A → Option Refusal} {R : A → B → Type 0} {xs : List A} {at : ℕ} {out result : List B} →

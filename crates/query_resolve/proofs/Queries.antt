@@ -26,10 +26,10 @@ use Rattle.spj_syntax.specs.declared.tree.RawCond.TheVariants.{Join as WrittenJo
 use Rattle.spj_syntax.specs.declared.tree.Select.{Select}
 use Rattle.cqa_model.specs.Refusal.{first_of}
 use Rattle.table_blocks.specs.Tables.{table_named}
+use Rattle.table_blocks.proofs.Faults.{both_none}
 use Rattle.query_resolve.specs.Names.{name_place, columns_at}
 use Rattle.query_resolve.specs.Checks.{fault_unless, first_fault, by_number, kinds_fault, from_fault, column_fault, column_kind, cond_fault, size_fault, where_fault}
 use Rattle.query_resolve.specs.Resolved.{IsAtomOf, IsColumnOf, IsCondOf, IsQueryOf}
-use Rattle.query_resolve.proofs.Members.{both_none}
 use Rattle.query_resolve.proofs.Lookups.{passes, at_most, none_is, named_at, named_apart, passes_at, zip_at, zip_length}
 use Rattle.query_resolve.proofs.Scopes.{table_there, as_many, atom_there, table_of_column, column_there, kind_found}
 

@@ -1,7 +1,8 @@
 -- Schemas that pass their checks.
-use Rattle.std.proofs.Common.{◌≡◌, ℕ, ◌<◌, ◌≤◌, List, [], length, take, get_or, Contains, Some, None, Bool, true, false, ◌&&◌, nat_le, nat_lt, is_none, Result, Ok, Err, IfOk, refl, sym, ap, ◌∙◌, subst, arith, true≢false}
+use Rattle.std.proofs.Common.{◌≡◌, ℕ, ◌<◌, ◌≤◌, List, [], length, take, get_or, Contains, Some, None, true, nat_le, nat_lt, is_none, Result, Ok, Err, IfOk, sym, ap, ◌∙◌, subst, arith}
 use Rattle.std.proofs.lemmas.Bool.Decides.{nat_tests}
 use Rattle.std.specs.List.{AllZip}
+use Rattle.std.proofs.lemmas.Bool.{and_parts}
 use Rattle.cqa_value.specs.declared.value.Kind.TheVariants.{Int}
 use Rattle.cqa_model.specs.declared.schema.Column.{Column}
 use Rattle.cqa_model.specs.declared.refusal.Refusal.TheVariants.{TableExists, DuplicateColumn, BadKey, Limit}
@@ -14,19 +15,15 @@ use Rattle.cqa_model.specs.declared.refusal.Refusal.{Refusal}
 use Rattle.cqa_model.specs.Refusal.{first_of, Checked}
 use Rattle.table_blocks.specs.Keys.{IsKey}
 use Rattle.table_blocks.specs.Tables.{table_named, kinds_at}
+use Rattle.table_blocks.proofs.Faults.{both_none}
 use Rattle.query_resolve.specs.Names.{name_place, column_named, has_column, columns_at}
 use Rattle.query_resolve.specs.Checks.{fault_unless, first_fault, table_fault, duplicate_fault, key_fault, names_fault, new_key_fault}
 use Rattle.query_resolve.specs.Resolved.{ArePlacesOf, IsKeyOf}
-use Rattle.query_resolve.proofs.Members.{both_none}
 use Rattle.query_resolve.proofs.Queries.{wide}
 use Rattle.query_resolve.proofs.Lookups.{passes, at_most, none_is, not_some, named_at, named_nowhere, named_apart, passes_at, zip_at, zip_length}
 
 no_column : Column
 no_column = record { name = []; kind = Int }
-
-both_true : (a b : Bool) → (a && b) ≡ true → (a ≡ true) × (b ≡ true)
-both_true true b e = (refl, e)
-both_true false b e = absurd (true≢false (sym e))
 
 columns_differ : (columns : List Column) → first_fault duplicate_fault [] columns ≡ None → (i j : ℕ) → i < length columns → j < length columns → (column_at columns i).name ≡ (column_at columns j).name → i ≡ j
 unfolding no_column
@@ -36,7 +33,7 @@ columns_differ columns valid = named_apart (λ (c : Column). c.name) no_column c
 module _ (columns : List Column) (names : List (List ℕ)) (key : List ℕ) (valid : first_fault (key_fault columns) [] names ≡ None) (places : AllZip (λ (name : List ℕ) (place : ℕ). column_named columns name ≡ Some place) names key) where
   names_differ : (i j : ℕ) → i < length names → j < length names → get_or names i [] ≡ get_or names j [] → i ≡ j
   names_differ = named_apart (λ (name : List ℕ). name) [] names (λ j inside. none_is (name_place (take j names) (get_or names j []))
-      (both_true (has_column columns (get_or names j [])) _ (passes _ (BadKey (get_or names j [])) (passes_at (key_fault columns) names j [] valid inside))).1)
+      (and_parts (has_column columns (get_or names j [])) _ (passes _ (BadKey (get_or names j [])) (passes_at (key_fault columns) names j [] valid inside))).1)
 
   named : (i : ℕ) (d : ℕ) → i < length key → (get_or key i d < length columns) × ((column_at columns (get_or key i d)).name ≡ get_or names i [])
   unfolding no_column

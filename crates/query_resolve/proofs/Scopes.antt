@@ -4,6 +4,7 @@ use Rattle.std.specs.List.{AllZip, filter}
 use Rattle.std.proofs.lemmas.List.{length-map, get_or-map, get_or_past}
 use Rattle.std.proofs.lemmas.Bool.{cases_lt}
 use Rattle.std.proofs.lemmas.Option.{slice_get-get_or}
+use Rattle.cqa_value.proofs.Words.{same_head, same_tail}
 use Rattle.cqa_model.specs.declared.schema.Column.{Column}
 use Rattle.cqa_model.specs.declared.query.Atom.{Atom}
 use Rattle.cqa_model.specs.declared.query.ColRef.{ColRef}
@@ -92,12 +93,6 @@ nil_cons x xs e = (cc)
 cons_nil : {A : Type 0} (x : A) (xs : List A) → x ∷ xs ≡ [] → ⊥
 cons_nil x xs e = (cc)
 
-tails : {A : Type 0} (x y : A) (xs ys : List A) → x ∷ xs ≡ y ∷ ys → xs ≡ ys
-tails x y xs ys e = (cc)
-
-heads : {A : Type 0} (x y : A) (xs ys : List A) → x ∷ xs ≡ y ∷ ys → x ≡ y
-heads x y xs ys e = (cc)
-
 -- of the members of a list one passes, or none
 module _ {A : Type 0} (p : A → Bool) (d : A) (fails : p d ≡ false) where
   none_passes : (xs : List A) (i : ℕ) → filter p xs ≡ [] → p (get_or xs i d) ≡ true → ⊥
@@ -115,8 +110,8 @@ module _ {A : Type 0} (p : A → Bool) (d : A) (fails : p d ≡ false) where
     where
       go : ((m n : ℕ) → filter p xs ≡ x ∷ [] → p (get_or xs m d) ≡ true → p (get_or xs n d) ≡ true → m ≡ n) → (b : Bool) → p y ≡ b → (i j : ℕ) → cond b (y ∷ filter p xs) (filter p xs) ≡ x ∷ [] → p (get_or (y ∷ xs) i d) ≡ true → p (get_or (y ∷ xs) j d) ≡ true → i ≡ j
       go rest true q zero zero e h k = refl
-      go rest true q zero (suc j) e h k = absurd (none_passes xs j (tails y x (filter p xs) [] e) k)
-      go rest true q (suc i) j e h k = absurd (none_passes xs i (tails y x (filter p xs) [] e) h)
+      go rest true q zero (suc j) e h k = absurd (none_passes xs j (same_tail y x (filter p xs) [] e) k)
+      go rest true q (suc i) j e h k = absurd (none_passes xs i (same_tail y x (filter p xs) [] e) h)
       go rest false q zero j e h k = absurd (true≢false (sym h ∙ q))
       go rest false q (suc i) zero e h k = absurd (true≢false (sym k ∙ q))
       go rest false q (suc i) (suc j) e h k = ap suc (rest i j e h k)
@@ -126,8 +121,8 @@ module _ {A : Type 0} (p : A → Bool) (d : A) (fails : p d ≡ false) where
   the_one (y ∷ xs) x i e h = go (λ k. the_one xs x k) (p y) refl i e h
     where
       go : ((k : ℕ) → filter p xs ≡ x ∷ [] → p (get_or xs k d) ≡ true → get_or xs k d ≡ x) → (b : Bool) → p y ≡ b → (i : ℕ) → cond b (y ∷ filter p xs) (filter p xs) ≡ x ∷ [] → p (get_or (y ∷ xs) i d) ≡ true → get_or (y ∷ xs) i d ≡ x
-      go rest true q zero e h = heads y x (filter p xs) [] e
-      go rest true q (suc i) e h = absurd (none_passes xs i (tails y x (filter p xs) [] e) h)
+      go rest true q zero e h = same_head y x (filter p xs) [] e
+      go rest true q (suc i) e h = absurd (none_passes xs i (same_tail y x (filter p xs) [] e) h)
       go rest false q zero e h = absurd (true≢false (sym h ∙ q))
       go rest false q (suc i) e h = rest i e h
 

@@ -18,8 +18,8 @@ pub(crate) fn limit(what: LimitKind) -> Fail<Refusal>
     Fail::Refused(Refusal::Limit { what })
 }
 
-/// No table has the name.
-pub(crate) fn unknown_table(alloc: Global, name: &Name) -> Fail<Refusal>
+/// The refusal where no table has the name, or want of memory for its copy.
+pub fn unknown_table(alloc: Global, name: &Name) -> Fail<Refusal>
     ensures { IsRefusedAs result (Some (UnknownTable name.now)) }
 {
     match name.copy(alloc) {

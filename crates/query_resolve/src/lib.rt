@@ -14,6 +14,7 @@ mod schema;
 
 pub use answer::check_row;
 pub use deletion::resolve_tests;
+pub use faults::unknown_table;
 pub use key::resolve_key;
 pub use query::resolve;
 pub use schema::resolve_schema;

@@ -5,11 +5,8 @@ ghost use Rattle.script_tests.specs.Calls.{Ends, IsCall, outside};
 
 use command_shell::run_words;
 use cqa_io::{CalmSource, CountSink, MemSink, MemSource};
-use cqa_session::Session;
+use cqa_session::{CONFLICTS, Session};
 use std::alloc::{AllocError, Global};
-
-/// The most conflicts of a search, as the program has it.
-const CONFLICTS: u32 = 200_000;
 
 /// A call of the program, and how it has to end.
 #[derive(Drop, Clone, Copy)]

@@ -8,7 +8,7 @@ ghost use Rattle.cqa_model.specs.declared.limits.TheConstants.{MOST_COLUMNS};
 ghost use Rattle.cqa_model.specs.Plan.{IsPlanOf};
 ghost use Rattle.row_cursor.specs.Spots.{ArePaths};
 ghost use Rattle.fo_rewrite.specs.Planning.{IsExact};
-ghost use Rattle.cqa_model.specs.declared.refusal.Refusal.TheVariants.{Spent};
+ghost use Rattle.cqa_model.specs.declared.refusal.Refusal.TheVariants.{Spent, WitnessLimit};
 ghost use Rattle.cdcl.specs.Outcomes.{IsModel};
 ghost use Rattle.join_witness.specs.Listing.{HasTooMany};
 ghost use Rattle.repair_clauses.specs.Deciding.{IsDecided};
@@ -306,6 +306,14 @@ fn by_outcome(
     }
 }
 
+/// The refusal of a row with too many witnesses.
+fn witness_limit(alloc: Global, row: &Row) -> Result<Refusal, NoMemory>
+    ensures { IfOk result (λ refusal. refusal ≡ WitnessLimit row.now) }
+{
+    let row = row.copy(alloc)?;
+    Ok(Refusal::WitnessLimit { row })
+}
+
 /// Answers for a query that needs search: the row is decided by its formula.
 fn by_search(
     alloc: Global,
@@ -320,10 +328,7 @@ fn by_search(
 {
     match decide(alloc, session.database(), query, row, session.budget()) {
         Ok(decided) => by_outcome(alloc, session, query, row, decided),
-        Err(Fail::Refused(TooMany)) => {
-            let row = row.copy(alloc)?;
-            Err(Fail::Refused(Refusal::WitnessLimit { row }))
-        }
+        Err(Fail::Refused(TooMany)) => Err(Fail::Refused(witness_limit(alloc, row)?)),
         Err(Fail::NoMemory) => Err(Fail::NoMemory),
     }
 }
@@ -344,10 +349,7 @@ fn by_refutation(
 {
     match refute_row(alloc, session.database(), query, row) {
         Ok(Refuted { formula, log }) => Ok(refuted(alloc, session, proof_of(formula, log))?),
-        Err(Fail::Refused(TooMany)) => {
-            let row = row.copy(alloc)?;
-            Err(Fail::Refused(Refusal::WitnessLimit { row }))
-        }
+        Err(Fail::Refused(TooMany)) => Err(Fail::Refused(witness_limit(alloc, row)?)),
         Err(Fail::NoMemory) => Err(Fail::NoMemory),
     }
 }

@@ -8,6 +8,7 @@ ghost use Rattle.cqa_session.specs.Replying.{on_table};
 
 use cqa_model::Refusal;
 use cqa_value::{Fail, Name};
+use query_resolve::unknown_table;
 use std::alloc::Global;
 use table_blocks::Database;
 
@@ -22,9 +23,6 @@ pub fn table_place(alloc: Global, database: &Database, name: &Name) -> Result<u3
 {
     match database.find(name) {
         Some(table) => Ok(table),
-        None => {
-            let name = name.copy(alloc)?;
-            Err(Fail::Refused(Refusal::UnknownTable { name }))
-        }
+        None => Err(unknown_table(alloc, name)),
     }
 }

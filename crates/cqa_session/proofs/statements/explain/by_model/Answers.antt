@@ -1,8 +1,9 @@
 use Rattle.std.proofs.Common.{◌∙◌, ap, sym, subst, map, List}
+use Rattle.std.proofs.lemmas.Result.{IfOk-weaker}
 use Rattle.cqa_model.specs.declared.query.RowId.{RowId}
 use Rattle.repair_back.specs.Results.{AreStored, ArePicks}
 use Rattle.cqa_session.specs.Statements.Explain.{kept_line}
-use Rattle.cqa_session.proofs.Explaining.{ok-map, contested-stored}
+use Rattle.cqa_session.proofs.Explaining.{contested-stored}
 use Rattle.cqa_session.proofs.Modelled.{names-stored, model-rejects}
 use Rattle.cqa_session.proofs.statements.explain.by_model.Goals as goal
 
@@ -21,6 +22,6 @@ returns c =
     let names = c.in_ok-repair.repair.kept in
     let of = c.in_ok-repair.ensures.repair in
     let picks = subst (λ (listed : List RowId). ArePicks q db listed c.args.model.now names) c.as_slice.ensures c.in_ok-repair.ensures.picks in
-    ok-map c.kept_rows-lines.result
+    IfOk-weaker c.kept_rows-lines.result _ _
     (λ lines e. (names, model-rejects q db c.args._row.now c.args.formula.now c.args.model.now c.requires.formula c.requires.model c.requires.fits names of.0 of.1 of.2 picks, e ∙ ap (map (kept_line db)) (c.as_slice-2.ensures ∙ c.in_ok-names.ensures)))
     c.kept_rows-lines.ensures

@@ -1,10 +1,10 @@
 use Rattle.std.proofs.Common.{◌∙◌, ap, map}
+use Rattle.std.proofs.lemmas.Result.{IfOk-weaker}
 use Rattle.cqa_model.specs.declared.schema.Column.{Column}
-use Rattle.cqa_session.proofs.Explaining.{ok-map}
 use Rattle.cqa_session.proofs.Naming.{columned}
 use Rattle.cqa_session.proofs.statements.sql.names_of_table.Goals as goal
 
 pub returns : goal.returns
 returns c =
     let columns = c.as_slice.ensures ∙ columned c.args.database.now c.args.table c.schema.result.now c.requires c.schema.ensures.is in
-    ok-map c.names_of.result (λ names e. e ∙ ap (λ cs. map (λ (column : Column). column.name) cs) columns) c.names_of.ensures
+    IfOk-weaker c.names_of.result _ _ (λ names e. e ∙ ap (λ cs. map (λ (column : Column). column.name) cs) columns) c.names_of.ensures
