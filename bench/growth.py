@@ -231,6 +231,30 @@ def wide_weak_blocks(n):
     return ours + ["set conflicts 0;", "ask exists from r, s where r.x = s.x and r.y = s.y;"], None
 
 
+def through_a_wide_block(n):
+    """n candidates of a strong cycle, each with a witness through one block of n rows, and others that no free row avoids."""
+    left, right = [], []
+    for i in range(n):
+        wide, one, two = 3 * i, 3 * i + 1, 3 * i + 2
+        left += [(0, wide, i), (i + 1, one, i)]
+        right += [(3 * i, wide), (3 * i + 1, one)]
+        if i % 3 > 0:
+            left.append((i + 1, two, i))
+            right.append((3 * i + i % 3, two))
+    ours = ["create table lhs (x int, z int, c int, primary key (x));", "create table rhs (y int, z int, primary key (y));"]
+    ours += inserts("lhs", left)[0] + inserts("rhs", right)[0]
+    return ours + ["ask select lhs.c from lhs, rhs where lhs.z = rhs.z;"], None
+
+
+def pairs_through_a_wide_block(n):
+    """The same of two tables that attack each other weakly."""
+    left = [row for i in range(n) for row in ((0, i, i), (n + i, n + i, i))]
+    right = [row for i in range(n) for row in ((i, 0), (n + i, n + i))]
+    ours = ["create table r (x int, y int, a int, primary key (x));", "create table s (y int, x int, primary key (y));"]
+    ours += inserts("r", left)[0] + inserts("s", right)[0]
+    return ours + ["ask select r.a from r, s where r.x = s.x and r.y = s.y;"], None
+
+
 LOADS = [
     ("inserts and asks by key in turn, ascending", ascending_turns, 50000),
     ("inserts and asks by key in turn, random", random_turns, 50000),
@@ -253,6 +277,8 @@ LOADS = [
     ("a weak cycle of two tables, without a search", weak_cycle, 25000),
     ("a weak cycle of two tables, shuffled", shuffled_weak_cycle, 25000),
     ("a weak pair of two wide blocks", wide_weak_blocks, 25000),
+    ("a strong cycle through one wide block, by formulas", through_a_wide_block, 8000),
+    ("weak pairs through one wide block", pairs_through_a_wide_block, 8000),
 ]
 
 
