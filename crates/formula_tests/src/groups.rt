@@ -1,34 +1,25 @@
 //! Formulas of a join on three values, decided by groups of rows.
 
+use crate::making::{pair, value_of};
 use answer_check::is_accepted;
 use cdcl::Outcome;
-use cnf_form::{Clause, Cnf, Lit};
+use cnf_form::{Clause, Cnf};
 use cqa_value::{Items, NoMemory};
 use merged_search::{MERGED_FROM, solve};
 use std::alloc::Global;
 use std::test::Fail;
 
-/// The values of the two rows of a block, by its kind. Each kind lacks another value.
-const VALUES: [[u32; 2]; 3] = [[0, 1], [0, 2], [1, 2]];
-
 /// The value of a row in a table whose blocks have two rows each, and are of all kinds in turn, or of the first two.
 fn value(row: u8, all: bool) -> u32 {
     let block = row / 2;
     let kind = if all { block % 3 } else { block % 2 };
-    VALUES[kind as usize][(row % 2) as usize]
-}
-
-fn pair(alloc: Global, vars: [u32; 2], positive: bool) -> Result<Clause, NoMemory> {
-    let lits = vars.map(|var| Lit { var, positive });
-    Ok(Clause {
-        lits: Items::from_slice(alloc, &lits)?,
-    })
+    value_of(2 - kind, row % 2 == 1)
 }
 
 /// Adds the clause of each block of the two tables.
 fn add_blocks(alloc: Global, rows: u8, clauses: &mut Items<Clause>) -> Result<(), NoMemory> {
     for block in 0..rows {
-        clauses.push(pair(alloc, [2 * block as u32 + 1, 2 * block as u32 + 2], true)?)?;
+        clauses.push(pair(alloc, 2 * block as u32 + 1, 2 * block as u32 + 2, true)?)?;
     }
     Ok(())
 }
@@ -43,11 +34,7 @@ fn add_witnesses(
 ) -> Result<(), NoMemory> {
     for other in 0..rows {
         if value(other, true) == wanted {
-            clauses.push(pair(
-                alloc,
-                [row as u32 + 1, rows as u32 + other as u32 + 1],
-                false,
-            )?)?;
+            clauses.push(pair(alloc, row as u32 + 1, rows as u32 + other as u32 + 1, false)?)?;
         }
     }
     Ok(())

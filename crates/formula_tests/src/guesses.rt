@@ -2,6 +2,7 @@
 
 ghost use Rattle.std.specs.Prelude.{◌<◌};
 
+use crate::making::pair;
 use cdcl::Outcome;
 use cnf_form::{Clause, Cnf, Lit, read_formula};
 use cqa_value::{Items, NoMemory};
@@ -32,6 +33,9 @@ fn said_of(alloc: Global, text: &[u8], budget: u32) -> Result<(&'static str, usi
     Ok(said?)
 }
 
+/// Two blocks of two rows, each of which excludes both rows of the other.
+const SQUARE: &[u8] = b"p cnf 4 6\n1 2 0\n-1 -3 0\n3 4 0\n-1 -4 0\n-2 -4 0\n-2 -3 0\nlrat\n";
+
 #[test]
 fn small_formulas_are_guessed(rt: HostRuntime) -> Result<(), Fail> {
     let cases: [(&[u8], u32, (&str, usize)); 9] = [
@@ -39,16 +43,8 @@ fn small_formulas_are_guessed(rt: HostRuntime) -> Result<(), Fail> {
         (b"p cnf 2 3\n1 0\n2 0\n-1 -2 0\nlrat\n", 9, ("unsat", 1)),
         (b"p cnf 3 3\n1 3 0\n2 0\n-1 -2 0\nlrat\n", 9, ("sat", 2)),
         // Two rows on each side: a lemma for each row of the block that is false.
-        (
-            b"p cnf 4 6\n1 2 0\n-1 -3 0\n3 4 0\n-1 -4 0\n-2 -4 0\n-2 -3 0\nlrat\n",
-            9,
-            ("unsat", 3),
-        ),
-        (
-            b"p cnf 4 6\n1 2 0\n-1 -3 0\n3 4 0\n-1 -4 0\n-2 -4 0\n-2 -3 0\nlrat\n",
-            1,
-            ("none", 0),
-        ),
+        (SQUARE, 9, ("unsat", 3)),
+        (SQUARE, 1, ("none", 0)),
         // A pair is missing, or stands twice.
         (
             b"p cnf 4 5\n1 2 0\n-1 -3 0\n3 4 0\n-1 -4 0\n-2 -4 0\nlrat\n",
@@ -115,26 +111,13 @@ impl Making {
         self.clauses.push(Clause { lits })
     }
 
-    fn add_pair(&mut self, alloc: Global, one: u32, other: u32) -> Result<(), NoMemory> {
-        let mut lits = Items::new(alloc);
-        lits.push(Lit {
-            var: one,
-            positive: false,
-        })?;
-        lits.push(Lit {
-            var: other,
-            positive: false,
-        })?;
-        self.clauses.push(Clause { lits })
-    }
-
     fn add_pairs(&mut self, alloc: Global) -> Result<(), NoMemory> {
         for one in 0..self.values.len() {
             for other in 0..self.values.len() {
                 let (one, side, value) = self.values.get(one).copied().unwrap_or((0, 0, 0));
                 let (other, far, same) = self.values.get(other).copied().unwrap_or((0, 0, 0));
                 if side == 0 && far == 1 && value == same {
-                    self.add_pair(alloc, one, other)?;
+                    self.clauses.push(pair(alloc, one, other, false)?)?;
                 }
             }
         }

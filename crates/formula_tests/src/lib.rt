@@ -8,3 +8,4 @@ mod formulas;
 mod groups;
 #[cfg(test)]
 mod guesses;
+pub mod making;
