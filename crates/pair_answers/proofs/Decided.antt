@@ -119,5 +119,6 @@ module _ (db : List Table) (q : Query) (row : List Value) (pair : IsPair q) (fit
   answered (Ok d) h = answer d h
   answered (Err e) h = tt
 
-  pub told : (certain : Bool) → IsTold lists first certain → IsTrue certain ↔ IsCertain db q row
-  told certain d = law.told db q row ls.cols place first lists certain fits long pair ls.shared numbering ls.lists_are d
+  pub told : {E : Type 0} (result : Result Bool E) → IfOk result (IsTold lists first) → IfOk result (λ certain. IsTrue certain ↔ IsCertain db q row)
+  told (Ok certain) d = law.told db q row ls.cols place first lists certain fits long pair ls.shared numbering ls.lists_are d
+  told (Err e) d = tt

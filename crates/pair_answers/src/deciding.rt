@@ -65,8 +65,9 @@ pub fn is_certain(alloc: Global, db: &Database, query: &Query, row: &Row) -> Res
     let lists = row_lists(alloc, db, query, row, &columns.left, &columns.right)?;
     pair_decided();
     let blocks = starts.first.len() as u32 - 1;
-    let certain = are_certain(alloc, &lists, &starts.first, blocks, starts.split)?;
-    Ok(certain)
+    let certain = are_certain(alloc, &lists, &starts.first, blocks, starts.split);
+    drop(lists);
+    certain
 }
 
 /// Decides the numbered rows.

@@ -1,7 +1,7 @@
 //! The values of rows in the columns of the variables that both atoms have.
 //! Rows of different atoms that fit stand together in a witness exactly where these are the same.
 
-ghost use Rattle.std.specs.Prelude.{◌≡◌, ◌↔◌, ◌+◌, ◌<◌, ◌≤◌, IfOk, IsTrue, IfSome, length, map};
+ghost use Rattle.std.specs.Prelude.{◌≡◌, ◌↔◌, ◌+◌, ◌<◌, ◌≤◌, [], IfOk, IsTrue, IfSome, length, map};
 ghost use Rattle.cqa_model.specs.declared.limits.TheConstants.{MOST_ROWS};
 ghost use Rattle.cqa_model.specs.Database.{stored};
 ghost use Rattle.cqa_model.specs.Query.{FitsDatabase};
@@ -105,17 +105,43 @@ fn packed_lists(
     ensures lists { IfOk result (λ found. IfSome found (λ codes. AreRowLists query.now (stored db.now) row.now (map listed codes.items))) }
     ensures few { IfOk result (λ found. IfSome found (λ codes. length (map listed codes.items) ≤ MOST_ROWS + MOST_ROWS)) }
 {
+    let first = db.rows(table_of(query, 0)).len();
+    let second = db.rows(table_of(query, 1)).len();
+    let mut codes = Vec::with_capacity(alloc, first + second)?;
+    if append_all_codes(db, query, row, left, right, &mut codes)? {
+        return Ok(Some(codes));
+    }
+    Ok(None)
+}
+
+/// Appends the code of the list of each row of both tables, as long as rows that fit have one, and answers whether all have.
+///
+/// # Errors
+///
+/// `NoMemory` where memory is refused.
+fn append_all_codes(
+    db: &Database,
+    query: &Query,
+    row: &Row,
+    left: &[u32],
+    right: &[u32],
+    codes: &mut Vec<u64>,
+) -> Result<bool, NoMemory>
+    requires two { length query.now.atoms ≡ 2 }
+    requires fits { FitsDatabase query.now db.now }
+    requires columns { AreColumns query.now left.now right.now }
+    requires none { codes.old.items ≡ [] }
+    ensures lists { IfOk result (λ all. IsTrue all → AreRowLists query.now (stored db.now) row.now (map listed codes.new.items)) }
+    ensures few { IfOk result (λ all. IsTrue all → length (map listed codes.new.items) ≤ MOST_ROWS + MOST_ROWS) }
+{
     let names = variables(query);
     let first = db.rows(table_of(query, 0));
     let second = db.rows(table_of(query, 1));
-    let mut codes = Vec::with_capacity(alloc, first.len() + second.len())?;
-    if !append_codes(query, &names, row, left, 0, &first, &mut codes)? {
-        return Ok(None);
+    if !append_codes(query, &names, row, left, 0, &first, codes)? {
+        return Ok(false);
     }
-    if !append_codes(query, &names, row, right, 1, &second, &mut codes)? {
-        return Ok(None);
-    }
-    Ok(Some(codes))
+    let all = append_codes(query, &names, row, right, 1, &second, codes)?;
+    Ok(all)
 }
 
 /// Appends the code of the list of each row of an atom, as long as rows that fit have one, and answers whether all have.

@@ -1,20 +1,11 @@
 -- Where each block is settled, rows can be chosen: walks from block to block would find them.
-use Rattle.std.proofs.Common.{◌≡◌, ◌≢◌, ℕ, zero, suc, ◌<◌, ◌≤◌, ◌⊎◌, inl, inr, List, length, set, refl, ap, sym, ◌∙◌, subst, arith, Bool, true, Option, Some, None}
+use Rattle.std.proofs.Common.{◌≡◌, ◌≢◌, ℕ, zero, suc, ◌<◌, ◌≤◌, ◌⊎◌, inl, inr, List, length, set, refl, sym, ◌∙◌, subst, arith, Bool, true, Option, Some, None}
 use native.Mathlib.Decide.{ℕ_discrete}
 use Rattle.std.specs.Prelude.{slice_index}
-use Rattle.std.proofs.lemmas.Option.{same_Some, none-some}
-use Rattle.weak_pairs.specs.declared.peel.Ends.{Ends}
-use Rattle.weak_pairs.specs.Peeling.{IsBlock, In, ends_of, AreLaidOut, row_of, IsServed, open_count, IsState, HasOne, IsSettled, IsOther, AreChosen}
-use Rattle.weak_pairs.proofs.Peeling.{served_or_open, other-is, state, fewer, done-step, go-step, ready-step, at_or, all_settled, chosen-of}
-
--- an option is this number, or isn't
-is_or : (o : Option ℕ) (v : ℕ) → (o ≡ Some v) ⊎ (o ≢ Some v)
-is_or None v = inr (λ e. none-some v e)
-is_or (Some u) v = go (ℕ_discrete u v)
-  where
-    go : Dec (u ≡ v) → (Some u ≡ Some v) ⊎ (Some u ≢ Some v)
-    go (yes e) = inl (ap Some e)
-    go (no n) = inr (λ e. n (same_Some u v e))
+use Rattle.std.proofs.lemmas.Option.{none-some}
+use Rattle.weak_pairs.specs.declared.graph.Ends.{Ends}
+use Rattle.weak_pairs.specs.Peeling.{IsBlock, In, ends_of, AreLaidOut, row_of, IsServed, open_count, IsState, HasOne, IsSettled, AreChosen}
+use Rattle.weak_pairs.proofs.Peeling.{IsOther, is_or, served_or_open, other-is, state, fewer, done-step, go-step, ready-step, at_or, all_settled, chosen-of}
 
 -- the first blocks are all served, or one of them is open
 find-open : (own : List (Option ℕ)) (k : ℕ) → ((v : ℕ) × (v < k) × (row_of own v ≡ None)) ⊎ ((v : ℕ) → v < k → IsServed own v)

@@ -1,5 +1,6 @@
 pub mod Pairs
 pub mod Peeling
+pub mod States
 pub mod Numbering
 pub mod Outcomes
 pub mod Packing

@@ -7,9 +7,10 @@ ghost use Rattle.weak_pairs.specs.Digests.{lists_in};
 ghost use Rattle.weak_pairs.specs.Outcomes.{AreSided, AreStarts, IsDecided, IsTold};
 
 use crate::chains::edge_numbers;
+use crate::graph::Graph;
 use crate::layout::edge_ends;
 use crate::lists::Lists;
-use crate::peel::{Outcome, choose, is_blocked};
+use crate::outcome::{Outcome, choose, is_blocked};
 use cqa_value::NoMemory;
 use std::alloc::Global;
 
@@ -41,7 +42,13 @@ pub fn decide_rows(
 {
     let (edge, count) = edge_numbers(alloc, lists)?;
     let ends = edge_ends(alloc, start, &edge, blocks, split, count)?;
-    match choose(alloc, start, &edge, &ends, blocks)? {
+    let graph = Graph {
+        start,
+        edge: &edge,
+        ends: &ends,
+        blocks,
+    };
+    match choose(alloc, &graph)? {
         Outcome::Blocked(_, _) => Ok(Decision::Certain),
         Outcome::Chosen(own) => Ok(Decision::Rejected(own)),
     }
@@ -67,6 +74,12 @@ pub fn are_certain(
 {
     let (edge, count) = edge_numbers(alloc, lists)?;
     let ends = edge_ends(alloc, start, &edge, blocks, split, count)?;
-    let blocked = is_blocked(alloc, start, &edge, &ends, blocks)?;
+    let graph = Graph {
+        start,
+        edge: &edge,
+        ends: &ends,
+        blocks,
+    };
+    let blocked = is_blocked(alloc, &graph)?;
     Ok(blocked)
 }

@@ -5,7 +5,7 @@ ghost use Rattle.std.specs.Prelude.{◌≡◌, ◌+◌, ◌<◌, ℕ, IfOk, None
 ghost use Rattle.weak_pairs.specs.Layout.{AreRows, IsOneSided, set_end};
 ghost use Rattle.weak_pairs.specs.Peeling.{AreLaidOut, ends_of};
 
-use crate::peel::Ends;
+use crate::graph::Ends;
 use cqa_value::NoMemory;
 use std::alloc::Global;
 

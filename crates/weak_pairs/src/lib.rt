@@ -4,17 +4,22 @@
 
 mod chains;
 mod decide;
+mod graph;
 pub mod laws;
 mod layout;
 mod lists;
+mod matching;
+mod outcome;
 mod packed;
 mod peel;
 mod picked;
+mod walk;
 
 pub use chains::edge_numbers;
 pub use decide::{Decision, are_certain, decide_rows};
+pub use graph::{Ends, Graph};
 pub use layout::edge_ends;
 pub use lists::Lists;
+pub use outcome::{Outcome, choose};
 pub use packed::code;
-pub use peel::{Ends, Outcome, Watch, choose};
 pub use picked::Picked;
