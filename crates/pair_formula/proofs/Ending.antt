@@ -3,7 +3,7 @@ use Rattle.std.proofs.Common.{◌≡◌, ◌≢◌, ℕ, ◌+◌, ◌<◌, ◌�
 use native.Mathlib.Decide.{ℕ_discrete}
 use Rattle.std.proofs.lemmas.List.{get_or-set_same, get_or-set_other}
 use Rattle.std.proofs.lemmas.Option.{same_Some, none-some}
-use Rattle.weak_pairs.specs.declared.peel.Ends.{Ends}
+use Rattle.weak_pairs.specs.declared.graph.Ends.{Ends}
 use Rattle.weak_pairs.specs.Peeling.{IsBlock, In, ends_of, AreLaidOut}
 use Rattle.weak_pairs.specs.Layout.{AreRows}
 use Rattle.pair_formula.specs.Edges.{AreNone, AddsEnd, AreEndsSoFar, IsTwoEnded}
@@ -164,6 +164,6 @@ module _ (start edge : List ℕ) (count : ℕ) (rows : AreRows start edge count)
     rising = rows.rising;
     within = rows.within;
     small = λ i l. let s = rows.small i l in let z = so.size in omega (arith, s, z);
-    occurs = λ v i bv hi. so.occurs v i bv hi (inl (omega (arith, long, bv)));
+    occurs = λ v i bv hi n. elim (so.occurs v i bv hi (inl (omega (arith, long, bv)))) [ inl l ↦ absurd (n l) | inr r ↦ r ];
     blocks = λ e v l h. elim h [ inl k ↦ (so.left e v k).0 | inr k ↦ (so.right e v k).0 ];
   }

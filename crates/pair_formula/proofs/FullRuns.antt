@@ -1,9 +1,9 @@
 -- The full blocks of one table, run after run.
-use Rattle.std.proofs.Common.{◌≡◌, ℕ, zero, suc, ◌<◌, ◌≤◌, ◌+◌, ◌-◌, ◌↔◌, ◌⊎◌, inl, inr, List, [], ◌∷◌, ◌++◌, length, get_or, slice_get, Some, refl, sym, ◌∙◌, ap, subst, arith, Contains, Less, false}
-use Rattle.std.specs.List.Sorted.{IsSorted, IsStrictlySortedBy, IsStrictlyIncreasing}
-use Rattle.std.specs.Ordering.{nat_cmp, is_lt}
+use Rattle.std.proofs.Common.{◌≡◌, ℕ, ◌<◌, ◌≤◌, ◌+◌, ◌-◌, ◌↔◌, ◌⊎◌, inl, inr, List, [], ◌∷◌, ◌++◌, length, get_or, slice_get, Some, refl, sym, ◌∙◌, ap, subst, arith, Contains, Less}
+use Rattle.std.specs.List.Sorted.{IsStrictlySortedBy}
+use Rattle.std.specs.Ordering.{nat_cmp}
+use Rattle.std.proofs.lemmas.Bool.{cases_order}
 use Rattle.std.proofs.lemmas.Option.{get_or_from_slice_get}
-use Rattle.std.proofs.lemmas.List.{get_or_default}
 use Rattle.std.proofs.lemmas.List.Elements.{Contains-append_left, Contains-push, Contains-push_cases, Contains-get_or}
 use Rattle.cqa_value.specs.declared.value.Value.{Value}
 use Rattle.cqa_model.specs.Database.{block_cmp}
@@ -13,44 +13,15 @@ use Rattle.cqa_model.proofs.Classic.{mem-nil, mem-cases}
 use Rattle.cqa_model.proofs.Repairs.{shares-self, shares-sym, shares-trans}
 use Rattle.cqa_value.proofs.Words.{cases_le, nat_cmp_less, sorted_join}
 use Rattle.repair_clauses.specs.declared.span.Span.{Span}
-use Rattle.cqa_model.specs.declared.query.RowId.{RowId}
-use Rattle.repair_clauses.specs.Spans.{span_cmp, AreBasedTo, place_at}
-use Rattle.repair_clauses.specs.Runs.{Covers, ArePlaces, AreColumn}
+use Rattle.repair_clauses.specs.Spans.{span_cmp, AreBasedTo, Covers}
+use Rattle.repair_clauses.specs.Runs.{ArePlaces}
 use Rattle.repair_clauses.specs.Avoiding.{HasFree}
 use Rattle.repair_clauses.proofs.Numbers.{place_of}
+use Rattle.repair_clauses.proofs.Columns.{places-up}
 use Rattle.repair_clauses.proofs.Spans.{then_less, equal_self}
 use Rattle.repair_clauses.proofs.Atoms.{based-joined, none_sorted}
 use Rattle.repair_clauses.proofs.Running.{single_sorted}
 use Rattle.pair_formula.specs.Full.{Follows, IsInRow, HasMore, IsRunAdded, IsFullRun, AreFullRuns}
-
-cases_three : (x y : ℕ) → (x < y) ⊎ ((x ≡ y) ⊎ (y < x))
-cases_three x y = grind arith
-
-not-less : (x y : ℕ) → x ≤ y → is_lt (nat_cmp y x) ≡ false
-not-less x y l = grind (arith, l)
-
--- places in order, as a sort leaves them
-pub sorted-places : (xs : List ℕ) → ((i j : ℕ) → i ≤ j → j < length xs → get_or xs i 0 ≤ get_or xs j 0) → IsSorted nat_cmp xs
-sorted-places xs h k d l u =
-    let a = get_or_default xs k 0 d (omega (arith, u)) in
-    let b = get_or_default xs (k + 1) 0 d u in
-    not-less (get_or xs k d) (get_or xs (k + 1) d) (subst (λ y. get_or xs k d ≤ y) b (subst (λ x. x ≤ get_or xs (k + 1) 0) a (h k (k + 1) (omega arith) u)))
-
-rising : (xs : List ℕ) → IsStrictlyIncreasing xs → (i n : ℕ) → i + n < length xs → get_or xs i 0 ≤ get_or xs (i + n) 0
-rising xs h i zero l = subst (λ j. get_or xs i 0 ≤ get_or xs j 0) (let e : i ≡ i + 0 = omega arith in e) (omega arith)
-rising xs h i (suc n) l =
-    let a = rising xs h i n (omega (arith, l)) in
-    let b = h (i + n) (omega (arith, l)) in
-    let e : i + n + 1 ≡ i + suc n = omega arith in
-    subst (λ j. get_or xs i 0 ≤ get_or xs j 0) e (omega (arith, a, b))
-
--- the same places, each once
-pub column-once : (all : List (List RowId)) (F : ℕ) (xs ys : List ℕ) → AreColumn all F xs → IsStrictlyIncreasing ys → ((p : ℕ) → Contains ys p ↔ Contains xs p) → AreColumn all F ys
-column-once all F xs ys c rises same = record {
-  in_order = λ i j l u. let e : i + (j - i) ≡ j = omega (arith, l) in subst (λ k. get_or ys i 0 ≤ get_or ys k 0) e (rising ys rises i (j - i) (omega (arith, l, u)));
-  from = λ p m. c.from p ((same p).0 m);
-  to = λ names m. (same (place_at names F)).1 (c.to names m);
-}
 
 module _ (key : List ℕ) (rows : List (List Value)) (places : List ℕ) where
   abbrev at : ℕ → ℕ
@@ -64,7 +35,7 @@ module _ (key : List ℕ) (rows : List (List Value)) (places : List ℕ) where
   in-row-one i k l u = let e : k ≡ i = omega (arith, l, u) in subst (λ z. (at z ≡ at i + (z - i)) × SharesKey key (row (at i)) (row (at z))) (sym e) (omega arith, shares-self key (row (at i)))
 
   pub in-row-more : (i j : ℕ) → i < j → IsInRow key rows places i j → Follows key rows (at (j - 1)) (at j) → IsInRow key rows places i (j + 1)
-  in-row-more i j l h f k lk uk = go (cases_three k j)
+  in-row-more i j l h f k lk uk = go (cases_order k j)
     where
       last : (at (j - 1) ≡ at i + ((j - 1) - i)) × SharesKey key (row (at i)) (row (at (j - 1)))
       last = h (j - 1) (omega (arith, l)) (omega (arith, l))
@@ -72,9 +43,9 @@ module _ (key : List ℕ) (rows : List (List Value)) (places : List ℕ) where
       here : (at j ≡ at i + (j - i)) × SharesKey key (row (at i)) (row (at j))
       here = let a = last.0 in let b = f.0 in (omega (arith, a, b, l), shares-trans key (row (at i)) (row (at (j - 1))) (row (at j)) last.1 f.1)
 
-      go : (k < j) ⊎ ((k ≡ j) ⊎ (j < k)) → (at k ≡ at i + (k - i)) × SharesKey key (row (at i)) (row (at k))
-      go (inl u) = h k lk u
-      go (inr (inl e)) = subst (λ z. (at z ≡ at i + (z - i)) × SharesKey key (row (at i)) (row (at z))) (sym e) here
+      go : (k ≡ j) ⊎ ((k < j) ⊎ (j < k)) → (at k ≡ at i + (k - i)) × SharesKey key (row (at i)) (row (at k))
+      go (inr (inl u)) = h k lk u
+      go (inl e) = subst (λ z. (at z ≡ at i + (z - i)) × SharesKey key (row (at i)) (row (at z))) (sym e) here
       go (inr (inr u)) = absurd (omega (arith, u, uk))
 
   -- the runs before a place of the list are done
@@ -114,10 +85,7 @@ module _ (key : List ℕ) (rows : List (List Value)) (places : List ℕ) where
         subst (λ r. ((s : Span) × Contains spans s × Covers s r) ⊎ HasFree key rows places r) e (h.every i.0 (omega (arith, il, l)));
   }
 
-  module _ (order : IsStrictlySortedBy (block_cmp key) rows) (are : ArePlaces rows places) (rises : IsStrictlyIncreasing places) where
-    strict : (i j : ℕ) → i < j → j < length places → at i < at j
-    strict i j l u = let a = rises i (omega (arith, l, u)) in let b = are.in_order (i + 1) j (omega (arith, l)) u in omega (arith, a, b)
-
+  module _ (order : IsStrictlySortedBy (block_cmp key) rows) (are : ArePlaces rows places) where
     module _ (atom base n vars : ℕ) (spans : List Span) (h : AreFullTo atom base n vars spans) (here : n < length places) (end : ℕ) (some : n < end) (in' : end ≤ length places)
         (run : IsInRow key rows places n end) (stops : end < length places → Follows key rows (at (end - 1)) (at end) → ⊥) where
       abbrev start : ℕ
@@ -133,46 +101,46 @@ module _ (key : List ℕ) (rows : List (List Value)) (places : List ℕ) where
       stop-within = let a = last.0 in let b = are.there (end - 1) (omega (arith, some, in')) in omega (arith, a, b, some)
 
       after : (k : ℕ) → end ≤ k → k < length places → stop ≤ at k
-      after k l u = let a = last.0 in let b = strict (end - 1) k (omega (arith, some, l)) u in omega (arith, a, b, some)
+      after k l u = let a = last.0 in let b = are.in_order (end - 1) k (omega (arith, some, l)) u in omega (arith, a, b, some)
 
       -- the row before the run is at no place, nor is the one behind it
       before-free : 0 < start → SharesKey key (row start) (row (start - 1)) → Contains places (start - 1) → ⊥
       before-free some' sh m = go (place_of places (start - 1) m)
         where
           go : ((i : ℕ) × (i < length places) × (slice_get places i ≡ Some (start - 1))) → ⊥
-          go (i, l, g) = cases (cases_three (i + 1) n)
+          go (i, l, g) = cases (cases_order (i + 1) n)
             where
               e : at i ≡ start - 1
               e = get_or_from_slice_get places i (start - 1) 0 g
 
-              cases : (i + 1 < n) ⊎ ((i + 1 ≡ n) ⊎ (n < i + 1)) → ⊥
-              cases (inl u) = let a = strict i (i + 1) (omega arith) (omega (arith, u, here)) in let b = strict (i + 1) n u here in let d = e in omega (arith, a, b, d, some')
-              cases (inr (inl u)) =
+              cases : (i + 1 ≡ n) ⊎ ((i + 1 < n) ⊎ (n < i + 1)) → ⊥
+              cases (inr (inl u)) = let a = are.in_order i (i + 1) (omega arith) (omega (arith, u, here)) in let b = are.in_order (i + 1) n u here in let d = e in omega (arith, a, b, d, some')
+              cases (inl u) =
                   let d = e in
                   let same : n - 1 ≡ i = omega (arith, u) in
                   let es : at (n - 1) ≡ start - 1 = ap at same ∙ e in
                   h.apart (omega (arith, u)) here (omega (arith, es, some'), subst (λ p. SharesKey key (row p) (row start)) (sym es) (shares-sym key (row start) (row (start - 1)) sh))
-              cases (inr (inr u)) = let a = are.in_order n i (omega (arith, u)) l in let d = e in omega (arith, a, d, some')
+              cases (inr (inr u)) = let a = places-up rows places are n i (omega (arith, u)) l in let d = e in omega (arith, a, d, some')
 
       behind-free : SharesKey key (row start) (row stop) → Contains places stop → ⊥
       behind-free sh m = go (place_of places stop m)
         where
           go : ((i : ℕ) × (i < length places) × (slice_get places i ≡ Some stop)) → ⊥
-          go (i, l, g) = cases (cases_three i end)
+          go (i, l, g) = cases (cases_order i end)
             where
               e : at i ≡ stop
               e = get_or_from_slice_get places i stop 0 g
 
-              cases : (i < end) ⊎ ((i ≡ end) ⊎ (end < i)) → ⊥
-              cases (inl u) = let a = are.in_order i (end - 1) (omega (arith, u)) (omega (arith, some, in')) in let b = last.0 in let d = e in omega (arith, a, b, d, some)
-              cases (inr (inl u)) =
+              cases : (i ≡ end) ⊎ ((i < end) ⊎ (end < i)) → ⊥
+              cases (inr (inl u)) = let a = places-up rows places are i (end - 1) (omega (arith, u)) (omega (arith, some, in')) in let b = last.0 in let d = e in omega (arith, a, b, d, some)
+              cases (inl u) =
                   let b = last.0 in
                   let es : at end ≡ stop = ap at (sym u) ∙ e in
                   stops (omega (arith, u, l)) (
                     omega (arith, es, b, some),
                     subst (λ p. SharesKey key (row (at (end - 1))) (row p)) (sym es) (shares-trans key (row (at (end - 1))) (row start) (row stop) (shares-sym key (row start) (row (at (end - 1))) last.1) sh),
                   )
-              cases (inr (inr u)) = let a = after end (omega arith) (omega (arith, u, l)) in let b = strict end i u l in let d = e in omega (arith, a, b, d)
+              cases (inr (inr u)) = let a = after end (omega arith) (omega (arith, u, l)) in let b = are.in_order end i u l in let d = e in omega (arith, a, b, d)
 
       has-free : HasMore key rows start stop → HasFree key rows places start
       has-free (inl (some', sh)) = record { free = start - 1; there = (let w = are.there n here in omega (arith, w)); shares = sh; apart = before-free some' sh }
@@ -235,9 +203,7 @@ module _ (key : List ℕ) (rows : List (List Value)) (places : List ℕ) where
         is-full : IsFullRun key rows atom places span
         is-full = record {
           of_atom = refl;
-          some = omega (arith, some);
-          within = let w = stop-within in omega (arith, w);
-          block = block;
+          whole = record { some = omega (arith, some); within = (let w = stop-within in omega (arith, w)); block = block };
           full = λ p c. let q = placed p c in let u = q.1 in subst (Contains places) q.2 (Contains-get_or places (n + (p - start)) 0 (omega (arith, u, in')));
         }
 

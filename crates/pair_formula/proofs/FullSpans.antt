@@ -1,6 +1,6 @@
 -- The full blocks of two atoms, and the formula that they give.
 use Rattle.cqa_model.specs.declared.limits.TheConstants.{MOST_ROWS}
-use Rattle.std.proofs.Common.{◌≡◌, ◌↔◌, ℕ, zero, suc, ◌<◌, ◌≤◌, ◌+◌, ◌-◌, ◌*◌, ◌^◌, ◌⊎◌, inl, inr, List, [], ◌∷◌, ◌++◌, length, get_or, map, Option, Some, None, refl, sym, ◌∙◌, ap, subst, arith, Contains, slice_get, Bool, true, false, true≢false}
+use Rattle.std.proofs.Common.{◌≡◌, ◌↔◌, ℕ, zero, suc, ◌<◌, ◌≤◌, ◌+◌, ◌-◌, ◌*◌, ◌⊎◌, inl, inr, List, [], ◌∷◌, ◌++◌, length, get_or, map, Option, Some, None, refl, sym, ◌∙◌, ap, subst, arith, Contains, slice_get, Bool, true, false, true≢false}
 use native.Mathlib.Decide.{ℕ_discrete}
 use Rattle.std.specs.List.Sorted.{IsStrictlySortedBy}
 use Rattle.std.specs.Ordering.{nat_cmp}
@@ -10,7 +10,7 @@ use Rattle.cqa_model.specs.declared.query.Query.{Query}
 use Rattle.cqa_model.specs.declared.query.RowId.{RowId}
 use Rattle.cqa_model.specs.Database.{Table, IsDatabase, stored}
 use Rattle.cqa_model.specs.Repairs.{SharesKey}
-use Rattle.cqa_model.specs.Query.{atom_key, rows_of, row_at, IsWitness, FitsDatabase}
+use Rattle.cqa_model.specs.Query.{atom_at, atom_key, rows_of, row_at, IsWitness, FitsDatabase}
 use Rattle.cqa_model.specs.Certain.{IsCertain}
 use Rattle.cqa_model.specs.Formula.{IsRelevant, Satisfies as RowsSatisfy}
 use Rattle.cqa_model.proofs.Classic.{dec_both, mem-head, mem-nil, mem-cases}
@@ -22,7 +22,7 @@ use Rattle.cnf_form.specs.Literals.{Satisfies, SatisfiesAll}
 use Rattle.join_witness.specs.Listing.{AreAllNames}
 use Rattle.repair_clauses.specs.declared.span.Span.{Span}
 use Rattle.repair_clauses.specs.Clauses.{Variable, HasNumber, IsBlock, IsNumberOf, row_of, variable_cmp, AreAll}
-use Rattle.repair_clauses.specs.Spans.{at, IsIn, IsNamed, IsSpan, span_cmp, AreApart, AreBased, variables_of, numbers_in, place_at}
+use Rattle.repair_clauses.specs.Spans.{at, IsIn, IsNamed, IsNumbering, IsSpan, IsWholeBlock, span_cmp, AreBased, variables_of, numbers_in, place_at}
 use Rattle.repair_clauses.specs.Runs.{AreColumn}
 use Rattle.cqa_value.proofs.Words.{Contains-map, Contains-from_map, Contains-range, dec_one_below, in_range, is_yes, nat_cmp_less, no_of, sorted_join, yes_of}
 use Rattle.std.proofs.Math.Bool.{Bool-discrete}
@@ -31,7 +31,7 @@ use Rattle.repair_clauses.proofs.Order.{less_then}
 use Rattle.repair_clauses.proofs.Spans.{in_variables, has_number, same_number, variables-sorted, are_blocks, as_at}
 use Rattle.repair_clauses.proofs.Atoms.{based-joined, based-whole}
 use Rattle.repair_clauses.proofs.Placing.{stand_apart}
-use Rattle.repair_clauses.proofs.Encoding.{based-below, variables-length}
+use Rattle.repair_clauses.proofs.Encoding.{rows-few, variables-length}
 use Rattle.repair_clauses.proofs.Naming.{of_names}
 use Rattle.repair_clauses.proofs.FreeRows as free
 use Rattle.weak_pairs.specs.Pairs.{IsPair}
@@ -44,9 +44,7 @@ module _ (q : Query) (db : List Table) (all : List (List RowId)) where
   of-run : (F : ℕ) → F < length q.atoms → (places : List ℕ) → AreColumn all F places → (s : Span) → IsFullRun (atom_key q F) (rows_of q (stored db) F) F places s → IsFullSpan q db all s
   of-run F l places c s r = record {
     there = subst (λ G. G < length q.atoms) (sym r.of_atom) l;
-    some = r.some;
-    within = subst (λ G. s.start + s.count ≤ length (rows_of q (stored db) G)) (sym r.of_atom) r.within;
-    block = subst (λ G. (i : ℕ) → i < length (rows_of q (stored db) G) → SharesKey (atom_key q G) (row_of q db (at G s.start)) (row_of q db (at G i)) ↔ ((s.start ≤ i) × (i < s.start + s.count))) (sym r.of_atom) r.block;
+    whole = subst (λ G. IsWholeBlock (atom_key q G) (rows_of q (stored db) G) s) (sym r.of_atom) r.whole;
     full = λ p a b. subst (λ G. IsNamed all G p) (sym r.of_atom) (c.from p (r.full p (a, b)));
   }
 
@@ -87,22 +85,24 @@ module _ (q : Query) (db : List Table) (row : List Value) (all : List (List RowI
 
   -- a full block is relevant
   pub span-is : (s : Span) → Contains spans s → IsSpan q db row s
-  span-is s m = record { there = f.there; some = f.some; within = f.within; relevant = relevant; block = f.block }
+  span-is s m = record { there = f.there; whole = f.whole; relevant = relevant }
     where
       f : IsFullSpan q db all s
       f = h.each s m
 
       relevant : IsRelevant q (stored db) row s.atom (row_of q db (at s.atom s.start))
       relevant =
-          let c = f.some in
+          let c = f.whole.some in
           let w = named-row s.atom s.start f.there (f.full s.start (omega arith) (omega (arith, c))) in
           (w.0, w.1, subst (λ x. SharesKey (atom_key q s.atom) (row_of q db (at s.atom s.start)) x) w.3 (shares-self (atom_key q s.atom) (row_of q db (at s.atom s.start))))
 
-  pub stand-apart : AreApart spans
-  stand-apart = stand_apart q db row spans h.in_order span-is
-
-  pub base-small : (s : Span) → Contains spans s → s.base + s.count < 2 ^ 32
-  base-small s m = let b = based-below 0 vars spans h.based s m in let k = h.small in omega (arith, b, k)
+  pub full-numbering : IsDatabase db → IsNumbering spans vars
+  full-numbering d = record {
+    apart = stand_apart q db row spans h.in_order span-is;
+    based = h.based;
+    few = let k = h.small in omega (arith, k);
+    within = λ s m. let w = (h.each s m).whole.within in let t = rows-few db (atom_at q s.atom).table in let f = d.few_rows in omega (arith, w, t, f);
+  }
 
   based : AreBased 0 spans
   based = based-whole 0 vars spans h.based
@@ -131,7 +131,7 @@ module _ (q : Query) (db : List Table) (row : List Value) (all : List (List RowI
   stored-at : (F p n : ℕ) → HasNumber variables n (at F p) → p < length (rows_of q (stored db) F)
   stored-at F p n hn =
       let s = in_variables spans (at F p) (numbered variables n (at F p) hn) in
-      let w = (h.each s.0 s.1).within in
+      let w = (h.each s.0 s.1).whole.within in
       let u = s.2.2 in
       subst (λ G. p < length (rows_of q (stored db) G)) (sym s.2.0) (let l : p < length (rows_of q (stored db) s.0.atom) = omega (arith, w, u) in l)
 
@@ -203,7 +203,7 @@ module _ (q : Query) (db : List Table) (row : List Value) (all : List (List RowI
 
     module _ (t : ℕ → List Value → Bool) (s : RowsSatisfy q (stored db) row t) where
       span-true : (u : Span) → Contains spans u → Satisfies (value_of t) (map positive (numbers_in u))
-      span-true u m = go (s.blocks u.atom f.there first (Contains-get_or (rows_of q (stored db) u.atom) u.start [] (let w = f.within in let k = f.some in omega (arith, w, k))) f.relevant)
+      span-true u m = go (s.blocks u.atom f.there first (Contains-get_or (rows_of q (stored db) u.atom) u.start [] (let w = f.whole.within in let k = f.whole.some in omega (arith, w, k))) f.relevant)
         where
           f : IsSpan q db row u
           f = span-is u m
@@ -213,7 +213,7 @@ module _ (q : Query) (db : List Table) (row : List Value) (all : List (List RowI
 
           at-place : (j : ℕ) → j < length (rows_of q (stored db) u.atom) → SharesKey (atom_key q u.atom) first (row_of q db (at u.atom j)) → t u.atom (row_of q db (at u.atom j)) ≡ true → Satisfies (value_of t) (map positive (numbers_in u))
           at-place j l sh e =
-              let b = (f.block j l).0 sh in
+              let b = (f.whole.block j l).0 sh in
               let x : Variable = at u.atom j in
               let b0 = b.0 in
               let b1 = b.1 in
@@ -292,7 +292,7 @@ module _ (q : Query) (db : List Table) (row : List Value) (all : List (List RowI
               let r = in_range (suc u.base) u.count n mn in
               let r0 = r.0 in
               let r1 = r.1 in
-              let w = f.within in
+              let w = f.whole.within in
               let j = n - suc u.base in
               let lj : j < u.count = omega (arith, r0, r1) in
               let p = u.start + j in
@@ -301,7 +301,7 @@ module _ (q : Query) (db : List Table) (row : List Value) (all : List (List RowI
               let en : suc (u.base + (p - u.start)) ≡ n = omega (arith, r0) in
               let hn : HasNumber variables n (at F p) = subst (λ k. HasNumber variables k (at F p)) en (has_number spans based u m (at F p) i) in
               let y = row_of q db (at F p) in
-              let near : SharesKey (atom_key q F) (row_of q db (at F u.start)) y = subst (λ G. SharesKey (atom_key q G) (row_of q db (at G u.start)) (row_of q db (at G p))) (sym ea) ((f.block p inside).1 (omega arith, omega (arith, lj))) in (
+              let near : SharesKey (atom_key q F) (row_of q db (at F u.start)) y = subst (λ G. SharesKey (atom_key q G) (row_of q db (at G u.start)) (row_of q db (at G p))) (sym ea) ((f.whole.block p inside).1 (omega arith, omega (arith, lj))) in (
                 y,
                 Contains-get_or (rows_of q (stored db) F) p [] (subst (λ G. p < length (rows_of q (stored db) G)) (sym ea) inside),
                 shares-trans (atom_key q F) x (row_of q db (at F u.start)) y sh near,
@@ -344,7 +344,7 @@ module _ (q : Query) (db : List Table) (row : List Value) (all : List (List RowI
           here = subst (λ z. SharesKey (atom_key q F) x z) (sym (i.1.1 F lF)) sh
 
           first : (u : Span) → Contains spans u → IsIn u (at F p) → SharesKey (atom_key q u.atom) (row_of q db (at u.atom u.start)) (row_of q db (at u.atom p))
-          first u m g = let f = span-is u m in let w = f.within in let g2 = g.2 in (f.block p (omega (arith, w, g2))).1 (g.1, g.2)
+          first u m g = let f = span-is u m in let w = f.whole.within in let g2 = g.2 in (f.whole.block p (omega (arith, w, g2))).1 (g.1, g.2)
 
           go : ((s : Span) × Contains spans s × IsIn s (at F p)) ⊎ IsFree q db all F p → Stays F x
           go (inl (u, m, g)) =

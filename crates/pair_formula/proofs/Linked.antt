@@ -4,6 +4,7 @@ use Rattle.std.specs.Ordering.{nat_cmp}
 use Rattle.std.specs.List.Sorted.{IsStrictlySortedBy}
 use Rattle.std.specs.Cmp.Lexicographic.{slice_cmp}
 use Rattle.std.proofs.Math.Dec.{eqb}
+use Rattle.std.proofs.lemmas.Bool.{cases_order}
 use Rattle.std.proofs.lemmas.Bool.Decides.{Decides-eqb}
 use Rattle.std.proofs.lemmas.Cmp.{nat_cmp_total, nat_list_cmp_total}
 use Rattle.std.proofs.lemmas.List.{get_or_default, length-map, get_or-map}
@@ -156,14 +157,11 @@ module _ (db : List Table) (q : Query) (row : List Value) (fits : FitsDatabase q
       (λ n m. let y = (by.exactly n).0 m in (bx.exactly n).1 (y.0, y.1, blocks-share a c y.0 s y.2))
 
   same-place : (u v : ℕ) → u < length blocks → v < length blocks → block_at blocks u ≡ block_at blocks v → u ≡ v
-  same-place u v lu lv e = go (cases u v)
+  same-place u v lu lv e = go (cases_order u v)
     where
-      cases : (i j : ℕ) → (i < j) ⊎ ((i ≡ j) ⊎ (j < i))
-      cases i j = grind arith
-
-      go : (u < v) ⊎ ((u ≡ v) ⊎ (v < u)) → u ≡ v
-      go (inl l) = absurd (not_less (slice_cmp nat_cmp) nat_list_cmp_total (block_at blocks v) (subst (λ z. slice_cmp nat_cmp z (block_at blocks v) ≡ Less) e (Less-from_sorted (slice_cmp nat_cmp) blocks u v [] all_blocks.in_order l lv)))
-      go (inr (inl d)) = d
+      go : (u ≡ v) ⊎ ((u < v) ⊎ (v < u)) → u ≡ v
+      go (inl d) = d
+      go (inr (inl l)) = absurd (not_less (slice_cmp nat_cmp) nat_list_cmp_total (block_at blocks v) (subst (λ z. slice_cmp nat_cmp z (block_at blocks v) ≡ Less) e (Less-from_sorted (slice_cmp nat_cmp) blocks u v [] all_blocks.in_order l lv)))
       go (inr (inr l)) = absurd (not_less (slice_cmp nat_cmp) nat_list_cmp_total (block_at blocks u) (subst (λ z. slice_cmp nat_cmp z (block_at blocks u) ≡ Less) (sym e) (Less-from_sorted (slice_cmp nat_cmp) blocks v u [] all_blocks.in_order l lu)))
 
   one : (u v x z : ℕ) → u < length blocks → v < length blocks → Contains (block_at blocks u) x → Contains (block_at blocks v) z → AreBeside pairs x z → u ≡ v

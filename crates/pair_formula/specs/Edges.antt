@@ -1,6 +1,6 @@
 -- The edges of variables and rows: rows of different blocks have one edge exactly where their variables meet.
 use Rattle.std.specs.Prelude.{◌≡◌, ◌≢◌, ◌⊎◌, ℕ, ◌+◌, ◌<◌, ◌≤◌, List, length, slice_index, slice_index_or, map, Some, None}
-use Rattle.weak_pairs.specs.declared.peel.Ends.{Ends}
+use Rattle.weak_pairs.specs.declared.graph.Ends.{Ends}
 use Rattle.weak_pairs.specs.Peeling.{IsBlock, In, ends_of}
 use Rattle.pair_formula.specs.declared.graph.Pair.{Pair}
 use Rattle.pair_formula.specs.Graph.{Meet, AreAdjacent}

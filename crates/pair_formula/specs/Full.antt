@@ -1,6 +1,6 @@
 -- The full blocks of a row, those of whose rows each is in a witness, and the numbers of their rows.
 use Rattle.cqa_model.specs.declared.limits.TheConstants.{MOST_ROWS}
-use Rattle.std.specs.Prelude.{◌≡◌, ◌⊎◌, ℕ, suc, ◌+◌, ◌-◌, ◌*◌, ◌<◌, ◌≤◌, ◌↔◌, ◌++◌, ◌∷◌, List, [], Option, Some, None, length, map, Contains, slice_index, slice_index_or}
+use Rattle.std.specs.Prelude.{◌≡◌, ◌⊎◌, ℕ, suc, ◌+◌, ◌-◌, ◌*◌, ◌<◌, ◌≤◌, ◌++◌, ◌∷◌, List, [], Option, Some, None, length, map, Contains, slice_index, slice_index_or}
 use Rattle.std.specs.List.Sorted.{IsStrictlySortedBy}
 use Rattle.cqa_value.specs.declared.value.Value.{Value}
 use Rattle.cqa_model.specs.declared.query.Query.{Query}
@@ -10,9 +10,8 @@ use Rattle.cqa_model.specs.Repairs.{SharesKey}
 use Rattle.cqa_model.specs.Query.{atom_key, rows_of}
 use Rattle.cnf_form.specs.declared.formula.Lit.{Lit}
 use Rattle.repair_clauses.specs.declared.span.Span.{Span}
-use Rattle.repair_clauses.specs.Clauses.{row_of}
-use Rattle.repair_clauses.specs.Spans.{at, IsIn, IsNamed, span_cmp, AreBasedTo, place_at}
-use Rattle.repair_clauses.specs.Runs.{Covers, AreColumn}
+use Rattle.repair_clauses.specs.Spans.{at, Covers, HasSpan, IsIn, IsNamed, IsWholeBlock, span_cmp, AreBasedTo, place_at}
+use Rattle.repair_clauses.specs.Runs.{AreColumn}
 use Rattle.repair_clauses.specs.Avoiding.{HasFree}
 use Rattle.pair_formula.specs.declared.graph.Pair.{Pair}
 use Rattle.pair_formula.specs.Graph.{not_both}
@@ -41,9 +40,7 @@ IsRunAdded key rows atom base start end old vars new =
 -- a whole block of a table, all of whose rows are at places
 pub record IsFullRun (key : List ℕ) (rows : List (List Value)) (atom : ℕ) (places : List ℕ) (s : Span) : Type 0 where
   pub of_atom : s.atom ≡ atom
-  pub some : 0 < s.count
-  pub within : s.start + s.count ≤ length rows
-  pub block : (i : ℕ) → i < length rows → SharesKey key (slice_index_or rows s.start []) (slice_index_or rows i []) ↔ Covers s i
+  pub whole : IsWholeBlock key rows s
   pub full : (p : ℕ) → Covers s p → Contains places p
 
 -- exactly these blocks of a table, numbered from a base on
@@ -61,10 +58,7 @@ AreFullOf q db all F base vars spans = (places : List ℕ) × AreColumn all F pl
 -- a whole block of an atom, all of whose rows are in witnesses
 pub record IsFullSpan (q : Query) (db : List Table) (all : List (List RowId)) (s : Span) : Type 0 where
   pub there : s.atom < length q.atoms
-  pub some : 0 < s.count
-  pub within : s.start + s.count ≤ length (rows_of q (stored db) s.atom)
-  pub block : (i : ℕ) → i < length (rows_of q (stored db) s.atom) →
-      SharesKey (atom_key q s.atom) (row_of q db (at s.atom s.start)) (row_of q db (at s.atom i)) ↔ ((s.start ≤ i) × (i < s.start + s.count))
+  pub whole : IsWholeBlock (atom_key q s.atom) (rows_of q (stored db) s.atom) s
   pub full : (p : ℕ) → s.start ≤ p → p < s.start + s.count → IsNamed all s.atom p
 
 -- the block of the row at a place of an atom has a row that is in no witness
@@ -77,7 +71,7 @@ pub record AreFullSpans (q : Query) (db : List Table) (all : List (List RowId)) 
   pub based : AreBasedTo 0 spans vars
   pub small : vars ≤ 2 * MOST_ROWS
   pub each : (s : Span) → Contains spans s → IsFullSpan q db all s
-  pub every : (F p : ℕ) → F < length q.atoms → IsNamed all F p → ((s : Span) × Contains spans s × IsIn s (at F p)) ⊎ IsFree q db all F p
+  pub every : (F p : ℕ) → F < length q.atoms → IsNamed all F p → HasSpan spans F p ⊎ IsFree q db all F p
 
 -- the number of the row at a place of an atom, if it is in one of the spans
 abbrev pub IsNumber : List Span → ℕ → ℕ → Option ℕ → Type 0

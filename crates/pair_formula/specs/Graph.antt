@@ -1,13 +1,8 @@
 -- The formula of a row of a pair, read as a graph: blocks of variables, and pairs of variables that are not both to be true.
-use Rattle.std.specs.Prelude.{◌≡◌, ◌⊎◌, ℕ, ◌<◌, ◌≤◌, ◌++◌, List, [], ◌∷◌, length, map, cond, Bool, true, false, Contains, slice_index_or, flat_map}
+use Rattle.std.specs.Prelude.{◌≡◌, ◌⊎◌, ℕ, ◌<◌, ◌≤◌, ◌++◌, List, [], ◌∷◌, length, map, cond, Bool, false, Contains, slice_index_or, flat_map}
 use Rattle.cnf_form.specs.declared.formula.Lit.{Lit}
+pub use Rattle.repair_clauses.specs.Clauses.{positive, negative}
 use Rattle.pair_formula.specs.declared.graph.Pair.{Pair}
-
-abbrev pub positive : ℕ → Lit
-positive x = record { var = x; positive = true }
-
-abbrev pub negative : ℕ → Lit
-negative x = record { var = x; positive = false }
 
 -- the clause of a pair: not both
 abbrev pub not_both : Pair → List Lit

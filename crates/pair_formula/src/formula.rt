@@ -9,9 +9,8 @@ ghost use Rattle.cnf_form.specs.Literals.{literals};
 ghost use Rattle.join_witness.specs.Listing.{AreAllNames, names_of};
 ghost use Rattle.join_witness.specs.declared.all_witnesses.Witness.{Witness as Named};
 ghost use Rattle.weak_pairs.specs.Pairs.{IsPair};
-ghost use Rattle.repair_clauses.specs.declared.span.Span.{Span as Run};
 ghost use Rattle.repair_clauses.specs.Clauses.{positive};
-ghost use Rattle.repair_clauses.specs.Spans.{AreApart, numbers_in};
+ghost use Rattle.repair_clauses.specs.Spans.{numbers_in};
 ghost use Rattle.pair_formula.specs.Graph.{not_both};
 ghost use Rattle.pair_formula.specs.Full.{AddsPair, AddsPairs, IsNumber};
 ghost use Rattle.pair_formula.specs.Formulas.{IsPairFormula, IsUnsatisfiable};
@@ -22,7 +21,7 @@ use cqa_model::Query;
 use cqa_value::{Items, NoMemory};
 use join_witness::Witness;
 use repair_clauses::add_blocks;
-use repair_clauses::numbering::find_span;
+use repair_clauses::numbering::{Numbering, find_span};
 use repair_clauses::span::Span;
 use std::alloc::Global;
 use table_blocks::Database;
@@ -38,12 +37,11 @@ fn number_in(span: &Span, place: u32) -> u32
 }
 
 /// The number of a row, if it is in one of the spans.
-fn number_of(spans: &[Span], atom: u32, place: u32) -> Option<u32>
-    requires apart { AreApart spans.now }
-    requires small { (s : Run) → Contains spans.now s → s.base + s.count < 2 ^ 32 }
-    ensures { IsNumber spans.now atom place result }
+fn number_of(blocks: &Numbering, atom: u32, place: u32) -> Option<u32>
+    ensures { IsNumber blocks.now.spans atom place result }
 {
-    match find_span(spans, atom, place) {
+    let spans = blocks.spans.as_slice();
+    match find_span(blocks, atom, place) {
         Some(found) => Some(number_in(&spans[found], place)),
         None => None,
     }
@@ -70,18 +68,16 @@ fn not_both_of(alloc: Global, left: u32, right: u32) -> Result<Clause, NoMemory>
 /// Adds the clause of a witness if both of its rows are in spans.
 fn add_pair(
     alloc: Global,
-    spans: &[Span],
+    blocks: &Numbering,
     witness: &Witness,
     clauses: &mut Vec<Clause>,
 ) -> Result<(), NoMemory>
-    requires two { length witness.now.rows ≡ 2 }
-    requires apart { AreApart spans.now }
-    requires small { (s : Run) → Contains spans.now s → s.base + s.count < 2 ^ 32 }
-    ensures { IfOk result (λ done. AddsPair spans.now witness.now.rows (literals clauses.old.items) (literals clauses.new.items)) }
+    requires { length witness.now.rows ≡ 2 }
+    ensures { IfOk result (λ done. AddsPair blocks.now.spans witness.now.rows (literals clauses.old.items) (literals clauses.new.items)) }
 {
     let names = witness.rows.as_slice();
-    if let Some(left) = number_of(spans, 0, names[0].place) {
-        if let Some(right) = number_of(spans, 1, names[1].place) {
+    if let Some(left) = number_of(blocks, 0, names[0].place) {
+        if let Some(right) = number_of(blocks, 1, names[1].place) {
             clauses.push(not_both_of(alloc, left, right)?)?;
         }
     }
@@ -91,17 +87,15 @@ fn add_pair(
 /// Adds the clause of each witness both of whose rows are in spans.
 fn add_pairs(
     alloc: Global,
-    spans: &[Span],
+    blocks: &Numbering,
     witnesses: &[Witness],
     clauses: &mut Vec<Clause>,
 ) -> Result<(), NoMemory>
-    requires two { (w : Named) → Contains witnesses.now w → length w.rows ≡ 2 }
-    requires apart { AreApart spans.now }
-    requires small { (s : Run) → Contains spans.now s → s.base + s.count < 2 ^ 32 }
-    ensures { IfOk result (λ done. AddsPairs spans.now (names_of witnesses.now) (literals clauses.old.items) (literals clauses.new.items)) }
+    requires { (w : Named) → Contains witnesses.now w → length w.rows ≡ 2 }
+    ensures { IfOk result (λ done. AddsPairs blocks.now.spans (names_of witnesses.now) (literals clauses.old.items) (literals clauses.new.items)) }
 {
     for witness in witnesses {
-        add_pair(alloc, spans, witness, clauses)?;
+        add_pair(alloc, blocks, witness, clauses)?;
     }
     Ok(())
 }
@@ -109,17 +103,15 @@ fn add_pairs(
 /// The clauses of full blocks, and of the witnesses in them.
 fn clauses_of(
     alloc: Global,
-    spans: &[Span],
+    blocks: &Numbering,
     witnesses: &[Witness],
 ) -> Result<Items<Clause>, NoMemory>
-    requires two { (w : Named) → Contains witnesses.now w → length w.rows ≡ 2 }
-    requires apart { AreApart spans.now }
-    requires small { (s : Run) → Contains spans.now s → s.base + s.count < 2 ^ 32 }
-    ensures { IfOk result (λ clauses. AddsPairs spans.now (names_of witnesses.now) (map (map positive) (map numbers_in spans.now)) (literals clauses)) }
+    requires { (w : Named) → Contains witnesses.now w → length w.rows ≡ 2 }
+    ensures { IfOk result (λ clauses. AddsPairs blocks.now.spans (names_of witnesses.now) (map (map positive) (map numbers_in blocks.now.spans)) (literals clauses)) }
 {
-    let mut clauses = Vec::with_capacity(alloc, spans.len() + witnesses.len())?;
-    add_blocks(alloc, spans, &mut clauses)?;
-    add_pairs(alloc, spans, witnesses, &mut clauses)?;
+    let mut clauses = Vec::with_capacity(alloc, blocks.spans.as_slice().len() + witnesses.len())?;
+    add_blocks(alloc, blocks, &mut clauses)?;
+    add_pairs(alloc, blocks, witnesses, &mut clauses)?;
     Ok(Items::from_vec(clauses))
 }
 
@@ -138,8 +130,10 @@ pub(crate) fn full_formula(
     ensures certain { IfOk result (λ cnf. (row : List Value) → AreAllNames query.now db.now row (names_of witnesses.now) → IsUnsatisfiable cnf ↔ IsCertain db.now query.now row) }
 {
     let _tables = db.count();
-    let mut spans = Vec::new(alloc);
-    let vars = full_blocks(alloc, db, query, witnesses, &mut spans)?;
-    let clauses = clauses_of(alloc, spans.as_slice(), witnesses)?;
-    Ok(Cnf { vars, clauses })
+    let blocks = full_blocks(alloc, db, query, witnesses)?;
+    let clauses = clauses_of(alloc, &blocks, witnesses)?;
+    Ok(Cnf {
+        vars: blocks.vars,
+        clauses,
+    })
 }

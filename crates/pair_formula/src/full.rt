@@ -2,8 +2,8 @@
 //! time that doesn't grow with other blocks.
 //! Rows of one block stand side by side, so a block is full where a run of rows in witnesses has no row of the block beside it.
 
-ghost use Rattle.std.specs.Prelude.{◌≡◌, ◌+◌, ◌-◌, ◌<◌, ◌≤◌, ◌↔◌, ℕ, List, [], Contains, IfOk, IsTrue, length, slice_index};
-ghost use Rattle.std.specs.List.Sorted.{IsStrictlyIncreasing, IsStrictlySortedBy};
+ghost use Rattle.std.specs.Prelude.{◌≡◌, ◌+◌, ◌-◌, ◌*◌, ◌<◌, ◌≤◌, ◌↔◌, List, [], IfOk, IsTrue, length, slice_index};
+ghost use Rattle.std.specs.List.Sorted.{IsStrictlySortedBy};
 ghost use Rattle.cqa_value.specs.declared.value.Value.{Value};
 ghost use Rattle.cqa_model.specs.Database.{block_cmp};
 ghost use Rattle.cqa_model.specs.Query.{FitsDatabase};
@@ -14,24 +14,16 @@ ghost use Rattle.repair_clauses.specs.Runs.{ArePlaces};
 ghost use Rattle.pair_formula.specs.Full.{AreFullOf, AreFullRuns, AreFullSpans, Follows, HasMore, IsInRow, IsRunAdded};
 
 use cqa_model::Query;
-use cqa_value::NoMemory;
+use cqa_value::{Items, NoMemory};
 use join_witness::Witness;
 use repair_clauses::atom_of;
 use repair_clauses::column::column;
+use repair_clauses::numbering::Numbering;
 use repair_clauses::span::Span;
 use row_blocks::goes_on;
 use row_pieces::Rows;
 use std::alloc::Global;
 use table_blocks::Database;
-
-/// Keeps one of places that are the same.
-fn each_once(places: &mut Vec<u32>)
-    requires in_order { (i j : ℕ) → i ≤ j → j < length places.old.items → slice_index places.old.items i ≤ slice_index places.old.items j }
-    ensures rises { IsStrictlyIncreasing places.new.items }
-    ensures same { (p : ℕ) → Contains places.new.items p ↔ Contains places.old.items p }
-{
-    places.dedup();
-}
 
 /// Whether the row at a place is the next one of the same block.
 fn follows(rows: &Rows<'_>, key: &[u32], place: u32, next: u32) -> bool
@@ -81,7 +73,7 @@ fn add_run(
     requires start { start < end }
     requires end { end ≤ length rows.now }
     requires few { length rows.now ≤ MOST_ROWS }
-    requires small { base ≤ 1_000_000_000 }
+    requires small { base ≤ 2 * MOST_ROWS }
     ensures { IfOk result (λ vars. IsRunAdded key.now rows.now atom base start end spans.old.items vars spans.new.items) }
 {
     if has_more(rows, key, start, end) {
@@ -110,7 +102,6 @@ fn full_runs(
     requires few { length rows.now ≤ MOST_ROWS }
     requires small { base ≤ MOST_ROWS }
     requires places { ArePlaces rows.now places.now }
-    requires rises { IsStrictlyIncreasing places.now }
     requires order { IsStrictlySortedBy (block_cmp key.now) rows.now }
     requires none { spans.old.items ≡ [] }
     ensures { IfOk result (λ vars. AreFullRuns key.now rows.now atom base places.now vars spans.new.items) }
@@ -145,8 +136,7 @@ fn full_of_atom(
     ensures small { IfOk result (λ vars. vars ≤ base + MOST_ROWS) }
 {
     let atom = atom_of(query, at);
-    let mut places = column(alloc, witnesses, at)?;
-    each_once(&mut places);
+    let places = column(alloc, witnesses, at)?;
     let rows = db.rows(atom.table);
     let vars = full_runs(
         &rows,
@@ -161,23 +151,26 @@ fn full_of_atom(
     Ok(vars)
 }
 
-/// The full blocks of the row of a pair from all its witnesses, and how many rows they have.
+/// The full blocks of the row of a pair, from all its witnesses.
 pub(crate) fn full_blocks(
     alloc: Global,
     db: &Database,
     query: &Query,
     witnesses: &[Witness],
-    spans: &mut Vec<Span>,
-) -> Result<u32, NoMemory>
+) -> Result<Numbering, NoMemory>
     requires pair { IsPair query.now }
     requires fits { FitsDatabase query.now db.now }
     requires all { (row : List Value) × AreAllNames query.now db.now row (names_of witnesses.now) }
-    requires none { spans.old.items ≡ [] }
-    ensures { IfOk result (λ vars. AreFullSpans query.now db.now (names_of witnesses.now) vars spans.new.items) }
+    ensures { IfOk result (λ blocks. AreFullSpans query.now db.now (names_of witnesses.now) blocks.vars blocks.spans) }
 {
-    let first = full_of_atom(alloc, db, query, witnesses, 0, 0, spans)?;
+    let _tables = db.count();
+    let mut spans = Vec::new(alloc);
+    let first = full_of_atom(alloc, db, query, witnesses, 0, 0, &mut spans)?;
     let mut more = Vec::new(alloc);
     let vars = full_of_atom(alloc, db, query, witnesses, 1, first, &mut more)?;
     spans.append(&mut more)?;
-    Ok(vars)
+    Ok(Numbering {
+        spans: Items::from_vec(spans),
+        vars,
+    })
 }

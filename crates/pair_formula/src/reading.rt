@@ -11,7 +11,7 @@ use crate::graph::{Graph, read_blocks, read_pairs};
 use cnf_form::{Clause, Cnf};
 use cqa_value::NoMemory;
 use std::alloc::Global;
-use weak_pairs::{Outcome, choose};
+use weak_pairs::{Graph as BlockGraph, Outcome, choose};
 
 /// Reads the graph of clauses.
 fn read_clauses(alloc: Global, clauses: &[Clause], vars: u32) -> Result<Graph, NoMemory>
@@ -64,5 +64,11 @@ pub fn outcome(alloc: Global, cnf: &Cnf, graph: &Graph) -> Result<Outcome, NoMem
         graph.blocks,
         cnf.vars as usize + 1,
     )?;
-    choose(alloc, &graph.start, &graph.edge, &ends, graph.blocks)
+    let blocks = BlockGraph {
+        start: &graph.start,
+        edge: &graph.edge,
+        ends: &ends,
+        blocks: graph.blocks,
+    };
+    choose(alloc, &blocks)
 }

@@ -1,5 +1,5 @@
 -- The spans of one atom after the other.
-use Rattle.std.proofs.Common.{◌≡◌, ℕ, ◌<◌, ◌≤◌, ◌+◌, ◌↔◌, ◌⊎◌, inl, inr, List, [], ◌∷◌, ◌++◌, length, get_or, refl, sym, ◌∙◌, ap, subst, arith, Contains, slice_get, Some}
+use Rattle.std.proofs.Common.{◌≡◌, ℕ, ◌<◌, ◌+◌, ◌⊎◌, inl, inr, List, [], ◌∷◌, ◌++◌, length, get_or, refl, sym, ◌∙◌, ap, subst, arith, Contains, slice_get, Some}
 use Rattle.std.specs.Ordering.{nat_cmp}
 use Rattle.std.specs.List.Sorted.{IsStrictlySortedBy}
 use Rattle.std.proofs.lemmas.List.Elements.{Contains-append_left, Contains-append_right, Contains-append_cases, Contains-get_or}
@@ -15,8 +15,8 @@ use Rattle.cqa_model.proofs.Classic.{mem-nil, choose}
 use Rattle.cqa_model.proofs.Repairs.{shares-sym, shares-trans}
 use Rattle.repair_clauses.specs.declared.span.Span.{Span}
 use Rattle.repair_clauses.specs.Clauses.{Variable, AreAll, row_of, IsStored}
-use Rattle.repair_clauses.specs.Spans.{at, IsIn, IsSpan, span_cmp, AreBased, AreBasedTo, AreSpans, AreSpansTo, IsPlaced}
-use Rattle.repair_clauses.specs.Runs.{Covers, IsRun, AreRuns}
+use Rattle.repair_clauses.specs.Spans.{at, Covers, IsIn, IsSpan, IsWholeBlock, span_cmp, AreBased, AreBasedTo, AreSpans, AreSpansTo, IsPlaced}
+use Rattle.repair_clauses.specs.Runs.{IsRun, AreRuns}
 use Rattle.repair_clauses.proofs.Numbers.{place_of}
 use Rattle.repair_clauses.proofs.Order.{less_then}
 
@@ -46,17 +46,15 @@ module _ (q : Query) (db : List Table) (row : List Value) where
 
   module _ (places : List (List ℕ)) (all : AreAll (IsPlaced q db row) places) (n m k : ℕ) (spans runs : List Span) (h : AreSpansTo q db row n m spans) (here : n < length q.atoms)
       (column : List ℕ) (from : (p : ℕ) → Contains column p → (ps : List ℕ) × Contains places ps × (get_or ps n 0 ≡ p)) (to : (ps : List ℕ) → Contains places ps → Contains column (get_or ps n 0))
-      (r : AreRuns (atom_key q n) (rows_of q (stored db) n) n m column runs) (count : AreBasedTo m runs k) where
+      (r : AreRuns (atom_key q n) (rows_of q (stored db) n) n m column k runs) where
     abbrev row_n : ℕ → List Value
     row_n p = row_of q db (at n p)
 
     of_run : (s : Span) → IsRun (atom_key q n) (rows_of q (stored db) n) n column s → IsSpan q db row s
     of_run s g = record {
       there = subst (λ F. F < length q.atoms) (sym g.of_atom) here;
-      some = g.some;
-      within = subst (λ F. s.start + s.count ≤ length (rows_of q (stored db) F)) (sym g.of_atom) g.within;
+      whole = subst (λ F. IsWholeBlock (atom_key q F) (rows_of q (stored db) F) s) (sym g.of_atom) g.whole;
       relevant = subst (λ F. IsRelevant q (stored db) row F (row_of q db (at F s.start))) (sym g.of_atom) relevant;
-      block = subst (λ F. (i : ℕ) → i < length (rows_of q (stored db) F) → SharesKey (atom_key q F) (row_of q db (at F s.start)) (row_of q db (at F i)) ↔ ((s.start ≤ i) × (i < s.start + s.count))) (sym g.of_atom) g.block;
     }
       where
         relevant : IsRelevant q (stored db) row n (row_n s.start)
@@ -68,7 +66,7 @@ module _ (q : Query) (db : List Table) (row : List Value) where
             let e = w.each n here in
             let inside : p < length (rows_of q (stored db) n) = subst (λ z. z < length (rows_of q (stored db) n)) f.2 e.0 in
             let is : row_n p ≡ row_at w.rows n = ap row_n (sym f.2) ∙ e.1 in
-            (w.rows, w.witness, subst (λ z. SharesKey (atom_key q n) (row_n s.start) z) is ((g.block p inside).1 i.2))
+            (w.rows, w.witness, subst (λ z. SharesKey (atom_key q n) (row_n s.start) z) is ((g.whole.block p inside).1 i.2))
 
     abbrev IsPlace : List (List Value) → ℕ → ℕ → Type 0
     IsPlace w F p = (p < length (rows_of q (stored db) F)) × (row_of q db (at F p) ≡ row_at w F)
@@ -90,8 +88,8 @@ module _ (q : Query) (db : List Table) (row : List Value) where
             let pn = get_or ps n 0 in
             let covers : Covers s.0 pn = subst (Covers s.0) ei s.2 in
             let en = each n here in
-            let first : SharesKey (atom_key q n) (row_n s.0.start) (row_at w n) = subst (λ z. SharesKey (atom_key q n) (row_n s.0.start) z) en.1 ((g.block pn en.0).1 covers) in
-            (s.0, s.1, (g.block p l).0 (shares-trans (atom_key q n) (row_n s.0.start) (row_at w n) (row_n p) first (shares-sym (atom_key q n) (row_n p) (row_at w n) sh)))
+            let first : SharesKey (atom_key q n) (row_n s.0.start) (row_at w n) = subst (λ z. SharesKey (atom_key q n) (row_n s.0.start) z) en.1 ((g.whole.block pn en.0).1 covers) in
+            (s.0, s.1, (g.whole.block p l).0 (shares-trans (atom_key q n) (row_n s.0.start) (row_at w n) (row_n p) first (shares-sym (atom_key q n) (row_n p) (row_at w n) sh)))
 
     pub spans-more : AreSpansTo q db row (n + 1) k (spans ++ runs)
     spans-more = record {
@@ -99,7 +97,7 @@ module _ (q : Query) (db : List Table) (row : List Value) where
           let l = (h.each s ms).0 in
           let e : t.atom ≡ n = (r.each t mt).of_atom in
           less_then (nat_cmp s.atom t.atom) (nat_cmp s.start t.start) (nat_cmp_less s.atom t.atom (omega (arith, l, e))));
-      based = based-joined 0 m k spans runs h.based count;
+      based = based-joined 0 m k spans runs h.based r.based;
       each = λ s ms. elim (Contains-append_cases spans runs s ms) [
         | inl a ↦ let b = h.each s a in let b0 = b.0 in (omega (arith, b0), b.1)
         | inr a ↦ let g = r.each s a in let e : s.atom ≡ n = g.of_atom in (omega (arith, e), of_run s g)

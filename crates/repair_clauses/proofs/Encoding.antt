@@ -24,9 +24,9 @@ use Rattle.join_witness.proofs.Naming.{name, zip-push}
 use Rattle.repair_clauses.specs.declared.span.Span.{Span}
 use Rattle.repair_clauses.specs.declared.formula.Encoded.{Encoded}
 use Rattle.repair_clauses.specs.Clauses.{positive, negative, name_of, row_of}
-use Rattle.repair_clauses.specs.Spans.{at, place_at, AreBased, AreBasedTo, AreSpansTo, AreCovered, AreNumbers, IsAt, IsIn, IsNamed, IsWitnessClause, variables_in, variables_of, numbers_in, formula_of, IsPlaced}
+use Rattle.repair_clauses.specs.Spans.{at, place_at, AreBased, AreBasedTo, AreSpansTo, AreCovered, AreNumbers, IsAt, IsIn, IsNumbering, IsWitnessClause, variables_in, variables_of, numbers_in, formula_of, IsPlaced}
 use Rattle.repair_clauses.specs.Runs.{AreColumn, AreRuns}
-use Rattle.repair_clauses.specs.Encodings.{AddsWitnesses, AreReady, AreTold, IsEncoded}
+use Rattle.repair_clauses.specs.Encodings.{AddsWitnesses, AreOfAtoms, AreTold, IsEncoded}
 use Rattle.repair_clauses.proofs.Spans.{spans_give_formula}
 use Rattle.repair_clauses.proofs.Atoms.{spans-more, spans-all}
 use Rattle.repair_clauses.proofs.Placing.{AreNumbersTo, are_apart, numbers-none, numbers-more, numbers-all}
@@ -50,6 +50,9 @@ based-below n m (t ∷ ss) h s k = elim (mem-cases s t ss k) [
   | inr i ↦ based-below (n + t.count) m ss h.1 s i
 ]
 
+pub numbers-small : (spans : List Span) (vars : ℕ) → IsNumbering spans vars → (s : Span) → Contains spans s → s.base + s.count < 2 ^ 32
+numbers-small spans vars h s k = let b = based-below 0 vars spans h.based s k in let f = h.few in omega (arith, b, f)
+
 pub variables-length : (n m : ℕ) (ss : List Span) → AreBasedTo n ss m → n + length (variables_of ss) ≡ m
 variables-length n m [] h = omega (arith, h)
 variables-length n m (s ∷ ss) h =
@@ -65,6 +68,9 @@ no_span = record { atom = 0; start = 0; count = 0; base = 0 }
 
 pub place_read : (names : List RowId) (F : ℕ) → F < length names → (get_or names F (name 0 0)).place ≡ place_at names F
 place_read names F l = sym (get_or-map (λ (y : RowId). y.place) names F (name 0 0) 0 l)
+
+pub read_in : (spans items : List Span) (k : ℕ) → items ≡ spans → k < length items → Contains spans (get_or items k no_span)
+read_in spans items k e l = subst (λ ss. Contains ss (get_or items k no_span)) e (Contains-get_or items k no_span l)
 
 pub span_read : (spans : List Span) (F p k : ℕ) → IsAt spans F p k → (k < length spans) × Contains spans (get_or spans k no_span) × IsIn (get_or spans k no_span) (at F p)
 span_read spans F p k (s, e, i) =
@@ -82,63 +88,44 @@ module _ (q : Query) (db : List Table) (row : List Value) where
 
   -- the blocks of one more atom
   pub blocks_more : (all : List (List RowId)) → AreAllNames q db row all → (n m k : ℕ) (spans more : List Span) (column : List ℕ) → AreSpansTo q db row n m spans → n < length q.atoms →
-      AreColumn all n column → (atom : Atom) (key : List ℕ) (rows : List (List Value)) → atom ≡ atom_at q n → key ≡ atom.key → rows ≡ rows_at db atom.table → AreRuns key rows n m column more → AreBasedTo m more k →
+      AreColumn all n column → (atom : Atom) (key : List ℕ) (rows : List (List Value)) → atom ≡ atom_at q n → key ≡ atom.key → rows ≡ rows_at db atom.table → AreRuns key rows n m column k more →
       AreSpansTo q db row (n + 1) k (spans ++ more)
-  blocks_more all h n m k spans more column s here c atom key rows is ek er r b =
-      let r_key = subst (λ x. AreRuns x rows n m column more) ek r in
-      let r_rows = subst (λ x. AreRuns atom.key x n m column more) er r_key in
-      let r_atom : AreRuns (atom_key q n) (rows_of q (stored db) n) n m column more = subst (λ (a : Atom). AreRuns a.key (rows_at db a.table) n m column more) is r_rows in
+  blocks_more all h n m k spans more column s here c atom key rows is ek er r =
+      let r_key = subst (λ x. AreRuns x rows n m column k more) ek r in
+      let r_rows = subst (λ x. AreRuns atom.key x n m column k more) er r_key in
+      let r_atom : AreRuns (atom_key q n) (rows_of q (stored db) n) n m column k more = subst (λ (a : Atom). AreRuns a.key (rows_at db a.table) n m column k more) is r_rows in
       spans-more q db row (map places_of all) (placed q db row all h) n m k spans more s here column
       (λ p mp. let f = c.from p mp in (places_of f.0, Contains-map places_of all f.0 f.1, f.2))
       (λ ps mp. let f = Contains-from_map places_of all ps mp in subst (λ x. Contains column (get_or x n 0)) f.2 (c.to f.0 f.1))
-      r_atom b
+      r_atom
 
-  module _ (m : ℕ) (spans : List Span) (h : AreSpansTo q db row (length q.atoms) m spans) (small : m ≤ MOST_ATOMS * MOST_ROWS) where
-    base_small : (s : Span) → Contains spans s → s.base + s.count < 2 ^ 32
-    base_small s k = let b = based-below 0 m spans h.based s k in omega (arith, b, small)
-
-    pub ready : IsDatabase db → AreReady q spans
-    ready d = record {
-      there = λ s k. (h.each s k).0;
-      starts = λ s k. let w = (h.each s k).1.within in let t = rows-few db (atom_at q s.atom).table in let f = d.few_rows in omega (arith, w, t, f);
-      bases = base_small;
+  module _ (m : ℕ) (spans : List Span) (h : AreSpansTo q db row (length q.atoms) m spans) where
+    pub numbering : IsDatabase db → m ≤ MOST_ATOMS * MOST_ROWS → IsNumbering spans m
+    numbering d few = record {
       apart = are_apart q db row spans (spans-all q db row m spans h);
-      based = (spans-all q db row m spans h).based;
+      based = h.based;
+      few = few;
+      within = λ s k. let w = (h.each s k).1.whole.within in let t = rows-few db (atom_at q s.atom).table in let f = d.few_rows in omega (arith, w, t, f);
     }
+
+    pub of_atoms : AreOfAtoms q spans
+    of_atoms s k = (h.each s k).0
 
     pub told : (ws : List Witness) → AreAllNames q db row (names_of ws) → AreTold spans ws
     told ws all w k =
         let n = (all.exactly w.rows).0 (Contains-map (λ (x : Witness). x.rows) ws w k) in
         let size = named-size db q.atoms w.rows n.0 n.2 in
         let few = q.kept.size.1 in
-        let p : IsPlaced q db row (places_of w.rows) = of_names q db row w.rows n in (
-          omega (arith, size, few),
-          λ F l.
+        let p : IsPlaced q db row (places_of w.rows) = of_names q db row w.rows n in
+        record {
+          few = omega (arith, size, few);
+          each = λ F l.
               let lF : F < length q.atoms = omega (arith, l, size) in
               let each = p.each F lF in
               let same : SharesKey (atom_key q F) (row_of q db (at F (place_at w.rows F))) (row_at p.rows F) =
               subst (λ x. SharesKey (atom_key q F) (row_of q db (at F (place_at w.rows F))) x) each.1 (shares-self (atom_key q F) (row_of q db (at F (place_at w.rows F)))) in
-              let s = h.every (at F (place_at w.rows F)) lF (lF, each.0) (p.rows, p.witness, same) in
-              (s.0, s.1, s.2, base_small s.0 s.1),
-        )
-
-    -- the row at a named place is in a block
-    pub named_in : (all : List (List RowId)) → AreAllNames q db row all → (F : ℕ) → F < length q.atoms → (p : ℕ) → IsNamed all F p →
-        (p < length (rows_of q (stored db) F)) × ((s : Span) × Contains spans s × IsIn s (at F p) × (s.base + s.count < 2 ^ 32))
-    named_in all a F l p (names, mn, e) = subst (λ r. (r < length (rows_of q (stored db) F)) × ((s : Span) × Contains spans s × IsIn s (at F r) × (s.base + s.count < 2 ^ 32))) e (each.0, (s.0, s.1, s.2, base_small s.0 s.1))
-      where
-        b : IsPlaced q db row (places_of names)
-        b = of_names q db row names ((a.exactly names).0 mn)
-
-        each : (place_at names F < length (rows_of q (stored db) F)) × (row_of q db (at F (place_at names F)) ≡ row_at b.rows F)
-        each = b.each F l
-
-        s : (t : Span) × Contains spans t × IsIn t (at F (place_at names F))
-        s = h.every (at F (place_at names F)) l (l, each.0) (
-          b.rows,
-          b.witness,
-          subst (λ x. SharesKey (atom_key q F) (row_of q db (at F (place_at names F))) x) each.1 (shares-self (atom_key q F) (row_of q db (at F (place_at names F)))),
-        )
+              h.every (at F (place_at w.rows F)) lF (lF, each.0) (p.rows, p.witness, same);
+        }
 
     pub encoded : (all : List (List RowId)) → AreAllNames q db row all → (e : Encoded) → e.cnf.vars ≡ m → e.rows ≡ map (name_of q) (variables_of spans) →
         AddsWitnesses spans (map places_of all) (map (map positive) (map numbers_in spans)) (literals e.cnf.clauses) → IsEncoded q db row e
@@ -164,7 +151,7 @@ negatives-none spans names lits e = record { numbers = []; so_far = numbers-none
 pub negatives-more : (spans : List Span) (names : List RowId) (i : ℕ) (old new : List Lit) (n : ℕ) → AreBased 0 spans → AreCovered spans names → AreNegativesTo spans names i old → i < length names →
     ((s : Span) → Contains spans s → IsIn s (at i (place_at names i)) → n ≡ suc (s.base + (place_at names i - s.start))) → new ≡ old ++ negative n ∷ [] → AreNegativesTo spans names (i + 1) new
 negatives-more spans names i old new n based covered h l is e =
-    let s = covered i l in
+    let s = covered.each i l in
     record {
       numbers = h.numbers ++ n ∷ [];
       so_far = numbers-more spans (places_of names) i h.numbers n based h.so_far (let k = length-map names (λ (x : RowId). x.place) in omega (arith, l, k)) s.0 s.1 s.2 (is s.0 s.1 s.2);

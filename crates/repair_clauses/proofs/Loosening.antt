@@ -11,6 +11,7 @@ use Rattle.cqa_model.proofs.Repairs.{shares-trans}
 use Rattle.repair_clauses.specs.Runs.{ArePlaces}
 use Rattle.repair_clauses.specs.Avoiding.{HasFree}
 use Rattle.repair_clauses.proofs.Numbers.{place_of}
+use Rattle.repair_clauses.proofs.Columns.{places-up}
 
 -- what is known behind the first places, where one goes up
 pub record IsBelow (key : List ℕ) (rows : List (List Value)) (places : List ℕ) (n next : ℕ) (last : Bool) : Type 0 where
@@ -55,7 +56,7 @@ module _ (key : List ℕ) (rows : List (List Value)) (places : List ℕ) (h : Ar
   }
 
   rises : (i j : ℕ) → i ≤ j → j < length places → at i ≤ at j
-  rises i j le l = h.in_order i j le l
+  rises = places-up rows places h
 
   inside : (i : ℕ) → i < length places → at i < length rows
   inside i l = h.there i l

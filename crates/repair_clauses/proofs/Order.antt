@@ -4,6 +4,7 @@ use Rattle.std.specs.Ordering.{nat_cmp, ordering_then}
 use Rattle.std.specs.List.Sorted.{IsStrictlySortedBy}
 use Rattle.std.specs.Cmp.{IsTotalOrder}
 use Rattle.std.specs.Cmp.Lexicographic.{slice_cmp}
+use Rattle.std.proofs.lemmas.Bool.{cases_order}
 use Rattle.std.proofs.lemmas.Cmp.{nat_cmp_total, nat_list_cmp_total, on_total, then_total}
 use Rattle.std.proofs.lemmas.List.Elements.{Contains-append_cases}
 use Rattle.std.proofs.lemmas.Option.{get_or_from_slice_get, slice_get_within}
@@ -43,14 +44,11 @@ one_formula db q row f g h k = whole variables (one_list (IsBlock q db g.variabl
 pub numbers_rise : (variables : List Variable) → IsStrictlySortedBy variable_cmp variables → (m n : ℕ) (x y : Variable) → HasNumber variables m x → HasNumber variables n y → variable_cmp x y ≡ Less → m < n
 numbers_rise variables s zero n x y hx hy l = absurd hx
 numbers_rise variables s (suc i) zero x y hx hy l = absurd hy
-numbers_rise variables s (suc i) (suc j) x y hx hy l = go (cases i j)
+numbers_rise variables s (suc i) (suc j) x y hx hy l = go (cases_order i j)
   where
-    cases : (i j : ℕ) → (i < j) ⊎ ((i ≡ j) ⊎ (j < i))
-    cases i j = grind arith
-
-    go : (i < j) ⊎ ((i ≡ j) ⊎ (j < i)) → suc i < suc j
-    go (inl lt) = omega (arith, lt)
-    go (inr (inl e)) = absurd (not_less variable_cmp variable_total x (subst (λ z. variable_cmp x z ≡ Less) (one_variable variables (suc j) y x hy (subst (λ k. slice_get variables k ≡ Some x) e hx)) l))
+    go : (i ≡ j) ⊎ ((i < j) ⊎ (j < i)) → suc i < suc j
+    go (inr (inl lt)) = omega (arith, lt)
+    go (inl e) = absurd (not_less variable_cmp variable_total x (subst (λ z. variable_cmp x z ≡ Less) (one_variable variables (suc j) y x hy (subst (λ k. slice_get variables k ≡ Some x) e hx)) l))
     go (inr (inr gt)) = absurd (not_both variable_cmp variable_total x y l
         (subst (λ u. variable_cmp y u ≡ Less) (get_or_from_slice_get variables i x x hx)
         (subst (λ u. variable_cmp u (get_or variables i x) ≡ Less) (get_or_from_slice_get variables j y x hy)

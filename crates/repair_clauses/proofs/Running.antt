@@ -4,15 +4,15 @@ use Rattle.std.specs.List.Sorted.{IsStrictlySortedBy}
 use Rattle.std.proofs.lemmas.List.Elements.{Contains-append_left, Contains-push, Contains-push_cases}
 use Rattle.std.specs.Ordering.{nat_cmp}
 use Rattle.cqa_value.specs.declared.value.Value.{Value}
-use Rattle.cqa_value.proofs.Words.{nat_cmp_less, cases_le, sorted_join}
+use Rattle.cqa_value.proofs.Words.{nat_cmp_less, cases_le, cases_next, sorted_join}
 use Rattle.cqa_model.specs.Repairs.{SharesKey}
 use Rattle.cqa_model.proofs.Classic.{mem-nil, mem-cases}
 use Rattle.cqa_model.proofs.Repairs.{shares-sym, shares-trans}
 use Rattle.repair_clauses.specs.declared.span.Span.{Span}
-use Rattle.repair_clauses.specs.Spans.{span_cmp, AreBasedTo}
-use Rattle.repair_clauses.specs.Runs.{Covers, ArePlaces, IsRun, AreRuns}
+use Rattle.repair_clauses.specs.Spans.{span_cmp, AreBasedTo, Covers}
+use Rattle.repair_clauses.specs.Runs.{ArePlaces, IsRun, AreRuns}
 use Rattle.repair_clauses.proofs.Spans.{then_less, equal_self}
-use Rattle.repair_clauses.proofs.Atoms.{based-whole, none_sorted}
+use Rattle.repair_clauses.proofs.Atoms.{none_sorted}
 
 based-push : (n m : ℕ) (ss : List Span) (s : Span) → AreBasedTo n ss m → s.base ≡ m → AreBasedTo n (ss ++ s ∷ []) (m + s.count)
 based-push n m [] s h e = (e ∙ sym h, ap (λ k. k + s.count) h)
@@ -33,9 +33,6 @@ pub single_sorted : (s : Span) → IsStrictlySortedBy span_cmp (s ∷ [])
 unfolding IsStrictlySortedBy
 single_sorted s = (tt, tt)
 
-cases_eq : (j i : ℕ) → j < suc i → (j < i) ⊎ (j ≡ i)
-cases_eq j i l = grind (arith, l)
-
 module _ (key : List ℕ) (rows : List (List Value)) (atom base : ℕ) (places : List ℕ) where
   pub runs-none : AreRunsTo key rows atom base places 0 0 base []
   runs-none = record {
@@ -49,10 +46,11 @@ module _ (key : List ℕ) (rows : List (List Value)) (atom base : ℕ) (places :
     last = λ l. absurd (omega (arith, l));
   }
 
-  pub runs-all : (i end next : ℕ) (spans : List Span) → AreRunsTo key rows atom base places i end next spans → length places ≤ i → AreRuns key rows atom base places spans
+  pub runs-all : (i end next : ℕ) (spans : List Span) → AreRunsTo key rows atom base places i end next spans → length places ≤ i → AreRuns key rows atom base places next spans
   runs-all i end next spans h l = record {
     in_order = h.in_order;
-    based = based-whole base next spans h.based;
+    based = h.based;
+    small = let s = h.small in let w = h.within in omega (arith, s, w);
     each = h.each;
     every = λ j lj. h.every j (omega (arith, l, lj));
   }
@@ -66,7 +64,7 @@ module _ (key : List ℕ) (rows : List (List Value)) (atom base : ℕ) (places :
       based = h.based;
       small = h.small;
       each = h.each;
-      every = λ j l. every j (cases_eq j i (omega (arith, l)));
+      every = λ j l. every j (cases_next j i (omega (arith, l)));
       ends = h.ends;
       last = λ l. let t = h.last l in (t.0, t.1, t.2, λ j lj le. t.3 j (omega (arith, lj)) le);
     }
@@ -106,23 +104,25 @@ module _ (key : List ℕ) (rows : List (List Value)) (atom base : ℕ) (places :
               let t = h.last (omega (arith, l)) in
               let r = h.each t.0 t.1 in
               let te = t.2 in
-              let rs = r.some in
+              let rs = r.whole.some in
               let w = h.within in
               let k = end - 1 in
-              let old : SharesKey key (get_or rows t.0.start []) (get_or rows k []) = (r.block k (omega (arith, l, w))).1 (omega (arith, te, rs), omega (arith, te, l)) in
+              let old : SharesKey key (get_or rows t.0.start []) (get_or rows k []) = (r.whole.block k (omega (arith, l, w))).1 (omega (arith, te, rs), omega (arith, te, l)) in
               let mine : SharesKey key (get_or rows (get_or places i 0) []) (get_or rows k []) = (from k (omega (arith, new))).1 (omega (arith, l)) in
               let both = shares-trans key (get_or rows t.0.start []) (get_or rows k []) (get_or rows (get_or places i 0) []) old (shares-sym key (get_or rows (get_or places i 0) []) (get_or rows k []) mine) in
-              let c = (r.block (get_or places i 0) place_in).0 both in
+              let c = (r.whole.block (get_or places i 0) place_in).0 both in
               let c1 = c.1 in
               absurd (omega (arith, c1, te, new))
 
       is_run : IsRun key rows atom places s
       is_run = record {
         of_atom = sa;
-        some = omega (arith, ss, sc, behind);
-        within = omega (arith, sc, in');
+        whole = record {
+          some = omega (arith, ss, sc, behind);
+          within = omega (arith, sc, in');
+          block = λ k l. subst (λ b. SharesKey key (get_or rows b []) (get_or rows k []) ↔ Covers s k) (sym ss) (block k l);
+        };
         met = (i, here, covers_place);
-        block = λ k l. subst (λ b. SharesKey key (get_or rows b []) (get_or rows k []) ↔ Covers s k) (sym ss) (block k l);
       }
         where
           block : (k : ℕ) → k < length rows → SharesKey key (get_or rows start []) (get_or rows k []) ↔ Covers s k
@@ -144,7 +144,7 @@ module _ (key : List ℕ) (rows : List (List Value)) (atom base : ℕ) (places :
         based = based-push base next spans s h.based sb;
         small = let b = h.small in let a = after_last in omega (arith, b, a, ss, sc);
         each = λ t m. elim (Contains-push_cases spans s t m) [ inl n ↦ h.each t n | inr e ↦ subst (IsRun key rows atom places) e is_run ];
-        every = λ j l. every j (cases_eq j i (omega (arith, l)));
+        every = λ j l. every j (cases_next j i (omega (arith, l)));
         ends = λ t m. elim (Contains-push_cases spans s t m) [ inl n ↦ let e = h.ends t n in let a = after_last in omega (arith, e, a, behind) | inr e ↦ subst (λ (z : Span). z.start + z.count ≤ stop) e (omega (arith, sc)) ];
         last = λ l. (s, Contains-push spans s, sc, λ j lj le. let o = p.in_order i j (omega (arith, lj)) le in omega (arith, ss, before, o));
       }
@@ -156,7 +156,7 @@ module _ (key : List ℕ) (rows : List (List Value)) (atom base : ℕ) (places :
           less t m =
               let e : t.atom ≡ s.atom = (h.each t m).of_atom ∙ sym sa in
               let b = h.ends t m in
-              let c = (h.each t m).some in
+              let c = (h.each t m).whole.some in
               let a = after_last in
               then_less (nat_cmp t.atom s.atom) (nat_cmp t.start s.start) (subst (λ z. nat_cmp t.atom z ≡ Rattle.std.proofs.Common.Equal) e (equal_self t.atom)) (nat_cmp_less t.start s.start (omega (arith, b, c, a, ss)))
 

@@ -4,6 +4,7 @@ use Rattle.std.specs.Ordering.{nat_cmp, ordering_then}
 use Rattle.std.specs.List.{AllZip, AllByRecursion, range_with_len}
 use Rattle.std.specs.List.Sorted.{IsStrictlySortedBy}
 use Rattle.std.specs.Cmp.Lexicographic.{slice_cmp}
+use Rattle.std.proofs.lemmas.Bool.{cases_order}
 use Rattle.std.proofs.lemmas.Cmp.{nat_cmp_total}
 use Rattle.std.proofs.lemmas.List.Elements.{Contains-append_cases, Contains-append_left, Contains-append_right, Contains-get_or, recursion_from_All}
 use Rattle.std.proofs.lemmas.List.FromFn.{length-range_with_len, get_or-range_with_len}
@@ -112,14 +113,11 @@ then_cases Equal p e = inr (refl, e)
 then_cases Greater p e = cc
 
 pub from_less : (x y : ℕ) → nat_cmp x y ≡ Less → x < y
-from_less x y e = go (cases x y)
+from_less x y e = go (cases_order x y)
   where
-    cases : (x y : ℕ) → (x < y) ⊎ ((x ≡ y) ⊎ (y < x))
-    cases x y = grind arith
-
-    go : (x < y) ⊎ ((x ≡ y) ⊎ (y < x)) → x < y
-    go (inl l) = l
-    go (inr (inl q)) = absurd (Rattle.join_witness.proofs.Sorted.not_less nat_cmp nat_cmp_total x (subst (λ z. nat_cmp x z ≡ Less) (sym q) e))
+    go : (x ≡ y) ⊎ ((x < y) ⊎ (y < x)) → x < y
+    go (inr (inl l)) = l
+    go (inl q) = absurd (Rattle.join_witness.proofs.Sorted.not_less nat_cmp nat_cmp_total x (subst (λ z. nat_cmp x z ≡ Less) (sym q) e))
     go (inr (inr g)) = absurd (Rattle.join_witness.proofs.Sorted.not_both nat_cmp nat_cmp_total x y e (nat_cmp_less y x g))
 
 pub from_equal : (x y : ℕ) → nat_cmp x y ≡ Equal → x ≡ y
@@ -157,12 +155,12 @@ module _ (q : Query) (db : List Table) (row : List Value) where
       go : (s.start + s.count ≤ t.start) ⊎ (t.start < s.start + s.count) → s.start + s.count ≤ t.start
       go (inl h) = h
       go (inr h) =
-          let w = hs.within in
-          let some = hs.some in
-          let sh : SharesKey (atom_key q s.atom) (row_of q db (at s.atom s.start)) (row_of q db (at s.atom t.start)) = (hs.block t.start (omega (arith, h, w))).1 (omega (arith, l), h) in
+          let w = hs.whole.within in
+          let some = hs.whole.some in
+          let sh : SharesKey (atom_key q s.atom) (row_of q db (at s.atom s.start)) (row_of q db (at s.atom t.start)) = (hs.whole.block t.start (omega (arith, h, w))).1 (omega (arith, l), h) in
           let back = shares-sym (atom_key q s.atom) (row_of q db (at s.atom s.start)) (row_of q db (at s.atom t.start)) sh in
           let there : s.start < length (rows_of q (stored db) s.atom) = omega (arith, some, w) in
-          let m = (ht.block s.start (subst (λ F. s.start < length (rows_of q (stored db) F)) e there)).0
+          let m = (ht.whole.block s.start (subst (λ F. s.start < length (rows_of q (stored db) F)) e there)).0
           (subst (λ F. SharesKey (atom_key q F) (row_of q db (at F t.start)) (row_of q db (at F s.start))) e back) in
           let m0 = m.0 in
           absurd (omega (arith, m0, l))
@@ -190,14 +188,14 @@ module _ (q : Query) (db : List Table) (row : List Value) where
   module _ (spans : List Span) (in_order : IsStrictlySortedBy span_cmp spans) (based : AreBased 0 spans) (each : (s : Span) → Contains spans s → IsSpan q db row s) where
     stored_in : (s : Span) → Contains spans s → (x : Variable) → IsIn s x → IsStored q db x
     stored_in s m x i =
-        let w = (each s m).within in
+        let w = (each s m).whole.within in
         let u = i.2 in
         let l : x.place < length (rows_of q (stored db) s.atom) = omega (arith, w, u) in
         (subst (λ F. F < length q.atoms) (sym i.0) (each s m).there, subst (λ F. x.place < length (rows_of q (stored db) F)) (sym i.0) l)
 
     -- a row of the block shares the key of the first
     shares_first : (s : Span) → Contains spans s → (p : ℕ) → s.start ≤ p → p < s.start + s.count → SharesKey (atom_key q s.atom) (row_of q db (at s.atom s.start)) (row_of q db (at s.atom p))
-    shares_first s m p l u = let w = (each s m).within in ((each s m).block p (omega (arith, u, w))).1 (l, u)
+    shares_first s m p l u = let w = (each s m).whole.within in ((each s m).whole.block p (omega (arith, u, w))).1 (l, u)
 
     number_in : (s : Span) → Contains spans s → (x : Variable) → IsIn s x → (n : ℕ) → HasNumber (variables_of spans) n x → Contains (numbers_in s) n
     number_in s m x i zero hn = absurd hn
@@ -242,7 +240,7 @@ module _ (q : Query) (db : List Table) (row : List Value) where
             let is : y ≡ at s.atom y.place = as_at y s.atom (sym sh.0) in
             let inside : y.place < length (rows_of q (stored db) s.atom) = subst (λ F. y.place < length (rows_of q (stored db) F)) (sym sh.0) st.1 in
             let shared : SharesKey (atom_key q s.atom) (row_of q db (at s.atom p)) (row_of q db (at s.atom y.place)) = subst (λ z. SharesKey (atom_key q s.atom) (row_of q db (at s.atom p)) (row_of q db z)) is sh.1 in
-            let b = ((each s m).block y.place inside).0 (shares-trans (atom_key q s.atom) (row_of q db (at s.atom s.start)) (row_of q db (at s.atom p)) (row_of q db (at s.atom y.place)) (shares_first s m p l u) shared) in
+            let b = ((each s m).whole.block y.place inside).0 (shares-trans (atom_key q s.atom) (row_of q db (at s.atom s.start)) (row_of q db (at s.atom p)) (row_of q db (at s.atom y.place)) (shares_first s m p l u) shared) in
             number_in s m y (sym sh.0, b.0, b.1) n hn
 
     blocks-sorted : (n : ℕ) (ss : List Span) → AreBased n ss → ((s : Span) → Contains ss s → 0 < s.count) → IsStrictlySortedBy (slice_cmp nat_cmp) (map numbers_in ss)
@@ -267,13 +265,13 @@ module _ (q : Query) (db : List Table) (row : List Value) where
 
     pub are_blocks : AreAll (IsBlock q db (variables_of spans)) (map numbers_in spans)
     are_blocks = record {
-      in_order = blocks-sorted 0 spans based (λ s m. (each s m).some);
+      in_order = blocks-sorted 0 spans based (λ s m. (each s m).whole.some);
       exactly = λ numbers. (λ m. of_span numbers (Contains-from_map numbers_in spans numbers m), λ b. of_block numbers b.0 b.2 (in_variables spans b.0 b.1));
     }
       where
         of_span : (numbers : List ℕ) → ((s : Span) × Contains spans s × (numbers_in s ≡ numbers)) → IsBlock q db (variables_of spans) numbers
         of_span numbers (s, m, e) =
-            let c = (each s m).some in
+            let c = (each s m).whole.some in
             let i : IsIn s (at s.atom s.start) = (refl, omega arith, omega (arith, c)) in
             subst (IsBlock q db (variables_of spans)) e (at s.atom s.start, of_variables spans s (at s.atom s.start) m i, block_at s m s.start i.1 i.2)
 

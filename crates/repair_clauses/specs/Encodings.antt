@@ -1,6 +1,5 @@
 -- What is made of the formula of a row: numbered clauses, and the row of each number.
-use Rattle.cqa_model.specs.declared.limits.TheConstants.{MOST_ATOMS}
-use Rattle.std.specs.Prelude.{◌≡◌, ℕ, ◌+◌, ◌++◌, ◌<◌, ◌≤◌, ◌^◌, List, length, map, Contains}
+use Rattle.std.specs.Prelude.{◌≡◌, ℕ, ◌++◌, ◌<◌, List, length, map, Contains}
 use Rattle.std.specs.List.{AllZip}
 use Rattle.cqa_value.specs.declared.value.Value.{Value}
 use Rattle.cqa_model.specs.declared.query.Query.{Query}
@@ -9,9 +8,10 @@ use Rattle.cnf_form.specs.declared.formula.Lit.{Lit}
 use Rattle.cnf_form.specs.Literals.{literals}
 use Rattle.join_witness.specs.declared.all_witnesses.Witness.{Witness}
 use Rattle.repair_clauses.specs.declared.span.Span.{Span}
+use Rattle.repair_clauses.specs.declared.numbering.Numbering.{Numbering}
 use Rattle.repair_clauses.specs.declared.formula.Encoded.{Encoded}
 use Rattle.repair_clauses.specs.Clauses.{Formula, IsFormula, negative, clauses, name_of}
-use Rattle.repair_clauses.specs.Spans.{AreApart, AreBased, AreCovered, AreNumbers, variables_of}
+use Rattle.repair_clauses.specs.Spans.{AreCovered, AreNumbers, AreSpansTo, variables_of}
 
 -- the clauses of witnesses are added, one for each list of places
 pub record AddsWitnesses (spans : List Span) (places : List (List ℕ)) (old new : List (List Lit)) : Type 0 where
@@ -19,17 +19,17 @@ pub record AddsWitnesses (spans : List Span) (places : List (List ℕ)) (old new
   pub numbered : AllZip (AreNumbers (variables_of spans) 0) places numbers
   pub is : new ≡ old ++ map (map negative) numbers
 
--- blocks apart from each other, with small numbers
-pub record AreReady (q : Query) (spans : List Span) : Type 0 where
-  pub there : (s : Span) → Contains spans s → s.atom < length q.atoms
-  pub starts : (s : Span) → Contains spans s → s.start + s.count < 2 ^ 32
-  pub bases : (s : Span) → Contains spans s → s.base + s.count < 2 ^ 32
-  pub apart : AreApart spans
-  pub based : AreBased 0 spans
+-- exactly the relevant blocks of a row have numbers
+abbrev pub AreBlocksOf : Query → List Table → List Value → Numbering → Type 0
+AreBlocksOf q db row blocks = AreSpansTo q db row (length q.atoms) blocks.vars blocks.spans
+
+-- the spans are of atoms of the query
+abbrev pub AreOfAtoms : Query → List Span → Type 0
+AreOfAtoms q spans = (s : Span) → Contains spans s → s.atom < length q.atoms
 
 -- the rows of the witnesses are in the blocks
 abbrev pub AreTold : List Span → List Witness → Type 0
-AreTold spans witnesses = (w : Witness) → Contains witnesses w → (length w.rows ≤ MOST_ATOMS) × AreCovered spans w.rows
+AreTold spans witnesses = (w : Witness) → Contains witnesses w → AreCovered spans w.rows
 
 -- the clauses and the rows are those of the formula of a row
 pub record IsEncoded (q : Query) (db : List Table) (row : List Value) (e : Encoded) : Type 0 where

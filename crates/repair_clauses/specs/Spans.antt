@@ -1,10 +1,12 @@
 -- The relevant blocks of a row as runs of places, and the numbers of their rows.
-use Rattle.std.specs.Prelude.{◌⊎◌, Some, slice_get, ◌≡◌, ℕ, suc, ◌+◌, ◌<◌, ◌≤◌, ◌↔◌, ◌^◌, ◌∷◌, List, [], length, map, flat_map, Contains, slice_index}
+use Rattle.std.specs.Prelude.{◌⊎◌, Some, slice_get, ◌≡◌, ℕ, suc, ◌+◌, ◌*◌, ◌<◌, ◌≤◌, ◌↔◌, ◌∷◌, List, [], length, map, flat_map, Contains, slice_index, slice_index_or}
+use Rattle.std.specs.Coded.{Coded-set, coded_ℕ, ×_prop}
 use Rattle.std.specs.Ordering.{ordering_then, nat_cmp}
 use Rattle.std.specs.declared.cmp.Ordering.{Ordering}
 use Rattle.std.specs.List.{range_with_len}
 use Rattle.std.specs.List.Sorted.{IsStrictlySortedBy}
 use Rattle.cqa_value.specs.declared.value.Value.{Value}
+use Rattle.cqa_model.specs.declared.limits.TheConstants.{MOST_ATOMS, MOST_ROWS}
 use Rattle.cqa_model.specs.declared.query.Query.{Query}
 use Rattle.cqa_model.specs.declared.query.RowId.{RowId}
 use Rattle.cqa_model.specs.Database.{Table, stored}
@@ -23,14 +25,21 @@ at F p = record { atom = F; place = p }
 abbrev pub IsIn : Span → Variable → Type 0
 IsIn s x = (x.atom ≡ s.atom) × (s.start ≤ x.place) × (x.place < s.start + s.count)
 
+-- the place is in the span
+abbrev pub Covers : Span → ℕ → Type 0
+Covers s p = (s.start ≤ p) × (p < s.start + s.count)
+
+-- the rows at the places of a span are a whole block
+pub record IsWholeBlock (key : List ℕ) (rows : List (List Value)) (s : Span) : Type 0 where
+  pub some : 0 < s.count
+  pub within : s.start + s.count ≤ length rows
+  pub block : (i : ℕ) → i < length rows → SharesKey key (slice_index_or rows s.start []) (slice_index_or rows i []) ↔ Covers s i
+
 -- a whole block, which is relevant
 pub record IsSpan (q : Query) (db : List Table) (row : List Value) (s : Span) : Type 0 where
   pub there : s.atom < length q.atoms
-  pub some : 0 < s.count
-  pub within : s.start + s.count ≤ length (rows_of q (stored db) s.atom)
+  pub whole : IsWholeBlock (atom_key q s.atom) (rows_of q (stored db) s.atom) s
   pub relevant : IsRelevant q (stored db) row s.atom (row_of q db (at s.atom s.start))
-  pub block : (i : ℕ) → i < length (rows_of q (stored db) s.atom) →
-      SharesKey (atom_key q s.atom) (row_of q db (at s.atom s.start)) (row_of q db (at s.atom i)) ↔ ((s.start ≤ i) × (i < s.start + s.count))
 
 -- by atoms, and those of one atom by their first rows
 abbrev pub span_cmp : Span → Span → Ordering
@@ -45,6 +54,25 @@ AreBased n (s ∷ ss) = (s.base ≡ n) × AreBased (n + s.count) ss
 abbrev pub AreBasedTo : ℕ → List Span → ℕ → Type 0
 AreBasedTo n [] m = n ≡ m
 AreBasedTo n (s ∷ ss) m = (s.base ≡ n) × AreBasedTo (n + s.count) ss m
+
+-- there is at most one proof of it, so it may stand on a type
+pub AreBasedTo-prop : (n : ℕ) (spans : List Span) (m : ℕ) → IsProp (AreBasedTo n spans m)
+AreBasedTo-prop n [] m = Coded-set coded_ℕ n m
+AreBasedTo-prop n (s ∷ ss) m = ×_prop (Coded-set coded_ℕ s.base n) (AreBasedTo-prop (n + s.count) ss m)
+
+-- a span of an earlier atom, or one that ends before the other begins
+abbrev pub IsBefore : Span → Span → Type 0
+IsBefore s t = (s.atom ≤ t.atom) × (s.atom ≡ t.atom → s.start + s.count ≤ t.start)
+
+abbrev pub AreApart : List Span → Type 0
+AreApart spans = (i j : ℕ) (s t : Span) → i < j → slice_get spans i ≡ Some s → slice_get spans j ≡ Some t → IsBefore s t
+
+-- spans that are apart from each other, of rows of a query's tables; so many rows, numbered one after the other from 1
+pub record IsNumbering (spans : List Span) (vars : ℕ) : Type 0 where
+  pub apart : AreApart spans
+  pub based : AreBasedTo 0 spans vars
+  pub few : vars ≤ MOST_ATOMS * MOST_ROWS
+  pub within : (s : Span) → Contains spans s → s.start + s.count ≤ MOST_ROWS
 
 -- exactly the relevant blocks
 pub record AreSpans (q : Query) (db : List Table) (row : List Value) (spans : List Span) : Type 0 where
@@ -95,20 +123,18 @@ place_at names F = slice_index (places_of names) F
 abbrev pub IsNamed : List (List RowId) → ℕ → ℕ → Type 0
 IsNamed all F p = (names : List RowId) × Contains all names × (place_at names F ≡ p)
 
--- each of the named rows is in one of the spans, and its number is small
-abbrev pub AreCovered : List Span → List RowId → Type 0
-AreCovered spans names = (F : ℕ) → F < length names → (s : Span) × Contains spans s × IsIn s (at F (place_at names F)) × (s.base + s.count < 2 ^ 32)
+-- one of the spans has the place of an atom
+abbrev pub HasSpan : List Span → ℕ → ℕ → Type 0
+HasSpan spans F p = (s : Span) × Contains spans s × IsIn s (at F p)
+
+-- at most `MOST_ATOMS` named rows, each in one of the spans
+pub record AreCovered (spans : List Span) (names : List RowId) : Type 0 where
+  pub few : length names ≤ MOST_ATOMS
+  pub each : (F : ℕ) → F < length names → HasSpan spans F (place_at names F)
 
 -- the clause of a witness: the numbers of its rows, as negative literals
 abbrev pub IsWitnessClause : List Span → List RowId → List Lit → Type 0
 IsWitnessClause spans names lits = (numbers : List ℕ) × AreNumbers (variables_of spans) 0 (places_of names) numbers × (lits ≡ map negative numbers)
-
--- of two spans the first is of an earlier atom, or ends before the second begins
-abbrev pub IsBefore : Span → Span → Type 0
-IsBefore s t = (s.atom < t.atom) ⊎ ((s.atom ≡ t.atom) × (s.start + s.count ≤ t.start))
-
-abbrev pub AreApart : List Span → Type 0
-AreApart spans = (i j : ℕ) (s t : Span) → i < j → slice_get spans i ≡ Some s → slice_get spans j ≡ Some t → IsBefore s t
 
 -- the span at an index of the list has the place of an atom
 abbrev pub IsAt : List Span → ℕ → ℕ → ℕ → Type 0

@@ -1,16 +1,14 @@
 //! The clauses of blocks and of witnesses, by the numbers of their rows.
 //! Each is made with exact room.
 
-ghost use Rattle.std.specs.Prelude.{◌≡◌, ◌+◌, ◌++◌, ◌<◌, ◌≤◌, ◌^◌, [], IfOk, Contains, length, map};
-ghost use Rattle.cqa_model.specs.declared.limits.TheConstants.{MOST_ATOMS};
+ghost use Rattle.std.specs.Prelude.{◌≡◌, ◌+◌, ◌++◌, ◌<◌, ◌^◌, [], IfOk, map};
 ghost use Rattle.cnf_form.specs.Literals.{literals};
 ghost use Rattle.join_witness.specs.Listing.{names_of, places_of};
-ghost use Rattle.repair_clauses.specs.declared.span.Span.{Span as Run};
 ghost use Rattle.repair_clauses.specs.Clauses.{positive};
-ghost use Rattle.repair_clauses.specs.Spans.{AreApart, AreBased, AreCovered, IsWitnessClause, numbers_in};
+ghost use Rattle.repair_clauses.specs.Spans.{AreCovered, IsWitnessClause, numbers_in};
 ghost use Rattle.repair_clauses.specs.Encodings.{AddsWitnesses, AreTold};
 
-use crate::numbering::number;
+use crate::numbering::{Numbering, number};
 use crate::span::Span;
 use cnf_form::{Clause, Lit};
 use cqa_model::RowId;
@@ -54,17 +52,18 @@ fn block_clause(alloc: Global, span: &Span) -> Result<Clause, NoMemory>
 /// # Errors
 ///
 /// `NoMemory` where memory is refused.
-pub fn fill_witness(spans: &[Span], names: &[RowId], lits: &mut Vec<Lit>) -> Result<(), NoMemory>
+pub fn fill_witness(
+    blocks: &Numbering,
+    names: &[RowId],
+    lits: &mut Vec<Lit>,
+) -> Result<(), NoMemory>
     requires none { lits.old.items ≡ [] }
-    requires few { length names.now ≤ MOST_ATOMS }
-    requires apart { AreApart spans.now }
-    requires based { AreBased 0 spans.now }
-    requires covered { AreCovered spans.now names.now }
-    ensures { IfOk result (λ done. IsWitnessClause spans.now names.now lits.new.items) }
+    requires covered { AreCovered blocks.now.spans names.now }
+    ensures { IfOk result (λ done. IsWitnessClause blocks.now.spans names.now lits.new.items) }
 {
     for at in 0..names.len() {
         lits.push(Lit {
-            var: number(spans, at as u32, names[at].place),
+            var: number(blocks, at as u32, names[at].place),
             positive: false,
         })?;
     }
@@ -72,15 +71,12 @@ pub fn fill_witness(spans: &[Span], names: &[RowId], lits: &mut Vec<Lit>) -> Res
 }
 
 /// The clause of a witness.
-fn witness_clause(alloc: Global, spans: &[Span], names: &[RowId]) -> Result<Clause, NoMemory>
-    requires few { length names.now ≤ MOST_ATOMS }
-    requires apart { AreApart spans.now }
-    requires based { AreBased 0 spans.now }
-    requires covered { AreCovered spans.now names.now }
-    ensures { IfOk result (λ clause. IsWitnessClause spans.now names.now clause.lits) }
+fn witness_clause(alloc: Global, blocks: &Numbering, names: &[RowId]) -> Result<Clause, NoMemory>
+    requires { AreCovered blocks.now.spans names.now }
+    ensures { IfOk result (λ clause. IsWitnessClause blocks.now.spans names.now clause.lits) }
 {
     let mut lits = Vec::with_capacity(alloc, names.len())?;
-    fill_witness(spans, names, &mut lits)?;
+    fill_witness(blocks, names, &mut lits)?;
     Ok(Clause {
         lits: Items::from_vec(lits),
     })
@@ -91,12 +87,14 @@ fn witness_clause(alloc: Global, spans: &[Span], names: &[RowId]) -> Result<Clau
 /// # Errors
 ///
 /// `NoMemory` where memory is refused.
-pub fn add_blocks(alloc: Global, spans: &[Span], clauses: &mut Vec<Clause>) -> Result<(), NoMemory>
-    requires none { clauses.old.items ≡ [] }
-    requires small { (s : Run) → Contains spans.now s → s.base + s.count < 2 ^ 32 }
-    ensures { IfOk result (λ done. literals clauses.new.items ≡ map (map positive) (map numbers_in spans.now)) }
+pub fn add_blocks(
+    alloc: Global,
+    blocks: &Numbering,
+    clauses: &mut Vec<Clause>,
+) -> Result<(), NoMemory>
+    ensures { IfOk result (λ done. literals clauses.new.items ≡ literals clauses.old.items ++ map (map positive) (map numbers_in blocks.now.spans)) }
 {
-    for span in spans {
+    for span in blocks.spans.as_slice() {
         clauses.push(block_clause(alloc, span)?)?;
     }
     Ok(())
@@ -109,17 +107,15 @@ pub fn add_blocks(alloc: Global, spans: &[Span], clauses: &mut Vec<Clause>) -> R
 /// `NoMemory` where memory is refused.
 pub fn add_witnesses(
     alloc: Global,
-    spans: &[Span],
+    blocks: &Numbering,
     witnesses: &[Witness],
     clauses: &mut Vec<Clause>,
 ) -> Result<(), NoMemory>
-    requires apart { AreApart spans.now }
-    requires based { AreBased 0 spans.now }
-    requires told { AreTold spans.now witnesses.now }
-    ensures { IfOk result (λ done. AddsWitnesses spans.now (map places_of (names_of witnesses.now)) (literals clauses.old.items) (literals clauses.new.items)) }
+    requires { AreTold blocks.now.spans witnesses.now }
+    ensures { IfOk result (λ done. AddsWitnesses blocks.now.spans (map places_of (names_of witnesses.now)) (literals clauses.old.items) (literals clauses.new.items)) }
 {
     for witness in witnesses {
-        clauses.push(witness_clause(alloc, spans, witness.rows.as_slice())?)?;
+        clauses.push(witness_clause(alloc, blocks, witness.rows.as_slice())?)?;
     }
     Ok(())
 }

@@ -1,5 +1,5 @@
 //! The places that the rows of one atom have in witnesses, in order.
-//! A place that several witnesses share stands there as often.
+//! A place that several witnesses share stands there once.
 
 ghost use Rattle.std.specs.Prelude.{◌≡◌, ◌<◌, Contains, IfOk, length};
 ghost use Rattle.join_witness.specs.Listing.{names_of};
@@ -7,6 +7,7 @@ ghost use Rattle.join_witness.specs.declared.all_witnesses.Witness.{Witness as N
 ghost use Rattle.repair_clauses.specs.Spans.{place_at};
 ghost use Rattle.repair_clauses.specs.Runs.{AreColumn};
 
+use crate::rising::put_in_order;
 use cqa_value::NoMemory;
 use join_witness::Witness;
 use std::alloc::Global;
@@ -19,7 +20,7 @@ pub(crate) fn place_of(witness: &Witness, atom: usize) -> u32
     witness.rows.as_slice()[atom].place
 }
 
-/// The places of the rows of an atom in witnesses, in order.
+/// The places of the rows of an atom in witnesses, in order, each once.
 ///
 /// # Errors
 ///
@@ -32,6 +33,6 @@ pub fn column(alloc: Global, witnesses: &[Witness], atom: usize) -> Result<Vec<u
     for witness in witnesses {
         places.push(place_of(witness, atom))?;
     }
-    places.sort_unstable();
+    put_in_order(&mut places);
     Ok(places)
 }

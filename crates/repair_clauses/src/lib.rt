@@ -11,6 +11,7 @@ mod formula;
 pub mod laws;
 pub mod numbering;
 mod relevant;
+pub mod rising;
 mod run;
 pub mod span;
 

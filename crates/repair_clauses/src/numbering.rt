@@ -1,11 +1,21 @@
-//! The number of a row among the variables.
-//! It is found by halving, in time that doesn't grow with the table.
+//! The numbers of rows in spans, by which they are variables of a formula.
+//! A row's number is found by halving, in time that doesn't grow with the table.
 
-ghost use Rattle.std.specs.Prelude.{◌≡◌, ◌↔◌, ◌+◌, ◌-◌, ◌<◌, ◌^◌, ℕ, suc, Some, IsTrue, Contains};
-ghost use Rattle.repair_clauses.specs.Spans.{at, IsIn, IsAt, IsOnlyAt, AreApart, Begins};
-ghost use Rattle.repair_clauses.specs.declared.span.Span.{Span};
+ghost use Rattle.std.specs.Prelude.{◌≡◌, ◌↔◌, ◌+◌, ◌-◌, ℕ, suc, Some, IsTrue, Contains};
+ghost use Rattle.std.proofs.Props.{props};
+ghost use Rattle.repair_clauses.specs.declared.span.Span.{Span as Run};
+ghost use Rattle.repair_clauses.specs.Spans.{at, AreApart, AreBasedTo-prop, Begins, HasSpan, IsAt, IsIn, IsNumbering, IsOnlyAt};
 
 use crate::span::Span;
+use cqa_value::Items;
+
+/// Spans that are apart from each other, and how many rows they have in all. The rows are numbered one after the other from 1.
+#[derive(Drop)]
+pub struct Numbering {
+    pub spans: Items<Span>,
+    pub vars: u32,
+    pub ghost kept: { IsNumbering spans vars } by { Prim.hlevel (AreBasedTo-prop, props) },
+}
 
 /// Whether a span begins at the place of an atom, or before it.
 fn begins(span: &Span, atom: u32, place: u32) -> bool
@@ -41,10 +51,10 @@ fn last_begun(spans: &[Span], atom: u32, place: u32) -> usize
 }
 
 /// The index of the span that has the place of an atom, if one has it.
-pub fn find_span(spans: &[Span], atom: u32, place: u32) -> Option<usize>
-    requires { AreApart spans.now }
-    ensures { (k : ℕ) → (result ≡ Some k) ↔ IsAt spans.now atom place k }
+pub fn find_span(numbering: &Numbering, atom: u32, place: u32) -> Option<usize>
+    ensures { (k : ℕ) → (result ≡ Some k) ↔ IsAt numbering.now.spans atom place k }
 {
+    let spans = numbering.spans.as_slice();
     let found = last_begun(spans, atom, place);
     if found < spans.len() && covers(&spans[found], atom, place) {
         Some(found)
@@ -54,11 +64,11 @@ pub fn find_span(spans: &[Span], atom: u32, place: u32) -> Option<usize>
 }
 
 /// The number of a row that is in one of the spans.
-pub fn number(spans: &[Span], atom: u32, place: u32) -> u32
-    requires apart { AreApart spans.now }
-    requires covered { (s : Span) × Contains spans.now s × IsIn s (at atom place) × (s.base + s.count < 2 ^ 32) }
-    ensures { (s : Span) → Contains spans.now s → IsIn s (at atom place) → result ≡ suc (s.base + (place - s.start)) }
+pub fn number(numbering: &Numbering, atom: u32, place: u32) -> u32
+    requires { HasSpan numbering.now.spans atom place }
+    ensures { (s : Run) → Contains numbering.now.spans s → IsIn s (at atom place) → result ≡ suc (s.base + (place - s.start)) }
 {
+    let spans = numbering.spans.as_slice();
     let span = spans[last_begun(spans, atom, place)];
     span.base + 1 + (place - span.start)
 }

@@ -1,19 +1,20 @@
 //! The relevant blocks of a row, atom by atom, from the names of its witnesses' rows.
 //! Their rows are numbered as they come: by atoms, and those of one atom in block order.
 
-ghost use Rattle.std.specs.Prelude.{◌≡◌, ◌+◌, ◌*◌, ◌++◌, ◌<◌, ◌≤◌, List, [], IfOk, length};
+ghost use Rattle.std.specs.Prelude.{◌≡◌, ◌+◌, ◌*◌, ◌++◌, ◌<◌, ◌≤◌, List, IfOk, length};
 ghost use Rattle.cqa_value.specs.declared.value.Value.{Value};
 ghost use Rattle.cqa_model.specs.Query.{atom_at, FitsDatabase};
-ghost use Rattle.cqa_model.specs.declared.limits.TheConstants.{MOST_ATOMS, MOST_ROWS};
+ghost use Rattle.cqa_model.specs.declared.limits.TheConstants.{MOST_ROWS};
 ghost use Rattle.join_witness.specs.Listing.{AreAllNames, names_of};
 ghost use Rattle.repair_clauses.specs.declared.span.Span.{Span as Run};
 ghost use Rattle.repair_clauses.specs.Spans.{AreSpansTo};
+ghost use Rattle.repair_clauses.specs.Encodings.{AreBlocksOf};
 
 use crate::column::column;
+use crate::numbering::Numbering;
 use crate::run::{Spans, runs};
-use crate::span::Span;
 use cqa_model::{Atom, Query};
-use cqa_value::NoMemory;
+use cqa_value::{Items, NoMemory};
 use join_witness::Witness;
 use std::alloc::Global;
 use table_blocks::Database;
@@ -69,19 +70,21 @@ pub fn relevant_blocks(
     db: &Database,
     query: &Query,
     witnesses: &[Witness],
-    spans: &mut Vec<Span>,
-) -> Result<u32, NoMemory>
+) -> Result<Numbering, NoMemory>
     requires fits { FitsDatabase query.now db.now }
     requires all { (row : List Value) × AreAllNames query.now db.now row (names_of witnesses.now) }
-    requires none { spans.old.items ≡ [] }
-    ensures blocks { IfOk result (λ vars. (row : List Value) → AreAllNames query.now db.now row (names_of witnesses.now) → AreSpansTo query.now db.now row (length query.now.atoms) vars spans.new.items) }
-    ensures small { IfOk result (λ vars. vars ≤ MOST_ATOMS * MOST_ROWS) }
+    ensures { IfOk result (λ blocks. (row : List Value) → AreAllNames query.now db.now row (names_of witnesses.now) → AreBlocksOf query.now db.now row blocks) }
 {
+    let _tables = db.count();
+    let mut spans = Vec::new(alloc);
     let mut vars = 0;
     for at in 0..query.atoms.len() {
         let more = runs_of(alloc, db, query, witnesses, at, vars)?;
         vars = more.vars;
         spans.append(&mut more.list.into_vec())?;
     }
-    Ok(vars)
+    Ok(Numbering {
+        spans: Items::from_vec(spans),
+        vars,
+    })
 }

@@ -1,12 +1,11 @@
 //! The blocks of one atom's table that have a row at one of some places.
 //! They are found one after the other, and their rows are numbered.
 
-ghost use Rattle.std.specs.Prelude.{◌+◌, ◌≤◌, IfOk, length};
+ghost use Rattle.std.specs.Prelude.{◌*◌, ◌≤◌, IfOk, length};
 ghost use Rattle.std.specs.List.Sorted.{IsStrictlySortedBy};
 ghost use Rattle.cqa_model.specs.Database.{block_cmp};
-ghost use Rattle.cqa_model.specs.declared.limits.TheConstants.{MOST_ROWS};
+ghost use Rattle.cqa_model.specs.declared.limits.TheConstants.{MOST_ATOMS, MOST_ROWS};
 ghost use Rattle.repair_clauses.specs.Runs.{ArePlaces, AreRuns};
-ghost use Rattle.repair_clauses.specs.Spans.{AreBasedTo};
 
 use crate::span::Span;
 use cqa_value::{Items, NoMemory};
@@ -38,11 +37,9 @@ pub fn runs(
 ) -> Result<Spans, NoMemory>
     requires order { IsStrictlySortedBy (block_cmp key.now) rows.now }
     requires few { length rows.now ≤ MOST_ROWS }
-    requires small { base ≤ 1_000_000_000 }
+    requires small { base ≤ MOST_ATOMS * MOST_ROWS }
     requires places { ArePlaces rows.now places.now }
-    ensures runs { IfOk result (λ spans. AreRuns key.now rows.now atom base places.now spans.list) }
-    ensures based { IfOk result (λ spans. AreBasedTo base spans.list spans.vars) }
-    ensures small { IfOk result (λ spans. spans.vars ≤ base + length rows.now) }
+    ensures { IfOk result (λ spans. AreRuns key.now rows.now atom base places.now spans.vars spans.list) }
 {
     let mut spans = Items::new(alloc);
     let mut end = 0;

@@ -5,6 +5,7 @@ use Rattle.std.proofs.lemmas.List.{get_or-set_same, get_or-set_other, length-set
 use Rattle.std.proofs.lemmas.List.Elements.{Contains-push, Contains-push_cases}
 use native.Mathlib.Decide.{ℕ_discrete}
 use Rattle.cqa_value.specs.declared.value.Value.{Value}
+use Rattle.cqa_value.proofs.Words.{cases_next}
 use Rattle.cqa_model.specs.declared.query.ColRef.{ColRef}
 use Rattle.cqa_model.specs.declared.query.Query.{Query}
 use Rattle.cqa_model.specs.declared.query.RowId.{RowId}
@@ -97,12 +98,9 @@ module _ (q : Query) (db : List Table) (variables : List Variable) (all : List (
       | inl o ↦ let b = h.from F p i o in let l = b.0 in (omega (arith, l), b.1)
       | inr o ↦ let e = o.0 in (omega (arith, e), subst (λ G. IsNamed all G p) (sym o.0) (from p o.1))
     ];
-    to = λ F p b. go F p b.1 (cases F n b.0);
+    to = λ F p b. go F p b.1 (cases_next F n b.0);
   }
     where
-      cases : (i j : ℕ) → i < j + 1 → (i < j) ⊎ (i ≡ j)
-      cases i j l = grind (arith, l)
-
       go : (F p : ℕ) → IsNamed all F p → (F < n) ⊎ (F ≡ n) → (i : ℕ) × HasClass variables new F p i
       go F p b (inl l) = let o = h.to F p (l, b) in m.kept F p o.0 o.1
       go F p b (inr e) = subst (λ G. (i : ℕ) × HasClass variables new G p i) (sym e) (m.added p (to p (subst (λ G. IsNamed all G p) e b)))

@@ -157,26 +157,26 @@ module _ (q : Query) (db : List Table) (d : IsDatabase db) (fits : FitsDatabase 
     in_block : (s : Span) → Contains spans s → (p r : ℕ) → IsIn s (at s.atom p) → r < length (rows_of q (stored db) s.atom) → SharesKey (atom_key q s.atom) (row_of q db (at s.atom p)) (row_of q db (at s.atom r)) → IsIn s (at s.atom r)
     in_block s ms p r i l sh =
         let t = (h.each s ms).1 in
-        let w = t.within in
+        let w = t.whole.within in
         let u = i.2 in
         let key = atom_key q s.atom in
-        let first = (t.block p (omega (arith, u, w))).1 (i.1, i.2) in
-        let b = (t.block r l).0 (shares-trans key (row_of q db (at s.atom s.start)) (row_of q db (at s.atom p)) (row_of q db (at s.atom r)) first sh) in
+        let first = (t.whole.block p (omega (arith, u, w))).1 (i.1, i.2) in
+        let b = (t.whole.block r l).0 (shares-trans key (row_of q db (at s.atom s.start)) (row_of q db (at s.atom p)) (row_of q db (at s.atom r)) first sh) in
         (refl, b.0, b.1)
 
     of_block : (s : Span) → Contains spans s → (p r : ℕ) → IsIn s (at s.atom p) → IsIn s (at s.atom r) → SharesKey (atom_key q s.atom) (row_of q db (at s.atom p)) (row_of q db (at s.atom r))
     of_block s ms p r i j =
         let t = (h.each s ms).1 in
-        let w = t.within in
+        let w = t.whole.within in
         let u = i.2 in
         let v = j.2 in
         let key = atom_key q s.atom in
         shares-trans key (row_of q db (at s.atom p)) (row_of q db (at s.atom s.start)) (row_of q db (at s.atom r))
-        (shares-sym key (row_of q db (at s.atom s.start)) (row_of q db (at s.atom p)) ((t.block p (omega (arith, u, w))).1 (i.1, i.2))) ((t.block r (omega (arith, v, w))).1 (j.1, j.2))
+        (shares-sym key (row_of q db (at s.atom s.start)) (row_of q db (at s.atom p)) ((t.whole.block p (omega (arith, u, w))).1 (i.1, i.2))) ((t.whole.block r (omega (arith, v, w))).1 (j.1, j.2))
 
     in_rows : (s : Span) → Contains spans s → (p : ℕ) → IsIn s (at s.atom p) → (p < length (rows_of q (stored db) s.atom)) × Contains (rows_of q (stored db) s.atom) (row_of q db (at s.atom p))
     in_rows s ms p i =
-        let w = (h.each s ms).1.within in
+        let w = (h.each s ms).1.whole.within in
         let u = i.2 in
         let l : p < length (rows_of q (stored db) s.atom) = omega (arith, u, w) in
         (l, Contains-get_or (rows_of q (stored db) s.atom) p [] l)
@@ -254,7 +254,7 @@ module _ (q : Query) (db : List Table) (d : IsDatabase db) (fits : FitsDatabase 
               l = (h.each b mb).0
 
               first : IsIn b (at b.atom b.start)
-              first = let n = (h.each b mb).1.some in (refl, omega arith, omega (arith, n))
+              first = let n = (h.each b mb).1.whole.some in (refl, omega arith, omega (arith, n))
 
               place : (y : List Value) → Contains (rows_of q (stored db) b.atom) y → SharesKey (atom_key q b.atom) (row_of q db (at b.atom b.start)) y →
                   (r : ℕ) × IsIn b (at b.atom r) × (row_of q db (at b.atom r) ≡ y)

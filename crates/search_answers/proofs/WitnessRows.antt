@@ -1,13 +1,12 @@
 -- The numbers of the rows that are in witnesses.
 use Rattle.cqa_model.specs.declared.limits.TheConstants.{MOST_ATOMS, MOST_ROWS}
-use Rattle.std.proofs.Common.{◌*◌, ◌≡◌, ℕ, zero, suc, ◌<◌, ◌≤◌, ◌+◌, ◌-◌, ◌^◌, ◌⊎◌, inl, inr, List, [], ◌∷◌, ◌++◌, length, get_or, Some, None, refl, sym, ◌∙◌, ap, subst, arith, Contains, slice_get, length-append, Less}
-use Rattle.std.specs.Ordering.{nat_cmp}
+use Rattle.std.proofs.Common.{◌*◌, ◌≡◌, ℕ, zero, suc, ◌<◌, ◌≤◌, ◌+◌, ◌-◌, ◌⊎◌, inl, inr, List, [], ◌∷◌, ◌++◌, length, get_or, Some, None, refl, sym, ◌∙◌, ap, subst, arith, Contains, slice_get, length-append, Less}
 use Rattle.std.specs.List.Sorted.{IsStrictlySortedBy}
 use Rattle.std.proofs.lemmas.Option.{get_or_from_slice_get, slice_get_within, slice_get-get_or, same_Some}
+use Rattle.std.proofs.lemmas.Bool.{cases_lt}
 use Rattle.std.proofs.lemmas.List.Elements.{Contains-get_or}
-use Rattle.std.proofs.lemmas.Map.Keys.{Less-from_sorted}
 use Rattle.cqa_value.specs.declared.value.Value.{Value}
-use Rattle.cqa_value.proofs.Words.{Contains-map, Contains-slice_get}
+use Rattle.cqa_value.proofs.Words.{Contains-map, Contains-slice_get, cases_next}
 use Rattle.cqa_model.specs.declared.query.Query.{Query}
 use Rattle.cqa_model.specs.declared.query.RowId.{RowId}
 use Rattle.cqa_model.specs.Database.{Table, IsDatabase, stored}
@@ -16,12 +15,13 @@ use Rattle.join_witness.specs.declared.all_witnesses.Witness.{Witness}
 use Rattle.join_witness.specs.Listing.{AreAllNames, names_of}
 use Rattle.repair_clauses.specs.declared.span.Span.{Span}
 use Rattle.repair_clauses.specs.Clauses.{Variable, variable_cmp}
-use Rattle.repair_clauses.specs.Spans.{at, IsIn, IsAt, IsNamed, IsBefore, AreApart, AreBased, AreBasedTo, variables_of}
+use Rattle.repair_clauses.specs.Spans.{at, IsIn, IsAt, IsNamed, IsBefore, IsNumbering, AreApart, AreBased, AreBasedTo, variables_of}
+use Rattle.repair_clauses.specs.Runs.{AreColumn}
 use Rattle.search_answers.specs.Classing.{AreSingle, AreNumberedTo, rows_from}
 use Rattle.join_witness.proofs.Sorted.{sorted-from}
 use Rattle.repair_clauses.proofs.Numbers.{place_of}
 use Rattle.repair_clauses.proofs.Order.{atom_less}
-use Rattle.repair_clauses.proofs.Spans.{has_number, from_less, place_less}
+use Rattle.repair_clauses.proofs.Spans.{has_number, place_less}
 use Rattle.repair_clauses.proofs.Encoding.{rows-few, variables-length}
 use Rattle.repair_clauses.proofs.Naming.{named-size, of_names}
 
@@ -67,18 +67,14 @@ module _ (spans : List Span) (h : AreSingle spans) where
       let es = slice_get-get_or spans k (record { atom = 0; start = 0; count = 0; base = 0 }) (omega (arith, l, same)) in
       (s, es, same_Some (at s.atom s.start) x (sym (variable k s es) ∙ e))
 
-  pub bounded : (s : Span) → Contains spans s → s.base + s.count < 2 ^ 32
-  bounded s m =
-      let k = place_of spans s m in
-      let one = (h.each k.0 s k.2).0 in
-      let base = (h.each k.0 s k.2).1 in
-      let l = k.1 in
-      let few = h.few in
-      omega (arith, one, base, l, few)
-
   before_less : (s t : Span) → s.count ≡ 1 → IsBefore s t → variable_cmp (at s.atom s.start) (at t.atom t.start) ≡ Less
-  before_less s t one (inl l) = atom_less (at s.atom s.start) (at t.atom t.start) l
-  before_less s t one (inr b) = let l = b.1 in place_less (at s.atom s.start) (at t.atom t.start) b.0 (omega (arith, one, l))
+  before_less s t one b = elim (cases_lt s.atom t.atom) [
+    | inl l ↦ atom_less (at s.atom s.start) (at t.atom t.start) l
+    | inr u ↦ let le = b.0 in
+        let same : s.atom ≡ t.atom = omega (arith, le, u) in
+        let ends = b.1 same in
+        place_less (at s.atom s.start) (at t.atom t.start) same (omega (arith, one, ends))
+  ]
 
   pub rising : IsStrictlySortedBy variable_cmp (variables_of spans)
   rising = sorted-from variable_cmp (variables_of spans) (at 0 0) (λ i j l lj.
@@ -111,13 +107,23 @@ held spans h F p k e =
 
 -- ---- the rows that are in witnesses
 
--- a row that has a number is in a small span
-pub numbered_in : (all : List (List RowId)) (n : ℕ) (spans : List Span) → AreNumberedTo all n spans → (F : ℕ) → F < n → (p : ℕ) → IsNamed all F p → (s : Span) × Contains spans s × IsIn s (at F p) × (s.base + s.count < 2 ^ 32)
-numbered_in all n spans h F l p named = let s = h.to F p (l, named) in (s.0, s.1, s.2, bounded spans h.single s.0 s.1)
-
 module _ (q : Query) (db : List Table) (row : List Value) (all : List (List RowId)) (a : AreAllNames q db row all) where
   pub named_there : (F : ℕ) → F < length q.atoms → (p : ℕ) → IsNamed all F p → p < length (rows_of q (stored db) F)
   named_there F l p (names, mn, e) = subst (λ r. r < length (rows_of q (stored db) F)) e ((of_names q db row names ((a.exactly names).0 mn)).each F l).0
+
+  pub numbering : IsDatabase db → (spans : List Span) → AreNumberedTo all (length q.atoms) spans → (m : ℕ) → m ≡ length spans → IsNumbering spans m
+  numbering d spans h m e = record {
+    apart = h.single.apart;
+    based = based-to 0 spans (λ k s g. let b = h.single.each k s g in let i = b.1 in (b.0, omega (arith, i))) m (omega (arith, e));
+    few = let f = h.single.few in omega (arith, e, f);
+    within = λ s k. let i = place_of spans s k in
+        let one = (h.single.each i.0 s i.2).0 in
+        let b = h.from s k in
+        let there = named_there s.atom b.0 s.start b.1 in
+        let t = rows-few db (atom_at q s.atom).table in
+        let f = d.few_rows in
+        omega (arith, one, there, t, f);
+  }
 
 -- a witness has few rows
 pub few_rows : (q : Query) (db : List Table) (row : List Value) (ws : List Witness) → AreAllNames q db row (names_of ws) → (w : Witness) → Contains ws w → length w.rows ≤ MOST_ATOMS
@@ -130,14 +136,14 @@ few_rows q db row ws a w k =
 -- ---- one atom more
 
 -- rising numbers below a number are at most so many
-rises_above : (xs : List ℕ) → IsStrictlySortedBy nat_cmp xs → (i : ℕ) → i < length xs → i ≤ get_or xs i 0
+rises_above : (xs : List ℕ) → ((i j : ℕ) → i < j → j < length xs → get_or xs i 0 < get_or xs j 0) → (i : ℕ) → i < length xs → i ≤ get_or xs i 0
 rises_above xs s zero l = omega arith
 rises_above xs s (suc i) l =
     let ih = rises_above xs s i (omega (arith, l)) in
-    let less = from_less (get_or xs i 0) (get_or xs (suc i) 0) (Less-from_sorted nat_cmp xs i (suc i) 0 s (omega arith) l) in
+    let less = s i (suc i) (omega arith) l in
     omega (arith, ih, less)
 
-pub few_below : (xs : List ℕ) (n : ℕ) → IsStrictlySortedBy nat_cmp xs → ((p : ℕ) → Contains xs p → p < n) → length xs ≤ n
+pub few_below : (xs : List ℕ) (n : ℕ) → ((i j : ℕ) → i < j → j < length xs → get_or xs i 0 < get_or xs j 0) → ((p : ℕ) → Contains xs p → p < n) → length xs ≤ n
 few_below [] n s below = omega arith
 few_below (x ∷ xs) n s below =
     let l : length xs < length (x ∷ xs) = omega arith in
@@ -146,10 +152,10 @@ few_below (x ∷ xs) n s below =
     omega (arith, high, low)
 
 -- the rows of an atom that are in witnesses are at most those of its table
-pub places_few : (q : Query) (db : List Table) (row : List Value) (all : List (List RowId)) → AreAllNames q db row all → IsDatabase db → (F : ℕ) → F < length q.atoms → (ps : List ℕ) → IsStrictlySortedBy nat_cmp ps →
-    ((p : ℕ) → Contains ps p → IsNamed all F p) → length ps ≤ MOST_ROWS
-places_few q db row all a d F l ps s from = few_below ps MOST_ROWS s (λ p m.
-    let b = named_there q db row all a F l p (from p m) in
+pub places_few : (q : Query) (db : List Table) (row : List Value) (all : List (List RowId)) → AreAllNames q db row all → IsDatabase db → (F : ℕ) → F < length q.atoms → (ps : List ℕ) → AreColumn all F ps →
+    length ps ≤ MOST_ROWS
+places_few q db row all a d F l ps c = few_below ps MOST_ROWS c.in_order (λ p m.
+    let b = named_there q db row all a F l p (c.from p m) in
     let t = rows-few db (atom_at q F).table in
     let f = d.few_rows in
     omega (arith, b, t, f))
@@ -186,8 +192,7 @@ pub rows-push : (F n : ℕ) (ps : List ℕ) (p : ℕ) → rows_from F n (ps ++ p
 rows-push F n [] p = ap (λ b. row_from F b p ∷ []) (let z : n ≡ n + 0 = omega arith in z)
 rows-push F n (r ∷ ps) p = ap (λ ss. row_from F n r ∷ ss) (rows-push F (suc n) ps p ∙ ap (λ b. rows_from F (suc n) ps ++ row_from F b p ∷ []) (let z : suc n + length ps ≡ n + suc (length ps) = omega arith in z))
 
-module _ (all : List (List RowId)) (F : ℕ) (old : List Span) (h : AreNumberedTo all F old) (ps : List ℕ) (s : IsStrictlySortedBy nat_cmp ps) (from : (p : ℕ) → Contains ps p → IsNamed all F p)
-    (to : (p : ℕ) → IsNamed all F p → Contains ps p) (few : length old + length ps ≤ MOST_ATOMS * MOST_ROWS) where
+module _ (all : List (List RowId)) (F : ℕ) (old : List Span) (h : AreNumberedTo all F old) (ps : List ℕ) (c : AreColumn all F ps) (few : length old + length ps ≤ MOST_ATOMS * MOST_ROWS) where
   abbrev pub new : List Span
   new = old ++ rows_from F (length old) ps
 
@@ -209,7 +214,7 @@ module _ (all : List (List RowId)) (F : ℕ) (old : List Span) (h : AreNumberedT
       go (inl o) (inr p) =
           let r = from_row F (length old) ps p.0 v p.2 in
           let b = (h.from u (Contains-slice_get old i u o.1)).0 in
-          inl (subst (λ (w : Span). u.atom < w.atom) r.2 b)
+          subst (IsBefore u) r.2 (omega (arith, b), λ same. absurd (omega (arith, b, same)))
       go (inr o) (inl p) = let i_is = o.1 in let high = p.0 in absurd (omega (arith, i_is, high, l))
       go (inr o) (inr p) =
           let r = from_row F (length old) ps o.0 u o.2 in
@@ -217,10 +222,10 @@ module _ (all : List (List RowId)) (F : ℕ) (old : List Span) (h : AreNumberedT
           let i_is = o.1 in
           let j_is = p.1 in
           let within = slice_get_within ps p.0 t.0 t.1 in
-          let less = from_less (get_or ps o.0 0) (get_or ps p.0 0) (Less-from_sorted nat_cmp ps o.0 p.0 0 s (omega (arith, i_is, j_is, l)) within) in
+          let less = c.in_order o.0 p.0 (omega (arith, i_is, j_is, l)) within in
           let eu = get_or_from_slice_get ps o.0 r.0 0 r.1 in
           let ev = get_or_from_slice_get ps p.0 t.0 0 t.1 in
-          subst (λ (w : Span). IsBefore w v) r.2 (subst (λ (w : Span). IsBefore (row_from F (length old + o.0) r.0) w) t.2 (inr (refl, omega (arith, less, eu, ev))))
+          subst (λ (w : Span). IsBefore w v) r.2 (subst (λ (w : Span). IsBefore (row_from F (length old + o.0) r.0) w) t.2 (omega arith, λ _. omega (arith, less, eu, ev)))
 
   pub numbered-more : AreNumberedTo all (F + 1) new
   numbered-more = record {
@@ -232,18 +237,16 @@ module _ (all : List (List RowId)) (F : ℕ) (old : List Span) (h : AreNumberedT
     from = λ t m. let k = place_of new t m in elim (split old (rows_from F (length old) ps) k.0 t k.2) [
       | inl o ↦ let b = h.from t (Contains-slice_get old k.0 t o.1) in let l = b.0 in (omega (arith, l), b.1)
       | inr o ↦ let r = from_row F (length old) ps o.0 t o.2 in
-          subst (λ (u : Span). (u.atom < F + 1) × IsNamed all u.atom u.start) r.2 (omega arith, from r.0 (Contains-slice_get ps o.0 r.0 r.1))
+          subst (λ (u : Span). (u.atom < F + 1) × IsNamed all u.atom u.start) r.2 (omega arith, c.from r.0 (Contains-slice_get ps o.0 r.0 r.1))
     ];
-    to = λ G p b. go G p b.1 (cases G F b.0);
+    to = λ G p b. go G p b.1 (cases_next G F b.0);
   }
     where
-      cases : (i j : ℕ) → i < j + 1 → (i < j) ⊎ (i ≡ j)
-      cases i j l = grind (arith, l)
-
       go : (G p : ℕ) → IsNamed all G p → (G < F) ⊎ (G ≡ F) → (t : Span) × Contains new t × IsIn t (at G p)
       go G p named (inl l) = let t = h.to G p (l, named) in (t.0, Rattle.std.proofs.lemmas.List.Elements.Contains-append_left old (rows_from F (length old) ps) t.0 t.1, t.2)
       go G p named (inr e) =
-          let k = place_of ps p (to p (subst (λ H. IsNamed all H p) e named)) in
+          let n = subst (λ H. IsNamed all H p) e named in
+          let k = place_of ps p (subst (Contains ps) n.2 (c.to n.0 n.1)) in
           let t = row_from F (length old + k.0) p in (
             t,
             Rattle.std.proofs.lemmas.List.Elements.Contains-append_right old (rows_from F (length old) ps) t (Contains-slice_get (rows_from F (length old) ps) k.0 t (to_row F (length old) ps k.0 p k.2)),

@@ -20,9 +20,11 @@ use Rattle.cdcl.specs.declared.outcome.Outcome.TheVariants as outcome
 use Rattle.flat_formula.specs.declared.guess.Found.{Found}
 use Rattle.flat_formula.specs.declared.guess.Found.TheVariants.{Satisfiable, Unsatisfiable, Unclear}
 use Rattle.repair_clauses.specs.declared.span.Span.{Span}
+use Rattle.repair_clauses.specs.declared.numbering.Numbering.{Numbering}
 use Rattle.repair_clauses.specs.Alike.{AreAlike}
 use Rattle.repair_clauses.specs.Clauses.{Variable, HasNumber, row_of, positive, negative}
-use Rattle.repair_clauses.specs.Spans.{at, place_at, IsIn, IsNamed, AreApart, AreSpansTo, variables_of}
+use Rattle.repair_clauses.specs.Spans.{at, place_at, HasSpan, IsIn, IsNamed, AreApart, variables_of}
+use Rattle.repair_clauses.specs.Encodings.{AreBlocksOf}
 
 -- nothing is lost from a list
 abbrev pub LosesNone : List ℕ → List ℕ → Type 0
@@ -52,8 +54,8 @@ pub record Marks (variables : List Variable) (columns : List ℕ) (rows : List (
   pub added : (p : ℕ) → Contains places p → (m : ℕ) × HasClass variables new atom p m
 
 -- these are the witnesses of some row, and its relevant blocks
-abbrev pub AreWitnessed : Query → List Table → List Witness → List Span → Type 0
-AreWitnessed q db witnesses spans = (row : List Value) × (m : ℕ) × (m ≤ MOST_ATOMS * MOST_ROWS) × AreAllNames q db row (names_of witnesses) × AreSpansTo q db row (length q.atoms) m spans
+abbrev pub AreWitnessed : Query → List Table → List Witness → Numbering → Type 0
+AreWitnessed q db witnesses blocks = (row : List Value) × AreAllNames q db row (names_of witnesses) × AreBlocksOf q db row blocks
 
 -- at most `MOST_ATOMS * MOST_ROWS` spans of one row each, apart from each other and numbered one after the other
 pub record AreSingle (spans : List Span) : Type 0 where
@@ -65,7 +67,7 @@ pub record AreSingle (spans : List Span) : Type 0 where
 pub record AreNumbered (P : ℕ → ℕ → Type 0) (spans : List Span) : Type 0 where
   pub single : AreSingle spans
   pub from : (s : Span) → Contains spans s → P s.atom s.start
-  pub to : (F p : ℕ) → P F p → (s : Span) × Contains spans s × IsIn s (at F p)
+  pub to : (F p : ℕ) → P F p → HasSpan spans F p
 
 -- exactly the rows of the atoms before n that are in witnesses have numbers
 abbrev pub AreNumberedTo : List (List RowId) → ℕ → List Span → Type 0
@@ -130,7 +132,7 @@ AreQuotient q db numbered spans all cs =
 -- the formula of some classes of the rows that are in the witnesses
 abbrev pub IsQuotient : Query → List Table → List Span → List (List RowId) → Cnf → Type 0
 IsQuotient q db spans all cnf =
-    (numbered : List Span) × AreNumberedTo all (length q.atoms) numbered × (cnf.vars ≡ length numbered) × AreQuotient q db numbered spans all (literals cnf.clauses)
+    (numbered : List Span) × AreNumberedTo all (length q.atoms) numbered × (cnf.vars ≡ length (variables_of numbered)) × AreQuotient q db numbered spans all (literals cnf.clauses)
 
 -- what an outcome finds out
 abbrev pub FoundOf : Outcome → Found → Type 0

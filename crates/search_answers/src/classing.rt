@@ -1,28 +1,36 @@
 //! The classes of the rows that are in witnesses: rows that are alike have one. A class is the number of one of them.
 //! Rows are sorted by what a query speaks of, so that those that are alike stand side by side.
 
-ghost use Rattle.std.specs.Prelude.{◌≡◌, ◌+◌, ◌<◌, ◌^◌, ◌*◌, ◌↔◌, ◌⊎◌, ℕ, List, IfOk, Contains, length, slice_index_or, []};
+ghost use Rattle.std.specs.Prelude.{◌≡◌, ◌+◌, ◌<◌, ◌↔◌, ◌⊎◌, ℕ, List, IfOk, Contains, length, slice_index_or, []};
 ghost use Rattle.cqa_value.specs.declared.value.Value.{Value};
 ghost use Rattle.cqa_model.specs.Repairs.{SharesKey};
 ghost use Rattle.cqa_model.specs.Query.{FitsDatabase};
 ghost use Rattle.join_witness.specs.Listing.{AreAllNames, names_of};
-ghost use Rattle.repair_clauses.specs.declared.span.Span.{Span as Run};
-ghost use Rattle.repair_clauses.specs.Spans.{AreApart, AreBased, IsIn, at, variables_of};
-ghost use Rattle.search_answers.specs.Classing.{AreClassedTo, AreNumberedTo, Marks};
+ghost use Rattle.repair_clauses.specs.Spans.{HasSpan, variables_of};
+ghost use Rattle.search_answers.specs.Classing.{AreClassedTo, AreNumberedTo, AreSingle, Marks};
 
 use crate::spoken::spoken_columns;
+use crate::witness_rows::witness_rows;
 use cqa_model::Query;
 use cqa_value::{NOTHING, NoMemory, Row, compare};
 use join_witness::Witness;
 use repair_clauses::atom_of;
 use repair_clauses::column::column;
-use repair_clauses::numbering::number;
-use repair_clauses::span::Span;
+use repair_clauses::numbering::{Numbering, number};
 use row_blocks::goes_on;
 use row_pieces::Rows;
 use std::alloc::Global;
 use std::cmp::Ordering;
 use table_blocks::Database;
+
+/// Rows that have numbers, each by a span of its own, and the class of each, if it has one.
+#[derive(Drop)]
+pub struct Classed {
+    pub rows: Numbering,
+    pub classes: Vec<Option<u32>>,
+    pub ghost single: { AreSingle rows.spans },
+    pub ghost size: { length classes.items ≡ length (variables_of rows.spans) },
+}
 
 /// Compares two rows in some columns.
 fn compare_columns(columns: &[u32], a: &Row, b: &Row) -> Ordering {
@@ -45,11 +53,10 @@ fn compare_places(rows: &Rows<'_>, columns: &[u32], a: u32, b: u32) -> Ordering 
     }
 }
 
-/// Puts places in the order of their rows' columns. A place that stands several times in a row is kept once.
+/// Puts places in the order of their rows' columns.
 fn put_by_columns(rows: &Rows<'_>, columns: &[u32], places: &mut Vec<u32>)
     ensures { (p : ℕ) → Contains places.new.items p ↔ Contains places.old.items p }
 {
-    places.dedup();
     places.sort_unstable_by(|a, b| -> Ordering { compare_places(rows, columns, *a, *b) });
 }
 
@@ -71,17 +78,15 @@ fn first_alike(rows: &Rows<'_>, columns: &[u32], first: u32, place: u32) -> u32
 fn mark_rows(
     rows: &Rows<'_>,
     columns: &[u32],
-    numbered: &[Span],
+    numbered: &Numbering,
     atom: u32,
     places: &[u32],
     classes: &mut [Option<u32>],
 )
-    requires apart { AreApart numbered.now }
-    requires based { AreBased 0 numbered.now }
     requires there { (p : ℕ) → Contains places.now p → p < length rows.now }
-    requires covered { (p : ℕ) → Contains places.now p → (s : Run) × Contains numbered.now s × IsIn s (at atom p) × (s.base + s.count < 2 ^ 32) }
-    requires size { length classes.old ≡ length (variables_of numbered.now) }
-    ensures { Marks (variables_of numbered.now) columns.now rows.now atom places.now classes.old classes.new }
+    requires covered { (p : ℕ) → Contains places.now p → HasSpan numbered.now.spans atom p }
+    requires size { length classes.old ≡ length (variables_of numbered.now.spans) }
+    ensures { Marks (variables_of numbered.now.spans) columns.now rows.now atom places.now classes.old classes.new }
 {
     if places.is_empty() {
         return;
@@ -99,7 +104,7 @@ fn mark_atom(
     alloc: Global,
     db: &Database,
     query: &Query,
-    numbered: &[Span],
+    numbered: &Numbering,
     witnesses: &[Witness],
     at: usize,
     classes: &mut [Option<u32>],
@@ -107,9 +112,9 @@ fn mark_atom(
     requires fits { FitsDatabase query.now db.now }
     requires there { at < length query.now.atoms }
     requires all { (row : List Value) × AreAllNames query.now db.now row (names_of witnesses.now) }
-    requires rows { AreNumberedTo (names_of witnesses.now) (length query.now.atoms) numbered.now }
-    requires so_far { AreClassedTo query.now db.now (variables_of numbered.now) (names_of witnesses.now) at classes.old }
-    ensures { IfOk result (λ done. AreClassedTo query.now db.now (variables_of numbered.now) (names_of witnesses.now) (at + 1) classes.new) }
+    requires rows { AreNumberedTo (names_of witnesses.now) (length query.now.atoms) numbered.now.spans }
+    requires so_far { AreClassedTo query.now db.now (variables_of numbered.now.spans) (names_of witnesses.now) at classes.old }
+    ensures { IfOk result (λ done. AreClassedTo query.now db.now (variables_of numbered.now.spans) (names_of witnesses.now) (at + 1) classes.new) }
 {
     let columns = spoken_columns(alloc, query, at)?;
     let mut places = column(alloc, witnesses, at)?;
@@ -127,24 +132,20 @@ fn mark_atom(
 }
 
 /// The class of each numbered row, which are those in witnesses: the number of one that is alike.
-///
-/// # Errors
-///
-/// `NoMemory` where memory is refused.
-pub fn classes_of(
+fn classes_of(
     alloc: Global,
     db: &Database,
     query: &Query,
-    numbered: &[Span],
+    numbered: &Numbering,
     witnesses: &[Witness],
 ) -> Result<Vec<Option<u32>>, NoMemory>
     requires fits { FitsDatabase query.now db.now }
     requires all { (row : List Value) × AreAllNames query.now db.now row (names_of witnesses.now) }
-    requires rows { AreNumberedTo (names_of witnesses.now) (length query.now.atoms) numbered.now }
-    ensures { IfOk result (λ classes. AreClassedTo query.now db.now (variables_of numbered.now) (names_of witnesses.now) (length query.now.atoms) classes.items) }
+    requires rows { AreNumberedTo (names_of witnesses.now) (length query.now.atoms) numbered.now.spans }
+    ensures { IfOk result (λ classes. AreClassedTo query.now db.now (variables_of numbered.now.spans) (names_of witnesses.now) (length query.now.atoms) classes.items) }
 {
     let mut classes = Vec::new(alloc);
-    classes.resize(numbered.len(), None)?;
+    classes.resize(numbered.spans.len(), None)?;
     for at in 0..query.atoms.len() {
         mark_atom(
             alloc,
@@ -157,4 +158,25 @@ pub fn classes_of(
         )?;
     }
     Ok(classes)
+}
+
+/// The rows that are in witnesses, with their numbers and classes.
+///
+/// # Errors
+///
+/// `NoMemory` where memory is refused.
+pub fn classed_rows(
+    alloc: Global,
+    db: &Database,
+    query: &Query,
+    witnesses: &[Witness],
+) -> Result<Classed, NoMemory>
+    requires fits { FitsDatabase query.now db.now }
+    requires all { (row : List Value) × AreAllNames query.now db.now row (names_of witnesses.now) }
+    ensures rows { IfOk result (λ classed. AreNumberedTo (names_of witnesses.now) (length query.now.atoms) classed.rows.spans) }
+    ensures classes { IfOk result (λ classed. AreClassedTo query.now db.now (variables_of classed.rows.spans) (names_of witnesses.now) (length query.now.atoms) classed.classes.items) }
+{
+    let rows = witness_rows(alloc, db, query, witnesses)?;
+    let classes = classes_of(alloc, db, query, &rows, witnesses)?;
+    Ok(Classed { rows, classes })
 }

@@ -1,12 +1,10 @@
 //! A row's formula in one pool of literals, and what is found out of it without the solver.
 //! It is made anew for each row in the same room, so that a small formula takes no memory of its own.
 
-ghost use Rattle.std.specs.Prelude.{◌*◌, ◌≡◌, ◌+◌, ◌<◌, ◌≤◌, ◌^◌, [], IfOk, Contains, length, map};
+ghost use Rattle.std.specs.Prelude.{◌≡◌, [], IfOk, map};
 ghost use Rattle.join_witness.specs.Listing.{names_of, places_of};
-ghost use Rattle.cqa_model.specs.declared.limits.TheConstants.{MOST_ATOMS, MOST_ROWS};
-ghost use Rattle.repair_clauses.specs.declared.span.Span.{Span as Run};
 ghost use Rattle.repair_clauses.specs.Clauses.{positive};
-ghost use Rattle.repair_clauses.specs.Spans.{AreApart, AreBased, AreBasedTo, numbers_in};
+ghost use Rattle.repair_clauses.specs.Spans.{numbers_in};
 ghost use Rattle.repair_clauses.specs.Encodings.{AddsWitnesses, AreTold};
 ghost use Rattle.search_answers.specs.Looking.{IsFoundOf};
 
@@ -14,7 +12,7 @@ use cnf_form::{Lit, Truth};
 use cqa_value::NoMemory;
 use flat_formula::{FlatFormula, Found, glance};
 use join_witness::Witness;
-use repair_clauses::span::Span;
+use repair_clauses::numbering::Numbering;
 use repair_clauses::{fill_block, fill_witness};
 use std::alloc::Global;
 
@@ -39,15 +37,14 @@ impl Room {
 
 /// Adds the clause of each block.
 fn pool_blocks(
-    spans: &[Span],
+    blocks: &Numbering,
     lits: &mut Vec<Lit>,
     formula: &mut FlatFormula,
 ) -> Result<(), NoMemory>
-    requires none { formula.old ≡ [] }
-    requires small { (s : Run) → Contains spans.now s → s.base + s.count < 2 ^ 32 }
-    ensures { IfOk result (λ done. formula.new ≡ map (map positive) (map numbers_in spans.now)) }
+    requires { formula.old ≡ [] }
+    ensures { IfOk result (λ done. formula.new ≡ map (map positive) (map numbers_in blocks.now.spans)) }
 {
-    for span in spans {
+    for span in blocks.spans.as_slice() {
         lits.clear();
         fill_block(span, lits)?;
         formula.add(lits.as_slice())?;
@@ -57,35 +54,30 @@ fn pool_blocks(
 
 /// Adds the clause of each witness.
 fn pool_witnesses(
-    spans: &[Span],
+    blocks: &Numbering,
     witnesses: &[Witness],
     lits: &mut Vec<Lit>,
     formula: &mut FlatFormula,
 ) -> Result<(), NoMemory>
-    requires apart { AreApart spans.now }
-    requires based { AreBased 0 spans.now }
-    requires told { AreTold spans.now witnesses.now }
-    ensures { IfOk result (λ done. AddsWitnesses spans.now (map places_of (names_of witnesses.now)) formula.old formula.new) }
+    requires { AreTold blocks.now.spans witnesses.now }
+    ensures { IfOk result (λ done. AddsWitnesses blocks.now.spans (map places_of (names_of witnesses.now)) formula.old formula.new) }
 {
     for witness in witnesses {
         lits.clear();
-        fill_witness(spans, witness.rows.as_slice(), lits)?;
+        fill_witness(blocks, witness.rows.as_slice(), lits)?;
         formula.add(lits.as_slice())?;
     }
     Ok(())
 }
 
 /// Puts the formula over numbered blocks into a room.
-fn pool_formula(spans: &[Span], witnesses: &[Witness], room: &mut Room) -> Result<(), NoMemory>
-    requires small { (s : Run) → Contains spans.now s → s.base + s.count < 2 ^ 32 }
-    requires apart { AreApart spans.now }
-    requires based { AreBased 0 spans.now }
-    requires told { AreTold spans.now witnesses.now }
-    ensures { IfOk result (λ done. AddsWitnesses spans.now (map places_of (names_of witnesses.now)) (map (map positive) (map numbers_in spans.now)) room.new.formula) }
+fn pool_formula(blocks: &Numbering, witnesses: &[Witness], room: &mut Room) -> Result<(), NoMemory>
+    requires { AreTold blocks.now.spans witnesses.now }
+    ensures { IfOk result (λ done. AddsWitnesses blocks.now.spans (map places_of (names_of witnesses.now)) (map (map positive) (map numbers_in blocks.now.spans)) room.new.formula) }
 {
     room.formula.clear();
-    pool_blocks(spans, &mut room.lits, &mut room.formula)?;
-    pool_witnesses(spans, witnesses, &mut room.lits, &mut room.formula)?;
+    pool_blocks(blocks, &mut room.lits, &mut room.formula)?;
+    pool_witnesses(blocks, witnesses, &mut room.lits, &mut room.formula)?;
     Ok(())
 }
 
@@ -110,22 +102,18 @@ fn is_small(vars: u32, witnesses: &[Witness], atoms: usize) -> bool {
 ///
 /// `NoMemory` where memory is refused.
 pub fn first_look(
-    spans: &[Span],
-    vars: u32,
+    blocks: &Numbering,
     witnesses: &[Witness],
     atoms: usize,
     budget: u32,
     room: &mut Room,
 ) -> Result<Found, NoMemory>
-    requires small { vars ≤ MOST_ATOMS * MOST_ROWS }
-    requires apart { AreApart spans.now }
-    requires based { AreBasedTo 0 spans.now vars }
-    requires told { AreTold spans.now witnesses.now }
-    ensures { IfOk result (IsFoundOf spans.now (map places_of (names_of witnesses.now))) }
+    requires { AreTold blocks.now.spans witnesses.now }
+    ensures { IfOk result (IsFoundOf blocks.now.spans (map places_of (names_of witnesses.now))) }
 {
-    if budget == 0 || !is_small(vars, witnesses, atoms) {
+    if budget == 0 || !is_small(blocks.vars, witnesses, atoms) {
         return Ok(Found::Unclear);
     }
-    pool_formula(spans, witnesses, room)?;
-    glance(&room.formula, vars, &mut room.values)
+    pool_formula(blocks, witnesses, room)?;
+    glance(&room.formula, blocks.vars, &mut room.values)
 }

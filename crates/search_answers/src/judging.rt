@@ -2,13 +2,13 @@
 //! Some rows are rejected by free rows alone, most small formulas are decided by a first look, and the solver gets what is
 //! left.
 
-ghost use Rattle.std.specs.Prelude.{◌*◌, ◌≡◌, ◌≤◌, IfOk, List, length};
+ghost use Rattle.std.specs.Prelude.{◌≡◌, IfOk, List, length};
 ghost use Rattle.cqa_value.specs.declared.value.Value.{Value};
 ghost use Rattle.cqa_model.specs.Query.{FitsDatabase};
-ghost use Rattle.cqa_model.specs.declared.limits.TheConstants.{MOST_ATOMS, MOST_ROWS};
 ghost use Rattle.join_witness.specs.Listing.{AreAllNames, HasTooMany, names_of};
 ghost use Rattle.join_witness.specs.Lookups.{IsLookup};
-ghost use Rattle.repair_clauses.specs.Spans.{AreSpansTo};
+ghost use Rattle.repair_clauses.specs.Encodings.{AreBlocksOf};
+ghost use Rattle.search_answers.specs.Classing.{AreWitnessed};
 ghost use Rattle.search_answers.specs.Searching.{IsVerdict, Judges};
 
 use crate::first_look::{Room, first_look};
@@ -19,7 +19,7 @@ use cqa_model::Query;
 use cqa_value::{Fail, NoMemory, Row};
 use flat_formula::Found;
 use join_witness::{Lookup, TooMany, Witness, witnesses_by};
-use repair_clauses::span::Span;
+use repair_clauses::numbering::Numbering;
 use repair_clauses::{Decided, are_avoidable, formula_over, relevant_blocks, solved};
 use std::alloc::Global;
 use table_blocks::Database;
@@ -60,21 +60,18 @@ fn judged(decided: Decided) -> Verdict
 /// conflicts each.
 fn judge_blocks(
     alloc: Global,
-    db: &Database,
+    _db: &Database,
     query: &Query,
-    spans: &[Span],
-    vars: u32,
+    blocks: &Numbering,
     witnesses: &[Witness],
     budget: u32,
 ) -> Result<Verdict, NoMemory>
-    requires fits { FitsDatabase query.now db.now }
-    requires small { vars ≤ MOST_ATOMS * MOST_ROWS }
-    requires blocks { (row : List Value) × AreAllNames query.now db.now row (names_of witnesses.now) × AreSpansTo query.now db.now row (length query.now.atoms) vars spans.now }
-    ensures { IfOk result (λ verdict. (row : List Value) → AreAllNames query.now db.now row (names_of witnesses.now) → AreSpansTo query.now db.now row (length query.now.atoms) vars spans.now →
-        (HasTooMany query.now db.now row → ⊥) → IsVerdict query.now db.now row budget verdict) }
+    requires fits { FitsDatabase query.now _db.now }
+    requires blocks { AreWitnessed query.now _db.now witnesses.now blocks.now }
+    ensures { IfOk result (λ verdict. (row : List Value) → AreAllNames query.now _db.now row (names_of witnesses.now) → AreBlocksOf query.now _db.now row blocks.now →
+        (HasTooMany query.now _db.now row → ⊥) → IsVerdict query.now _db.now row budget verdict) }
 {
-    let _tables = db.count();
-    let formula = formula_over(alloc, query, spans, vars, witnesses)?;
+    let formula = formula_over(alloc, query, blocks, witnesses)?;
     let decided = solved(alloc, formula, budget)?;
     Ok(judged(decided))
 }
@@ -85,21 +82,19 @@ fn judge_classes(
     alloc: Global,
     db: &Database,
     query: &Query,
-    spans: &[Span],
-    vars: u32,
+    blocks: &Numbering,
     witnesses: &[Witness],
     budget: u32,
 ) -> Result<Verdict, NoMemory>
     requires fits { FitsDatabase query.now db.now }
-    requires small { vars ≤ MOST_ATOMS * MOST_ROWS }
-    requires blocks { (row : List Value) × AreAllNames query.now db.now row (names_of witnesses.now) × AreSpansTo query.now db.now row (length query.now.atoms) vars spans.now }
-    ensures { IfOk result (λ verdict. (row : List Value) → AreAllNames query.now db.now row (names_of witnesses.now) → AreSpansTo query.now db.now row (length query.now.atoms) vars spans.now →
+    requires blocks { AreWitnessed query.now db.now witnesses.now blocks.now }
+    ensures { IfOk result (λ verdict. (row : List Value) → AreAllNames query.now db.now row (names_of witnesses.now) → AreBlocksOf query.now db.now row blocks.now →
         (HasTooMany query.now db.now row → ⊥) → IsVerdict query.now db.now row budget verdict) }
 {
-    match second_look(alloc, db, query, spans, witnesses, budget)? {
+    match second_look(alloc, db, query, blocks, witnesses, budget)? {
         Found::Satisfiable => Ok(Verdict::Rejected),
         Found::Unsatisfiable => Ok(Verdict::Certain),
-        Found::Unclear => judge_blocks(alloc, db, query, spans, vars, witnesses, budget),
+        Found::Unclear => judge_blocks(alloc, db, query, blocks, witnesses, budget),
     }
 }
 
@@ -116,29 +111,12 @@ fn judge_formula(
     requires all { (row : List Value) × AreAllNames query.now db.now row (names_of witnesses.now) }
     ensures { IfOk result (λ verdict. (row : List Value) → AreAllNames query.now db.now row (names_of witnesses.now) → (HasTooMany query.now db.now row → ⊥) → IsVerdict query.now db.now row budget verdict) }
 {
-    let _tables = db.count();
-    let mut spans = Vec::new(alloc);
-    let vars = relevant_blocks(alloc, db, query, witnesses, &mut spans)?;
-    let found = first_look(
-        spans.as_slice(),
-        vars,
-        witnesses,
-        query.atoms.len(),
-        budget,
-        room,
-    )?;
+    let blocks = relevant_blocks(alloc, db, query, witnesses)?;
+    let found = first_look(&blocks, witnesses, query.atoms.len(), budget, room)?;
     match found {
         Found::Satisfiable => Ok(Verdict::Rejected),
         Found::Unsatisfiable => Ok(Verdict::Certain),
-        Found::Unclear => judge_classes(
-            alloc,
-            db,
-            query,
-            spans.as_slice(),
-            vars,
-            witnesses,
-            budget,
-        ),
+        Found::Unclear => judge_classes(alloc, db, query, &blocks, witnesses, budget),
     }
 }
 

@@ -7,7 +7,6 @@ mod class_clauses;
 mod classing;
 mod first_look;
 mod judging;
-mod rising;
 mod search;
 mod second_look;
 mod spoken;

@@ -1,25 +1,24 @@
 //! A second look at a row's formula: rows that are alike are one variable, which makes most formulas smaller.
 
-ghost use Rattle.std.specs.Prelude.{ℕ, List, IfOk, length};
+ghost use Rattle.std.specs.Prelude.{List, IfOk};
 ghost use Rattle.cqa_value.specs.declared.value.Value.{Value};
 ghost use Rattle.cqa_model.specs.Query.{FitsDatabase};
 ghost use Rattle.cnf_form.specs.Literals.{IsInRange, literals};
 ghost use Rattle.cdcl.specs.Outcomes.{IsOnce};
 ghost use Rattle.flat_formula.specs.Findings.{FoundIs};
 ghost use Rattle.join_witness.specs.Listing.{AreAllNames, names_of};
-ghost use Rattle.repair_clauses.specs.Spans.{AreSpansTo};
-ghost use Rattle.search_answers.specs.Classing.{AreNumberedTo, AreQuotient, AreWitnessed, FoundOf, FoundSays, IsQuotient};
+ghost use Rattle.repair_clauses.specs.Encodings.{AreBlocksOf};
+ghost use Rattle.search_answers.specs.Classing.{AreWitnessed, FoundOf, FoundSays, IsQuotient};
 
 use crate::class_clauses::class_clauses;
-use crate::classing::classes_of;
-use crate::witness_rows::witness_rows;
+use crate::classing::classed_rows;
 use cdcl::{Outcome, solve};
-use cnf_form::{Clause, Cnf};
+use cnf_form::Cnf;
 use cqa_model::Query;
-use cqa_value::{Items, NoMemory};
+use cqa_value::NoMemory;
 use flat_formula::Found;
 use join_witness::Witness;
-use repair_clauses::span::Span;
+use repair_clauses::numbering::Numbering;
 use std::alloc::Global;
 use table_blocks::Database;
 
@@ -55,43 +54,22 @@ fn found_in(alloc: Global, cnf: &Cnf, budget: u32) -> Result<Found, NoMemory>
     }
 }
 
-/// The clauses over classes of rows that are alike.
-fn clauses_over(
-    alloc: Global,
-    db: &Database,
-    query: &Query,
-    numbered: &[Span],
-    spans: &[Span],
-    witnesses: &[Witness],
-) -> Result<Items<Clause>, NoMemory>
-    requires fits { FitsDatabase query.now db.now }
-    requires blocks { AreWitnessed query.now db.now witnesses.now spans.now }
-    requires rows { AreNumberedTo (names_of witnesses.now) (length query.now.atoms) numbered.now }
-    ensures { IfOk result (λ clauses. AreQuotient query.now db.now numbered.now spans.now (names_of witnesses.now) (literals clauses)) }
-{
-    let _tables = db.count();
-    let classes = classes_of(alloc, db, query, numbered, witnesses)?;
-    let clauses = class_clauses(alloc, numbered, classes.as_slice(), spans, witnesses);
-    drop(classes);
-    clauses
-}
-
 /// The formula over classes of rows that are alike. Its variables are the rows that are in witnesses.
 fn formula_of_classes(
     alloc: Global,
     db: &Database,
     query: &Query,
-    spans: &[Span],
+    blocks: &Numbering,
     witnesses: &[Witness],
 ) -> Result<Cnf, NoMemory>
     requires fits { FitsDatabase query.now db.now }
-    requires blocks { AreWitnessed query.now db.now witnesses.now spans.now }
-    ensures { IfOk result (IsQuotient query.now db.now spans.now (names_of witnesses.now)) }
+    requires blocks { AreWitnessed query.now db.now witnesses.now blocks.now }
+    ensures { IfOk result (IsQuotient query.now db.now blocks.now.spans (names_of witnesses.now)) }
 {
-    let numbered = witness_rows(alloc, db, query, witnesses)?;
-    let vars = numbered.len() as u32;
-    let clauses = clauses_over(alloc, db, query, numbered.as_slice(), spans, witnesses);
-    drop(numbered);
+    let classed = classed_rows(alloc, db, query, witnesses)?;
+    let vars = classed.rows.vars;
+    let clauses = class_clauses(alloc, &classed, blocks, witnesses);
+    drop(classed);
     let clauses = clauses?;
     Ok(Cnf { vars, clauses })
 }
@@ -106,17 +84,17 @@ pub fn second_look(
     alloc: Global,
     db: &Database,
     query: &Query,
-    spans: &[Span],
+    blocks: &Numbering,
     witnesses: &[Witness],
     budget: u32,
 ) -> Result<Found, NoMemory>
     requires fits { FitsDatabase query.now db.now }
-    requires blocks { AreWitnessed query.now db.now witnesses.now spans.now }
-    ensures { IfOk result (λ found. (row : List Value) (vars : ℕ) → AreAllNames query.now db.now row (names_of witnesses.now) → AreSpansTo query.now db.now row (length query.now.atoms) vars spans.now →
+    requires blocks { AreWitnessed query.now db.now witnesses.now blocks.now }
+    ensures { IfOk result (λ found. (row : List Value) → AreAllNames query.now db.now row (names_of witnesses.now) → AreBlocksOf query.now db.now row blocks.now →
         FoundSays query.now db.now row found) }
 {
     let _tables = db.count();
-    let cnf = formula_of_classes(alloc, db, query, spans, witnesses)?;
+    let cnf = formula_of_classes(alloc, db, query, blocks, witnesses)?;
     let found = found_in(alloc, &cnf, budget);
     drop(cnf);
     found

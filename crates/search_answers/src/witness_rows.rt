@@ -8,11 +8,11 @@ ghost use Rattle.cqa_model.specs.declared.limits.TheConstants.{MOST_ROWS};
 ghost use Rattle.join_witness.specs.Listing.{AreAllNames, names_of};
 ghost use Rattle.search_answers.specs.Classing.{AreNumberedTo, rows_from};
 
-use crate::rising::put_in_order;
 use cqa_model::Query;
-use cqa_value::NoMemory;
+use cqa_value::{Items, NoMemory};
 use join_witness::Witness;
 use repair_clauses::column::column;
+use repair_clauses::numbering::Numbering;
 use repair_clauses::span::Span;
 use std::alloc::Global;
 use table_blocks::Database;
@@ -51,12 +51,11 @@ fn add_atom(
     ensures rows { IfOk result (λ done. AreNumberedTo (names_of witnesses.now) (at + 1) numbered.new.items) }
 {
     let _tables = db.count();
-    let mut places = column(alloc, witnesses, at)?;
-    put_in_order(&mut places);
+    let places = column(alloc, witnesses, at)?;
     add_places(at as u32, places.as_slice(), numbered)
 }
 
-/// The rows that are in witnesses, each once, as spans of one row.
+/// The rows that are in witnesses, each once, by spans of one row.
 ///
 /// # Errors
 ///
@@ -66,14 +65,19 @@ pub fn witness_rows(
     db: &Database,
     query: &Query,
     witnesses: &[Witness],
-) -> Result<Vec<Span>, NoMemory>
+) -> Result<Numbering, NoMemory>
     requires fits { FitsDatabase query.now db.now }
     requires all { (row : List Value) × AreAllNames query.now db.now row (names_of witnesses.now) }
-    ensures { IfOk result (λ numbered. AreNumberedTo (names_of witnesses.now) (length query.now.atoms) numbered.items) }
+    ensures { IfOk result (λ numbered. AreNumberedTo (names_of witnesses.now) (length query.now.atoms) numbered.spans) }
 {
+    let _tables = db.count();
     let mut numbered = Vec::new(alloc);
     for at in 0..query.atoms.len() {
         add_atom(alloc, db, query, witnesses, at, &mut numbered)?;
     }
-    Ok(numbered)
+    let vars = numbered.len() as u32;
+    Ok(Numbering {
+        spans: Items::from_vec(numbered),
+        vars,
+    })
 }

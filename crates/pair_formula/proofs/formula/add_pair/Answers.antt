@@ -7,10 +7,10 @@ use Rattle.pair_formula.proofs.formula.add_pair.Goals as goal
 
 pub returns-in_ok-push : goal.returns-in_ok-push
 returns-in_ok-push c =
-    let spans = c.args.spans.now in
+    let spans = c.args.blocks.now.spans in
     let names = c.as_slice-names.result.now in
     let rows = c.args.witness.now.rows in
-    let two = c.requires.two in
+    let two = c.requires in
     inl (
       record { left = c.in-Some.left; right = c.in-Some-number_of.right },
       (
@@ -22,16 +22,16 @@ returns-in_ok-push c =
 
 pub returns-in_default-number_of : goal.returns-in_default-number_of
 returns-in_default-number_of c =
-    let spans = c.args.spans.now in
+    let spans = c.args.blocks.now.spans in
     let rows = c.args.witness.now.rows in
-    let two = c.requires.two in
+    let two = c.requires in
     let n = read-number spans c.as_slice-names.result.now rows 1 c.number_of-in-Some.result c.as_slice-names.ensures (omega (arith, two)) c.number_of-in-Some.ensures in
     pair-none-right spans rows _ (no-number spans 1 _ c.number_of-in-Some.result c.in_default-number_of.not-Some n)
 
 pub returns-in_default : goal.returns-in_default
 returns-in_default c =
-    let spans = c.args.spans.now in
+    let spans = c.args.blocks.now.spans in
     let rows = c.args.witness.now.rows in
-    let two = c.requires.two in
+    let two = c.requires in
     let n = read-number spans c.as_slice-names.result.now rows 0 c.number_of.result c.as_slice-names.ensures (omega (arith, two)) c.number_of.ensures in
     pair-none-left spans rows _ (no-number spans 0 _ c.number_of.result c.in_default.not-Some n)

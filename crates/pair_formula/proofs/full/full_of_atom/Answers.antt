@@ -6,7 +6,6 @@ use Rattle.repair_clauses.specs.Runs.{ArePlaces, AreColumn}
 use Rattle.repair_clauses.proofs.Naming.{are_places}
 use Rattle.repair_clauses.proofs.Encoding.{rows_long}
 use Rattle.pair_formula.specs.Full.{AreFullRuns}
-use Rattle.pair_formula.proofs.FullRuns.{column-once}
 use Rattle.pair_formula.proofs.full.full_of_atom.Goals as goal
 
 pub column-requires : goal.column-requires
@@ -18,8 +17,7 @@ full_runs-vars-requires-clause-places c =
     let db = c.args.db.now in
     let all = names_of c.args.witnesses.now in
     let rows = c.rows-rows.ensures.is ∙ ap (λ (a : Atom). rows_at db a.table) c.atom_of-atom.ensures in
-    let once = column-once all c.args.at c.in_ok-places.places.items c.each_once.new.places.items c.in_ok-places.ensures c.each_once.ensures.rises c.each_once.ensures.same in
-    let places = subst (AreColumn all c.args.at) (sym c.as_slice-2.ensures.value) once in
+    let places = subst (AreColumn all c.args.at) (sym c.as_slice-2.ensures.value) c.in_ok-places.ensures in
     subst (λ x. ArePlaces x c.as_slice-2.result.now) (sym rows) (are_places q db c.requires.all.0 all c.requires.all.1 c.args.at c.requires.there c.as_slice-2.result.now places)
 
 pub returns-clause-blocks : goal.returns-clause-blocks
@@ -27,8 +25,7 @@ returns-clause-blocks c =
     let db = c.args.db.now in
     let all = names_of c.args.witnesses.now in
     let n = c.args.at in
-    let once = column-once all n c.in_ok-places.places.items c.each_once.new.places.items c.in_ok-places.ensures c.each_once.ensures.rises c.each_once.ensures.same in
-    let places = subst (AreColumn all n) (sym c.as_slice-2.ensures.value) once in
+    let places = subst (AreColumn all n) (sym c.as_slice-2.ensures.value) c.in_ok-places.ensures in
     let vars = c.in_ok-vars.vars in
     let spans = c.full_runs-vars.new.spans.items in
     let r_key = subst (λ k. AreFullRuns k c.rows-rows.result n c.args.base c.as_slice-2.result.now vars spans) c.as_slice.ensures c.in_ok-vars.ensures in

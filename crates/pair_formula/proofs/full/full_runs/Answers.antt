@@ -8,7 +8,7 @@ loop-at-init c = subst (AreFullTo c.args.key.now c.args.rows.now c.args.places.n
 pub loop-at-preserved : goal.loop-at-preserved
 loop-at-preserved c =
     let e = c.run_end-end.ensures in
-    full-more c.args.key.now c.args.rows.now c.args.places.now c.requires.order c.requires.places c.requires.rises c.args.atom c.args.base c.loop-at.at c.loop-at.vars c.loop-at.spans.items c.loop-at.invariant
+    full-more c.args.key.now c.args.rows.now c.args.places.now c.requires.order c.requires.places c.args.atom c.args.base c.loop-at.at c.loop-at.vars c.loop-at.spans.items c.loop-at.invariant
     (omega (arith, c.loop-at-test.true)) c.run_end-end.result e.some e.within e.run e.stops c.in_ok-vars.vars c.add_run.new.spans.items c.in_ok-vars.ensures
 
 pub returns : goal.returns

@@ -5,6 +5,6 @@ use Rattle.repair_clauses.proofs.column.column.Goals as goal
 
 pub returns : goal.returns
 returns c =
-    column_is c.args.witnesses.now c.args.atom c.loop-witness.places.items c.sort_unstable.new.self.items
+    column_is c.args.witnesses.now c.args.atom c.loop-witness.places.items c.put_in_order.new.numbers.items
     (c.loop-witness.invariant ∙ ap (map (place_in c.args.atom)) (take_all c.loop-witness.witness-index c.args.witnesses.now (omega arith)))
-    c.sort_unstable.ensures.permutation c.sort_unstable.ensures.sorted
+    c.put_in_order.ensures.rises c.put_in_order.ensures.same

@@ -5,4 +5,4 @@ use Rattle.repair_clauses.proofs.formula.names.Given as goal
 
 -- the names of the rows of the blocks so far
 abbrev pub invariant-loop-span : goal.invariant-loop-span
-invariant-loop-span l = l.rows.items ≡ map (name_of l.query) (variables_of (take l.span-index l.spans))
+invariant-loop-span l = l.rows.items ≡ map (name_of l.query) (variables_of (take l.span-index l.blocks.spans))

@@ -1,4 +1,4 @@
-use Rattle.std.proofs.Common.{◌∙◌, ap, sym, subst}
+use Rattle.std.proofs.Common.{◌∙◌, ap, sym, subst, arith}
 use Rattle.cqa_model.specs.declared.query.Atom.{Atom}
 use Rattle.table_blocks.specs.Tables.{rows_at}
 use Rattle.join_witness.specs.Listing.{names_of}
@@ -24,4 +24,11 @@ returns-clause-more c = λ row spans all s.
     let places = subst (AreColumn (names_of c.args.witnesses.now) c.args.at) (sym c.as_slice-2.ensures.value) c.in_ok-places.ensures in
     let more = c.in_ok-more.more in
     blocks_more c.args.query.now c.args.db.now row (names_of c.args.witnesses.now) all c.args.at c.args.base more.vars spans more.list c.as_slice-2.result.now s c.requires.there places
-    c.atom_of-atom.result.now c.as_slice.result.now c.rows-rows.result c.atom_of-atom.ensures c.as_slice.ensures c.rows-rows.ensures.is c.in_ok-more.ensures.runs c.in_ok-more.ensures.based
+    c.atom_of-atom.result.now c.as_slice.result.now c.rows-rows.result c.atom_of-atom.ensures c.as_slice.ensures c.rows-rows.ensures.is c.in_ok-more.ensures
+
+pub returns-clause-small : goal.returns-clause-small
+returns-clause-small c =
+    let more = c.in_ok-more.ensures.small in
+    let few = c.rows-rows.ensures.few in
+    let base = c.requires.small in
+    omega (arith, more, few, base)

@@ -1,29 +1,36 @@
-use Rattle.std.proofs.Common.{◌≡◌, ◌++◌, ◌∷◌, [], ◌∙◌, ap, get_or}
+use Rattle.std.proofs.Common.{◌≡◌, ◌<◌, ◌++◌, ◌∷◌, [], ◌∙◌, ℕ, List, length, ap, get_or, sym, subst}
 use Rattle.std.proofs.lemmas.List.{get_or_default}
-use Rattle.std.proofs.lemmas.List.Elements.{Contains-get_or}
+use Rattle.repair_clauses.specs.declared.span.Span.{Span}
 use Rattle.repair_clauses.specs.Spans.{variables_of}
-use Rattle.repair_clauses.proofs.Encoding.{no_span}
+use Rattle.repair_clauses.proofs.Encoding.{no_span, read_in}
 use Rattle.search_answers.proofs.ClassLists.{lists-push, lists-skip}
 use Rattle.search_answers.proofs.WitnessRows.{rising}
 use Rattle.search_answers.proofs.class_clauses.add_block_list.Goals as goal
 
-pub gather_block-requires-clause-small : goal.gather_block-requires-clause-small
-gather_block-requires-clause-small c = c.requires.small (get_or c.args.spans.now c.args.at no_span) (Contains-get_or c.args.spans.now c.args.at no_span c.requires.there)
+-- the span that is read is the list's
+read : (spans items : List Span) (at : ℕ) → items ≡ spans → at < length spans → get_or items at no_span ≡ get_or spans at (get_or items at no_span)
+read spans items at e l = ap (λ ss. get_or ss at no_span) e ∙ get_or_default spans at no_span (get_or items at no_span) l
+
+pub gather_block-requires-clause-within : goal.gather_block-requires-clause-within
+gather_block-requires-clause-within c =
+    let blocks = c.args.blocks.now in
+    let items = c.as_slice.result.now in
+    blocks.kept.within (get_or items c.args.at no_span) (read_in blocks.spans items c.args.at c.as_slice.ensures (subst (λ ss. c.args.at < length ss) (sym c.as_slice.ensures) c.requires.there))
 
 pub returns-in_ok-push : goal.returns-in_ok-push
 returns-in_ok-push c =
-    let numbered = c.args.numbered.now in
-    let spans = c.args.spans.now in
-    let s = get_or spans c.args.at no_span in
-    let is : s ≡ get_or spans c.args.at s = get_or_default spans c.args.at no_span s c.requires.there in
-    lists-push (variables_of numbered) (rising numbered c.requires.single) c.args.classes.now spans c.args.at s c.requires.there is c.args.lists.now.items c.requires.so_far
+    let classed = c.args.classed.now in
+    let spans = c.args.blocks.now.spans in
+    let items = c.as_slice.result.now in
+    lists-push (variables_of classed.rows.spans) (rising classed.rows.spans classed.single) classed.classes.items spans c.args.at (get_or items c.args.at no_span) c.requires.there
+    (read spans items c.args.at c.as_slice.ensures c.requires.there) c.args.lists.now.items c.requires.so_far
     c.gather_block.new.numbers.items c.put_in_order.new.numbers.items c.push.new.self.items (c.in_ok-gather_block.ensures.all c.if-branch.true) c.put_in_order.ensures.rises c.put_in_order.ensures.same
     (c.in_ok-push.ensures.items ∙ ap (λ ns. c.args.lists.now.items ++ ns ∷ []) c.from_vec.ensures)
 
 pub returns-else-branch : goal.returns-else-branch
 returns-else-branch c =
-    let numbered = c.args.numbered.now in
-    let spans = c.args.spans.now in
-    let s = get_or spans c.args.at no_span in
-    let is : s ≡ get_or spans c.args.at s = get_or_default spans c.args.at no_span s c.requires.there in
-    lists-skip (variables_of numbered) (rising numbered c.requires.single) c.args.classes.now spans c.args.at s c.requires.there is c.args.lists.now.items c.requires.so_far (c.in_ok-gather_block.ensures.some c.if-branch.false)
+    let classed = c.args.classed.now in
+    let spans = c.args.blocks.now.spans in
+    let items = c.as_slice.result.now in
+    lists-skip (variables_of classed.rows.spans) (rising classed.rows.spans classed.single) classed.classes.items spans c.args.at (get_or items c.args.at no_span) c.requires.there
+    (read spans items c.args.at c.as_slice.ensures c.requires.there) c.args.lists.now.items c.requires.so_far (c.in_ok-gather_block.ensures.some c.if-branch.false)

@@ -5,4 +5,4 @@ use Rattle.search_answers.proofs.class_clauses.block_lists.Given as goal
 
 -- the lists of the blocks so far
 abbrev pub invariant-loop-at : goal.invariant-loop-at
-invariant-loop-at l = AreBlockLists (variables_of l.numbered) l.classes (take l.at l.spans) l.lists.items
+invariant-loop-at l = AreBlockLists (variables_of l.classed.rows.spans) l.classed.classes.items (take l.at l.blocks.spans) l.lists.items

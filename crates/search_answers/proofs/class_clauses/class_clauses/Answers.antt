@@ -10,15 +10,15 @@ use Rattle.search_answers.proofs.class_clauses.class_clauses.Goals as goal
 
 pub returns : goal.returns
 returns c =
-    let vars = variables_of c.args.numbered.now in
-    let blocks = c.in_ok-blocks.blocks.items in
+    let vars = variables_of c.args.classed.now.rows.spans in
+    let blocks = c.in_ok-whole.whole.items in
     let found = c.each_once.new.lists.items in
     let first : literals c.add_clauses.new.clauses.items ≡ map (map positive) blocks =
     c.in_ok-add_clauses.ensures ∙ (ap (λ (cs : List Clause). literals cs ++ map (map (signed true)) c.as_slice.result.now) c.in_ok-clauses.ensures.items ∙ ap (map (map positive)) c.as_slice.ensures.value) in
-    subst (λ (cs : List Clause). AreClassClauses vars c.args.classes.now c.args.spans.now (names_of c.args.witnesses.now) (literals cs)) (sym c.from_vec.ensures) (record {
+    subst (λ (cs : List Clause). AreClassClauses vars c.args.classed.now.classes.items c.args.blocks.now.spans (names_of c.args.witnesses.now) (literals cs)) (sym c.from_vec.ensures) (record {
       blocks = blocks;
       witnesses = found;
-      of_blocks = c.in_ok-blocks.ensures;
-      of_names = names-same vars c.args.classes.now (names_of c.args.witnesses.now) c.in_ok-found.found.items found c.in_ok-found.ensures c.each_once.ensures;
+      of_blocks = c.in_ok-whole.ensures;
+      of_names = names-same vars c.args.classed.now.classes.items (names_of c.args.witnesses.now) c.in_ok-found.found.items found c.in_ok-found.ensures c.each_once.ensures;
       is = c.in_ok-add_clauses-2.ensures ∙ (ap (λ cs. cs ++ map (map (signed false)) c.as_slice-2.result.now) first ∙ ap (λ ls. map (map positive) blocks ++ map (map negative) ls) c.as_slice-2.ensures.value);
     })

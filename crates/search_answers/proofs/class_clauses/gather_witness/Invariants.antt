@@ -5,4 +5,4 @@ use Rattle.search_answers.proofs.class_clauses.gather_witness.Given as goal
 
 -- the classes of the rows so far
 abbrev pub invariant-loop-at : goal.invariant-loop-at
-invariant-loop-at l = (n : ℕ) → Contains l.numbers.items n ↔ ((F : ℕ) × (F < l.at) × HasClass (variables_of l.numbered) l.classes F (place_at l.names F) n)
+invariant-loop-at l = (n : ℕ) → Contains l.numbers.items n ↔ ((F : ℕ) × (F < l.at) × HasClass (variables_of l.classed.rows.spans) l.classed.classes.items F (place_at l.names F) n)

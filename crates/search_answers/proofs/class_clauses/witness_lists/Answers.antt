@@ -10,24 +10,24 @@ use Rattle.search_answers.proofs.ClassLists.{names-more, names-none, taken-next}
 use Rattle.search_answers.proofs.class_clauses.witness_lists.Goals as goal
 
 pub loop-witness-init : goal.loop-witness-init
-loop-witness-init c = subst (AreNameLists (variables_of c.args.numbered.now) c.args.classes.now []) (sym c.in_ok-lists.ensures.items) (names-none (variables_of c.args.numbered.now) c.args.classes.now)
+loop-witness-init c = subst (AreNameLists (variables_of c.args.classed.now.rows.spans) c.args.classed.now.classes.items []) (sym c.in_ok-lists.ensures.items) (names-none (variables_of c.args.classed.now.rows.spans) c.args.classed.now.classes.items)
 
-pub witness_list-requires-clause-few : goal.witness_list-requires-clause-few
-witness_list-requires-clause-few c =
+pub witness_list-requires : goal.witness_list-requires
+witness_list-requires c =
     let i = c.loop-witness.witness-index in
-    subst (λ (names : List RowId). length names ≤ MOST_ATOMS) (sym c.as_slice.ensures) (c.requires.few c.witness-item.result (i, omega arith, sym c.witness-item.is))
+    subst (λ (names : List RowId). length names ≤ MOST_ATOMS) (sym c.as_slice.ensures) (c.requires c.witness-item.result (i, omega arith, sym c.witness-item.is))
 
 pub loop-witness-preserved : goal.loop-witness-preserved
 loop-witness-preserved c =
     let i = c.loop-witness.witness-index in
     let w = c.witness-item.result in
     let ws = c.args.witnesses.now in
-    let vars = variables_of c.args.numbered.now in
+    let vars = variables_of c.args.classed.now.rows.spans in
     let numbers = c.in_ok-witness_list.field-0 in
     let names : names_of (take (i + 1) ws) ≡ names_of (take i ws) ++ w.rows ∷ [] = ap names_of (taken-next ws i w (omega arith) c.witness-item.is) ∙ map_push (λ (x : Witness). x.rows) (take i ws) w in
-    subst (λ all. AreNameLists vars c.args.classes.now all c.push.new.self.items) (sym names)
-    (names-more vars c.args.classes.now (names_of (take i ws)) w.rows c.loop-witness.lists.items c.push.new.self.items numbers c.loop-witness.invariant
-    (subst (λ ns. AreOfNames vars c.args.classes.now ns numbers) c.as_slice.ensures c.in_ok-witness_list.ensures) c.in_ok-push.ensures.items)
+    subst (λ all. AreNameLists vars c.args.classed.now.classes.items all c.push.new.self.items) (sym names)
+    (names-more vars c.args.classed.now.classes.items (names_of (take i ws)) w.rows c.loop-witness.lists.items c.push.new.self.items numbers c.loop-witness.invariant
+    (subst (λ ns. AreOfNames vars c.args.classed.now.classes.items ns numbers) c.as_slice.ensures c.in_ok-witness_list.ensures) c.in_ok-push.ensures.items)
 
 pub returns : goal.returns
-returns c = subst (λ (ws : List Witness). AreNameLists (variables_of c.args.numbered.now) c.args.classes.now (names_of ws) c.loop-witness.lists.items) (take_all c.loop-witness.witness-index c.args.witnesses.now (omega arith)) c.loop-witness.invariant
+returns c = subst (λ (ws : List Witness). AreNameLists (variables_of c.args.classed.now.rows.spans) c.args.classed.now.classes.items (names_of ws) c.loop-witness.lists.items) (take_all c.loop-witness.witness-index c.args.witnesses.now (omega arith)) c.loop-witness.invariant

@@ -6,4 +6,4 @@ use Rattle.search_answers.proofs.class_clauses.witness_lists.Given as goal
 
 -- the lists of the witnesses so far
 abbrev pub invariant-loop-witness : goal.invariant-loop-witness
-invariant-loop-witness l = AreNameLists (variables_of l.numbered) l.classes (names_of (take l.witness-index l.witnesses)) l.lists.items
+invariant-loop-witness l = AreNameLists (variables_of l.classed.rows.spans) l.classed.classes.items (names_of (take l.witness-index l.witnesses)) l.lists.items

@@ -6,6 +6,7 @@ use Rattle.std.proofs.lemmas.List.Elements.{Contains-get_or}
 use Rattle.repair_clauses.specs.Clauses.{HasNumber}
 use Rattle.repair_clauses.specs.Spans.{at, variables_of}
 use Rattle.search_answers.specs.Classing.{Marks}
+use Rattle.repair_clauses.proofs.Atoms.{based-whole}
 use Rattle.repair_clauses.proofs.Spans.{has_number}
 use Rattle.search_answers.proofs.Marking.{marks-none, marks-more}
 use Rattle.search_answers.proofs.classing.mark_rows.Goals as goal
@@ -21,13 +22,13 @@ some-is (x ∷ xs) e = omega arith
 pub returns-then-is_empty : goal.returns-then-is_empty
 returns-then-is_empty c =
     let e : c.args.places.now ≡ [] = empty-is c.args.places.now (sym c.is_empty.ensures ∙ c.if-is_empty.true) in
-    subst (λ ps. Marks (variables_of c.args.numbered.now) c.args.columns.now c.args.rows.now c.args.atom ps c.args.classes.now c.args.classes.now) (sym e)
-    (marks-none (variables_of c.args.numbered.now) c.args.columns.now c.args.rows.now c.args.atom c.args.classes.now)
+    subst (λ ps. Marks (variables_of c.args.numbered.now.spans) c.args.columns.now c.args.rows.now c.args.atom ps c.args.classes.now c.args.classes.now) (sym e)
+    (marks-none (variables_of c.args.numbered.now.spans) c.args.columns.now c.args.rows.now c.args.atom c.args.classes.now)
 
 pub loop-place-init : goal.loop-place-init
 loop-place-init c = record {
   first = Contains-get_or c.args.places.now 0 0 (some-is c.args.places.now (sym c.is_empty.ensures ∙ c.if-is_empty.false));
-  marks = marks-none (variables_of c.args.numbered.now) c.args.columns.now c.args.rows.now c.args.atom c.args.classes.now;
+  marks = marks-none (variables_of c.args.numbered.now.spans) c.args.columns.now c.args.rows.now c.args.atom c.args.classes.now;
 }
 
 pub first_alike-first-requires-clause-first : goal.first_alike-first-requires-clause-first
@@ -36,15 +37,15 @@ first_alike-first-requires-clause-first c = c.requires.there c.loop-place.first 
 pub first_alike-first-requires-clause-place : goal.first_alike-first-requires-clause-place
 first_alike-first-requires-clause-place c = c.requires.there (get_or c.args.places.now c.loop-place.place-index 0) (Contains-get_or c.args.places.now c.loop-place.place-index 0 (omega arith))
 
-pub number-at-requires-clause-covered : goal.number-at-requires-clause-covered
-number-at-requires-clause-covered c = c.requires.covered (get_or c.args.places.now c.loop-place.place-index 0) (Contains-get_or c.args.places.now c.loop-place.place-index 0 (omega arith))
+pub number-at-requires : goal.number-at-requires
+number-at-requires c = c.requires.covered (get_or c.args.places.now c.loop-place.place-index 0) (Contains-get_or c.args.places.now c.loop-place.place-index 0 (omega arith))
 
 one_of : (P : ℕ → Type 0) (r a b : ℕ) → (r ≡ a) ⊎ (r ≡ b) → P a → P b → P r
 one_of P r a b (inl e) p q = subst P (sym e) p
 one_of P r a b (inr e) p q = subst P (sym e) q
 
-pub number-requires-clause-covered : goal.number-requires-clause-covered
-number-requires-clause-covered c =
+pub number-requires : goal.number-requires
+number-requires c =
     let place = get_or c.args.places.now c.loop-place.place-index 0 in
     c.requires.covered c.first_alike-first.result
     (one_of (Contains c.args.places.now) c.first_alike-first.result c.loop-place.first place c.first_alike-first.ensures.one c.loop-place.invariant.first (Contains-get_or c.args.places.now c.loop-place.place-index 0 (omega arith)))
@@ -61,7 +62,7 @@ bounds-classes-at c =
     let place = get_or c.args.places.now c.loop-place.place-index 0 in
     let s = c.requires.covered place (Contains-get_or c.args.places.now c.loop-place.place-index 0 (omega arith)) in
     let e = c.number-at.ensures s.0 s.1 s.2 in
-    let l = slice_get_within (variables_of c.args.numbered.now) (s.0.base + (place - s.0.start)) (at c.args.atom place) (has_number c.args.numbered.now c.requires.based s.0 s.1 (at c.args.atom place) s.2) in
+    let l = slice_get_within (variables_of c.args.numbered.now.spans) (s.0.base + (place - s.0.start)) (at c.args.atom place) (has_number c.args.numbered.now.spans (based-whole 0 c.args.numbered.now.vars c.args.numbered.now.spans c.args.numbered.now.kept.based) s.0 s.1 (at c.args.atom place) s.2) in
     let size = c.requires.size in
     let same = c.loop-place.invariant.marks.size in
     omega (arith, e, l, size, same)
@@ -72,13 +73,13 @@ loop-place-preserved c =
     let i = c.loop-place.place-index in
     let place = get_or places i 0 in
     let there = Contains-get_or places i 0 (omega arith) in
-    let vars = variables_of c.args.numbered.now in
+    let vars = variables_of c.args.numbered.now.spans in
     let r = c.first_alike-first.result in
     let mr : Contains places r = one_of (Contains places) r c.loop-place.first place c.first_alike-first.ensures.one c.loop-place.invariant.first there in
     let s = c.requires.covered place there in
     let e = c.number-at.ensures s.0 s.1 s.2 in
     let k : s.0.base + (place - s.0.start) ≡ c.number-at.result - 1 = omega (arith, e) in
-    let hk = has_number c.args.numbered.now c.requires.based s.0 s.1 (at c.args.atom place) s.2 in
+    let hk = has_number c.args.numbered.now.spans (based-whole 0 c.args.numbered.now.vars c.args.numbered.now.spans c.args.numbered.now.kept.based) s.0 s.1 (at c.args.atom place) s.2 in
     let l = slice_get_within vars (s.0.base + (place - s.0.start)) (at c.args.atom place) hk in
     let size = c.requires.size in
     let same = c.loop-place.invariant.marks.size in
@@ -89,9 +90,9 @@ loop-place-preserved c =
       marks = subst (λ ps. Marks vars c.args.columns.now c.args.rows.now c.args.atom ps c.args.classes.now (Rattle.std.proofs.Common.set c.loop-place.classes (c.number-at.result - 1) (Some c.number.result))) (sym (take_more places i 0 (omega arith)))
           (marks-more vars c.args.columns.now c.args.rows.now c.args.atom c.args.classes.now (take i places) c.loop-place.classes place r (c.number-at.result - 1) c.number.result c.loop-place.invariant.marks
           (subst (λ z. slice_get vars z ≡ Some (at c.args.atom place)) k hk) (omega (arith, e, l, size, same))
-          (subst (λ z. HasNumber vars z (at c.args.atom r)) (sym f) (has_number c.args.numbered.now c.requires.based t.0 t.1 (at c.args.atom r) t.2))
+          (subst (λ z. HasNumber vars z (at c.args.atom r)) (sym f) (has_number c.args.numbered.now.spans (based-whole 0 c.args.numbered.now.vars c.args.numbered.now.spans c.args.numbered.now.kept.based) t.0 t.1 (at c.args.atom r) t.2))
           c.first_alike-first.ensures.alike);
     }
 
 pub returns : goal.returns
-returns c = subst (λ ps. Marks (variables_of c.args.numbered.now) c.args.columns.now c.args.rows.now c.args.atom ps c.args.classes.now c.loop-place.classes) (take_all c.loop-place.place-index c.args.places.now (omega arith)) c.loop-place.invariant.marks
+returns c = subst (λ ps. Marks (variables_of c.args.numbered.now.spans) c.args.columns.now c.args.rows.now c.args.atom ps c.args.classes.now c.loop-place.classes) (take_all c.loop-place.place-index c.args.places.now (omega arith)) c.loop-place.invariant.marks

@@ -7,5 +7,5 @@ use Rattle.search_answers.proofs.classing.mark_rows.Given as goal
 abbrev pub invariant-loop-place : goal.invariant-loop-place
 invariant-loop-place l = record {
   first : Contains l.places l.first;
-  marks : Marks (variables_of l.numbered) l.columns l.rows l.atom (take l.place-index l.places) l.fn.classes l.classes;
+  marks : Marks (variables_of l.numbered.spans) l.columns l.rows l.atom (take l.place-index l.places) l.fn.classes l.classes;
 }

@@ -5,4 +5,4 @@ use Rattle.search_answers.proofs.first_look.pool_blocks.Given as goal
 
 -- the clauses of the blocks so far
 abbrev pub invariant-loop-span : goal.invariant-loop-span
-invariant-loop-span l = l.formula ≡ map (map positive) (map numbers_in (take l.span-index l.spans))
+invariant-loop-span l = l.formula ≡ map (map positive) (map numbers_in (take l.span-index l.blocks.spans))
