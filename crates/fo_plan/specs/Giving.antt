@@ -1,9 +1,14 @@
 -- What a plan holds for, read as a set of rows.
-use Rattle.std.specs.Prelude.{◌≡◌, ◌⊎◌, ◌↔◌, ℕ, ◌<◌, List, length, Contains}
+use Rattle.std.specs.Prelude.{◌≡◌, ◌⊎◌, ◌↔◌, ℕ, ◌<◌, List, ◌∷◌, length, Contains}
 use Rattle.cqa_value.specs.declared.value.Value.{Value}
 use Rattle.cqa_model.specs.declared.query.Query.{Query}
+use Rattle.cqa_model.specs.Database.{stored}
 use Rattle.cqa_model.specs.Plan.{Placed, PlanHolds}
+use Rattle.plan_rows.specs.Taking.{placed}
 use Rattle.plan_rows.specs.Fitting.{GivesAt}
+use Rattle.plan_rows.specs.Over.{query_of, tables_of, rows_before}
+use Rattle.plan_rows.specs.declared.steps.Rest.{Rest}
+use Rattle.plan_rows.specs.declared.steps.Step.{Step}
 use Rattle.fo_plan.specs.Holding.{AllHold}
 
 -- each atom is in the plan, or a row of it was taken
@@ -29,3 +34,19 @@ BlockGives q tables taken F plan block row = IsAnswer q taken row × AllHold q t
 -- the rows with the property have come
 abbrev pub IsAdded : (List Value → Type 0) → List (List Value) → List (List Value) → Type 0
 IsAdded P old new = (row : List Value) → Contains new row ↔ (Contains old row ⊎ P row)
+
+-- each atom is in a rest of a plan, or a row of it was taken
+abbrev pub RestHasAll : Rest → Type 0
+RestHasAll r = AreAll r.course.now.setting.query.now (placed r.taken.now) r.plan.now
+
+-- each atom comes next or is in the rest behind, or a row of it was taken
+abbrev pub StepHasAll : Step → Type 0
+StepHasAll s = AreAll (query_of s) (rows_before s) (s.atom ∷ s.rest.now)
+
+-- a rest of a plan gives a row, with the rows taken
+abbrev pub RestGives : Rest → List Value → Type 0
+RestGives r row = Gives r.course.now.setting.query.now (stored r.course.now.setting.db.now) (placed r.taken.now) r.plan.now row
+
+-- the next atom and the rest behind it give a row, with the rows taken
+abbrev pub StepGives : Step → List Value → Type 0
+StepGives s row = Gives (query_of s) (tables_of s) (rows_before s) (s.atom ∷ s.rest.now) row

@@ -2,7 +2,12 @@
 use Rattle.std.specs.Prelude.{ℕ, List, ◌∷◌, Contains}
 use Rattle.cqa_value.specs.declared.value.Value.{Value}
 use Rattle.cqa_model.specs.declared.query.Query.{Query}
+use Rattle.cqa_model.specs.Database.{stored}
 use Rattle.cqa_model.specs.Plan.{Placed, Fits, PlanHolds}
+use Rattle.plan_rows.specs.Taking.{placed}
+use Rattle.plan_rows.specs.Over.{query_of, tables_of, rows_before}
+use Rattle.plan_rows.specs.declared.steps.Rest.{Rest}
+use Rattle.plan_rows.specs.declared.steps.Step.{Step}
 
 -- a row of F fits, and the rest of the plan holds once it is taken
 abbrev pub RowHolds : Query → List (List (List Value)) → List Value → List Placed → ℕ → List ℕ → List Value → Type 0
@@ -10,3 +15,15 @@ RowHolds q tables row taken F plan y = Fits q row taken F y × PlanHolds q table
 
 abbrev pub AllHold : Query → List (List (List Value)) → List Value → List Placed → ℕ → List ℕ → List (List Value) → Type 0
 AllHold q tables row taken F plan block = (y : List Value) → Contains block y → RowHolds q tables row taken F plan y
+
+-- a rest of a plan holds for a candidate
+abbrev pub RestHolds : Rest → List Value → Type 0
+RestHolds r row = PlanHolds r.course.now.setting.query.now (stored r.course.now.setting.db.now) row (placed r.taken.now) r.plan.now
+
+-- a row of the next atom fits, and the rest of the plan holds once it is taken
+abbrev pub HoldsWith : Step → List Value → List Value → Type 0
+HoldsWith s row y = RowHolds (query_of s) (tables_of s) row (rows_before s) s.atom s.rest.now y
+
+-- so it is of each row of a block
+abbrev pub AllHoldWith : Step → List Value → List (List Value) → Type 0
+AllHoldWith s row block = AllHold (query_of s) (tables_of s) row (rows_before s) s.atom s.rest.now block

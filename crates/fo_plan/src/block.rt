@@ -1,63 +1,55 @@
 //! The block by which a plan holds.
 
-ghost use Rattle.std.specs.Prelude.{◌≡◌, ℕ, ◌<◌, ◌∷◌, [], MatchOption, Contains, length};
-ghost use Rattle.cqa_model.specs.Database.{stored};
+ghost use Rattle.std.specs.Prelude.{◌≡◌, ℕ, ◌<◌, MatchOption, Contains, length};
 ghost use Rattle.cqa_model.specs.OneTable.{SomeBlockFits};
 ghost use Rattle.cqa_model.specs.Query.{atom_key, rows_of, FitsDatabase};
 ghost use Rattle.cqa_model.specs.Plan.{Fits, HoldsOver};
 ghost use Rattle.row_cursor.specs.Blocks.{blocks_left};
 ghost use Rattle.row_cursor.specs.Spots.{ArePaths};
 ghost use Rattle.plan_rows.specs.Left.{AreAtoms};
-ghost use Rattle.plan_rows.specs.Over.{IsPrepared};
-ghost use Rattle.fo_plan.specs.Holding.{RowHolds};
+ghost use Rattle.plan_rows.specs.Over.{query_of, tables_of, rows_before};
+ghost use Rattle.plan_rows.specs.Underway.{IsRight};
+ghost use Rattle.fo_plan.specs.Holding.{HoldsWith};
 ghost use Rattle.fo_plan.specs.FirstBlock.{AreAmong, IsFirstBlock, IsFirstWith};
-ghost use Rattle.plan_rows.specs.Underway.{IsUnderway, IsRight};
 
 use crate::enough::told_rows;
 use crate::holding::all_hold;
 use cqa_model::{Plan, Query, variables};
 use cqa_value::Row;
-use plan_rows::{Course, Memo, Setting, Taken, known_values, shared_or_none, turns_before_memo};
+use plan_rows::{
+    Course, Memo, Setting, Step, Taken, known_values, shared_or_none, turns_before_memo,
+};
 use row_cursor::{BlockCursor, RowIndex, table_of};
 use row_pieces::Rows;
 use std::alloc::Global;
 use table_blocks::Database;
 
-/// The blocks of an atom's table whose rows have the first key values that are told by a row or by tests.
-fn told_blocks<'a, 'x>(
-    db: &'a Database,
-    setting: &'x Setting<'x>,
-    row: &'x Row,
-    atom: u32,
-) -> BlockCursor<'a>
-    requires over { IsPrepared setting.now }
-    requires db { setting.now.db.now ≡ db.now }
-    requires atom { atom < length setting.now.query.now.atoms }
-    ensures { AreAmong (atom_key setting.now.query.now atom) (rows_of setting.now.query.now (stored setting.now.db.now) atom) (Fits setting.now.query.now row.now [] atom) (blocks_left result) }
+/// The blocks of the next atom's table whose rows have the first key values that are told by a row or by tests.
+fn told_blocks<'a, 'x>(db: &'a Database, step: &Step<'x>, row: &'x Row) -> BlockCursor<'a>
+    requires { step.now.course.now.setting.db.now ≡ db.now }
+    ensures { AreAmong (atom_key (query_of step.now) step.now.atom) (rows_of (query_of step.now) (tables_of step.now) step.now.atom) (Fits (query_of step.now) row.now (rows_before step.now) step.now.atom) (blocks_left result) }
 {
-    let table = table_of(setting.query, atom);
+    let course = step.course;
+    let table = table_of(course.setting.query, step.atom);
     let key = db.schema(table).key.as_slice();
-    let known = known_values(setting, Some(row), &Taken::Nothing, atom, key);
+    let known = known_values(step, Some(row), key);
     BlockCursor::over(told_rows(db, table, &known), key)
 }
 
-/// The first block of an atom's table all of whose rows hold.
+/// The first block of the next atom's table all of whose rows hold.
 fn first_block<'a, 'x>(
     db: &'a Database,
-    course: &'x Course<'x>,
+    step: &Step<'x>,
     row: &'x Row,
-    atom: u32,
-    rest: &[u32],
     memo: &mut Memo,
 ) -> Option<Rows<'a>>
-    requires here { IsUnderway course.now [] (atom ∷ rest.now) }
-    requires db { course.now.setting.db.now ≡ db.now }
-    requires memo { IsRight course.now memo.old }
-    ensures { MatchOption result (SomeBlockFits (atom_key course.now.setting.query.now atom) (rows_of course.now.setting.query.now (stored course.now.setting.db.now) atom) (RowHolds course.now.setting.query.now (stored course.now.setting.db.now) row.now [] atom rest.now) → ⊥) (λ block. SomeBlockFits (atom_key course.now.setting.query.now atom) (rows_of course.now.setting.query.now (stored course.now.setting.db.now) atom) (RowHolds course.now.setting.query.now (stored course.now.setting.db.now) row.now [] atom rest.now) × IsFirstWith (atom_key course.now.setting.query.now atom) (rows_of course.now.setting.query.now (stored course.now.setting.db.now) atom) (RowHolds course.now.setting.query.now (stored course.now.setting.db.now) row.now [] atom rest.now) block) }
+    requires db { step.now.course.now.setting.db.now ≡ db.now }
+    requires memo { IsRight step.now.course.now memo.old }
+    ensures { MatchOption result (SomeBlockFits (atom_key (query_of step.now) step.now.atom) (rows_of (query_of step.now) (tables_of step.now) step.now.atom) (HoldsWith step.now row.now) → ⊥) (λ block. SomeBlockFits (atom_key (query_of step.now) step.now.atom) (rows_of (query_of step.now) (tables_of step.now) step.now.atom) (HoldsWith step.now row.now) × IsFirstWith (atom_key (query_of step.now) step.now.atom) (rows_of (query_of step.now) (tables_of step.now) step.now.atom) (HoldsWith step.now row.now) block) }
 {
-    let mut cursor = told_blocks(db, &course.setting, row, atom);
+    let mut cursor = told_blocks(db, step, row);
     while let Some(block) = cursor.next() {
-        if all_hold(&*course, &*row, &Taken::Nothing, atom, &block, rest, memo) {
+        if all_hold(step, row, &block, memo) {
             return Some(block);
         }
     }
@@ -65,22 +57,28 @@ fn first_block<'a, 'x>(
 }
 
 /// The first block of the first atom of a plan by which it holds.
-fn found_block<'a, 'x>(
-    db: &'a Database,
-    course: &'x Course<'x>,
-    row: &'x Row,
-    plan: &[u32],
-    memo: &mut Memo,
-) -> Option<Rows<'a>>
-    requires here { IsUnderway course.now [] plan.now }
+fn found_block<'a, 'x>(db: &'a Database, course: &'x Course<'x>, row: &'x Row) -> Option<Rows<'a>>
     requires db { course.now.setting.db.now ≡ db.now }
-    requires all { (F : ℕ) → F < length course.now.setting.query.now.atoms → Contains plan.now F }
-    requires memo { IsRight course.now memo.old }
-    ensures { MatchOption result (HoldsOver course.now.setting.db.now course.now.setting.query.now row.now plan.now → ⊥) (λ block. HoldsOver course.now.setting.db.now course.now.setting.query.now row.now plan.now × IsFirstBlock course.now.setting.db.now course.now.setting.query.now row.now plan.now block) }
+    requires all { (F : ℕ) → F < length course.now.setting.query.now.atoms → Contains course.now.order.now F }
+    ensures { MatchOption result (HoldsOver course.now.setting.db.now course.now.setting.query.now row.now course.now.order.now → ⊥) (λ block. HoldsOver course.now.setting.db.now course.now.setting.query.now row.now course.now.order.now × IsFirstBlock course.now.setting.db.now course.now.setting.query.now row.now course.now.order.now block) }
 {
+    let plan = course.order;
     match plan {
         [] => None,
-        [atom, rest @ ..] => first_block(db, course, row, *atom, rest, memo),
+        [atom, rest @ ..] => {
+            let none = Taken::Nothing;
+            let step = Step {
+                course: &*course,
+                taken: &none,
+                atom: *atom,
+                rest,
+            };
+            let setting = &course.setting;
+            let mut memo = Memo::new(setting.alloc, turns_before_memo(setting));
+            let found = first_block(db, &step, &*row, &mut memo);
+            drop(memo);
+            found
+        }
     }
 }
 
@@ -103,21 +101,18 @@ pub fn block_of<'a>(
     ensures { MatchOption result (HoldsOver db.now query.now row.now plan.now.order → ⊥) (λ block. HoldsOver db.now query.now row.now plan.now.order × IsFirstBlock db.now query.now row.now plan.now.order block) }
 {
     let order = plan.order.as_slice();
-    let variables = variables(query);
-    let shared = shared_or_none(alloc, query, &variables, order);
+    let setting = Setting {
+        alloc,
+        db,
+        query,
+        variables: variables(query),
+        paths,
+    };
+    let shared = shared_or_none(&setting, order);
     let course = Course {
-        setting: Setting {
-            alloc,
-            db,
-            query,
-            variables,
-            paths,
-        },
+        setting,
         order,
         shared: shared.as_slice(),
     };
-    let mut memo = Memo::new(alloc, turns_before_memo(db, query));
-    let found = found_block(db, &course, row, order, &mut memo);
-    drop(memo);
-    found
+    found_block(db, &course, row)
 }

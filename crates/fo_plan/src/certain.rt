@@ -12,7 +12,7 @@ ghost use Rattle.plan_rows.specs.Left.{AreAtoms};
 use crate::giving::add_given;
 use cqa_model::{Plan, Query, variables};
 use cqa_value::{Items, NoMemory, Row};
-use plan_rows::{Course, Memo, Setting, Taken, shared_columns, turns_before_memo};
+use plan_rows::{Course, Memo, Rest, Setting, Taken, shared_columns, turns_before_memo};
 use row_cursor::RowIndex;
 use std::alloc::Global;
 use std::cmp::Ordering;
@@ -53,22 +53,29 @@ pub fn answers<'a>(
     ensures exactly { IfOk result (λ answers. (row : List Cell) → Contains answers row ↔ ((length row ≡ length query.now.answer) × HoldsOver db.now query.now row plan.now.order)) }
 {
     let order = plan.order.as_slice();
-    let variables = variables(query);
-    let shared = shared_columns(alloc, query, &variables, order)?;
+    let setting = Setting {
+        alloc,
+        db,
+        query,
+        variables: variables(query),
+        paths,
+    };
+    let turns = turns_before_memo(&setting);
+    let shared = shared_columns(&setting, order)?;
     let course = Course {
-        setting: Setting {
-            alloc,
-            db,
-            query,
-            variables,
-            paths,
-        },
+        setting,
         order,
         shared: shared.as_slice(),
     };
-    let mut memo = Memo::new(alloc, turns_before_memo(db, query));
+    let none = Taken::Nothing;
+    let rest = Rest {
+        course: &course,
+        taken: &none,
+        plan: order,
+    };
+    let mut memo = Memo::new(alloc, turns);
     let mut found = Vec::new(alloc);
-    let added = add_given(&course, &Taken::Nothing, order, &mut found, &mut memo);
+    let added = add_given(&rest, &mut found, &mut memo);
     drop(memo);
     match added {
         Ok(()) => Ok(Items::from_vec(sorted(found))),

@@ -1,40 +1,30 @@
 //! The rows for which a plan holds, all at once: a plan is gone over with the answer columns as its outputs. The first
 //! row of each block proposes rows, and the block's other rows test them.
 
-ghost use Rattle.std.specs.Prelude.{◌≡◌, ◌⊎◌, ◌<◌, ◌↔◌, ◌∷◌, IsTrue, Contains, List, OnOk, [], length, slice_index_or};
+ghost use Rattle.std.specs.Prelude.{◌≡◌, ◌<◌, ◌↔◌, IsTrue, Contains, List, OnOk, [], length, slice_index_or};
 ghost use Rattle.std.specs.Option.{option_copied};
 ghost use Rattle.cqa_value.specs.declared.value.Value.{Value as Cell};
-ghost use Rattle.cqa_model.specs.Database.{stored};
 ghost use Rattle.cqa_model.specs.OneTable.{SomeBlockFits};
-ghost use Rattle.plan_rows.specs.Taking.{placed};
 ghost use Rattle.plan_rows.specs.Fitting.{Suits};
 ghost use Rattle.plan_rows.specs.Knowing.{HasKnown};
-ghost use Rattle.fo_plan.specs.Enough.{AreOrdered};
-ghost use Rattle.fo_plan.specs.Holding.{RowHolds, AllHold};
 ghost use Rattle.plan_rows.specs.Left.{IsSettled};
-ghost use Rattle.fo_plan.specs.Giving.{AreAll, IsAnswer, Gives, BlockGives, IsAdded};
-ghost use Rattle.plan_rows.specs.Underway.{IsUnderway, IsRight};
+ghost use Rattle.plan_rows.specs.Over.{query_of, tables_of, rows_before};
+ghost use Rattle.plan_rows.specs.Underway.{IsRight};
+ghost use Rattle.fo_plan.specs.Holding.{HoldsWith, AllHoldWith};
+ghost use Rattle.fo_plan.specs.Giving.{IsAnswer, BlockGives, IsAdded, RestHasAll, StepHasAll, RestGives, StepGives};
 
 use crate::enough::Blocks;
 use crate::holding::{all_hold, holds_with};
 use cqa_value::{NoMemory, Row};
-use plan_rows::{Course, Memo, Taken, answer_of, are_settled, suits};
+use plan_rows::{Memo, Rest, Step, Taken, answer_of, are_settled, suits};
 use row_pieces::Rows;
 
 /// Whether all rows of a block fit the rows taken, but for a candidate.
-fn all_suit(
-    course: &Course<'_>,
-    taken: &Taken<'_>,
-    atom: u32,
-    rest: &[u32],
-    block: &Rows<'_>,
-) -> bool
-    requires { IsUnderway course.now (placed taken.now) (atom ∷ rest.now) }
-    ensures { IsTrue result ↔ ((y : List Cell) → Contains block.now y → Suits course.now.setting.query.now (placed taken.now) atom y) }
+fn all_suit(step: &Step<'_>, block: &Rows<'_>) -> bool
+    ensures { IsTrue result ↔ ((y : List Cell) → Contains block.now y → Suits (query_of step.now) (rows_before step.now) step.now.atom y) }
 {
-    let setting = &course.setting;
     for y in block.again() {
-        if !suits(setting.query, &setting.variables, taken, atom, y) {
+        if !suits(step, y) {
             return false;
         }
     }
@@ -42,22 +32,18 @@ fn all_suit(
 }
 
 /// Adds a row if all of these rows of a block hold for it.
-fn keep_one<'x>(
-    course: &'x Course<'x>,
-    taken: &'x Taken<'x>,
-    atom: u32,
+fn keep_one(
+    step: &Step<'_>,
     block: &Rows<'_>,
-    rest: &[u32],
     row: Row,
     found: &mut Vec<Row>,
     memo: &mut Memo,
 ) -> Result<(), NoMemory>
-    requires here { IsUnderway course.now (placed taken.now) (atom ∷ rest.now) }
-    requires memo { IsRight course.now memo.old }
-    ensures added { OnOk result (IsAdded (λ r. (r ≡ row) × AllHold course.now.setting.query.now (stored course.now.setting.db.now) r (placed taken.now) atom rest.now block.now) found.old.items found.new.items) }
-    ensures memo { IsRight course.now memo.new }
+    requires { IsRight step.now.course.now memo.old }
+    ensures added { OnOk result (IsAdded (λ r. (r ≡ row) × AllHoldWith step.now r block.now) found.old.items found.new.items) }
+    ensures memo { IsRight step.now.course.now memo.new }
 {
-    if all_hold(&*course, &row, &*taken, atom, block, rest, memo) {
+    if all_hold(&*step, &row, block, memo) {
         found.push(row)?;
     } else {
         drop(row);
@@ -66,178 +52,165 @@ fn keep_one<'x>(
 }
 
 /// Adds those of the rows proposed for which all of these rows of a block hold.
-fn keep_all<'x>(
-    course: &'x Course<'x>,
-    taken: &'x Taken<'x>,
-    atom: u32,
+fn keep_all(
+    step: &Step<'_>,
     block: &Rows<'_>,
-    rest: &[u32],
     part: &mut Vec<Row>,
     found: &mut Vec<Row>,
     memo: &mut Memo,
 ) -> Result<(), NoMemory>
-    requires here { IsUnderway course.now (placed taken.now) (atom ∷ rest.now) }
-    requires memo { IsRight course.now memo.old }
-    ensures added { OnOk result (IsAdded (λ r. Contains part.old.items r × AllHold course.now.setting.query.now (stored course.now.setting.db.now) r (placed taken.now) atom rest.now block.now) found.old.items found.new.items) }
-    ensures memo { IsRight course.now memo.new }
+    requires { IsRight step.now.course.now memo.old }
+    ensures added { OnOk result (IsAdded (λ r. Contains part.old.items r × AllHoldWith step.now r block.now) found.old.items found.new.items) }
+    ensures memo { IsRight step.now.course.now memo.new }
 {
     while let Some(row) = part.pop() {
-        keep_one(course, taken, atom, block, rest, row, found, memo)?;
+        keep_one(step, block, row, found, memo)?;
     }
     Ok(())
 }
 
 /// Adds the answer of the rows taken if a rest of a plan holds that doesn't change it.
-fn add_settled<'x>(
-    course: &'x Course<'x>,
-    taken: &'x Taken<'x>,
-    plan: &[u32],
-    found: &mut Vec<Row>,
-    memo: &mut Memo,
-) -> Result<(), NoMemory>
-    requires here { IsUnderway course.now (placed taken.now) plan.now }
-    requires all { AreAll course.now.setting.query.now (placed taken.now) plan.now }
-    requires settled { IsSettled course.now.setting.query.now plan.now }
-    requires memo { IsRight course.now memo.old }
-    ensures added { OnOk result (IsAdded (Gives course.now.setting.query.now (stored course.now.setting.db.now) (placed taken.now) plan.now) found.old.items found.new.items) }
-    ensures memo { IsRight course.now memo.new }
+fn add_settled(rest: &Rest<'_>, found: &mut Vec<Row>, memo: &mut Memo) -> Result<(), NoMemory>
+    requires all { RestHasAll rest.now }
+    requires settled { IsSettled rest.now.course.now.setting.query.now rest.now.plan.now }
+    requires memo { IsRight rest.now.course.now memo.old }
+    ensures added { OnOk result (IsAdded (RestGives rest.now) found.old.items found.new.items) }
+    ensures memo { IsRight rest.now.course.now memo.new }
 {
-    let alloc = course.setting.alloc;
-    let none = Row::new(alloc);
-    let held = holds_with(&*course, &none, &*taken, plan, memo);
+    let course = rest.course;
+    let setting = &course.setting;
+    let none = Row::new(setting.alloc);
+    let held = holds_with(&*rest, &none, memo);
     drop(none);
     if held {
-        found.push(answer_of(alloc, taken, course.setting.query.answer.as_slice())?)?;
+        found.push(answer_of(setting.alloc, rest.taken, setting.query.answer.as_slice())?)?;
     }
     Ok(())
 }
 
 /// Adds the rows that the rows taken and the rest of a plan give.
 #[cycle(giving)]
-pub(crate) fn add_given<'x>(
-    course: &'x Course<'x>,
-    taken: &'x Taken<'x>,
-    plan: &[u32],
+pub(crate) fn add_given(
+    rest: &Rest<'_>,
     found: &mut Vec<Row>,
     memo: &mut Memo,
 ) -> Result<(), NoMemory>
-    requires here { IsUnderway course.now (placed taken.now) plan.now }
-    requires all { AreAll course.now.setting.query.now (placed taken.now) plan.now }
-    requires memo { IsRight course.now memo.old }
-    ensures added { OnOk result (IsAdded (Gives course.now.setting.query.now (stored course.now.setting.db.now) (placed taken.now) plan.now) found.old.items found.new.items) }
-    ensures memo { IsRight course.now memo.new }
+    requires all { RestHasAll rest.now }
+    requires memo { IsRight rest.now.course.now memo.old }
+    ensures added { OnOk result (IsAdded (RestGives rest.now) found.old.items found.new.items) }
+    ensures memo { IsRight rest.now.course.now memo.new }
 {
+    let course = rest.course;
+    let plan = rest.plan;
     if are_settled(course.setting.query, plan) {
-        return add_settled(course, taken, plan, found, memo);
+        return add_settled(rest, found, memo);
     }
     match plan {
         [] => unreachable!(),
-        [atom, rest @ ..] => add_blocks(course, taken, *atom, rest, found, memo),
+        [atom, others @ ..] => {
+            let step = Step {
+                course: rest.course,
+                taken: rest.taken,
+                atom: *atom,
+                rest: others,
+            };
+            add_blocks(&step, found, memo)
+        }
     }
 }
 
 /// Adds the rows that the blocks of an atom's table give.
 #[cycle(giving)]
-fn add_blocks<'x>(
-    course: &'x Course<'x>,
-    taken: &'x Taken<'x>,
-    atom: u32,
-    rest: &[u32],
-    found: &mut Vec<Row>,
-    memo: &mut Memo,
-) -> Result<(), NoMemory>
-    requires here { IsUnderway course.now (placed taken.now) (atom ∷ rest.now) }
-    requires all { AreAll course.now.setting.query.now (placed taken.now) (atom ∷ rest.now) }
-    requires memo { IsRight course.now memo.old }
-    ensures added { OnOk result (IsAdded (Gives course.now.setting.query.now (stored course.now.setting.db.now) (placed taken.now) (atom ∷ rest.now)) found.old.items found.new.items) }
-    ensures memo { IsRight course.now memo.new }
+fn add_blocks(step: &Step<'_>, found: &mut Vec<Row>, memo: &mut Memo) -> Result<(), NoMemory>
+    requires all { StepHasAll step.now }
+    requires memo { IsRight step.now.course.now memo.old }
+    ensures added { OnOk result (IsAdded (StepGives step.now) found.old.items found.new.items) }
+    ensures memo { IsRight step.now.course.now memo.new }
 {
-    let blocks = Blocks::new(&course.setting, None, taken, atom);
-    let added = add_all_of(course, taken, atom, &blocks, rest, found, memo);
+    let blocks = Blocks::new(step, None);
+    let added = add_all_of(step, &blocks, found, memo);
     drop(blocks);
     added
 }
 
 /// Adds the rows that these blocks give.
 #[cycle(giving)]
-fn add_all_of<'x>(
-    course: &'x Course<'x>,
-    taken: &'x Taken<'x>,
-    atom: u32,
-    blocks: &Blocks<'x, '_>,
-    rest: &[u32],
+fn add_all_of(
+    step: &Step<'_>,
+    blocks: &Blocks<'_>,
     found: &mut Vec<Row>,
     memo: &mut Memo,
 ) -> Result<(), NoMemory>
-    requires here { IsUnderway course.now (placed taken.now) (atom ∷ rest.now) }
-    requires all { AreAll course.now.setting.query.now (placed taken.now) (atom ∷ rest.now) }
-    requires ordered { AreOrdered blocks.now }
-    requires known { (y : List Cell) → Suits course.now.setting.query.now (placed taken.now) atom y → HasKnown (option_copied blocks.now.index) blocks.now.values y }
-    requires memo { IsRight course.now memo.old }
-    ensures added { OnOk result (IsAdded (λ row. IsAnswer course.now.setting.query.now (placed taken.now) row × SomeBlockFits blocks.now.key.now blocks.now.rows (RowHolds course.now.setting.query.now (stored course.now.setting.db.now) row (placed taken.now) atom rest.now)) found.old.items found.new.items) }
-    ensures memo { IsRight course.now memo.new }
+    requires all { StepHasAll step.now }
+    requires known { (y : List Cell) → Suits (query_of step.now) (rows_before step.now) step.now.atom y → HasKnown (option_copied blocks.now.index) blocks.now.values y }
+    requires memo { IsRight step.now.course.now memo.old }
+    ensures added { OnOk result (IsAdded (λ row. IsAnswer (query_of step.now) (rows_before step.now) row × SomeBlockFits blocks.now.key.now blocks.now.rows (HoldsWith step.now row)) found.old.items found.new.items) }
+    ensures memo { IsRight step.now.course.now memo.new }
 {
     let mut spot = blocks.start();
     while let Some(block) = blocks.next(&mut spot) {
-        add_block(course, taken, atom, &block, rest, found, memo)?;
+        add_block(step, &block, found, memo)?;
     }
     Ok(())
 }
 
 /// Adds the rows that a block gives: the first of its rows proposes, and the others test.
 #[cycle(giving)]
-fn add_block<'x>(
-    course: &'x Course<'x>,
-    taken: &'x Taken<'x>,
-    atom: u32,
-    block: &Rows<'x>,
-    rest: &[u32],
+fn add_block(
+    step: &Step<'_>,
+    block: &Rows<'_>,
     found: &mut Vec<Row>,
     memo: &mut Memo,
 ) -> Result<(), NoMemory>
-    requires here { IsUnderway course.now (placed taken.now) (atom ∷ rest.now) }
-    requires all { AreAll course.now.setting.query.now (placed taken.now) (atom ∷ rest.now) }
+    requires all { StepHasAll step.now }
     requires some { 0 < length block.now }
-    requires memo { IsRight course.now memo.old }
-    ensures added { OnOk result (IsAdded (BlockGives course.now.setting.query.now (stored course.now.setting.db.now) (placed taken.now) atom rest.now block.now) found.old.items found.new.items) }
-    ensures memo { IsRight course.now memo.new }
+    requires memo { IsRight step.now.course.now memo.old }
+    ensures added { OnOk result (IsAdded (BlockGives (query_of step.now) (tables_of step.now) (rows_before step.now) step.now.atom step.now.rest.now block.now) found.old.items found.new.items) }
+    ensures memo { IsRight step.now.course.now memo.new }
 {
-    if !all_suit(course, taken, atom, rest, block) {
+    if !all_suit(step, block) {
         return Ok(());
     }
     if block.len() == 1 {
-        let more = Taken::Before(atom, block.get(0), &*taken);
-        return add_given(&*course, &more, rest, found, memo);
+        let more = Taken::Before(step.atom, block.get(0), &*step.taken);
+        let rest = Rest {
+            course: &*step.course,
+            taken: &more,
+            plan: &*step.rest,
+        };
+        return add_given(&rest, found, memo);
     }
+    let course = step.course;
     let mut part = Vec::new(course.setting.alloc);
-    let added = add_tested(course, taken, atom, block, rest, &mut part, found, memo);
+    let added = add_tested(step, block, &mut part, found, memo);
     drop(part);
     added
 }
 
 /// Adds the rows that a block of two or more rows gives, all of which fit. `part` is where they are tested.
 #[cycle(giving)]
-fn add_tested<'x>(
-    course: &'x Course<'x>,
-    taken: &'x Taken<'x>,
-    atom: u32,
-    block: &Rows<'x>,
-    rest: &[u32],
+fn add_tested(
+    step: &Step<'_>,
+    block: &Rows<'_>,
     part: &mut Vec<Row>,
     found: &mut Vec<Row>,
     memo: &mut Memo,
 ) -> Result<(), NoMemory>
-    requires here { IsUnderway course.now (placed taken.now) (atom ∷ rest.now) }
-    requires all { AreAll course.now.setting.query.now (placed taken.now) (atom ∷ rest.now) }
+    requires all { StepHasAll step.now }
     requires some { 0 < length block.now }
-    requires first { Suits course.now.setting.query.now (placed taken.now) atom (slice_index_or block.now 0 []) }
+    requires first { Suits (query_of step.now) (rows_before step.now) step.now.atom (slice_index_or block.now 0 []) }
     requires none { part.old.items ≡ [] }
-    requires memo { IsRight course.now memo.old }
-    ensures added { OnOk result (IsAdded (BlockGives course.now.setting.query.now (stored course.now.setting.db.now) (placed taken.now) atom rest.now block.now) found.old.items found.new.items) }
-    ensures memo { IsRight course.now memo.new }
+    requires memo { IsRight step.now.course.now memo.old }
+    ensures added { OnOk result (IsAdded (BlockGives (query_of step.now) (tables_of step.now) (rows_before step.now) step.now.atom step.now.rest.now block.now) found.old.items found.new.items) }
+    ensures memo { IsRight step.now.course.now memo.new }
 {
-    let more = Taken::Before(atom, block.get(0), &*taken);
-    add_given(&*course, &more, rest, part, memo)?;
+    let more = Taken::Before(step.atom, block.get(0), &*step.taken);
+    let rest = Rest {
+        course: &*step.course,
+        taken: &more,
+        plan: &*step.rest,
+    };
+    add_given(&rest, part, memo)?;
     let (_, others) = block.split_at(1);
-    keep_all(course, taken, atom, &others, rest, part, found, memo)
+    keep_all(step, &others, part, found, memo)
 }

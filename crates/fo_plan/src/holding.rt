@@ -3,116 +3,89 @@
 ghost use Rattle.std.specs.Prelude.{◌↔◌, ◌∷◌, IsTrue, List};
 ghost use Rattle.std.specs.Option.{option_copied};
 ghost use Rattle.cqa_value.specs.declared.value.Value.{Value as Cell};
-ghost use Rattle.cqa_model.specs.Database.{stored};
 ghost use Rattle.cqa_model.specs.Query.{atom_key, rows_of, FitsDatabase};
 ghost use Rattle.cqa_model.specs.OneTable.{SomeBlockFits};
 ghost use Rattle.cqa_model.specs.Plan.{Fits, HoldsOver, PlanHolds};
-ghost use Rattle.plan_rows.specs.Taking.{placed};
 ghost use Rattle.plan_rows.specs.Left.{AreAtoms};
 ghost use Rattle.plan_rows.specs.Knowing.{HasKnown};
-ghost use Rattle.fo_plan.specs.Enough.{AreOrdered};
-ghost use Rattle.fo_plan.specs.Holding.{RowHolds, AllHold};
-ghost use Rattle.plan_rows.specs.Underway.{IsUnderway, IsKey, IsRight};
+ghost use Rattle.plan_rows.specs.Over.{query_of, tables_of, rows_before};
+ghost use Rattle.plan_rows.specs.Underway.{IsKey, IsRight};
+ghost use Rattle.fo_plan.specs.Holding.{RestHolds, HoldsWith, AllHoldWith};
 
 use crate::enough::Blocks;
 use cqa_model::{Plan, Query, variables};
 use cqa_value::Row;
-use plan_rows::{Course, Memo, Setting, Taken, fits};
+use plan_rows::{Course, Memo, Rest, Setting, Step, Taken, fits};
 use row_pieces::Rows;
 use std::alloc::Global;
 use table_blocks::Database;
 
 /// Whether the rest of a plan holds, by what is remembered of it where deciding has taken long.
 #[cycle(holds)]
-pub(crate) fn holds_with<'x>(
-    course: &'x Course<'x>,
-    row: &'x Row,
-    taken: &'x Taken<'x>,
-    plan: &[u32],
-    memo: &mut Memo,
-) -> bool
-    requires here { IsUnderway course.now (placed taken.now) plan.now }
-    requires memo { IsRight course.now memo.old }
-    ensures holds { IsTrue result ↔ PlanHolds course.now.setting.query.now (stored course.now.setting.db.now) row.now (placed taken.now) plan.now }
-    ensures memo { IsRight course.now memo.new }
+pub(crate) fn holds_with<'x>(rest: &Rest<'x>, row: &'x Row, memo: &mut Memo) -> bool
+    requires { IsRight rest.now.course.now memo.old }
+    ensures holds { IsTrue result ↔ RestHolds rest.now row.now }
+    ensures memo { IsRight rest.now.course.now memo.new }
 {
+    let plan = rest.plan;
     match plan {
         [] => true,
-        [atom, rest @ ..] => match memo.key(course, row, taken, plan) {
-            Some(key) => remembered(course, row, taken, *atom, rest, key, memo),
-            None => some_block(course, row, taken, *atom, rest, memo),
-        },
+        [atom, others @ ..] => {
+            let step = Step {
+                course: rest.course,
+                taken: rest.taken,
+                atom: *atom,
+                rest: others,
+            };
+            match memo.key(rest, row) {
+                Some(key) => remembered(&step, row, key, memo),
+                None => some_block(&step, row, memo),
+            }
+        }
     }
 }
 
 /// Whether the rest of a plan holds, which is looked up by its key, or decided and remembered under it.
 #[cycle(holds)]
-fn remembered<'x>(
-    course: &'x Course<'x>,
-    row: &'x Row,
-    taken: &'x Taken<'x>,
-    atom: u32,
-    rest: &[u32],
-    key: Row,
-    memo: &mut Memo,
-) -> bool
-    requires here { IsUnderway course.now (placed taken.now) (atom ∷ rest.now) }
-    requires memo { IsRight course.now memo.old }
-    requires key { IsKey course.now.setting.query.now course.now.shared.now (placed taken.now) (atom ∷ rest.now) row.now key }
-    ensures holds { IsTrue result ↔ PlanHolds course.now.setting.query.now (stored course.now.setting.db.now) row.now (placed taken.now) (atom ∷ rest.now) }
-    ensures memo { IsRight course.now memo.new }
+fn remembered<'x>(step: &Step<'x>, row: &'x Row, key: Row, memo: &mut Memo) -> bool
+    requires memo { IsRight step.now.course.now memo.old }
+    requires key { IsKey step.now.course.now (rows_before step.now) (step.now.atom ∷ step.now.rest.now) row.now key }
+    ensures holds { IsTrue result ↔ PlanHolds (query_of step.now) (tables_of step.now) row.now (rows_before step.now) (step.now.atom ∷ step.now.rest.now) }
+    ensures memo { IsRight step.now.course.now memo.new }
 {
     if let Some(held) = memo.told(&key) {
         drop(key);
         return held;
     }
-    let held = some_block(course, row, taken, atom, rest, memo);
+    let held = some_block(step, row, memo);
     memo.keep(key, held);
     held
 }
 
 /// Whether all rows of some block of an atom's table hold.
 #[cycle(holds)]
-fn some_block<'x>(
-    course: &'x Course<'x>,
-    row: &'x Row,
-    taken: &'x Taken<'x>,
-    atom: u32,
-    rest: &[u32],
-    memo: &mut Memo,
-) -> bool
-    requires here { IsUnderway course.now (placed taken.now) (atom ∷ rest.now) }
-    requires memo { IsRight course.now memo.old }
-    ensures holds { IsTrue result ↔ SomeBlockFits (atom_key course.now.setting.query.now atom) (rows_of course.now.setting.query.now (stored course.now.setting.db.now) atom) (RowHolds course.now.setting.query.now (stored course.now.setting.db.now) row.now (placed taken.now) atom rest.now) }
-    ensures memo { IsRight course.now memo.new }
+fn some_block<'x>(step: &Step<'x>, row: &'x Row, memo: &mut Memo) -> bool
+    requires { IsRight step.now.course.now memo.old }
+    ensures holds { IsTrue result ↔ SomeBlockFits (atom_key (query_of step.now) step.now.atom) (rows_of (query_of step.now) (tables_of step.now) step.now.atom) (HoldsWith step.now row.now) }
+    ensures memo { IsRight step.now.course.now memo.new }
 {
-    let blocks = Blocks::new(&course.setting, Some(row), taken, atom);
-    let held = some_of(course, row, taken, atom, &blocks, rest, memo);
+    let blocks = Blocks::new(step, Some(row));
+    let held = some_of(step, row, &blocks, memo);
     drop(blocks);
     held
 }
 
 /// Whether all rows of some of these blocks hold.
 #[cycle(holds)]
-fn some_of<'x>(
-    course: &'x Course<'x>,
-    row: &'x Row,
-    taken: &'x Taken<'x>,
-    atom: u32,
-    blocks: &Blocks<'_, '_>,
-    rest: &[u32],
-    memo: &mut Memo,
-) -> bool
-    requires here { IsUnderway course.now (placed taken.now) (atom ∷ rest.now) }
-    requires ordered { AreOrdered blocks.now }
-    requires known { (y : List Cell) → Fits course.now.setting.query.now row.now (placed taken.now) atom y → HasKnown (option_copied blocks.now.index) blocks.now.values y }
-    requires memo { IsRight course.now memo.old }
-    ensures holds { IsTrue result ↔ SomeBlockFits blocks.now.key.now blocks.now.rows (RowHolds course.now.setting.query.now (stored course.now.setting.db.now) row.now (placed taken.now) atom rest.now) }
-    ensures memo { IsRight course.now memo.new }
+fn some_of<'x>(step: &Step<'x>, row: &'x Row, blocks: &Blocks<'_>, memo: &mut Memo) -> bool
+    requires known { (y : List Cell) → Fits (query_of step.now) row.now (rows_before step.now) step.now.atom y → HasKnown (option_copied blocks.now.index) blocks.now.values y }
+    requires memo { IsRight step.now.course.now memo.old }
+    ensures holds { IsTrue result ↔ SomeBlockFits blocks.now.key.now blocks.now.rows (HoldsWith step.now row.now) }
+    ensures memo { IsRight step.now.course.now memo.new }
 {
     let mut spot = blocks.start();
     while let Some(block) = blocks.next(&mut spot) {
-        if all_hold(course, row, taken, atom, &block, rest, memo) {
+        if all_hold(step, row, &block, memo) {
             return true;
         }
     }
@@ -121,22 +94,13 @@ fn some_of<'x>(
 
 /// Whether all of these rows hold.
 #[cycle(holds)]
-pub(crate) fn all_hold<'x>(
-    course: &'x Course<'x>,
-    row: &'x Row,
-    taken: &'x Taken<'x>,
-    atom: u32,
-    block: &Rows<'_>,
-    rest: &[u32],
-    memo: &mut Memo,
-) -> bool
-    requires here { IsUnderway course.now (placed taken.now) (atom ∷ rest.now) }
-    requires memo { IsRight course.now memo.old }
-    ensures holds { IsTrue result ↔ AllHold course.now.setting.query.now (stored course.now.setting.db.now) row.now (placed taken.now) atom rest.now block.now }
-    ensures memo { IsRight course.now memo.new }
+pub(crate) fn all_hold<'x>(step: &Step<'x>, row: &'x Row, block: &Rows<'_>, memo: &mut Memo) -> bool
+    requires { IsRight step.now.course.now memo.old }
+    ensures holds { IsTrue result ↔ AllHoldWith step.now row.now block.now }
+    ensures memo { IsRight step.now.course.now memo.new }
 {
     for y in block.again() {
-        if !row_holds(course, row, taken, atom, y, rest, memo) {
+        if !row_holds(step, row, y, memo) {
             return false;
         }
     }
@@ -145,27 +109,22 @@ pub(crate) fn all_hold<'x>(
 
 /// Whether a row fits, and the rest of the plan holds with it.
 #[cycle(holds)]
-fn row_holds<'x>(
-    course: &'x Course<'x>,
-    row: &'x Row,
-    taken: &'x Taken<'x>,
-    atom: u32,
-    y: &Row,
-    rest: &[u32],
-    memo: &mut Memo,
-) -> bool
-    requires here { IsUnderway course.now (placed taken.now) (atom ∷ rest.now) }
-    requires memo { IsRight course.now memo.old }
-    ensures holds { IsTrue result ↔ RowHolds course.now.setting.query.now (stored course.now.setting.db.now) row.now (placed taken.now) atom rest.now y.now }
-    ensures memo { IsRight course.now memo.new }
+fn row_holds<'x>(step: &Step<'x>, row: &'x Row, y: &Row, memo: &mut Memo) -> bool
+    requires { IsRight step.now.course.now memo.old }
+    ensures holds { IsTrue result ↔ HoldsWith step.now row.now y.now }
+    ensures memo { IsRight step.now.course.now memo.new }
 {
     memo.turn();
-    let setting = &course.setting;
-    if !fits(setting.query, &setting.variables, row, taken, atom, y) {
+    if !fits(step, row, y) {
         return false;
     }
-    let more = Taken::Before(atom, &*y, &*taken);
-    holds_with(&*course, &*row, &more, rest, memo)
+    let more = Taken::Before(step.atom, &*y, &*step.taken);
+    let rest = Rest {
+        course: &*step.course,
+        taken: &more,
+        plan: &*step.rest,
+    };
+    holds_with(&rest, &*row, memo)
 }
 
 /// Whether a plan holds for a row: the plan's first atom has a block all of whose rows fit the row, and for each of them
@@ -177,19 +136,26 @@ pub fn holds(alloc: Global, plan: &Plan, db: &Database, query: &Query, row: &Row
     ensures { IsTrue result ↔ HoldsOver db.now query.now row.now plan.now.order }
 {
     let order = plan.order.as_slice();
+    let setting = Setting {
+        alloc,
+        db,
+        query,
+        variables: variables(query),
+        paths: &[],
+    };
     let course = Course {
-        setting: Setting {
-            alloc,
-            db,
-            query,
-            variables: variables(query),
-            paths: &[],
-        },
+        setting,
         order,
         shared: &[],
     };
+    let none = Taken::Nothing;
+    let rest = Rest {
+        course: &course,
+        taken: &none,
+        plan: order,
+    };
     let mut memo = Memo::new(alloc, 0);
-    let held = holds_with(&course, row, &Taken::Nothing, order, &mut memo);
+    let held = holds_with(&rest, row, &mut memo);
     drop(memo);
     held
 }

@@ -6,7 +6,7 @@ use Rattle.std.proofs.lemmas.List.{length-append, get_or_append_left, get_or_def
 use Rattle.cqa_model.specs.declared.query.ColRef.{ColRef}
 use Rattle.cqa_model.specs.declared.query.Query.{Query}
 use Rattle.cqa_model.proofs.Classic.{mem-tail}
-use Rattle.plan_rows.specs.Underway.{HasShared, AreShared}
+use Rattle.plan_rows.specs.Left.{HasShared, AreShared}
 
 -- a property of each atom of a list, by places
 pub each-atom : (P : ℕ → Type 0) (atoms : List ℕ) (n : ℕ) → length atoms ≡ n → ((k : ℕ) → k < n → P (get_or atoms k 0)) → (F : ℕ) → Contains atoms F → P F

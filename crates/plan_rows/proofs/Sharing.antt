@@ -7,6 +7,7 @@ use Rattle.std.proofs.lemmas.List.Elements.{All-contains, Contains-get_or, Conta
 use Rattle.std.specs.List.{All}
 use Rattle.std.specs.BTreeMap.{get}
 use Rattle.std.proofs.lemmas.Option.{none-some}
+use Rattle.std.proofs.Math.Logic.{∥∥₁_elim}
 use Rattle.cqa_value.specs.declared.value.Value.{Value}
 use Rattle.cqa_value.specs.declared.value.Value.TheVariants.{Int}
 use Rattle.cqa_value.specs.Values.{nothing, row_cmp}
@@ -19,14 +20,16 @@ use Rattle.cqa_model.specs.Variables.{AreLinked}
 use Rattle.cqa_model.specs.Plan.{Placed, Fits, PlanHolds, answer_at}
 use Rattle.cqa_model.proofs.Classic.{mem-head, mem-tail, mem-nil, mem-cases, map_agree}
 use Rattle.cqa_model.proofs.BrokenKey.{same_number}
-use Rattle.plan_rows.specs.Taking.{taken_value}
+use Rattle.plan_rows.specs.Taking.{placed, taken_value, AreOfAtoms}
 use Rattle.plan_rows.specs.Fitting.{AgreesAll, Suits}
-use Rattle.plan_rows.specs.Over.{IsPrepared}
-use Rattle.plan_rows.specs.Left.{AreAtoms, IsSettled}
-use Rattle.plan_rows.specs.Underway.{atoms_of, HasShared, AreShared, IsUnderway, IsKey, IsRight}
+use Rattle.plan_rows.specs.Left.{IsSettled}
+use Rattle.plan_rows.specs.Once.{value_set}
+use Rattle.plan_rows.specs.Over.{query_of, rows_before}
+use Rattle.plan_rows.specs.Underway.{atoms_of, IsUnderway, IsKey, IsRight}
 use Rattle.plan_rows.specs.declared.course.Course.{Course}
 use Rattle.plan_rows.specs.declared.memo.Memo.{Memo}
-use Rattle.plan_rows.proofs.Suiting.{atoms-more, agreed-more}
+use Rattle.plan_rows.specs.declared.steps.Step.{Step}
+use Rattle.plan_rows.proofs.Suiting.{agreed-more}
 
 -- the last taken row of an atom
 pub value-taken : (taken : List Placed) (c : ColRef) (t : Placed) → Contains taken t → t.atom ≡ c.atom → (u : Placed) × Contains taken u × (u.atom ≡ c.atom) × (taken_value taken c ≡ get_or u.row c.col nothing)
@@ -71,19 +74,22 @@ length-atoms (s ∷ ss) =
     let h = length-atoms ss in
     omega (arith, l, h)
 
+-- the atoms of the rows taken and those that are left are of the order, and so of the query
+pub underway-taken : (s : Course) (taken : List Placed) (plan : List ℕ) → IsUnderway s taken plan → AreOfAtoms s.setting.query.now taken
+underway-taken s taken plan u t m = s.atoms t.atom (subst (λ order. Contains order t.atom) (sym u.place) (Contains-append_left (atoms_of taken) plan t.atom (in-atoms taken t m)))
+
+pub first-atom : (s : Course) (taken : List Placed) (F : ℕ) (rest : List ℕ) → IsUnderway s taken (F ∷ rest) → F < length s.setting.query.now.atoms
+first-atom s taken F rest u = s.atoms F (subst (λ order. Contains order F) (sym u.place) (Contains-append_right (atoms_of taken) (F ∷ rest) F (mem-head F rest)))
+
+pub step-taken : (s : Step) → AreOfAtoms (query_of s) (rows_before s)
+step-taken s = underway-taken s.course.now (placed s.taken.now) (s.atom ∷ s.rest.now) s.underway
+
 -- with one row more
 pub underway-more : (s : Course) (taken : List Placed) (F : ℕ) (rest : List ℕ) (x : List Value) → IsUnderway s taken (F ∷ rest) → Suits s.setting.query.now taken F x → IsUnderway s (record { atom = F; row = x } ∷ taken) rest
 underway-more s taken F rest x u suits = record {
-  over = u.over;
-  shared = u.shared;
-  taken = atoms-more s.setting.query.now (record { atom = F; row = x }) taken (u.plan F (mem-head F rest)) u.taken;
   agreed = agreed-more s.setting.query.now taken F x u.agreed suits;
-  plan = λ G m. u.plan G (mem-tail G F rest m);
   place = u.place ∙ sym (append_assoc (atoms_of taken) (F ∷ []) rest);
 }
-
-pub first-atom : (s : Course) (taken : List Placed) (F : ℕ) (rest : List ℕ) → IsUnderway s taken (F ∷ rest) → F < length s.setting.query.now.atoms
-first-atom s taken F rest u = u.plan F (mem-head F rest)
 
 -- the number of atoms that were passed
 pub passed-count : (s : Course) (taken : List Placed) (plan : List ℕ) → IsUnderway s taken plan → length s.order.now ≡ length taken + length plan
@@ -143,12 +149,12 @@ same-shared : (s : Course) (taken others : List Placed) (plan : List ℕ) → Is
 unfolding SameFor
 same-shared s taken others plan u v atoms there e F mF x a t m i li j lj linked =
     let q = s.setting.query.now in
-    let c : ColRef = record { atom = t.atom; col = j } in
     let front : Contains (atoms_of taken) t.atom = subst (λ z. Contains z t.atom) (sym atoms) (in-atoms others t m) in
     let count : length (atoms_of taken) ≡ length taken = length-atoms taken in
-    let has : HasShared q (atoms_of taken) plan (get_or s.shared.now (length (atoms_of taken)) []) = u.shared (atoms_of taken) plan u.place (subst (λ n. n < length s.shared.now) (sym count) there) in
-    let mc : Contains (get_or s.shared.now (length taken) []) (record { atom = t.atom; col = j }) = subst (λ n. Contains (get_or s.shared.now n []) (record { atom = t.atom; col = j })) count (has t.atom j front lj (F, i, mF, li, linked)) in
-    let same = map_agree (taken_value taken) (taken_value others) (get_or s.shared.now (length taken) []) e (record { atom = t.atom; col = j }) mc in
+    let same = ∥∥₁_elim s.shares (value_set (taken_value taken (record { atom = t.atom; col = j })) (taken_value others (record { atom = t.atom; col = j }))) (λ shared.
+    map_agree (taken_value taken) (taken_value others) (get_or s.shared.now (length taken) []) e (record { atom = t.atom; col = j })
+    (subst (λ n. Contains (get_or s.shared.now n []) (record { atom = t.atom; col = j })) count
+    (shared (atoms_of taken) plan u.place (subst (λ n. n < length s.shared.now) (sym count) there) t.atom j front lj (F, i, mF, li, linked)))) in
     let t0 = of-atoms taken t.atom front in
     let w = value-taken taken (record { atom = t.atom; col = j }) t0.0 t0.1 t0.2 in
     let z = value-taken others (record { atom = t.atom; col = j }) t m refl in
@@ -162,7 +168,7 @@ tail-cases false false row other e = inr (inr e)
 
 -- what holds under a key holds wherever the key is the same
 same-rest : (s : Course) (taken others : List Placed) (plan : List ℕ) (row other key : List Value) → IsUnderway s taken plan → IsUnderway s others plan → atoms_of taken ≡ atoms_of others →
-    IsKey s.setting.query.now s.shared.now taken plan row key → IsKey s.setting.query.now s.shared.now others plan other key →
+    IsKey s taken plan row key → IsKey s others plan other key →
     PlanHolds s.setting.query.now (stored s.setting.db.now) row taken plan → PlanHolds s.setting.query.now (stored s.setting.db.now) other others plan
 same-rest s taken others plan row other key u v atoms k l h =
     elim (tail-cases k.settled l.settled row other split.1) [
@@ -195,11 +201,11 @@ same-rest s taken others plan row other key u v atoms k l h =
     moved = same-plan s.setting.query.now (stored s.setting.db.now) row taken others plan (same-shared s taken others plan u v atoms k.there split.0) h
 
 same-key : (s : Course) (taken others : List Placed) (plan left : List ℕ) (row other key : List Value) → IsUnderway s taken plan → IsUnderway s others left →
-    IsKey s.setting.query.now s.shared.now taken plan row key → IsKey s.setting.query.now s.shared.now others left other key →
+    IsKey s taken plan row key → IsKey s others left other key →
     PlanHolds s.setting.query.now (stored s.setting.db.now) row taken plan → PlanHolds s.setting.query.now (stored s.setting.db.now) other others left
 same-key s taken others plan left row other key u v k l h =
     subst (λ p. PlanHolds s.setting.query.now (stored s.setting.db.now) other others p) split.1
-    (same-rest s taken others plan row other key u (subst (IsUnderway s others) (sym split.1) v) split.0 k (subst (λ p. IsKey s.setting.query.now s.shared.now others p other key) (sym split.1) l) h)
+    (same-rest s taken others plan row other key u (subst (IsUnderway s others) (sym split.1) v) split.0 k (subst (λ p. IsKey s others p other key) (sym split.1) l) h)
   where
     count : length plan ≡ length left
     count = same_number (length plan) (length left) (same_head (Int (pos (length plan))) (Int (pos (length left))) _ _ (sym k.is ∙ l.is))
@@ -219,20 +225,13 @@ same-key s taken others plan left row other key u v k l h =
     split = parts (atoms_of taken) (atoms_of others) plan left long orders
 
 -- before any row is taken
-pub underway-starts : (s : Course) (plan : List ℕ) → IsPrepared s.setting → AreShared s.setting.query.now s.order.now s.shared.now → AreAtoms s.setting.query.now plan → s.order.now ≡ plan → IsUnderway s [] plan
-underway-starts s plan over shared atoms e = record {
-  over = over;
-  shared = shared;
-  taken = λ t m. absurd (mem-nil t m);
-  agreed = λ t u m. absurd (mem-nil t m);
-  plan = atoms;
-  place = e;
-}
+pub underway-starts : (s : Course) → IsUnderway s [] s.order.now
+underway-starts s = record { agreed = λ t u m. absurd (mem-nil t m); place = refl }
 
 -- the key that was made
 pub key-made : (s : Course) (taken : List Placed) (plan : List ℕ) (row : List Value) (columns item : List ColRef) (place : ℕ) (settled : Bool) (r : Option (List Value)) → IsUnderway s taken plan → place ≡ length s.order.now - length plan → place < length s.shared.now →
     item ≡ get_or s.shared.now place item → columns ≡ item → IsTrue settled ↔ IsSettled s.setting.query.now plan → IfSome r (λ key. key ≡ Int (pos (length plan)) ∷ map (taken_value taken) columns ++ (if settled then [] else row)) →
-    IfSome r (λ key. IsKey s.setting.query.now s.shared.now taken plan row key)
+    IfSome r (λ key. IsKey s taken plan row key)
 key-made s taken plan row columns item place settled None u e l i c says made = tt
 key-made s taken plan row columns item place settled (Some key) u e l i c says made = record {
   settled = settled;
@@ -248,14 +247,14 @@ pub none-right : (s : Course) (memo : Memo) → ((key : List Value) → get row_
 none-right s memo n k b g = absurd (none-some b (sym (n k) ∙ g))
 
 -- one decision more is remembered, or not
-pub keeps-right : (s : Course) (old new : Memo) (taken : List Placed) (plan : List ℕ) (row key : List Value) (held : Bool) → IsRight s old → IsUnderway s taken plan → IsKey s.setting.query.now s.shared.now taken plan row key →
+pub keeps-right : (s : Course) (old new : Memo) (taken : List Placed) (plan : List ℕ) (row key : List Value) (held : Bool) → IsRight s old → IsUnderway s taken plan → IsKey s taken plan row key →
     IsTrue held ↔ PlanHolds s.setting.query.now (stored s.setting.db.now) row taken plan →
     ((k : List Value) (b : Bool) → get row_cmp new.known k ≡ Some b → (get row_cmp old.known k ≡ Some b) ⊎ ((k ≡ key) × (b ≡ held))) → IsRight s new
 keeps-right s old new taken plan row key held right u is decided kept k b g = elim (kept k b g) [
   | inl o ↦ right k b o
   | inr p ↦ (λ others left other v l. (
-    (λ t. same-key s taken others plan left row other key u v is (subst (λ z. IsKey s.setting.query.now s.shared.now others left other z) p.0 l) (decided.0 (sym p.1 ∙ t))),
-    (λ h. p.1 ∙ decided.1 (same-key s others taken left plan other row key v u (subst (λ z. IsKey s.setting.query.now s.shared.now others left other z) p.0 l) is h)),
+    (λ t. same-key s taken others plan left row other key u v is (subst (λ z. IsKey s others left other z) p.0 l) (decided.0 (sym p.1 ∙ t))),
+    (λ h. p.1 ∙ decided.1 (same-key s others taken left plan other row key v u (subst (λ z. IsKey s others left other z) p.0 l) is h)),
   ))
 ]
 

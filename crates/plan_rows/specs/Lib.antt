@@ -1,6 +1,7 @@
 pub mod Taking
 pub mod Fitting
 pub mod Knowing
-pub mod Over
 pub mod Left
+pub mod Once
 pub mod Underway
+pub mod Over

@@ -11,13 +11,14 @@ ghost use Rattle.table_blocks.specs.Spans.{first_key};
 ghost use Rattle.plan_rows.specs.Taking.{placed, AreOfAtoms};
 ghost use Rattle.plan_rows.specs.Fitting.{ColumnAgrees, AgreesAll, GivesAt};
 ghost use Rattle.plan_rows.specs.Knowing.{MayFit};
-ghost use Rattle.plan_rows.specs.Over.{IsPrepared};
+ghost use Rattle.plan_rows.specs.Over.{query_of, rows_before};
 
 use crate::setting::Setting;
+use crate::steps::Step;
 use crate::taken_rows::Taken;
 use cqa_model::{ColRef, Cond, MOST_COLUMNS, Op, Query};
 use cqa_value::{Row, Value};
-use row_cursor::{are_linked, width_of};
+use row_cursor::width_of;
 use table_blocks::{Probe, cell};
 
 /// The value that a test tells of a column.
@@ -53,7 +54,6 @@ fn told_by_row<'b>(
     row: &'b Row,
     column: ColRef,
 ) -> Option<&'b Value>
-    requires over { IsPrepared setting.now }
     requires column { IsInRange setting.now.query.now.atoms column }
     requires other { other < length setting.now.query.now.atoms }
     ensures { IfSome result (λ value. (y : List Cell) → ColumnAgrees setting.now.query.now y column row.now other (atom_at setting.now.query.now other).width → slice_index_or y column.col nothing ≡ value.now) }
@@ -63,7 +63,7 @@ fn told_by_row<'b>(
             atom: other,
             col: j,
         };
-        if are_linked(setting.query, &setting.variables, column, linked_column) {
+        if setting.are_linked(column, linked_column) {
             return cell(row, j);
         }
     }
@@ -72,7 +72,6 @@ fn told_by_row<'b>(
 
 /// The value that some row taken tells of a column.
 fn told_by_taken<'b>(setting: &Setting<'_>, taken: &Taken<'b>, column: ColRef) -> Option<&'b Value>
-    requires over { IsPrepared setting.now }
     requires column { IsInRange setting.now.query.now.atoms column }
     requires taken { AreOfAtoms setting.now.query.now (placed taken.now) }
     ensures { IfSome result (λ value. (y : List Cell) → AgreesAll setting.now.query.now column.atom y (placed taken.now) → slice_index_or y column.col nothing ≡ value.now) }
@@ -99,22 +98,21 @@ fn told_by_answer<'b>(query: &Query, row: &'b Row, column: ColRef) -> Option<&'b
     None
 }
 
-/// The value that each row of an atom has in a column if it fits.
-fn known<'b>(
-    setting: &'b Setting<'_>,
-    row: Option<&'b Row>,
-    taken: &Taken<'b>,
-    column: ColRef,
-) -> Option<&'b Value>
-    requires over { IsPrepared setting.now }
-    requires column { IsInRange setting.now.query.now.atoms column }
-    requires taken { AreOfAtoms setting.now.query.now (placed taken.now) }
-    ensures { IfSome result (λ value. (y : List Cell) → MayFit setting.now.query.now (option_copied row.entry) (placed taken.now) column.atom y → slice_index_or y column.col nothing ≡ value.now) }
+/// The value that each row of the next atom has in a column if it fits.
+fn known<'b>(step: &Step<'b>, row: Option<&'b Row>, col: u32) -> Option<&'b Value>
+    requires { col < (atom_at (query_of step.now) step.now.atom).width }
+    ensures { IfSome result (λ value. (y : List Cell) → MayFit (query_of step.now) (option_copied row.entry) (rows_before step.now) step.now.atom y → slice_index_or y col nothing ≡ value.now) }
 {
+    let course = step.course;
+    let setting = &course.setting;
+    let column = ColRef {
+        atom: step.atom,
+        col,
+    };
     if let Some(value) = told(setting.query.conds.as_slice(), column) {
         return Some(value);
     }
-    if let Some(value) = told_by_taken(setting, taken, column) {
+    if let Some(value) = told_by_taken(setting, step.taken, column) {
         return Some(value);
     }
     match row {
@@ -123,27 +121,21 @@ fn known<'b>(
     }
 }
 
-/// The values that each row of an atom has in some columns if it fits: those of the first columns, as many as are known.
-pub fn known_values<'b>(
-    setting: &'b Setting<'_>,
-    row: Option<&'b Row>,
-    taken: &Taken<'b>,
-    atom: u32,
-    columns: &[u32],
-) -> Probe<'b>
-    requires over { IsPrepared setting.now }
-    requires atom { atom < length setting.now.query.now.atoms }
-    requires taken { AreOfAtoms setting.now.query.now (placed taken.now) }
+/// The values that each row of the next atom has in some columns if it fits: those of the first columns, as many as are
+/// known.
+pub fn known_values<'b>(step: &Step<'b>, row: Option<&'b Row>, columns: &[u32]) -> Probe<'b>
     ensures few { length result ≤ length columns.now }
-    ensures known { (y : List Cell) → MayFit setting.now.query.now (option_copied row.entry) (placed taken.now) atom y → first_key columns.now result y ≡ result }
+    ensures known { (y : List Cell) → MayFit (query_of step.now) (option_copied row.entry) (rows_before step.now) step.now.atom y → first_key columns.now result y ≡ result }
 {
-    let width = width_of(setting.query, atom);
+    let course = step.course;
+    let setting = &course.setting;
+    let width = width_of(setting.query, step.atom);
     let mut probe = Probe::new(setting.alloc);
     for col in columns {
         if *col >= width || probe.len() == MOST_COLUMNS {
             return probe;
         }
-        let Some(value) = known(setting, row, taken, ColRef { atom, col: *col }) else {
+        let Some(value) = known(step, row, *col) else {
             return probe;
         };
         probe.put(value);

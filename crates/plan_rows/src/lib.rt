@@ -9,6 +9,7 @@ mod memo;
 mod setting;
 mod settled;
 mod shared;
+mod steps;
 mod taken_rows;
 
 pub use course::{Course, turns_before_memo};
@@ -18,4 +19,5 @@ pub use memo::Memo;
 pub use setting::Setting;
 pub use settled::are_settled;
 pub use shared::{is_told, shared_columns, shared_or_none};
+pub use steps::{Rest, Step};
 pub use taken_rows::{Taken, answer_of};

@@ -7,10 +7,10 @@ ghost use Rattle.cqa_value.specs.declared.value.Value.{Value as Cell};
 ghost use Rattle.cqa_value.specs.declared.value.Value.TheVariants.{Int};
 ghost use Rattle.cqa_value.specs.Values.{row_cmp};
 ghost use Rattle.plan_rows.specs.Taking.{placed, taken_value};
-ghost use Rattle.plan_rows.specs.Underway.{IsUnderway, IsKey};
+ghost use Rattle.plan_rows.specs.Underway.{IsKey};
 
-use crate::course::Course;
 use crate::settled::are_settled;
+use crate::steps::Rest;
 use crate::taken_rows::{Taken, answer_of};
 use cqa_model::ColRef;
 use cqa_value::{MOST_VALUES, Row, Value};
@@ -106,19 +106,14 @@ impl Memo {
 
     /// By what it is remembered whether a rest of a plan holds; `None` before the turns are used up, and where there is no
     /// key.
-    pub fn key(
-        &self,
-        course: &Course<'_>,
-        row: &Row,
-        taken: &Taken<'_>,
-        plan: &[u32],
-    ) -> Option<Row>
-        requires { IsUnderway course.now (placed taken.now) plan.now }
-        ensures { IfSome result (λ key. IsKey course.now.setting.query.now course.now.shared.now (placed taken.now) plan.now row.now key) }
+    pub fn key(&self, rest: &Rest<'_>, row: &Row) -> Option<Row>
+        ensures { IfSome result (IsKey rest.now.course.now (placed rest.now.taken.now) rest.now.plan.now row.now) }
     {
         if self.turns > 0 {
             return None;
         }
+        let course = rest.course;
+        let plan = rest.plan;
         let place = course.order.len() - plan.len();
         if place >= course.shared.len() {
             return None;
@@ -128,7 +123,7 @@ impl Memo {
         key_of(
             course.setting.alloc,
             plan.len(),
-            taken,
+            rest.taken,
             columns,
             settled,
             row,

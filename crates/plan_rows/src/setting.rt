@@ -1,7 +1,13 @@
 //! What a plan is evaluated over: a database, a query that fits it, and what was prepared for the two.
 
-use cqa_model::{Query, Variables};
-use row_cursor::RowIndex;
+ghost use Rattle.std.specs.Prelude.{◌≡◌, ◌<◌, IfSome, Some, None, length, slice_index_or};
+ghost use Rattle.cqa_model.specs.Query.{FitsDatabase};
+ghost use Rattle.cqa_model.specs.Naming.{AreVariables};
+ghost use Rattle.row_cursor.specs.Spots.{ArePaths};
+ghost use Rattle.plan_rows.specs.Once.{fits_once};
+
+use cqa_model::{ColRef, Query, Variables};
+use row_cursor::{RowIndex, are_linked};
 use std::alloc::Global;
 use table_blocks::Database;
 
@@ -14,4 +20,43 @@ pub struct Setting<'a> {
     pub query: &'a Query,
     pub variables: Variables,
     pub paths: &'a [Option<RowIndex<'a>>],
+    pub ghost fits: { FitsDatabase query.now db.now } by { fits_once query.now db.now },
+    pub ghost named: { ∥ AreVariables query.now variables ∥₁ },
+    pub ghost indexed: { ArePaths query.now db.now paths.now },
+}
+
+/// The index at a place, if there is one.
+fn path_of<'a>(paths: &'a [Option<RowIndex<'a>>], atom: usize) -> Option<&'a RowIndex<'a>>
+    ensures { IfSome result (λ x. (atom < length paths.now) × (slice_index_or paths.now atom None ≡ Some x.now)) }
+{
+    if atom < paths.len()
+        && let Some(index) = &paths[atom]
+    {
+        return Some(index);
+    }
+    None
+}
+
+impl<'a> Setting<'a> {
+    ghost use Rattle.std.specs.Prelude.{◌↔◌, IsTrue};
+    ghost use Rattle.cqa_model.specs.Shape.{IsInRange};
+    ghost use Rattle.cqa_model.specs.Database.{stored};
+    ghost use Rattle.cqa_model.specs.Query.{rows_of};
+    ghost use Rattle.cqa_model.specs.Variables.{AreLinked};
+
+    /// Whether two columns of the query are of one variable.
+    pub fn are_linked(&self, a: ColRef, b: ColRef) -> bool
+        requires a { IsInRange self.now.query.now.atoms a }
+        requires b { IsInRange self.now.query.now.atoms b }
+        ensures { IsTrue result ↔ AreLinked self.now.query.now a b }
+    {
+        are_linked(self.query, &self.variables, a, b)
+    }
+
+    /// The index of an atom's table, if there is one.
+    pub fn index_of(&self, atom: u32) -> Option<&'a RowIndex<'a>>
+        ensures { IfSome result (λ x. x.now.rows ≡ rows_of self.now.query.now (stored self.now.db.now) atom) }
+    {
+        path_of(self.paths, atom as usize)
+    }
 }

@@ -5,7 +5,7 @@ use Rattle.std.specs.Ordering.{ordering_reverse}
 use Rattle.std.specs.List.Sorted.{IsStrictlySortedBy}
 use Rattle.std.specs.declared.cmp.Ordering.{Ordering}
 use Rattle.std.specs.declared.cmp.Ordering.TheVariants.{Equal, Greater}
-use Rattle.std.proofs.lemmas.Bool.{false≢true, and_parts, and_from, not_from_false, false_from_ne_true}
+use Rattle.std.proofs.lemmas.Bool.{false≢true, and_parts, and_from, cases_order, not_from_false, false_from_ne_true}
 use Rattle.std.proofs.lemmas.Map.Keys.{Less-from_sorted}
 use Rattle.cqa_value.specs.declared.value.Value.{Value}
 use Rattle.cqa_value.specs.Values.{row_eq, row_decides}
@@ -15,7 +15,6 @@ use Rattle.cqa_model.specs.Repairs.{SharesKey}
 use Rattle.cqa_model.proofs.BlockOrder.{grouped, shares-from_key, key-from_shares, block_total}
 use Rattle.cqa_model.proofs.Repairs.{shares-sym, shares-trans}
 use Rattle.repair_back.specs.Results.{is_of_block, is_contested}
-use Rattle.repair_back.proofs.Numbers.{cases_order}
 
 any-at : (p : List Value → Bool) (xs : List (List Value)) → list_any p xs ≡ true → (i : ℕ) × (i < length xs) × (p (get_or xs i []) ≡ true)
 any-at p [] e = absurd (false≢true e)
@@ -79,11 +78,11 @@ module _ (key : List ℕ) (rows : List (List Value)) (order : IsStrictlySortedBy
           s : SharesKey key x (get_or rows i [])
           s = shares-from_key key x (get_or rows i []) ((row_decides (key_of key x) (key_of key (get_or rows i []))).0 b.0)
 
-          side : (i < place) ⊎ ((i ≡ place) ⊎ (place < i)) → ((place + 1 < length rows) × SharesKey key x (get_or rows (place + 1) [])) ⊎ ((0 < place) × SharesKey key x (get_or rows (place - 1) []))
-          side (inl k) = inr (
+          side : (i ≡ place) ⊎ ((i < place) ⊎ (place < i)) → ((place + 1 < length rows) × SharesKey key x (get_or rows (place + 1) [])) ⊎ ((0 < place) × SharesKey key x (get_or rows (place - 1) []))
+          side (inr (inl k)) = inr (
             omega (arith, k),
             shares-trans key x (get_or rows i []) (get_or rows (place - 1) []) s
                 (grouped key rows order i (place - 1) place (omega (arith, k)) (omega (arith, k)) there (shares-sym key x (get_or rows i []) s)),
           )
-          side (inr (inl k)) = absurd (clash_not (row_eq x (get_or rows i [])) b.1 ((row_decides x (get_or rows i [])).1 (ap (λ n. get_or rows n []) (sym k))))
+          side (inl k) = absurd (clash_not (row_eq x (get_or rows i [])) b.1 ((row_decides x (get_or rows i [])).1 (ap (λ n. get_or rows n []) (sym k))))
           side (inr (inr k)) = inl (omega (arith, k, l), grouped key rows order place (place + 1) i (omega arith) (omega (arith, k)) l s)

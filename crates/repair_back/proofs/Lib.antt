@@ -1,5 +1,4 @@
 mod Apart
-mod Numbers
 mod Choosing
 mod Keeping
 mod Stepping

@@ -16,20 +16,13 @@ use Rattle.repair_back.specs.Walking.{MayFit}
 pub whole-known : (columns : List ℕ) (values y : List Value) → length values ≡ length columns → first_key columns values y ≡ values → key_of columns y ≡ values
 whole-known columns values y size e = ap (λ cs. key_of cs y) (sym (take_all (length values) columns (le_of_eq (sym size)))) ∙ e
 
-passed-in : (o : Option Indexed) (values : List Value) (rows : List (List Value)) (fits : List Value → Type 0) (n : ℕ) → IfSome o (λ x. (x.rows ≡ rows) × (length x.rows ≡ n)) → ((y : List Value) → fits y → HasKnown o values y) →
+passed-in : (o : Option Indexed) (values : List Value) (rows : List (List Value)) (fits : List Value → Type 0) → IfSome o (λ x. x.rows ≡ rows) → ((y : List Value) → fits y → HasKnown o values y) →
     (from to : ℕ) → IsPassedIn o values from to → (i : ℕ) → from < i → i < to → fits (get_or rows i []) → ⊥
-passed-in None values rows fits n index known from to passed i low high f = omega (arith, passed, low, high)
-passed-in (Some x) values rows fits n index known from to passed i low high f =
-    passed i low high (subst (λ (rs : List (List Value)). key_of x.columns (get_or rs i []) ≡ values) (sym index.0) (known (get_or rows i []) f))
+passed-in None values rows fits index known from to passed i low high f = omega (arith, passed, low, high)
+passed-in (Some x) values rows fits index known from to passed i low high f =
+    passed i low high (subst (λ (rs : List (List Value)). key_of x.columns (get_or rs i []) ≡ values) (sym index) (known (get_or rows i []) f))
 
 module _ (q : Query) (row : List Value) (taken : List Placed) (F : ℕ) (rows : List (List Value)) (s : Places) (h : AreThere q row taken F rows s) where
   -- no row fits that is passed
   pub passed-fits : (from to : ℕ) → IsPassed s from to → (i : ℕ) → from < i → i < to → Fits q row taken F (get_or rows i []) → ⊥
-  passed-fits from to passed = passed-in (option_copied s.index) s.values rows (λ y. Fits q row taken F y) s.end h.index h.known from to passed
-
-  pub index-end : IfSome (option_copied s.index) (λ x. length x.rows ≡ s.end)
-  index-end = go (option_copied s.index) h.index
-    where
-      go : (o : Option Indexed) → IfSome o (λ x. (x.rows ≡ rows) × (length x.rows ≡ s.end)) → IfSome o (λ x. length x.rows ≡ s.end)
-      go None i = tt
-      go (Some x) i = i.1
+  passed-fits from to passed = passed-in (option_copied s.index) s.values rows (λ y. Fits q row taken F y) h.index h.known from to passed

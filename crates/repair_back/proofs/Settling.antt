@@ -1,6 +1,6 @@
 -- One row of each block, block by block.
 use Rattle.std.proofs.Common.{◌≡◌, ℕ, ◌<◌, ◌≤◌, ◌↔◌, ◌⊎◌, inl, inr, Bool, true, false, List, [], length, get_or, sym, ◌∙◌, subst, arith}
-use Rattle.std.proofs.lemmas.Bool.{false≢true}
+use Rattle.std.proofs.lemmas.Bool.{false≢true, cases_order}
 use Rattle.cqa_value.specs.declared.value.Value.{Value}
 use Rattle.cqa_value.proofs.Words.{cases_le}
 use Rattle.cqa_model.specs.Repairs.{SharesKey}
@@ -9,7 +9,6 @@ use Rattle.repair_back.specs.Flags.{IsFlagged, IsChoice}
 use Rattle.repair_back.specs.Results.{IsPick}
 use Rattle.repair_back.specs.Walking.{Begins, IsBlock}
 use Rattle.repair_back.proofs.Choosing.{flag-there}
-use Rattle.repair_back.proofs.Numbers.{cases_order}
 
 -- two picks of one block are one
 pick_apart : (key : List ℕ) (rows : List (List Value)) (P : ℕ → Type 0) (p r : ℕ) → IsPick key rows P p → IsPick key rows P r → SharesKey key (get_or rows p []) (get_or rows r []) → p < r → ⊥
@@ -19,8 +18,8 @@ pick_apart key rows P p r hp hr s l =
 
 pub one_of_picks : (key : List ℕ) (rows : List (List Value)) (P : ℕ → Type 0) (p r : ℕ) → IsPick key rows P p → IsPick key rows P r → SharesKey key (get_or rows p []) (get_or rows r []) → p ≡ r
 one_of_picks key rows P p r hp hr s = elim (cases_order p r) [
-  | inl l ↦ absurd (pick_apart key rows P p r hp hr s l)
-  | inr e ↦ elim e [ inl q ↦ q | inr l ↦ absurd (pick_apart key rows P r p hr hp (shares-sym key (get_or rows p []) (get_or rows r []) s) l) ]
+  | inl q ↦ q
+  | inr d ↦ elim d [ inl l ↦ absurd (pick_apart key rows P p r hp hr s l) | inr l ↦ absurd (pick_apart key rows P r p hr hp (shares-sym key (get_or rows p []) (get_or rows r []) s) l) ]
 ]
 
 -- the blocks before a place have their picks, and the flags from there on are as before

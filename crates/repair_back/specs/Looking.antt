@@ -10,12 +10,12 @@ use Rattle.plan_rows.specs.Knowing.{HasKnown}
 use Rattle.repair_back.specs.declared.places.Places.{Places}
 
 -- No row outside of the places fits; one that does has the values that are known; and the index, if there is one, is of these
--- rows, all of them.
+-- rows.
 pub record AreThere (q : Query) (row : List Value) (taken : List Placed) (F : ℕ) (rows : List (List Value)) (s : Places) : Type 0 where
   pub within : s.end ≤ length rows
   pub others : (i : ℕ) → i < length rows → (i < s.start) ⊎ (s.end ≤ i) → Fits q row taken F (slice_index_or rows i []) → ⊥
   pub known : (y : List Value) → Fits q row taken F y → HasKnown (option_copied s.index) s.values y
-  pub index : IfSome (option_copied s.index) (λ x. (x.rows ≡ rows) × (length x.rows ≡ s.end))
+  pub index : IfSome (option_copied s.index) (λ x. x.rows ≡ rows)
 
 -- no row of an index between two places has the values that are known; without an index there is none between
 abbrev pub IsPassedIn : Option Indexed → List Value → ℕ → ℕ → Type 0

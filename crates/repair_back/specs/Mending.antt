@@ -5,12 +5,11 @@ use Rattle.cqa_model.specs.declared.query.Query.{Query}
 use Rattle.cqa_model.specs.Database.{Table, stored}
 use Rattle.cqa_model.specs.Repairs.{SharesKey}
 use Rattle.cqa_model.specs.Query.{atom_key, rows_of, row_at}
-use Rattle.cqa_model.specs.Plan.{Placed, Fits, IsPlan, PlanHolds}
+use Rattle.cqa_model.specs.Plan.{Placed, Fits, IsUnattacked, IsPlan, PlanHolds}
 use Rattle.cqa_model.specs.Variables.{after}
 use Rattle.cqa_model.specs.Partial.{view_of, AllFit, IsPartial}
 use Rattle.plan_rows.specs.Underway.{IsUnderway}
 use Rattle.repair_back.specs.declared.way.Way.{Way}
-use Rattle.repair_back.specs.Apart.{AreEnough}
 use Rattle.repair_back.specs.Flags.{kept_tables, flags_of, AreChosen}
 
 -- a witness with these rows taken whose other rows are flagged
@@ -55,18 +54,15 @@ HasNoneFrom db q row taken flags count = (later first : List Placed) → taken �
 
 -- Some rows were taken along the way, and a rest of the plan is left.
 pub record IsHere (way : Way) (taken : List Placed) (left : List ℕ) : Type 0 where
-  pub underway : IsUnderway way.course taken left
-  pub enough : AreEnough way.course.setting.query.now way.course.order.now way.enough.now
-  pub long : length way.row.now ≡ length way.course.setting.query.now.answer
-  pub taken_fit : AllFit way.course.setting.query.now way.row.now taken
-  pub plan : IsPlan way.course.setting.query.now (view_of way.course.setting.query.now taken) left
+  pub underway : IsUnderway way.course.now taken left
+  pub taken_fit : AllFit way.course.now.setting.query.now way.row.now taken
+  pub plan : IsPlan way.course.now.setting.query.now (view_of way.course.now.setting.query.now taken) left
 
--- Some rows were taken along the way, and an atom comes next, with the rest of the plan behind it.
+-- Some rows were taken along the way, and an atom that none attacks comes next, with the rest of the plan behind it.
 pub record IsNext (way : Way) (taken : List Placed) (atom : ℕ) (rest : List ℕ) : Type 0 where
-  pub underway : IsUnderway way.course taken (atom ∷ rest)
-  pub enough : AreEnough way.course.setting.query.now way.course.order.now way.enough.now
-  pub long : length way.row.now ≡ length way.course.setting.query.now.answer
-  pub taken_fit : AllFit way.course.setting.query.now way.row.now taken
-  pub has : (view_of way.course.setting.query.now taken).has atom
-  pub plan : IsPlan way.course.setting.query.now (after way.course.setting.query.now (view_of way.course.setting.query.now taken) atom) rest
-  pub there : atom < length way.course.setting.query.now.atoms
+  pub underway : IsUnderway way.course.now taken (atom ∷ rest)
+  pub taken_fit : AllFit way.course.now.setting.query.now way.row.now taken
+  pub has : (view_of way.course.now.setting.query.now taken).has atom
+  pub free : IsUnattacked way.course.now.setting.query.now (view_of way.course.now.setting.query.now taken) atom
+  pub plan : IsPlan way.course.now.setting.query.now (after way.course.now.setting.query.now (view_of way.course.now.setting.query.now taken) atom) rest
+  pub there : atom < length way.course.now.setting.query.now.atoms

@@ -9,8 +9,9 @@ ghost use Rattle.repair_back.specs.Results.{IsListed, IsRepairOf, ArePicks, AreS
 use crate::choice::Choice;
 use crate::kept::{blank, settle_all};
 use crate::repair::{Repair, named};
-use cqa_model::{Query, RowId};
+use cqa_model::{Query, RowId, variables};
 use cqa_value::NoMemory;
+use plan_rows::Setting;
 use std::alloc::Global;
 use table_blocks::Database;
 
@@ -33,24 +34,21 @@ fn mark(kept: &mut [Choice], listed: &[RowId], model: &[bool])
 
 /// The same, where no flag is set yet.
 fn picked(
-    alloc: Global,
-    db: &Database,
-    query: &Query,
+    setting: &Setting<'_>,
     listed: &[RowId],
     model: &[bool],
     kept: &mut [Choice],
 ) -> Result<Repair, NoMemory>
-    requires fits { FitsDatabase query.now db.now }
     requires long { length listed.now ≡ length model.now }
-    requires there { AreStored db.now listed.now }
-    requires blank { AreBlank query.now db.now kept.old }
-    ensures repair { IfOk result (λ repair. IsRepairOf query.now db.now repair.kept) }
-    ensures picks { IfOk result (λ repair. ArePicks query.now db.now listed.now model.now repair.kept) }
-    ensures stored { IfOk result (λ repair. AreStored db.now repair.kept) }
+    requires there { AreStored setting.now.db.now listed.now }
+    requires blank { AreBlank setting.now.query.now setting.now.db.now kept.old }
+    ensures repair { IfOk result (λ repair. IsRepairOf setting.now.query.now setting.now.db.now repair.kept) }
+    ensures picks { IfOk result (λ repair. ArePicks setting.now.query.now setting.now.db.now listed.now model.now repair.kept) }
+    ensures stored { IfOk result (λ repair. AreStored setting.now.db.now repair.kept) }
 {
     mark(kept, listed, model);
-    settle_all(db, query, kept);
-    named(alloc, db, query, kept)
+    settle_all(setting, kept);
+    named(setting, kept)
 }
 
 /// The repair that a model gives: of each block of the query's tables the first row that is listed with `true`, or else
@@ -74,8 +72,15 @@ pub fn from_model(
     ensures picks { IfOk result (λ repair. ArePicks query.now db.now listed.now model.now repair.kept) }
     ensures stored { IfOk result (λ repair. AreStored db.now repair.kept) }
 {
-    let mut kept = blank(alloc, db, query)?;
-    let found = picked(alloc, db, query, listed, model, kept.as_mut_slice());
+    let setting = Setting {
+        alloc,
+        db,
+        query,
+        variables: variables(query),
+        paths: &[],
+    };
+    let mut kept = blank(&setting)?;
+    let found = picked(&setting, listed, model, kept.as_mut_slice());
     drop(kept);
     found
 }

@@ -10,8 +10,7 @@ ghost use Rattle.std.specs.Prelude.{◌≡◌, ◌≢◌, ◌⊎◌, ℕ, ◌<�
 ghost use Rattle.cqa_model.specs.Database.{stored};
 ghost use Rattle.cqa_model.specs.Query.{atom_at, atom_key, rows_of, FitsDatabase};
 ghost use Rattle.cqa_model.specs.Certain.{IsCertain};
-ghost use Rattle.cqa_model.specs.Plan.{IsUnattacked, IsPlanOf};
-ghost use Rattle.cqa_model.specs.Partial.{view_of};
+ghost use Rattle.cqa_model.specs.Plan.{IsPlanOf};
 ghost use Rattle.plan_rows.specs.Taking.{placed};
 ghost use Rattle.row_cursor.specs.Spots.{ArePaths};
 ghost use Rattle.plan_rows.specs.Underway.{IsKey, IsRight};
@@ -31,7 +30,9 @@ use crate::repair::{Repair, named};
 use crate::way::{Way, enough_for, enough_of};
 use cqa_model::{Plan, Query, variables};
 use cqa_value::{NoMemory, Row};
-use plan_rows::{Course, Memo, Setting, Taken, fits, shared_or_none, turns_before_memo};
+use plan_rows::{
+    Course, Memo, Rest, Setting, Step, Taken, fits, shared_or_none, turns_before_memo,
+};
 use row_cursor::{RowIndex, table_of};
 use row_pieces::Rows;
 use std::alloc::Global;
@@ -39,7 +40,6 @@ use table_blocks::Database;
 
 /// The place that is kept of a block.
 fn kept_of(setting: &Setting<'_>, atom: u32, start: usize, end: usize, kept: &[Choice]) -> usize
-    requires fits { FitsDatabase setting.now.query.now setting.now.db.now }
     requires atom { atom < length setting.now.query.now.atoms }
     requires chosen { AreChosen setting.now.query.now setting.now.db.now kept.now }
     requires block { IsBlock (atom_key setting.now.query.now atom) (rows_of setting.now.query.now (stored setting.now.db.now) atom) start end }
@@ -52,7 +52,6 @@ fn kept_of(setting: &Setting<'_>, atom: u32, start: usize, end: usize, kept: &[C
 
 /// Keeps another row of an atom's table.
 fn keep(setting: &Setting<'_>, atom: u32, kept: &mut [Choice], out: usize, into: usize)
-    requires fits { FitsDatabase setting.now.query.now setting.now.db.now }
     requires atom { atom < length setting.now.query.now.atoms }
     requires tables { length kept.old ≡ length setting.now.db.now }
     requires out { out < length (flags_of setting.now.query.now kept.old atom) }
@@ -76,11 +75,16 @@ fn mend_rest<'x>(
 ) -> Option<usize>
     requires here { IsHere way.now (placed taken.now) plan.now }
     requires chosen { KeepsOne way.now kept.old }
-    requires memo { IsRight way.now.course memo.old }
-    ensures memo { IsRight way.now.course memo.new }
+    requires memo { IsRight way.now.course.now memo.old }
+    ensures memo { IsRight way.now.course.now memo.new }
     ensures mends { Mends way.now (placed taken.now) plan.now kept.old kept.new result }
 {
-    match memo.key(&way.course, way.row, taken, plan) {
+    let rest = Rest {
+        course: &*way.course,
+        taken: &*taken,
+        plan: &*plan,
+    };
+    match memo.key(&rest, way.row) {
         Some(key) => remembered(way, taken, plan, key, kept, memo),
         None => mend_anew(way, taken, plan, kept, memo),
     }
@@ -98,9 +102,9 @@ fn remembered<'x>(
 ) -> Option<usize>
     requires here { IsHere way.now (placed taken.now) plan.now }
     requires chosen { KeepsOne way.now kept.old }
-    requires memo { IsRight way.now.course memo.old }
-    requires key { IsKey way.now.course.setting.query.now way.now.course.shared.now (placed taken.now) plan.now way.now.row.now key }
-    ensures memo { IsRight way.now.course memo.new }
+    requires memo { IsRight way.now.course.now memo.old }
+    requires key { IsKey way.now.course.now (placed taken.now) plan.now way.now.row.now key }
+    ensures memo { IsRight way.now.course.now memo.new }
     ensures mends { Mends way.now (placed taken.now) plan.now kept.old kept.new result }
 {
     if let Some(true) = memo.told(&key) {
@@ -130,8 +134,8 @@ fn mend_anew<'x>(
 ) -> Option<usize>
     requires here { IsHere way.now (placed taken.now) plan.now }
     requires chosen { KeepsOne way.now kept.old }
-    requires memo { IsRight way.now.course memo.old }
-    ensures memo { IsRight way.now.course memo.new }
+    requires memo { IsRight way.now.course.now memo.old }
+    ensures memo { IsRight way.now.course.now memo.new }
     ensures mends { Mends way.now (placed taken.now) plan.now kept.old kept.new result }
 {
     match plan {
@@ -158,13 +162,18 @@ fn mend_blocks<'x>(
     memo: &mut Memo,
 ) -> Option<usize>
     requires next { IsNext way.now (placed taken.now) atom rest.now }
-    requires free { IsUnattacked way.now.course.setting.query.now (view_of way.now.course.setting.query.now (placed taken.now)) atom }
     requires chosen { KeepsOne way.now kept.old }
-    requires memo { IsRight way.now.course memo.old }
-    ensures memo { IsRight way.now.course memo.new }
+    requires memo { IsRight way.now.course.now memo.old }
+    ensures memo { IsRight way.now.course.now memo.new }
     ensures mends { Mends way.now (placed taken.now) (atom ∷ rest.now) kept.old kept.new result }
 {
-    let places = Places::new(&way.course.setting, way.row, taken, atom);
+    let step = Step {
+        course: &*way.course,
+        taken: &*taken,
+        atom,
+        rest: &*rest,
+    };
+    let places = Places::new(&step, way.row);
     let mended = mend_places(way, taken, atom, rest, &places, kept, memo);
     drop(places);
     mended
@@ -182,17 +191,17 @@ fn mend_places<'x>(
     memo: &mut Memo,
 ) -> Option<usize>
     requires next { IsNext way.now (placed taken.now) atom rest.now }
-    requires free { IsUnattacked way.now.course.setting.query.now (view_of way.now.course.setting.query.now (placed taken.now)) atom }
-    requires there { AreThere way.now.course.setting.query.now way.now.row.now (placed taken.now) atom (rows_on way.now atom) places.now }
+    requires there { AreThere way.now.course.now.setting.query.now way.now.row.now (placed taken.now) atom (rows_on way.now atom) places.now }
     requires chosen { KeepsOne way.now kept.old }
-    requires memo { IsRight way.now.course memo.old }
-    ensures memo { IsRight way.now.course memo.new }
+    requires memo { IsRight way.now.course.now memo.old }
+    ensures memo { IsRight way.now.course.now memo.new }
     ensures mends { Mends way.now (placed taken.now) (atom ∷ rest.now) kept.old kept.new result }
 {
-    let setting = &way.course.setting;
+    let course = way.course;
+    let setting = &course.setting;
     let rows = setting.db.rows(table_of(setting.query, atom));
     let key = key_of(setting.query, atom);
-    let before = way.course.order.len() - rest.len() - 1;
+    let before = course.order.len() - rest.len() - 1;
     let mut at = places.start;
     let mut done = 0;
     while at < places.end {
@@ -225,13 +234,14 @@ fn mend_block<'x>(
 ) -> Option<usize>
     requires next { IsNext way.now (placed taken.now) atom rest.now }
     requires chosen { KeepsOne way.now kept.old }
-    requires memo { IsRight way.now.course memo.old }
+    requires memo { IsRight way.now.course.now memo.old }
     requires rows { rows.now ≡ rows_on way.now atom }
-    requires block { IsBlock (atom_key way.now.course.setting.query.now atom) rows.now start end }
-    ensures memo { IsRight way.now.course memo.new }
+    requires block { IsBlock (atom_key way.now.course.now.setting.query.now atom) rows.now start end }
+    ensures memo { IsRight way.now.course.now memo.new }
     ensures mends { MendsBlock way.now (placed taken.now) atom (slice_index_or rows.now start []) ((i : ℕ) → start ≤ i → i < end → HoldsWith way.now (placed taken.now) atom rest.now (slice_index_or rows.now i [])) kept.old kept.new result }
 {
-    let setting = &way.course.setting;
+    let course = way.course;
+    let setting = &course.setting;
     let first = kept_of(setting, atom, start, end, kept);
     if let Some(mended) = row_mended(way, taken, atom, rows.get(first), rest, kept, memo) {
         return Some(mended);
@@ -264,78 +274,57 @@ fn row_mended<'x>(
 ) -> Option<usize>
     requires next { IsNext way.now (placed taken.now) atom rest.now }
     requires chosen { KeepsOne way.now kept.old }
-    requires memo { IsRight way.now.course memo.old }
+    requires memo { IsRight way.now.course.now memo.old }
     requires kept { Contains (kept_on way.now kept.old atom) y.now }
-    ensures memo { IsRight way.now.course memo.new }
-    ensures same { flags_of way.now.course.setting.query.now kept.new atom ≡ flags_of way.now.course.setting.query.now kept.old atom }
+    ensures memo { IsRight way.now.course.now memo.new }
+    ensures same { flags_of way.now.course.now.setting.query.now kept.new atom ≡ flags_of way.now.course.now.setting.query.now kept.old atom }
     ensures mends { MendsBlock way.now (placed taken.now) atom y.now (HoldsWith way.now (placed taken.now) atom rest.now y.now) kept.old kept.new result }
 {
     memo.turn();
-    let setting = &way.course.setting;
-    if !fits(setting.query, &setting.variables, way.row, taken, atom, y) {
-        return Some(way.course.order.len() - rest.len());
+    let step = Step {
+        course: &*way.course,
+        taken: &*taken,
+        atom,
+        rest: &*rest,
+    };
+    if !fits(&step, way.row, y) {
+        let course = way.course;
+        return Some(course.order.len() - rest.len());
     }
     mend_rest(&*way, &Taken::Before(atom, &*y, &*taken), rest, kept, memo)
 }
 
 /// Mends what is kept until there is no witness; false where each repair has one.
 fn mend_all(way: &Way<'_>, kept: &mut [Choice]) -> bool
-    requires here { IsHere way.now [] way.now.course.order.now }
+    requires here { IsHere way.now [] way.now.course.now.order.now }
     requires chosen { KeepsOne way.now kept.old }
     ensures chosen { KeepsOne way.now kept.new }
     ensures mended { IsTrue result → IsFree way.now [] kept.new }
-    ensures holds { result ≡ false → RestHolds way.now [] way.now.course.order.now }
+    ensures holds { result ≡ false → RestHolds way.now [] way.now.course.now.order.now }
 {
-    let setting = &way.course.setting;
-    let mut memo = Memo::new(setting.alloc, turns_before_memo(setting.db, setting.query));
-    let mended = mend_rest(way, &Taken::Nothing, way.course.order, kept, &mut memo);
+    let course = way.course;
+    let setting = &course.setting;
+    let mut memo = Memo::new(setting.alloc, turns_before_memo(setting));
+    let mended = mend_rest(way, &Taken::Nothing, course.order, kept, &mut memo);
     drop(memo);
     mended.is_some()
 }
 
 /// A repair that holds no witness of the row, from flags of which none is set yet; `None` where the row is certain.
-fn mended(
-    alloc: Global,
-    db: &Database,
-    query: &Query,
-    plan: &Plan,
-    row: &Row,
-    paths: &[Option<RowIndex<'_>>],
-    kept: &mut [Choice],
-) -> Result<Option<Repair>, NoMemory>
-    requires fits { FitsDatabase query.now db.now }
-    requires plan { IsPlanOf query.now plan.now.order }
-    requires long { length row.now ≡ length query.now.answer }
-    requires paths { ArePaths query.now db.now paths.now }
-    requires blank { AreBlank query.now db.now kept.old }
-    ensures certain { IfOk result (λ found. IsNone found ↔ IsCertain db.now query.now row.now) }
-    ensures rejects { IfOk result (λ found. IfSome found (λ repair. Rejects query.now db.now row.now repair.kept)) }
-    ensures stored { IfOk result (λ found. IfSome found (λ repair. AreStored db.now repair.kept)) }
+fn mended(way: &Way<'_>, kept: &mut [Choice]) -> Result<Option<Repair>, NoMemory>
+    requires plan { IsPlanOf way.now.course.now.setting.query.now way.now.course.now.order.now }
+    requires blank { AreBlank way.now.course.now.setting.query.now way.now.course.now.setting.db.now kept.old }
+    ensures certain { IfOk result (λ found. IsNone found ↔ IsCertain way.now.course.now.setting.db.now way.now.course.now.setting.query.now way.now.row.now) }
+    ensures rejects { IfOk result (λ found. IfSome found (λ repair. Rejects way.now.course.now.setting.query.now way.now.course.now.setting.db.now way.now.row.now repair.kept)) }
+    ensures stored { IfOk result (λ found. IfSome found (λ repair. AreStored way.now.course.now.setting.db.now repair.kept)) }
 {
-    settle_all(db, query, kept);
-    let order = plan.order.as_slice();
-    let variables = variables(query);
-    let enough = enough_of(alloc, query, &variables, order)?;
-    let shared = shared_or_none(alloc, query, &variables, order);
-    let way = Way {
-        course: Course {
-            setting: Setting {
-                alloc,
-                db,
-                query,
-                variables,
-                paths,
-            },
-            order,
-            shared: shared.as_slice(),
-        },
-        row,
-        enough: enough.as_slice(),
-    };
-    if !mend_all(&way, kept) {
+    let course = way.course;
+    let setting = &course.setting;
+    settle_all(setting, kept);
+    if !mend_all(way, kept) {
         return Ok(None);
     }
-    let repair = named(alloc, db, query, kept)?;
+    let repair = named(setting, kept)?;
     Ok(Some(repair))
 }
 
@@ -362,8 +351,28 @@ pub fn mend(
     ensures rejects { IfOk result (λ found. IfSome found (λ repair. Rejects query.now db.now row.now repair.kept)) }
     ensures stored { IfOk result (λ found. IfSome found (λ repair. AreStored db.now repair.kept)) }
 {
-    let mut kept = blank(alloc, db, query)?;
-    let found = mended(alloc, db, query, plan, row, paths, kept.as_mut_slice());
+    let order = plan.order.as_slice();
+    let setting = Setting {
+        alloc,
+        db: &*db,
+        query: &*query,
+        variables: variables(query),
+        paths: &*paths,
+    };
+    let enough = enough_of(&setting, order)?;
+    let shared = shared_or_none(&setting, order);
+    let mut kept = blank(&setting)?;
+    let course = Course {
+        setting,
+        order,
+        shared: shared.as_slice(),
+    };
+    let way = Way {
+        course: &course,
+        row,
+        enough: enough.as_slice(),
+    };
+    let found = mended(&way, kept.as_mut_slice());
     drop(kept);
     found
 }

@@ -1,20 +1,15 @@
 //! Where the rows of an atom are looked for that may fit: among those with the key values that are known, or along an index.
 
-ghost use Rattle.std.specs.Prelude.{◌≡◌, ◌<◌, ◌≤◌, ◌⊎◌, ◌+◌, ℕ, IfSome, List, Some, None, [], length, slice_index_or};
+ghost use Rattle.std.specs.Prelude.{◌≡◌, ◌<◌, IfSome, length};
 ghost use Rattle.std.specs.Option.{option_copied};
-ghost use Rattle.cqa_value.specs.declared.value.Value.{Value as Cell};
-ghost use Rattle.cqa_model.specs.Database.{stored};
+ghost use Rattle.std.proofs.Props.{props};
 ghost use Rattle.cqa_model.specs.Query.{rows_of};
-ghost use Rattle.cqa_model.specs.Plan.{Fits};
-ghost use Rattle.plan_rows.specs.Knowing.{HasKnown};
-ghost use Rattle.plan_rows.specs.Taking.{placed, AreOfAtoms};
-ghost use Rattle.plan_rows.specs.Over.{IsPrepared};
-ghost use Rattle.repair_back.specs.Looking.{AreThere, IsPassed};
+ghost use Rattle.plan_rows.specs.Over.{query_of, tables_of, rows_before};
 ghost use Rattle.repair_back.specs.Walking.{MayFit};
 
 use crate::atoms::key_of;
 use cqa_value::Row;
-use plan_rows::{Setting, Taken, known_values};
+use plan_rows::{Step, known_values};
 use row_cursor::{RowIndex, table_of};
 use table_blocks::Probe;
 
@@ -25,71 +20,47 @@ pub(crate) struct Places<'x> {
     pub end: usize,
     index: Option<&'x RowIndex<'x>>,
     values: Probe<'x>,
+    ghost whole: { IfSome (option_copied index) (λ x. length x.rows ≡ end) } by { Prim.hlevel props },
 }
 
-/// The places among which are all rows of an atom that may fit the rows taken: those with the key values that are known.
-fn span_of<'x>(
-    setting: &'x Setting<'x>,
-    row: &'x Row,
-    taken: &'x Taken<'x>,
-    atom: u32,
-) -> (usize, usize)
-    requires over { IsPrepared setting.now }
-    requires taken { AreOfAtoms setting.now.query.now (placed taken.now) }
-    requires atom { atom < length setting.now.query.now.atoms }
-    ensures { MayFit setting.now.query.now row.now (placed taken.now) atom (rows_of setting.now.query.now (stored setting.now.db.now) atom) result.0 result.1 }
+/// The places among which are all rows of the next atom that may fit the rows taken: those with the key values that are
+/// known.
+fn span_of<'x>(step: &Step<'x>, row: &'x Row) -> (usize, usize)
+    ensures { MayFit (query_of step.now) row.now (rows_before step.now) step.now.atom (rows_of (query_of step.now) (tables_of step.now) step.now.atom) result.0 result.1 }
 {
-    let key = key_of(setting.query, atom);
-    let known = known_values(setting, Some(row), taken, atom, key);
-    let table = table_of(setting.query, atom);
+    let course = step.course;
+    let setting = &course.setting;
+    let key = key_of(setting.query, step.atom);
+    let known = known_values(step, Some(row), key);
+    let table = table_of(setting.query, step.atom);
     let (start, rows) = setting.db.rows_with(table, &known);
     (start as usize, start as usize + rows.len())
 }
 
-/// The index of an atom's table, if there is one.
-fn path_of<'x>(paths: &'x [Option<RowIndex<'x>>], atom: usize) -> Option<&'x RowIndex<'x>>
-    ensures { IfSome result (λ x. (atom < length paths.now) × (slice_index_or paths.now atom None ≡ Some x.now)) }
-{
-    if atom < paths.len()
-        && let Some(index) = &paths[atom]
-    {
-        return Some(index);
-    }
-    None
-}
-
 impl<'x> Places<'x> {
+    ghost use Rattle.repair_back.specs.Looking.{AreThere, IsPassed};
+
     /// The places of the rows with the key values that are known.
-    fn by_key(setting: &'x Setting<'x>, row: &'x Row, taken: &'x Taken<'x>, atom: u32) -> Places<'x>
-        requires over { IsPrepared setting.now }
-        requires taken { AreOfAtoms setting.now.query.now (placed taken.now) }
-        requires atom { atom < length setting.now.query.now.atoms }
-        ensures there { AreThere setting.now.query.now row.now (placed taken.now) atom (rows_of setting.now.query.now (stored setting.now.db.now) atom) result }
+    fn by_key(step: &Step<'x>, row: &'x Row) -> Places<'x>
+        ensures { AreThere (query_of step.now) row.now (rows_before step.now) step.now.atom (rows_of (query_of step.now) (tables_of step.now) step.now.atom) result }
     {
-        let (start, end) = span_of(setting, row, taken, atom);
+        let course = step.course;
+        let (start, end) = span_of(step, row);
         Places {
             start,
             end,
             index: None,
-            values: Probe::new(setting.alloc),
+            values: Probe::new(course.setting.alloc),
         }
     }
 
-    /// The places along an index; `None` where not all values of its columns are known.
-    fn by_index(
-        setting: &'x Setting<'x>,
-        row: &'x Row,
-        taken: &'x Taken<'x>,
-        atom: u32,
-        index: &'x RowIndex<'x>,
-    ) -> Option<Places<'x>>
-        requires over { IsPrepared setting.now }
-        requires taken { AreOfAtoms setting.now.query.now (placed taken.now) }
-        requires atom { atom < length setting.now.query.now.atoms }
-        requires index { index.now.rows ≡ rows_of setting.now.query.now (stored setting.now.db.now) atom }
-        ensures there { IfSome result (AreThere setting.now.query.now row.now (placed taken.now) atom (rows_of setting.now.query.now (stored setting.now.db.now) atom)) }
+    /// The places along an index; `None` where there is none, or not all values of its columns are known.
+    fn by_index(step: &Step<'x>, row: &'x Row) -> Option<Places<'x>>
+        ensures { IfSome result (AreThere (query_of step.now) row.now (rows_before step.now) step.now.atom (rows_of (query_of step.now) (tables_of step.now) step.now.atom)) }
     {
-        let values = known_values(setting, Some(row), taken, atom, index.columns());
+        let course = step.course;
+        let index = course.setting.index_of(step.atom)?;
+        let values = known_values(step, Some(row), index.columns());
         if values.len() != index.columns().len() {
             return None;
         }
@@ -101,31 +72,19 @@ impl<'x> Places<'x> {
         })
     }
 
-    /// Where the rows of an atom are that may fit the rows taken.
-    pub fn new(
-        setting: &'x Setting<'x>,
-        row: &'x Row,
-        taken: &'x Taken<'x>,
-        atom: u32,
-    ) -> Places<'x>
-        requires over { IsPrepared setting.now }
-        requires taken { AreOfAtoms setting.now.query.now (placed taken.now) }
-        requires atom { atom < length setting.now.query.now.atoms }
-        ensures { AreThere setting.now.query.now row.now (placed taken.now) atom (rows_of setting.now.query.now (stored setting.now.db.now) atom) result }
+    /// Where the rows of the next atom are that may fit the rows taken.
+    pub fn new(step: &Step<'x>, row: &'x Row) -> Places<'x>
+        ensures { AreThere (query_of step.now) row.now (rows_before step.now) step.now.atom (rows_of (query_of step.now) (tables_of step.now) step.now.atom) result }
     {
-        let Some(index) = path_of(setting.paths, atom as usize) else {
-            return Places::by_key(setting, row, taken, atom);
-        };
-        match Places::by_index(setting, row, taken, atom, index) {
+        match Places::by_index(step, row) {
             Some(places) => places,
-            None => Places::by_key(setting, row, taken, atom),
+            None => Places::by_key(step, row),
         }
     }
 
     /// A later place, such that no row between may fit.
     pub fn after(&self, at: usize) -> usize
-        requires there { at < self.now.end }
-        requires end { IfSome (option_copied self.now.index) (λ x. length x.rows ≡ self.now.end) }
+        requires { at < self.now.end }
         ensures later { at < result }
         ensures passed { IsPassed self.now at result }
     {

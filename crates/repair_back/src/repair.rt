@@ -1,15 +1,13 @@
 //! Repairs as names of rows.
 
 ghost use Rattle.std.specs.Prelude.{◌≡◌, ◌<◌, ◌≤◌, ◌++◌, IfOk, OnOk, length};
-ghost use Rattle.cqa_model.specs.Query.{FitsDatabase};
 ghost use Rattle.repair_back.specs.Flags.{places_from, AreChosen};
 ghost use Rattle.repair_back.specs.Results.{names_in, names_kept};
 
 use crate::choice::Choice;
-use cqa_model::{MOST_ROWS, Query, RowId};
+use cqa_model::{MOST_ROWS, RowId};
 use cqa_value::{Items, NoMemory};
-use std::alloc::Global;
-use table_blocks::Database;
+use plan_rows::Setting;
 
 /// One row of each block of each of a query's tables, by the query's atoms and then in block order.
 #[derive(Debug, Drop)]
@@ -41,18 +39,12 @@ fn add_names(
 }
 
 /// Adds the names of the rows that are kept of the query's tables.
-fn add_all(
-    db: &Database,
-    query: &Query,
-    kept: &[Choice],
-    names: &mut Vec<RowId>,
-) -> Result<(), NoMemory>
-    requires fits { FitsDatabase query.now db.now }
-    requires chosen { AreChosen query.now db.now kept.now }
-    ensures { OnOk result (names.new.items ≡ names.old.items ++ names_kept query.now.atoms kept.now) }
+fn add_all(setting: &Setting<'_>, kept: &[Choice], names: &mut Vec<RowId>) -> Result<(), NoMemory>
+    requires { AreChosen setting.now.query.now setting.now.db.now kept.now }
+    ensures { OnOk result (names.new.items ≡ names.old.items ++ names_kept setting.now.query.now.atoms kept.now) }
 {
-    for atom in query.atoms.as_slice() {
-        let count = db.rows(atom.table).len();
+    for atom in setting.query.atoms.as_slice() {
+        let count = setting.db.rows(atom.table).len();
         add_names(atom.table, count, &kept[atom.table as usize], names)?;
     }
     Ok(())
@@ -63,18 +55,12 @@ fn add_all(
 /// # Errors
 ///
 /// `NoMemory` where memory is refused.
-pub(crate) fn named(
-    alloc: Global,
-    db: &Database,
-    query: &Query,
-    kept: &[Choice],
-) -> Result<Repair, NoMemory>
-    requires fits { FitsDatabase query.now db.now }
-    requires chosen { AreChosen query.now db.now kept.now }
-    ensures { IfOk result (λ repair. repair.kept ≡ names_kept query.now.atoms kept.now) }
+pub(crate) fn named(setting: &Setting<'_>, kept: &[Choice]) -> Result<Repair, NoMemory>
+    requires { AreChosen setting.now.query.now setting.now.db.now kept.now }
+    ensures { IfOk result (λ repair. repair.kept ≡ names_kept setting.now.query.now.atoms kept.now) }
 {
-    let mut names = Vec::new(alloc);
-    add_all(db, query, kept, &mut names)?;
+    let mut names = Vec::new(setting.alloc);
+    add_all(setting, kept, &mut names)?;
     Ok(Repair {
         kept: Items::from_vec(names),
     })

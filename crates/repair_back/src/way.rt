@@ -1,56 +1,48 @@
 //! The way along which a repair is mended: a plan over a database, and how many rows of it matter to what is left.
 
-ghost use Rattle.std.specs.Prelude.{◌<◌, ◌≤◌, ℕ, IfOk, IsFalse, length, slice_index_or, take, drop};
+ghost use Rattle.std.specs.Prelude.{◌≡◌, ◌<◌, ◌≤◌, ℕ, IfOk, IsFalse, length, slice_index_or, take, drop};
 ghost use Rattle.cqa_model.specs.Shape.{IsInRange};
-ghost use Rattle.cqa_model.specs.Naming.{AreVariables};
 ghost use Rattle.plan_rows.specs.Left.{AreAtoms};
 ghost use Rattle.repair_back.specs.Apart.{BringsNone, IsApart, AreApart, AreEnough};
 
-use cqa_model::{ColRef, Query, Variables};
+use cqa_model::ColRef;
 use cqa_value::{NoMemory, Row};
-use plan_rows::{Course, is_told};
+use plan_rows::{Course, Setting, is_told};
 use row_cursor::width_of;
-use std::alloc::Global;
 
 /// A plan that is gone over, the row that no witness is to give, and for each number of first atoms how many of them are
 /// enough for the others: what those between share with these, the first ones share too.
 #[derive(Drop)]
 pub(crate) struct Way<'a> {
-    pub course: Course<'a>,
+    pub course: &'a Course<'a>,
     pub row: &'a Row,
     pub enough: &'a [usize],
+    pub ghost long: { length row.now ≡ length course.now.setting.query.now.answer },
+    pub ghost known: { ∥ AreEnough course.now.setting.query.now course.now.order.now enough.now ∥₁ },
 }
 
 /// Whether a column is linked to one of the rest's, and to none of the atoms before.
-fn brings_column(
-    query: &Query,
-    variables: &Variables,
-    before: &[u32],
-    column: ColRef,
-    rest: &[u32],
-) -> bool
-    requires variables { AreVariables query.now variables.now }
-    requires before { AreAtoms query.now before.now }
-    requires column { IsInRange query.now.atoms column }
-    requires rest { AreAtoms query.now rest.now }
-    ensures { IsFalse result → BringsNone query.now before.now column rest.now }
+fn brings_column(setting: &Setting<'_>, before: &[u32], column: ColRef, rest: &[u32]) -> bool
+    requires before { AreAtoms setting.now.query.now before.now }
+    requires column { IsInRange setting.now.query.now.atoms column }
+    requires rest { AreAtoms setting.now.query.now rest.now }
+    ensures { IsFalse result → BringsNone setting.now.query.now before.now column rest.now }
 {
-    if !is_told(query, variables, rest, column) {
+    if !is_told(setting, rest, column) {
         return false;
     }
-    !is_told(query, variables, before, column)
+    !is_told(setting, before, column)
 }
 
 /// Whether an atom has such a column.
-fn brings(query: &Query, variables: &Variables, before: &[u32], atom: u32, rest: &[u32]) -> bool
-    requires variables { AreVariables query.now variables.now }
-    requires before { AreAtoms query.now before.now }
-    requires atom { atom < length query.now.atoms }
-    requires rest { AreAtoms query.now rest.now }
-    ensures { IsFalse result → IsApart query.now before.now atom rest.now }
+fn brings(setting: &Setting<'_>, before: &[u32], atom: u32, rest: &[u32]) -> bool
+    requires before { AreAtoms setting.now.query.now before.now }
+    requires atom { atom < length setting.now.query.now.atoms }
+    requires rest { AreAtoms setting.now.query.now rest.now }
+    ensures { IsFalse result → IsApart setting.now.query.now before.now atom rest.now }
 {
-    for col in 0..width_of(query, atom) {
-        if brings_column(query, variables, before, ColRef { atom, col }, rest) {
+    for col in 0..width_of(setting.query, atom) {
+        if brings_column(setting, before, ColRef { atom, col }, rest) {
             return true;
         }
     }
@@ -58,17 +50,16 @@ fn brings(query: &Query, variables: &Variables, before: &[u32], atom: u32, rest:
 }
 
 /// How many first atoms of an order are enough for those from a place on.
-fn enough_at(query: &Query, variables: &Variables, order: &[u32], place: usize) -> usize
-    requires variables { AreVariables query.now variables.now }
-    requires order { AreAtoms query.now order.now }
+fn enough_at(setting: &Setting<'_>, order: &[u32], place: usize) -> usize
+    requires order { AreAtoms setting.now.query.now order.now }
     requires place { place ≤ length order.now }
-    ensures { (k : ℕ) → result ≤ k → k < place → IsApart query.now (take k order.now) (slice_index_or order.now k 0) (drop place order.now) }
+    ensures { (k : ℕ) → result ≤ k → k < place → IsApart setting.now.query.now (take k order.now) (slice_index_or order.now k 0) (drop place order.now) }
 {
     let (_, rest) = order.split_at(place);
     let mut enough = place;
     while enough > 0 {
         let (before, _) = order.split_at(enough - 1);
-        if brings(query, variables, before, order[enough - 1], rest) {
+        if brings(setting, before, order[enough - 1], rest) {
             return enough;
         }
         enough -= 1;
@@ -81,30 +72,24 @@ fn enough_at(query: &Query, variables: &Variables, order: &[u32], place: usize) 
 /// # Errors
 ///
 /// `NoMemory` where memory is refused.
-pub(crate) fn enough_of(
-    alloc: Global,
-    query: &Query,
-    variables: &Variables,
-    order: &[u32],
-) -> Result<Vec<usize>, NoMemory>
-    requires variables { AreVariables query.now variables.now }
-    requires order { AreAtoms query.now order.now }
-    ensures { IfOk result (λ enough. AreEnough query.now order.now enough.items) }
+pub(crate) fn enough_of(setting: &Setting<'_>, order: &[u32]) -> Result<Vec<usize>, NoMemory>
+    requires { AreAtoms setting.now.query.now order.now }
+    ensures { IfOk result (λ enough. AreEnough setting.now.query.now order.now enough.items) }
 {
-    let mut enough = Vec::new(alloc);
+    let mut enough = Vec::new(setting.alloc);
     for place in 0..order.len() {
-        enough.push(enough_at(query, variables, order, place))?;
+        enough.push(enough_at(setting, order, place))?;
     }
     Ok(enough)
 }
 
 /// How many of the rows taken are enough for the rest of a plan.
 pub(crate) fn enough_for(way: &Way<'_>, plan: &[u32]) -> usize
-    requires plan { length plan.now ≤ length way.now.course.order.now }
-    requires enough { AreEnough way.now.course.setting.query.now way.now.course.order.now way.now.enough.now }
-    ensures { AreApart way.now.course.setting.query.now way.now.course.order.now plan.now result }
+    requires { length plan.now ≤ length way.now.course.now.order.now }
+    ensures { ∥ AreApart way.now.course.now.setting.query.now way.now.course.now.order.now plan.now result ∥₁ }
 {
-    let place = way.course.order.len() - plan.len();
+    let course = way.course;
+    let place = course.order.len() - plan.len();
     if place < way.enough.len() {
         return way.enough[place];
     }

@@ -1,7 +1,6 @@
-use Rattle.std.proofs.Common.{length, []}
-use Rattle.cqa_model.specs.Database.{stored}
+use Rattle.std.proofs.Common.{length}
 use Rattle.row_cursor.specs.Blocks.{blocks_left}
-use Rattle.fo_plan.specs.Holding.{RowHolds}
+use Rattle.fo_plan.specs.Holding.{HoldsWith}
 use Rattle.plan_rows.specs.Underway.{IsRight}
 use Rattle.fo_plan.proofs.Leading.{NoneLeads}
 use Rattle.fo_plan.proofs.block.first_block.Given as goal
@@ -9,8 +8,8 @@ use Rattle.fo_plan.proofs.block.first_block.Given as goal
 -- none of the blocks so far holds
 abbrev pub invariant-loop-block : goal.invariant-loop-block
 invariant-loop-block l = record {
-  leads : NoneLeads (blocks_left l.initial.cursor) (blocks_left l.cursor) (RowHolds l.course.setting.query.now (stored l.course.setting.db.now) l.row [] l.atom l.rest);
-  right : IsRight l.course l.memo;
+  leads : NoneLeads (blocks_left l.initial.cursor) (blocks_left l.cursor) (HoldsWith l.step l.row);
+  right : IsRight l.step.course.now l.memo;
 }
 
 abbrev pub decreases-loop-block : goal.decreases-loop-block

@@ -1,18 +1,20 @@
-use Rattle.std.proofs.Common.{◌∙◌, ◌<◌, sym, subst, length, List, []}
+use Rattle.std.proofs.Common.{◌∙◌, sym, subst, List}
 use Rattle.cqa_model.specs.Database.{Table, stored}
 use Rattle.cqa_model.specs.Query.{atom_key, rows_of, FitsDatabase}
 use Rattle.cqa_model.specs.Plan.{Fits}
 use Rattle.row_cursor.specs.Blocks.{blocks_left}
+use Rattle.plan_rows.specs.Over.{query_of, rows_before}
 use Rattle.fo_plan.specs.FirstBlock.{AreAmong}
 use Rattle.fo_plan.proofs.Among.{atom-among}
 use Rattle.fo_plan.proofs.block.told_blocks.Goals as goal
 
 pub returns : goal.returns
 returns c =
-    let q = c.args.setting.now.query.now in
-    let F = c.args.atom in
-    let fits = subst (FitsDatabase q) c.requires.db c.requires.over.fits in
+    let step = c.args.step.now in
+    let q = query_of step in
+    let F = step.atom in
+    let fits = Fits q c.args.row.now (rows_before step) F in
     let told = c.told_rows.ensures in
-    subst (λ (d : List Table). AreAmong (atom_key q F) (rows_of q (stored d) F) (Fits q c.args.row.now [] F) (blocks_left c.over.result)) (sym c.requires.db)
-    (atom-among q c.args.db.now F c.table_of-table.result c.as_slice-key.result.now fits c.requires.atom c.table_of-table.ensures (c.as_slice-key.ensures ∙ c.schema.ensures.key) told.all_in_order
-    c.known_values-known.result told.span.0 c.told_rows.result (Fits q c.args.row.now [] F) told.span.1 c.known_values-known.ensures.known (blocks_left c.over.result) c.over.ensures.blocks)
+    subst (λ (d : List Table). AreAmong (atom_key q F) (rows_of q (stored d) F) fits (blocks_left c.over.result)) (sym c.requires)
+    (atom-among q c.args.db.now F c.table_of-table.result c.as_slice-key.result.now (subst (FitsDatabase q) c.requires step.course.now.setting.fits) step.there c.table_of-table.ensures (c.as_slice-key.ensures ∙ c.schema.ensures.key) told.all_in_order
+    c.known_values-known.result told.span.0 c.told_rows.result fits told.span.1 c.known_values-known.ensures.known (blocks_left c.over.result) c.over.ensures.blocks)

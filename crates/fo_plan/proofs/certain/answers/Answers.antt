@@ -1,19 +1,22 @@
-use Rattle.std.proofs.Common.{rules, subst, sym, refl, inl, Contains, []}
+use Rattle.std.proofs.Common.{subst, sym, inl, Contains, []}
 use Rattle.cqa_model.specs.Database.{stored}
-use Rattle.plan_rows.specs.Left.{AreAtoms}
+use Rattle.plan_rows.specs.Left.{AreAtoms, AreShared}
 use Rattle.fo_plan.specs.Giving.{Gives, IsAdded}
-use Rattle.plan_rows.specs.Underway.{AreShared}
 use Rattle.fo_plan.proofs.Gathered.{gives-all}
 use Rattle.plan_rows.proofs.Sharing.{underway-starts, none-right}
 use Rattle.fo_plan.proofs.certain.answers.Goals as goal
 
-pub shared_columns-requires-clause-order : goal.shared_columns-requires-clause-order
-shared_columns-requires-clause-order c = subst (AreAtoms c.args.query.now) (sym c.as_slice-order.ensures) c.requires.plan
+pub shared_columns-requires : goal.shared_columns-requires
+shared_columns-requires c = subst (AreAtoms c.args.query.now) (sym c.as_slice-order.ensures) c.requires.plan
 
-pub add_given-added-requires-clause-here : goal.add_given-added-requires-clause-here
-add_given-added-requires-clause-here c =
-    underway-starts _ c.as_slice-order.result.now (record { fits = c.requires.fits; variables = search rules; paths = c.requires.paths })
-    (subst (AreShared c.args.query.now c.as_slice-order.result.now) (sym c.as_slice.ensures.value) c.in_ok-shared.ensures) (subst (AreAtoms c.args.query.now) (sym c.as_slice-order.ensures) c.requires.plan) refl
+pub invariant_of-course : goal.invariant_of-course
+invariant_of-course c = record {
+  atoms = subst (AreAtoms c.args.query.now) (sym c.as_slice-order.ensures) c.requires.plan;
+  shares = ∣ subst (AreShared c.args.query.now c.as_slice-order.result.now) (sym c.as_slice.ensures.value) c.in_ok-shared.ensures ∣₁;
+}
+
+pub invariant_of-rest : goal.invariant_of-rest
+invariant_of-rest c = record { underway = underway-starts _ }
 
 pub add_given-added-requires-clause-all : goal.add_given-added-requires-clause-all
 add_given-added-requires-clause-all c F l = inl (subst (λ p. Contains p F) (sym c.as_slice-order.ensures) (c.requires.all F l))

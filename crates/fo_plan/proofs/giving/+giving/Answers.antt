@@ -5,9 +5,10 @@ use Rattle.std.proofs.lemmas.List.Elements.{Contains-get_or}
 use Rattle.cqa_model.specs.Database.{stored}
 use Rattle.plan_rows.specs.Taking.{placed}
 use Rattle.plan_rows.specs.Fitting.{Suits}
-use Rattle.fo_plan.specs.Holding.{RowHolds, AllHold}
-use Rattle.fo_plan.specs.Giving.{AreAll, IsAnswer, Gives, BlockGives, IsAdded}
+use Rattle.plan_rows.specs.Over.{query_of, tables_of, rows_before}
 use Rattle.plan_rows.specs.Underway.{IsUnderway}
+use Rattle.fo_plan.specs.Holding.{HoldsWith, AllHoldWith}
+use Rattle.fo_plan.specs.Giving.{AreAll, IsAnswer, Gives, BlockGives, IsAdded}
 use Rattle.plan_rows.proofs.Suiting.{suits-from}
 use Rattle.plan_rows.proofs.PlanParts.{rest-shorter, plan-split}
 use Rattle.fo_plan.proofs.Gathered.{all-more, block-fails, first-gives, block-one, block-split, some-plan, adds-none, add-block, add-one, on-ok}
@@ -17,37 +18,36 @@ use Rattle.fo_plan.proofs.giving.+giving.Goals as goal
 
 pub add_block-returns-then-not-all_suit-clause-added : goal.add_block-returns-then-not-all_suit-clause-added
 add_block-returns-then-not-all_suit-clause-added t c =
-    let q = c.args.course.now.setting.query.now in
-    let tables = stored c.args.course.now.setting.db.now in
-    let taken = placed c.args.taken.now in
-    adds-none (BlockGives q tables taken c.args.atom c.args.rest.now c.args.block.now) c.args.found.now.items
-    (block-fails q tables taken c.args.atom c.args.rest.now c.args.block.now (λ s. false≢true (sym c.if-not-all_suit.true ∙ c.all_suit.ensures.1 s)))
+    let step = c.args.step.now in
+    adds-none (BlockGives (query_of step) (tables_of step) (rows_before step) step.atom step.rest.now c.args.block.now) c.args.found.now.items
+    (block-fails (query_of step) (tables_of step) (rows_before step) step.atom step.rest.now c.args.block.now (λ s. false≢true (sym c.if-not-all_suit.true ∙ c.all_suit.ensures.1 s)))
+
+pub add_block-invariant_of-rest : goal.add_block-invariant_of-rest
+add_block-invariant_of-rest t c =
+    let step = c.args.step.now in
+    let block = c.args.block.now in
+    let first = c.get.result.now in
+    record {
+      underway = underway-more step.course.now (rows_before step) step.atom step.rest.now first step.underway
+          (subst (Suits (query_of step) (rows_before step) step.atom) (get_or_from_slice_get block 0 first [] c.get.ensures) (c.all_suit.ensures.0 c.if-not-all_suit.false (get_or block 0 []) (Contains-get_or block 0 [] c.requires.some)));
+    }
 
 pub add_block-add_given-requires : goal.add_block-add_given-requires
 add_block-add_given-requires t c =
-    let q = c.args.course.now.setting.query.now in
-    let tables = stored c.args.course.now.setting.db.now in
-    let taken = placed c.args.taken.now in
-    let block = c.args.block.now in
-    let first = c.get.result.now in
-    let suits = subst (Suits q taken c.args.atom) (get_or_from_slice_get block 0 first [] c.get.ensures) (c.all_suit.ensures.0 c.if-not-all_suit.false (get_or block 0 []) (Contains-get_or block 0 [] c.requires.some)) in (
-      omega (arith, c.decreases),
-      (
-        underway-more c.args.course.now taken c.args.atom c.args.rest.now first c.requires.here suits,
-        (all-more q tables taken c.args.atom c.args.rest.now first c.requires.all, c.requires.memo),
-      ),
-    )
+    let step = c.args.step.now in
+    (omega (arith, c.decreases), (all-more (query_of step) (tables_of step) (rows_before step) step.atom step.rest.now c.get.result.now c.requires.all, c.requires.memo))
 
 pub add_block-returns-then-len-eq1-clause-added : goal.add_block-returns-then-len-eq1-clause-added
 add_block-returns-then-len-eq1-clause-added t c =
-    let q = c.args.course.now.setting.query.now in
-    let tables = stored c.args.course.now.setting.db.now in
-    let taken = placed c.args.taken.now in
+    let step = c.args.step.now in
+    let q = query_of step in
+    let tables = tables_of step in
+    let taken = rows_before step in
     let block = c.args.block.now in
     let first = c.get.result.now in
-    let suits = subst (Suits q taken c.args.atom) (get_or_from_slice_get block 0 first [] c.get.ensures) (c.all_suit.ensures.0 c.if-not-all_suit.false (get_or block 0 []) (Contains-get_or block 0 [] c.requires.some)) in
+    let suits = subst (Suits q taken step.atom) (get_or_from_slice_get block 0 first [] c.get.ensures) (c.all_suit.ensures.0 c.if-not-all_suit.false (get_or block 0 []) (Contains-get_or block 0 [] c.requires.some)) in
     on-ok c.add_given.result
-    (add-one q tables taken c.args.atom c.args.rest.now first block (block-one block first (sym c.len.ensures ∙ c.if-len-eq1.true) (sym (get_or_from_slice_get block 0 first first c.get.ensures))) suits c.args.found.now.items c.add_given.new.found.items)
+    (add-one q tables taken step.atom step.rest.now first block (block-one block first (sym c.len.ensures ∙ c.if-len-eq1.true) (sym (get_or_from_slice_get block 0 first first c.get.ensures))) suits c.args.found.now.items c.add_given.new.found.items)
     c.add_given.ensures.added
 
 pub add_block-add_tested-added-requires : goal.add_block-add_tested-added-requires
@@ -55,102 +55,99 @@ add_block-add_tested-added-requires t c =
     let block = c.args.block.now in (
       omega (arith, c.decreases),
       (
-        c.requires.here,
+        c.requires.all,
         (
-          c.requires.all,
+          c.requires.some,
           (
-            c.requires.some,
-            (
-              c.all_suit.ensures.0 c.if-not-all_suit.false (get_or block 0 []) (Contains-get_or block 0 [] c.requires.some),
-              (c.new-part.ensures.items, c.requires.memo),
-            ),
+            c.all_suit.ensures.0 c.if-not-all_suit.false (get_or block 0 []) (Contains-get_or block 0 [] c.requires.some),
+            (c.new-part.ensures.items, c.requires.memo),
           ),
         ),
       ),
     )
 
+pub add_given-invariant_of-step : goal.add_given-invariant_of-step
+add_given-invariant_of-step t c =
+    let rest = c.args.rest.now in
+    let underway = subst (IsUnderway rest.course.now (placed rest.taken.now)) (plan-split rest.plan.now c.in-len1-up.len_at_least) rest.underway in
+    record { underway = underway; there = first-atom rest.course.now (placed rest.taken.now) _ _ underway }
+
 pub add_given-returns-clause-added : goal.add_given-returns-clause-added
 add_given-returns-clause-added t c =
-    subst (λ p. OnOk c.add_blocks.result (IsAdded (Gives c.args.course.now.setting.query.now (stored c.args.course.now.setting.db.now) (placed c.args.taken.now) p) c.args.found.now.items c.add_blocks.new.found.items))
-    (sym (plan-split c.args.plan.now (some-plan c.args.course.now.setting.query.now c.args.plan.now c.are_settled.result c.are_settled.ensures c.if-are_settled.false))) c.add_blocks.ensures.added
+    let rest = c.args.rest.now in
+    let q = rest.course.now.setting.query.now in
+    subst (λ p. OnOk c.add_blocks.result (IsAdded (Gives q (stored rest.course.now.setting.db.now) (placed rest.taken.now) p) c.args.found.now.items c.add_blocks.new.found.items))
+    (sym (plan-split rest.plan.now (some-plan q rest.plan.now c.are_settled.result c.are_settled.ensures c.if-are_settled.false))) c.add_blocks.ensures.added
 
 pub add_given-add_blocks-requires : goal.add_given-add_blocks-requires
 add_given-add_blocks-requires t c =
-    let q = c.args.course.now.setting.query.now in
-    let plan = c.args.plan.now in
+    let rest = c.args.rest.now in
+    let plan = rest.plan.now in
     let l = c.in-len1-up.len_at_least in (
       omega (arith, rest-shorter plan l, c.decreases),
-      (
-        subst (IsUnderway c.args.course.now (placed c.args.taken.now)) (plan-split plan l) c.requires.here,
-        (subst (λ p. AreAll q (placed c.args.taken.now) p) (plan-split plan l) c.requires.all, c.requires.memo),
-      ),
+      (subst (AreAll rest.course.now.setting.query.now (placed rest.taken.now)) (plan-split plan l) c.requires.all, c.requires.memo),
     )
+
+pub add_tested-invariant_of-rest : goal.add_tested-invariant_of-rest
+add_tested-invariant_of-rest t c =
+    let step = c.args.step.now in
+    let first = c.get.result.now in
+    record {
+      underway = underway-more step.course.now (rows_before step) step.atom step.rest.now first step.underway
+          (subst (Suits (query_of step) (rows_before step) step.atom) (get_or_from_slice_get c.args.block.now 0 first [] c.get.ensures) c.requires.first);
+    }
 
 pub add_tested-add_given-requires : goal.add_tested-add_given-requires
 add_tested-add_given-requires t c =
-    let q = c.args.course.now.setting.query.now in
-    let tables = stored c.args.course.now.setting.db.now in
-    let taken = placed c.args.taken.now in
-    let first = c.get.result.now in
-    let suits = subst (Suits q taken c.args.atom) (get_or_from_slice_get c.args.block.now 0 first [] c.get.ensures) c.requires.first in (
-      omega (arith, c.decreases),
-      (
-        underway-more c.args.course.now taken c.args.atom c.args.rest.now first c.requires.here suits,
-        (all-more q tables taken c.args.atom c.args.rest.now first c.requires.all, c.requires.memo),
-      ),
-    )
+    let step = c.args.step.now in
+    (omega (arith, c.decreases), (all-more (query_of step) (tables_of step) (rows_before step) step.atom step.rest.now c.get.result.now c.requires.all, c.requires.memo))
 
 pub add_tested-returns-clause-added : goal.add_tested-returns-clause-added
 add_tested-returns-clause-added t c =
-    let q = c.args.course.now.setting.query.now in
-    let tables = stored c.args.course.now.setting.db.now in
-    let taken = placed c.args.taken.now in
-    let F = c.args.atom in
-    let rest = c.args.rest.now in
+    let step = c.args.step.now in
+    let q = query_of step in
+    let tables = tables_of step in
+    let taken = rows_before step in
+    let F = step.atom in
+    let rest = step.rest.now in
     let block = c.args.block.now in
     let first = c.get.result.now in
     let others = c.split_at-others.result.1 in
     let suits = subst (Suits q taken F) (get_or_from_slice_get block 0 first [] c.get.ensures) c.requires.first in
     on-ok c.keep_all.result
-    (λ kept. add-block (Gives q tables (record { atom = F; row = first } ∷ taken) rest) (λ row. AllHold q tables row taken F rest others) (BlockGives q tables taken F rest block)
+    (λ kept. add-block (Gives q tables (record { atom = F; row = first } ∷ taken) rest) (λ row. AllHoldWith step row others) (BlockGives q tables taken F rest block)
     c.args.found.now.items c.args.part.now.items c.add_given.new.found.items c.keep_all.new.found.items c.requires.none c.in_ok-add_given.ensures.added kept
     (first-gives q tables taken F rest first others block (block-split block first c.requires.some (sym (get_or_from_slice_get block 0 first first c.get.ensures)) ∙ ap (λ z. first ∷ z) (sym c.split_at-others.ensures.rest)) suits))
     c.keep_all.ensures.added
 
-pub add_blocks-new-blocks-requires-clause-atom : goal.add_blocks-new-blocks-requires-clause-atom
-add_blocks-new-blocks-requires-clause-atom t c = first-atom c.args.course.now (placed c.args.taken.now) c.args.atom c.args.rest.now c.requires.here
-
 pub add_blocks-add_all_of-added-requires : goal.add_blocks-add_all_of-added-requires
-add_blocks-add_all_of-added-requires t c = (omega (arith, c.decreases), (c.requires.here, (c.requires.all, (c.new-blocks.ensures.ordered, (c.new-blocks.ensures.known, c.requires.memo)))))
+add_blocks-add_all_of-added-requires t c = (omega (arith, c.decreases), (c.requires.all, (c.new-blocks.ensures.known, c.requires.memo)))
 
 pub add_blocks-returns-clause-added : goal.add_blocks-returns-clause-added
 add_blocks-returns-clause-added t c =
+    let step = c.args.step.now in
     on-ok c.add_all_of-added.result
-    (gives-table c.args.course.now.setting.query.now (stored c.args.course.now.setting.db.now) (placed c.args.taken.now) c.args.atom c.args.rest.now c.new-blocks.result c.new-blocks.ensures.key c.new-blocks.ensures.enough c.args.found.now.items c.add_all_of-added.new.found.items)
+    (gives-table (query_of step) (tables_of step) (rows_before step) step.atom step.rest.now c.new-blocks.result c.new-blocks.ensures.key c.new-blocks.ensures.enough c.args.found.now.items c.add_all_of-added.new.found.items)
     c.add_all_of-added.ensures.added
 
 pub add_all_of-loop-block-init : goal.add_all_of-loop-block-init
 add_all_of-loop-block-init t c =
-    let q = c.args.course.now.setting.query.now in
-    let tables = stored c.args.course.now.setting.db.now in
-    let taken = placed c.args.taken.now in
+    let step = c.args.step.now in
     record {
-      added = added-starts c.args.blocks.now (IsAnswer q taken) (λ row y. RowHolds q tables row taken c.args.atom c.args.rest.now y) (λ row y r. c.requires.known y (suits-from q taken c.args.atom y row r.0))
+      added = added-starts c.args.blocks.now (IsAnswer (query_of step) (rows_before step)) (HoldsWith step) (λ row y r. c.requires.known y (suits-from (query_of step) (rows_before step) step.atom y row r.0))
           c.start-spot.result.place c.args.found.now.items c.start-spot.ensures.passed;
       spot = c.start-spot.ensures.spot;
       right = c.requires.memo;
     }
 
 pub add_all_of-add_block-requires : goal.add_all_of-add_block-requires
-add_all_of-add_block-requires t c = (omega (arith, c.decreases), (c.requires.here, (c.requires.all, (c.in-Some.ensures.next.is.some, c.loop-block.invariant.right))))
+add_all_of-add_block-requires t c = (omega (arith, c.decreases), (c.requires.all, (c.in-Some.ensures.next.is.some, c.loop-block.invariant.right)))
 
 pub add_all_of-loop-block-preserved : goal.add_all_of-loop-block-preserved
 add_all_of-loop-block-preserved t c =
-    let q = c.args.course.now.setting.query.now in
-    let tables = stored c.args.course.now.setting.db.now in
-    let taken = placed c.args.taken.now in
+    let step = c.args.step.now in
     record {
-      added = added-on c.args.blocks.now (IsAnswer q taken) (λ row y. RowHolds q tables row taken c.args.atom c.args.rest.now y) (λ row y r. c.requires.known y (suits-from q taken c.args.atom y row r.0))
+      added = added-on c.args.blocks.now (IsAnswer (query_of step) (rows_before step)) (HoldsWith step) (λ row y r. c.requires.known y (suits-from (query_of step) (rows_before step) step.atom y row r.0))
           c.loop-block.spot.place c.next.new.spot.place c.in-Some.block c.args.found.now.items c.loop-block.found.items c.add_block.new.found.items
           c.loop-block.invariant.added c.in-Some.ensures.next c.in_ok-add_block.ensures.added;
       spot = c.next.ensures.spot;
@@ -159,8 +156,6 @@ add_all_of-loop-block-preserved t c =
 
 pub add_all_of-returns-clause-added : goal.add_all_of-returns-clause-added
 add_all_of-returns-clause-added t c =
-    let q = c.args.course.now.setting.query.now in
-    let tables = stored c.args.course.now.setting.db.now in
-    let taken = placed c.args.taken.now in
-    added-ends c.args.blocks.now (IsAnswer q taken) (λ row y. RowHolds q tables row taken c.args.atom c.args.rest.now y) (λ row y r. c.requires.known y (suits-from q taken c.args.atom y row r.0))
+    let step = c.args.step.now in
+    added-ends c.args.blocks.now (IsAnswer (query_of step) (rows_before step)) (HoldsWith step) (λ row y r. c.requires.known y (suits-from (query_of step) (rows_before step) step.atom y row r.0))
     c.loop-block.spot.place c.args.found.now.items c.loop-block.found.items c.loop-block.invariant.added c.in_default.ensures.next

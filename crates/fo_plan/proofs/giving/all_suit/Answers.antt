@@ -1,29 +1,25 @@
 use Rattle.std.proofs.Common.{rules, ◌∙◌, sym, refl}
 use Rattle.std.proofs.lemmas.Bool.{false≢true}
-use Rattle.plan_rows.specs.Taking.{placed}
 use Rattle.plan_rows.specs.Fitting.{Suits}
+use Rattle.plan_rows.specs.Over.{query_of, rows_before}
 use Rattle.fo_plan.proofs.Gathered.{held-starts, held-not, held-on, held-ends}
-use Rattle.plan_rows.proofs.Sharing.{first-atom}
 use Rattle.fo_plan.proofs.giving.all_suit.Goals as goal
-
-pub suits-requires-clause-atom : goal.suits-requires-clause-atom
-suits-requires-clause-atom c = first-atom c.args.course.now (placed c.args.taken.now) c.args.atom c.args.rest.now c.requires
 
 pub returns-then-not-suits : goal.returns-then-not-suits
 returns-then-not-suits c = (
   (λ e. absurd (false≢true e)),
-  (λ all. absurd (held-not (Suits c.args.course.now.setting.query.now (placed c.args.taken.now) c.args.atom) c.args.block.now c.loop-y.y-iterator c.next.new.self c.in-Some.y.now c.loop-y.invariant c.in-Some.ensures.steps (λ p. false≢true (sym c.if-not-suits.true ∙ c.suits.ensures.1 p)) all)),
+  (λ all. absurd (held-not (Suits (query_of c.args.step.now) (rows_before c.args.step.now) c.args.step.now.atom) c.args.block.now c.loop-y.y-iterator c.next.new.self c.in-Some.y.now c.loop-y.invariant c.in-Some.ensures.steps (λ p. false≢true (sym c.if-not-suits.true ∙ c.suits.ensures.1 p)) all)),
 )
 
 pub loop-y-init : goal.loop-y-init
-loop-y-init c = held-starts (Suits c.args.course.now.setting.query.now (placed c.args.taken.now) c.args.atom) c.args.block.now c.into_iter-y-iterator.result (search rules)
+loop-y-init c = held-starts (Suits (query_of c.args.step.now) (rows_before c.args.step.now) c.args.step.now.atom) c.args.block.now c.into_iter-y-iterator.result (search rules)
 
 pub loop-y-preserved : goal.loop-y-preserved
 loop-y-preserved c =
-    held-on (Suits c.args.course.now.setting.query.now (placed c.args.taken.now) c.args.atom) c.args.block.now c.loop-y.y-iterator c.next.new.self c.in-Some.y.now c.loop-y.invariant c.in-Some.ensures.steps (c.suits.ensures.0 c.if-not-suits.false)
+    held-on (Suits (query_of c.args.step.now) (rows_before c.args.step.now) c.args.step.now.atom) c.args.block.now c.loop-y.y-iterator c.next.new.self c.in-Some.y.now c.loop-y.invariant c.in-Some.ensures.steps (c.suits.ensures.0 c.if-not-suits.false)
 
 pub returns : goal.returns
 returns c = (
-  (λ e. held-ends (Suits c.args.course.now.setting.query.now (placed c.args.taken.now) c.args.atom) c.args.block.now c.loop-y.y-iterator c.loop-y.invariant c.in-None.ensures.steps.0),
+  (λ e. held-ends (Suits (query_of c.args.step.now) (rows_before c.args.step.now) c.args.step.now.atom) c.args.block.now c.loop-y.y-iterator c.loop-y.invariant c.in-None.ensures.steps.0),
   (λ all. refl),
 )

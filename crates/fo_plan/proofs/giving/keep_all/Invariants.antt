@@ -1,7 +1,5 @@
 use Rattle.std.proofs.Common.{length}
-use Rattle.cqa_model.specs.Database.{stored}
-use Rattle.plan_rows.specs.Taking.{placed}
-use Rattle.fo_plan.specs.Holding.{AllHold}
+use Rattle.fo_plan.specs.Holding.{AllHoldWith}
 use Rattle.plan_rows.specs.Underway.{IsRight}
 use Rattle.fo_plan.proofs.Gathered.{KeptSoFar}
 use Rattle.fo_plan.proofs.giving.keep_all.Given as goal
@@ -9,8 +7,8 @@ use Rattle.fo_plan.proofs.giving.keep_all.Given as goal
 -- those of the rows proposed so far were added for which the block holds
 abbrev pub invariant-loop-row : goal.invariant-loop-row
 invariant-loop-row l = record {
-  kept : KeptSoFar (λ r. AllHold l.course.setting.query.now (stored l.course.setting.db.now) r (placed l.taken) l.atom l.rest l.block) l.fn.part.items l.part.items l.fn.found.items l.found.items;
-  right : IsRight l.course l.memo;
+  kept : KeptSoFar (λ r. AllHoldWith l.step r l.block) l.fn.part.items l.part.items l.fn.found.items l.found.items;
+  right : IsRight l.step.course.now l.memo;
 }
 
 abbrev pub decreases-loop-row : goal.decreases-loop-row

@@ -1,16 +1,17 @@
-use Rattle.std.proofs.Common.{◌↔◌, IsTrue, rules, subst, sym, refl}
+use Rattle.std.proofs.Common.{◌↔◌, IsTrue, subst, sym, arith}
 use Rattle.cqa_model.specs.Plan.{HoldsOver}
 use Rattle.plan_rows.specs.Left.{AreAtoms}
 use Rattle.plan_rows.proofs.Sharing.{underway-starts, none-right}
 use Rattle.fo_plan.proofs.holding.holds.Goals as goal
 
-pub holds_with-held-requires-clause-here : goal.holds_with-held-requires-clause-here
-holds_with-held-requires-clause-here c =
-    underway-starts _ c.as_slice-order.result.now (record { fits = c.requires.fits; variables = search rules; paths = search rules })
-    (search rules) (subst (AreAtoms c.args.query.now) (sym c.as_slice-order.ensures) c.requires.plan) refl
+pub invariant_of-course : goal.invariant_of-course
+invariant_of-course c = record { atoms = subst (AreAtoms c.args.query.now) (sym c.as_slice-order.ensures) c.requires.plan; shares = ∣ (λ front rest e l. absurd (omega (arith, l))) ∣₁ }
 
-pub holds_with-held-requires-clause-memo : goal.holds_with-held-requires-clause-memo
-holds_with-held-requires-clause-memo c = none-right _ c.new-memo.result c.new-memo.ensures
+pub invariant_of-rest : goal.invariant_of-rest
+invariant_of-rest c = record { underway = underway-starts _ }
+
+pub holds_with-held-requires : goal.holds_with-held-requires
+holds_with-held-requires c = none-right _ c.new-memo.result c.new-memo.ensures
 
 pub returns : goal.returns
 returns c =

@@ -11,7 +11,7 @@ pub told_by_row-requires-clause-other : goal.told_by_row-requires-clause-other
 told_by_row-requires-clause-other t c = atoms-head c.args.setting.now.query.now (placed c.args.taken.now) _ _ (ap placed c.in-Before.is) c.requires.taken
 
 pub told_by_taken-requires : goal.told_by_taken-requires
-told_by_taken-requires t c = (omega (arith, ap (λ z. length (placed z)) c.in-Before.is, c.decreases), (c.requires.over, (c.requires.column, atoms-tail c.args.setting.now.query.now (placed c.args.taken.now) _ _ (ap placed c.in-Before.is) c.requires.taken)))
+told_by_taken-requires t c = (omega (arith, ap (λ z. length (placed z)) c.in-Before.is, c.decreases), (c.requires.column, atoms-tail c.args.setting.now.query.now (placed c.args.taken.now) _ _ (ap placed c.in-Before.is) c.requires.taken))
 
 pub returns-in-Some : goal.returns-in-Some
 returns-in-Some t c = λ y all.

@@ -1,15 +1,15 @@
 use Rattle.std.proofs.Common.{◌∷◌, [], length, ap, sym, subst, arith, Contains}
 use Rattle.std.proofs.lemmas.List.{length-append}
 use Rattle.cqa_value.proofs.Words.{Contains-from_take}
-use Rattle.plan_rows.specs.Underway.{AreShared}
+use Rattle.plan_rows.specs.Left.{AreShared}
 use Rattle.plan_rows.proofs.Columns.{drop-member, shared-more}
 use Rattle.plan_rows.proofs.shared.shared_columns.Goals as goal
 
 pub shared_of-requires-clause-front : goal.shared_of-requires-clause-front
-shared_of-requires-clause-front c = λ F m. c.requires.order F (Contains-from_take c.loop-count.count c.args.order.now F (subst (λ p. Contains p F) c.split_at.ensures.front m))
+shared_of-requires-clause-front c = λ F m. c.requires F (Contains-from_take c.loop-count.count c.args.order.now F (subst (λ p. Contains p F) c.split_at.ensures.front m))
 
 pub shared_of-requires-clause-rest : goal.shared_of-requires-clause-rest
-shared_of-requires-clause-rest c = λ F m. c.requires.order F (drop-member c.loop-count.count c.args.order.now F (subst (λ p. Contains p F) c.split_at.ensures.back m))
+shared_of-requires-clause-rest c = λ F m. c.requires F (drop-member c.loop-count.count c.args.order.now F (subst (λ p. Contains p F) c.split_at.ensures.back m))
 
 pub loop-count-preserved : goal.loop-count-preserved
 loop-count-preserved c =
@@ -20,6 +20,6 @@ loop-count-preserved c =
     let s = c.loop-count.invariant.size in
     record {
       size = omega (arith, e, l, s);
-      shared = subst (AreShared c.args.query.now c.args.order.now) (sym c.in_ok-push.ensures.items)
-          (shared-more c.args.query.now c.args.order.now shared columns c.loop-count.count c.split_at.result.0.now c.split_at.result.1.now c.loop-count.invariant.size c.split_at.ensures.front c.split_at.ensures.back c.loop-count.invariant.shared c.in_ok-shared_of.ensures);
+      shared = subst (AreShared c.args.setting.now.query.now c.args.order.now) (sym c.in_ok-push.ensures.items)
+          (shared-more c.args.setting.now.query.now c.args.order.now shared columns c.loop-count.count c.split_at.result.0.now c.split_at.result.1.now c.loop-count.invariant.size c.split_at.ensures.front c.split_at.ensures.back c.loop-count.invariant.shared c.in_ok-shared_of.ensures);
     }

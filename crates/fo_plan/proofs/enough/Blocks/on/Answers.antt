@@ -4,7 +4,7 @@ use Rattle.fo_plan.proofs.enough.Blocks.on.Goals as goal
 
 pub loop-at-init : goal.loop-at-init
 loop-at-init c =
-    let f = subst (λ (o : Option ℕ). IfSome o (λ at. (at < c.args.spot.now.place) × (c.args.spot.now.place ≤ length c.args.self.now.rows))) c.in-Some.is c.requires.spot.last in
+    let f = subst (λ (o : Option ℕ). IfSome o (λ at. (at < c.args.spot.now.place) × (c.args.spot.now.place ≤ length c.args.self.now.rows))) c.in-Some.is c.requires.last in
     passed-later c.args.self.now c.in-Some.last c.args.spot.now.place c.after-at.result f.0 c.after-at.ensures.none
 
 pub loop-at-preserved : goal.loop-at-preserved

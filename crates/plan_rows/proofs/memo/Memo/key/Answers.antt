@@ -5,5 +5,6 @@ use Rattle.plan_rows.proofs.memo.Memo.key.Goals as goal
 
 pub returns : goal.returns
 returns c =
-    key-made c.args.course.now (placed c.args.taken.now) c.args.plan.now c.args.row.now c.as_slice-columns.result.now c.index-course-place.result (length c.args.course.now.order.now - length c.args.plan.now) c.are_settled-settled.result c.key_of.result
-    c.requires refl (omega (arith, c.if-place-course.false)) c.index-course-place.is (c.as_slice-columns.ensures ∙ sym c.index-course-place.is) c.are_settled-settled.ensures c.key_of.ensures
+    let rest = c.args.rest.now in
+    key-made rest.course.now (placed rest.taken.now) rest.plan.now c.args.row.now c.as_slice-columns.result.now c.index-course-place.result (length rest.course.now.order.now - length rest.plan.now) c.are_settled-settled.result c.key_of.result
+    rest.underway refl (omega (arith, c.if-place-course.false)) c.index-course-place.is (c.as_slice-columns.ensures ∙ sym c.index-course-place.is) c.are_settled-settled.ensures c.key_of.ensures
