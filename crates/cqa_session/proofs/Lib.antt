@@ -4,11 +4,9 @@ pub mod Copying
 pub mod Doing
 pub mod Dumping
 pub mod Explaining
-mod Modelled
 mod Naming
 mod LineSteps
 pub mod Sayings
 mod Spending
 pub mod TableLines
 pub mod Valid
-mod Pairing

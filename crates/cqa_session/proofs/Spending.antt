@@ -3,6 +3,7 @@ use Rattle.std.proofs.Common.{◌≡◌, List, [], ◌∷◌, ◌++◌, ℕ, Som
 use Rattle.std.proofs.lemmas.List.Elements.{Contains-append_left}
 use Rattle.cnf_form.specs.declared.formula.Lit.{Lit}
 use Rattle.cnf_form.specs.declared.formula.Cnf.{Cnf}
+use Rattle.cnf_form.specs.declared.log.Log.{Log}
 use Rattle.cnf_form.specs.declared.log.Step.{Step}
 use Rattle.cnf_form.specs.Literals.{literals}
 use Rattle.cnf_form.specs.Logs.{added}
@@ -11,6 +12,10 @@ use Rattle.cnf_form.specs.Spent.{IsSpentLog}
 use Rattle.cnf_form.proofs.Law.{spent_logs_end}
 use Rattle.cqa_value.specs.declared.value.Value.{Value}
 use Rattle.cqa_model.specs.declared.query.Query.{Query}
+use Rattle.cqa_model.specs.declared.query.RowId.{RowId}
+use Rattle.cqa_model.specs.Database.{Table}
+use Rattle.cdcl.specs.declared.outcome.Outcome.TheVariants.{Spent}
+use Rattle.repair_clauses.specs.Deciding.{IsDecided}
 use Rattle.search_answers.specs.Searching.{IsSpentFor}
 use Rattle.reply_text.specs.declared.reply.Proof.{Proof}
 use Rattle.cqa_session.specs.State.{State}
@@ -30,6 +35,11 @@ spent_is_due cnf budget steps s =
       unrefuted = λ r. s.stuck (r.0, wider clauses more r.0 r.1, (r.2.0, Contains-append_left clauses more r.2.0 r.2.1, r.2.2));
       free = (s.free.0, s.free.1, s.free.2, λ p is has. s.free.3 p (wider clauses more p is) has);
     }
+
+-- a row is a candidate where the solver used up its budget for the row's formula
+pub spent_for : (q : Query) (db : List Table) (budget : ℕ) (row : List Value) (cnf : Cnf) (rows : List RowId) (log : Log) → IsDecided q db row budget (record { formula = record { cnf = cnf; rows = rows }; outcome = Spent log }) →
+    IsSpentFor q db budget row cnf log
+spent_for q db budget row cnf rows log decided = record { candidate = decided.says; rows = rows; formula = decided.formula; spent = decided.outcome }
 
 -- a budget is used up for a row
 pub spends : (old new : State) (q : Query) (row : List Value) (conflicts : ℕ) (proof : Proof) → IsSpentFor q old.tables old.budget row proof.cnf proof.log → conflicts ≡ old.budget →

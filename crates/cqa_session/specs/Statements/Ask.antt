@@ -8,12 +8,13 @@ use Rattle.cqa_model.specs.Database.{Table}
 use Rattle.cqa_model.specs.Certain.{IsCandidate, IsCertainAnswer}
 use Rattle.join_witness.specs.Listing.{HasTooMany}
 use Rattle.search_answers.specs.Searching.{NoneBefore}
+use Rattle.row_reasons.specs.Reasons.{NeedsSearch}
 use Rattle.spj_syntax.specs.declared.tree.Select.{Select}
 use Rattle.query_resolve.specs.Resolved.{IsQueryOf}
 use Rattle.reply_text.specs.declared.reply.Reply.{Reply}
 use Rattle.reply_text.specs.declared.reply.Reply.TheVariants.{Rows, Refused}
 use Rattle.cqa_session.specs.State.{State}
-use Rattle.cqa_session.specs.Statements.Spent.{NeedsSearch, SpendsAt}
+use Rattle.cqa_session.specs.Statements.Spent.{SpendsAt}
 
 -- no candidate has more witnesses than a search takes
 abbrev pub IsWithin : List Table → Query → Type 0

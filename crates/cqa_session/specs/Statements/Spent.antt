@@ -2,23 +2,12 @@
 use Rattle.std.specs.Prelude.{◌≡◌, ℕ, ◌<◌, ◌≤◌, ◌^◌, List, Some}
 use Rattle.cqa_value.specs.declared.value.Value.{Value}
 use Rattle.cqa_model.specs.declared.query.Query.{Query}
-use Rattle.cqa_model.specs.Variables.{whole}
-use Rattle.cqa_model.specs.Graph.{HasCycle}
 use Rattle.cnf_form.specs.declared.formula.Cnf.{Cnf}
 use Rattle.cnf_form.specs.Literals.{literals}
 use Rattle.cnf_form.specs.Propagation.{ReachesEmpty, StaysOpen}
 use Rattle.search_answers.specs.Searching.{IsSpentFor}
-use Rattle.weak_pairs.specs.Pairs.{IsPair}
 use Rattle.reply_text.specs.declared.reply.Proof.{Proof}
 use Rattle.cqa_session.specs.State.{State}
-
--- a query has no plan where its attacks have a cycle (Koutris and Wijsen, ACM TODS 2017)
-abbrev pub HasNoPlan : Query → Type 0
-HasNoPlan q = HasCycle q (whole q)
-
--- a query needs search where it has no plan, unless it is of two atoms that attack each other weakly
-abbrev pub NeedsSearch : Query → Type 0
-NeedsSearch q = HasNoPlan q × (IsPair q → ⊥)
 
 -- Only so can a budget be used up for a formula of v variables: it is under 3^v, and propagation alone neither refutes the
 -- formula nor gives every variable a value.

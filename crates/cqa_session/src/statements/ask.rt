@@ -5,9 +5,9 @@ ghost use Rattle.cqa_model.specs.Query.{FitsDatabase};
 ghost use Rattle.query_resolve.specs.Checks.{query_fault};
 ghost use Rattle.search_answers.specs.Searching.{IsSearched, IsStop};
 ghost use Rattle.weak_pairs.specs.Pairs.{IsPair};
+ghost use Rattle.row_reasons.specs.Reasons.{HasNoPlan, NeedsSearch};
 ghost use Rattle.cqa_session.specs.Replying.{Replies, IsOutcome};
 ghost use Rattle.cqa_session.specs.Statements.Ask.{AnswersCertain, StopsAt, TellsCertain};
-ghost use Rattle.cqa_session.specs.Statements.Spent.{HasNoPlan, NeedsSearch};
 
 use crate::Session;
 use cqa_model::{Query, Refusal};

@@ -9,5 +9,5 @@ returns c =
     let select = c.args.select.now in
     let query = c.in_ok-query.query in
     let tables = c.database.ensures.is in
-    explained c.args.session.now c.explain_row-reply.new.session c.args.row.now select query c.explain_row-reply.result
-    (subst (λ db. query_fault db select ≡ None) tables c.in_ok-query.ensures.valid) (subst (λ db. IsQueryOf db select query) tables c.in_ok-query.ensures.is) c.explain_row-reply.ensures
+    explained c.args.session.now c.check_and_tell-reply.new.session c.args.row.now select query c.check_and_tell-reply.result
+    (subst (λ db. query_fault db select ≡ None) tables c.in_ok-query.ensures.valid) (subst (λ db. IsQueryOf db select query) tables c.in_ok-query.ensures.is) c.check_and_tell-reply.ensures

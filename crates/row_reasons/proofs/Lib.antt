@@ -1,0 +1,4 @@
+pub mod Keys
+mod Blocks
+mod Modelled
+mod Pairing
