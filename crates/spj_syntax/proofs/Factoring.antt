@@ -154,10 +154,12 @@ same_asking = both (same grammar.verb) same_query
 same_show : Same grammar.show factored.show
 same_show = drawn (one (word (codes "show"))) (one (word (codes "tables"))) (one (word (codes "log")))
 
+same_rest : (ps : List Shape) {p q : Shape} → Same p q → Same (grammar.one_of ps p) (grammar.one_of ps q)
+same_rest [] f = f
+same_rest (r ∷ ps) f = either (same r) (same_rest ps f)
+
 same_statement : Same grammar.statement factored.statement
-same_statement =
-    either (same grammar.set) (either same_create (either same_alter (either (same grammar.insert) (either (same grammar.delete) (either (same grammar.copy)
-    (either (same (one (word (codes "dump")))) (either same_show same_asking)))))))
+same_statement = either (same grammar.set) (either same_create (either same_alter (same_rest grammar.direct (either same_show same_asking))))
 
 pub from_factored : (ls : List Lexeme) → Generates factored.statement ls → Generates grammar.statement ls
 from_factored ls g = same_statement.from ls g

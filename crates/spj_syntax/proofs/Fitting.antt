@@ -5,7 +5,7 @@ use Rattle.script_lex.specs.declared.kinds.Token.{Token}
 use Rattle.script_lex.specs.declared.kinds.TokenKind.{TokenKind}
 use Rattle.script_lex.specs.declared.kinds.TokenKind.TheVariants.{Word, Int, Text, Sym}
 use Rattle.script_lex.specs.Tokens.{inside}
-use Rattle.spj_syntax.specs.Lexemes.{undoubled, of_kind, lexeme}
+use Rattle.spj_syntax.specs.Lexemes.{of_kind, lexeme}
 use Rattle.spj_syntax.specs.Parsed.{Fits}
 use Rattle.spj_syntax.specs.Reading.{IsSound, IsReadable}
 use Rattle.spj_syntax.proofs.Values.{short_in_range, undoubled_no_longer}

@@ -2,7 +2,7 @@
 use Rattle.std.specs.Prelude.{codes}
 use Rattle.script_lex.specs.declared.kinds.Symbol.TheVariants.{Open, Close, Comma, Eq}
 use Rattle.spj_syntax.specs.Shapes.{word, mark, Shape, one, ◌⨾◌, ◌∣◌, many}
-use Rattle.spj_syntax.specs.Grammar.{a_name, listed, filtered, literal, strict, column, key, insert, delete, col, op_but_equal, head, verb, copy, set}
+use Rattle.spj_syntax.specs.Grammar.{a_name, listed, filtered, literal, strict, column, key, col, op_but_equal, head, verb, set, one_of, direct}
 
 -- Each column has its comma behind it.
 abbrev pub columns : Shape
@@ -38,9 +38,13 @@ asking = verb ⨾ query
 abbrev pub show : Shape
 show = one (word (codes "show")) ⨾ (one (word (codes "tables")) ∣ one (word (codes "log")))
 
+-- statements that change nothing
+abbrev pub telling : Shape
+telling = one (word (codes "dump")) ∣ show ∣ asking
+
 -- all statements but `set`
 abbrev pub plain : Shape
-plain = create ∣ alter ∣ insert ∣ delete ∣ copy ∣ one (word (codes "dump")) ∣ show ∣ asking
+plain = create ∣ alter ∣ one_of direct (show ∣ asking)
 
 abbrev pub statement : Shape
 statement = set ∣ plain

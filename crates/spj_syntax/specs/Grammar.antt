@@ -1,5 +1,5 @@
 -- The grammar of statements.
-use Rattle.std.specs.Prelude.{codes}
+use Rattle.std.specs.Prelude.{List, [], ◌∷◌, codes}
 use Rattle.script_lex.specs.declared.kinds.Symbol.TheVariants.{Open, Close, Comma, Dot, Eq, Ne, Lt, Le, Gt, Ge}
 use Rattle.spj_syntax.specs.Shapes.{Terminal, word, name, int, text, mark, Shape, one, ◌⨾◌, ◌∣◌, many, nothing}
 
@@ -106,5 +106,14 @@ set = one (word (codes "set")) ⨾ one (word (codes "conflicts")) ⨾ one int
 abbrev pub show : Shape
 show = one (word (codes "show")) ⨾ one (word (codes "tables")) ∣ one (word (codes "show")) ⨾ one (word (codes "log"))
 
+-- one of these, or else the rest
+abbrev pub one_of : List Shape → Shape → Shape
+one_of [] rest = rest
+one_of (p ∷ ps) rest = p ∣ one_of ps rest
+
+-- the statements that begin as no other does, and are read as they are written here
+abbrev pub direct : List Shape
+direct = insert ∷ delete ∷ copy ∷ one (word (codes "dump")) ∷ []
+
 abbrev pub statement : Shape
-statement = set ∣ create ∣ alter ∣ insert ∣ delete ∣ copy ∣ one (word (codes "dump")) ∣ show ∣ asking
+statement = set ∣ create ∣ alter ∣ one_of direct (show ∣ asking)

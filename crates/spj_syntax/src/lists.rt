@@ -2,7 +2,7 @@
 
 ghost use Rattle.std.specs.Prelude.{◌≡◌, ◌<◌, ◌≤◌, ◌++◌, ◌∷◌, [], refl, length, IfOk, All};
 ghost use Rattle.spj_syntax.specs.Reading.{Reads, Pushes, separator, separator_lexeme, each_before};
-ghost use Rattle.spj_syntax.specs.Limits.{most_items};
+ghost use Rattle.spj_syntax.specs.Limits.{most_items, most_tokens};
 ghost use Rattle.spj_syntax.specs.Lexemes.{Mark};
 ghost use Rattle.spj_syntax.specs.Shapes.{mark, one, ◌⨾◌};
 ghost use Rattle.spj_syntax.specs.Walk.{Opens};
@@ -16,7 +16,7 @@ use crate::reader::{Reader, Stop};
 use crate::{RawCol, RawCond, RawTest};
 use cqa_model::{Column, Op};
 use cqa_value::{Items, Name, Row, Value};
-use script_lex::{LONGEST_TEXT, Symbol};
+use script_lex::Symbol;
 use std::alloc::Global;
 
 /// What stands between the items of a list.
@@ -64,8 +64,10 @@ fn push_piece<P: Piece>(
     reader: &mut Reader<'_>,
     items: &mut Items<P>,
 ) -> Result<(), Stop>
-    ensures { Pushes P.shape P.tokens P.kept result items.old items.new reader.old reader.new }
+    ensures pushes { Pushes P.shape P.tokens P.kept result items.old items.new reader.old reader.new }
+    ensures few { length reader.old ≤ most_tokens }
 {
+    let _count = reader.count();
     let item = P::piece(alloc, reader)?;
     items.push(item)?;
     Ok(())
@@ -85,7 +87,6 @@ fn separated<P: Piece>(
     ensures kept { IfOk result (λ v. All (λ x. P.kept x) v) }
 {
     let mut items = Items::with_capacity(alloc, room)?;
-    prove!(reader.count() <= LONGEST_TEXT);
     push_piece(alloc, reader, &mut items)?;
     'items: while sees(reader, token) {
         reader.advance();

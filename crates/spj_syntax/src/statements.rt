@@ -261,6 +261,21 @@ pub fn set<'a>(reader: &mut Reader<'a>) -> Result<&'a [u8], Stop>
     reader.int()
 }
 
+/// A statement that changes nothing.
+fn telling(alloc: Global, reader: &mut Reader<'_>) -> Result<Statement, Stop>
+    ensures reads { Reads factored.telling statement_tokens result reader.old reader.new }
+    ensures small { IfOk result (λ s. IsSmall s) }
+{
+    if reader.sees_word(b"dump") {
+        reader.advance();
+        return Ok(Statement::Dump);
+    }
+    if reader.sees_word(b"show") {
+        return show(reader);
+    }
+    asking(alloc, reader)
+}
+
 /// Any statement but a `set`.
 pub fn plain(alloc: Global, reader: &mut Reader<'_>) -> Result<Statement, Stop>
     ensures reads { Reads factored.plain statement_tokens result reader.old reader.new }
@@ -281,12 +296,5 @@ pub fn plain(alloc: Global, reader: &mut Reader<'_>) -> Result<Statement, Stop>
     if reader.sees_word(b"copy") {
         return copy(alloc, reader);
     }
-    if reader.sees_word(b"dump") {
-        reader.advance();
-        return Ok(Statement::Dump);
-    }
-    if reader.sees_word(b"show") {
-        return show(reader);
-    }
-    asking(alloc, reader)
+    telling(alloc, reader)
 }

@@ -7,32 +7,32 @@ use Rattle.spj_syntax.proofs.Steps.{rest_after, rest_took, rest_fails, rest_more
 use Rattle.spj_syntax.proofs.lists.separated.Goals as goal
 
 pub returns-in_err-push_piece-clause-reads : goal.returns-in_err-push_piece-clause-reads
-returns-in_err-push_piece-clause-reads g c = exit _ _ c.from_residual-in_err-push_piece.ensures.1 (fails_first c.in_err-push_piece.ensures)
+returns-in_err-push_piece-clause-reads g c = exit _ _ c.from_residual-in_err-push_piece.ensures.1 (fails_first c.in_err-push_piece.ensures.pushes)
 
 pub items-init : goal.items-init
 items-init g c =
-    let h = c.in_ok-push_piece.ensures in
+    let h = c.in_ok-push_piece.ensures.pushes in
     let one : c.push_piece.new.items ≡ h.item ∷ [] = h.grown ∙ ap (λ z. z ++ h.item ∷ []) c.in_ok-items.ensures in
     record {
       rest = rw (one, append-nil) (rest_after h.took);
       started = rw one (omega arith);
-      room = rw one (omega (arith, took_fewer g.P.Piece.takes_some h.took));
+      room = rw one (omega (arith, took_fewer g.P.Piece.takes_some h.took, c.in_ok-push_piece.ensures.few));
       each = rw one (All-cons g.P.Piece.kept h.item [] h.is_kept (All-nil g.P.Piece.kept));
     }
 
 pub returns-in_err-push_piece-2-clause-reads : goal.returns-in_err-push_piece-2-clause-reads
 returns-in_err-push_piece-2-clause-reads g c =
     exit _ _ c.from_residual-in_err-push_piece-2.ensures.1 (rest_fails c.items.invariant.rest
-    (many_failed (opens_then refl c.items-test.ensures) (fails_then (separator_took c.args.token c.items-test.ensures c.advance.ensures) c.in_err-push_piece-2.ensures)))
+    (many_failed (opens_then refl c.items-test.ensures) (fails_then (separator_took c.args.token c.items-test.ensures c.advance.ensures) c.in_err-push_piece-2.ensures.pushes)))
 
 pub items-smaller : goal.items-smaller
 items-smaller g c =
     let some = open_some c.items-test.ensures in
-    omega (arith, took_fewer g.P.Piece.takes_some c.in_ok-push_piece-2.ensures.took, some, drop_shorter c.items.reader some, ap length c.advance.ensures)
+    omega (arith, took_fewer g.P.Piece.takes_some c.in_ok-push_piece-2.ensures.pushes.took, some, drop_shorter c.items.reader some, ap length c.advance.ensures)
 
 pub items-preserved : goal.items-preserved
 items-preserved g c =
-    let h = c.in_ok-push_piece-2.ensures in
+    let h = c.in_ok-push_piece-2.ensures.pushes in
     let some = open_some c.items-test.ensures in
     record {
       rest = rest_more c.items.invariant.rest (opens_then refl c.items-test.ensures) (took_both (separator_took c.args.token c.items-test.ensures c.advance.ensures) h.took refl)

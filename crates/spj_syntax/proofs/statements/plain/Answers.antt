@@ -1,6 +1,6 @@
 use Rattle.std.proofs.Common.{refl}
 use Rattle.spj_syntax.specs.Written.{statement_tokens}
-use Rattle.spj_syntax.proofs.Steps.{took_left, took_right, word_took, opens_then, reads_left, reads_right}
+use Rattle.spj_syntax.proofs.Steps.{opens_then, reads_left, reads_right}
 use Rattle.spj_syntax.proofs.statements.plain.Goals as goal
 
 pub returns-then-sees_word-clause-reads : goal.returns-then-sees_word-clause-reads
@@ -18,11 +18,5 @@ returns-then-sees_word-4-clause-reads c = reads_right _ statement_tokens c.delet
 pub returns-then-sees_word-5-clause-reads : goal.returns-then-sees_word-5-clause-reads
 returns-then-sees_word-5-clause-reads c = reads_right _ statement_tokens c.copy.result _ refl (opens_then refl c.if-sees_word.ensures) (reads_right _ statement_tokens c.copy.result _ refl (opens_then refl c.if-sees_word-2.ensures) (reads_right _ statement_tokens c.copy.result _ refl (opens_then refl c.if-sees_word-3.ensures) (reads_right _ statement_tokens c.copy.result _ refl (opens_then refl c.if-sees_word-4.ensures) (reads_left _ statement_tokens c.copy.result _ (opens_then refl c.if-sees_word-5.ensures) c.copy.ensures.reads))))
 
-pub returns-then-sees_word-6-clause-reads : goal.returns-then-sees_word-6-clause-reads
-returns-then-sees_word-6-clause-reads c = took_right refl (opens_then refl c.if-sees_word.ensures) (took_right refl (opens_then refl c.if-sees_word-2.ensures) (took_right refl (opens_then refl c.if-sees_word-3.ensures) (took_right refl (opens_then refl c.if-sees_word-4.ensures) (took_right refl (opens_then refl c.if-sees_word-5.ensures) (took_left c.if-sees_word-6.ensures (word_took c.if-sees_word-6.ensures c.advance.ensures))))))
-
-pub returns-then-sees_word-7-clause-reads : goal.returns-then-sees_word-7-clause-reads
-returns-then-sees_word-7-clause-reads c = reads_right _ statement_tokens c.show.result _ refl (opens_then refl c.if-sees_word.ensures) (reads_right _ statement_tokens c.show.result _ refl (opens_then refl c.if-sees_word-2.ensures) (reads_right _ statement_tokens c.show.result _ refl (opens_then refl c.if-sees_word-3.ensures) (reads_right _ statement_tokens c.show.result _ refl (opens_then refl c.if-sees_word-4.ensures) (reads_right _ statement_tokens c.show.result _ refl (opens_then refl c.if-sees_word-5.ensures) (reads_right _ statement_tokens c.show.result _ refl c.if-sees_word-6.ensures (reads_left _ statement_tokens c.show.result _ (opens_then refl c.if-sees_word-7.ensures) c.show.ensures.reads))))))
-
 pub returns-clause-reads : goal.returns-clause-reads
-returns-clause-reads c = reads_right _ statement_tokens c.asking.result _ refl (opens_then refl c.if-sees_word.ensures) (reads_right _ statement_tokens c.asking.result _ refl (opens_then refl c.if-sees_word-2.ensures) (reads_right _ statement_tokens c.asking.result _ refl (opens_then refl c.if-sees_word-3.ensures) (reads_right _ statement_tokens c.asking.result _ refl (opens_then refl c.if-sees_word-4.ensures) (reads_right _ statement_tokens c.asking.result _ refl (opens_then refl c.if-sees_word-5.ensures) (reads_right _ statement_tokens c.asking.result _ refl c.if-sees_word-6.ensures (reads_right _ statement_tokens c.asking.result _ refl (opens_then refl c.if-sees_word-7.ensures) c.asking.ensures.reads))))))
+returns-clause-reads c = reads_right _ statement_tokens c.telling.result _ refl (opens_then refl c.if-sees_word.ensures) (reads_right _ statement_tokens c.telling.result _ refl (opens_then refl c.if-sees_word-2.ensures) (reads_right _ statement_tokens c.telling.result _ refl (opens_then refl c.if-sees_word-3.ensures) (reads_right _ statement_tokens c.telling.result _ refl (opens_then refl c.if-sees_word-4.ensures) (reads_right _ statement_tokens c.telling.result _ refl (opens_then refl c.if-sees_word-5.ensures) c.telling.ensures.reads))))
