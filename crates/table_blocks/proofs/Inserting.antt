@@ -1,6 +1,10 @@
 -- What an insert gives.
-use Rattle.std.proofs.Common.{◌≡◌, ◌≤◌, ◌↔◌, ◌⊎◌, inl, inr, ◌+◌, ℕ, Bool, true, false, nat_le, List, length, Option, Some, None, Contains, refl, sym, ap, ◌∙◌, rules, true≢false}
+use Rattle.std.proofs.Common.{Result, ◌≡◌, ◌≤◌, ◌↔◌, ◌⊎◌, inl, inr, ◌+◌, ℕ, Bool, true, false, nat_le, List, length, Option, Some, None, Contains, refl, sym, ap, ◌∙◌, rules, true≢false}
 use Rattle.std.specs.Prelude.{if◌then◌else◌}
+use Rattle.std.specs.Result.{IfErr, IsErrAnd}
+use Rattle.std.proofs.lemmas.Result.{err_from_is_err_and}
+use Rattle.cqa_value.specs.declared.memory.Fail.{Fail}
+use Rattle.cqa_value.specs.declared.memory.Fail.TheVariants.{NoMemory, Refused}
 use Rattle.cqa_value.specs.declared.value.Kind.{Kind}
 use Rattle.cqa_value.specs.declared.value.Value.{Value}
 use Rattle.cqa_model.specs.declared.refusal.Refusal.{Refusal}
@@ -8,7 +12,7 @@ use Rattle.cqa_model.specs.declared.refusal.Refusal.TheVariants.{Limit}
 use Rattle.cqa_model.specs.declared.refusal.LimitKind.TheVariants.{Rows}
 use Rattle.row_pieces.specs.Inserted.{with_items, AreRising}
 use Rattle.cqa_model.specs.Database.{Table, row_total, block_cmp}
-use Rattle.table_blocks.specs.Tables.{IsMerged, AreMergeable, is_among, first_of, rows_fault, key_fault, limit_fault, insert_fault, rows_at, kinds_at, count_new}
+use Rattle.table_blocks.specs.Tables.{IsMerged, AreMergeable, is_among, first_of, IsRefusedAs, rows_fault, key_fault, limit_fault, insert_fault, rows_at, kinds_at, count_new}
 use Rattle.table_blocks.proofs.BlockOrder.{block_total, block_exact, block_alike}
 use Rattle.table_blocks.proofs.Membership.{among}
 use Rattle.table_blocks.proofs.Placing.{places-long}
@@ -73,3 +77,23 @@ fault_seen kinds seen_kinds rows seen_rows fault k r e = (λ i. rows_fault (sym 
 -- the count of rows that were looked at
 pub count_seen : (stored seen_stored given seen_given : List (List Value)) (count long : ℕ) → seen_stored ≡ stored → seen_given ≡ given → count ≡ long → long ≡ count_new seen_stored seen_given → count ≡ count_new stored given
 count_seen stored seen_stored given seen_given count long s g c e = c ∙ e ∙ (λ i. count_new (s i) (g i))
+
+-- nothing is at fault by two checks: nothing is by each
+pub none_first : (first later : Option Refusal) → first_of first later ≡ None → (first ≡ None) × (later ≡ None)
+none_first None later e = (refl, e)
+none_first (Some fault) later e = cc
+
+-- the first fault of two checks is the first of three
+pub first_first : (first second third : Option Refusal) (fault : Refusal) → first_of first second ≡ Some fault → first_of first (first_of second third) ≡ Some fault
+first_first None (Some found) third fault e = e
+first_first None None third fault e = cc
+first_first (Some found) second third fault e = e
+
+-- a refusal by two checks is one by three
+pub refused_first : (first second third : Option Refusal) (why : Fail Refusal) → IsRefusedAs why (first_of first second) → IsRefusedAs why (first_of first (first_of second third))
+refused_first first second third NoMemory h = tt
+refused_first first second third (Refused fault) h = first_first first second third fault h
+
+-- what a `?` returns of it
+pub refused_on : {A : Type 0} (first second third : Option Refusal) (why : Fail Refusal) (result : Result A (Fail Refusal)) → IsErrAnd result (λ e. e ≡ why) → IsRefusedAs why (first_of first second) → IfErr result (λ e. IsRefusedAs e (first_of first (first_of second third)))
+refused_on first second third why result given h = let found = err_from_is_err_and result given in rw (found.1, found.2) (refused_first first second third why h)

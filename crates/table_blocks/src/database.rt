@@ -8,7 +8,7 @@ ghost use Rattle.cqa_value.specs.declared.value.Value.{Value};
 ghost use Rattle.cqa_value.specs.Values.{kind_of};
 ghost use Rattle.table_blocks.specs.Spans.{IsSpan};
 ghost use Rattle.table_blocks.specs.Keys.{IsKey};
-ghost use Rattle.table_blocks.specs.Tables.{table_named, rows_at, key_at, mark_at, kinds_at, with_rows, with_mark, key_fault, insert_fault, strict_fault, rekey_fault, Inserts, Deletes, Rekeys, AreMergeable, AreValidRows, IsStored, IsMerged, IsSpared, IsRefusedAs};
+ghost use Rattle.table_blocks.specs.Tables.{table_named, rows_at, key_at, mark_at, kinds_at, with_rows, with_mark, first_of, rows_fault, key_fault, insert_fault, strict_fault, rekey_fault, Inserts, Deletes, Rekeys, AreMergeable, AreValidRows, IsStored, IsMerged, IsSpared, IsRefusedAs};
 
 use crate::check::rows_fault_of;
 use crate::probe::Probe;
@@ -224,6 +224,19 @@ impl Database {
         self.table(table).check_keys(rows)
     }
 
+    /// Refuses rows that a table can't hold: the first that doesn't fit its columns, or else since it is strict.
+    fn check_rows(&self, table: u32, rows: &[Row]) -> Result<(), Fail<Refusal>>
+        requires there { table < length self.now }
+        requires few { length rows.now < 2 ^ 32 }
+        ensures checked { Checked result (first_of (rows_fault (kinds_at self.now table) 1 rows.now) (key_fault self.now table rows.now)) (λ _. IsTrue (mark_at self.now table) → AreConsistent (key_at self.now table) (rows_at self.now table ++ rows.now)) }
+        ensures values { OnOk result (AreValidRows rows.now) }
+    {
+        match rows_fault_of(self.schema(table), rows) {
+            Some(fault) => Err(Fail::Refused(fault)),
+            None => self.check_keys(table, rows),
+        }
+    }
+
     /// Puts the rows that aren't there yet into a table, and gives their number.
     ///
     /// # Errors
@@ -241,13 +254,11 @@ impl Database {
         ensures stored { IsStored self.new }
     {
         let _ = &self.tables;
-        if let Some(fault) = rows_fault_of(self.schema(table), rows.as_slice()) {
-            return Err(Fail::Refused(fault));
-        }
-        self.check_keys(table, rows.as_slice())?;
+        self.check_rows(table, rows.as_slice())?;
         let fresh = fresh_rows(rows.into_vec(), &self.rows(table), self.key(table))?;
         let count = fresh.rows.len();
         if count > MOST_ROWS - self.row_total() as usize {
+            drop(fresh);
             let what = LimitKind::Rows;
             return Err(Fail::Refused(Refusal::Limit { what }));
         }

@@ -4,6 +4,7 @@ use crate::guess::parts::id_at;
 use cnf_form::{Clause, Lit, Step};
 use cqa_value::{Items, NoMemory};
 use std::alloc::Global;
+use std::mem::replace;
 
 /// A log is given up where its literals and hints together are more.
 const MOST_NUMBERS: usize = 16_000_000;
@@ -60,8 +61,8 @@ impl Additions {
         self.steps.len() > self.budget as usize + 1 || self.numbers > MOST_NUMBERS
     }
 
-    /// The steps.
-    pub(crate) fn into_steps(self) -> Items<Step> {
-        Items::from_vec(self.steps)
+    /// The steps; none are left.
+    pub(crate) fn take_steps(&mut self, alloc: Global) -> Items<Step> {
+        Items::from_vec(replace(&mut self.steps, Vec::new(alloc)))
     }
 }

@@ -162,6 +162,15 @@ impl Lifting {
         Ok(())
     }
 
+    /// Begins the clause that a row isn't kept unless one of the rest is, and its hints.
+    fn begin_lemma(&mut self, groups: &Groups, row: u32) -> Result<(), NoMemory> {
+        self.lits.clear();
+        append_kept(groups, self.rest.as_slice(), &mut self.lits)?;
+        self.lits.push(kept(row).opposite())?;
+        self.lemma_hints.clear();
+        append_exclusions(groups, self.rest.as_slice(), &mut self.lemma_hints)
+    }
+
     /// Adds that a row isn't kept, unless one of the rest is: it meets all the forcing rows. The id is answered.
     fn add_lemma(
         &mut self,
@@ -170,11 +179,7 @@ impl Lifting {
         row: u32,
         id: i64,
     ) -> Result<i64, NoMemory> {
-        self.lits.clear();
-        append_kept(groups, self.rest.as_slice(), &mut self.lits)?;
-        self.lits.push(kept(row).opposite())?;
-        self.lemma_hints.clear();
-        append_exclusions(groups, self.rest.as_slice(), &mut self.lemma_hints)?;
+        self.begin_lemma(groups, row)?;
         append_pairs(groups, row, self.forcing.as_slice(), &mut self.lemma_hints)?;
         self.lemma_hints.push(id)?;
         self.log
@@ -231,6 +236,23 @@ impl Lifting {
         Ok(())
     }
 
+    /// Takes the rows that are left in the groups of a step's clause, and makes a clause of them.
+    fn take_left(&mut self, groups: &Groups, clause: &[Lit]) -> Result<(), NoMemory> {
+        self.met.clear();
+        for lit in clause {
+            self.resolvent.take(lit.var, &mut self.met)?;
+        }
+        self.lits.clear();
+        append_kept(groups, self.met.as_slice(), &mut self.lits)
+    }
+
+    /// Puts the hints of a step in order.
+    fn order_hints(&mut self) -> Result<(), NoMemory> {
+        self.hints.extend_from_slice(self.exclusions.as_slice())?;
+        self.hints.reverse();
+        Ok(())
+    }
+
     /// Adds the rows that are left in the groups of a step's clause.
     fn learn(
         &mut self,
@@ -238,14 +260,8 @@ impl Lifting {
         groups: &Groups,
         clause: &[Lit],
     ) -> Result<Lifted, NoMemory> {
-        self.met.clear();
-        for lit in clause {
-            self.resolvent.take(lit.var, &mut self.met)?;
-        }
-        self.lits.clear();
-        append_kept(groups, self.met.as_slice(), &mut self.lits)?;
-        self.hints.extend_from_slice(self.exclusions.as_slice())?;
-        self.hints.reverse();
+        self.take_left(groups, clause)?;
+        self.order_hints()?;
         let id = self
             .log
             .add(alloc, self.lits.as_slice(), self.hints.as_slice())?;
@@ -313,6 +329,23 @@ impl Lifting {
         }
         Ok(false)
     }
+
+    /// The log over rows of steps over groups; `None` where it isn't reached within the limits.
+    fn log_of(
+        &mut self,
+        alloc: Global,
+        groups: &Groups,
+        steps: &[Step],
+    ) -> Result<Option<Log>, NoMemory> {
+        let needed = needed_of(alloc, self.clauses.len(), steps)?;
+        if self.lift_all(alloc, groups, steps, needed.as_slice())? {
+            Ok(Some(Log {
+                steps: self.log.take_steps(alloc),
+            }))
+        } else {
+            Ok(None)
+        }
+    }
 }
 
 /// The log over rows of a log over their groups, for the clauses of whose blocks the rows are given; `None` where it is longer
@@ -325,14 +358,8 @@ pub(crate) fn lift_log(
     additions: Additions,
     log: &Log,
 ) -> Result<Option<Log>, NoMemory> {
-    let steps = log.steps.as_slice();
-    let needed = needed_of(alloc, clauses.len(), steps)?;
     let mut lifting = Lifting::new(alloc, groups, vars, clauses, additions)?;
-    if lifting.lift_all(alloc, groups, steps, needed.as_slice())? {
-        Ok(Some(Log {
-            steps: lifting.log.into_steps(),
-        }))
-    } else {
-        Ok(None)
-    }
+    let lifted = lifting.log_of(alloc, groups, log.steps.as_slice());
+    drop(lifting);
+    lifted
 }

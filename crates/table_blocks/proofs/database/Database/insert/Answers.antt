@@ -1,20 +1,33 @@
 use Rattle.std.proofs.Common.{◌≡◌, ◌≤◌, ◌-◌, ◌+◌, ◌↔◌, refl, sym, subst, arith, length, List, ℕ, ◌++◌, inl, inr, None, Contains}
+use Rattle.std.specs.Result.{IfErr}
 use Rattle.cqa_value.specs.declared.value.Value.{Value}
-use Rattle.cqa_model.specs.Database.{AreConsistent, row_total}
+use Rattle.cqa_model.specs.Database.{Table, AreConsistent, row_total}
 use Rattle.std.proofs.lemmas.List.Elements.{Contains-append_cases, Contains-append_left, Contains-append_right}
-use Rattle.table_blocks.specs.Tables.{rows_at, kinds_at, key_at, key_fault, count_new}
+use Rattle.table_blocks.specs.Tables.{rows_at, kinds_at, key_at, first_of, IsRefusedAs, insert_fault, limit_fault, rows_fault, key_fault, count_new}
 use Rattle.table_blocks.proofs.Taking.{consistent_within}
 use Rattle.table_blocks.proofs.Faults.{rows_fit}
-use Rattle.table_blocks.proofs.Inserting.{merged_given, valid_insert, fault_seen, count_seen}
+use Rattle.table_blocks.proofs.Inserting.{merged_given, valid_insert, none_first, refused_on, count_seen}
 use Rattle.table_blocks.proofs.database.Database.insert.Goals as goal
+
+-- nothing is at fault with the rows
+sound : (db : List Table) (table : ℕ) (rows seen : List (List Value)) → seen ≡ rows → first_of (rows_fault (kinds_at db table) 1 seen) (key_fault db table seen) ≡ None → (rows_fault (kinds_at db table) 1 rows ≡ None) × (key_fault db table rows ≡ None)
+sound db table rows seen is none = subst (λ rows. (rows_fault (kinds_at db table) 1 rows ≡ None) × (key_fault db table rows ≡ None)) is (none_first (rows_fault (kinds_at db table) 1 seen) (key_fault db table seen) none)
+
+pub returns-in_err-check_rows-clause-refused : goal.returns-in_err-check_rows-clause-refused
+returns-in_err-check_rows-clause-refused c =
+    let db = c.args.self.now in
+    let table = c.args.table in
+    subst (λ rows. IfErr c.from_residual.result (λ e. IsRefusedAs e (insert_fault db table rows))) c.as_slice.ensures
+    (refused_on (rows_fault (kinds_at db table) 1 c.as_slice.result.now) (key_fault db table c.as_slice.result.now) (limit_fault db table c.as_slice.result.now)
+    c.in_err-check_rows.field-0.0 c.from_residual.result c.from_residual.ensures.1 c.in_err-check_rows.ensures.checked.refused)
 
 pub add-requires-clause-fits : goal.add-requires-clause-fits
 add-requires-clause-fits c row h =
-    rows_fit (kinds_at c.args.self.now c.args.table) 1 c.args.rows (fault_seen (kinds_at c.args.self.now c.args.table) _ c.args.rows _ None c.schema.ensures.kinds c.as_slice.ensures c.in_default.ensures.is) row
+    rows_fit (kinds_at c.args.self.now c.args.table) 1 c.args.rows (sound c.args.self.now c.args.table c.args.rows c.as_slice.result.now c.as_slice.ensures c.in_ok-check_rows.ensures.checked.valid).0 row
     (subst (λ rows. Contains rows row) c.into_vec.ensures ((c.in_ok-fresh.ensures.new row).0 h).0)
 
 pub add-requires-clause-valid : goal.add-requires-clause-valid
-add-requires-clause-valid c row h = c.in_default.ensures.valid refl row (subst (λ rows. Contains rows row) (sym c.as_slice.ensures) (subst (λ rows. Contains rows row) c.into_vec.ensures ((c.in_ok-fresh.ensures.new row).0 h).0))
+add-requires-clause-valid c row h = c.in_ok-check_rows.ensures.values row (subst (λ rows. Contains rows row) (sym c.as_slice.ensures) (subst (λ rows. Contains rows row) c.into_vec.ensures ((c.in_ok-fresh.ensures.new row).0 h).0))
 
 count_is : (c : goal.In_ok-add) → c.len-count.result ≡ count_new (rows_at c.args.self.now c.args.table) c.args.rows
 count_is c =
@@ -38,8 +51,8 @@ returns-clause-inserted c =
 
 pub returns-clause-valid : goal.returns-clause-valid
 returns-clause-valid c =
-    valid_insert c.args.self.now c.args.table c.args.rows (fault_seen (kinds_at c.args.self.now c.args.table) _ c.args.rows _ None c.schema.ensures.kinds c.as_slice.ensures c.in_default.ensures.is)
-    (subst (λ rows. key_fault c.args.self.now c.args.table rows ≡ None) c.as_slice-2.ensures c.in_ok-check_keys.ensures.valid)
+    let none = sound c.args.self.now c.args.table c.args.rows c.as_slice.result.now c.as_slice.ensures c.in_ok-check_rows.ensures.checked.valid in
+    valid_insert c.args.self.now c.args.table c.args.rows none.0 none.1
     (room_left c.row_total.result (row_total c.args.self.now) c.len-count.result _ c.row_total.ensures.total (count_is c) c.row_total.ensures.few c.if-count-row_total.false)
 
 pub add-requires-clause-consistent : goal.add-requires-clause-consistent
@@ -47,7 +60,7 @@ add-requires-clause-consistent c t =
     let stored = rows_at c.args.self.now c.args.table in
     let fresh = c.in_ok-fresh.fresh.rows.items in
     consistent_within (key_at c.args.self.now c.args.table) (stored ++ c.args.rows) (stored ++ fresh)
-    (subst (λ rows. AreConsistent (key_at c.args.self.now c.args.table) (stored ++ rows)) c.as_slice-2.ensures (c.in_ok-check_keys.ensures.is t))
+    (subst (λ rows. AreConsistent (key_at c.args.self.now c.args.table) (stored ++ rows)) c.as_slice.ensures (c.in_ok-check_rows.ensures.checked.is t))
     (λ row h. elim (Contains-append_cases stored fresh row h) [
       | inl m ↦ Contains-append_left stored c.args.rows row m
       | inr m ↦ Contains-append_right stored c.args.rows row (subst (λ rows. Contains rows row) c.into_vec.ensures ((c.in_ok-fresh.ensures.new row).0 m).0)
