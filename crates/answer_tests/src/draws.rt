@@ -1,6 +1,6 @@
 //! Numbers that look random, and small tables that are drawn by them.
 
-ghost use Rattle.std.specs.Prelude.{◌<◌};
+ghost use Rattle.std.specs.Prelude.{◌≡◌, ◌+◌, ◌*◌, ◌%◌, ◌<◌, OnOk, length};
 
 use std::alloc::{AllocError, Global};
 
@@ -15,14 +15,18 @@ pub struct Draws {
 
 impl Draws {
     /// The generator behind a number.
-    pub fn new(state: u32) -> Draws {
+    pub fn new(state: u32) -> Draws
+        ensures { result.state ≡ state }
+    {
         Draws { state }
     }
 
     /// A number below a bound.
     pub fn below(&mut self, bound: u32) -> u32
         requires { 0 < bound }
-        ensures { result < bound }
+        ensures next { self.new.state ≡ self.old.state * 48_271 % 2_147_483_647 }
+        ensures drawn { result ≡ self.new.state % bound }
+        ensures below { result < bound }
     {
         let next = self.state as u64 * 48_271 % 2_147_483_647;
         self.state = next as u32;
@@ -66,7 +70,9 @@ fn add_blocks(
     draws: &mut Draws,
     table: u32,
     blocks: &mut Vec<Vec<Cells>>,
-) -> Result<(), AllocError> {
+) -> Result<(), AllocError>
+    ensures { OnOk result (length blocks.new.items ≡ length blocks.old.items + 3) }
+{
     let fifths = draws.below(4);
     for key in 0..3 {
         blocks.push(block(alloc, draws, table, key, fifths)?)?;
@@ -83,7 +89,9 @@ pub fn add_tables(
     alloc: Global,
     draws: &mut Draws,
     blocks: &mut Vec<Vec<Cells>>,
-) -> Result<(), AllocError> {
+) -> Result<(), AllocError>
+    ensures { OnOk result (length blocks.new.items ≡ length blocks.old.items + 12) }
+{
     for table in 0..4 {
         add_blocks(alloc, draws, table, blocks)?;
     }

@@ -1,6 +1,6 @@
 //! Tables and queries that are made of statements, as the cases write them, and whether what comes of a query is wanted.
 
-ghost use Rattle.std.specs.Prelude.{◌<◌, ◌≤◌, ◌^◌, IfSome, length};
+ghost use Rattle.std.specs.Prelude.{◌<◌, ◌≤◌, ◌^◌, All, IfSome, IsTrue, length};
 ghost use Rattle.cqa_model.specs.Query.{FitsDatabase};
 ghost use Rattle.spj_syntax.specs.Written.{IsSmall};
 
@@ -79,7 +79,9 @@ fn made(alloc: Global, db: &mut Database, text: &[u8]) -> bool
 }
 
 /// Whether all statements are short and each of them is done.
-pub fn all_made(alloc: Global, db: &mut Database, texts: &[&str]) -> bool {
+pub fn all_made(alloc: Global, db: &mut Database, texts: &[&str]) -> bool
+    ensures { IsTrue result → All (λ text. length text.now ≤ 1_000) texts.now }
+{
     for text in texts {
         if text.len() > 1_000 || !made(alloc, db, text.as_bytes()) {
             return false;

@@ -1,6 +1,6 @@
 //! `demo`: the script of a size is run, and a line tells the numbers of the run.
 
-ghost use Rattle.std.specs.Prelude.{◌≡◌, ◌≤◌, ◌++◌, ℕ, List, Option, Some, IfOk, OnOk, MatchOption, length, nat_lt};
+ghost use Rattle.std.specs.Prelude.{◌≡◌, ◌≤◌, ◌++◌, ◌↔◌, ◌⊎◌, ℕ, List, Option, Some, IfOk, IsTrue, OnOk, MatchOption, length, nat_lt};
 ghost use Rattle.cqa_io.specs.Causes.{Rose};
 ghost use Rattle.command_shell.specs.Demo.{counted, line_text, IsSize};
 ghost use Rattle.command_shell.specs.declared.ending.Command.TheVariants.{Demo as DemoWord};
@@ -37,6 +37,20 @@ pub fn size_of(digits: &[u8]) -> Option<u32>
     Some(number as u32)
 }
 
+/// Whether a run ended so that all was answered.
+fn is_answered(ending: Ending) -> bool
+    ensures { IsTrue result ↔ (ending ≡ Ending.Answered ⊎ ending ≡ Ending.WithRefusal) }
+{
+    match ending {
+        Ending::Answered | Ending::WithRefusal => true,
+        Ending::BadWords
+        | Ending::ReadFault
+        | Ending::WriteFault
+        | Ending::OutOfMemory
+        | Ending::TooLong => false,
+    }
+}
+
 /// Answers the statements of a script, and gives the numbers of its replies.
 fn tally_script(alloc: Global, session: &mut Session, script: Vec<u8>) -> Result<Tally, NoMemory>
     requires { length script.items ≤ LONGEST_INPUT }
@@ -46,11 +60,11 @@ fn tally_script(alloc: Global, session: &mut Session, script: Vec<u8>) -> Result
     let mut source = CalmSource::new(script);
     let ending = run(alloc, session, &mut source, &mut tally);
     drop(source);
-    match ending {
-        Ending::Answered | Ending::WithRefusal => Ok(tally),
-        // Neither the source nor the tally fails, and the script is within the limit.
-        _ => Err(NoMemory),
+    if is_answered(ending) {
+        return Ok(tally);
     }
+    // Neither the source nor the tally fails, and the script is within the limit.
+    Err(NoMemory)
 }
 
 /// Appends words and a number.
