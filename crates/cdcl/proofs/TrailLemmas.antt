@@ -1,6 +1,6 @@
 -- Literals of a clause that the trail denies.
-use Rattle.implication_graph.specs.Trail.{At, IsOpen}
-use Rattle.std.proofs.Common.{◌≢◌, ℕ, zero, suc, List, [], ◌∷◌, map, inl, inr, refl, sym, ap, subst, arith}
+use Rattle.implication_graph.specs.Trail.{IsOpen}
+use Rattle.std.proofs.Common.{◌≢◌, List, inl, inr, refl, sym, subst}
 use Rattle.std.specs.Prelude.{Contains}
 use Rattle.cnf_form.specs.declared.formula.Lit.{Lit}
 use Rattle.cnf_form.proofs.Lits.{equal_or_not}

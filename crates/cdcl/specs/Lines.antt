@@ -3,7 +3,7 @@ use Rattle.std.specs.Prelude.{◌≡◌, ◌<◌, ◌≤◌, ◌+◌, ℕ, ℤ, 
 use Rattle.cnf_form.specs.declared.formula.Lit.{Lit}
 use Rattle.cnf_form.specs.declared.log.Step.{Step}
 use Rattle.cnf_form.specs.declared.log.Step.TheVariants.{Add, Delete}
-use Rattle.cnf_form.specs.Literals.{opposite}
+use Rattle.cnf_form.specs.Literals.{literals, opposite}
 use Rattle.cnf_form.specs.Propagation.{ReachesEmpty, StaysOpen}
 use Rattle.cnf_form.specs.Spent.{NoVarTwice}
 use Rattle.cdcl.specs.declared.solver.Solver.{Solver}
@@ -73,6 +73,13 @@ pub record EndsSpent (permanent : ℕ) (db : List (List Lit)) (n budget : ℕ) (
   pub count : length log ≡ budget
   pub stuck : ReachesEmpty (db ++ learnt log) → ⊥
   pub free : (v : ℕ) × (1 ≤ v) × (v < n) × StaysOpen (db ++ learnt log) v
+
+-- from one solver to a later one: the clauses that came are the lines of the log
+pub record HasLearnt (first now : Solver) (log : List Step) : Type 0 where
+  pub permanent : now.permanent ≡ first.permanent
+  pub len : length now.places.items ≡ length first.places.items
+  pub db : literals now.clauses.items ≡ literals first.clauses.items ++ learnt log
+  pub lines : AreLines first.permanent (literals first.clauses.items) (length first.places.items) log
 
 -- how a search over the clauses ends; a log that is spent says nothing where some of its clauses may be forgotten
 abbrev pub VerdictIs : ℕ → List (List Lit) → ℕ → ℕ → Solver → List Step → Verdict → Type 0

@@ -1,10 +1,12 @@
 //! The call that decides a formula.
 
 ghost use Rattle.std.specs.Prelude.{◌≡◌, ◌<◌, ◌≤◌, ◌+◌, ◌^◌, Bool, List, length, IfOk};
+ghost use Rattle.cnf_form.specs.declared.formula.Cnf.{Cnf};
 ghost use Rattle.cnf_form.specs.declared.log.Log.{Log};
-ghost use Rattle.cnf_form.specs.Literals.{IsInRange};
+ghost use Rattle.cnf_form.specs.Literals.{IsInRange, literals};
 ghost use Rattle.cnf_form.specs.Logs.{Refutes};
 ghost use Rattle.cnf_form.specs.Spent.{IsSpentLog};
+ghost use Rattle.cdcl.specs.Looking.{IsUnattached};
 ghost use Rattle.cdcl.specs.Outcomes.{AreConsecutive, AttemptIs, IsModel, IsOnce, OutcomeIs};
 
 use crate::solver::{Solver, Verdict};
@@ -24,6 +26,27 @@ pub enum Outcome {
     Spent(Log),
 }
 
+/// What a new solver finds out of a formula whose clauses it has.
+fn outcome_by(alloc: Global, solver: &mut Solver, budget: u32) -> Result<Outcome, NoMemory>
+    requires new { IsUnattached solver.old }
+    requires permanent { length (literals solver.old.clauses.items) ≤ solver.old.permanent }
+    requires small { length solver.old.places.items ≤ 2 ^ 32 }
+    requires some { 1 ≤ length solver.old.places.items }
+    ensures { (cnf : Cnf) → literals solver.old.clauses.items ≡ literals cnf.clauses → length solver.old.places.items ≡ cnf.vars + 1 → IfOk result (λ outcome. AttemptIs solver.old.permanent cnf budget outcome) }
+{
+    let mut log = Vec::new(alloc);
+    let verdict = solver.run(alloc, budget, &mut log)?;
+    let steps = Items::from_vec(log);
+    Ok(match verdict {
+        Verdict::Sat => {
+            drop(steps);
+            Outcome::Sat(Items::from_vec(solver.values(alloc)?))
+        }
+        Verdict::Unsat => Outcome::Unsat(Log { steps }),
+        Verdict::Spent => Outcome::Spent(Log { steps }),
+    })
+}
+
 /// Searches once, where learnt clauses from a place on may be forgotten.
 fn attempt(alloc: Global, cnf: &Cnf, budget: u32, permanent: usize) -> Result<Outcome, NoMemory>
     requires range { IsInRange cnf.now }
@@ -31,14 +54,9 @@ fn attempt(alloc: Global, cnf: &Cnf, budget: u32, permanent: usize) -> Result<Ou
     ensures { IfOk result (λ outcome. AttemptIs permanent cnf.now budget outcome) }
 {
     let mut solver = Solver::new(alloc, cnf, permanent)?;
-    let mut log = Vec::new(alloc);
-    let verdict = solver.run(alloc, budget, &mut log)?;
-    let steps = Items::from_vec(log);
-    Ok(match verdict {
-        Verdict::Sat => Outcome::Sat(Items::from_vec(solver.values(alloc)?)),
-        Verdict::Unsat => Outcome::Unsat(Log { steps }),
-        Verdict::Spent => Outcome::Spent(Log { steps }),
-    })
+    let outcome = outcome_by(alloc, &mut solver, budget);
+    drop(solver);
+    outcome
 }
 
 /// Searches with learnt clauses forgotten, and where that comes to no answer, anew with all of them kept: each clause of a

@@ -10,7 +10,8 @@ ghost use Rattle.implication_graph.specs.Marks.{AllClear, AllMet};
 ghost use Rattle.cdcl.specs.Watching.{AreLists, IsBase};
 ghost use Rattle.cdcl.specs.Looking.{IsForcedIn, IsEnqueued, IsSameBeside, IsSameAttached, Stays, IsGrown, FoundIsAt, IsLookingAt, VisitIs, LookedIs, IsReady, IsWatchful, IsUnattached, IsFirst, CanWatch, IsPairFor};
 ghost use Rattle.cdcl.specs.Visits.{ConflictIs, OpenVarIs, SearchIs, IsStill, LeavesLevel, IsPrefix, IsConflict, IsLearnt, AgreesWith};
-ghost use Rattle.cdcl.specs.Lines.{Adds, EndsLog, IsLineStep, VerdictIs, added_lits};
+ghost use Rattle.cdcl.specs.Lines.{Adds, EndsLog, HasLearnt, IsLine, IsLineStep, VerdictIs, added_lits};
+ghost use Rattle.cdcl.specs.declared.solver.Solver.{Solver};
 
 use crate::forget::thin_lists;
 use crate::look::{Found, Visit, Watches, seek, watches_of};
@@ -86,18 +87,22 @@ impl Solver {
         ensures small { IfOk result (λ s. length s.places.items ≤ 2 ^ 32) }
         ensures permanent { IfOk result (λ s. s.permanent ≡ permanent) }
     {
+        let places = no_places(alloc, cnf.vars as usize + 1)?;
+        let order = Order::new(alloc, cnf.vars)?;
+        let lists = no_lists(alloc, cnf.vars as usize + 1)?;
+        let clauses = cnf.copy(alloc)?.clauses.into_vec();
         Ok(Solver {
-            clauses: cnf.copy(alloc)?.clauses.into_vec(),
+            clauses,
             trail: Vec::new(alloc),
-            places: no_places(alloc, cnf.vars as usize + 1)?,
+            places,
             level_starts: Vec::new(alloc),
             head: 0,
             pairs: Vec::new(alloc),
-            lists: no_lists(alloc, cnf.vars as usize + 1)?,
+            lists,
             permanent,
             usage: Usage::new(alloc, permanent),
             seen: SeenBuffer::new(alloc),
-            order: Order::new(alloc, cnf.vars)?,
+            order,
             restarts: Restarts::new(),
         })
     }
@@ -444,6 +449,25 @@ impl Solver {
         )
     }
 
+    /// Jumps back as far as a learnt clause says, and adds the clause.
+    fn jump_and_add(&mut self, alloc: Global, learnt: &LearntClause) -> Result<(), NoMemory>
+        requires ready { IsReady self.old }
+        requires learnt { IsLearnt self.old learnt.now }
+        requires level { 0 < length self.old.level_starts.items }
+        ensures ready { OnOk result (IsReady self.new) }
+        ensures len { length self.new.places.items ≡ length self.old.places.items }
+        ensures permanent { self.new.permanent ≡ self.old.permanent }
+        ensures added { OnOk result (literals self.new.clauses.items ≡ literals self.old.clauses.items ++ learnt.now.lits.items ∷ []) }
+        ensures line { OnOk result (IsLine self.old.permanent (literals self.old.clauses.items) (length self.old.places.items) learnt.now.lits.items learnt.now.hints.items) }
+    {
+        self.usage.push()?;
+        let lits = Vec::from_slice(alloc, learnt.lits.as_slice())?;
+        self.leave_level();
+        self.backjump(learnt.end);
+        self.add_learnt(lits, learnt.asserted, learnt.end)?;
+        Ok(())
+    }
+
     /// Learns from a conflict above level 0, and jumps back.
     fn learn(&mut self, alloc: Global, conflict: usize) -> Result<Step, NoMemory>
         requires ready { IsReady self.old }
@@ -458,15 +482,37 @@ impl Solver {
         let seen = self.seen.take(alloc, self.places.len())?;
         let learnt = self.analyze(alloc, conflict, seen)?;
         self.order.raise(learnt.met.as_slice());
-        self.seen.put_back(learnt.seen, learnt.met.as_slice());
         self.usage.raise(learnt.hints.as_slice());
-        self.usage.push()?;
         let id = self.clauses.len() as u64 + 1;
-        let lits = Vec::from_slice(alloc, learnt.lits.as_slice())?;
-        self.leave_level();
-        self.backjump(learnt.end);
-        self.add_learnt(lits, learnt.asserted, learnt.end)?;
-        Ok(step_of(id, learnt.lits, learnt.hints))
+        let added = self.jump_and_add(alloc, &learnt);
+        self.seen.put_back(learnt.seen, learnt.met.as_slice());
+        match added {
+            Ok(()) => Ok(step_of(id, learnt.lits, learnt.hints)),
+            Err(refused) => {
+                drop(learnt.lits);
+                drop(learnt.hints);
+                Err(refused)
+            }
+        }
+    }
+
+    /// Learns from a conflict above level 0, and puts the line in the log.
+    fn add_line(
+        &mut self,
+        alloc: Global,
+        conflict: usize,
+        log: &mut Vec<Step>,
+    ) -> Result<(), NoMemory>
+        requires ready { IsReady self.old }
+        requires conflict { IsConflict self.old conflict }
+        requires level { 0 < length self.old.level_starts.items }
+        ensures ready { OnOk result (IsReady self.new) }
+        ensures learnt { OnOk result ((first : Solver) → HasLearnt first self.old log.old.items → HasLearnt first self.new log.new.items) }
+        ensures count { OnOk result (length log.new.items ≡ length log.old.items + 1) }
+    {
+        let step = self.learn(alloc, conflict)?;
+        log.push(step)?;
+        Ok(())
     }
 
     /// Ends the log with the empty clause, where a clause is false and no level has started.
@@ -537,6 +583,26 @@ impl Solver {
         Ok(None)
     }
 
+    /// Ends a search whose budget is used up: leaves all levels, and tells what propagation comes to.
+    fn finish(&mut self, alloc: Global, log: &mut Vec<Step>) -> Result<Verdict, NoMemory>
+        requires ready { IsReady self.old }
+        requires small { length self.old.places.items ≤ 2 ^ 32 }
+        ensures { (first : Solver) → HasLearnt first self.old log.old.items → length (literals first.clauses.items) ≤ first.permanent
+            → IfOk result (λ verdict. VerdictIs first.permanent (literals first.clauses.items) (length first.places.items) (length log.old.items) self.new log.new.items verdict) }
+    {
+        self.backjump(0);
+        match self.propagate(alloc)? {
+            Some(conflict) => {
+                self.end(alloc, conflict, log)?;
+                Ok(Verdict::Unsat)
+            }
+            None => match self.open_var() {
+                None => Ok(Verdict::Sat),
+                Some(_) => Ok(Verdict::Spent),
+            },
+        }
+    }
+
     /// Searches, and learns from each conflict, until the answer is known or the budget is used up.
     fn search_and_learn(
         &mut self,
@@ -558,21 +624,11 @@ impl Solver {
                         self.end(alloc, conflict, log)?;
                         return Ok(Verdict::Unsat);
                     }
-                    log.push(self.learn(alloc, conflict)?)?;
+                    self.add_line(alloc, conflict, log)?;
                 }
             }
         }
-        self.backjump(0);
-        match self.propagate(alloc)? {
-            Some(conflict) => {
-                self.end(alloc, conflict, log)?;
-                Ok(Verdict::Unsat)
-            }
-            None => match self.open_var() {
-                None => Ok(Verdict::Sat),
-                Some(_) => Ok(Verdict::Spent),
-            },
-        }
+        self.finish(alloc, log)
     }
 
     /// Has all clauses watch their literals, and searches.

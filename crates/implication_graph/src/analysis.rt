@@ -174,11 +174,51 @@ pub(crate) fn resolve(
     Ok(())
 }
 
+/// Walks back from a conflict to the first unique implication point, by marks of which none is made yet. Gives its place, and
+/// puts the hints of what it walks over in the list.
+fn walk_to_point(
+    clauses: &[Clause],
+    trail: &[Entry],
+    places: &[Option<usize>],
+    start: usize,
+    conflict: usize,
+    marks: &mut SeenMarks,
+    hints: &mut Vec<i64>,
+) -> Result<usize, NoMemory>
+    requires consistent { IsConsistent (held trail.now) }
+    requires places { ArePlaces (held trail.now) places.now }
+    requires forced { AreForcedAfter (literals clauses.now) trail.now start }
+    requires range { AreAllInRange (literals clauses.now) (length places.now) }
+    requires held { AllInRange (held trail.now) (length places.now) }
+    requires start { start < length trail.now }
+    requires conflict { conflict < length clauses.now }
+    requires empty { IsFalse (held trail.now) (literals clauses.now) conflict }
+    requires len { length marks.old.seen.items ≡ length places.now }
+    requires marks { AreMarks marks.old }
+    requires few { (end : ℕ) → AtMostSeen (held trail.now) start end marks.old.seen.items marks.old.left }
+    requires none { hints.old.items ≡ [] }
+    ensures after { IfOk result (λ at. start ≤ at) }
+    ensures within { IfOk result (λ at. at < length trail.now) }
+    ensures len { OnOk result (length marks.new.seen.items ≡ length places.now) }
+    ensures marks { OnOk result (AreMarks marks.new) }
+    ensures last { IfOk result (λ at. NoneSeen (held trail.now) start at marks.new.seen.items) }
+    ensures works { IfOk result (λ at. Works (literals clauses.now) (held trail.now) marks.new.seen.items [] (at + 1) (reverse hints.new.items)) }
+{
+    let clause = literals_at(clauses, conflict);
+    mark_all(trail, places, start, marks, clause)?;
+    push_hint(clauses, hints, conflict)?;
+    let mut at = trail.len() - 1;
+    while at > start && !is_last(trail, marks, at) {
+        resolve(clauses, trail, places, start, at, marks, hints)?;
+        at -= 1;
+    }
+    Ok(at)
+}
+
 /// Walks back from a conflict to the first unique implication point, by marks of which none is made yet, and then over what
-/// stands before the level. Puts the literals of the clause in the list, and gives the hints, the literal that is asserted,
-/// and how much of the trail denies the others.
+/// stands before the level. Puts the literals of the clause and its hints in the lists, and gives the literal that is
+/// asserted, and how much of the trail denies the others.
 fn walk_back(
-    alloc: Global,
     clauses: &[Clause],
     trail: &[Entry],
     places: &[Option<usize>],
@@ -186,7 +226,8 @@ fn walk_back(
     conflict: usize,
     marks: &mut SeenMarks,
     lits: &mut Vec<Lit>,
-) -> Result<(Vec<i64>, Lit, usize), NoMemory>
+    hints: &mut Vec<i64>,
+) -> Result<(Lit, usize), NoMemory>
     requires consistent { IsConsistent (held trail.now) }
     requires places { ArePlaces (held trail.now) places.now }
     requires forced { AreForcedAfter (literals clauses.now) trail.now start }
@@ -199,25 +240,18 @@ fn walk_back(
     requires len { length marks.old.seen.items ≡ length places.now }
     requires marks { AreMarks marks.old }
     requires few { (end : ℕ) → AtMostSeen (held trail.now) start end marks.old.seen.items marks.old.left }
-    requires none { lits.old.items ≡ [] }
-    ensures learnt { IfOk result (λ r. IsLearntClause (literals clauses.now) (held trail.now) start lits.new.items r.0.items r.1 r.2) }
+    requires no_lits { lits.old.items ≡ [] }
+    requires no_hints { hints.old.items ≡ [] }
+    ensures learnt { IfOk result (λ r. IsLearntClause (literals clauses.now) (held trail.now) start lits.new.items hints.new.items r.0 r.1) }
     ensures met { OnOk result (AllMet marks.new.seen.items marks.new.met.items) }
 {
-    let mut hints = Vec::new(alloc);
-    let clause = literals_at(clauses, conflict);
-    mark_all(trail, places, start, marks, clause)?;
-    push_hint(clauses, &mut hints, conflict)?;
-    let mut at = trail.len() - 1;
-    while at > start && !is_last(trail, marks, at) {
-        resolve(clauses, trail, places, start, at, marks, &mut hints)?;
-        at -= 1;
-    }
-    shorten(clauses, trail, places, start, marks, lits, &mut hints)?;
+    let at = walk_to_point(clauses, trail, places, start, conflict, marks, hints)?;
+    shorten(clauses, trail, places, start, marks, lits, hints)?;
     let end = end_of(trail, places, lits.as_slice());
     let asserted = lit_at(trail, at).opposite();
     push_lit(lits, asserted)?;
     hints.reverse();
-    Ok((hints, asserted, end))
+    Ok((asserted, end))
 }
 
 /// Learns a clause from a conflict, a clause that the trail makes false. The marks are to be clear.
@@ -246,10 +280,11 @@ pub fn analyze(
 {
     let mut marks = no_marks(alloc, seen);
     let mut lits = Vec::new(alloc);
+    let mut hints = Vec::new(alloc);
     match walk_back(
-        alloc, clauses, trail, places, start, conflict, &mut marks, &mut lits,
+        clauses, trail, places, start, conflict, &mut marks, &mut lits, &mut hints,
     ) {
-        Ok((hints, asserted, end)) => Ok(LearntClause {
+        Ok((asserted, end)) => Ok(LearntClause {
             lits,
             hints,
             asserted,
@@ -260,6 +295,7 @@ pub fn analyze(
         Err(refused) => {
             drop(marks);
             drop(lits);
+            drop(hints);
             Err(refused)
         }
     }

@@ -1,45 +1,13 @@
-use Rattle.std.proofs.Common.{◌≡◌, ◌+◌, ◌∙◌, List, sym, subst, length, arith}
-use Rattle.std.specs.Prelude.{Contains, take}
-use Rattle.cnf_form.specs.declared.formula.Lit.{Lit}
+use Rattle.std.proofs.Common.{◌≡◌, ◌+◌, OnOk, length, subst, arith}
 use Rattle.cnf_form.specs.Literals.{literals}
-use Rattle.cdcl.specs.Settled.{IsSettled}
-use Rattle.implication_graph.specs.Trail.{held, AllLow}
-use Rattle.cdcl.specs.Looks.{IsForced}
-use Rattle.cdcl.proofs.Jump.{learn_facts, learnt_last}
+use Rattle.cdcl.specs.Lines.{IsLine}
 use Rattle.cdcl.proofs.States.{literals_count}
 use Rattle.cdcl.proofs.Ends.{line_step}
 use Rattle.cdcl.proofs.solver.Solver.learn.Goals as goal
 
-pub add_learnt-requires-clause-range : goal.add_learnt-requires-clause-range
-add_learnt-requires-clause-range c x i =
-    let f = learn_facts c.args.self.now c.leave_level.new.self c.backjump.new.self c.in_ok-learnt.learnt c.requires.ready.watchful c.in_ok-learnt.ensures.learnt c.leave_level.ensures.leave c.backjump.ensures.fewer c.backjump.ensures.kept in
-    let r = f.line.range x (subst (λ (xs : List Lit). Contains xs x) (c.in_ok-lits.ensures.items ∙ c.as_slice-4.ensures.value) i) in
-    omega (arith, r, c.leave_level.ensures.len, c.backjump.ensures.len)
-
-pub add_learnt-requires-clause-low : goal.add_learnt-requires-clause-low
-add_learnt-requires-clause-low c =
-    let f = learn_facts c.args.self.now c.leave_level.new.self c.backjump.new.self c.in_ok-learnt.learnt c.requires.ready.watchful c.in_ok-learnt.ensures.learnt c.leave_level.ensures.leave c.backjump.ensures.fewer c.backjump.ensures.kept in
-    subst AllLow (sym (c.in_ok-lits.ensures.items ∙ c.as_slice-4.ensures.value)) f.line.low
-
-pub add_learnt-requires-clause-forced : goal.add_learnt-requires-clause-forced
-add_learnt-requires-clause-forced c =
-    let f = learn_facts c.args.self.now c.leave_level.new.self c.backjump.new.self c.in_ok-learnt.learnt c.requires.ready.watchful c.in_ok-learnt.ensures.learnt c.leave_level.ensures.leave c.backjump.ensures.fewer c.backjump.ensures.kept in
-    subst (λ (xs : List Lit). IsForced (held c.backjump.new.self.trail.items) xs c.in_ok-learnt.learnt.asserted) (sym (c.in_ok-lits.ensures.items ∙ c.as_slice-4.ensures.value)) f.forced
-
-pub add_learnt-requires-clause-settled : goal.add_learnt-requires-clause-settled
-add_learnt-requires-clause-settled c s i =
-    let f = learn_facts c.args.self.now c.leave_level.new.self c.backjump.new.self c.in_ok-learnt.learnt c.requires.ready.watchful c.in_ok-learnt.ensures.learnt c.leave_level.ensures.leave c.backjump.ensures.fewer c.backjump.ensures.kept in
-    subst (λ (xs : List Lit). IsSettled (take s (held c.backjump.new.self.trail.items)) xs) (sym (c.in_ok-lits.ensures.items ∙ c.as_slice-4.ensures.value)) (f.settled s (c.backjump.ensures.below s i))
-
-pub returns-clause-line : goal.returns-clause-line
-returns-clause-line c =
-    let f = learn_facts c.args.self.now c.leave_level.new.self c.backjump.new.self c.in_ok-learnt.learnt c.requires.ready.watchful c.in_ok-learnt.ensures.learnt c.leave_level.ensures.leave c.backjump.ensures.fewer c.backjump.ensures.kept in
+pub returns-in-Ok-clause-line : goal.returns-in-Ok-clause-line
+returns-in-Ok-clause-line c =
     let id : c.len-2.result + 1 ≡ length (literals c.args.self.now.clauses.items) + 1 = let n = literals_count c.args.self.now.clauses.items in omega (arith, n, c.len-2.ensures, c.args.self.now.clauses.ok) in
     line_step c.args.self.now.permanent (literals c.args.self.now.clauses.items) (length c.args.self.now.places.items) c.step_of.result (c.len-2.result + 1) c.in_ok-learnt.learnt.lits.items c.in_ok-learnt.learnt.hints.items
-    c.step_of.ensures id f.line
-
-pub add_learnt-requires-clause-last : goal.add_learnt-requires-clause-last
-add_learnt-requires-clause-last c k e =
-    let made = c.in_ok-learnt.learnt in
-    let m = learnt_last c.args.self.now c.leave_level.new.self c.backjump.new.self made c.requires.ready.watchful.sound c.in_ok-learnt.ensures.learnt c.leave_level.ensures.leave c.backjump.ensures.fewer c.backjump.ensures.kept k e in
-    (m.0, subst (λ (xs : List Lit). Contains xs m.0) (sym (c.in_ok-lits.ensures.items ∙ c.as_slice-4.ensures.value)) m.1, m.2)
+    c.step_of.ensures id
+    (subst (λ r. OnOk r (IsLine c.args.self.now.permanent (literals c.args.self.now.clauses.items) (length c.args.self.now.places.items) c.in_ok-learnt.learnt.lits.items c.in_ok-learnt.learnt.hints.items)) c.in-Ok.is c.jump_and_add-added.ensures.line)

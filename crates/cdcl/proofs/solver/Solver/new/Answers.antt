@@ -12,20 +12,20 @@ use Rattle.cdcl.proofs.solver.Solver.new.Goals as goal
 pub returns-clause-new : goal.returns-clause-new
 returns-clause-new c =
     let n = c.args.cnf.now.vars + 1 in
-    let db = literals c.into_vec.result.items in
-    let same : literals c.args.cnf.now.clauses ≡ db = sym (ap literals (c.into_vec.ensures ∙ ap (λ (cnf : Cnf). cnf.clauses) c.in_ok-copy.ensures)) in
-    let lists = c.in_ok-no_lists.field-0.items in
-    let len : n ≡ length c.in_ok-no_places.field-0.items =
-    sym (length-replicate n (let o : Option ℕ = None in o)) ∙ ap (λ (ps : List (Option ℕ)). length ps) (sym c.in_ok-no_places.ensures) in
+    let db = literals c.into_vec-clauses.result.items in
+    let same : literals c.args.cnf.now.clauses ≡ db = sym (ap literals (c.into_vec-clauses.ensures ∙ ap (λ (cnf : Cnf). cnf.clauses) c.in_ok-copy.ensures)) in
+    let lists = c.in_ok-lists.lists.items in
+    let len : n ≡ length c.in_ok-places.places.items =
+    sym (length-replicate n (let o : Option ℕ = None in o)) ∙ ap (λ (ps : List (Option ℕ)). length ps) (sym c.in_ok-places.ensures) in
     record {
       watchful = record {
-        sound = rw (c.new.ensures.items, c.new-2.ensures.items, c.in_ok-no_places.ensures)
+        sound = rw (c.new-2.ensures.items, c.new-3.ensures.items, c.in_ok-places.ensures)
             (state_first db n
             (subst (λ (d : List (List Lit)). AreAllInRange d n) same c.requires.range)
             (subst (λ (d : List (List Lit)). (x : List Lit) → Contains d x → AllLow x) same c.requires.low));
-        watching = rw (c.new.ensures.items, c.new-2.ensures.items, c.new-3.ensures.items) (watching_first (IsListed lists) db);
-        lists = rw c.new-3.ensures.items (subst (λ (m : ℕ). AreLists lists m 0) len c.in_ok-no_lists.ensures);
+        watching = rw (c.new-2.ensures.items, c.new-3.ensures.items, c.new-4.ensures.items) (watching_first (IsListed lists) db);
+        lists = rw c.new-4.ensures.items (subst (λ (m : ℕ). AreLists lists m 0) len c.in_ok-lists.ensures);
       };
-      first = record { level_starts = c.new-2.ensures.items; head = refl };
-      none = c.new-3.ensures.items;
+      first = record { level_starts = c.new-3.ensures.items; head = refl };
+      none = c.new-4.ensures.items;
     }

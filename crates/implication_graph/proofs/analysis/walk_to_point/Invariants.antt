@@ -2,7 +2,7 @@ use Rattle.std.proofs.Common.{◌≡◌, ◌<◌, ◌≤◌, ◌+◌, length, re
 use Rattle.cnf_form.specs.Literals.{literals}
 use Rattle.implication_graph.specs.Trail.{held}
 use Rattle.implication_graph.specs.Analysis.{AreMarks, AtMostSeen, Works}
-use Rattle.implication_graph.proofs.analysis.walk_back.Given as goal
+use Rattle.implication_graph.proofs.analysis.walk_to_point.Given as goal
 
 abbrev pub invariant-loop-at : goal.invariant-loop-at
 invariant-loop-at l = record {
