@@ -1,5 +1,5 @@
 -- Plain fields and records are read as they stand.
-use Rattle.std.proofs.Common.{◌≡◌, ◌==◌, ◌||◌, ◌++◌, ◌∷◌, ◌∙◌, [], ℕ, Bool, true, false, not, List, Some, None, refl, sym, ap, append_assoc, append-nil, ◌+◌, ◌<◌, ◌≤◌, suc, length, take, drop, get_or, arith}
+use Rattle.std.proofs.Common.{◌≡◌, ◌==◌, ◌||◌, ◌++◌, ◌∷◌, ◌∙◌, [], ℕ, Bool, true, false, not, List, Option, Some, None, IfSome, Result, Ok, Err, IfOk, refl, sym, ap, subst, append_assoc, append-nil, ◌+◌, ◌<◌, ◌≤◌, suc, length, take, drop, get_or, arith}
 use Rattle.std.proofs.lemmas.List.{take-append-drop, drop-drop, take_more, take_all, map-append}
 use Rattle.std.proofs.Math.Seq.{drop-cons}
 use Rattle.std.proofs.lemmas.Bool.{ne_eqb}
@@ -84,7 +84,7 @@ unfolding next_record
 record_starts b rest feed return = rw (return, feed) refl
 
 -- one more value of a record
-pub record_push : (kinds : List Kind) (fields : List (List ℕ)) (values : List Value) (kind : Kind) (field : List ℕ) (value : Value)
+record_push : (kinds : List Kind) (fields : List (List ℕ)) (values : List Value) (kind : Kind) (field : List ℕ) (value : Value)
     → IsRecordOf kinds fields values → IsFieldOf kind field value → IsRecordOf (kinds ++ kind ∷ []) (fields ++ field ∷ []) (values ++ value ∷ [])
 record_push [] [] [] kind field value h is = (is, tt)
 record_push [] [] (v ∷ vs) kind field value h is = absurd h
@@ -92,6 +92,16 @@ record_push [] (f ∷ fs) values kind field value h is = absurd h
 record_push (k ∷ ks) [] values kind field value h is = absurd h
 record_push (k ∷ ks) (f ∷ fs) [] kind field value h is = absurd h
 record_push (k ∷ ks) (f ∷ fs) (v ∷ vs) kind field value h is = (h.0, record_push ks fs vs kind field value h.1 is)
+
+pub record_pushed : (kinds : List Kind) (fields : List (List ℕ)) (values after : List Value) (kind : Kind) (field : List ℕ) (value : Value)
+    → after ≡ values ++ value ∷ [] → IsRecordOf kinds fields values → IsFieldOf kind field value → IsRecordOf (kinds ++ kind ∷ []) (fields ++ field ∷ []) after
+record_pushed kinds fields values after kind field value e h is = subst (λ z. IsRecordOf (kinds ++ kind ∷ []) (fields ++ field ∷ []) z) (sym e) (record_push kinds fields values kind field value h is)
+
+-- what holds of each place that is found
+pub if_found : {T E : Type 0} (found : Result (Option T) E) (P Q : T → Type 0) → ((x : T) → P x → Q x) → IfOk found (λ o. IfSome o P) → IfOk found (λ o. IfSome o Q)
+if_found (Err e) P Q f h = tt
+if_found (Ok None) P Q f h = tt
+if_found (Ok (Some x)) P Q f h = f x h
 
 -- one more record of a block
 pub reached_push : (start : State) (bytes : List ℕ) (records : List (List (List ℕ))) (state : State) (rest : List ℕ) (fields : List (List ℕ)) (later : List ℕ)

@@ -25,6 +25,10 @@ pub record FieldFound (kind : Kind) (block : List ℕ) (from behind : ℕ) (foun
   pub within : found.1 ≤ length block
   pub is : IsFieldOf kind field found.0
 
+-- a plain field was found, and its value put behind others; and where the next field stands
+abbrev pub FieldPushed : Kind → List ℕ → ℕ → ℕ → List Value → List Value → ℕ → Type 0
+FieldPushed kind block from behind before after next = (value : Value) × FieldFound kind block from behind (value, next) × (after ≡ before ++ value ∷ [])
+
 -- the record that is read at a place, the row that it is, and where the next one stands
 pub record RowFound (kinds : List Kind) (block : List ℕ) (from : ℕ) (found : List Value × ℕ) : Type 0 where
   pub fields : List (List ℕ)

@@ -5,7 +5,7 @@ ghost use Rattle.std.specs.Prelude.{◌≡◌, ◌≤◌, ◌<◌, ◌^◌, [], 
 ghost use Rattle.cqa_model.specs.declared.limits.TheConstants.{MOST_COLUMNS};
 ghost use Rattle.csv.specs.Reading.{strip_bom};
 ghost use Rattle.csv_rows.specs.Blocks.{HoldsRows, kinds};
-ghost use Rattle.csv_rows.specs.Plain.{is_plain, IsPlain, FieldFound, RowFound};
+ghost use Rattle.csv_rows.specs.Plain.{is_plain, IsPlain, FieldFound, FieldPushed, RowFound};
 
 use crate::field::value_of;
 use cqa_model::Column;
@@ -59,6 +59,58 @@ fn plain_value(
     }
 }
 
+/// Puts the value of a plain field that stands at a place behind others, and tells the place behind the byte that follows it.
+/// `None` where another byte follows, or the field gives a column of the kind no value.
+#[inline(always)]
+fn push_plain(
+    alloc: Global,
+    kind: Kind,
+    block: &[u8],
+    from: usize,
+    behind: u8,
+    values: &mut Vec<Value>,
+) -> Result<Option<usize>, NoMemory>
+    requires { from ≤ length block.now }
+    ensures { IfOk result (λ found. IfSome found (FieldPushed kind block.now from behind values.old.items values.new.items)) }
+{
+    let Some((value, next)) = plain_value(alloc, kind, block, from, behind)? else {
+        return Ok(None);
+    };
+    values.push(value)?;
+    Ok(Some(next))
+}
+
+/// The values of a plain record that stands at a place, put into a list that is empty; and where the next record stands. `None`
+/// where the record isn't plain, or is no row.
+#[inline(always)]
+fn append_values(
+    alloc: Global,
+    columns: &[Column],
+    block: &[u8],
+    from: usize,
+    values: &mut Vec<Value>,
+) -> Result<Option<usize>, NoMemory>
+    requires some { from < length block.now }
+    requires empty { values.old.items ≡ [] }
+    ensures row { IfOk result (λ found. IfSome found (λ next. RowFound (kinds columns.now) block.now from (values.new.items, next))) }
+    ensures few { IfOk result (λ found. IfSome found (λ next. length values.new.items ≤ length columns.now)) }
+{
+    let Some((last, front)) = columns.split_last() else {
+        return Ok(None);
+    };
+    if block[from] == b'\n' || block[from] == b'\r' {
+        return Ok(None);
+    }
+    let mut at = from;
+    for column in front {
+        let Some(next) = push_plain(alloc, column.kind, block, at, b',', values)? else {
+            return Ok(None);
+        };
+        at = next;
+    }
+    push_plain(alloc, last.kind, block, at, b'\n', values)
+}
+
 /// The row of a plain record that stands at a place, and where the next record stands. `None` where the record isn't plain, or
 /// is no row.
 fn plain_row(
@@ -71,26 +123,19 @@ fn plain_row(
     requires some { from < length block.now }
     ensures { IfOk result (λ found. IfSome found (RowFound (kinds columns.now) block.now from)) }
 {
-    let Some((last, front)) = columns.split_last() else {
-        return Ok(None);
-    };
-    if block[from] == b'\n' || block[from] == b'\r' {
-        return Ok(None);
-    }
     let mut values = Vec::with_capacity(alloc, columns.len())?;
-    let mut at = from;
-    for column in front {
-        let Some((value, next)) = plain_value(alloc, column.kind, block, at, b',')? else {
-            return Ok(None);
-        };
-        values.push(value)?;
-        at = next;
+    let done = append_values(alloc, columns, block, from, &mut values);
+    match done {
+        Ok(Some(next)) => Ok(Some((Row::from_items(Items::from_vec(values)), next))),
+        Ok(None) => {
+            drop(values);
+            Ok(None)
+        }
+        Err(NoMemory) => {
+            drop(values);
+            Err(NoMemory)
+        }
     }
-    let Some((value, next)) = plain_value(alloc, last.kind, block, at, b'\n')? else {
-        return Ok(None);
-    };
-    values.push(value)?;
-    Ok(Some((Row::from_items(Items::from_vec(values)), next)))
 }
 
 /// The rows of a block of plain records, put into a list that is empty. `false` where a record isn't plain or is no row.

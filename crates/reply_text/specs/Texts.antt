@@ -54,29 +54,33 @@ abbrev pub written_column : Option (List ℕ) → List ℕ → List ℕ
 written_column None name = name
 written_column (Some table) name = table ++ codes "." ++ name
 
--- a refusal: its number, its name, and what it is about
+-- the words that begin the line of a refusal, its number and its name in them; and what it is about
+abbrev pub refusal_parts : Refusal → List ℕ × List ℕ
+refusal_parts (BadByte at) = (codes "error 1 BadByte at ", decimal at)
+refusal_parts (Syntax at) = (codes "error 2 Syntax at ", decimal at)
+refusal_parts (StatementTooLong len) = (codes "error 3 StatementTooLong ", decimal len)
+refusal_parts (UnknownTable name) = (codes "error 4 UnknownTable ", name)
+refusal_parts (TableExists name) = (codes "error 5 TableExists ", name)
+refusal_parts (UnknownColumn table name) = (codes "error 6 UnknownColumn ", written_column table name)
+refusal_parts (AmbiguousColumn name) = (codes "error 7 AmbiguousColumn ", name)
+refusal_parts (SelfJoin name) = (codes "error 8 SelfJoin ", name)
+refusal_parts (TypeMismatch place) = (codes "error 9 TypeMismatch ", place_text place)
+refusal_parts (WrongArity row) = (codes "error 10 WrongArity row ", decimal row)
+refusal_parts (DuplicateColumn name) = (codes "error 11 DuplicateColumn ", name)
+refusal_parts (BadKey name) = (codes "error 12 BadKey ", name)
+refusal_parts (OutOfRange at) = (codes "error 13 OutOfRange at ", decimal at)
+refusal_parts (TextTooLong at) = (codes "error 14 TextTooLong at ", decimal at)
+refusal_parts Unfinished = (codes "error 15 Unfinished", [])
+refusal_parts (Limit what) = (codes "error 16 Limit ", limit_text what)
+refusal_parts (WitnessLimit row) = (codes "error 17 WitnessLimit ", row_bytes row)
+refusal_parts (Spent row conflicts) = (codes "error 18 Spent ", row_bytes row ++ codes " conflicts " ++ decimal conflicts)
+refusal_parts (BadCsv number) = (codes "error 19 BadCsv record ", decimal number)
+refusal_parts (KeyTaken number kept fresh) = (codes "error 20 KeyTaken row ", decimal number ++ codes " " ++ row_bytes kept ++ codes " " ++ row_bytes fresh)
+refusal_parts (KeyBroken first second) = (codes "error 21 KeyBroken ", row_bytes first ++ codes " " ++ row_bytes second)
+
+-- the line of a refusal, without its line feed
 abbrev pub refusal_text : Refusal → List ℕ
-refusal_text (BadByte at) = codes "error 1 BadByte at " ++ decimal at
-refusal_text (Syntax at) = codes "error 2 Syntax at " ++ decimal at
-refusal_text (StatementTooLong len) = codes "error 3 StatementTooLong " ++ decimal len
-refusal_text (UnknownTable name) = codes "error 4 UnknownTable " ++ name
-refusal_text (TableExists name) = codes "error 5 TableExists " ++ name
-refusal_text (UnknownColumn table name) = codes "error 6 UnknownColumn " ++ written_column table name
-refusal_text (AmbiguousColumn name) = codes "error 7 AmbiguousColumn " ++ name
-refusal_text (SelfJoin name) = codes "error 8 SelfJoin " ++ name
-refusal_text (TypeMismatch place) = codes "error 9 TypeMismatch " ++ place_text place
-refusal_text (WrongArity row) = codes "error 10 WrongArity row " ++ decimal row
-refusal_text (DuplicateColumn name) = codes "error 11 DuplicateColumn " ++ name
-refusal_text (BadKey name) = codes "error 12 BadKey " ++ name
-refusal_text (OutOfRange at) = codes "error 13 OutOfRange at " ++ decimal at
-refusal_text (TextTooLong at) = codes "error 14 TextTooLong at " ++ decimal at
-refusal_text Unfinished = codes "error 15 Unfinished"
-refusal_text (Limit what) = codes "error 16 Limit " ++ limit_text what
-refusal_text (WitnessLimit row) = codes "error 17 WitnessLimit " ++ row_bytes row
-refusal_text (Spent row conflicts) = codes "error 18 Spent " ++ row_bytes row ++ codes " conflicts " ++ decimal conflicts
-refusal_text (BadCsv number) = codes "error 19 BadCsv record " ++ decimal number
-refusal_text (KeyTaken number kept fresh) = codes "error 20 KeyTaken row " ++ decimal number ++ codes " " ++ row_bytes kept ++ codes " " ++ row_bytes fresh
-refusal_text (KeyBroken first second) = codes "error 21 KeyBroken " ++ row_bytes first ++ codes " " ++ row_bytes second
+refusal_text refusal = (refusal_parts refusal).0 ++ (refusal_parts refusal).1
 
 -- the mark of a strict table
 abbrev pub strict_text : Bool → List ℕ
@@ -146,27 +150,31 @@ block_text table key = codes "certain by block " ++ table ++ codes " " ++ row_by
 abbrev pub refutation_text : Proof → List ℕ
 refutation_text proof = codes "certain by refutation\n" ++ proof_text proof
 
+-- the line of a reply that is a few words, with a name or a number behind them; and the lines of any other
+abbrev pub reply_parts : Reply → List ℕ × List ℕ
+reply_parts (Created name) = (codes "created " ++ name, [])
+reply_parts (Altered name) = (codes "altered " ++ name, [])
+reply_parts (Inserted count) = (codes "inserted " ++ decimal count, [])
+reply_parts (Deleted count) = (codes "deleted " ++ decimal count, [])
+reply_parts (Copied count) = (codes "copied " ++ decimal count, [])
+reply_parts (Rows rows) = ([], rows_text rows)
+reply_parts (Classified class lines) = ([], classified_text class lines)
+reply_parts (Steps names) = ([], steps_text 0 names)
+reply_parts (Sql text) = ([], text)
+reply_parts NoPlan = (codes "no plan", [])
+reply_parts (Rejected lines) = ([], rejected_text lines)
+reply_parts (ByBlock table key) = ([], block_text table key)
+reply_parts (ByRefutation proof) = ([], refutation_text proof)
+reply_parts (Conflicts budget) = (codes "conflicts " ++ decimal budget, [])
+reply_parts (Tables lines) = ([], tables_text lines)
+reply_parts (Dumped script) = ([], script)
+reply_parts (KeptLog proof) = ([], proof_text proof)
+reply_parts NoLog = (codes "no log", [])
+reply_parts (Refused refusal) = ([], refusal_text refusal)
+
 -- the lines of a reply, without what ends the last of them
 abbrev pub lines_text : Reply → List ℕ
-lines_text (Created name) = codes "created " ++ name
-lines_text (Altered name) = codes "altered " ++ name
-lines_text (Inserted count) = codes "inserted " ++ decimal count
-lines_text (Deleted count) = codes "deleted " ++ decimal count
-lines_text (Copied count) = codes "copied " ++ decimal count
-lines_text (Rows rows) = rows_text rows
-lines_text (Classified class lines) = classified_text class lines
-lines_text (Steps names) = steps_text 0 names
-lines_text (Sql text) = text
-lines_text NoPlan = codes "no plan"
-lines_text (Rejected lines) = rejected_text lines
-lines_text (ByBlock table key) = block_text table key
-lines_text (ByRefutation proof) = refutation_text proof
-lines_text (Conflicts budget) = codes "conflicts " ++ decimal budget
-lines_text (Tables lines) = tables_text lines
-lines_text (Dumped script) = script
-lines_text (KeptLog proof) = proof_text proof
-lines_text NoLog = codes "no log"
-lines_text (Refused refusal) = refusal_text refusal
+lines_text reply = (reply_parts reply).0 ++ (reply_parts reply).1
 
 -- what ends the last line of a reply: a line feed, but of a query in SQL, a dump and a proof, whose lines have theirs
 abbrev pub last_end : Reply → List ℕ

@@ -30,12 +30,26 @@ pub fn append_number(number: usize, out: &mut Vec<u8>) -> Result<(), NoMemory>
     append_words(buffer.format(number), out)
 }
 
+/// Appends a number of 32 bits in decimal.
+pub fn append_u32(number: u32, out: &mut Vec<u8>) -> Result<(), NoMemory>
+    ensures { OnOk result (out.new.items ≡ out.old.items ++ decimal number) }
+{
+    append_number(number as usize, out)
+}
+
 /// Appends words and a number.
 pub fn append_numbered(words: &str, number: u32, out: &mut Vec<u8>) -> Result<(), NoMemory>
     ensures { OnOk result (out.new.items ≡ out.old.items ++ (words.now ++ decimal number)) }
 {
     append_words(words, out)?;
-    append_number(number as usize, out)
+    append_u32(number, out)
+}
+
+/// Appends a name.
+pub fn append_name(name: &Name, out: &mut Vec<u8>) -> Result<(), NoMemory>
+    ensures { OnOk result (out.new.items ≡ out.old.items ++ name.now) }
+{
+    append_words(name.as_str(), out)
 }
 
 /// Appends words and a name.
@@ -43,7 +57,7 @@ pub fn append_named(words: &str, name: &Name, out: &mut Vec<u8>) -> Result<(), N
     ensures { OnOk result (out.new.items ≡ out.old.items ++ (words.now ++ name.now)) }
 {
     append_words(words, out)?;
-    append_words(name.as_str(), out)
+    append_name(name, out)
 }
 
 /// Appends words and a row.

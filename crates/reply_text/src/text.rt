@@ -1,7 +1,7 @@
 //! The text of a reply, a line at a time.
 
 ghost use Rattle.std.specs.Prelude.{◌≡◌, ◌++◌, IfOk, OnOk, codes};
-ghost use Rattle.reply_text.specs.Texts.{lines_text, last_end, reply_text, rows_text, table_text, tables_text};
+ghost use Rattle.reply_text.specs.Texts.{last_end, lines_text, reply_parts, reply_text, rows_text, table_text, tables_text};
 
 use crate::append::{append_bytes, append_named, append_number, append_numbered, append_words};
 use crate::classified::append_classified;
@@ -49,26 +49,60 @@ fn last_end(reply: &Reply) -> &'static str
 fn append_lines(alloc: Global, reply: &Reply, out: &mut Vec<u8>) -> Result<(), NoMemory>
     ensures { OnOk result (out.new.items ≡ out.old.items ++ lines_text reply.now) }
 {
+    append_short(reply, out)?;
+    append_long(alloc, reply, out)
+}
+
+/// Appends the line of a reply that is a few words, with a name or a number behind them; nothing of any other.
+fn append_short(reply: &Reply, out: &mut Vec<u8>) -> Result<(), NoMemory>
+    ensures { OnOk result (out.new.items ≡ out.old.items ++ (reply_parts reply.now).0) }
+{
     match reply {
         Reply::Created(name) => append_named("created ", name, out),
         Reply::Altered(name) => append_named("altered ", name, out),
         Reply::Inserted(count) => append_numbered("inserted ", *count, out),
         Reply::Deleted(count) => append_numbered("deleted ", *count, out),
         Reply::Copied(count) => append_numbered("copied ", *count, out),
+        Reply::NoPlan => append_words("no plan", out),
+        Reply::Conflicts(budget) => append_numbered("conflicts ", *budget, out),
+        Reply::NoLog => append_words("no log", out),
+        Reply::Rows(_)
+        | Reply::Classified { .. }
+        | Reply::Steps(_)
+        | Reply::Sql(_)
+        | Reply::Rejected(_)
+        | Reply::ByBlock { .. }
+        | Reply::ByRefutation(_)
+        | Reply::Tables(_)
+        | Reply::Dumped(_)
+        | Reply::KeptLog(_)
+        | Reply::Refused(_) => Ok(()),
+    }
+}
+
+/// Appends the lines of any other reply, without what ends the last of them; nothing of one that is a few words.
+fn append_long(alloc: Global, reply: &Reply, out: &mut Vec<u8>) -> Result<(), NoMemory>
+    ensures { OnOk result (out.new.items ≡ out.old.items ++ (reply_parts reply.now).1) }
+{
+    match reply {
         Reply::Rows(rows) => append_rows(rows.as_slice(), out),
         Reply::Classified { class, lines } => append_classified(*class, lines.as_slice(), out),
         Reply::Steps(names) => append_steps(names.as_slice(), out),
-        Reply::Sql(text) => append_bytes(text.as_slice(), out),
-        Reply::NoPlan => append_words("no plan", out),
+        Reply::Sql(bytes) | Reply::Dumped(bytes) => append_bytes(bytes.as_slice(), out),
         Reply::Rejected(lines) => append_rejected(lines.as_slice(), out),
         Reply::ByBlock { table, key } => append_by_block(table, key, out),
         Reply::ByRefutation(proof) => append_by_refutation(alloc, proof, out),
-        Reply::Conflicts(budget) => append_numbered("conflicts ", *budget, out),
         Reply::Tables(lines) => append_tables(lines.as_slice(), out),
-        Reply::Dumped(script) => append_bytes(script.as_slice(), out),
         Reply::KeptLog(proof) => append_proof(alloc, proof, out),
-        Reply::NoLog => append_words("no log", out),
         Reply::Refused(refusal) => append_refusal(refusal, out),
+        Reply::Created(_)
+        | Reply::Altered(_)
+        | Reply::Inserted(_)
+        | Reply::Deleted(_)
+        | Reply::Copied(_)
+        | Reply::NoPlan
+        | Reply::Conflicts(_)
+        | Reply::NoLog => Ok(()),
     }
 }
 

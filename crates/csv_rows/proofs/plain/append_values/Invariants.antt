@@ -3,7 +3,7 @@ use Rattle.csv.specs.Machine.{next_record}
 use Rattle.csv.specs.Reading.{default_config}
 use Rattle.csv.specs.declared.parser.State.TheVariants.{StartRecord, StartField}
 use Rattle.csv_rows.specs.Blocks.{IsRecordOf, kinds}
-use Rattle.csv_rows.proofs.plain.plain_row.Given as goal
+use Rattle.csv_rows.proofs.plain.append_values.Given as goal
 
 -- the values so far are those of the fields before the place
 abbrev pub invariant-loop-column : goal.invariant-loop-column
