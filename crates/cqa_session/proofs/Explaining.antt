@@ -29,16 +29,16 @@ named (t ∷ db) (suc table) schema l is = named db table schema (omega (arith, 
 module _ (old : State) (q : Query) (row : List Value) (db : List Table) (reply : Reply) (tables : db ≡ old.tables) where
   -- the block by which a row is certain, told by the name of its table
   pub block_told : (table : ℕ) (key : List Value) → IsReason old.tables q row (reasons.ByBlock table key) → reply ≡ replies.ByBlock (name_at db table) key → MayTell old q row reply old
-  block_told table key reason told = subst (λ z. MayTell old q row z old) (sym (told ∙ ap (λ z. replies.ByBlock (name_at z table) key) tables)) ((table, reason.0, refl), refl)
+  block_told table key reason told = subst (λ z. MayTell old q row z old) (sym (told ∙ ap (λ z. replies.ByBlock (name_at z table) key) tables)) ((table, reason, refl), refl)
 
   -- a repair, told by the lines of its rows
   pub repair_told : (names : List RowId) → IsReason old.tables q row (reasons.Rejected names) → reply ≡ replies.Rejected (map (kept_line db) names) → MayTell old q row reply old
-  repair_told names reason told = subst (λ z. MayTell old q row z old) (sym (told ∙ ap (λ z. replies.Rejected (map (kept_line z) names)) tables)) ((names, reason.0, refl), reason.1, refl)
+  repair_told names reason told = subst (λ z. MayTell old q row z old) (sym (told ∙ ap (λ z. replies.Rejected (map (kept_line z) names)) tables)) ((names, reason, refl), refl)
 
 -- a formula with its refutation, which is kept
 pub refutation_told : (old new : State) (q : Query) (row : List Value) (proof : Proof) (reply : Reply) → IsReason old.tables q row (reasons.Refuted proof.cnf proof.log) → reply ≡ replies.ByRefutation proof →
     new ≡ record old { last_log = Some proof } → MayTell old q row reply new
-refutation_told old new q row proof reply reason told kept = subst (λ z. MayTell old q row z new) (sym told) (reason.0, reason.1, reason.2, kept)
+refutation_told old new q row proof reply reason told kept = subst (λ z. MayTell old q row z new) (sym told) (reason, kept)
 
 -- how the answer for a row ends the statement
 pub explained : (old new : State) (row : List Value) (select : Select) (query : Query) (result : Result Reply (Fail Refusal)) → query_fault old.tables select ≡ None → IsQueryOf old.tables select query →

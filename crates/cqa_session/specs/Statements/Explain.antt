@@ -6,10 +6,9 @@ use Rattle.cqa_model.specs.declared.query.Query.{Query}
 use Rattle.cqa_model.specs.declared.refusal.Refusal.{Refusal}
 use Rattle.cqa_model.specs.declared.refusal.Refusal.TheVariants.{WitnessLimit, Spent}
 use Rattle.cqa_model.specs.Database.{Table, stored, names_of}
-use Rattle.cqa_model.specs.Certain.{IsCertain}
 use Rattle.join_witness.specs.Listing.{HasTooMany}
-use Rattle.weak_pairs.specs.Pairs.{IsPair}
-use Rattle.row_reasons.specs.Reasons.{HasNoPlan, NeedsSearch, IsByBlock, IsRejected, IsRefuted}
+use Rattle.row_reasons.specs.declared.reason.Reason.TheVariants as reasons
+use Rattle.row_reasons.specs.Reasons.{NeedsSearch, IsReason, IsOverLimit}
 use Rattle.spj_syntax.specs.declared.tree.Select.{Select}
 use Rattle.query_resolve.specs.Checks.{answer_fault}
 use Rattle.query_resolve.specs.Resolved.{IsQueryOf}
@@ -28,21 +27,20 @@ name_at db table = slice_index_or (names_of db) table []
 abbrev pub kept_line : List Table → RowId → KeptRow
 kept_line db name = record { table = name_at db name.table; row = slice_index_or (slice_index_or (stored db) name.table []) name.place [] }
 
--- What is refused for a query that has no plan: the row has too many witnesses, where of two atoms that attack each other
--- weakly only a certain row is refused so; or the budget is used up for it, where there is a search.
+-- What is refused: the row has too many witnesses to be told by its formula; or there is a search, and the budget is used up
+-- for it.
 abbrev pub StopsFor : State → Query → List Value → Refusal → State → Type 0
-StopsFor old q row (WitnessLimit r) new = (r ≡ row) × HasTooMany q old.tables row × (IsPair q → IsCertain old.tables q row) × (new ≡ old)
-StopsFor old q row (Spent r conflicts) new = (r ≡ row) × (HasTooMany q old.tables row → ⊥) × (IsPair q → ⊥) × SpendsAt old q row conflicts new
+StopsFor old q row (WitnessLimit r) new = (r ≡ row) × IsOverLimit old.tables q row × (new ≡ old)
+StopsFor old q row (Spent r conflicts) new = (r ≡ row) × NeedsSearch q × (HasTooMany q old.tables row → ⊥) × SpendsAt old q row conflicts new
 StopsFor old q row _ new = ⊥
 
--- What is told of a row: the block by which it is certain, by the name of its table, where a plan holds; where it is within
--- the limit of witnesses, its formula with a refutation, which are kept as the last log; or a repair without a witness, by
--- the lines of its rows, which only a row of a query that needs search must be within the limit for.
+-- The reason that is told of a row: a block by the name of its table; a formula with a refutation, which are kept as the last
+-- log; or a repair by the lines of its rows.
 abbrev pub MayTell : State → Query → List Value → Reply → State → Type 0
-MayTell old q row (ByBlock name key) new = ((table : ℕ) × IsByBlock old.tables q row table key × (name ≡ name_at old.tables table)) × (new ≡ old)
-MayTell old q row (ByRefutation proof) new = HasNoPlan q × (HasTooMany q old.tables row → ⊥) × IsRefuted old.tables q row proof.cnf proof.log × (new ≡ record old { last_log = Some proof })
-MayTell old q row (Rejected lines) new = ((names : List RowId) × IsRejected old.tables q row names × (lines ≡ map (kept_line old.tables) names)) × (NeedsSearch q → HasTooMany q old.tables row → ⊥) × (new ≡ old)
-MayTell old q row (Refused refusal) new = HasNoPlan q × StopsFor old q row refusal new
+MayTell old q row (ByBlock name key) new = ((table : ℕ) × IsReason old.tables q row (reasons.ByBlock table key) × (name ≡ name_at old.tables table)) × (new ≡ old)
+MayTell old q row (ByRefutation proof) new = IsReason old.tables q row (reasons.Refuted proof.cnf proof.log) × (new ≡ record old { last_log = Some proof })
+MayTell old q row (Rejected lines) new = ((names : List RowId) × IsReason old.tables q row (reasons.Rejected names) × (lines ≡ map (kept_line old.tables) names)) × (new ≡ old)
+MayTell old q row (Refused refusal) new = StopsFor old q row refusal new
 MayTell old q row _ new = ⊥
 
 -- The row is checked against the query, and the reply tells why it is certain or why it isn't.

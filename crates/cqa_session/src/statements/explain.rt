@@ -127,7 +127,7 @@ fn stopped(session: &mut Session, _query: &Query, row: Row, stop: Stop) -> Refus
     }
 }
 
-/// The same of a row that is borrowed.
+/// The refusal of a row whose reason isn't told, for a row that stays with its caller.
 fn refused(
     alloc: Global,
     session: &mut Session,

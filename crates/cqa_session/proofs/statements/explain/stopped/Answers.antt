@@ -12,4 +12,4 @@ returns-in-Spent c =
     let stop = subst (IsStop old.tables q row old.budget) c.in-Spent.is c.requires in
     let proof : Proof = record { cnf = c.in-Spent.cnf; log = c.in-Spent.log } in
     let spent = spent_for q old.tables old.budget row proof.cnf stop.2.0 proof.log stop.2.1 in
-    (stop.0.0, (refl, stop.1, stop.0.1, spends old c.keep_log.new.self q row c.budget-conflicts.result proof spent c.budget-conflicts.ensures c.keep_log.ensures))
+    (refl, stop.0, stop.1, spends old c.keep_log.new.self q row c.budget-conflicts.result proof spent c.budget-conflicts.ensures c.keep_log.ensures)
