@@ -64,6 +64,7 @@ AreBasedTo-prop n (s ∷ ss) m = ×_prop (Coded-set coded_ℕ s.base n) (AreBase
 abbrev pub IsBefore : Span → Span → Type 0
 IsBefore s t = (s.atom ≤ t.atom) × (s.atom ≡ t.atom → s.start + s.count ≤ t.start)
 
+-- each span is before those behind it
 abbrev pub AreApart : List Span → Type 0
 AreApart spans = (i j : ℕ) (s t : Span) → i < j → slice_get spans i ≡ Some s → slice_get spans j ≡ Some t → IsBefore s t
 
