@@ -1,6 +1,6 @@
 //! `demo`: the script of a size is run, and a line tells the numbers of the run.
 
-ghost use Rattle.std.specs.Prelude.{◌≡◌, ◌≤◌, ◌++◌, ◌↔◌, ◌⊎◌, ℕ, List, Option, Some, IfOk, IsTrue, OnOk, MatchOption, length, nat_lt};
+ghost use Rattle.std.specs.Prelude.{◌≡◌, ◌≤◌, ◌++◌, ◌↔◌, ◌⊎◌, ℕ, List, Option, Some, IfOk, IsTrue, OnOk, MatchOption, length, nat_lt, codes};
 ghost use Rattle.cqa_io.specs.Causes.{Rose};
 ghost use Rattle.command_shell.specs.Demo.{counted, line_text, IsSize};
 ghost use Rattle.command_shell.specs.declared.ending.Command.TheVariants.{Demo as DemoWord};
@@ -77,18 +77,33 @@ fn append_counted(words: &str, number: u64, out: &mut Vec<u8>) -> Result<(), NoM
     Ok(())
 }
 
+/// Appends what a run of the script of a size had to do: the statements, and the rows that it left.
+fn append_work(size: u32, rows: u32, tally: &Tally, out: &mut Vec<u8>) -> Result<(), NoMemory>
+    ensures { OnOk result (out.new.items ≡ out.old.items ++ counted (codes "demo ") size ++ counted (codes ": statements ") tally.now.replies ++ counted (codes ", rows ") rows) }
+{
+    append_counted("demo ", size as u64, out)?;
+    append_counted(": statements ", tally.replies, out)?;
+    append_counted(", rows ", rows as u64, out)
+}
+
+/// Appends what a run came to: the certain rows, the possible ones, and the refusals.
+fn append_answers(tally: &Tally, out: &mut Vec<u8>) -> Result<(), NoMemory>
+    ensures { OnOk result (out.new.items ≡ out.old.items ++ counted (codes ", certain ") tally.now.certain ++ counted (codes ", possible ") tally.now.possible ++ counted (codes ", refused ") tally.now.refused ++ codes "\n") }
+{
+    append_counted(", certain ", tally.certain, out)?;
+    append_counted(", possible ", tally.possible, out)?;
+    append_counted(", refused ", tally.refused, out)?;
+    out.push(b'\n')?;
+    Ok(())
+}
+
 /// The line on a run of the script of a size, which left so many rows.
 fn line(alloc: Global, size: u32, rows: u32, tally: &Tally) -> Result<Vec<u8>, NoMemory>
     ensures { IfOk result (λ line. line.items ≡ line_text size rows tally.now) }
 {
     let mut out = Vec::new(alloc);
-    append_counted("demo ", size as u64, &mut out)?;
-    append_counted(": statements ", tally.replies, &mut out)?;
-    append_counted(", rows ", rows as u64, &mut out)?;
-    append_counted(", certain ", tally.certain, &mut out)?;
-    append_counted(", possible ", tally.possible, &mut out)?;
-    append_counted(", refused ", tally.refused, &mut out)?;
-    out.push(b'\n')?;
+    append_work(size, rows, tally, &mut out)?;
+    append_answers(tally, &mut out)?;
     Ok(out)
 }
 

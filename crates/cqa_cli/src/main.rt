@@ -15,32 +15,37 @@ const NO_WORDS: u8 = 7;
 /// The status where memory for the words is refused.
 const OUT_OF_MEMORY: u8 = 5;
 
-fn main(rt: HostRuntime) -> ExitCode {
-    let alloc = rt.alloc();
-    let args = match env::args(&rt) {
+/// The words behind the program's name, or the status where they can't be had.
+fn words(rt: &HostRuntime) -> Result<Vec<String>, u8> {
+    let args = match env::args(rt) {
         Ok(args) => args,
-        Err(error) if error.kind() == ErrorKind::OutOfMemory => {
-            return ExitCode::from(OUT_OF_MEMORY);
-        }
-        Err(_) => return ExitCode::from(NO_WORDS),
+        Err(error) if error.kind() == ErrorKind::OutOfMemory => return Err(OUT_OF_MEMORY),
+        Err(_) => return Err(NO_WORDS),
     };
-    let mut words = Vec::new(alloc);
+    let mut words = Vec::new(rt.alloc());
     for word in args.skip(1) {
         if words.push(word).is_err() {
-            return ExitCode::from(OUT_OF_MEMORY);
+            return Err(OUT_OF_MEMORY);
         }
     }
+    Ok(words)
+}
+
+/// Runs the machine over standard input and output, and answers its status.
+fn status(rt: &HostRuntime, words: &[String]) -> u8 {
+    let alloc = rt.alloc();
     let mut session = Session::new(alloc, CONFLICTS);
     let mut source = StdSource::new(rt.stdin());
     let mut sink = StdSink::new(rt.stdout());
-    let status = run_words(
-        alloc,
-        words.as_slice(),
-        &mut session,
-        &mut source,
-        &mut sink,
-    );
+    let status = run_words(alloc, words, &mut session, &mut source, &mut sink);
     // The end of the process gives its memory back at once, which row by row takes a while.
     forget(session);
-    ExitCode::from(status)
+    status
+}
+
+fn main(rt: HostRuntime) -> ExitCode {
+    match words(&rt) {
+        Ok(words) => ExitCode::from(status(&rt, words.as_slice())),
+        Err(status) => ExitCode::from(status),
+    }
 }

@@ -30,12 +30,18 @@ pub fn first_difference(wanted: &[u8], given: &[u8]) -> Option<u64>
     Some(first_line(wanted, given))
 }
 
-/// Whether a call ends as its case says. A line says how it doesn't.
-pub fn ends_as_wanted(rt: &HostRuntime, name: &str, case: &Case<'_>) -> io::Result<bool> {
+/// The status of a case's call, and the first line in which its output differs.
+fn ending(rt: &HostRuntime, case: &Case<'_>) -> io::Result<(u8, Option<u64>)> {
     let end = run(rt.alloc(), case)?;
     let status = end.status;
     let difference = first_difference(case.output, end.sink.bytes());
     drop(end);
+    Ok((status, difference))
+}
+
+/// Whether a call ends as its case says. A line says how it doesn't.
+pub fn ends_as_wanted(rt: &HostRuntime, name: &str, case: &Case<'_>) -> io::Result<bool> {
+    let (status, difference) = ending(rt, case)?;
     if let Some(line) = difference {
         println!(rt; "{name}: line {line} of its output differs")?;
         return Ok(false);

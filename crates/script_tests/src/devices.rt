@@ -272,18 +272,28 @@ fn checks_a_long_proof(rt: &HostRuntime) -> io::Result<bool> {
     ends_as_wanted(rt, "a long proof", &case)
 }
 
+/// How many cases of all tables end otherwise. Lines say which.
+fn all_failures(rt: &HostRuntime) -> io::Result<u64> {
+    let runs = failures(rt, "a status of run", &RUNS)?;
+    let checks = failures(rt, "a status of check", &CHECKS)?;
+    let failing = failures(rt, "a device that fails", &FAILING)?;
+    Ok(runs.saturating_add(checks).saturating_add(failing))
+}
+
+/// Hands on whether something is so. A line says it where it isn't.
+fn told(rt: &HostRuntime, is_so: bool, otherwise: &str) -> io::Result<bool> {
+    if !is_so {
+        println!(rt; "{otherwise}")?;
+    }
+    Ok(is_so)
+}
+
 /// Whether all cases end as they have to. A line says which doesn't.
 pub fn all_pass(rt: &HostRuntime) -> io::Result<bool> {
-    let failed = failures(rt, "a status of run", &RUNS)?
-        .saturating_add(failures(rt, "a status of check", &CHECKS)?)
-        .saturating_add(failures(rt, "a device that fails", &FAILING)?);
+    let failed = all_failures(rt)?;
     let reads_no_more = reads_no_more(rt.alloc())?;
-    if !reads_no_more {
-        println!(rt; "more is read behind a reply that fails")?;
-    }
+    let reads_no_more = told(rt, reads_no_more, "more is read behind a reply that fails")?;
     let counts_bytes = counts_bytes(rt.alloc())?;
-    if !counts_bytes {
-        println!(rt; "another number of bytes is written")?;
-    }
+    let counts_bytes = told(rt, counts_bytes, "another number of bytes is written")?;
     Ok(checks_a_long_proof(rt)? && reads_no_more && counts_bytes && failed == 0)
 }
