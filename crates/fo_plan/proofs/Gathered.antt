@@ -1,5 +1,5 @@
 -- What the rows taken and the rest of a plan give, block by block.
-use Rattle.std.proofs.Common.{◌≡◌, ◌≢◌, ℕ, ◌<◌, ◌≤◌, ◌+◌, ◌-◌, ◌⊎◌, ◌↔◌, inl, inr, Bool, IsTrue, IsFalse, true, false, cond, List, [], ◌∷◌, ◌++◌, length, get_or, map, take, drop, refl, ap, sym, ◌∙◌, subst, arith, Contains, ◌==◌, below_more, Result, Ok, Err, OnOk}
+use Rattle.std.proofs.Common.{◌≡◌, ◌≢◌, ℕ, ◌<◌, ◌≤◌, ◌⊎◌, ◌↔◌, inl, inr, Bool, IsTrue, false, List, [], ◌∷◌, ◌++◌, length, get_or, map, drop, refl, ap, sym, ◌∙◌, subst, arith, Contains, Result, Ok, Err, OnOk}
 use Rattle.std.proofs.lemmas.Bool.{false≢true}
 use Rattle.std.proofs.lemmas.List.{length-map, get_or-map}
 use Rattle.std.proofs.lemmas.List.Elements.{All-contains, Contains-get_or, Contains-append_left, Contains-append_right, Contains-append_cases}
@@ -14,8 +14,9 @@ use Rattle.cqa_model.proofs.Classic.{mem-head, mem-tail, mem-nil, mem-cases}
 use Rattle.cqa_model.proofs.Exactness.{map_is}
 use Rattle.plan_rows.specs.Taking.{taken_value, AreAgreed}
 use Rattle.plan_rows.specs.Fitting.{Suits, GivesAt}
-use Rattle.fo_plan.specs.Holding.{RowHolds, AllHold}
 use Rattle.plan_rows.specs.Left.{IsSettled}
+use Rattle.plan_rows.specs.Links.{RowHolds}
+use Rattle.fo_plan.specs.Holding.{AllHold}
 use Rattle.fo_plan.specs.Giving.{AreAll, IsAnswer, Gives, BlockGives, IsAdded}
 use Rattle.plan_rows.proofs.Sharing.{value-taken}
 use Rattle.plan_rows.proofs.Suiting.{of_all, fits-of, suits-from, gives-from}

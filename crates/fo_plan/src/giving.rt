@@ -2,14 +2,13 @@
 //! row of each block proposes rows, and the block's other rows test them.
 
 ghost use Rattle.std.specs.Prelude.{◌≡◌, ◌<◌, ◌↔◌, IsTrue, Contains, List, OnOk, [], length, slice_index_or};
-ghost use Rattle.std.specs.Option.{option_copied};
 ghost use Rattle.cqa_value.specs.declared.value.Value.{Value as Cell};
 ghost use Rattle.cqa_model.specs.OneTable.{SomeBlockFits};
 ghost use Rattle.plan_rows.specs.Fitting.{Suits};
-ghost use Rattle.plan_rows.specs.Knowing.{HasKnown};
 ghost use Rattle.plan_rows.specs.Left.{IsSettled};
 ghost use Rattle.plan_rows.specs.Over.{query_of, tables_of, rows_before};
 ghost use Rattle.plan_rows.specs.Underway.{IsRight};
+ghost use Rattle.fo_plan.specs.Enough.{AreSought};
 ghost use Rattle.fo_plan.specs.Holding.{HoldsWith, AllHoldWith};
 ghost use Rattle.fo_plan.specs.Giving.{IsAnswer, BlockGives, IsAdded, RestHasAll, StepHasAll, RestGives, StepGives};
 
@@ -23,8 +22,9 @@ use row_pieces::Rows;
 fn all_suit(step: &Step<'_>, block: &Rows<'_>) -> bool
     ensures { IsTrue result ↔ ((y : List Cell) → Contains block.now y → Suits (query_of step.now) (rows_before step.now) step.now.atom y) }
 {
+    let look = step.look();
     for y in block.again() {
-        if !suits(step, y) {
+        if !suits(&look, y) {
             return false;
         }
     }
@@ -142,7 +142,7 @@ fn add_all_of(
     memo: &mut Memo,
 ) -> Result<(), NoMemory>
     requires all { StepHasAll step.now }
-    requires known { (y : List Cell) → Suits (query_of step.now) (rows_before step.now) step.now.atom y → HasKnown (option_copied blocks.now.index) blocks.now.values y }
+    requires sought { (row : List Cell) → AreSought blocks.now (HoldsWith step.now row) }
     requires memo { IsRight step.now.course.now memo.old }
     ensures added { OnOk result (IsAdded (λ row. IsAnswer (query_of step.now) (rows_before step.now) row × SomeBlockFits blocks.now.key.now blocks.now.rows (HoldsWith step.now row)) found.old.items found.new.items) }
     ensures memo { IsRight step.now.course.now memo.new }

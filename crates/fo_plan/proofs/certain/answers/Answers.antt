@@ -1,6 +1,7 @@
 use Rattle.std.proofs.Common.{subst, sym, inl, Contains, []}
 use Rattle.cqa_model.specs.Database.{stored}
 use Rattle.plan_rows.specs.Left.{AreAtoms, AreShared}
+use Rattle.plan_rows.specs.Links.{AreWays}
 use Rattle.fo_plan.specs.Giving.{Gives, IsAdded}
 use Rattle.fo_plan.proofs.Gathered.{gives-all}
 use Rattle.plan_rows.proofs.Sharing.{underway-starts, none-right}
@@ -13,6 +14,7 @@ pub invariant_of-course : goal.invariant_of-course
 invariant_of-course c = record {
   atoms = subst (AreAtoms c.args.query.now) (sym c.as_slice-order.ensures) c.requires.plan;
   shares = ∣ subst (AreShared c.args.query.now c.as_slice-order.result.now) (sym c.as_slice.ensures.value) c.in_ok-shared.ensures ∣₁;
+  linked = ∣ subst (λ order. AreWays c.args.query.now c.args.db.now order c.args.ways.now) (sym c.as_slice-order.ensures) c.requires.ways ∣₁;
 }
 
 pub invariant_of-rest : goal.invariant_of-rest

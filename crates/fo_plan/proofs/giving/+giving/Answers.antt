@@ -9,10 +9,10 @@ use Rattle.plan_rows.specs.Over.{query_of, tables_of, rows_before}
 use Rattle.plan_rows.specs.Underway.{IsUnderway}
 use Rattle.fo_plan.specs.Holding.{HoldsWith, AllHoldWith}
 use Rattle.fo_plan.specs.Giving.{AreAll, IsAnswer, Gives, BlockGives, IsAdded}
-use Rattle.plan_rows.proofs.Suiting.{suits-from}
 use Rattle.plan_rows.proofs.PlanParts.{rest-shorter, plan-split}
 use Rattle.fo_plan.proofs.Gathered.{all-more, block-fails, first-gives, block-one, block-split, some-plan, adds-none, add-block, add-one, on-ok}
 use Rattle.plan_rows.proofs.Sharing.{first-atom, underway-more}
+use Rattle.fo_plan.proofs.Reached.{given-reached}
 use Rattle.fo_plan.proofs.Adding.{added-starts, added-on, added-ends, gives-table}
 use Rattle.fo_plan.proofs.giving.+giving.Goals as goal
 
@@ -121,20 +121,19 @@ add_tested-returns-clause-added t c =
     c.keep_all.ensures.added
 
 pub add_blocks-add_all_of-added-requires : goal.add_blocks-add_all_of-added-requires
-add_blocks-add_all_of-added-requires t c = (omega (arith, c.decreases), (c.requires.all, (c.new-blocks.ensures.known, c.requires.memo)))
+add_blocks-add_all_of-added-requires t c = (omega (arith, c.decreases), (c.requires.all, ((λ row. (given-reached c.args.step.now c.new-blocks.result row c.new-blocks.ensures).0), c.requires.memo)))
 
 pub add_blocks-returns-clause-added : goal.add_blocks-returns-clause-added
 add_blocks-returns-clause-added t c =
-    let step = c.args.step.now in
     on-ok c.add_all_of-added.result
-    (gives-table (query_of step) (tables_of step) (rows_before step) step.atom step.rest.now c.new-blocks.result c.new-blocks.ensures.key c.new-blocks.ensures.enough c.args.found.now.items c.add_all_of-added.new.found.items)
+    (gives-table c.args.step.now c.new-blocks.result c.new-blocks.ensures c.args.found.now.items c.add_all_of-added.new.found.items)
     c.add_all_of-added.ensures.added
 
 pub add_all_of-loop-block-init : goal.add_all_of-loop-block-init
 add_all_of-loop-block-init t c =
     let step = c.args.step.now in
     record {
-      added = added-starts c.args.blocks.now (IsAnswer (query_of step) (rows_before step)) (HoldsWith step) (λ row y r. c.requires.known y (suits-from (query_of step) (rows_before step) step.atom y row r.0))
+      added = added-starts c.args.blocks.now (IsAnswer (query_of step) (rows_before step)) (HoldsWith step) c.requires.sought
           c.start-spot.result.place c.args.found.now.items c.start-spot.ensures.passed;
       spot = c.start-spot.ensures.spot;
       right = c.requires.memo;
@@ -147,7 +146,7 @@ pub add_all_of-loop-block-preserved : goal.add_all_of-loop-block-preserved
 add_all_of-loop-block-preserved t c =
     let step = c.args.step.now in
     record {
-      added = added-on c.args.blocks.now (IsAnswer (query_of step) (rows_before step)) (HoldsWith step) (λ row y r. c.requires.known y (suits-from (query_of step) (rows_before step) step.atom y row r.0))
+      added = added-on c.args.blocks.now (IsAnswer (query_of step) (rows_before step)) (HoldsWith step) c.requires.sought
           c.loop-block.spot.place c.next.new.spot.place c.in-Some.block c.args.found.now.items c.loop-block.found.items c.add_block.new.found.items
           c.loop-block.invariant.added c.in-Some.ensures.next c.in_ok-add_block.ensures.added;
       spot = c.next.ensures.spot;
@@ -157,5 +156,5 @@ add_all_of-loop-block-preserved t c =
 pub add_all_of-returns-clause-added : goal.add_all_of-returns-clause-added
 add_all_of-returns-clause-added t c =
     let step = c.args.step.now in
-    added-ends c.args.blocks.now (IsAnswer (query_of step) (rows_before step)) (HoldsWith step) (λ row y r. c.requires.known y (suits-from (query_of step) (rows_before step) step.atom y row r.0))
+    added-ends c.args.blocks.now (IsAnswer (query_of step) (rows_before step)) (HoldsWith step) c.requires.sought
     c.loop-block.spot.place c.args.found.now.items c.loop-block.found.items c.loop-block.invariant.added c.in_default.ensures.next
