@@ -26,27 +26,16 @@ pub fn plan_of(alloc: Global, query: &Query) -> Result<Option<Plan>, NoMemory>
     ensures cycle { IfOk result (λ found. IsNone found ↔ HasCycle query.now (whole query.now)) }
     ensures exact { IfOk result (λ found. IfSome found (λ plan. IsExact query.now plan.order)) }
 {
-    eliminated(alloc, query, Choice::First)
+    eliminated(alloc, query, &[], Choice::First)
 }
 
-/// An elimination order of a query that is good for evaluation: again and again an atom that no atom attacks once those
-/// before it are taken, those that joins link to an answer column before all others; `None` exactly where the attacks have
-/// a cycle. Over each database that the query fits, the order holds for a row exactly where the row is certain (Koutris and
-/// Wijsen, ACM TODS 2017).
-///
-/// # Errors
-///
-/// `NoMemory` where memory is refused.
-pub fn elimination_of(alloc: Global, query: &Query) -> Result<Option<Plan>, NoMemory>
-    ensures order { IfOk result (λ found. IfSome found (λ plan. IsEliminationOf query.now plan.order)) }
-    ensures cycle { IfOk result (λ found. IsNone found ↔ HasCycle query.now (whole query.now)) }
-    ensures exact { IfOk result (λ found. IfSome found (λ plan. IsExact query.now plan.order)) }
-{
-    eliminated(alloc, query, Choice::Preferred)
-}
-
-/// The elimination order of a query that the choice of each next atom makes.
-fn eliminated(alloc: Global, query: &Query, choice: Choice) -> Result<Option<Plan>, NoMemory>
+/// The elimination order of a query that the choice of each next atom makes, by the rows of each atom's table.
+pub(crate) fn eliminated(
+    alloc: Global,
+    query: &Query,
+    sizes: &[u32],
+    choice: Choice,
+) -> Result<Option<Plan>, NoMemory>
     ensures plan { choice ≡ First → IfOk result (λ found. IfSome found (λ plan. IsPlanOf query.now plan.order)) }
     ensures order { IfOk result (λ found. IfSome found (λ plan. IsEliminationOf query.now plan.order)) }
     ensures cycle { IfOk result (λ found. IsNone found ↔ HasCycle query.now (whole query.now)) }
@@ -67,6 +56,7 @@ fn eliminated(alloc: Global, query: &Query, choice: Choice) -> Result<Option<Pla
             variables,
             view,
         },
+        sizes,
         &left,
         choice,
     ) {
