@@ -16,24 +16,10 @@ use cqa_value::{Items, NoMemory, Row};
 use plan_rows::{
     Course, Link, Memo, Rest, Setting, Taken, rests_to_keep, shared_columns, turns_before_memo,
 };
+use row_answers::Answers;
 use row_cursor::RowIndex;
 use std::alloc::Global;
-use std::cmp::Ordering;
 use table_blocks::Database;
-
-/// Puts rows in ascending order, each once.
-fn sorted(mut rows: Vec<Row>) -> Vec<Row>
-    ensures ascending { IsStrictlySortedBy row_cmp result.items }
-    ensures same { (row : List Cell) → Contains result.items row ↔ Contains rows.items row }
-{
-    rows.sort_unstable_by(
-        |a, b| -> Ordering
-            ensures { result ≡ row_cmp a.now b.now }
-        { a.cmp(b) },
-    );
-    rows.dedup();
-    rows
-}
 
 /// The rows of the answer's length for which a plan of all atoms holds, ascending and each once. Rows are found by the
 /// given indexes, of each atom's table one or none, and by the given links of later atoms.
@@ -81,11 +67,11 @@ pub fn answers<'a>(
         plan: order,
     };
     let mut memo = Memo::new(alloc, turns, most);
-    let mut found = Vec::new(alloc);
+    let mut found = Answers::new(alloc);
     let added = add_given(&rest, &mut found, &mut memo);
     drop(memo);
     match added {
-        Ok(()) => Ok(Items::from_vec(sorted(found))),
+        Ok(()) => Ok(found.listed()),
         Err(fault) => {
             drop(found);
             Err(fault)

@@ -31,9 +31,7 @@ returns-in-Ok-clause-exactly c row =
     let q = c.args.query.now in
     let tables = stored c.args.db.now in
     let order = c.args.plan.now.order in
-    let found = c.add_given-added.new.found.items in
-    let all = gives-all q tables order found (subst (λ p. IsAdded (Gives q tables [] p) [] found) c.as_slice-order.ensures (subst (λ old. IsAdded (Gives q tables [] c.as_slice-order.result.now) old found) c.new-found.ensures.items c.in-Ok.ensures.added)) row in
-    let same = c.sorted.ensures.same row in (
-      (λ m. all.0 (same.0 (subst (λ z. Contains z row) c.from_vec.ensures m))),
-      (λ h. subst (λ z. Contains z row) (sym c.from_vec.ensures) (same.1 (all.1 h))),
-    )
+    let found = c.add_given-added.new.found in
+    let all = gives-all q tables order found (subst (λ p. IsAdded (Gives q tables [] p) [] found) c.as_slice-order.ensures (subst (λ old. IsAdded (Gives q tables [] c.as_slice-order.result.now) old found) c.new-found.ensures c.in-Ok.ensures.added)) row in
+    let same = c.listed.ensures.same row in
+    ((λ m. all.0 (same.0 m)), (λ h. same.1 (all.1 h)))
