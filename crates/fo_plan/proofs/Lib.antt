@@ -1,8 +1,10 @@
+mod Looks
 mod Spanned
 mod Parted
 mod Leading
 mod Among
 mod Passing
 mod Walked
+mod Reached
 mod Gathered
 mod Adding

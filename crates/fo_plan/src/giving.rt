@@ -2,14 +2,13 @@
 //! row of each block proposes rows, and the block's other rows test them.
 
 ghost use Rattle.std.specs.Prelude.{◌≡◌, ◌<◌, ◌↔◌, IsTrue, Contains, List, OnOk, [], length, slice_index_or};
-ghost use Rattle.std.specs.Option.{option_copied};
 ghost use Rattle.cqa_value.specs.declared.value.Value.{Value as Cell};
 ghost use Rattle.cqa_model.specs.OneTable.{SomeBlockFits};
 ghost use Rattle.plan_rows.specs.Fitting.{Suits};
-ghost use Rattle.plan_rows.specs.Knowing.{HasKnown};
 ghost use Rattle.plan_rows.specs.Left.{IsSettled};
 ghost use Rattle.plan_rows.specs.Over.{query_of, tables_of, rows_before};
 ghost use Rattle.plan_rows.specs.Underway.{IsRight};
+ghost use Rattle.fo_plan.specs.Enough.{AreSought};
 ghost use Rattle.fo_plan.specs.Holding.{HoldsWith, AllHoldWith};
 ghost use Rattle.fo_plan.specs.Giving.{IsAnswer, BlockGives, IsAdded, RestHasAll, StepHasAll, RestGives, StepGives};
 
@@ -17,14 +16,16 @@ use crate::enough::Blocks;
 use crate::holding::{all_hold, holds_with};
 use cqa_value::{NoMemory, Row};
 use plan_rows::{Memo, Rest, Step, Taken, answer_of, are_settled, suits};
+use row_answers::Answers;
 use row_pieces::Rows;
 
 /// Whether all rows of a block fit the rows taken, but for a candidate.
 fn all_suit(step: &Step<'_>, block: &Rows<'_>) -> bool
     ensures { IsTrue result ↔ ((y : List Cell) → Contains block.now y → Suits (query_of step.now) (rows_before step.now) step.now.atom y) }
 {
+    let look = step.look();
     for y in block.again() {
-        if !suits(step, y) {
+        if !suits(&look, y) {
             return false;
         }
     }
@@ -36,15 +37,15 @@ fn keep_one(
     step: &Step<'_>,
     block: &Rows<'_>,
     row: Row,
-    found: &mut Vec<Row>,
+    found: &mut Answers,
     memo: &mut Memo,
 ) -> Result<(), NoMemory>
     requires { IsRight step.now.course.now memo.old }
-    ensures added { OnOk result (IsAdded (λ r. (r ≡ row) × AllHoldWith step.now r block.now) found.old.items found.new.items) }
+    ensures added { OnOk result (IsAdded (λ r. (r ≡ row) × AllHoldWith step.now r block.now) found.old found.new) }
     ensures memo { IsRight step.now.course.now memo.new }
 {
     if all_hold(&*step, &row, block, memo) {
-        found.push(row)?;
+        found.put(row)?;
     } else {
         drop(row);
     }
@@ -55,12 +56,12 @@ fn keep_one(
 fn keep_all(
     step: &Step<'_>,
     block: &Rows<'_>,
-    part: &mut Vec<Row>,
-    found: &mut Vec<Row>,
+    part: &mut Answers,
+    found: &mut Answers,
     memo: &mut Memo,
 ) -> Result<(), NoMemory>
     requires { IsRight step.now.course.now memo.old }
-    ensures added { OnOk result (IsAdded (λ r. Contains part.old.items r × AllHoldWith step.now r block.now) found.old.items found.new.items) }
+    ensures added { OnOk result (IsAdded (λ r. Contains part.old r × AllHoldWith step.now r block.now) found.old found.new) }
     ensures memo { IsRight step.now.course.now memo.new }
 {
     while let Some(row) = part.pop() {
@@ -70,11 +71,11 @@ fn keep_all(
 }
 
 /// Adds the answer of the rows taken if a rest of a plan holds that doesn't change it.
-fn add_settled(rest: &Rest<'_>, found: &mut Vec<Row>, memo: &mut Memo) -> Result<(), NoMemory>
+fn add_settled(rest: &Rest<'_>, found: &mut Answers, memo: &mut Memo) -> Result<(), NoMemory>
     requires all { RestHasAll rest.now }
     requires settled { IsSettled rest.now.course.now.setting.query.now rest.now.plan.now }
     requires memo { IsRight rest.now.course.now memo.old }
-    ensures added { OnOk result (IsAdded (RestGives rest.now) found.old.items found.new.items) }
+    ensures added { OnOk result (IsAdded (RestGives rest.now) found.old found.new) }
     ensures memo { IsRight rest.now.course.now memo.new }
 {
     let course = rest.course;
@@ -83,7 +84,7 @@ fn add_settled(rest: &Rest<'_>, found: &mut Vec<Row>, memo: &mut Memo) -> Result
     let held = holds_with(&*rest, &none, memo);
     drop(none);
     if held {
-        found.push(answer_of(setting.alloc, rest.taken, setting.query.answer.as_slice())?)?;
+        found.put(answer_of(setting.alloc, rest.taken, setting.query.answer.as_slice())?)?;
     }
     Ok(())
 }
@@ -92,12 +93,12 @@ fn add_settled(rest: &Rest<'_>, found: &mut Vec<Row>, memo: &mut Memo) -> Result
 #[cycle(giving)]
 pub(crate) fn add_given(
     rest: &Rest<'_>,
-    found: &mut Vec<Row>,
+    found: &mut Answers,
     memo: &mut Memo,
 ) -> Result<(), NoMemory>
     requires all { RestHasAll rest.now }
     requires memo { IsRight rest.now.course.now memo.old }
-    ensures added { OnOk result (IsAdded (RestGives rest.now) found.old.items found.new.items) }
+    ensures added { OnOk result (IsAdded (RestGives rest.now) found.old found.new) }
     ensures memo { IsRight rest.now.course.now memo.new }
 {
     let course = rest.course;
@@ -121,10 +122,10 @@ pub(crate) fn add_given(
 
 /// Adds the rows that the blocks of an atom's table give.
 #[cycle(giving)]
-fn add_blocks(step: &Step<'_>, found: &mut Vec<Row>, memo: &mut Memo) -> Result<(), NoMemory>
+fn add_blocks(step: &Step<'_>, found: &mut Answers, memo: &mut Memo) -> Result<(), NoMemory>
     requires all { StepHasAll step.now }
     requires memo { IsRight step.now.course.now memo.old }
-    ensures added { OnOk result (IsAdded (StepGives step.now) found.old.items found.new.items) }
+    ensures added { OnOk result (IsAdded (StepGives step.now) found.old found.new) }
     ensures memo { IsRight step.now.course.now memo.new }
 {
     let blocks = Blocks::new(step, None);
@@ -138,13 +139,13 @@ fn add_blocks(step: &Step<'_>, found: &mut Vec<Row>, memo: &mut Memo) -> Result<
 fn add_all_of(
     step: &Step<'_>,
     blocks: &Blocks<'_>,
-    found: &mut Vec<Row>,
+    found: &mut Answers,
     memo: &mut Memo,
 ) -> Result<(), NoMemory>
     requires all { StepHasAll step.now }
-    requires known { (y : List Cell) → Suits (query_of step.now) (rows_before step.now) step.now.atom y → HasKnown (option_copied blocks.now.index) blocks.now.values y }
+    requires sought { (row : List Cell) → AreSought blocks.now (HoldsWith step.now row) }
     requires memo { IsRight step.now.course.now memo.old }
-    ensures added { OnOk result (IsAdded (λ row. IsAnswer (query_of step.now) (rows_before step.now) row × SomeBlockFits blocks.now.key.now blocks.now.rows (HoldsWith step.now row)) found.old.items found.new.items) }
+    ensures added { OnOk result (IsAdded (λ row. IsAnswer (query_of step.now) (rows_before step.now) row × SomeBlockFits blocks.now.key.now blocks.now.rows (HoldsWith step.now row)) found.old found.new) }
     ensures memo { IsRight step.now.course.now memo.new }
 {
     let mut spot = blocks.start();
@@ -159,13 +160,13 @@ fn add_all_of(
 fn add_block(
     step: &Step<'_>,
     block: &Rows<'_>,
-    found: &mut Vec<Row>,
+    found: &mut Answers,
     memo: &mut Memo,
 ) -> Result<(), NoMemory>
     requires all { StepHasAll step.now }
     requires some { 0 < length block.now }
     requires memo { IsRight step.now.course.now memo.old }
-    ensures added { OnOk result (IsAdded (BlockGives (query_of step.now) (tables_of step.now) (rows_before step.now) step.now.atom step.now.rest.now block.now) found.old.items found.new.items) }
+    ensures added { OnOk result (IsAdded (BlockGives (query_of step.now) (tables_of step.now) (rows_before step.now) step.now.atom step.now.rest.now block.now) found.old found.new) }
     ensures memo { IsRight step.now.course.now memo.new }
 {
     if !all_suit(step, block) {
@@ -181,7 +182,7 @@ fn add_block(
         return add_given(&rest, found, memo);
     }
     let course = step.course;
-    let mut part = Vec::new(course.setting.alloc);
+    let mut part = Answers::new(course.setting.alloc);
     let added = add_tested(step, block, &mut part, found, memo);
     drop(part);
     added
@@ -192,16 +193,16 @@ fn add_block(
 fn add_tested(
     step: &Step<'_>,
     block: &Rows<'_>,
-    part: &mut Vec<Row>,
-    found: &mut Vec<Row>,
+    part: &mut Answers,
+    found: &mut Answers,
     memo: &mut Memo,
 ) -> Result<(), NoMemory>
     requires all { StepHasAll step.now }
     requires some { 0 < length block.now }
     requires first { Suits (query_of step.now) (rows_before step.now) step.now.atom (slice_index_or block.now 0 []) }
-    requires none { part.old.items ≡ [] }
+    requires none { part.old ≡ [] }
     requires memo { IsRight step.now.course.now memo.old }
-    ensures added { OnOk result (IsAdded (BlockGives (query_of step.now) (tables_of step.now) (rows_before step.now) step.now.atom step.now.rest.now block.now) found.old.items found.new.items) }
+    ensures added { OnOk result (IsAdded (BlockGives (query_of step.now) (tables_of step.now) (rows_before step.now) step.now.atom step.now.rest.now block.now) found.old found.new) }
     ensures memo { IsRight step.now.course.now memo.new }
 {
     let more = Taken::Before(step.atom, block.get(0), &*step.taken);

@@ -25,7 +25,7 @@ decreases-add_tested l = 5 * length l.step.now.rest.now + 1
 -- what the blocks so far give has come
 abbrev pub invariant-add_all_of-loop-block : goal.invariant-add_all_of-loop-block
 invariant-add_all_of-loop-block l = record {
-  added : AddedBefore l.blocks (IsAnswer (query_of l.step) (rows_before l.step)) (HoldsWith l.step) l.spot.place l.fn.found.items l.found.items;
+  added : AddedBefore l.blocks (IsAnswer (query_of l.step) (rows_before l.step)) (HoldsWith l.step) l.spot.place l.fn.found l.found;
   spot : IsSpot l.blocks l.spot;
   right : IsRight l.step.course.now l.memo;
 }
