@@ -4,3 +4,8 @@ pub mod PlanParts
 pub mod Columns
 pub mod Keeping
 pub mod Sharing
+pub mod Reaching
+pub mod Linked
+pub mod Spanning
+pub mod Looking
+pub mod Wanting
