@@ -1,6 +1,5 @@
 -- Rows of later atoms lead to each row that is in a witness.
 use Rattle.std.proofs.Common.{ℕ, ◌<◌, ◌≤◌, ◌⊎◌, Some, List, [], length, get_or, subst, arith}
-use Rattle.cqa_value.specs.declared.value.Value.{Value}
 use Rattle.cqa_model.specs.declared.query.Query.{Query}
 use Rattle.cqa_model.specs.Database.{Table, stored}
 use Rattle.cqa_model.specs.Plan.{Placed}

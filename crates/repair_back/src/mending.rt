@@ -169,7 +169,7 @@ fn mend_blocks<'x>(
 {
     let course = way.course;
     let step = Step {
-        course,
+        course: &*course,
         taken: &*taken,
         atom,
         rest: &*rest,

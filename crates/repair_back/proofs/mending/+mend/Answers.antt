@@ -13,7 +13,7 @@ use Rattle.cqa_model.proofs.Views.{view-in_range}
 use Rattle.plan_rows.specs.Taking.{placed}
 use Rattle.plan_rows.specs.Underway.{IsUnderway, IsRight}
 use Rattle.plan_rows.specs.declared.memo.Memo.{Memo}
-use Rattle.plan_rows.proofs.Sharing.{passed-count, underway-more, still-right, keeps-right}
+use Rattle.plan_rows.proofs.Sharing.{passed-count, underway-more, underway-taken, still-right, keeps-right}
 use Rattle.plan_rows.proofs.Suiting.{suits-from}
 use Rattle.plan_rows.proofs.PlanParts.{plan-split, rest-shorter}
 use Rattle.plan_rows.specs.Links.{RowHolds, atoms_on}
@@ -350,6 +350,12 @@ remembered-returns-in-Some-clause-mends t c =
 pub remembered-returns-in-None-clause-mends : goal.remembered-returns-in-None-clause-mends
 remembered-returns-in-None-clause-mends t c =
     subst (λ r. Mends c.args.way.now (placed c.args.taken.now) c.args.plan.now c.args.kept.now c.mend_anew.new.kept r) c.in-None.is c.mend_anew.ensures.mends
+
+pub mend_blocks-invariant_of-look : goal.mend_blocks-invariant_of-look
+mend_blocks-invariant_of-look t c = record { of_atoms = underway-taken c.args.way.now.course.now (placed c.args.taken.now) (c.args.atom ∷ c.args.rest.now) c.requires.next.underway; there = c.requires.next.there }
+
+pub row_mended-invariant_of-look : goal.row_mended-invariant_of-look
+row_mended-invariant_of-look t c = record { of_atoms = underway-taken c.args.way.now.course.now (placed c.args.taken.now) (c.args.atom ∷ c.args.rest.now) c.requires.next.underway; there = c.requires.next.there }
 
 pub mend_blocks-mend_places-mended-requires : goal.mend_blocks-mend_places-mended-requires
 mend_blocks-mend_places-mended-requires t c =
