@@ -336,8 +336,8 @@ fn mended(way: &Way<'_>, kept: &mut [Choice]) -> Result<Option<Repair>, NoMemory
 }
 
 /// A repair that holds no witness of a row, by the query's plan; `None` exactly where the row is certain, so that there
-/// is no such repair (Koutris and Wijsen, ACM TODS 2017). Rows are found by the given indexes, of each atom's table one or
-/// none, and by the rows of the given later atoms that link their atom to the rows taken; empty where none are wanted.
+/// is no such repair (Koutris and Wijsen, ACM TODS 2017). Rows of an atom are found by the index at its place in `paths`, if
+/// there is one, or else by rows of the later atoms that `ways` lists at its place; either may be empty.
 ///
 /// # Errors
 ///
