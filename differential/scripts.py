@@ -258,13 +258,15 @@ class Script:
 
     def columns_of_edge(self, tables, edge):
         """Joins of two tables: on the key of one of them or off it, and on two columns of each in three of ten."""
-        pick, one, other = self.random, *edge
+        def others(table):
+            return [place for place in range(len(table.columns)) if place not in table.key]
+
+        pick, left, right = self.random, *(tables[atom] for atom in edge)
         count = 2 if pick.random() < 0.3 else 1
-        theirs = list(range(len(tables[other].columns)))
-        if pick.random() < 0.75:
-            theirs = (tables[other].key + [place for place in theirs if place not in tables[other].key])[:max(count, len(tables[other].key))]
-        free = [place for place in range(len(tables[one].columns)) if place not in tables[one].key]
-        return [((one, left), (other, right)) for left, right in zip(pick.sample(free, min(count, len(free))), pick.sample(theirs, count))]
+        is_foreign = pick.random() < 0.75
+        theirs = right.key + (others(right)[:max(count - len(right.key), 0)] if is_foreign else others(right))
+        pairs = zip(pick.sample(others(left), count), pick.sample(theirs, count))
+        return [((edge[0], one), (edge[1], other)) for one, other in pairs]
 
     def linked(self, values):
         """A query of four to six tables: a tree, a star or a chain, some with a cycle of conditions or a table apart."""
