@@ -235,13 +235,14 @@ class Session:
 
     def __init__(self, program, limit):
         self.limit = limit
-        self.process = subprocess.Popen([program, "run"], stdin=subprocess.PIPE, stdout=subprocess.PIPE, bufsize=0)
+        self.process = subprocess.Popen([program, "run"], stdin=subprocess.PIPE, stdout=subprocess.PIPE)
         self.clock = (~self.process.pid << 3) | 2   # the processor time of this process, by clock_getcpuclockid
 
     def say(self, statements):
         """The reply to statements, and how long they took."""
         start = time.clock_gettime(self.clock)
         self.process.stdin.write(statements + b"set conflicts 200000;\n")
+        self.process.stdin.flush()
         reply, last = [], b""
         while not last.endswith(END):
             if not select.select([self.process.stdout], [], [], 0.1)[0]:
