@@ -9,3 +9,4 @@ pub mod Linked
 pub mod Looking
 pub mod Wanting
 pub mod Guessing
+pub mod Spanning

@@ -123,10 +123,10 @@ fn add_guesses<'x>(
 {
     let setting = look.setting;
     let rows = setting.db.rows(table_of(setting.query, atom));
-    let mut at = places.start;
-    while at < places.end {
-        add_guess(look, row, path, atom, rows.get(at), later, found)?;
-        at = places.after(at);
+    let mut place = places.start;
+    while place < places.end {
+        add_guess(look, row, path, atom, rows.get(place), later, found)?;
+        place = places.after(place);
     }
     Ok(())
 }

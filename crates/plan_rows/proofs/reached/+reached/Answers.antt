@@ -14,21 +14,21 @@ add_guess-invariant_of-on t c =
     let look = c.args.look.now in
     record { of_atoms = atoms-more (look_query look) _ (look_taken look) c.requires.atom look.of_atoms; there = look.there }
 
-pub add_guesses-loop-at-preserved : goal.add_guesses-loop-at-preserved
-add_guesses-loop-at-preserved t c =
+pub add_guesses-loop-place-preserved : goal.add_guesses-loop-place-preserved
+add_guesses-loop-place-preserved t c =
     let look = c.args.look.now in
     let q = look_query look in
     let tables = look_tables look in
     let row = option_copied c.args.row in
     let links = atoms_on c.args.later.now in
-    let at = c.loop-at.at in
+    let at = c.loop-place.place in
     let z = read-row q look.setting.now.db.now c.args.atom c.table_of.result c.rows-rows.result at c.get.result.now c.rows-rows.ensures.is c.table_of.ensures c.get.ensures in
     record {
-      kept = λ p m. c.in_ok-add_guess.ensures.kept p (c.loop-at.invariant.kept p m);
+      kept = λ p m. c.in_ok-add_guess.ensures.kept p (c.loop-place.invariant.kept p m);
       added = up-next q tables row (look_taken look) [] c.args.atom (rows_of q tables c.args.atom) c.args.places.now c.requires.places
           (λ j. HasReached q tables row (record { atom = c.args.atom; row = get_or (rows_of q tables c.args.atom) j [] } ∷ look_taken look) links look.atom c.add_guess.new.found)
-          at c.after-at.result c.after-at.ensures.passed
-          (reached-more q tables row (look_taken look) c.args.atom links look.atom c.loop-at.found c.add_guess.new.found at c.in_ok-add_guess.ensures.kept c.loop-at.invariant.added)
+          at c.after-place.result c.after-place.ensures.passed
+          (reached-more q tables row (look_taken look) c.args.atom links look.atom c.loop-place.found c.add_guess.new.found at c.in_ok-add_guess.ensures.kept c.loop-place.invariant.added)
           (subst (λ x. MayFit q row (look_taken look) c.args.atom x → HasReached q tables row (record { atom = c.args.atom; row = x } ∷ look_taken look) links look.atom c.add_guess.new.found) (sym z) c.in_ok-add_guess.ensures.added);
     }
 
@@ -39,10 +39,10 @@ add_guesses-returns-clause-added t c =
     let tables = look_tables look in
     let row = option_copied c.args.row in
     let links = atoms_on c.args.later.now in
-    reached-all q tables row (look_taken look) c.args.atom links look.atom c.loop-at.found
+    reached-all q tables row (look_taken look) c.args.atom links look.atom c.loop-place.found
     (up-all q tables row (look_taken look) [] c.args.atom (rows_of q tables c.args.atom) c.args.places.now c.requires.places
-    (λ j. HasReached q tables row (record { atom = c.args.atom; row = get_or (rows_of q tables c.args.atom) j [] } ∷ look_taken look) links look.atom c.loop-at.found)
-    c.loop-at.at c.loop-at-test.false c.loop-at.invariant.added)
+    (λ j. HasReached q tables row (record { atom = c.args.atom; row = get_or (rows_of q tables c.args.atom) j [] } ∷ look_taken look) links look.atom c.loop-place.found)
+    c.loop-place.place c.loop-place-test.false c.loop-place.invariant.added)
 
 pub add_reached-invariant_of-guess : goal.add_reached-invariant_of-guess
 add_reached-invariant_of-guess t c =

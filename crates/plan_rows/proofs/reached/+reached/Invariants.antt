@@ -16,11 +16,11 @@ abbrev pub decreases-add_reached : goal.decreases-add_reached
 decreases-add_reached l = 3 * length l.links.now
 
 -- what the rows so far lead to is there
-abbrev pub invariant-add_guesses-loop-at : goal.invariant-add_guesses-loop-at
-invariant-add_guesses-loop-at l = record {
+abbrev pub invariant-add_guesses-loop-place : goal.invariant-add_guesses-loop-place
+invariant-add_guesses-loop-place l = record {
   kept : (p : ℕ) → Contains l.fn.found p → Contains l.found p;
-  added : HasReachedUpTo (look_query l.look) (look_tables l.look) (option_copied l.row) (look_taken l.look) l.atom (atoms_on l.later) l.look.atom l.found l.at;
+  added : HasReachedUpTo (look_query l.look) (look_tables l.look) (option_copied l.row) (look_taken l.look) l.atom (atoms_on l.later) l.look.atom l.found l.place;
 }
 
-abbrev pub decreases-add_guesses-loop-at : goal.decreases-add_guesses-loop-at
-decreases-add_guesses-loop-at l = l.places.end - l.at
+abbrev pub decreases-add_guesses-loop-place : goal.decreases-add_guesses-loop-place
+decreases-add_guesses-loop-place l = l.places.end - l.place
