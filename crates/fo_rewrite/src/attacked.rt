@@ -17,20 +17,21 @@ pub(crate) fn next_atom<'x>(
     named: &'x Named<'x>,
     sizes: &'x [u32],
     left: &AtomSet,
+    attacked: &AtomSet,
     choice: Choice,
 ) -> Option<u32>
-    requires { (K : ℕ) → HasAtom left.now K ↔ IsLeft named.now.query.now named.now.view K }
+    requires left { (K : ℕ) → HasAtom left.now K ↔ IsLeft named.now.query.now named.now.view K }
+    requires attacked { (G : ℕ) → HasAtom attacked.now G ↔ IsAttacked named.now.query.now (seen named.now.query.now named.now.view) G }
     ensures first { choice ≡ First → IfSome result (IsFirst named.now.query.now (seen named.now.query.now named.now.view)) }
     ensures next { MatchOption result (IsStuck named.now.query.now (seen named.now.query.now named.now.view)) (IsNext named.now.query.now (seen named.now.query.now named.now.view)) }
 {
-    let attacked = attacked_atoms(named);
-    let Some(first) = first_outside(left, &attacked) else {
+    let Some(first) = first_outside(left, attacked) else {
         return None;
     };
     match choice {
         Choice::First => Some(first),
         Choice::Preferred { first: wanted } => {
-            Some(preferred(named, sizes, left, &attacked, wanted, first))
+            Some(preferred(named, sizes, left, attacked, wanted, first))
         }
     }
 }

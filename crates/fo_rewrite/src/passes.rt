@@ -5,11 +5,12 @@ ghost use Rattle.cqa_model.specs.Variables.{whole};
 ghost use Rattle.cqa_model.specs.Graph.{HasCycle};
 ghost use Rattle.cqa_model.specs.Plan.{IsEliminationOf};
 ghost use Rattle.fo_rewrite.specs.Planning.{IsExact};
+ghost use Rattle.fo_rewrite.specs.Starting.{IsWhole};
 
 use crate::attacked::attacked_atoms;
 use crate::known::Known;
 use crate::linking::Link;
-use crate::planning::eliminated;
+use crate::planning::{Outset, eliminated};
 use crate::preference::Choice;
 use cqa_model::{Plan, Query, variables};
 use cqa_value::NoMemory;
@@ -56,32 +57,36 @@ pub fn elimination_of(alloc: Global, query: &Query, sizes: &[u32]) -> Result<Opt
     ensures cycle { IfOk result (λ found. IsNone found ↔ HasCycle query.now (whole query.now)) }
     ensures exact { IfOk result (λ found. IfSome found (λ plan. IsExact query.now plan.order)) }
 {
-    let first = None;
-    match eliminated(alloc, query, sizes, Choice::Preferred { first })? {
-        Some(plan) => Ok(Some(best_order(alloc, query, sizes, plan))),
-        None => Ok(None),
-    }
-}
-
-/// The cheapest of an order and a few that begin with other atoms, which are made until one has no step apart.
-fn best_order<'x>(alloc: Global, query: &'x Query, sizes: &'x [u32], plan: Plan) -> Plan
-    requires { IsEliminationOf query.now plan.order }
-    ensures { IsEliminationOf query.now result.order }
-{
     let named = Named {
         query,
         variables: variables(query),
         view: View::whole(query),
     };
+    let outset = Outset {
+        named: &named,
+        attacked: attacked_atoms(&named),
+        sizes,
+    };
+    match eliminated(alloc, &outset, Choice::Preferred { first: None })? {
+        Some(plan) => Ok(Some(cheapest(alloc, &outset, plan))),
+        None => Ok(None),
+    }
+}
+
+/// The cheapest of an order and a few that begin with other atoms, which are made until one has no step apart.
+fn cheapest(alloc: Global, outset: &Outset<'_>, plan: Plan) -> Plan
+    requires whole { IsWhole outset.now }
+    requires order { IsEliminationOf outset.now.named.now.query.now plan.order }
+    ensures { IsEliminationOf outset.now.named.now.query.now result.order }
+{
     let begun = plan.order.as_slice().first().copied();
-    let cost = cost_of(&named, sizes, plan.order.as_slice());
+    let cost = cost_of(outset, plan.order.as_slice());
     let mut best = Pass { plan, cost };
-    let attacked = attacked_atoms(&named);
     let mut passes = 1;
-    for atom in 0..query.atoms.len() as u32 {
-        let wanted = !attacked.has(atom) && begun != Some(atom);
+    for atom in 0..outset.named.query.atoms.len() as u32 {
+        let wanted = !outset.attacked.has(atom) && begun != Some(atom);
         if wanted && passes < MOST_PASSES && best.cost.apart > 0 {
-            begin_with(alloc, &named, sizes, atom, &mut best);
+            begin_with(alloc, outset, atom, &mut best);
             passes += 1;
         }
     }
@@ -90,14 +95,14 @@ fn best_order<'x>(alloc: Global, query: &'x Query, sizes: &'x [u32], plan: Plan)
 }
 
 /// Takes the order that begins with an atom in place of another if it is cheaper. Where memory is refused, the other stays.
-fn begin_with<'x>(alloc: Global, named: &'x Named<'x>, sizes: &'x [u32], atom: u32, best: &mut Pass)
-    requires { IsEliminationOf named.now.query.now best.old.plan.order }
-    ensures { IsEliminationOf named.now.query.now best.new.plan.order }
+fn begin_with(alloc: Global, outset: &Outset<'_>, atom: u32, best: &mut Pass)
+    requires whole { IsWhole outset.now }
+    requires order { IsEliminationOf outset.now.named.now.query.now best.old.plan.order }
+    ensures { IsEliminationOf outset.now.named.now.query.now best.new.plan.order }
 {
-    let first = Some(atom);
-    match eliminated(alloc, named.query, sizes, Choice::Preferred { first }) {
+    match eliminated(alloc, outset, Choice::Preferred { first: Some(atom) }) {
         Ok(Some(plan)) => {
-            let cost = cost_of(named, sizes, plan.order.as_slice());
+            let cost = cost_of(outset, plan.order.as_slice());
             if cost < best.cost {
                 *best = Pass { plan, cost };
             } else {
@@ -109,14 +114,14 @@ fn begin_with<'x>(alloc: Global, named: &'x Named<'x>, sizes: &'x [u32], atom: u
 }
 
 /// What an order costs.
-fn cost_of<'x>(named: &'x Named<'x>, sizes: &'x [u32], order: &[u32]) -> Cost
-    requires { All (λ F. F < length named.now.query.now.atoms) order.now }
+fn cost_of(outset: &Outset<'_>, order: &[u32]) -> Cost
+    requires { All (λ F. F < length outset.now.named.now.query.now.atoms) order.now }
 {
     let mut cost = Cost { apart: 0, rows: 0 };
     let mut taken = AtomSet::new();
     let mut bits: i32 = 0;
     for atom in order {
-        let known = Known::new(named, sizes, &taken);
+        let known = Known::new(outset.named, outset.sizes, &taken);
         if known.link(*atom) == Link::Through {
             cost.apart = cost.apart.saturating_add(1);
         }
