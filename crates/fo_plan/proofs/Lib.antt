@@ -8,3 +8,4 @@ mod Walked
 mod Reached
 mod Gathered
 mod Adding
+mod Barren

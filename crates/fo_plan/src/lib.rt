@@ -6,6 +6,7 @@ mod certain;
 mod enough;
 mod giving;
 mod holding;
+mod notes;
 mod paths;
 
 pub use block::block_of;
