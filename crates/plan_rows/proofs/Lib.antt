@@ -6,6 +6,7 @@ pub mod Keeping
 pub mod Sharing
 pub mod Reaching
 pub mod Linked
-pub mod Spanning
 pub mod Looking
 pub mod Wanting
+pub mod Guessing
+pub mod Spanning

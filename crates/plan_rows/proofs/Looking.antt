@@ -1,19 +1,17 @@
 -- Walks over the places of rows that are looked for.
-use Rattle.std.proofs.Common.{◌≡◌, ℕ, ◌<◌, ◌≤◌, inl, inr, Option, List, [], length, get_or, ap, sym, ◌∙◌, subst, arith, le_of_eq}
+use Rattle.std.proofs.Common.{◌≡◌, ℕ, Some, slice_get, ◌<◌, ◌≤◌, inl, inr, Option, List, [], length, get_or, ap, sym, ◌∙◌, subst, arith}
 use Rattle.std.proofs.lemmas.Bool.{cases_lt}
-use Rattle.std.proofs.lemmas.List.{take_all}
+use Rattle.std.proofs.lemmas.Option.{get_or_from_slice_get}
 use Rattle.cqa_value.specs.declared.value.Value.{Value}
 use Rattle.cqa_model.specs.declared.query.Query.{Query}
-use Rattle.cqa_model.specs.Database.{key_of}
+use Rattle.cqa_model.specs.Database.{Table, stored}
+use Rattle.cqa_model.specs.Query.{atom_at, rows_of}
 use Rattle.cqa_model.specs.Plan.{Placed}
-use Rattle.table_blocks.specs.Spans.{first_key}
+use Rattle.table_blocks.specs.Tables.{rows_at}
 use Rattle.plan_rows.specs.Links.{LeadsTo}
 use Rattle.plan_rows.specs.Places.{AreThere, IsPassed}
 use Rattle.plan_rows.specs.declared.places.Places.{Places}
 use Rattle.plan_rows.proofs.Reaching.{leads-may}
-
-pub whole-known : (columns : List ℕ) (values y : List Value) → length values ≡ length columns → first_key columns values y ≡ values → key_of columns y ≡ values
-whole-known columns values y size e = ap (λ cs. key_of cs y) (sym (take_all (length values) columns (le_of_eq (sym size)))) ∙ e
 
 -- where all rows are that may fit, all are to which rows of links lead
 pub there-led : (q : Query) (tables : List (List (List Value))) (row : Option (List Value)) (taken : List Placed) (links : List ℕ) (F : ℕ) (rows : List (List Value)) (s : Places) → AreThere q tables row taken [] F rows s → AreThere q tables row taken links F rows s
@@ -46,3 +44,11 @@ module _ (q : Query) (tables : List (List (List Value))) (row : Option (List Val
     | inl less ↦ before i l less f
     | inr high ↦ absurd (h.others i l (inr (omega (arith, ended, high))) f)
   ]
+
+-- what was shown is so still where what is said follows
+pub up-grown : (rows : List (List Value)) (L : List Value → Type 0) (P Q : ℕ → Type 0) (at : ℕ) → ((i : ℕ) → P i → Q i) → IsUpTo rows L P at → IsUpTo rows L Q at
+up-grown rows L P Q at h before i l low f = h i (before i l low f)
+
+-- the row that is read at a place of a table is that of its atom
+pub read-row : (q : Query) (db : List Table) (F table : ℕ) (rows : List (List Value)) (at : ℕ) (x : List Value) → rows ≡ rows_at db table → table ≡ (atom_at q F).table → slice_get rows at ≡ Some x → get_or (rows_of q (stored db) F) at [] ≡ x
+read-row q db F table rows at x is table_is there = ap (λ (rs : List (List Value)). get_or rs at []) (sym (is ∙ ap (rows_at db) table_is)) ∙ get_or_from_slice_get rows at x [] there

@@ -14,6 +14,11 @@ LeadsTo q tables row before [] F y = MayFit q row before F y
 LeadsTo q tables row before (G ∷ links) F y =
     (z : List Value) × Contains (rows_of q tables G) z × MayFit q row before G z × LeadsTo q tables row (record { atom = G; row = z } ∷ before) links F y
 
+-- the places of F's rows to which rows of links lead are among these
+abbrev pub HasReached : Query → List (List (List Value)) → Option (List Value) → List Placed → List ℕ → ℕ → List ℕ → Type 0
+HasReached q tables row taken links F found =
+    (i : ℕ) → i < length (rows_of q tables F) → LeadsTo q tables row taken links F (slice_index_or (rows_of q tables F) i []) → Contains found i
+
 -- a row of F fits, and the rest of the plan holds once it is taken
 abbrev pub RowHolds : Query → List (List (List Value)) → List Value → List Placed → ℕ → List ℕ → List Value → Type 0
 RowHolds q tables row taken F plan y = Fits q row taken F y × PlanHolds q tables row (record { atom = F; row = y } ∷ taken) plan

@@ -1,10 +1,9 @@
 -- By what rows of a table are looked for.
-use Rattle.std.specs.Prelude.{◌≡◌, ℕ, ◌<◌, ◌≤◌, List, [], length, slice_index_or, Contains}
+use Rattle.std.specs.Prelude.{◌≡◌, ℕ, ◌<◌, ◌≤◌, [], length, slice_index_or, Contains}
 use Rattle.std.specs.Ordering.{nat_cmp}
 use Rattle.std.specs.List.Sorted.{IsStrictlySortedBy}
 use Rattle.std.proofs.Props.{props}
 use Rattle.std.proofs.lemmas.Map.Keys.{IsStrictlySortedBy-prop}
-use Rattle.cqa_value.specs.declared.value.Value.{Value}
 use Rattle.cqa_model.specs.Database.{key_of}
 use Rattle.plan_rows.specs.declared.wanted.Wanted.{Wanted}
 use Rattle.plan_rows.specs.declared.wanted.Wanted.TheVariants.{All, Indexed, Listed}
@@ -30,9 +29,3 @@ pub size_once : (w : Wanted) (size : ℕ) → IsProp (IsOfSize w size)
 size_once All size = hlevel props
 size_once (Indexed index values) size = hlevel props
 size_once (Listed places) size = IsStrictlySortedBy-prop nat_cmp places.items
-
--- an index is of these rows
-abbrev pub IsOverRows : Wanted → List (List Value) → Type 0
-IsOverRows All rows = Unit {0}
-IsOverRows (Indexed index values) rows = index.now.rows ≡ rows
-IsOverRows (Listed places) rows = Unit {0}

@@ -8,6 +8,7 @@ mod known;
 mod links;
 mod look;
 mod memo;
+mod place_set;
 mod places;
 mod reached;
 mod setting;

@@ -1,8 +1,6 @@
-use Rattle.std.proofs.Common.{◌≡◌, ℕ, ◌<◌, ◌≤◌, ◌⊎◌, inl, inr, [], length, get_or, ap, ◌∙◌, arith, le_of_eq}
-use Rattle.std.specs.Option.{option_copied}
+use Rattle.std.proofs.Common.{◌≡◌, inl, inr, length, ap, ◌∙◌, arith, le_of_eq}
 use Rattle.table_blocks.specs.Tables.{rows_at}
-use Rattle.plan_rows.specs.Over.{look_query, look_tables, look_taken, look_rows}
-use Rattle.plan_rows.specs.Links.{LeadsTo, atoms_on}
+use Rattle.plan_rows.specs.Over.{look_rows}
 use Rattle.plan_rows.proofs.places.Places.by_links.Goals as goal
 
 pub returns : goal.returns
