@@ -1,7 +1,7 @@
 -- Lists of atoms that others are added to, and what stands behind an atom in an order.
 use Rattle.std.proofs.Common.{◌≡◌, ◌∙◌, ℕ, ◌+◌, ◌<◌, ◌≤◌, inl, inr, List, [], ◌∷◌, ◌++◌, length, get_or, take, drop, Contains, refl, sym, ap, subst, append_assoc, arith, length-append, take-append-drop, zero, suc, false, ◌==◌, true≢false}
 use Rattle.std.proofs.Math.Seq.{drop-append-add}
-use Rattle.std.proofs.lemmas.List.{length-take-le}
+use Rattle.std.proofs.lemmas.List.{append-nil, length-take-le}
 use Rattle.std.proofs.lemmas.List.Elements.{Contains-append_right, Contains-append_cases}
 use Rattle.cqa_value.proofs.Words.{mem-nil, mem-cases}
 use Rattle.cqa_model.specs.declared.query.Query.{Query}
@@ -9,13 +9,9 @@ use Rattle.cqa_model.specs.Shape.{AreDistinct}
 use Rattle.plan_rows.specs.Left.{AreAtoms}
 use Rattle.fo_plan.specs.Chaining.{GoesOn}
 
-append-nil : (xs : List ℕ) → xs ≡ xs ++ []
-append-nil [] = refl
-append-nil (x ∷ xs) = ap (λ z. x ∷ z) (append-nil xs)
-
 -- nothing is added
 pub goes-nowhere : (atoms old : List ℕ) → GoesOn atoms old old
-goes-nowhere atoms old = record { added = []; is = append-nil old; among = λ G m. absurd (mem-nil G m) }
+goes-nowhere atoms old = record { added = []; is = sym (append-nil old); among = λ G m. absurd (mem-nil G m) }
 
 -- one more is added
 pub goes-further : (atoms old new : List ℕ) (F : ℕ) → GoesOn atoms old new → Contains atoms F → GoesOn atoms old (new ++ F ∷ [])

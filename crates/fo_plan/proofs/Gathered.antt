@@ -204,6 +204,18 @@ add-block G A P old none part new e add step same row = (
     part-of row (inl m) = absurd (mem-nil row (subst (λ z. Contains z row) e m))
     part-of row (inr g) = g
 
+-- nothing was given where nothing was added to no rows
+pub none-given : (P : List Value → Type 0) (none new : List (List Value)) → IsAdded P none new → new ≡ [] → (row : List Value) → P row → ⊥
+none-given P none new a e row p = mem-nil row (subst (λ z. Contains z row) e ((a row).1 (inr p)))
+
+-- what was added to no rows was moved
+pub moved-on : (P : List Value → Type 0) (none part old new : List (List Value)) → none ≡ [] → IsAdded P none part → IsAdded (Contains part) old new → IsAdded P old new
+moved-on P none part old new e a moved = adds-same (Contains part) P (λ row. ((λ m. only row ((a row).0 m)), (λ p. (a row).1 (inr p)))) old new moved
+  where
+    only : (row : List Value) → Contains none row ⊎ P row → P row
+    only row (inl m) = absurd (mem-nil row (subst (λ z. Contains z row) e m))
+    only row (inr p) = p
+
 -- a block of one row
 pub add-one : (q : Query) (tables : List (List (List Value))) (taken : List Placed) (F : ℕ) (plan : List ℕ) (first : List Value) (block : List (List Value)) → block ≡ first ∷ [] → Suits q taken F first → (old new : List (List Value)) →
     IsAdded (Gives q tables (record { atom = F; row = first } ∷ taken) plan) old new → IsAdded (BlockGives q tables taken F plan block) old new

@@ -10,3 +10,4 @@ mod Walked
 mod Reached
 mod Gathered
 mod Adding
+mod Barren

@@ -3,3 +3,4 @@ pub mod Holding
 pub mod Giving
 pub mod FirstBlock
 pub mod Chaining
+pub mod Noted

@@ -11,6 +11,7 @@ ghost use Rattle.plan_rows.specs.Left.{AreAtoms};
 ghost use Rattle.plan_rows.specs.Links.{AreWays};
 
 use crate::giving::add_given;
+use crate::notes::Notes;
 use cqa_model::{Plan, Query, variables};
 use cqa_value::{Items, NoMemory, Row};
 use plan_rows::{
@@ -66,10 +67,13 @@ pub fn answers<'a>(
         taken: &none,
         plan: order,
     };
-    let mut memo = Memo::new(alloc, turns, most);
+    let mut notes = Notes {
+        memo: Memo::new(alloc, turns, most),
+        barren: None,
+    };
     let mut found = Answers::new(alloc);
-    let added = add_given(&rest, &mut found, &mut memo);
-    drop(memo);
+    let added = add_given(&rest, &mut found, &mut notes);
+    drop(notes);
     match added {
         Ok(()) => Ok(found.listed()),
         Err(fault) => {

@@ -10,10 +10,13 @@ ghost use Rattle.plan_rows.specs.Over.{query_of, tables_of, rows_before};
 ghost use Rattle.plan_rows.specs.Underway.{IsRight};
 ghost use Rattle.fo_plan.specs.Enough.{AreSought};
 ghost use Rattle.fo_plan.specs.Holding.{HoldsWith, AllHoldWith};
+ghost use Rattle.plan_rows.specs.Taking.{placed};
+ghost use Rattle.fo_plan.specs.Noted.{StandsApart, AreRight};
 ghost use Rattle.fo_plan.specs.Giving.{IsAnswer, BlockGives, IsAdded, RestHasAll, StepHasAll, RestGives, StepGives};
 
 use crate::enough::Blocks;
 use crate::holding::{all_hold, holds_with};
+use crate::notes::Notes;
 use cqa_value::{NoMemory, Row};
 use plan_rows::{Memo, Rest, Step, Taken, answer_of, are_settled, suits};
 use row_answers::Answers;
@@ -89,22 +92,47 @@ fn add_settled(rest: &Rest<'_>, found: &mut Answers, memo: &mut Memo) -> Result<
     Ok(())
 }
 
+/// Whether no column of the rows taken is of a variable of the atoms that are left, while there are both.
+fn stands_apart(rest: &Rest<'_>) -> bool
+    ensures { IsTrue result → StandsApart rest.now.course.now (placed rest.now.taken.now) }
+{
+    let course = rest.course;
+    let place = course.order.len() - rest.plan.len();
+    if place >= course.shared.len() {
+        return false;
+    }
+    place > 0 && course.shared[place].as_slice().is_empty()
+}
+
+/// Moves rows to others.
+fn move_all(part: &mut Answers, found: &mut Answers) -> Result<(), NoMemory>
+    ensures { OnOk result (IsAdded (Contains part.old) found.old found.new) }
+{
+    while let Some(row) = part.pop() {
+        found.put(row)?;
+    }
+    Ok(())
+}
+
 /// Adds the rows that the rows taken and the rest of a plan give.
 #[cycle(giving)]
 pub(crate) fn add_given(
     rest: &Rest<'_>,
     found: &mut Answers,
-    memo: &mut Memo,
+    notes: &mut Notes,
 ) -> Result<(), NoMemory>
     requires all { RestHasAll rest.now }
-    requires memo { IsRight rest.now.course.now memo.old }
+    requires notes { AreRight rest.now.course.now notes.old }
     ensures added { OnOk result (IsAdded (RestGives rest.now) found.old found.new) }
-    ensures memo { IsRight rest.now.course.now memo.new }
+    ensures notes { AreRight rest.now.course.now notes.new }
 {
     let course = rest.course;
     let plan = rest.plan;
+    if notes.give_none(plan.len()) {
+        return Ok(());
+    }
     if are_settled(course.setting.query, plan) {
-        return add_settled(rest, found, memo);
+        return add_settled(rest, found, &mut notes.memo);
     }
     match plan {
         [] => unreachable!(),
@@ -115,21 +143,65 @@ pub(crate) fn add_given(
                 atom: *atom,
                 rest: others,
             };
-            add_blocks(&step, found, memo)
+            if stands_apart(rest) {
+                add_apart(&step, found, notes)
+            } else {
+                add_blocks(&step, found, notes)
+            }
         }
     }
 }
 
+/// Adds the rows that an atom's table gives where nothing of the atoms that are left is shared with the rows taken. If there are
+/// none, that is noted.
+#[cycle(giving)]
+fn add_apart(step: &Step<'_>, found: &mut Answers, notes: &mut Notes) -> Result<(), NoMemory>
+    requires all { StepHasAll step.now }
+    requires apart { StandsApart step.now.course.now (rows_before step.now) }
+    requires notes { AreRight step.now.course.now notes.old }
+    ensures added { OnOk result (IsAdded (StepGives step.now) found.old found.new) }
+    ensures notes { AreRight step.now.course.now notes.new }
+{
+    let course = step.course;
+    let mut part = Answers::new(course.setting.alloc);
+    let added = add_or_note(step, &mut part, found, notes);
+    drop(part);
+    added
+}
+
+/// The same, by way of a list of what is given.
+#[cycle(giving)]
+fn add_or_note(
+    step: &Step<'_>,
+    part: &mut Answers,
+    found: &mut Answers,
+    notes: &mut Notes,
+) -> Result<(), NoMemory>
+    requires all { StepHasAll step.now }
+    requires apart { StandsApart step.now.course.now (rows_before step.now) }
+    requires none { part.old ≡ [] }
+    requires notes { AreRight step.now.course.now notes.old }
+    ensures added { OnOk result (IsAdded (StepGives step.now) found.old found.new) }
+    ensures notes { AreRight step.now.course.now notes.new }
+{
+    add_blocks(step, part, notes)?;
+    if part.is_empty() {
+        notes.barren = Some(step.rest.len() + 1);
+        return Ok(());
+    }
+    move_all(part, found)
+}
+
 /// Adds the rows that the blocks of an atom's table give.
 #[cycle(giving)]
-fn add_blocks(step: &Step<'_>, found: &mut Answers, memo: &mut Memo) -> Result<(), NoMemory>
+fn add_blocks(step: &Step<'_>, found: &mut Answers, notes: &mut Notes) -> Result<(), NoMemory>
     requires all { StepHasAll step.now }
-    requires memo { IsRight step.now.course.now memo.old }
+    requires notes { AreRight step.now.course.now notes.old }
     ensures added { OnOk result (IsAdded (StepGives step.now) found.old found.new) }
-    ensures memo { IsRight step.now.course.now memo.new }
+    ensures notes { AreRight step.now.course.now notes.new }
 {
     let blocks = Blocks::new(step, None);
-    let added = add_all_of(step, &blocks, found, memo);
+    let added = add_all_of(step, &blocks, found, notes);
     drop(blocks);
     added
 }
@@ -140,17 +212,17 @@ fn add_all_of(
     step: &Step<'_>,
     blocks: &Blocks<'_>,
     found: &mut Answers,
-    memo: &mut Memo,
+    notes: &mut Notes,
 ) -> Result<(), NoMemory>
     requires all { StepHasAll step.now }
     requires sought { (row : List Cell) → AreSought blocks.now (HoldsWith step.now row) }
-    requires memo { IsRight step.now.course.now memo.old }
+    requires notes { AreRight step.now.course.now notes.old }
     ensures added { OnOk result (IsAdded (λ row. IsAnswer (query_of step.now) (rows_before step.now) row × SomeBlockFits blocks.now.key.now blocks.now.rows (HoldsWith step.now row)) found.old found.new) }
-    ensures memo { IsRight step.now.course.now memo.new }
+    ensures notes { AreRight step.now.course.now notes.new }
 {
     let mut spot = blocks.start();
     while let Some(block) = blocks.next(&mut spot) {
-        add_block(step, &block, found, memo)?;
+        add_block(step, &block, found, notes)?;
     }
     Ok(())
 }
@@ -161,13 +233,13 @@ fn add_block(
     step: &Step<'_>,
     block: &Rows<'_>,
     found: &mut Answers,
-    memo: &mut Memo,
+    notes: &mut Notes,
 ) -> Result<(), NoMemory>
     requires all { StepHasAll step.now }
     requires some { 0 < length block.now }
-    requires memo { IsRight step.now.course.now memo.old }
+    requires notes { AreRight step.now.course.now notes.old }
     ensures added { OnOk result (IsAdded (BlockGives (query_of step.now) (tables_of step.now) (rows_before step.now) step.now.atom step.now.rest.now block.now) found.old found.new) }
-    ensures memo { IsRight step.now.course.now memo.new }
+    ensures notes { AreRight step.now.course.now notes.new }
 {
     if !all_suit(step, block) {
         return Ok(());
@@ -179,11 +251,11 @@ fn add_block(
             taken: &more,
             plan: &*step.rest,
         };
-        return add_given(&rest, found, memo);
+        return add_given(&rest, found, notes);
     }
     let course = step.course;
     let mut part = Answers::new(course.setting.alloc);
-    let added = add_tested(step, block, &mut part, found, memo);
+    let added = add_tested(step, block, &mut part, found, notes);
     drop(part);
     added
 }
@@ -195,15 +267,15 @@ fn add_tested(
     block: &Rows<'_>,
     part: &mut Answers,
     found: &mut Answers,
-    memo: &mut Memo,
+    notes: &mut Notes,
 ) -> Result<(), NoMemory>
     requires all { StepHasAll step.now }
     requires some { 0 < length block.now }
     requires first { Suits (query_of step.now) (rows_before step.now) step.now.atom (slice_index_or block.now 0 []) }
     requires none { part.old ≡ [] }
-    requires memo { IsRight step.now.course.now memo.old }
+    requires notes { AreRight step.now.course.now notes.old }
     ensures added { OnOk result (IsAdded (BlockGives (query_of step.now) (tables_of step.now) (rows_before step.now) step.now.atom step.now.rest.now block.now) found.old found.new) }
-    ensures memo { IsRight step.now.course.now memo.new }
+    ensures notes { AreRight step.now.course.now notes.new }
 {
     let more = Taken::Before(step.atom, block.get(0), &*step.taken);
     let rest = Rest {
@@ -211,7 +283,7 @@ fn add_tested(
         taken: &more,
         plan: &*step.rest,
     };
-    add_given(&rest, part, memo)?;
+    add_given(&rest, part, notes)?;
     let (_, others) = block.split_at(1);
-    keep_all(step, &others, part, found, memo)
+    keep_all(step, &others, part, found, &mut notes.memo)
 }

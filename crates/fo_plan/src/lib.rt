@@ -7,6 +7,7 @@ mod enough;
 mod giving;
 mod holding;
 mod links;
+mod notes;
 mod paths;
 mod ways;
 

@@ -104,22 +104,25 @@ impl Memo {
         self.turns = self.turns.saturating_sub(1);
     }
 
-    /// By what it is remembered whether a rest of a plan holds; `None` before the turns are used up, and where there is no
-    /// key.
+    /// By what it is remembered whether a rest of a plan holds; `None` where there is no key, and before the turns are used
+    /// up, unless the rest depends neither on the rows taken nor on a candidate.
     pub fn key(&self, rest: &Rest<'_>, row: &Row) -> Option<Row>
         ensures { IfSome result (IsKey rest.now.course.now (placed rest.now.taken.now) rest.now.plan.now row.now) }
     {
-        if self.turns > 0 {
-            return None;
-        }
         let course = rest.course;
         let plan = rest.plan;
         let place = course.order.len() - plan.len();
         if place >= course.shared.len() {
             return None;
         }
-        let settled = are_settled(course.setting.query, plan);
         let columns = course.shared[place].as_slice();
+        if self.turns > 0 && !columns.is_empty() {
+            return None;
+        }
+        let settled = are_settled(course.setting.query, plan);
+        if self.turns > 0 && !settled {
+            return None;
+        }
         key_of(
             course.setting.alloc,
             plan.len(),

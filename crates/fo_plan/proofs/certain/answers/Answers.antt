@@ -23,8 +23,8 @@ invariant_of-rest c = record { underway = underway-starts _ }
 pub add_given-added-requires-clause-all : goal.add_given-added-requires-clause-all
 add_given-added-requires-clause-all c F l = inl (subst (λ p. Contains p F) (sym c.as_slice-order.ensures) (c.requires.all F l))
 
-pub add_given-added-requires-clause-memo : goal.add_given-added-requires-clause-memo
-add_given-added-requires-clause-memo c = none-right _ c.new-memo.result c.new-memo.ensures
+pub add_given-added-requires-clause-notes : goal.add_given-added-requires-clause-notes
+add_given-added-requires-clause-notes c = record { memo = none-right _ c.new.result c.new.ensures; barren = tt }
 
 pub returns-in-Ok-clause-exactly : goal.returns-in-Ok-clause-exactly
 returns-in-Ok-clause-exactly c row =
