@@ -1,4 +1,6 @@
 mod Looks
+mod Chained
+mod LinkLists
 mod Spanned
 mod Parted
 mod Leading

@@ -6,14 +6,36 @@ ghost use Rattle.cqa_model.specs.Certain.{IsCertainAnswer};
 ghost use Rattle.cqa_model.specs.Variables.{whole};
 ghost use Rattle.cqa_model.specs.Graph.{HasCycle};
 ghost use Rattle.cqa_model.specs.Plan.{IsEliminationOf};
+ghost use Rattle.row_cursor.specs.Spots.{ArePaths};
 ghost use Rattle.fo_rewrite.specs.Planning.{IsExact};
 
 use cqa_model::{Plan, Query};
 use cqa_value::{Items, NoMemory, Row};
-use fo_plan::{answers, paths_of};
+use fo_plan::{answers, paths_of, ways_of};
 use fo_rewrite::elimination_of;
+use row_cursor::RowIndex;
 use std::alloc::Global;
 use table_blocks::Database;
+
+/// The certain rows of a query by an elimination order, which is exact, and by indexes of the query's tables.
+fn rows_by_paths<'a>(
+    alloc: Global,
+    db: &'a Database,
+    query: &'a Query,
+    plan: &Plan,
+    paths: &'a [Option<RowIndex<'a>>],
+) -> Result<Items<Row>, NoMemory>
+    requires fits { FitsDatabase query.now db.now }
+    requires order { IsEliminationOf query.now plan.now.order }
+    requires exact { IsExact query.now plan.now.order }
+    requires paths { ArePaths query.now db.now paths.now }
+    ensures { IfOk result (IsCertainAnswer db.now query.now) }
+{
+    let ways = ways_of(alloc, plan, db, query, &[])?;
+    let rows = answers(alloc, plan, db, query, paths, ways.as_slice());
+    drop(ways);
+    rows
+}
 
 /// The certain rows of a query by an elimination order, which is exact.
 fn planned_rows<'a>(
@@ -28,9 +50,20 @@ fn planned_rows<'a>(
     ensures { IfOk result (IsCertainAnswer db.now query.now) }
 {
     let paths = paths_of(alloc, plan, db, query, &[])?;
-    let rows = answers(alloc, plan, db, query, paths.as_slice());
+    let rows = rows_by_paths(alloc, db, query, plan, paths.as_slice());
     drop(paths);
     rows
+}
+
+/// The number of rows of each atom's table.
+fn sizes_of(alloc: Global, db: &Database, query: &Query) -> Result<Vec<u32>, NoMemory>
+    requires { FitsDatabase query.now db.now }
+{
+    let mut sizes = Vec::new(alloc);
+    for atom in query.atoms.as_slice() {
+        sizes.push(db.rows(atom.table).len() as u32)?;
+    }
+    Ok(sizes)
 }
 
 /// The certain rows of a query that has a plan, ascending and each once; `None` exactly where its attacks have a cycle
@@ -48,7 +81,8 @@ pub fn certain_by_plan(
     ensures certain { IfOk result (λ found. IfSome found (λ answers. IsCertainAnswer db.now query.now answers)) }
     ensures cycle { IfOk result (λ found. IsNone found ↔ HasCycle query.now (whole query.now)) }
 {
-    let Some(plan) = elimination_of(alloc, query)? else {
+    let sizes = sizes_of(alloc, db, query)?;
+    let Some(plan) = elimination_of(alloc, query, sizes.as_slice())? else {
         return Ok(None);
     };
     let rows = planned_rows(alloc, db, query, &plan);
