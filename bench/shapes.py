@@ -335,7 +335,6 @@ class Measured:
 
     def __init__(self, words, query, n):
         self.words, self.query, self.n = words, query, n
-        self.load = b"".join(load_of(table, n, words.fan) for table in query.tables)
         self.statements, self.runs, self.beside = {}, {}, {}
         peer = peer_of(n, words.fan)
         self.join = peer.rows_of_join(query, n)
@@ -350,16 +349,21 @@ class Measured:
     def run(self, verb, statement):
         """Runs a statement, more than once where it takes longer than a moment, and the other program in turn."""
         self.statements[verb] = statement
+        load = b"".join(load_of(table, self.n, self.words.fan) for table in self.query.tables)
         for number in range(self.words.repeat):
-            self.keep(self.runs, verb, Timed(self.words.program, self.load, statement, self.words.limit))
+            self.keep(self.runs, verb, Timed(self.words.program, load, statement, self.words.limit))
             if self.words.beside:
-                self.keep(self.beside, verb, Timed(self.words.beside, self.load, statement, self.words.limit))
+                self.keep(self.beside, verb, Timed(self.words.beside, load, statement, self.words.limit))
             if number == 0 and not any(MOMENT < runs[verb].whole() < 2.0 for runs in (self.runs, self.beside) if verb in runs):
                 break
         self.compare(verb, statement)
 
     def keep(self, runs, verb, timed):
         runs[verb] = runs[verb].least(timed) if verb in runs else timed
+
+    def forget_replies(self):
+        for timed in (*self.runs.values(), *self.beside.values()):
+            timed.reply = timed.reply and "forgotten"
 
     def fail(self, text):
         raise SystemExit("%s, at n = %d: %s" % (self.query.text(self.n), self.n, text))
@@ -474,6 +478,8 @@ def measured(words, query):
     for growth in growths:
         if growth.last.whole() < 1.0 and any(growth.faults()):
             growth.again()
+    small.forget_replies()
+    big.forget_replies()
     return growths
 
 
@@ -530,8 +536,8 @@ def main():
     growths = []
     for number, query in enumerate(queries, 1):
         growths += measured(words, query)
-        if sys.stderr.isatty():
-            print("\r%d of %d" % (number, len(queries)), end="", file=sys.stderr, flush=True)
+        if number % 50 == 0:
+            print("%d of %d queries" % (number, len(queries)), file=sys.stderr, flush=True)
     return report(words, growths, len(queries))
 
 
