@@ -11,3 +11,4 @@ mod Reached
 mod Gathered
 mod Adding
 mod Barren
+pub mod Certainty

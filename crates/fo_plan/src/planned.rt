@@ -9,9 +9,11 @@ ghost use Rattle.cqa_model.specs.Plan.{IsEliminationOf};
 ghost use Rattle.row_cursor.specs.Spots.{ArePaths};
 ghost use Rattle.fo_rewrite.specs.Planning.{IsExact};
 
+use crate::certain::answers;
+use crate::paths::paths_of;
+use crate::ways::ways_of;
 use cqa_model::{Plan, Query};
 use cqa_value::{Items, NoMemory, Row};
-use fo_plan::{answers, paths_of, ways_of};
 use fo_rewrite::elimination_of;
 use row_cursor::RowIndex;
 use std::alloc::Global;

@@ -1,7 +1,7 @@
 use Rattle.cqa_model.specs.Variables.{whole}
 use Rattle.fo_rewrite.proofs.Distinct.{plan-all, plan-atoms}
-use Rattle.plan_answers.proofs.Certainty.{certain-result}
-use Rattle.plan_answers.proofs.planned.rows_by_paths.Goals as goal
+use Rattle.fo_plan.proofs.Certainty.{certain-result}
+use Rattle.fo_plan.proofs.planned.rows_by_paths.Goals as goal
 
 pub ways_of-requires-clause-plan : goal.ways_of-requires-clause-plan
 ways_of-requires-clause-plan c = plan-atoms c.args.query.now c.args.plan.now.order c.requires.order
