@@ -6,9 +6,10 @@ ghost use Rattle.csv_rows.specs.Ends.{other_rows, plain_rows, row_has_end};
 ghost use Rattle.csv_rows.specs.Texts.{rows_bytes};
 ghost use Rattle.csv_rows.specs.Dumps.{copy_text, create_text, create_words, insert_text, table_text};
 
+use crate::ends::row_has_end;
+use crate::writing::append_block;
 use cqa_model::{Schema, schema_text};
 use cqa_value::{Name, NoMemory, Row, row_text};
-use csv_rows::{append_block, row_has_end};
 use row_pieces::Rows;
 use std::alloc::Global;
 use std::mem;
