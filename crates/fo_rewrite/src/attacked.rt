@@ -7,15 +7,16 @@ ghost use Rattle.key_closure.specs.Members.{IsLeft, seen};
 ghost use Rattle.fo_rewrite.specs.Planning.{IsAttacked, IsNext, IsFirst, IsStuck};
 ghost use Rattle.fo_rewrite.specs.declared.preference.Choice.TheVariants.{First};
 
+use crate::known::Facts;
 use crate::preference::{Choice, preferred};
 use attack_graph::attack_row;
 use cqa_model::MOST_ATOMS;
 use key_closure::{AtomSet, Named};
 
-/// An atom of the view that none attacks: the first, or the one that is preferred by the rows of each atom's table.
+/// An atom of the view that none attacks: the first, or the one that is preferred.
 pub(crate) fn next_atom<'x>(
     named: &'x Named<'x>,
-    sizes: &'x [u32],
+    facts: &'x Facts<'x>,
     left: &AtomSet,
     attacked: &AtomSet,
     choice: Choice,
@@ -31,7 +32,7 @@ pub(crate) fn next_atom<'x>(
     match choice {
         Choice::First => Some(first),
         Choice::Preferred { first: wanted } => {
-            Some(preferred(named, sizes, left, attacked, wanted, first))
+            Some(preferred(named, facts, left, attacked, wanted, first))
         }
     }
 }
@@ -49,7 +50,7 @@ pub(crate) fn attacked_atoms(named: &Named<'_>) -> AtomSet
 }
 
 /// The first atom of a set that is outside another.
-fn first_outside(set: &AtomSet, other: &AtomSet) -> Option<u32>
+pub(crate) fn first_outside(set: &AtomSet, other: &AtomSet) -> Option<u32>
     ensures { MatchOption result ((G : ℕ) → G < MOST_ATOMS → HasAtom set.now G → HasAtom other.now G)
         (λ G. (G < MOST_ATOMS) × HasAtom set.now G × (HasAtom other.now G → ⊥) × ((H : ℕ) → H < G → HasAtom set.now H → HasAtom other.now H)) }
 {

@@ -3,27 +3,52 @@
 ghost use Rattle.std.specs.Prelude.{◌≡◌, ◌<◌, ◌≤◌, length};
 ghost use Rattle.cqa_model.specs.declared.limits.TheConstants.{COLUMN_NUMBERS};
 
-use crate::linking::{Link, linked_to};
+use crate::linking::{Joined, linked_to};
 use cqa_model::{ColRef, Cond, Op, Query, Variables};
 use key_closure::{AtomSet, Named, VarSet};
 
-/// What is known of a query once some of its atoms are taken.
-#[derive(Drop)]
-pub(crate) struct Known<'a> {
-    query: &'a Query,
-    variables: &'a Variables,
-
+/// What depends on a query alone, and the rows of its tables.
+#[derive(Clone, Copy)]
+pub(crate) struct Facts<'a> {
     /// The rows of each atom's table, none where it is missing.
     sizes: &'a [u32],
-
-    /// The variables of the atoms taken.
-    taken: VarSet,
 
     /// The variables that are tested to be equal to a literal.
     literals: VarSet,
 
     /// The variables of two columns or more.
     joined: VarSet,
+
+    /// The atoms with answer columns.
+    pub answered: AtomSet,
+
+    /// Those, and the atoms that joins link to them.
+    pub inside: AtomSet,
+}
+
+impl<'a> Facts<'a> {
+    /// What depends on a query alone, and these rows of each atom's table.
+    pub fn new(query: &Query, variables: &Variables, sizes: &'a [u32]) -> Facts<'a> {
+        let answered = answered_atoms(query);
+        Facts {
+            sizes,
+            literals: literals_of(query, variables),
+            joined: joined_variables(query, variables),
+            answered,
+            inside: linked_to(query, &answered),
+        }
+    }
+}
+
+/// What is known of a query once some of its atoms are taken.
+#[derive(Drop)]
+pub(crate) struct Known<'a> {
+    query: &'a Query,
+    variables: &'a Variables,
+    facts: &'a Facts<'a>,
+
+    /// The variables of the atoms taken.
+    taken: VarSet,
 
     /// The atoms taken, and those that joins link to them.
     reached: AtomSet,
@@ -40,7 +65,7 @@ const BITS_OF_A_RANGE: i32 = 4;
 
 impl<'a> Known<'a> {
     /// What is known of a query once these atoms are taken.
-    pub(crate) fn new(named: &'a Named<'a>, sizes: &'a [u32], taken: &AtomSet) -> Known<'a>
+    pub(crate) fn new(named: &'a Named<'a>, facts: &'a Facts<'a>, taken: &AtomSet) -> Known<'a>
         ensures { result.query.now ≡ named.now.query.now }
     {
         let query = named.query;
@@ -48,16 +73,14 @@ impl<'a> Known<'a> {
         Known {
             query,
             variables,
-            sizes,
+            facts,
             taken: variables_of(query, variables, taken),
-            literals: literals_of(query, variables),
-            joined: joined_variables(query, variables),
             reached: linked_to(query, taken),
         }
     }
 
     /// How joins link an atom to those taken.
-    pub(crate) fn link(&self, atom: u32) -> Link
+    pub(crate) fn link(&self, atom: u32) -> Joined
         requires { atom < length self.now.query.now.atoms }
     {
         for col in 0..self.query.atoms.as_slice()[atom as usize].width {
@@ -65,13 +88,13 @@ impl<'a> Known<'a> {
                 .taken
                 .has(self.variables.class_of(ColRef { atom, col }))
             {
-                return Link::Straight;
+                return Joined::Straight;
             }
         }
         if self.reached.has(atom) {
-            Link::Through
+            Joined::Through
         } else {
-            Link::Apart
+            Joined::Apart
         }
     }
 
@@ -121,13 +144,16 @@ impl<'a> Known<'a> {
         bits
     }
 
-    /// About how many values a variable has in an atom, in bits: as many as a table has rows whose whole key it is.
+    /// About how many values a variable has in an atom, in bits: as many as the smallest table has rows of which it is
+    /// the whole key.
     fn value_bits(&self, atom: u32, class: u8) -> u32
         requires { class < COLUMN_NUMBERS }
     {
         match self.least_with_key(class) {
             Some(bits) => bits,
-            None if self.joined.has(class) => self.table_bits(atom).saturating_sub(BITS_OF_A_VALUE),
+            None if self.facts.joined.has(class) => self
+                .table_bits(atom)
+                .saturating_sub(BITS_OF_A_VALUE),
             None => BITS_OF_A_LITERAL,
         }
     }
@@ -161,7 +187,7 @@ impl<'a> Known<'a> {
     fn table_bits(&self, atom: u32) -> u32
         ensures { result ≤ 32 }
     {
-        match self.sizes.get(atom as usize) {
+        match self.facts.sizes.get(atom as usize) {
             Some(rows) => u32::BITS - rows.leading_zeros(),
             None => 0,
         }
@@ -171,8 +197,17 @@ impl<'a> Known<'a> {
     fn has(&self, class: u8) -> bool
         requires { class < COLUMN_NUMBERS }
     {
-        self.taken.has(class) || self.literals.has(class)
+        self.taken.has(class) || self.facts.literals.has(class)
     }
+}
+
+/// The atoms with answer columns.
+fn answered_atoms(query: &Query) -> AtomSet {
+    let mut atoms = AtomSet::new();
+    for column in query.answer.as_slice() {
+        atoms.insert_if(column.atom, true);
+    }
+    atoms
 }
 
 /// The variables of some atoms' columns.

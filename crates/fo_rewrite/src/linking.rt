@@ -5,7 +5,7 @@ use key_closure::AtomSet;
 
 /// How joins link an atom to those that are taken: by a variable that they share, by way of other atoms alone, or not.
 #[derive(Clone, Copy, PartialEq, Eq, PartialOrd, Ord)]
-pub(crate) enum Link {
+pub(crate) enum Joined {
     Straight,
     Through,
     Apart,

@@ -7,9 +7,9 @@ ghost use Rattle.cqa_model.specs.Plan.{IsEliminationOf};
 ghost use Rattle.fo_rewrite.specs.Planning.{IsExact};
 ghost use Rattle.fo_rewrite.specs.Starting.{IsWhole};
 
-use crate::attacked::attacked_atoms;
-use crate::known::Known;
-use crate::linking::Link;
+use crate::attacked::{attacked_atoms, first_outside};
+use crate::known::{Facts, Known};
+use crate::linking::Joined;
 use crate::planning::{Outset, eliminated};
 use crate::preference::Choice;
 use cqa_model::{Plan, Query, variables};
@@ -27,7 +27,7 @@ const MOST_BITS: i32 = 58;
 #[derive(Clone, Copy, PartialEq, Eq, PartialOrd, Ord)]
 struct Cost {
     /// The steps whose atom later ones alone link to those before it.
-    apart: u32,
+    detours: u32,
 
     /// About how many rows are kept, those of each step added.
     rows: u64,
@@ -47,7 +47,7 @@ struct Pass {
 /// `sizes` are the rows of each atom's table, none where it is missing. Atoms that joins link to those taken come before
 /// others, those that joins link to an answer column before the rest, and then those with the fewest rows that agree with
 /// what is known. Where the order has a step whose atom later ones alone link to those before it, orders that begin with
-/// other atoms are made too, and the best is taken.
+/// other atoms, which joins link alike to the answer, are made too, and the best is taken.
 ///
 /// # Errors
 ///
@@ -65,7 +65,7 @@ pub fn elimination_of(alloc: Global, query: &Query, sizes: &[u32]) -> Result<Opt
     let outset = Outset {
         named: &named,
         attacked: attacked_atoms(&named),
-        sizes,
+        facts: Facts::new(query, &named.variables, sizes),
     };
     match eliminated(alloc, &outset, Choice::Preferred { first: None })? {
         Some(plan) => Ok(Some(cheapest(alloc, &outset, plan))),
@@ -73,19 +73,22 @@ pub fn elimination_of(alloc: Global, query: &Query, sizes: &[u32]) -> Result<Opt
     }
 }
 
-/// The cheapest of an order and a few that begin with other atoms, which are made until one has no step apart.
+/// The cheapest of an order and a few that begin with other atoms, which are made until one has no
+/// detour.
 fn cheapest(alloc: Global, outset: &Outset<'_>, plan: Plan) -> Plan
     requires whole { IsWhole outset.now }
     requires order { IsEliminationOf outset.now.named.now.query.now plan.order }
     ensures { IsEliminationOf outset.now.named.now.query.now result.order }
 {
     let begun = plan.order.as_slice().first().copied();
+    let facts = &outset.facts;
+    let begins_inside = first_outside(&facts.inside, &outset.attacked).is_some();
     let cost = cost_of(outset, plan.order.as_slice());
     let mut best = Pass { plan, cost };
     let mut passes = 1;
     for atom in 0..outset.named.query.atoms.len() as u32 {
-        let wanted = !outset.attacked.has(atom) && begun != Some(atom);
-        if wanted && passes < MOST_PASSES && best.cost.apart > 0 {
+        let can_begin = !outset.attacked.has(atom) && facts.inside.has(atom) == begins_inside;
+        if can_begin && begun != Some(atom) && passes < MOST_PASSES && best.cost.detours > 0 {
             begin_with(alloc, outset, atom, &mut best);
             passes += 1;
         }
@@ -117,13 +120,16 @@ fn begin_with(alloc: Global, outset: &Outset<'_>, atom: u32, best: &mut Pass)
 fn cost_of(outset: &Outset<'_>, order: &[u32]) -> Cost
     requires { All (λ F. F < length outset.now.named.now.query.now.atoms) order.now }
 {
-    let mut cost = Cost { apart: 0, rows: 0 };
+    let mut cost = Cost {
+        detours: 0,
+        rows: 0,
+    };
     let mut taken = AtomSet::new();
     let mut bits: i32 = 0;
     for atom in order {
-        let known = Known::new(outset.named, outset.sizes, &taken);
-        if known.link(*atom) == Link::Through {
-            cost.apart = cost.apart.saturating_add(1);
+        let known = Known::new(outset.named, &outset.facts, &taken);
+        if known.link(*atom) == Joined::Through {
+            cost.detours = cost.detours.saturating_add(1);
         }
         bits = bits.saturating_add(known.row_bits(*atom));
         cost.rows = cost.rows.saturating_add(1 << bits.clamp(0, MOST_BITS));

@@ -9,18 +9,19 @@ ghost use Rattle.fo_rewrite.specs.Starting.{IsWhole};
 ghost use Rattle.fo_rewrite.specs.declared.preference.Choice.TheVariants.{First};
 
 use crate::attacked::{attacked_atoms, next_atom};
+use crate::known::Facts;
 use crate::preference::Choice;
 use cqa_model::{Plan, Query, variables};
 use cqa_value::{Items, NoMemory};
 use key_closure::{AtomSet, Named, View};
 use std::alloc::Global;
 
-/// A whole query, the atoms that are attacked at first, and the rows of each atom's table.
+/// A whole query, the atoms that are attacked at first, and what depends on the query alone.
 #[derive(Clone, Copy)]
 pub(crate) struct Outset<'a> {
     pub named: &'a Named<'a>,
     pub attacked: AtomSet,
-    pub sizes: &'a [u32],
+    pub facts: Facts<'a>,
 }
 
 /// The plan of a query: again and again the first atom that no atom attacks once those before it are taken; `None` exactly
@@ -43,7 +44,7 @@ pub fn plan_of(alloc: Global, query: &Query) -> Result<Option<Plan>, NoMemory>
     let outset = Outset {
         named: &named,
         attacked: attacked_atoms(&named),
-        sizes: &[],
+        facts: Facts::new(query, &named.variables, &[]),
     };
     eliminated(alloc, &outset, Choice::First)
 }
@@ -73,7 +74,7 @@ pub(crate) fn eliminated(
             variables,
             view,
         },
-        outset.sizes,
+        &outset.facts,
         &left,
         &attacked,
         choice,

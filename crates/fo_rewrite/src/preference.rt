@@ -4,9 +4,9 @@ ghost use Rattle.std.specs.Prelude.{◌≡◌, ◌<◌, length};
 ghost use Rattle.cqa_model.specs.declared.limits.TheConstants.{MOST_ATOMS};
 ghost use Rattle.key_closure.specs.Sets.{HasAtom};
 
-use crate::known::Known;
-use crate::linking::{Link, linked_to};
-use cqa_model::{MOST_ATOMS, Query};
+use crate::known::{Facts, Known};
+use crate::linking::Joined;
+use cqa_model::MOST_ATOMS;
 use key_closure::{AtomSet, Named};
 
 /// How the next atom is chosen among those that none attacks.
@@ -15,8 +15,8 @@ pub(crate) enum Choice {
     /// The first.
     First,
 
-    /// The one that is best for evaluation; of those that joins link alike to the atoms taken, one comes first where it is
-    /// given.
+    /// The one that is best for evaluation; of those that joins link alike to the atoms taken and to the answer, one comes
+    /// first where it is given.
     Preferred { first: Option<u32> },
 }
 
@@ -24,7 +24,7 @@ pub(crate) enum Choice {
 #[derive(Clone, Copy, PartialEq, Eq, PartialOrd, Ord)]
 struct Rank {
     /// How joins link it to the atoms taken.
-    link: Link,
+    link: Joined,
 
     /// Joins link it to no answer column.
     outside: bool,
@@ -43,12 +43,7 @@ struct Rank {
 #[derive(Drop)]
 struct Ranking<'a> {
     known: Known<'a>,
-
-    /// The atoms with answer columns.
-    answered: AtomSet,
-
-    /// Those, and the atoms that joins link to them.
-    inside: AtomSet,
+    facts: &'a Facts<'a>,
 
     /// The atom that comes first of those that are linked alike.
     first: Option<u32>,
@@ -61,10 +56,10 @@ impl Ranking<'_> {
     {
         Rank {
             link: self.known.link(atom),
-            outside: !self.inside.has(atom),
+            outside: !self.facts.inside.has(atom),
             later: self.first != Some(atom),
             rows: self.known.row_bits(atom),
-            silent: !self.answered.has(atom),
+            silent: !self.facts.answered.has(atom),
         }
     }
 }
@@ -72,7 +67,7 @@ impl Ranking<'_> {
 /// The atom of a set outside another that ranks first; of those that rank alike the first.
 pub(crate) fn preferred<'x>(
     named: &'x Named<'x>,
-    sizes: &'x [u32],
+    facts: &'x Facts<'x>,
     left: &AtomSet,
     attacked: &AtomSet,
     first: Option<u32>,
@@ -82,17 +77,14 @@ pub(crate) fn preferred<'x>(
     requires free { (start < MOST_ATOMS) × HasAtom left.now start × (HasAtom attacked.now start → ⊥) }
     ensures { (result < MOST_ATOMS) × HasAtom left.now result × (HasAtom attacked.now result → ⊥) }
 {
-    let query = named.query;
-    let answered = answered_atoms(query);
     let ranking = Ranking {
-        known: Known::new(named, sizes, &outside(left)),
-        inside: linked_to(query, &answered),
-        answered,
+        known: Known::new(named, facts, &outside(left)),
+        facts,
         first,
     };
     let mut best = start;
     let mut least = ranking.rank(start);
-    for atom in 0..query.atoms.len() as u32 {
+    for atom in 0..named.query.atoms.len() as u32 {
         let is_open = left.has(atom) && !attacked.has(atom);
         if is_open {
             let rank = ranking.rank(atom);
@@ -103,15 +95,6 @@ pub(crate) fn preferred<'x>(
         }
     }
     best
-}
-
-/// The atoms with answer columns.
-fn answered_atoms(query: &Query) -> AtomSet {
-    let mut atoms = AtomSet::new();
-    for column in query.answer.as_slice() {
-        atoms.insert_if(column.atom, true);
-    }
-    atoms
 }
 
 /// The places of atoms that are outside a set.
