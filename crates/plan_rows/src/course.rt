@@ -38,12 +38,13 @@ fn row_total(setting: &Setting<'_>) -> u64
     rows
 }
 
-/// How many rows a plan may look at before what is decided is remembered: four times those of the query's tables.
-pub fn turns_before_memo(setting: &Setting<'_>) -> u64 {
+/// How many rows may be tried along a plan before what is decided is remembered: four times those of the query's tables.
+pub(crate) fn turns_before_memo(setting: &Setting<'_>) -> u64 {
     4 * row_total(setting)
 }
 
-/// How many rests of a plan are remembered at most: as many as the query's tables have rows, at least 1,024.
-pub fn rests_to_keep(setting: &Setting<'_>) -> usize {
+/// How many rests of a plan are remembered at most: as many as the query's tables have rows, a table counted once for each
+/// of its atoms, at least 1,024.
+pub(crate) fn rests_to_keep(setting: &Setting<'_>) -> usize {
     FEWEST_KEPT.max(row_total(setting) as usize)
 }

@@ -1,5 +1,5 @@
-//! The rows taken along a plan: whether a further row fits them, what they tell of it before it is looked for, and what was
-//! decided of the rests of the plan.
+//! The rows taken along a plan: whether a further row fits them, what they tell of it before it is looked for, to which rows
+//! others of later atoms lead, and what was decided of the rests of the plan.
 #![tactic(auto)]
 
 mod course;
@@ -18,13 +18,13 @@ mod steps;
 mod taken_rows;
 mod wanted;
 
-pub use course::{Course, rests_to_keep, turns_before_memo};
+pub use course::Course;
 pub use fitting::{fits, may_fit, suits};
 pub use known::known_values;
 pub use links::Link;
 pub use look::Look;
 pub use memo::Memo;
-pub use places::Places;
+pub use places::{Places, key_columns};
 pub use reached::reached_places;
 pub use setting::Setting;
 pub use settled::are_settled;

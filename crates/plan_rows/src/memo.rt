@@ -9,6 +9,8 @@ ghost use Rattle.cqa_value.specs.Values.{row_cmp};
 ghost use Rattle.plan_rows.specs.Taking.{placed, taken_value};
 ghost use Rattle.plan_rows.specs.Underway.{IsKey};
 
+use crate::course::{rests_to_keep, turns_before_memo};
+use crate::setting::Setting;
 use crate::settled::are_settled;
 use crate::steps::Rest;
 use crate::taken_rows::{Taken, answer_of};
@@ -17,8 +19,8 @@ use cqa_value::{MOST_VALUES, Row, Value};
 use std::alloc::Global;
 use std::collections::BTreeMap;
 
-/// Whether rests of a plan hold, by their keys; nothing is remembered before so many rows were looked at, and so many rests at
-/// most.
+/// Whether rests of a plan hold, by their keys; nothing is kept before `turns` rows were looked at, and no more than `most`
+/// rests at a time.
 #[derive(Drop)]
 pub struct Memo {
     turns: u64,
@@ -57,7 +59,7 @@ fn add_row(alloc: Global, key: &mut Row, row: &Row) -> bool
 
 /// The key of so many atoms that are left, of rows taken in some columns, and of a candidate unless the answer is settled.
 /// `None` where memory is refused or it would be too long.
-fn key_of(
+fn memo_key(
     alloc: Global,
     count: usize,
     taken: &Taken<'_>,
@@ -86,14 +88,15 @@ fn key_of(
 }
 
 impl Memo {
-    /// Nothing remembered, and nothing to be before so many rows were looked at; at most so many rests are at a time.
-    pub fn new(alloc: Global, turns: u64, most: usize) -> Memo
+    /// An empty memo for a plan over a database: nothing is kept before four times as many rows were tried as the query's
+    /// tables have, and no more rests at a time than these have rows, or 1,024.
+    pub fn over(setting: &Setting<'_>) -> Memo
         ensures { (key : List Cell) → get row_cmp result.known key ≡ None }
     {
         Memo {
-            turns,
-            most,
-            known: BTreeMap::new(alloc),
+            turns: turns_before_memo(setting),
+            most: rests_to_keep(setting),
+            known: BTreeMap::new(setting.alloc),
         }
     }
 
@@ -123,7 +126,7 @@ impl Memo {
         if self.turns > 0 && !settled {
             return None;
         }
-        key_of(
+        memo_key(
             course.setting.alloc,
             plan.len(),
             rest.taken,

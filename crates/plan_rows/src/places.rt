@@ -26,7 +26,7 @@ pub struct Places<'x> {
 }
 
 /// The places of an atom's key columns.
-fn key_of(query: &Query, atom: u32) -> &[u32]
+pub fn key_columns(query: &Query, atom: u32) -> &[u32]
     requires { atom < length query.now.atoms }
     ensures { result.now ≡ atom_key query.now atom }
 {
@@ -42,7 +42,7 @@ impl<'x> Places<'x> {
         ensures { AreThere (look_query look.now) (look_tables look.now) (option_copied row.entry) (look_taken look.now) [] look.now.atom (look_rows look.now) result }
     {
         let setting = look.setting;
-        let values = known_values(look, row, key_of(setting.query, look.atom));
+        let values = known_values(look, row, key_columns(setting.query, look.atom));
         let table = table_of(setting.query, look.atom);
         let (start, rows) = setting.db.rows_with(table, &values);
         Places {

@@ -163,14 +163,6 @@ fn add_guess<'x>(
         taken: &more,
         atom: look.atom,
     };
-    let row = match row {
-        Some(row) => Some(&*row),
-        None => None,
-    };
-    let path = match path {
-        Some(path) => Some(&*path),
-        None => None,
-    };
     add_reached(&on, row, path, &*later, found)
 }
 

@@ -46,7 +46,7 @@ fn place_from(places: &[u32], from: usize, size: usize) -> usize
 impl<'x> Wanted<'x> {
     ghost use Rattle.plan_rows.specs.Wanted.{NoneWanted, IsOfSize};
 
-    /// A place of so many, such that no row before it is looked for; their number where none is.
+    /// The first of `size` places at which a row may be looked for: none before it is. `size` where there is none.
     pub fn first(&self, size: usize) -> usize
         requires { IsOfSize self.now size }
         ensures within { result ≤ size }
@@ -59,7 +59,7 @@ impl<'x> Wanted<'x> {
         }
     }
 
-    /// A later place of so many, such that no row between is looked for; their number where none behind is.
+    /// The next such place behind `at`; `size` where there is none.
     pub fn after(&self, size: usize, at: usize) -> usize
         requires size { IsOfSize self.now size }
         requires there { at < size }
@@ -72,5 +72,24 @@ impl<'x> Wanted<'x> {
             Wanted::Indexed(index, values) => index.after(at, values),
             Wanted::Listed(places) => place_from(places.as_slice(), at + 1, size),
         }
+    }
+
+    /// The first such place from `low` on, where the one looked at last is `at`; `size` where there is none.
+    pub fn resume(&self, size: usize, at: usize, low: usize) -> usize
+        requires size { IsOfSize self.now size }
+        requires behind { at < low }
+        requires within { low ≤ size }
+        ensures low { low ≤ result }
+        ensures within { result ≤ size }
+        ensures none { NoneWanted self.now low result }
+    {
+        if let Wanted::Listed(places) = self {
+            return place_from(places.as_slice(), low, size);
+        }
+        let mut place = self.after(size, at);
+        while place < low {
+            place = self.after(size, place);
+        }
+        place
     }
 }

@@ -20,6 +20,6 @@ returns c =
     record {
       within = omega (arith, count, all);
       others = λ i l o f. outside key rows values start part span i l (elim o [ inl low ↦ inl low | inr high ↦ inr (omega (arith, count, high)) ])
-          (subst (λ ks. first_key ks values (get_or rows i []) ≡ values) c.key_of.ensures (c.known_values-values.ensures.known (get_or rows i []) f));
+          (subst (λ ks. first_key ks values (get_or rows i []) ≡ values) c.key_columns.ensures (c.known_values-values.ensures.known (get_or rows i []) f));
       known = λ i l f. tt;
     }
