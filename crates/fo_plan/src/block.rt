@@ -17,10 +17,7 @@ use crate::enough::told_rows;
 use crate::holding::all_hold;
 use cqa_model::{Plan, Query, variables};
 use cqa_value::{Items, Row};
-use plan_rows::{
-    Course, Link, Memo, Setting, Step, Taken, known_values, rests_to_keep, shared_or_none,
-    turns_before_memo,
-};
+use plan_rows::{Course, Link, Memo, Setting, Step, Taken, known_values, shared_or_none};
 use row_cursor::{BlockCursor, RowIndex, table_of};
 use row_pieces::Rows;
 use std::alloc::Global;
@@ -75,9 +72,7 @@ fn found_block<'a, 'x>(db: &'a Database, course: &'x Course<'x>, row: &'x Row) -
                 atom: *atom,
                 rest,
             };
-            let setting = &course.setting;
-            let turns = turns_before_memo(setting);
-            let mut memo = Memo::new(setting.alloc, turns, rests_to_keep(setting));
+            let mut memo = Memo::over(&course.setting);
             let found = first_block(db, &step, &*row, &mut memo);
             drop(memo);
             found

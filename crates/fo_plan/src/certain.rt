@@ -14,9 +14,7 @@ use crate::giving::add_given;
 use crate::notes::Notes;
 use cqa_model::{Plan, Query, variables};
 use cqa_value::{Items, NoMemory, Row};
-use plan_rows::{
-    Course, Link, Memo, Rest, Setting, Taken, rests_to_keep, shared_columns, turns_before_memo,
-};
+use plan_rows::{Course, Link, Memo, Rest, Setting, Taken, shared_columns};
 use row_answers::Answers;
 use row_cursor::RowIndex;
 use std::alloc::Global;
@@ -52,8 +50,6 @@ pub fn answers<'a>(
         variables: variables(query),
         paths,
     };
-    let turns = turns_before_memo(&setting);
-    let most = rests_to_keep(&setting);
     let shared = shared_columns(&setting, order)?;
     let course = Course {
         setting,
@@ -68,8 +64,9 @@ pub fn answers<'a>(
         plan: order,
     };
     let mut notes = Notes {
-        memo: Memo::new(alloc, turns, most),
+        memo: Memo::over(&course.setting),
         barren: None,
+        bears: 0,
     };
     let mut found = Answers::new(alloc);
     let added = add_given(&rest, &mut found, &mut notes);

@@ -92,7 +92,8 @@ fn add_settled(rest: &Rest<'_>, found: &mut Answers, memo: &mut Memo) -> Result<
     Ok(())
 }
 
-/// Whether no column of the rows taken is of a variable of the atoms that are left, while there are both.
+/// Whether no column of the rows taken is of a variable of the atoms that are left; false where no row is taken, or no lists
+/// of shared columns were made.
 fn stands_apart(rest: &Rest<'_>) -> bool
     ensures { IsTrue result → StandsApart rest.now.course.now (placed rest.now.taken.now) }
 {
@@ -102,6 +103,13 @@ fn stands_apart(rest: &Rest<'_>) -> bool
         return false;
     }
     place > 0 && course.shared[place].as_slice().is_empty()
+}
+
+/// Whether a rest of a plan shares nothing with the rows taken, and no such rest gave a row yet that has as many atoms.
+fn may_be_barren(rest: &Rest<'_>, notes: &Notes) -> bool
+    ensures { IsTrue result → StandsApart rest.now.course.now (placed rest.now.taken.now) }
+{
+    rest.plan.len() > notes.bears && stands_apart(rest)
 }
 
 /// Moves rows to others.
@@ -143,7 +151,7 @@ pub(crate) fn add_given(
                 atom: *atom,
                 rest: others,
             };
-            if stands_apart(rest) {
+            if may_be_barren(rest, &*notes) {
                 add_apart(&step, found, notes)
             } else {
                 add_blocks(&step, found, notes)
@@ -152,8 +160,8 @@ pub(crate) fn add_given(
     }
 }
 
-/// Adds the rows that an atom's table gives where nothing of the atoms that are left is shared with the rows taken. If there are
-/// none, that is noted.
+/// Adds the rows that an atom's table gives where nothing of the atoms that are left is shared with the rows taken, and notes
+/// whether there are some.
 #[cycle(giving)]
 fn add_apart(step: &Step<'_>, found: &mut Answers, notes: &mut Notes) -> Result<(), NoMemory>
     requires all { StepHasAll step.now }
@@ -189,6 +197,7 @@ fn add_or_note(
         notes.barren = Some(step.rest.len() + 1);
         return Ok(());
     }
+    notes.bears = step.rest.len() + 1;
     move_all(part, found)
 }
 

@@ -153,7 +153,7 @@ pub fn holds(alloc: Global, plan: &Plan, db: &Database, query: &Query, row: &Row
         taken: &none,
         plan: order,
     };
-    let mut memo = Memo::new(alloc, 0, 0);
+    let mut memo = Memo::over(&course.setting);
     let held = holds_with(&rest, row, &mut memo);
     drop(memo);
     held

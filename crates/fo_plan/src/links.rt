@@ -39,7 +39,7 @@ fn is_key_known(setting: &Setting<'_>, taken: &[u32], given: &[ColRef], atom: u3
 
 /// Whether other atoms alone may link an atom to what is known once rows of some atoms are taken: something is known, but
 /// none of the atom's own columns, nor do tests tell its key.
-fn is_apart(setting: &Setting<'_>, taken: &[u32], given: &[ColRef], atom: u32) -> bool
+fn needs_links(setting: &Setting<'_>, taken: &[u32], given: &[ColRef], atom: u32) -> bool
     requires taken { AreAtoms setting.now.query.now taken.now }
     requires atom { atom < length setting.now.query.now.atoms }
 {
@@ -157,7 +157,7 @@ pub(crate) fn telling_atoms(
     let (taken, others) = order.split_at(place);
     let (ends, later) = others.split_at(1);
     let mut atoms = Vec::from_slice(setting.alloc, taken)?;
-    if is_apart(setting, taken, given, order[place]) {
+    if needs_links(setting, taken, given, order[place]) {
         add_chain(setting, given, ends, later, &mut atoms)?;
     }
     Ok(atoms)

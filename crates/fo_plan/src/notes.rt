@@ -2,18 +2,20 @@
 
 use plan_rows::Memo;
 
-/// What was decided of the rests of a plan, and the number of atoms that are left where no row is given whatever rows are
-/// taken, if such a rest was found.
+/// What was decided of the rests of a plan, and of those that share nothing with the rows taken: the least number of atoms
+/// that are left where no row is given whatever rows are taken, if such a rest was found, and the greatest where rows are,
+/// 0 before.
 #[derive(Drop)]
 pub(crate) struct Notes {
     pub memo: Memo,
     pub barren: Option<usize>,
+    pub bears: usize,
 }
 
 impl Notes {
     ghost use Rattle.std.specs.Prelude.{◌↔◌, ◌≤◌, IsTrue, MatchOption};
 
-    /// Whether it was found that no row is given where so many atoms are left.
+    /// Whether it was found that no row is given where so many atoms or more are left.
     pub fn give_none(&self, left: usize) -> bool
         ensures { IsTrue result ↔ MatchOption self.now.barren ⊥ (λ least. least ≤ left) }
     {

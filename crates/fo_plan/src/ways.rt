@@ -74,7 +74,7 @@ fn links_of<'a>(
 ) -> Result<Items<Link<'a>>, NoMemory>
     requires db { setting.now.db.now ≡ db.now }
     requires order { AreAtoms setting.now.query.now order.now }
-    requires apart { AreDistinct order.now }
+    requires distinct { AreDistinct order.now }
     ensures links { IfOk result (λ links. AreLinks setting.now.query.now db.now links) }
     ensures behind { IfOk result (λ links. (front rest : List ℕ) → order.now ≡ front ++ atom ∷ rest → (G : ℕ) → Contains (atoms_on links) G → Contains rest G) }
 {
@@ -94,7 +94,7 @@ fn add_ways<'a>(
 ) -> Result<(), NoMemory>
     requires db { setting.now.db.now ≡ db.now }
     requires order { AreAtoms setting.now.query.now order.now }
-    requires apart { AreDistinct order.now }
+    requires distinct { AreDistinct order.now }
     requires none { ways.old.items ≡ [] }
     ensures { OnOk result (AreWays setting.now.query.now db.now order.now ways.new.items) }
 {

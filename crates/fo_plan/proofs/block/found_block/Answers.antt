@@ -13,7 +13,7 @@ invariant_of-step c =
     record { underway = underway; there = first-atom course [] _ _ underway }
 
 pub first_block-found-requires-clause-memo : goal.first_block-found-requires-clause-memo
-first_block-found-requires-clause-memo c = none-right c.args.course.now c.new-memo.result c.new-memo.ensures
+first_block-found-requires-clause-memo c = none-right c.args.course.now c.over-memo.result c.over-memo.ensures
 
 pub returns-in-len1-up : goal.returns-in-len1-up
 returns-in-len1-up c =

@@ -24,7 +24,7 @@ pub add_given-added-requires-clause-all : goal.add_given-added-requires-clause-a
 add_given-added-requires-clause-all c F l = inl (subst (λ p. Contains p F) (sym c.as_slice-order.ensures) (c.requires.all F l))
 
 pub add_given-added-requires-clause-notes : goal.add_given-added-requires-clause-notes
-add_given-added-requires-clause-notes c = record { memo = none-right _ c.new.result c.new.ensures; barren = tt }
+add_given-added-requires-clause-notes c = record { memo = none-right _ c.over.result c.over.ensures; barren = tt }
 
 pub returns-in-Ok-clause-exactly : goal.returns-in-Ok-clause-exactly
 returns-in-Ok-clause-exactly c row =

@@ -74,8 +74,8 @@ add_given-invariant_of-step t c =
     let underway = subst (IsUnderway rest.course.now (placed rest.taken.now)) (plan-split rest.plan.now c.in-len1-up.len_at_least) rest.underway in
     record { underway = underway; there = first-atom rest.course.now (placed rest.taken.now) _ _ underway }
 
-pub add_given-invariant_of-step-else-stands_apart : goal.add_given-invariant_of-step-else-stands_apart
-add_given-invariant_of-step-else-stands_apart t c =
+pub add_given-invariant_of-step-else-may_be_barren : goal.add_given-invariant_of-step-else-may_be_barren
+add_given-invariant_of-step-else-may_be_barren t c =
     let rest = c.args.rest.now in
     let underway = subst (IsUnderway rest.course.now (placed rest.taken.now)) (plan-split rest.plan.now c.in-len1-up.len_at_least) rest.underway in
     record { underway = underway; there = first-atom rest.course.now (placed rest.taken.now) _ _ underway }
@@ -86,8 +86,8 @@ add_given-returns-then-give_none-clause-added t c =
     adds-none (Gives rest.course.now.setting.query.now (stored rest.course.now.setting.db.now) (placed rest.taken.now) rest.plan.now) c.args.found.now
     (λ row g. noted-none rest.course.now c.args.notes.now.barren (placed rest.taken.now) rest.plan.now row c.requires.notes.barren (c.give_none.ensures.0 c.if-give_none.true) rest.underway g)
 
-pub add_given-returns-else-stands_apart-clause-added : goal.add_given-returns-else-stands_apart-clause-added
-add_given-returns-else-stands_apart-clause-added t c =
+pub add_given-returns-else-may_be_barren-clause-added : goal.add_given-returns-else-may_be_barren-clause-added
+add_given-returns-else-may_be_barren-clause-added t c =
     let rest = c.args.rest.now in
     let q = rest.course.now.setting.query.now in
     subst (λ p. OnOk c.add_blocks.result (IsAdded (Gives q (stored rest.course.now.setting.db.now) (placed rest.taken.now) p) c.args.found.now c.add_blocks.new.found))
@@ -108,11 +108,11 @@ add_given-add_apart-requires t c =
     let plan = rest.plan.now in
     let l = c.in-len1-up.len_at_least in (
       omega (arith, rest-shorter plan l, c.decreases),
-      (subst (AreAll rest.course.now.setting.query.now (placed rest.taken.now)) (plan-split plan l) c.requires.all, (c.stands_apart.ensures c.if-stands_apart.true, c.requires.notes)),
+      (subst (AreAll rest.course.now.setting.query.now (placed rest.taken.now)) (plan-split plan l) c.requires.all, (c.may_be_barren.ensures c.if-may_be_barren.true, c.requires.notes)),
     )
 
-pub add_given-returns-then-stands_apart-clause-added : goal.add_given-returns-then-stands_apart-clause-added
-add_given-returns-then-stands_apart-clause-added t c =
+pub add_given-returns-then-may_be_barren-clause-added : goal.add_given-returns-then-may_be_barren-clause-added
+add_given-returns-then-may_be_barren-clause-added t c =
     let rest = c.args.rest.now in
     let q = rest.course.now.setting.query.now in
     subst (λ p. OnOk c.add_apart.result (IsAdded (Gives q (stored rest.course.now.setting.db.now) (placed rest.taken.now) p) c.args.found.now c.add_apart.new.found))

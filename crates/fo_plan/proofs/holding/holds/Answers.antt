@@ -16,7 +16,7 @@ pub invariant_of-rest : goal.invariant_of-rest
 invariant_of-rest c = record { underway = underway-starts _ }
 
 pub holds_with-held-requires : goal.holds_with-held-requires
-holds_with-held-requires c = none-right _ c.new-memo.result c.new-memo.ensures
+holds_with-held-requires c = none-right _ c.over-memo.result c.over-memo.ensures
 
 pub returns : goal.returns
 returns c =

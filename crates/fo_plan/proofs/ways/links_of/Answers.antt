@@ -12,5 +12,5 @@ returns-in-Some-clause-behind c =
     IfOk-weaker c.links_at.result
     (λ links. (G : ℕ) → Contains (atoms_on links) G → Contains (drop (place + 1) order) G)
     (λ links. (front rest : List ℕ) → order ≡ front ++ F ∷ rest → (G : ℕ) → Contains (atoms_on links) G → Contains rest G)
-    (λ links later front rest whole G m. subst (λ z. Contains z G) (rest-behind order front rest F place c.requires.apart c.in-Some.ensures.0 c.in-Some.ensures.1 whole) (later G m))
+    (λ links later front rest whole G m. subst (λ z. Contains z G) (rest-behind order front rest F place c.requires.distinct c.in-Some.ensures.0 c.in-Some.ensures.1 whole) (later G m))
     c.links_at.ensures.later
