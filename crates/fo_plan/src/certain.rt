@@ -26,13 +26,13 @@ use table_blocks::Database;
 /// # Errors
 ///
 /// `NoMemory` where memory is refused.
-pub fn answers<'a>(
+pub fn answers(
     alloc: Global,
     plan: &Plan,
-    db: &'a Database,
-    query: &'a Query,
-    paths: &'a [Option<RowIndex<'a>>],
-    ways: &'a [Items<Link<'a>>],
+    db: &Database,
+    query: &Query,
+    paths: &[Option<RowIndex<'_>>],
+    ways: &[Items<Link<'_>>],
 ) -> Result<Items<Row>, NoMemory>
     requires fits { FitsDatabase query.now db.now }
     requires plan { AreAtoms query.now plan.now.order }

@@ -20,12 +20,12 @@ use std::alloc::Global;
 use table_blocks::Database;
 
 /// The certain rows of a query by an elimination order, which is exact, and by indexes of the query's tables.
-fn rows_by_paths<'a>(
+fn rows_by_paths(
     alloc: Global,
-    db: &'a Database,
-    query: &'a Query,
+    db: &Database,
+    query: &Query,
     plan: &Plan,
-    paths: &'a [Option<RowIndex<'a>>],
+    paths: &[Option<RowIndex<'_>>],
 ) -> Result<Items<Row>, NoMemory>
     requires fits { FitsDatabase query.now db.now }
     requires order { IsEliminationOf query.now plan.now.order }
@@ -40,10 +40,10 @@ fn rows_by_paths<'a>(
 }
 
 /// The certain rows of a query by an elimination order, which is exact.
-fn planned_rows<'a>(
+fn planned_rows(
     alloc: Global,
-    db: &'a Database,
-    query: &'a Query,
+    db: &Database,
+    query: &Query,
     plan: &Plan,
 ) -> Result<Items<Row>, NoMemory>
     requires fits { FitsDatabase query.now db.now }

@@ -35,14 +35,14 @@ fn values_of(alloc: Global, key: &[u32], row: &Row) -> Result<Row, NoMemory>
 }
 
 /// The block by which a row is certain, if it is.
-fn by_block<'a>(
+fn by_block(
     alloc: Global,
-    db: &'a Database,
-    query: &'a Query,
+    db: &Database,
+    query: &Query,
     plan: &Plan,
     row: &Row,
-    paths: &'a [Option<RowIndex<'a>>],
-    ways: &'a [Items<Link<'a>>],
+    paths: &[Option<RowIndex<'_>>],
+    ways: &[Items<Link<'_>>],
 ) -> Result<Option<Reason>, NoMemory>
     requires fits { FitsDatabase query.now db.now }
     requires plan { IsPlanOf query.now plan.now.order }
@@ -90,14 +90,14 @@ fn rejected(
 }
 
 /// The reason of a row, by indexes of the query's tables and by links of its atoms.
-fn by_ways<'a>(
+fn by_ways(
     alloc: Global,
-    db: &'a Database,
-    query: &'a Query,
+    db: &Database,
+    query: &Query,
     plan: &Plan,
     row: &Row,
-    paths: &'a [Option<RowIndex<'a>>],
-    ways: &'a [Items<Link<'a>>],
+    paths: &[Option<RowIndex<'_>>],
+    ways: &[Items<Link<'_>>],
 ) -> Result<Reason, NoMemory>
     requires fits { FitsDatabase query.now db.now }
     requires plan { IsPlanOf query.now plan.now.order }
@@ -115,13 +115,13 @@ fn by_ways<'a>(
 }
 
 /// The reason of a row, by indexes of the query's tables.
-fn by_paths<'a>(
+fn by_paths(
     alloc: Global,
-    db: &'a Database,
-    query: &'a Query,
+    db: &Database,
+    query: &Query,
     plan: &Plan,
     row: &Row,
-    paths: &'a [Option<RowIndex<'a>>],
+    paths: &[Option<RowIndex<'_>>],
 ) -> Result<Reason, NoMemory>
     requires fits { FitsDatabase query.now db.now }
     requires plan { IsPlanOf query.now plan.now.order }
@@ -142,10 +142,10 @@ fn by_paths<'a>(
 /// # Errors
 ///
 /// `NoMemory` where memory is refused.
-pub(crate) fn by_plan<'a>(
+pub(crate) fn by_plan(
     alloc: Global,
-    db: &'a Database,
-    query: &'a Query,
+    db: &Database,
+    query: &Query,
     plan: &Plan,
     row: &Row,
 ) -> Result<Reason, NoMemory>

@@ -1,4 +1,5 @@
-//! The cases that no script can show: devices that fail, words that aren't accepted, how much is read, and a long proof.
+//! The cases that no script can show: words that aren't accepted, sizes of `demo`, devices that fail, how much is read, and a
+//! long proof.
 
 use crate::comparing::ends_as_wanted;
 use crate::running::{Case, run, run_calm};

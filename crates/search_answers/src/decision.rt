@@ -42,7 +42,7 @@ fn with_outcome(formula: Encoded, found: Result<Outcome, NoMemory>) -> Result<De
 /// # Errors
 ///
 /// `NoMemory` where memory is refused.
-pub fn solved(alloc: Global, formula: Encoded, budget: u32) -> Result<Decided, NoMemory>
+pub(crate) fn solved(alloc: Global, formula: Encoded, budget: u32) -> Result<Decided, NoMemory>
     requires range { IsInRange formula.cnf }
     requires once { IsOnce formula.cnf }
     ensures same { IfOk result (λ decided. decided.formula ≡ formula) }
