@@ -6,10 +6,10 @@ ghost use Rattle.cqa_model.specs.Query.{atom_at, atom_key, rows_of};
 ghost use Rattle.repair_back.specs.Flags.{IsFlagged, flags_of, AreLong, AreBlank, AreChosen};
 ghost use Rattle.repair_back.specs.Results.{IsPick};
 
-use crate::atoms::{is_used, key_of};
+use crate::atoms::is_used;
 use crate::choice::Choice;
 use cqa_value::NoMemory;
-use plan_rows::Setting;
+use plan_rows::{Setting, key_columns};
 use row_cursor::table_of;
 
 /// How many rows of a table count: all where it is one of the query's, and else none.
@@ -62,6 +62,6 @@ pub(crate) fn settle_all(setting: &Setting<'_>, kept: &mut [Choice])
     let query = setting.query;
     for atom in 0..query.atoms.len() as u32 {
         let table = table_of(query, atom);
-        kept[table as usize].settle(&setting.db.rows(table), key_of(query, atom));
+        kept[table as usize].settle(&setting.db.rows(table), key_columns(query, atom));
     }
 }

@@ -21,7 +21,6 @@ ghost use Rattle.repair_back.specs.Along.{rows_on, kept_on, AreLed, KeepsOne, Is
 ghost use Rattle.repair_back.specs.Results.{Rejects, AreStored};
 ghost use Rattle.repair_back.specs.Walking.{IsBlock};
 
-use crate::atoms::key_of;
 use crate::blocks::{block_end, block_start};
 use crate::choice::Choice;
 use crate::kept::{blank, settle_all};
@@ -30,8 +29,7 @@ use crate::way::{Way, enough_for, enough_of};
 use cqa_model::{Plan, Query, variables};
 use cqa_value::{Items, NoMemory, Row};
 use plan_rows::{
-    Course, Link, Look, Memo, Places, Rest, Setting, Step, Taken, fits, rests_to_keep,
-    shared_or_none, turns_before_memo,
+    Course, Link, Look, Memo, Places, Rest, Setting, Step, Taken, fits, key_columns, shared_or_none,
 };
 use row_cursor::{RowIndex, table_of};
 use row_pieces::Rows;
@@ -207,7 +205,7 @@ fn mend_places<'x>(
     let course = way.course;
     let setting = &course.setting;
     let rows = setting.db.rows(table_of(setting.query, atom));
-    let key = key_of(setting.query, atom);
+    let key = key_columns(setting.query, atom);
     let before = course.order.len() - rest.len() - 1;
     let mut at = places.start;
     let mut done = 0;
@@ -309,9 +307,7 @@ fn mend_all(way: &Way<'_>, kept: &mut [Choice]) -> bool
     ensures holds { result ≡ false → RestHolds way.now [] way.now.course.now.order.now }
 {
     let course = way.course;
-    let setting = &course.setting;
-    let turns = turns_before_memo(setting);
-    let mut memo = Memo::new(setting.alloc, turns, rests_to_keep(setting));
+    let mut memo = Memo::over(&course.setting);
     let mended = mend_rest(way, &Taken::Nothing, course.order, kept, &mut memo);
     drop(memo);
     mended.is_some()

@@ -4,7 +4,7 @@ use Rattle.repair_back.proofs.Apart.{some-none}
 use Rattle.repair_back.proofs.mending.mend_all.Goals as goal
 
 pub mend_rest-mended-requires-clause-memo : goal.mend_rest-mended-requires-clause-memo
-mend_rest-mended-requires-clause-memo c = none-right c.args.way.now.course.now c.new-memo.result c.new-memo.ensures
+mend_rest-mended-requires-clause-memo c = none-right c.args.way.now.course.now c.over-memo.result c.over-memo.ensures
 
 pub returns-clause-mended : goal.returns-clause-mended
 returns-clause-mended c =
