@@ -1,0 +1,177 @@
+"""The columns of a list: what kind each has, how its fields are written, and what is wrong with them."""
+
+from __future__ import annotations
+
+import datetime
+import functools
+import re
+from typing import Callable, List, Optional, Sequence, Tuple
+
+#: A fault or a note about the field of a record: the record's place in the piece, and what to say.
+Say = Callable[[int, str], None]
+
+LONGEST_TEXT = 1024
+_LEAST, _GREATEST = -(2 ** 63), 2 ** 63 - 1
+_INT = re.compile(r"0|-?[1-9][0-9]*")
+_SHORT_INTS = re.compile(r"(?:(?:0|-?[1-9][0-9]{0,17})\n)*")
+_NUMBERS = re.compile(r"(?:-?[0-9]+(?:\.[0-9]+)?\n)*")
+_NUMBER = re.compile(r"[+-]?(?:[0-9]+(?:\.[0-9]*)?|\.[0-9]+)")
+_TIME = re.compile(r"([0-9]{4}-[0-9]{2}-[0-9]{2})(?:T([0-9]{2}):([0-9]{2})(?::([0-9]{2})(\.[0-9]{1,9})?)?Z)?")
+
+
+class Column:
+    """A column whose kind is found: int where each field is an integer as cqa writes it, else text."""
+
+    def __init__(self, name: str) -> None:
+        self.name = name
+        self.kind = "int"
+        self.note = ""
+        self._mixes = False
+        self._are_numbers = True
+        self._too_great: List[Tuple[str, int, str]] = []
+
+    def take(self, fields: Sequence[str], where: Sequence[int], path: str, say: Say) -> Sequence[str]:
+        """Looks at the fields of a piece of a list and gives what is written for them.
+
+        where: the line of each field's record. path: the list's name. say: told of each fault.
+        """
+        joined = "\n".join(fields) + "\n"
+        _check_text(self.name, fields, joined, say)
+        if self.kind == "int" and not _SHORT_INTS.fullmatch(joined):
+            self._find_kind(fields, where, path)
+        self._are_numbers = self._are_numbers and _NUMBERS.fullmatch(joined) is not None
+        self._mixes = True
+        return fields
+
+    def _find_kind(self, fields: Sequence[str], where: Sequence[int], path: str) -> None:
+        for at, field in enumerate(fields):
+            if not _INT.fullmatch(field):
+                self.kind = "text"
+                if self._mixes or at:
+                    shown = "an empty field" if not field else repr(field)
+                    self.note = "%s is text, because of %s in %s:%d" % (self.name, shown, path, where[at])
+                return
+            if not _LEAST <= int(field) <= _GREATEST:
+                self._too_great.append((path, where[at], field))
+
+    def notes(self) -> List[str]:
+        """What is good to know of the column."""
+        if self.kind == "text" and self._are_numbers:
+            return ["%s holds numbers and is text, which compares by its bytes: --decimal %s:2 stores such numbers with two places"
+                    % (self.name, self.name)]
+        return [self.note] if self.kind == "text" and self.note else []
+
+    def faults(self) -> List[str]:
+        """What is wrong with the column once all lists are read."""
+        if self.kind != "int":
+            return []
+        return ["%s:%d: %s: %s is out of the range of int, 64 bits; --text %s takes the column as text"
+                % (path, line, self.name, _shortened(field), self.name) for path, line, field in self._too_great]
+
+
+class TextColumn(Column):
+    """A column that is text whatever its fields are."""
+
+    def __init__(self, name: str) -> None:
+        super().__init__(name)
+        self.kind = "text"
+        self._are_numbers = False
+
+
+class IntColumn(Column):
+    """A column of a table that is there, and int."""
+
+    def take(self, fields: Sequence[str], where: Sequence[int], path: str, say: Say) -> Sequence[str]:
+        if _SHORT_INTS.fullmatch("\n".join(fields) + "\n"):
+            return fields
+        for at, field in enumerate(fields):
+            if not _INT.fullmatch(field) or not _LEAST <= int(field) <= _GREATEST:
+                say(at, "%s: %s is no int, and the table's column is int" % (self.name, _shown(field)))
+        return fields
+
+
+class DecimalColumn(Column):
+    """A column of numbers with a fixed number of places, stored as ints: 900.5 with two places is 90050."""
+
+    def __init__(self, name: str, places: int, mark: str = ".") -> None:
+        super().__init__(name)
+        self._places = places
+        self._mark = mark
+
+    def take(self, fields: Sequence[str], where: Sequence[int], path: str, say: Say) -> Sequence[str]:
+        return [self._scaled(at, field, say) for at, field in enumerate(fields)]
+
+    def _scaled(self, at: int, field: str, say: Say) -> str:
+        number = field.replace(",", ".") if self._mark == "," and "." not in field else field
+        if not _NUMBER.fullmatch(number):
+            say(at, "%s: %s is no number" % (self.name, _shown(field)))
+            return "0"
+        whole, _, places = number.partition(".")
+        if len(places.rstrip("0")) > self._places:
+            say(at, "%s: %s has more than %d places" % (self.name, _shown(field), self._places))
+            return "0"
+        digits = (whole + places[:self._places].ljust(self._places, "0"))
+        if len(digits) > 20 and len(digits.lstrip("+-").lstrip("0")) > 19 or not _LEAST <= int(digits) <= _GREATEST:
+            say(at, "%s: %s is out of range" % (self.name, _shown(field)))
+            return "0"
+        return str(int(digits))
+
+
+class TimeColumn(TextColumn):
+    """A column of dates or of times in UTC, as 2026-03-01, 2026-03-01T00:10Z or 2026-03-01T00:10:00.5Z, all of one form, so that
+    their order as texts is their order in time."""
+
+    def __init__(self, name: str) -> None:
+        super().__init__(name)
+        self._length: Optional[int] = None
+
+    def take(self, fields: Sequence[str], where: Sequence[int], path: str, say: Say) -> Sequence[str]:
+        for at, field in enumerate(fields):
+            if not _is_time(field):
+                say(at, "%s: %s is no date, and no time in UTC as 2026-03-01T00:10:00Z" % (self.name, _shown(field)))
+            elif self._length is None:
+                self._length = len(field)
+            elif len(field) != self._length:
+                say(at, "%s: %s is written in another form than the column's first" % (self.name, _shown(field)))
+        return fields
+
+
+@functools.lru_cache(maxsize=100_000)
+def _is_date(field: str) -> bool:
+    try:
+        datetime.date(int(field[:4]), int(field[5:7]), int(field[8:10]))
+    except ValueError:
+        return False
+    return True
+
+
+def _is_time(field: str) -> bool:
+    found = _TIME.fullmatch(field)
+    if found is None or not _is_date(found[1]):
+        return False
+    return found[2] is None or (int(found[2]) < 24 and int(found[3]) < 60 and int(found[4] or 0) < 60)
+
+
+def _check_text(name: str, fields: Sequence[str], joined: str, say: Say) -> None:
+    """Says which fields are too long for a text, aren't in the list's encoding, or hold a zero byte."""
+    if joined.isascii() and "\0" not in joined and max(map(len, fields)) <= LONGEST_TEXT:
+        return
+    for at, field in enumerate(fields):
+        try:
+            length = len(field.encode("utf-8"))
+        except UnicodeEncodeError as fault:
+            say(at, "%s: the byte 0x%02X isn't UTF-8; --encoding says how the list is written, as latin-1"
+                % (name, ord(field[fault.start]) & 0xFF))
+            continue
+        if length > LONGEST_TEXT:
+            say(at, "%s: a text of %d bytes, and the most are 1,024" % (name, length))
+        if "\0" in field:
+            say(at, "%s: a zero byte; is the list UTF-16?" % name)
+
+
+def _shortened(field: str) -> str:
+    return field if len(field) <= 40 else field[:37] + "..."
+
+
+def _shown(field: str) -> str:
+    return "an empty field" if not field else repr(_shortened(field))

@@ -1,0 +1,6 @@
+"""placeholder"""
+from __future__ import annotations
+
+
+def advice_for(text: str, at: int, refusal: str) -> str:
+    return ""

@@ -1,0 +1,236 @@
+"""Script files, run: rows on standard output, refusals on standard error with their file and line."""
+
+from __future__ import annotations
+
+import argparse
+import mmap
+import os
+import queue
+import stat
+import sys
+import threading
+import time
+from typing import BinaryIO, Dict, Iterator, List, NamedTuple, Optional, Sequence, Tuple
+
+from .errors import Ended
+from .files import standard_output
+from .places import Place, place_of
+from .program import Child
+from .replies import END_STATEMENT, IS_REFUSAL
+from .scripts import Bytes, Schema, Statement, schema_of, statements, verb_of
+
+_PIECE = 1 << 20
+_MOST_INPUT = 268_435_456
+
+
+class Answer(NamedTuple):
+    """A statement of a file with its reply: its lines without their line feeds, or a refusal with its place."""
+
+    path: str
+    text: str
+    verb: str
+    lines: List[bytes]
+    refusal: str
+    place: Optional[Place]
+
+
+class ScriptFile:
+    """A script in a file: mapped where it can be, and else read."""
+
+    def __init__(self, path: str) -> None:
+        """Raises OSError where the file can't be read."""
+        self.path = path
+        with open(path, "rb") as file:
+            status = os.fstat(file.fileno())
+            if stat.S_ISDIR(status.st_mode):
+                raise IsADirectoryError(21, "it is a folder", path)
+            self.script: Bytes = b""
+            if stat.S_ISREG(status.st_mode) and status.st_size:
+                self.script = mmap.mmap(file.fileno(), 0, access=mmap.ACCESS_READ)
+            elif not stat.S_ISREG(status.st_mode):
+                self.script = file.read(_MOST_INPUT + 1)
+
+
+_Sent = Tuple[ScriptFile, Statement]
+
+
+class Runner:
+    """Runs files as one script. A thread sends the statements, so that the program needn't wait for the replies to be read."""
+
+    def __init__(self, child: Child, files: Sequence[ScriptFile]) -> None:
+        self.child = child
+        self.schemas: Dict[str, Schema] = {}
+        self.sent_bytes = 0
+        self.answered = 0
+        self._files = files
+        self._sent: "queue.Queue[Optional[_Sent]]" = queue.Queue(maxsize=10_000)
+        self._is_stopped = False
+
+    def answers(self) -> Iterator[Answer]:
+        """The answers in the order of the statements. What is left at the end of a file is refused, and ends all."""
+        threading.Thread(target=self._send, daemon=True).start()
+        while True:
+            sent = self._sent.get()
+            if sent is None:
+                return
+            yield self._answer(*sent)
+            self.answered += 1
+            if self._is_stopped or not sent[1].complete:
+                return
+
+    def stop(self) -> None:
+        """Ends the run: no further answer comes."""
+        self._is_stopped = True
+
+    def _send(self) -> None:
+        try:
+            for file in self._files:
+                if not self._send_file(file):
+                    break
+            self.child.flush()
+        except Ended:
+            pass
+        finally:
+            self._sent.put(None)
+
+    def _send_file(self, file: ScriptFile) -> bool:
+        """Sends the statements of a file, and says whether the next file may follow."""
+        for statement in statements(file.script):
+            self._put((file, statement))
+            if self._is_stopped or not statement.complete:
+                return False
+            self._send_statement(file.script, statement)
+        return True
+
+    def _put(self, sent: _Sent) -> None:
+        """Says that a statement is sent; where too many are unanswered, all are sent in full before it waits."""
+        try:
+            self._sent.put_nowait(sent)
+        except queue.Full:
+            self.child.flush()
+            self._sent.put(sent)
+
+    def _send_statement(self, script: Bytes, statement: Statement) -> None:
+        for begin in range(statement.start, statement.end, _PIECE):
+            end = min(begin + _PIECE, statement.end)
+            self.child.write(script[begin:end])
+            self.sent_bytes = end
+        self.child.write(END_STATEMENT)
+        if self._sent.qsize() <= 1:
+            self.child.flush()
+
+    def _answer(self, file: ScriptFile, statement: Statement) -> Answer:
+        text = statement.text(file.script).decode("utf-8", "replace")
+        verb = verb_of(text)
+        if not statement.complete:
+            return self._refused(file, statement, text, verb, "error 15 Unfinished")
+        lines = self.child.reply(verb)
+        if lines and IS_REFUSAL.match(lines[0]):
+            return self._refused(file, statement, text, verb, lines[0][:-1].decode("utf-8", "replace"))
+        schema = schema_of(text) if verb == "create" else None
+        if schema is not None:
+            self.schemas[schema.table] = schema
+        return Answer(file.path, text, verb, [line[:-1] for line in lines], "", None)
+
+    def _refused(self, file: ScriptFile, statement: Statement, text: str, verb: str, refusal: str) -> Answer:
+        return Answer(file.path, text, verb, [], refusal, place_of(file.script, statement, refusal, self.schemas))
+
+
+class Progress:
+    """How much of the files is read, on a terminal: a line that is written anew twice a second."""
+
+    def __init__(self, runner: Runner, total: int) -> None:
+        self._runner = runner
+        self._total = total
+        self._is_over = threading.Event()
+        self._lock = threading.Lock()
+        self._is_shown = False
+        if sys.stderr.isatty() and total > _PIECE:
+            threading.Thread(target=self._show, daemon=True).start()
+
+    def _show(self) -> None:
+        began = time.monotonic()
+        while not self._is_over.wait(0.5):
+            if time.monotonic() - began < 1:
+                continue
+            with self._lock:
+                done = self._runner.sent_bytes
+                sys.stderr.write("\r\033[K%s of %s bytes (%d%%), %s statements" % (
+                    format(done, ","), format(self._total, ","), 100 * done // max(1, self._total), format(self._runner.answered, ",")))
+                sys.stderr.flush()
+                self._is_shown = True
+
+    def clear(self) -> None:
+        """Takes the line away, before something else is written."""
+        with self._lock:
+            if self._is_shown:
+                sys.stderr.write("\r\033[K")
+                self._is_shown = False
+
+    def end(self) -> None:
+        """Ends the showing."""
+        self._is_over.set()
+        self.clear()
+
+
+def run_files(paths: Sequence[str], child: Child, stops: bool) -> Iterator[Answer]:
+    """Runs files one after the other as one script and gives each answer; `stops` ends it behind the first refusal.
+
+    Raises OSError where a file can't be read, before anything is run, and Ended where the program ends.
+    """
+    files = [ScriptFile(path) for path in paths]
+    runner = Runner(child, files)
+    progress = Progress(runner, sum(len(file.script) for file in files))
+    try:
+        for answer in runner.answers():
+            progress.clear()
+            yield answer
+            if stops and answer.refusal:
+                runner.stop()
+                return
+    finally:
+        progress.end()
+
+
+def tell_refusal(answer: Answer) -> None:
+    """Writes a refusal to standard error as FILE:LINE: error .., with a caret under its word on a terminal."""
+    assert answer.place is not None
+    print(answer.place.message(answer.path, answer.refusal), file=sys.stderr)
+    if sys.stderr.isatty():
+        print(answer.place.caret(), file=sys.stderr)
+
+
+def main(arguments: Sequence[str]) -> int:
+    """The command `run FILE ..`."""
+    words = argparse.ArgumentParser(prog="cqa run", description="Runs script files, one after the other, as one script: rows and other "
+                                    "replies on standard output, refusals on standard error. Without a file it reads standard input.")
+    words.add_argument("files", nargs="+", metavar="FILE")
+    words.add_argument("--stop", action="store_true", help="end at the first refusal")
+    told = words.parse_args(arguments)
+    child = Child()
+    try:
+        with standard_output() as out:
+            status = _print_answers(told.files, child, told.stop, out)
+    except BaseException:
+        child.kill()
+        raise
+    if status and told.stop:
+        child.kill()
+    else:
+        child.close()
+    return status
+
+
+def _print_answers(paths: Sequence[str], child: Child, stops: bool, out: BinaryIO) -> int:
+    """Writes replies to a stream and refusals to standard error, in their order. 1 where a statement was refused, and else 0."""
+    status = 0
+    for answer in run_files(paths, child, stops):
+        if answer.refusal:
+            status = 1
+            out.flush()
+            tell_refusal(answer)
+        else:
+            out.writelines(line + b"\n" for line in answer.lines)
+            if out.isatty():
+                out.flush()
+    return status

@@ -1,0 +1,177 @@
+"""Scripts as the program reads them: where each statement begins and ends, and its block where it is a `copy`."""
+
+from __future__ import annotations
+
+import mmap
+import re
+from typing import Dict, Iterator, List, NamedTuple, Optional, Tuple, Union
+
+Bytes = Union[bytes, mmap.mmap]
+
+_GAP = re.compile(rb"(?:[ \t\r\n]+|--[^\n]*)*")
+_MARK = re.compile(rb"[;'\-]")
+_COPY = re.compile(rb"copy(?![A-Za-z0-9_])")
+_BLOCK_BEGIN = re.compile(rb"[ \t\r]*\n")
+_BLOCK_END = re.compile(rb"\\\.\r?(?:\n|\Z)")
+_COMMENT_OR_TEXT = re.compile(r"--[^\n]*|('[^']*(?:'|\Z))")
+_TOKEN = re.compile(r"[A-Za-z_][A-Za-z0-9_]*|-?[0-9]+|'[^']*(?:''[^']*)*'|<>|<=|>=|[(),.=<>]")
+_CREATE = re.compile(r"create\s+(strict\s+)?table\s+(\w+)\s*\((.*),\s*primary\s+key\s*\(([^)]*)\)\s*\)\s*\Z", re.S)
+
+
+class Statement(NamedTuple):
+    """A statement's places in a script, in bytes from the script's first.
+
+    start: the first byte. text_end: that of its `;`. block: where its `copy` block begins and ends, before the line `\\.`.
+    end: behind all of it. complete: False for what is left at the end of a script.
+    """
+
+    start: int
+    text_end: int
+    block: Optional[Tuple[int, int]]
+    end: int
+    complete: bool
+
+    def text(self, script: Bytes) -> bytes:
+        """The statement's text, without its `;`."""
+        return bytes(script[self.start:self.text_end])
+
+
+class Schema(NamedTuple):
+    """A table's columns in their order with their kinds ("int" or "text"), its key in the order in which it is written."""
+
+    table: str
+    columns: Dict[str, str]
+    key: List[str]
+    strict: bool = False
+
+
+def statements(script: Bytes, at: int = 0) -> Iterator[Statement]:
+    """The statements of a script; the last one may be incomplete."""
+    size = len(script)
+    at = _past_gap(script, at)
+    while at < size:
+        statement = _statement(script, at, size)
+        yield statement
+        at = _past_gap(script, statement.end)
+
+
+def _past_gap(script: Bytes, at: int) -> int:
+    found = _GAP.match(script, at)
+    return found.end() if found else at
+
+
+def _statement(script: Bytes, start: int, size: int) -> Statement:
+    text_end = _text_end(script, start)
+    if text_end < 0:
+        return Statement(start, size, None, size, False)
+    if not _COPY.match(script, start, text_end):
+        return Statement(start, text_end, None, text_end + 1, True)
+    skipped = _BLOCK_BEGIN.match(script, text_end + 1)
+    begin = skipped.end() if skipped else text_end + 1
+    last = _block_end(script, begin)
+    if last is None:
+        return Statement(start, text_end, (begin, size), size, False)
+    return Statement(start, text_end, (begin, last[0]), last[1], True)
+
+
+def _text_end(script: Bytes, at: int) -> int:
+    """The place of the `;` that ends the statement at a place, or -1."""
+    while True:
+        mark = _MARK.search(script, at)
+        if mark is None:
+            return -1
+        byte, at = mark.group(), mark.end()
+        if byte == b";":
+            return mark.start()
+        if byte == b"'":
+            at = script.find(b"'", at) + 1
+        elif script[at:at + 1] == b"-":
+            at = script.find(b"\n", at) + 1
+        else:
+            continue
+        if at == 0:
+            return -1
+
+
+def _block_end(script: Bytes, begin: int) -> Optional[Tuple[int, int]]:
+    """Where the line `\\.` of a block begins, and where the next line does."""
+    at = begin
+    while True:
+        found = _BLOCK_END.match(script, at)
+        if found is not None:
+            return at, found.end()
+        at = script.find(b"\n\\.", at) + 1
+        if at == 0:
+            return None
+
+
+def without_comments(text: str) -> str:
+    """A statement with a space in the place of each comment."""
+    return _COMMENT_OR_TEXT.sub(lambda found: found[1] or " ", text)
+
+
+def tokens(text: str) -> List[str]:
+    """The tokens of a statement, those of comments apart; bytes that belong to none are left out."""
+    return _TOKEN.findall(without_comments(text))
+
+
+def verb_of(text: str) -> str:
+    """The first word of a statement, or nothing."""
+    found = re.match(r"\s*([A-Za-z_]\w*)", without_comments(text))
+    return found[1] if found else ""
+
+
+def schema_of(text: str) -> Optional[Schema]:
+    """The schema that a `create` makes, or none where the text isn't one."""
+    found = _CREATE.match(without_comments(text).strip())
+    if found is None:
+        return None
+    columns = dict(re.findall(r"(\w+)\s+(int|text)\b", found[3]))
+    return Schema(found[2], columns, re.findall(r"\w+", found[4]), bool(found[1]))
+
+
+def shown_schema(line: str) -> Optional[Schema]:
+    """The schema in a line of `show tables`."""
+    found = re.match(r"(strict )?(\w+) \((.*), primary key \((.*?)\)\) rows ", line)
+    if found is None:
+        return None
+    columns = dict(re.findall(r"(\w+) (int|text)", found[3]))
+    return Schema(found[2], columns, found[4].split(", "), bool(found[1]))
+
+
+def selected(text: str) -> Tuple[List[str], List[str]]:
+    """What a query selects, as it is written, and the tables behind its first `from`: the words of a name may be any."""
+    words = tokens(text)
+    if "select" not in words:
+        return [], _tables_behind(words, words.index("exists") + 1) if "exists" in words else []
+    at = words.index("select") + 1
+    columns: List[str] = []
+    while at < len(words):
+        name, at = words[at], at + 1
+        if words[at:at + 1] == ["."]:
+            name, at = name + "." + words[at + 1] if at + 1 < len(words) else name, at + 2
+        columns.append(name)
+        if words[at:at + 1] != [","]:
+            break
+        at += 1
+    return columns, _tables_behind(words, at)
+
+
+def _tables_behind(words: List[str], at: int) -> List[str]:
+    """The names behind the `from` at a place."""
+    if words[at:at + 1] != ["from"]:
+        return []
+    tables, at = words[at + 1:at + 2], at + 2
+    while words[at:at + 1] == [","]:
+        tables, at = tables + words[at + 1:at + 2], at + 2
+    return tables
+
+
+def quoted(value: Union[int, str]) -> str:
+    """A value as a literal of the language."""
+    return str(value) if isinstance(value, int) else "'" + value.replace("'", "''") + "'"
+
+
+def row_text(row: Tuple[Union[int, str], ...]) -> str:
+    """A row as a literal of the language: (1, 'Ada')."""
+    return "(" + ", ".join(quoted(value) for value in row) + ")"

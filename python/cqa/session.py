@@ -1,0 +1,350 @@
+"""A session: tables that are loaded, looked at, asked and kept, by a running program."""
+
+from __future__ import annotations
+
+import os
+import re
+import tempfile
+from decimal import Decimal
+from types import TracebackType
+from typing import Dict, Iterator, List, Mapping, Optional, Sequence, Tuple, Type, Union
+
+from . import answers
+from .answers import Classification, Explanation, Group, Range
+from .conflicts import Conflicts, conflicts_of
+from .errors import LoadFault, Refused, ReplyFault, StateFault, UnknownStatement
+from .files import written
+from .lists import ListOptions, word_of
+from .loading import Source, load_script
+from .program import Child
+from .replies import IS_REFUSAL, Row, row_of
+from .rows import Cell, Rows
+from .scripts import Bytes, Schema, Statement, quoted, row_text, schema_of, selected, shown_schema, statements, verb_of
+
+#: Statements that not every program knows: how each begins, and the reply of a program that doesn't know it.
+NEWER = (("disputed", b"error 2 Syntax at 0\n"), ("against", b"error 2 Syntax at 0\n"), ("prove", b"error 2 Syntax at 0\n"),
+         ("range", b"error 2 Syntax at 0\n"), ("prefer", b"error 2 Syntax at 0\n"), ("show conflicts", b"error 2 Syntax at 5\n"))
+
+_STATE_HEAD = "-- cqa state: kept by the Python package; it is a script, and its last line tells its size\n"
+_STATE_END = re.compile(rb"-- cqa state: (\d+) tables, (\d+) rows\n\Z")
+_PLACES = re.compile(rb"-- cqa state: column (\w+)\.(\w+) has (\d+) places\n")
+_SOURCES = re.compile(rb"-- cqa state: column (\w+)\.(\w+) has the sources\n")
+
+
+class Session:
+    """Tables in a running program. Used by `with`, it ends with the block; else by `close`.
+
+    Each statement is answered before its method returns. A refused one raises `Refused` and changes nothing. Values are `int`
+    and `str`, and `Decimal` where a column was loaded with a number of places.
+    """
+
+    def __init__(self, program: Optional[str] = None) -> None:
+        """Starts the program: the one named, or else that of the variable CQA_PROGRAM, of the repository in which this package
+        stands, or of the path. Raises NotBuilt where there is none."""
+        self._child = Child(program)
+        self._places: Dict[Tuple[str, str], int] = {}
+        self._sources: Dict[str, str] = {}
+
+    def __enter__(self) -> "Session":
+        return self
+
+    def __exit__(self, kind: Optional[Type[BaseException]], fault: Optional[BaseException], trace: Optional[TracebackType]) -> None:
+        self.close()
+
+    def close(self) -> None:
+        """Ends the program. Closing twice does nothing more."""
+        self._child.close()
+
+    @property
+    def program(self) -> str:
+        """The path of the program that runs."""
+        return self._child.program
+
+    # -- statements ---------------------------------------------------------------------------------------------------------
+
+    def tell(self, statement: str) -> List[str]:
+        """Sends one statement, with or without its `;` (a `copy` with its block), and gives the lines of its reply, where line
+        feeds in texts end no line.
+
+        Raises Refused, UnknownStatement where the installed program is too old for it, ValueError where the text is no complete
+        statement or more than one, and Ended where the program ends.
+        """
+        text = statement.encode("utf-8")
+        parts = list(statements(text))
+        if len(parts) == 1 and not parts[0].complete and parts[0].block is None:
+            text = text.rstrip() + b"\n;"
+            parts = list(statements(text))
+        if len(parts) != 1 or not parts[0].complete:
+            raise ValueError("one complete statement is wanted, and this is %s: %r"
+                             % ("none" if len(parts) < 2 else "%d" % len(parts), statement[:200]))
+        return [line.decode("utf-8") for line in self._told(text, parts[0])]
+
+    def run(self, script: Union[str, bytes]) -> List[List[str]]:
+        """Sends the statements of a script one after the other and gives the lines of each reply. The first refusal ends it and
+        is raised, and so is a script that ends within a statement (ValueError), before anything is sent."""
+        text = script.encode("utf-8") if isinstance(script, str) else script
+        parts = list(statements(text))
+        if parts and not parts[-1].complete:
+            raise ValueError("the script ends within a statement: %r" % text[parts[-1].start:][:200])
+        return [[line.decode("utf-8") for line in self._told(text, part)] for part in parts]
+
+    def _told(self, script: Bytes, part: Statement) -> List[bytes]:
+        """Sends a statement of a script and gives its reply's lines without line feeds."""
+        text = part.text(script).decode("utf-8", "replace")
+        verb = verb_of(text)
+        lines = self._child.tell(bytes(script[part.start:part.end]), verb)
+        if lines and IS_REFUSAL.match(lines[0]):
+            self._refuse(lines[0], text)
+        return [line[:-1] for line in lines]
+
+    def _refuse(self, line: bytes, text: str) -> None:
+        """Raises what a refusal is."""
+        plain = " ".join(text.split())
+        for word, reply in NEWER:
+            if plain.startswith(word) and line == reply:
+                raise UnknownStatement(line[:-1].decode(), text, self.program, word)
+        raise Refused(line[:-1].decode("utf-8"), text)
+
+    # -- load and look ------------------------------------------------------------------------------------------------------
+
+    def load(self, table: str, path: Union[str, "os.PathLike[str]", Mapping[str, Union[str, "os.PathLike[str]"]]], *,
+             key: Union[str, Sequence[str]] = (), source: Optional[str] = None, columns: Optional[Sequence[str]] = None,
+             decimal: Optional[Mapping[str, int]] = None, time: Sequence[str] = (), text: Sequence[str] = (), delimiter: str = ",",
+             encoding: str = "utf-8", decimal_mark: str = ".", missing: str = "refuse", strict: bool = False,
+             source_column: str = "source") -> int:
+        """Loads a CSV list with a header line into a table, which is made where it isn't there, and gives the number of new rows.
+
+        path: the list, or several as {"crm": "crm.csv", "shop": "shop.csv"} by their sources; the kinds of a new table's columns
+        are found over all lists of the call. key: the columns of the key of a new table. source: what the rows have in the column
+        `source_column`. decimal: the number of places by column; such a column is stored as int and given as Decimal.
+        time: columns of dates or of times in UTC. text: columns that are text though they hold numbers. missing: what an empty
+        field outside the key is: "refuse", "keep" or "drop". strict: whether a new table takes no two rows of one key.
+
+        Raises LoadFault with every fault of the lists, and then nothing of them is loaded; ValueError for options that tell nothing.
+        """
+        there = self.schema(table)
+        sources = _sources(path, source)
+        wanted = [key] if isinstance(key, str) else list(key)
+        if there is not None and wanted and [word_of(name) for name in wanted] != there.key:
+            raise ValueError("the key of %s is %s" % (table, ", ".join(there.key)))
+        if there is None and not wanted:
+            raise ValueError("the key of the new table %s is wanted" % table)
+        if missing not in ("refuse", "keep", "drop"):
+            raise ValueError("missing is refuse, keep or drop, and not %r" % missing)
+        options = ListOptions(table, wanted or (there.key if there else []), columns, self._decimals(table, decimal, there), time, text, delimiter,
+                              encoding, decimal_mark, missing, strict, source_column)
+        return self._loaded(options, sources, there)
+
+    def _decimals(self, table: str, decimal: Optional[Mapping[str, int]], there: Optional[Schema]) -> Dict[str, int]:
+        """The number of places by column, those of the table that is there among them."""
+        told = {word_of(name): places for name, places in (decimal or {}).items()}
+        known = {column: places for (owner, column), places in self._places.items() if owner == table}
+        for name, places in told.items():
+            if there is not None and known.get(name) != places:
+                raise ValueError("the column %s of %s was loaded with %s places; load all lists of a table in one call, or each with its decimal"
+                                 % (name, table, known.get(name, "no")))
+        return {**known, **told}
+
+    def _loaded(self, options: ListOptions, sources: Sequence[Source], there: Optional[Schema]) -> int:
+        faults: List[str] = []
+        with tempfile.TemporaryFile() as file:
+            lists = load_script(options, sources, file, faults.append, there)
+            if lists is None:
+                raise LoadFault(faults)
+            file.seek(0)
+            script = file.read()
+        replies = [self._told(script, part) for part in statements(script)]
+        for name, places in options.decimals.items():
+            self._places[options.table, word_of(name)] = places
+        if sources[0][1] is not None:
+            self._sources[options.table] = options.source_column
+        return sum(int(lines[0].split(b" ")[1]) for lines in replies if lines[0].startswith((b"copied ", b"inserted ")))
+
+    def tables(self) -> List[Schema]:
+        """The tables in order of creation."""
+        shown = [shown_schema(line) for line in self.tell("show tables;")[:-1]]
+        return [schema for schema in shown if schema is not None]
+
+    def schema(self, table: str) -> Optional[Schema]:
+        """The schema of a table, or None where there is no such table."""
+        return next((schema for schema in self.tables() if schema.table == table), None)
+
+    def rows(self, table: str) -> Rows:
+        """All rows of a table, in the order of its columns. Raises KeyError where it isn't there."""
+        schema = self._there(table)
+        return self.possible("select %s from %s" % (", ".join(schema.columns), table))
+
+    def conflicts(self, table: str, source: Optional[str] = None) -> Conflicts:
+        """The keys of a table whose rows differ: how many by column, and for each key its values with their sources.
+
+        source: the column of sources; where it isn't told, that with which the table was loaded, or one called `source`.
+        Rows that differ in their source alone are in no conflict. Raises KeyError where the table isn't there.
+        """
+        schema = self._there(table)
+        names = schema.key + [name for name in schema.columns if name not in schema.key]
+        if source is not None and source not in schema.columns:
+            raise KeyError("%s has no column %s" % (table, source))
+        told = source or self._sources.get(table) or ("source" if "source" in schema.columns else None)
+        rows = self.possible("select %s from %s" % (", ".join(names), table))
+        return conflicts_of(table, names, schema.key, told if told not in schema.key else None, rows)
+
+    def _there(self, table: str) -> Schema:
+        schema = self.schema(table)
+        if schema is None:
+            raise KeyError("no table %s" % table)
+        return schema
+
+    # -- ask ----------------------------------------------------------------------------------------------------------------
+
+    def certain(self, query: str) -> Rows:
+        """The certain rows of a query, `select .. from .. where ..` or `exists ..`: those that every repair gives. Raises Refused."""
+        return self._answer("ask", query)
+
+    def possible(self, query: str) -> Rows:
+        """The possible rows of a query: those that some repair gives. Raises Refused."""
+        return self._answer("possible", query)
+
+    def disputed(self, query: str) -> Rows:
+        """The rows that are possible and not certain. Raises Refused; UnknownStatement where the program is too old."""
+        return self._answer("disputed", query)
+
+    def explain(self, row: Sequence[Cell], query: str) -> Explanation:
+        """Why a row is certain, or a repair in which it is no answer. Raises Refused."""
+        return answers.explanation(self.tell("explain row %s for %s;" % (self._literal(row, query), query)))
+
+    def against(self, row: Sequence[Cell], query: str) -> Explanation:
+        """The fewest rows that stand against a row. Raises Refused; UnknownStatement where the program is too old."""
+        return answers.against(self.tell("against row %s for %s;" % (self._literal(row, query), query)))
+
+    def prove(self, row: Sequence[Cell], query: str) -> Explanation:
+        """A certificate that a row is certain, which `cqa check` verifies. Raises Refused; UnknownStatement where the program is too old."""
+        return answers.explanation(self.tell("prove row %s for %s;" % (self._literal(row, query), query)))
+
+    def range(self, aggregate: str) -> Range:
+        """The ends of `sum credit from customer where ..`, of `count from ..`, `min ..` or `max ..` over all repairs, as they are
+        stored: those of a column with places aren't scaled. Raises Refused; UnknownStatement where the program is too old."""
+        return answers.ranges(self.tell("range %s;" % aggregate))
+
+    def ranges(self, aggregate: str) -> List[Group]:
+        """As `range`, for `sum credit from customer group by city`: one for each value. Raises as `range`."""
+        return answers.groups(self.tell("range %s;" % aggregate))
+
+    def classify(self, query: str) -> Classification:
+        """How hard the query is, by its attacks. Raises Refused."""
+        return answers.classification(self.tell("classify %s;" % query))
+
+    def plan(self, query: str) -> Optional[List[str]]:
+        """The tables in the order in which they can be gone through without a search, or None where there is none. Raises Refused."""
+        lines = self.tell("plan %s;" % query)
+        return None if lines == ["no plan"] else [line.split(" ")[2] for line in lines]
+
+    def sql(self, query: str) -> Optional[str]:
+        """One query in SQL for the certain rows, or None where no plan decides them. Raises Refused."""
+        lines = self.tell("sql %s;" % query)
+        return None if lines == ["no plan"] else "".join(line + "\n" for line in lines)
+
+    def _answer(self, verb: str, query: str) -> Rows:
+        lines = self.tell("%s %s;" % (verb, query))
+        if not lines or not lines[-1].endswith(" rows"):
+            raise ReplyFault("no rows: %r" % lines[-1:])
+        columns, tables = selected(query)
+        rows = [row_of(line) for line in lines[:-1]]
+        return Rows(columns, self._scaled(rows, self._column_places(columns, tables)))
+
+    def _column_places(self, columns: Sequence[str], tables: Sequence[str]) -> List[int]:
+        """The places of each selected column; -1 where it has none."""
+        if not self._places:
+            return []
+        found = []
+        for column in columns:
+            owner, _, name = column.rpartition(".")
+            owners = [owner] if owner else tables
+            found.append(next((self._places[table, name] for table in owners if (table, name) in self._places), -1))
+        return found if max(found, default=-1) >= 0 else []
+
+    @staticmethod
+    def _scaled(rows: Sequence[Row], places: Sequence[int]) -> Iterator[Tuple[Cell, ...]]:
+        if not places:
+            return iter(rows)
+        return (tuple(Decimal(value).scaleb(-count) if count >= 0 and isinstance(value, int) else value
+                      for value, count in zip(row, places)) for row in rows)
+
+    def _literal(self, row: Sequence[Cell], query: str) -> str:
+        """A row as it is written behind `explain row`; a Decimal is scaled as its column is. Raises ValueError where it can't be."""
+        columns, tables = selected(query)
+        places = self._column_places(columns, tables) or [-1] * len(row)
+        values = []
+        for value, count in zip(row, list(places) + [-1] * len(row)):
+            scaled = Decimal(value).scaleb(count) if count >= 0 and isinstance(value, (int, Decimal)) else value
+            if isinstance(scaled, Decimal):
+                if scaled != scaled.to_integral_value():
+                    raise ValueError("%s has more places than its column" % value)
+                scaled = int(scaled)
+            values.append(scaled)
+        return row_text(tuple(values))
+
+    # -- change and keep ----------------------------------------------------------------------------------------------------
+
+    def delete(self, table: str, where: str = "") -> int:
+        """Takes away the rows of a table for which the tests hold, as "id = 1 and source = 'shop'"; all rows without tests.
+        Gives their number. Raises Refused."""
+        return int(self.tell("delete from %s%s;" % (table, " where " + where if where else ""))[0].split(" ")[1])
+
+    def prefer(self, table: str, where: str) -> int:
+        """Of each block in which a row passes the tests, takes away the rows that don't. Gives the number of rows taken away.
+        Raises Refused; UnknownStatement where the program is too old."""
+        return int(self.tell("prefer %s where %s;" % (table, where))[0].split(" ")[1])
+
+    def insert(self, table: str, rows: Sequence[Sequence[Union[int, str]]]) -> int:
+        """Puts rows into a table and gives the number of those that weren't there. Raises Refused."""
+        values = ", ".join("(" + ", ".join(map(quoted, row)) + ")" for row in rows)
+        return int(self.tell("insert into %s values %s;" % (table, values))[0].split(" ")[1])
+
+    def save(self, path: str) -> None:
+        """Keeps the tables in a file: a script that makes them again, beside which only comments stand. It is written beside its
+        place and then moved, so that no half of it is ever there."""
+        shown = self.tell("show tables;")
+        rows = sum(int(found[1]) for found in (re.search(r" rows (\d+) blocks \d+$", line) for line in shown[:-1]) if found)
+        dump = self.tell("dump;")
+        with written(path) as file:
+            file.write(_STATE_HEAD.encode())
+            for (table, column), places in self._places.items():
+                file.write(("-- cqa state: column %s.%s has %d places\n" % (table, column, places)).encode())
+            for table, column in self._sources.items():
+                file.write(("-- cqa state: column %s.%s has the sources\n" % (table, column)).encode())
+            for line in dump:
+                file.write(line.encode("utf-8") + b"\n")
+            file.write(("-- cqa state: %d tables, %d rows\n" % (len(shown) - 1, rows)).encode())
+
+    @classmethod
+    def restored(cls, path: str, program: Optional[str] = None) -> "Session":
+        """A session with the tables of a kept state. Raises StateFault where the file isn't whole or no kept state, OSError
+        where it can't be read, Refused where the program refuses it."""
+        with open(path, "rb") as file:
+            script = file.read()
+        end = _STATE_END.search(script[-200:])
+        if not script.startswith(_STATE_HEAD.encode()) or end is None:
+            raise StateFault("%s is no whole state: its first and its last line aren't those that `save` writes" % path)
+        session = cls(program)
+        try:
+            session.run(script)
+            head = script[:script.find(b"\ncreate ") + 1]
+            session._places = {(table.decode(), column.decode()): int(places) for table, column, places in _PLACES.findall(head)}
+            session._sources = {table.decode(): column.decode() for table, column in _SOURCES.findall(head)}
+            shown = session.tell("show tables;")
+            rows = sum(int(line.split(" rows ")[-1].split(" ")[0]) for line in shown[:-1])
+            if (len(shown) - 1, rows) != (int(end[1]), int(end[2])):
+                raise StateFault("%s isn't whole: it makes %d tables with %d rows, and has to make %s with %s"
+                                 % (path, len(shown) - 1, rows, end[1].decode(), end[2].decode()))
+        except BaseException:
+            session.close()
+            raise
+        return session
+
+
+def _sources(path: Union[str, "os.PathLike[str]", Mapping[str, Union[str, "os.PathLike[str]"]]], source: Optional[str]) -> List[Source]:
+    if isinstance(path, Mapping):
+        if source is not None or not path:
+            raise ValueError("the lists have their sources already" if path else "no list is named")
+        return [(os.fspath(one), name) for name, one in path.items()]
+    return [(os.fspath(path), source)]
