@@ -7,12 +7,15 @@ import os
 import sys
 from typing import Callable, Dict, Sequence
 
-from . import loading, running
+from . import helping, loading, looking, running
 from .errors import CqaError, Ended, NotBuilt
 
 COMMANDS: Dict[str, Callable[[Sequence[str]], int]] = {
     "load": loading.main,
     "run": running.main,
+    "csv": looking.csv_main,
+    "conflicts": looking.conflicts_main,
+    "help": helping.main,
 }
 
 

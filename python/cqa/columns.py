@@ -2,6 +2,7 @@
 
 from __future__ import annotations
 
+import csv
 import datetime
 import functools
 import re
@@ -17,6 +18,18 @@ _SHORT_INTS = re.compile(r"(?:(?:0|-?[1-9][0-9]{0,17})\n)*")
 _NUMBERS = re.compile(r"(?:-?[0-9]+(?:\.[0-9]+)?\n)*")
 _NUMBER = re.compile(r"[+-]?(?:[0-9]+(?:\.[0-9]*)?|\.[0-9]+)")
 _TIME = re.compile(r"([0-9]{4}-[0-9]{2}-[0-9]{2})(?:T([0-9]{2}):([0-9]{2})(?::([0-9]{2})(\.[0-9]{1,9})?)?Z)?")
+
+_CSV_FAULTS = (
+    ("unexpected end of data", "a quote is opened here and never closed"),
+    ("expected after", "something stands behind a closing quote"),
+    ("field larger than field limit", "a quote is opened here and not closed within 131,072 letters"),
+    ("NUL", "a zero byte; is the list UTF-16?"),
+)
+
+
+def csv_fault(fault: csv.Error) -> str:
+    """What is wrong with a record that can't be read, in words that say what to mend."""
+    return next((text for part, text in _CSV_FAULTS if part in str(fault)), str(fault))
 
 
 class Column:

@@ -13,7 +13,7 @@ from dataclasses import dataclass, field
 from itertools import repeat
 from typing import IO, BinaryIO, Callable, Dict, Iterator, List, Mapping, Optional, Protocol, Sequence, TextIO, Tuple, TypeVar, Union
 
-from .columns import Column, DecimalColumn, IntColumn, TextColumn, TimeColumn
+from .columns import Column, DecimalColumn, IntColumn, TextColumn, TimeColumn, csv_fault
 from .scripts import Schema, row_text
 
 MOST_COLUMNS = 16
@@ -23,12 +23,6 @@ _MOST_APART = 10_000
 _Item = TypeVar("_Item")
 _ENDS_BLOCK = re.compile(r"\n\\\.\r?\n")
 _PLAIN_LETTERS = str.maketrans({"æ": "ae", "ø": "o", "å": "a", "ß": "ss", "đ": "d", "ð": "d", "þ": "th", "ł": "l", "œ": "oe", "ı": "i"})
-_CSV_FAULTS = (
-    ("unexpected end of data", "a quote is opened here and never closed"),
-    ("expected after", "something stands behind a closing quote"),
-    ("field larger than field limit", "a quote is opened here and not closed within 131,072 letters"),
-    ("NUL", "a zero byte; is the list UTF-16?"),
-)
 
 
 @dataclass(frozen=True)
@@ -149,7 +143,7 @@ class Lists:
         try:
             names = next((row for row in reader if row), None)
         except csv.Error as fault:
-            self.tell(path, 1, _csv_fault(fault))
+            self.tell(path, 1, csv_fault(fault))
             return None
         if names is None:
             self.tell(path, None, "it is empty, and a header line is wanted")
@@ -231,7 +225,7 @@ class Lists:
                 if rows:
                     yield lines, rows, at
                     lines, rows = [], []
-                self.tell(path, at + 1, _csv_fault(fault))
+                self.tell(path, at + 1, csv_fault(fault))
                 at = reader.line_num
                 if "field limit" in str(fault):
                     break
@@ -363,7 +357,3 @@ def create_text(schema: Schema) -> str:
 
 def _those(values: Sequence[_Item], kept: Sequence[bool]) -> List[_Item]:
     return [value for value, is_kept in zip(values, kept) if is_kept]
-
-
-def _csv_fault(fault: csv.Error) -> str:
-    return next((text for part, text in _CSV_FAULTS if part in str(fault)), str(fault))

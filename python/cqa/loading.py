@@ -11,7 +11,7 @@ from typing import IO, Callable, List, Optional, Sequence, Tuple
 from .errors import LoadFault
 from .files import standard_output, written
 from .lists import ListOptions, Lists, create_text, word_of
-from .scripts import Schema
+from .scripts import Schema, remark_text
 
 #: A list and what its rows have in the column of sources; None where there is no such column.
 Source = Tuple[str, Optional[str]]
@@ -39,6 +39,8 @@ def load_script(options: ListOptions, sources: Sequence[Source], out: IO[bytes],
         if blocks.tell() > _MOST_INPUT:
             lists.tell(options.table, None, "%d bytes of records, and a script has at most 268,435,456" % blocks.tell())
             return None
+        places = {(options.table, word_of(name)): count for name, count in options.decimals.items()}
+        out.write(remark_text(places, {options.table: options.source_column} if sources[0][1] is not None else {}).encode())
         if there is None:
             out.write(create_text(lists.schema()).encode())
         blocks.seek(0)

@@ -7,6 +7,7 @@ import io
 import re
 from typing import Dict, List, NamedTuple, Optional, Tuple
 
+from .columns import csv_fault
 from .habits import advice_for
 from .scripts import Bytes, Schema, Statement
 
@@ -125,7 +126,11 @@ def _condition(tokens: List[Token], number: int) -> int:
 def _unfinished(script: Bytes, statement: Statement) -> Tuple[int, str]:
     """Where what is left at the end begins, and what is missing."""
     if statement.block is not None:
-        return statement.start, "the block of this copy has no line \\."
+        text = statement.text(script)
+        name = re.match(rb"copy\s+\w+\s*", text)
+        at = name.end() if name else 0
+        note = advice_for(text.decode("utf-8", "replace"), at, "error 15 Unfinished")
+        return (statement.start + at, note) if note else (statement.start, "the block of this copy has no line \\.")
     text = bytes(script[statement.start:statement.end])
     texts = [found for found in _COMMENT_OR_TEXT.finditer(text) if found[0][:1] == b"'"]
     if texts and not (len(texts[-1][0]) > 1 and texts[-1][0].endswith(b"'")):
@@ -155,7 +160,7 @@ def _bad_record(script: Bytes, statement: Statement, refusal: str, schemas: Dict
 
 def _record_causes(block: bytes, schema: Optional[Schema], number: int) -> Tuple[int, List[str]]:
     """The line of a block, from 0, on which a record begins, and the causes of this one and of those behind it."""
-    reader = csv.reader(io.StringIO(block.decode("utf-8", "surrogateescape"), newline=""))
+    reader = csv.reader(io.StringIO(block.decode("utf-8", "surrogateescape"), newline=""), strict=True)
     causes: List[str] = []
     line, count, at = 0, 0, 0
     try:
@@ -167,7 +172,8 @@ def _record_causes(block: bytes, schema: Optional[Schema], number: int) -> Tuple
                 causes += _causes(record, schema)[:1]
             at = reader.line_num
     except csv.Error as fault:
-        causes.append(str(fault))
+        line = at if count < number else line
+        causes.append(csv_fault(fault))
     return line, causes
 
 

@@ -3,6 +3,7 @@
 from __future__ import annotations
 
 import argparse
+import csv
 import mmap
 import os
 import queue
@@ -18,6 +19,7 @@ from .places import Place, place_of
 from .program import Child
 from .replies import END_STATEMENT, IS_REFUSAL
 from .scripts import Bytes, Schema, Statement, schema_of, statements, verb_of
+from .session import Session
 
 _PIECE = 1 << 20
 _MOST_INPUT = 268_435_456
@@ -51,7 +53,8 @@ class ScriptFile:
                 self.script = file.read(_MOST_INPUT + 1)
 
 
-_Sent = Tuple[ScriptFile, Statement]
+#: A statement, and why it isn't sent.
+_Sent = Tuple[ScriptFile, Statement, str]
 
 
 class Runner:
@@ -96,10 +99,12 @@ class Runner:
     def _send_file(self, file: ScriptFile) -> bool:
         """Sends the statements of a file, and says whether the next file may follow."""
         for statement in statements(file.script):
-            self._put((file, statement))
+            fault = _fault_of(file.script, statement)
+            self._put((file, statement, fault))
             if self._is_stopped or not statement.complete:
                 return False
-            self._send_statement(file.script, statement)
+            if not fault:
+                self._send_statement(file.script, statement)
         return True
 
     def _put(self, sent: _Sent) -> None:
@@ -119,11 +124,11 @@ class Runner:
         if self._sent.qsize() <= 1:
             self.child.flush()
 
-    def _answer(self, file: ScriptFile, statement: Statement) -> Answer:
+    def _answer(self, file: ScriptFile, statement: Statement, fault: str) -> Answer:
         text = statement.text(file.script).decode("utf-8", "replace")
         verb = verb_of(text)
-        if not statement.complete:
-            return self._refused(file, statement, text, verb, "error 15 Unfinished")
+        if fault:
+            return self._refused(file, statement, text, verb, fault)
         lines = self.child.reply(verb)
         if lines and IS_REFUSAL.match(lines[0]):
             return self._refused(file, statement, text, verb, lines[0][:-1].decode("utf-8", "replace"))
@@ -134,6 +139,31 @@ class Runner:
 
     def _refused(self, file: ScriptFile, statement: Statement, text: str, verb: str, refusal: str) -> Answer:
         return Answer(file.path, text, verb, [], refusal, place_of(file.script, statement, refusal, self.schemas))
+
+
+def _fault_of(script: Bytes, statement: Statement) -> str:
+    """Why a statement isn't sent: it isn't complete, or its block has a quote that is never closed, or that something stands
+    behind. The program takes such a block, and records between two such quotes are then part of a text."""
+    if not statement.complete:
+        return "error 15 Unfinished"
+    if statement.block is None or script.find(b'"', *statement.block) < 0:
+        return ""
+    number = 0
+    try:
+        for record in csv.reader(_block_lines(script, *statement.block), strict=True):
+            number += bool(record)
+    except csv.Error:
+        return "error 19 BadCsv record %d" % (number + 1)
+    return ""
+
+
+def _block_lines(script: Bytes, begin: int, end: int) -> Iterator[str]:
+    """The lines of a block with their ends."""
+    while begin < end:
+        found = script.find(b"\n", begin, end) + 1
+        line_end = found or end
+        yield script[begin:line_end].decode("latin-1")
+        begin = line_end
 
 
 class Progress:
@@ -190,6 +220,31 @@ def run_files(paths: Sequence[str], child: Child, stops: bool) -> Iterator[Answe
                 return
     finally:
         progress.end()
+
+
+def loaded(paths: Sequence[str], questions: Optional[List[Answer]] = None) -> Optional[Session]:
+    """A session over what files make, or None where a statement was refused; each refusal is told. Answers to questions go into a list.
+
+    Raises OSError where a file can't be read, and Ended where the program ends.
+    """
+    child = Child()
+    is_refused = False
+    session = Session(child=child)
+    try:
+        for path in paths:
+            session.heed(ScriptFile(path).script)
+        for answer in run_files(paths, child, False):
+            if answer.refusal:
+                is_refused = True
+                tell_refusal(answer)
+            elif questions is not None:
+                questions.append(answer)
+    except BaseException:
+        child.kill()
+        raise
+    if is_refused:
+        child.kill()
+    return None if is_refused else session
 
 
 def tell_refusal(answer: Answer) -> None:

@@ -4,7 +4,7 @@ from __future__ import annotations
 
 import mmap
 import re
-from typing import Dict, Iterator, List, NamedTuple, Optional, Tuple, Union
+from typing import Dict, Iterator, List, Mapping, NamedTuple, Optional, Tuple, Union
 
 Bytes = Union[bytes, mmap.mmap]
 
@@ -15,6 +15,8 @@ _BLOCK_BEGIN = re.compile(rb"[ \t\r]*\n")
 _BLOCK_END = re.compile(rb"\\\.\r?(?:\n|\Z)")
 _COMMENT_OR_TEXT = re.compile(r"--[^\n]*|('[^']*(?:'|\Z))")
 _TOKEN = re.compile(r"[A-Za-z_][A-Za-z0-9_]*|-?[0-9]+|'[^']*(?:''[^']*)*'|<>|<=|>=|[(),.=<>]")
+_PLACES = re.compile(rb"^-- cqa: column (\w+)\.(\w+) has (\d+) places$", re.M)
+_SOURCES = re.compile(rb"^-- cqa: column (\w+)\.(\w+) has the sources$", re.M)
 _CREATE = re.compile(r"create\s+(strict\s+)?table\s+(\w+)\s*\((.*),\s*primary\s+key\s*\(([^)]*)\)\s*\)\s*\Z", re.S)
 
 
@@ -53,6 +55,20 @@ def statements(script: Bytes, at: int = 0) -> Iterator[Statement]:
         statement = _statement(script, at, size)
         yield statement
         at = _past_gap(script, statement.end)
+
+
+def remarks(script: Bytes) -> Tuple[Dict[Tuple[str, str], int], Dict[str, str]]:
+    """What the comments before the first statement say of columns: the places of those that hold numbers with places, by table
+    and column, and each table's column of sources."""
+    head = bytes(script[:_past_gap(script, 0)])
+    places = {(table.decode(), column.decode()): int(count) for table, column, count in _PLACES.findall(head)}
+    return places, {table.decode(): column.decode() for table, column in _SOURCES.findall(head)}
+
+
+def remark_text(places: Mapping[Tuple[str, str], int], sources: Mapping[str, str]) -> str:
+    """Comments that `remarks` reads."""
+    return "".join(["-- cqa: column %s.%s has %d places\n" % (*name, count) for name, count in places.items()]
+                   + ["-- cqa: column %s.%s has the sources\n" % name for name in sources.items()])
 
 
 def _past_gap(script: Bytes, at: int) -> int:

@@ -19,7 +19,7 @@ from .loading import Source, load_script
 from .program import Child
 from .replies import IS_REFUSAL, Row, row_of
 from .rows import Cell, Rows
-from .scripts import Bytes, Schema, Statement, quoted, row_text, schema_of, selected, shown_schema, statements, verb_of
+from .scripts import Bytes, Schema, Statement, quoted, remark_text, remarks, row_text, selected, shown_schema, statements, verb_of
 
 #: Statements that not every program knows: how each begins, and the reply of a program that doesn't know it.
 NEWER = (("disputed", b"error 2 Syntax at 0\n"), ("against", b"error 2 Syntax at 0\n"), ("prove", b"error 2 Syntax at 0\n"),
@@ -27,8 +27,6 @@ NEWER = (("disputed", b"error 2 Syntax at 0\n"), ("against", b"error 2 Syntax at
 
 _STATE_HEAD = "-- cqa state: kept by the Python package; it is a script, and its last line tells its size\n"
 _STATE_END = re.compile(rb"-- cqa state: (\d+) tables, (\d+) rows\n\Z")
-_PLACES = re.compile(rb"-- cqa state: column (\w+)\.(\w+) has (\d+) places\n")
-_SOURCES = re.compile(rb"-- cqa state: column (\w+)\.(\w+) has the sources\n")
 
 
 class Session:
@@ -38,10 +36,10 @@ class Session:
     and `str`, and `Decimal` where a column was loaded with a number of places.
     """
 
-    def __init__(self, program: Optional[str] = None) -> None:
+    def __init__(self, program: Optional[str] = None, child: Optional[Child] = None) -> None:
         """Starts the program: the one named, or else that of the variable CQA_PROGRAM, of the repository in which this package
-        stands, or of the path. Raises NotBuilt where there is none."""
-        self._child = Child(program)
+        stands, or of the path. Or goes on with a child that runs. Raises NotBuilt where there is none."""
+        self._child = child or Child(program)
         self._places: Dict[Tuple[str, str], int] = {}
         self._sources: Dict[str, str] = {}
 
@@ -83,10 +81,17 @@ class Session:
         """Sends the statements of a script one after the other and gives the lines of each reply. The first refusal ends it and
         is raised, and so is a script that ends within a statement (ValueError), before anything is sent."""
         text = script.encode("utf-8") if isinstance(script, str) else script
+        self.heed(text)
         parts = list(statements(text))
         if parts and not parts[-1].complete:
             raise ValueError("the script ends within a statement: %r" % text[parts[-1].start:][:200])
         return [[line.decode("utf-8") for line in self._told(text, part)] for part in parts]
+
+    def heed(self, script: Bytes) -> None:
+        """Heeds what the comments at the head of a script say of columns: numbers with places, and columns of sources."""
+        places, sources = remarks(script)
+        self._places.update(places)
+        self._sources.update(sources)
 
     def _told(self, script: Bytes, part: Statement) -> List[bytes]:
         """Sends a statement of a script and gives its reply's lines without line feeds."""
@@ -154,10 +159,7 @@ class Session:
             file.seek(0)
             script = file.read()
         replies = [self._told(script, part) for part in statements(script)]
-        for name, places in options.decimals.items():
-            self._places[options.table, word_of(name)] = places
-        if sources[0][1] is not None:
-            self._sources[options.table] = options.source_column
+        self.heed(script)
         return sum(int(lines[0].split(b" ")[1]) for lines in replies if lines[0].startswith((b"copied ", b"inserted ")))
 
     def tables(self) -> List[Schema]:
@@ -244,7 +246,10 @@ class Session:
         return None if lines == ["no plan"] else "".join(line + "\n" for line in lines)
 
     def _answer(self, verb: str, query: str) -> Rows:
-        lines = self.tell("%s %s;" % (verb, query))
+        return self.rows_of(query, self.tell("%s %s;" % (verb, query)))
+
+    def rows_of(self, query: str, lines: Sequence[str]) -> Rows:
+        """The rows of a query's reply, with the query's columns."""
         if not lines or not lines[-1].endswith(" rows"):
             raise ReplyFault("no rows: %r" % lines[-1:])
         columns, tables = selected(query)
@@ -308,10 +313,7 @@ class Session:
         dump = self.tell("dump;")
         with written(path) as file:
             file.write(_STATE_HEAD.encode())
-            for (table, column), places in self._places.items():
-                file.write(("-- cqa state: column %s.%s has %d places\n" % (table, column, places)).encode())
-            for table, column in self._sources.items():
-                file.write(("-- cqa state: column %s.%s has the sources\n" % (table, column)).encode())
+            file.write(remark_text(self._places, self._sources).encode())
             for line in dump:
                 file.write(line.encode("utf-8") + b"\n")
             file.write(("-- cqa state: %d tables, %d rows\n" % (len(shown) - 1, rows)).encode())
@@ -328,9 +330,6 @@ class Session:
         session = cls(program)
         try:
             session.run(script)
-            head = script[:script.find(b"\ncreate ") + 1]
-            session._places = {(table.decode(), column.decode()): int(places) for table, column, places in _PLACES.findall(head)}
-            session._sources = {table.decode(): column.decode() for table, column in _SOURCES.findall(head)}
             shown = session.tell("show tables;")
             rows = sum(int(line.split(" rows ")[-1].split(" ")[0]) for line in shown[:-1])
             if (len(shown) - 1, rows) != (int(end[1]), int(end[2])):

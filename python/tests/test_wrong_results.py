@@ -1,0 +1,140 @@
+"""What once ended in a wrong or an empty result with status 0: each is right now, or fails loudly."""
+
+from __future__ import annotations
+
+import os
+import re
+import sqlite3
+import subprocess
+import unittest
+from decimal import Decimal
+
+import support
+from support import TOP, Case, ProgramCase, lines
+
+import cqa
+
+GOOD = 'id,name,city\n1,Ada,Oslo\n2,Bo,Bergen\n3,"Moe, Cy",Hamar\n'
+BROKEN = "id,name,city\n1,Ada,Bergen\n,Nobody,Voss\n2,Bo,Stavanger\n"
+BY_HAND = "create table customer (id int, name text, city text, shop text, primary key (id));\n"
+
+
+class TwoLists(ProgramCase):
+    def recipe(self, script: str) -> "tuple[int, str, str]":
+        """Runs lines of a shell in the test's folder, with `./cqa` there."""
+        if not os.path.exists(self.path("cqa")):
+            os.symlink(os.path.join(TOP, "cqa"), self.path("cqa"))
+        ran = subprocess.run(["bash", "-c", script], cwd=self.folder, stdout=subprocess.PIPE, stderr=subprocess.PIPE, timeout=60, check=False)
+        return ran.returncode, ran.stdout.decode(), ran.stderr.decode()
+
+    LOAD = "./cqa load --table customer --key id --source A=A.csv --source B=B.csv >load.cqa || exit\n"
+
+    def test_no_list_no_word_of_no_conflict(self) -> None:
+        self.file("A.csv", GOOD)
+        self.file("B.csv", BROKEN)
+        status, out, told = self.recipe(self.LOAD + "./cqa conflicts load.cqa customer")
+        self.assertEqual((status, out), (1, ""))
+        self.assertIn("B.csv:3: the key id is empty", told)
+        self.file("load.cqa", BY_HAND + "copy customer;\n1,Ada,Oslo,A\n\\.\ncopy customer;\n1,Ada,Bergen,B\n,Nobody,Voss,B\n\\.\n")
+        status, out, told = self.recipe("./cqa conflicts load.cqa customer")
+        self.assertEqual((status, out), (1, ""))
+        self.assertIn("load.cqa:7: error 19 BadCsv record 2: id is empty", told)
+
+    def test_no_list_no_clean_list(self) -> None:
+        self.file("A.csv", GOOD)
+        self.file("B.csv", BROKEN)
+        self.file("ask.cqa", "delete from customer where id = 1 and source = 'A';\nask select id, name, city from customer;\n")
+        status, out, _ = self.recipe(self.LOAD + "./cqa csv load.cqa ask.cqa -o clean.csv")
+        self.assertEqual((status, out, os.path.exists(self.path("clean.csv"))), (1, "", False))
+
+    def test_a_list_without_its_last_line_feed(self) -> None:
+        self.file("A.csv", GOOD[:-1])
+        self.file("B.csv", BROKEN.replace(",Nobody,Voss\n", "")[:-1])
+        status, out, _ = self.recipe(self.LOAD + "./cqa conflicts load.cqa customer")
+        self.assertEqual((status, lines(out)), (0, ["customer: 3 keys, 2 in conflict: city 2", "1  city: Bergen (B) | Oslo (A)", "2  city: Bergen (A) | Stavanger (B)"]))
+
+    def test_an_unclosed_quote_swallows_no_record(self) -> None:
+        self.file("A.csv", 'id,name\n1,Ada Holm\n2,"Bo Lind\n3,Cy Moe\n4,Dag Vik\n')
+        status, out, told = self.recipe("./cqa load --table customer --key id A.csv")
+        self.assertEqual((status, out), (1, ""))
+        self.assertIn("A.csv:3: a quote is opened here and never closed", told)
+        block = 'create table customer (id int, name text, primary key (id));\ncopy customer;\n1,Ada Holm\n2,"Bo Lind\n3,Cy Moe\n4,%s\n\\.\nask select id from customer;\n'
+        for last, cause in (("Dag Vik", "a quote is opened here and never closed"), ('"Dag Vik"', "something stands behind a closing quote")):
+            self.file("s.cqa", block % last)
+            status, out, told = self.recipe("./cqa run s.cqa")
+            self.assertEqual((status, out, told), (1, "created customer\n0 rows\n", "s.cqa:4: error 19 BadCsv record 2: %s\n" % cause))
+
+    def test_headers_are_looked_at(self) -> None:
+        self.file("A.csv", GOOD)
+        self.file("B.csv", "id,city,name\n1,Oslo,Ada\n")
+        self.assertEqual(self.recipe(self.LOAD + "./cqa conflicts load.cqa customer")[1], "customer: 3 keys, 0 in conflict\n")
+        os.unlink(self.path("B.csv"))
+        status, out, told = self.recipe(self.LOAD + "./cqa conflicts load.cqa customer")
+        self.assertEqual((status, out), (1, ""))
+        self.assertIn("B.csv: no such file or directory", told)
+
+    def test_csv_of_an_answer_has_no_forged_rows_and_drops_no_error(self) -> None:
+        made = "create table note (id int, body text, primary key (id));\ninsert into note values (1, 'x\n(99, 100)\ny');\n"
+        self.file("s.cqa", made + "ask select id from note where id = 5;\nask select id, body from note;\n")
+        self.assertEqual(self.recipe("./cqa csv s.cqa"), (0, 'id,body\n1,"x\n(99, 100)\ny"\n', ""))
+        self.file("s.cqa", made + "ask select idd from note;\n")
+        status, out, told = self.recipe("./cqa csv s.cqa")
+        self.assertEqual((status, out), (1, ""))
+        self.assertIn("s.cqa:5: error 6 UnknownColumn idd", told)
+
+    def test_asks_behind_a_refused_load_can_be_stopped(self) -> None:
+        self.file("s.cqa", BY_HAND + "copy customer;\n1,Ada,Oslo,A\n\\.\ncopy customer;\n,x,y,B\n\\.\nask select id, city from customer;\n")
+        status, out, told = self.recipe("./cqa run --stop s.cqa")
+        self.assertEqual((status, out), (1, "created customer\ncopied 1\n"))
+        self.assertEqual(len(lines(told)), 1)
+
+    def test_decimals_compare_as_numbers(self) -> None:
+        self.file("A.csv", "id,credit\n1,900.00\n2,1200.50\n3,2500.0\n")
+        self.file("B.csv", "id,credit\n3,2500.00\n")
+        status, out, told = self.recipe("./cqa load --table customer --key id --source A=A.csv --source B=B.csv >load.cqa")
+        self.assertIn("credit holds numbers and is text", told)
+        with cqa.Session() as db:
+            db.load("customer", {"A": self.path("A.csv"), "B": self.path("B.csv")}, key="id", decimal={"credit": 2})
+            self.assertEqual(db.certain("select id, credit from customer where credit >= 100000"), [(2, Decimal("1200.50")), (3, Decimal("2500.00"))])
+            self.assertEqual(len(db.conflicts("customer")), 0)
+
+    def test_a_time_with_an_offset_is_refused(self) -> None:
+        self.file("A.csv", "id,ts\n1,2026-03-01T00:10:00+01:00\n")
+        status, out, told = self.recipe("./cqa load --table reading --key id --time ts A.csv")
+        self.assertEqual((status, out), (1, ""))
+        self.assertIn("A.csv:2: ts:", told)
+
+    def test_a_missing_field_is_told_unless_somebody_chose(self) -> None:
+        self.file("A.csv", "id,name,email\n1,Ada,\n")
+        self.file("B.csv", "id,name,email\n1,Ada,ada@example.no\n")
+        self.assertEqual(self.recipe(self.LOAD)[:2], (1, ""))
+        wanted = {"keep": "id,email\n", "drop": "id,email\n1,ada@example.no\n"}
+        self.file("q.cqa", "ask select id, email from customer;")
+        for choice, answer in wanted.items():
+            load = self.LOAD.replace("load ", "load --missing %s " % choice)
+            self.assertEqual(self.recipe(load + "./cqa csv load.cqa q.cqa")[:2], (0, answer))
+
+    def test_a_state_is_kept_and_whole(self) -> None:
+        self.file("A.csv", GOOD)
+        with cqa.Session() as db:
+            db.load("customer", self.path("A.csv"), key="id")
+            db.run("create table note (id int, primary key (id)); insert into note values (1);")
+            db.save(self.path("state.cqa"))
+        self.assertEqual(self.command("run", "state.cqa"), (0, "created customer\ncopied 3\ncreated note\ncopied 1\n", ""))
+
+
+class Elsewhere(Case):
+    def test_the_readmes_sql_by_hand_is_plain_sql(self) -> None:
+        with open(os.path.join(TOP, "README.md"), encoding="utf-8") as file:
+            text = file.read()
+        found = re.search(r"`(select distinct max\(name\).*?)`", text, flags=re.S)
+        assert found is not None
+        self.assertIsNone(re.search(r"min\(city", found[1]), "a comparison is no number for PostgreSQL")
+        with sqlite3.connect(":memory:") as engine:
+            engine.execute("create table customer (id int, name text, city text)")
+            engine.executemany("insert into customer values (?, ?, ?)", [(1, "Ada", "Oslo"), (1, "Ada", "Bergen"), (2, "Bo", "Oslo"), (2, "Bo", "Oslo"), (3, "Cy", "Oslo"), (3, "Si", "Oslo")])
+            self.assertEqual(engine.execute(found[1]).fetchall(), [("Bo",)])
+
+
+if __name__ == "__main__":
+    unittest.main()
