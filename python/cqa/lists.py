@@ -260,21 +260,19 @@ class Lists:
         return len(row) == width
 
     def _without_missing(self, path: str, lines: Sequence[int], columns: Sequence[Sequence[str]]) -> List[bool]:
-        """Which records are kept: those without an empty field, and, where the options keep them, those with one."""
+        """Which records of a piece are looked at further: those without an empty field, and, where the options keep them, those
+        with one outside the key. What the options refuse is told."""
         kept = [True] * len(lines)
         for column, values in zip(self._columns, columns):
-            if "" not in values:
+            fate = "key" if column.name in self._key else self.options.missing
+            if "" not in values or fate == "keep":
                 continue
-            is_key = column.name in self._key
             for at, value in enumerate(values):
-                if value:
-                    continue
-                if is_key:
-                    self.tell(path, lines[at], "the key %s is empty" % column.name)
-                elif self.options.missing == "refuse":
-                    self.tell(path, lines[at], "%s is empty: --missing keep takes it as the text '', --missing drop leaves the record out" % column.name)
-                elif self.options.missing == "drop":
+                if not value:
                     kept[at] = False
+                    if fate != "drop":
+                        self.tell(path, lines[at], "the key %s is empty" % column.name if fate == "key" else
+                                  "%s is empty: --missing keep takes it as the text '', --missing drop leaves the record out" % column.name)
         self.dropped += kept.count(False)
         return kept
 

@@ -9,7 +9,7 @@ from typing import Dict, List, NamedTuple, Optional, Tuple
 
 from .columns import csv_fault
 from .habits import advice_for
-from .scripts import Bytes, Schema, Statement
+from .scripts import Bytes, Schema, Statement, open_part
 
 _COMMENT_OR_TEXT = re.compile(rb"--[^\n]*|'[^']*(?:'|\Z)")
 _TOKEN = re.compile(rb"[A-Za-z_][A-Za-z0-9_]*|-?[0-9]+|'[^']*(?:''[^']*)*'|<>|<=|>=|[(),.=<>]")
@@ -131,11 +131,8 @@ def _unfinished(script: Bytes, statement: Statement) -> Tuple[int, str]:
         at = name.end() if name else 0
         note = advice_for(text.decode("utf-8", "replace"), at, "error 15 Unfinished")
         return (statement.start + at, note) if note else (statement.start, "the block of this copy has no line \\.")
-    text = bytes(script[statement.start:statement.end])
-    texts = [found for found in _COMMENT_OR_TEXT.finditer(text) if found[0][:1] == b"'"]
-    if texts and not (len(texts[-1][0]) > 1 and texts[-1][0].endswith(b"'")):
-        return statement.start + texts[-1].start(), "the text that begins here has no end"
-    return statement.start, "the statement that begins here has no ;"
+    part, at = open_part(script, statement)
+    return at, "the text that begins here has no end" if part == "text" else "the statement that begins here has no ;"
 
 
 def _bad_record(script: Bytes, statement: Statement, refusal: str, schemas: Dict[str, Schema]) -> Tuple[int, str, str]:

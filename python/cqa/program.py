@@ -45,14 +45,14 @@ def _runnable(path: str) -> str:
 class Child:
     """A running program that reads a script and is asked statement by statement."""
 
-    def __init__(self, program: Optional[str] = None, word: str = "run") -> None:
-        """Starts the program. Raises NotBuilt where there is none."""
+    def __init__(self, program: Optional[str] = None, is_apart: bool = False) -> None:
+        """Starts the program. is_apart: Ctrl-C at the terminal doesn't reach it. Raises NotBuilt where there is none."""
         self.program = found_program(program)
         environment = dict(os.environ)
         environment.setdefault("GLIBC_TUNABLES", "glibc.malloc.hugetlb=1")
         try:
-            self._process = subprocess.Popen([self.program, word], stdin=subprocess.PIPE, stdout=subprocess.PIPE,
-                                             bufsize=_PIECE, env=environment)
+            self._process = subprocess.Popen([self.program, "run"], stdin=subprocess.PIPE, stdout=subprocess.PIPE,
+                                             bufsize=_PIECE, env=environment, start_new_session=is_apart)
         except OSError as fault:
             raise NotBuilt("%s can't be started: %s" % (self.program, fault.strerror or fault)) from None
         self._input = _piped(self._process.stdin)

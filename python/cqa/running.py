@@ -222,12 +222,12 @@ def run_files(paths: Sequence[str], child: Child, stops: bool) -> Iterator[Answe
         progress.end()
 
 
-def loaded(paths: Sequence[str], questions: Optional[List[Answer]] = None) -> Optional[Session]:
-    """A session over what files make, or None where a statement was refused; each refusal is told. Answers to questions go into a list.
+def loaded(paths: Sequence[str], answers: Optional[List[Answer]] = None, is_apart: bool = False) -> Optional[Session]:
+    """A session over what files make, or None where a statement was refused; each refusal is told. Answers go into a list.
 
-    Raises OSError where a file can't be read, and Ended where the program ends.
+    is_apart: Ctrl-C doesn't reach the program. Raises OSError where a file can't be read, and Ended where the program ends.
     """
-    child = Child()
+    child = Child(is_apart=is_apart)
     is_refused = False
     session = Session(child=child)
     try:
@@ -237,8 +237,8 @@ def loaded(paths: Sequence[str], questions: Optional[List[Answer]] = None) -> Op
             if answer.refusal:
                 is_refused = True
                 tell_refusal(answer)
-            elif questions is not None:
-                questions.append(answer)
+            elif answers is not None:
+                answers.append(answer)
     except BaseException:
         child.kill()
         raise

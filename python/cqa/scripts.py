@@ -14,6 +14,7 @@ _COPY = re.compile(rb"copy(?![A-Za-z0-9_])")
 _BLOCK_BEGIN = re.compile(rb"[ \t\r]*\n")
 _BLOCK_END = re.compile(rb"\\\.\r?(?:\n|\Z)")
 _COMMENT_OR_TEXT = re.compile(r"--[^\n]*|('[^']*(?:'|\Z))")
+_COMMENT_OR_TEXT_BYTES = re.compile(rb"--[^\n]*|('[^']*(?:'|\Z))")
 _TOKEN = re.compile(r"[A-Za-z_][A-Za-z0-9_]*|-?[0-9]+|'[^']*(?:''[^']*)*'|<>|<=|>=|[(),.=<>]")
 _PLACES = re.compile(rb"^-- cqa: column (\w+)\.(\w+) has (\d+) places$", re.M)
 _SOURCES = re.compile(rb"^-- cqa: column (\w+)\.(\w+) has the sources$", re.M)
@@ -119,6 +120,19 @@ def _block_end(script: Bytes, begin: int) -> Optional[Tuple[int, int]]:
         at = script.find(b"\n\\.", at) + 1
         if at == 0:
             return None
+
+
+def open_part(script: Bytes, statement: Statement) -> Tuple[str, int]:
+    """What is open at the end of an incomplete statement, "block", "text" or "statement", and where it begins."""
+    if statement.block is not None:
+        return "block", statement.start
+    text = bytes(script[statement.start:statement.end])
+    found = None
+    for found in _COMMENT_OR_TEXT_BYTES.finditer(text):
+        pass
+    if found is not None and found[1] and (len(found[1]) == 1 or not found[1].endswith(b"'")):
+        return "text", statement.start + found.start()
+    return "statement", statement.start
 
 
 def without_comments(text: str) -> str:

@@ -5,6 +5,7 @@ from __future__ import annotations
 import os
 import re
 import tempfile
+from dataclasses import replace
 from decimal import Decimal
 from types import TracebackType
 from typing import Dict, Iterator, List, Mapping, Optional, Sequence, Tuple, Type, Union
@@ -127,22 +128,26 @@ class Session:
 
         Raises LoadFault with every fault of the lists, and then nothing of them is loaded; ValueError for options that tell nothing.
         """
-        there = self.schema(table)
-        sources = _sources(path, source)
-        wanted = [key] if isinstance(key, str) else list(key)
-        if there is not None and wanted and [word_of(name) for name in wanted] != there.key:
-            raise ValueError("the key of %s is %s" % (table, ", ".join(there.key)))
-        if there is None and not wanted:
-            raise ValueError("the key of the new table %s is wanted" % table)
         if missing not in ("refuse", "keep", "drop"):
             raise ValueError("missing is refuse, keep or drop, and not %r" % missing)
-        options = ListOptions(table, wanted or (there.key if there else []), columns, self._decimals(table, decimal, there), time, text, delimiter,
-                              encoding, decimal_mark, missing, strict, source_column)
-        return self._loaded(options, sources, there)
+        wanted = [key] if isinstance(key, str) else list(key)
+        return self.load_lists(ListOptions(table, wanted, columns, decimal or {}, time, text, delimiter, encoding, decimal_mark, missing,
+                                           strict, source_column), _sources(path, source))
 
-    def _decimals(self, table: str, decimal: Optional[Mapping[str, int]], there: Optional[Schema]) -> Dict[str, int]:
+    def load_lists(self, options: ListOptions, sources: Sequence[Source]) -> int:
+        """Loads lists as options say, each with what its rows have in the column of sources, and gives the number of new rows.
+        Raises as `load`."""
+        there = self.schema(options.table)
+        if there is not None and options.key and [word_of(name) for name in options.key] != there.key:
+            raise ValueError("the key of %s is %s" % (options.table, ", ".join(there.key)))
+        if there is None and not options.key:
+            raise ValueError("the key of the new table %s is wanted" % options.table)
+        key = options.key or (there.key if there else [])
+        return self._loaded(replace(options, key=key, decimals=self._decimals(options.table, options.decimals, there)), sources, there)
+
+    def _decimals(self, table: str, decimal: Mapping[str, int], there: Optional[Schema]) -> Dict[str, int]:
         """The number of places by column, those of the table that is there among them."""
-        told = {word_of(name): places for name, places in (decimal or {}).items()}
+        told = {word_of(name): places for name, places in decimal.items()}
         known = {column: places for (owner, column), places in self._places.items() if owner == table}
         for name, places in told.items():
             if there is not None and known.get(name) != places:
