@@ -7,7 +7,7 @@ import os
 import sys
 from typing import Callable, Dict, Sequence
 
-from . import helping, loading, looking, running, shell
+from . import helping, loading, looking, report, running, shell
 from .errors import CqaError, Ended, NotBuilt
 
 COMMANDS: Dict[str, Callable[[Sequence[str]], int]] = {
@@ -15,6 +15,7 @@ COMMANDS: Dict[str, Callable[[Sequence[str]], int]] = {
     "run": running.main,
     "csv": looking.csv_main,
     "conflicts": looking.conflicts_main,
+    "report": report.main,
     "shell": shell.main,
     "help": helping.main,
 }

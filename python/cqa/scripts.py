@@ -169,32 +169,46 @@ def shown_schema(line: str) -> Optional[Schema]:
     return Schema(found[2], columns, found[4].split(", "), bool(found[1]))
 
 
-def selected(text: str) -> Tuple[List[str], List[str]]:
-    """What a query selects, as it is written, and the tables behind its first `from`: the words of a name may be any."""
+class QueryParts(NamedTuple):
+    """What a query selects, as it is written; the tables behind its first `from`; and its conditions, without `where`."""
+
+    columns: List[str]
+    tables: List[str]
+    conditions: str
+
+
+def query_parts(text: str) -> QueryParts:
+    """The parts of a query, or of a statement that ends with one: any word may be a name in it."""
     words = tokens(text)
-    if "select" not in words:
-        return [], _tables_behind(words, words.index("exists") + 1) if "exists" in words else []
-    at = words.index("select") + 1
     columns: List[str] = []
+    if "select" in words:
+        columns, at = _names(words, words.index("select") + 1)
+    else:
+        at = words.index("exists") + 1 if "exists" in words else len(words)
+    if words[at:at + 1] != ["from"]:
+        return QueryParts(columns, [], "")
+    tables, at = _names(words, at + 1)
+    return QueryParts(columns, tables, " ".join(words[at + 1:]))
+
+
+def selected(text: str) -> Tuple[List[str], List[str]]:
+    """What a query selects, as it is written, and its tables."""
+    parts = query_parts(text)
+    return parts.columns, parts.tables
+
+
+def _names(words: List[str], at: int) -> Tuple[List[str], int]:
+    """The names from a place on, with a comma between two, and the place behind them."""
+    names: List[str] = []
     while at < len(words):
         name, at = words[at], at + 1
-        if words[at:at + 1] == ["."]:
-            name, at = name + "." + words[at + 1] if at + 1 < len(words) else name, at + 2
-        columns.append(name)
+        if words[at:at + 1] == ["."] and at + 1 < len(words):
+            name, at = name + "." + words[at + 1], at + 2
+        names.append(name)
         if words[at:at + 1] != [","]:
             break
         at += 1
-    return columns, _tables_behind(words, at)
-
-
-def _tables_behind(words: List[str], at: int) -> List[str]:
-    """The names behind the `from` at a place."""
-    if words[at:at + 1] != ["from"]:
-        return []
-    tables, at = words[at + 1:at + 2], at + 2
-    while words[at:at + 1] == [","]:
-        tables, at = tables + words[at + 1:at + 2], at + 2
-    return tables
+    return names, at
 
 
 def quoted(value: Union[int, str]) -> str:

@@ -8,7 +8,7 @@ import tempfile
 from dataclasses import replace
 from decimal import Decimal
 from types import TracebackType
-from typing import Dict, Iterator, List, Mapping, Optional, Sequence, Tuple, Type, Union
+from typing import Dict, Iterable, Iterator, List, Mapping, Optional, Sequence, Tuple, Type, Union
 
 from . import answers
 from .answers import Classification, Explanation, Group, Range
@@ -192,7 +192,8 @@ class Session:
         if source is not None and source not in schema.columns:
             raise KeyError("%s has no column %s" % (table, source))
         told = source or self._sources.get(table) or ("source" if "source" in schema.columns else None)
-        rows = self.possible("select %s from %s" % (", ".join(names), table))
+        lines = self.tell("possible select %s from %s;" % (", ".join(names), table))
+        rows = self._scaled(map(row_of, lines[:-1]), self._column_places(names, [table]))
         return conflicts_of(table, names, schema.key, told if told not in schema.key else None, rows)
 
     def _there(self, table: str) -> Schema:
@@ -217,15 +218,15 @@ class Session:
 
     def explain(self, row: Sequence[Cell], query: str) -> Explanation:
         """Why a row is certain, or a repair in which it is no answer. Raises Refused."""
-        return answers.explanation(self.tell("explain row %s for %s;" % (self._literal(row, query), query)))
+        return answers.explanation(self.tell("explain row %s for %s;" % (row_text(self.stored(row, query)), query)))
 
     def against(self, row: Sequence[Cell], query: str) -> Explanation:
         """The fewest rows that stand against a row. Raises Refused; UnknownStatement where the program is too old."""
-        return answers.against(self.tell("against row %s for %s;" % (self._literal(row, query), query)))
+        return answers.against(self.tell("against row %s for %s;" % (row_text(self.stored(row, query)), query)))
 
     def prove(self, row: Sequence[Cell], query: str) -> Explanation:
         """A certificate that a row is certain, which `cqa check` verifies. Raises Refused; UnknownStatement where the program is too old."""
-        return answers.explanation(self.tell("prove row %s for %s;" % (self._literal(row, query), query)))
+        return answers.explanation(self.tell("prove row %s for %s;" % (row_text(self.stored(row, query)), query)))
 
     def range(self, aggregate: str) -> Range:
         """The ends of `sum credit from customer where ..`, of `count from ..`, `min ..` or `max ..` over all repairs, as they are
@@ -273,25 +274,27 @@ class Session:
         return found if max(found, default=-1) >= 0 else []
 
     @staticmethod
-    def _scaled(rows: Sequence[Row], places: Sequence[int]) -> Iterator[Tuple[Cell, ...]]:
+    def _scaled(rows: Iterable[Row], places: Sequence[int]) -> Iterator[Tuple[Cell, ...]]:
         if not places:
             return iter(rows)
         return (tuple(Decimal(value).scaleb(-count) if count >= 0 and isinstance(value, int) else value
                       for value, count in zip(row, places)) for row in rows)
 
-    def _literal(self, row: Sequence[Cell], query: str) -> str:
-        """A row as it is written behind `explain row`; a Decimal is scaled as its column is. Raises ValueError where it can't be."""
+    def stored(self, row: Sequence[Cell], query: str) -> Tuple[Union[int, str], ...]:
+        """The values of an answer's row as they are stored: those of columns with places are scaled. Raises ValueError where one
+        has more places than its column."""
         columns, tables = selected(query)
-        places = self._column_places(columns, tables) or [-1] * len(row)
-        values = []
-        for value, count in zip(row, list(places) + [-1] * len(row)):
-            scaled = Decimal(value).scaleb(count) if count >= 0 and isinstance(value, (int, Decimal)) else value
-            if isinstance(scaled, Decimal):
-                if scaled != scaled.to_integral_value():
-                    raise ValueError("%s has more places than its column" % value)
-                scaled = int(scaled)
-            values.append(scaled)
-        return row_text(tuple(values))
+        places = self._column_places(columns, tables) + [-1] * len(row)
+        values: List[Union[int, str]] = []
+        for value, count in zip(row, places if columns else [-1] * len(row)):
+            if isinstance(value, str):
+                values.append(value)
+                continue
+            scaled = Decimal(value).scaleb(max(count, 0))
+            if scaled != scaled.to_integral_value():
+                raise ValueError("%s has more places than its column" % value)
+            values.append(int(scaled))
+        return tuple(values)
 
     # -- change and keep ----------------------------------------------------------------------------------------------------
 

@@ -25,7 +25,7 @@ class Taken(Case):
         self.file("a.csv", "\ufeffid,Full Name,City\r\n1,Ada,Oslo\r\n3,\"Moe, Cy\",Hamar")
         self.file("b.csv", "city,id,full name\nBergen,1,Ada\n")
         self.assertEqual(self.load("--key", "id", "--source", "A=a.csv", "--source", "B=b.csv"),
-                         'create table t (id int, full_name text, city text, source text, primary key (id));\n'
+                         '-- cqa: column t.source has the sources\ncreate table t (id int, full_name text, city text, source text, primary key (id));\n'
                          '-- a.csv:2\ncopy t;\n"1","Ada","Oslo","A"\n"3","Moe, Cy","Hamar","A"\n\\.\n'
                          '-- b.csv:2\ncopy t;\n"1","Ada","Bergen","B"\n\\.\n')
 
@@ -39,7 +39,7 @@ class Taken(Case):
 
     def test_decimals_are_scaled(self) -> None:
         self.file("a.csv", "id;credit\n1;900.00\n2;-1200.5\n3;.5\n4;+7\n5;-0.00\n6;1.500\n")
-        self.assertEqual(lines(self.load("--key", "id", "--delimiter", ";", "--decimal", "credit:2", "a.csv"))[3:-1],
+        self.assertEqual(lines(self.load("--key", "id", "--delimiter", ";", "--decimal", "credit:2", "a.csv"))[4:-1],
                          ['"1","90000"', '"2","-120050"', '"3","50"', '"4","700"', '"5","0"', '"6","150"'])
         self.file("b.csv", "id;credit\n1;900,5\n")
         self.assertIn('"1","9005"', self.load("--key", "id", "--delimiter", ";", "--decimal", "credit:1", "--decimal-mark", ",", "b.csv"))
