@@ -78,13 +78,11 @@ class Places(ProgramCase):
             with self.subTest(text):
                 self.assertEqual(self.refusals(text), ["s.cqa:2: error 15 Unfinished: " + note])
 
-    def test_each_habit_gets_its_reply_and_its_advice(self) -> None:
+    def test_each_habit_gets_its_advice(self) -> None:
         for habit in HABITS:
             with self.subTest(habit.written):
-                self.file("s.cqa", STAFF + habit.written + "\n")
-                told = lines(self.command("run", "s.cqa")[2])[0]
-                self.assertIn(": " + habit.reply, told)
-                self.assertTrue(told.endswith(habit.write), told)
+                script = habit.written.encode()
+                self.assertTrue(place_of(script, next(statements(script)), habit.reply, {}).note.endswith(habit.write))
 
     def test_a_misspelt_verb(self) -> None:
         self.assertEqual(advice_for("possibel select id from t", 0, "error 2 Syntax at 0"), "write `possible`")

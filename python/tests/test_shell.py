@@ -2,6 +2,8 @@
 
 from __future__ import annotations
 
+import contextlib
+import io
 import os
 import pty
 import re
@@ -60,7 +62,7 @@ class ByLines(ProgramCase):
         self.assertIn("copy NAME;", self.shell("help copy\n")[1])
 
     def test_prompts_and_completion(self) -> None:
-        with Session() as session:
+        with Session() as session, contextlib.redirect_stdout(io.StringIO()):
             shell = Shell(session)
             self.assertEqual(shell.prompt, "cqa> ")
             for line, prompt in (("create table staff", "  ..> "), (" (id int, name text, primary key (id)); -- it's", "cqa> "), ("insert into staff values (1, 'a", "'..> "),
