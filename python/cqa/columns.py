@@ -27,6 +27,24 @@ _CSV_FAULTS = (
 )
 
 
+def scaled(number: str, places: int) -> Optional[int]:
+    """A number with places as the int that is stored for it, or None where it is no number, or has more places.
+
+    Whether it is in the range of int is for the caller to see.
+    """
+    if not _NUMBER.fullmatch(number):
+        return None
+    whole, _, fraction = number.partition(".")
+    if len(fraction.rstrip("0")) > places:
+        return None
+    return int(whole + fraction[:places].ljust(places, "0")) if len(number) <= 400 else None
+
+
+def is_in_range(number: int) -> bool:
+    """Whether an int of the language has the value."""
+    return _LEAST <= number <= _GREATEST
+
+
 def csv_fault(fault: csv.Error) -> str:
     """What is wrong with a record that can't be read, in words that say what to mend."""
     return next((text for part, text in _CSV_FAULTS if part in str(fault)), str(fault))
@@ -35,11 +53,12 @@ def csv_fault(fault: csv.Error) -> str:
 class Column:
     """A column whose kind is found: int where each field is an integer as cqa writes it, else text."""
 
-    def __init__(self, name: str) -> None:
+    def __init__(self, name: str, is_there: bool = False) -> None:
+        """is_there: whether a table has the column already, as int."""
         self.name = name
         self.kind = "int"
         self.note = ""
-        self._mixes = False
+        self._mixes = is_there
         self._are_numbers = True
         self._too_great: List[Tuple[str, int, str]] = []
 
@@ -91,18 +110,6 @@ class TextColumn(Column):
         self._are_numbers = False
 
 
-class IntColumn(Column):
-    """A column of a table that is there, and int."""
-
-    def take(self, fields: Sequence[str], where: Sequence[int], path: str, say: Say) -> Sequence[str]:
-        if _SHORT_INTS.fullmatch("\n".join(fields) + "\n"):
-            return fields
-        for at, field in enumerate(fields):
-            if not _INT.fullmatch(field) or not _LEAST <= int(field) <= _GREATEST:
-                say(at, "%s: %s is no int, and the table's column is int" % (self.name, _shown(field)))
-        return fields
-
-
 class DecimalColumn(Column):
     """A column of numbers with a fixed number of places, stored as ints: 900.5 with two places is 90050."""
 
@@ -116,18 +123,13 @@ class DecimalColumn(Column):
 
     def _scaled(self, at: int, field: str, say: Say) -> str:
         number = field.replace(",", ".") if self._mark == "," and "." not in field else field
-        if not _NUMBER.fullmatch(number):
-            say(at, "%s: %s is no number" % (self.name, _shown(field)))
-            return "0"
-        whole, _, places = number.partition(".")
-        if len(places.rstrip("0")) > self._places:
-            say(at, "%s: %s has more than %d places" % (self.name, _shown(field), self._places))
-            return "0"
-        digits = (whole + places[:self._places].ljust(self._places, "0"))
-        if len(digits) > 20 and len(digits.lstrip("+-").lstrip("0")) > 19 or not _LEAST <= int(digits) <= _GREATEST:
+        value = scaled(number, self._places)
+        if value is None:
+            cause = "has more than %d places" % self._places if _NUMBER.fullmatch(number) else "is no number"
+            say(at, "%s: %s %s" % (self.name, _shown(field), cause))
+        elif not is_in_range(value):
             say(at, "%s: %s is out of range" % (self.name, _shown(field)))
-            return "0"
-        return str(int(digits))
+        return str(value)
 
 
 class TimeColumn(TextColumn):

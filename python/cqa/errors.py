@@ -107,6 +107,10 @@ class LoadFault(CqaError):
         super().__init__("\n".join(faults))
 
 
+class LoadWarning(UserWarning):
+    """What is no fault of a list and good to know, as that numbers became texts."""
+
+
 class StateFault(CqaError):
     """A file of a kept state isn't whole."""
 

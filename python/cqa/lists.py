@@ -11,9 +11,9 @@ import stat
 import unicodedata
 from dataclasses import dataclass, field
 from itertools import repeat
-from typing import IO, BinaryIO, Callable, Dict, Iterator, List, Mapping, Optional, Protocol, Sequence, TextIO, Tuple, TypeVar, Union
+from typing import IO, BinaryIO, Callable, Dict, Iterable, Iterator, List, Mapping, Optional, Protocol, Sequence, TextIO, Tuple, TypeVar, Union
 
-from .columns import Column, DecimalColumn, IntColumn, TextColumn, TimeColumn, csv_fault
+from .columns import Column, DecimalColumn, TextColumn, TimeColumn, csv_fault
 from .scripts import Schema, row_text
 
 MOST_COLUMNS = 16
@@ -129,7 +129,7 @@ class Lists:
             text.detach()
             return
         places = self._places(path, header, source is not None)
-        writer = _BlockWriter(self._blocks, self.options.table, path, self._apart)
+        writer = _BlockWriter(self._blocks, self.options.table, path, self._apart, self._source_place())
         for lines, rows, end in self._pieces(path, reader):
             self._is_in_piece = True
             self._piece(path, source, places, len(header), lines, rows, writer, end)
@@ -202,9 +202,7 @@ class Lists:
             return TimeColumn(name)
         if name in map(word_of, self.options.texts):
             return TextColumn(name)
-        if self._there is not None:
-            return IntColumn(name) if self._there.columns.get(name) == "int" else TextColumn(name)
-        return Column(name)
+        return TextColumn(name) if self._there is not None and self._there.columns.get(name) == "text" else Column(name, self._there is not None)
 
     def _pieces(self, path: str, reader: "_Reader") -> Iterator[Tuple[List[int], List[List[str]], int]]:
         """The records by pieces, with the line on which each begins and the line on which the piece ends. Faulty ones are told."""
@@ -292,10 +290,15 @@ class Lists:
 
     def schema(self) -> Schema:
         """The table that the lists make."""
-        columns = {column.name: column.kind for column in self._columns}
+        kinds = [(column.name, column.kind) for column in self._columns]
         if self._has_source:
-            columns[self.options.source_column] = "text"
-        return Schema(self.options.table, columns, self._key, self.options.strict)
+            kinds.insert(self._source_place(), (self.options.source_column, "text"))
+        return Schema(self.options.table, dict(kinds), self._key, self._there.strict if self._there else self.options.strict)
+
+    def _source_place(self) -> int:
+        """Where among the columns that of sources stands: behind all of a new table."""
+        columns = list(self._there.columns) if self._there else []
+        return columns.index(self.options.source_column) if self.options.source_column in columns else len(self._columns)
 
     def finish_blocks(self) -> None:
         """Sees to it that all blocks are in their file, and behind them the rows that no block can hold."""
@@ -311,17 +314,19 @@ class _BlockWriter:
     """Writes the rows of a list as `copy` blocks. Line K of a block is line K of the list from the one on that the comment names,
     so blank lines stand where the list has what is no row. Rows that would end a block go apart."""
 
-    def __init__(self, out: TextIO, table: str, path: str, apart: List[Tuple[str, ...]]) -> None:
+    def __init__(self, out: TextIO, table: str, path: str, apart: List[Tuple[str, ...]], source_place: int) -> None:
         self._out = out
         self._table = table
         self._path = re.sub(r"[\r\n]", "?", path).encode("utf-8", "replace").decode()
         self._csv = csv.writer(out, lineterminator="\n", quoting=csv.QUOTE_ALL)
         self._apart = apart
+        self._source_place = source_place
         self._next = 0
 
     def write(self, lines: Sequence[int], columns: Sequence[Sequence[str]], source: Optional[str], end: int) -> None:
         """Writes the rows of a piece that ends on a line."""
-        rows = zip(*columns) if source is None else zip(*columns, repeat(source))
+        place = self._source_place
+        rows = zip(*columns) if source is None else zip(*columns[:place], repeat(source), *columns[place:])
         if self._next == lines[0] and end - lines[0] + 1 == len(lines):
             self._csv.writerows(rows)
             self._next = end + 1
@@ -345,6 +350,18 @@ class _BlockWriter:
         if self._next:
             self._out.write("\\.\n")
             self._next = 0
+
+
+def rows_script(table: str, rows: Iterable[Tuple[Union[int, str], ...]]) -> str:
+    """The statements that put rows into a table."""
+    block, apart = io.StringIO(newline=""), []
+    writer = csv.writer(block, lineterminator="\n", quoting=csv.QUOTE_ALL)
+    for row in rows:
+        if any(isinstance(value, str) and _ENDS_BLOCK.search(value) for value in row):
+            apart.append("insert into %s values %s;\n" % (table, row_text(row)))
+        else:
+            writer.writerow(row)
+    return "copy %s;\n%s\\.\n%s" % (table, block.getvalue(), "".join(apart))
 
 
 def create_text(schema: Schema) -> str:

@@ -48,6 +48,7 @@ class Child:
     def __init__(self, program: Optional[str] = None, is_apart: bool = False) -> None:
         """Starts the program. is_apart: Ctrl-C at the terminal doesn't reach it. Raises NotBuilt where there is none."""
         self.program = found_program(program)
+        self.is_apart = is_apart
         environment = dict(os.environ)
         environment.setdefault("GLIBC_TUNABLES", "glibc.malloc.hugetlb=1")
         try:

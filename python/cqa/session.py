@@ -5,6 +5,7 @@ from __future__ import annotations
 import os
 import re
 import tempfile
+import warnings
 from dataclasses import replace
 from decimal import Decimal
 from types import TracebackType
@@ -12,15 +13,16 @@ from typing import Dict, Iterable, Iterator, List, Mapping, Optional, Sequence, 
 
 from . import answers
 from .answers import Classification, Explanation, Group, Range
+from .columns import is_in_range, scaled
 from .conflicts import Conflicts, conflicts_of
-from .errors import LoadFault, Refused, ReplyFault, StateFault, UnknownStatement
+from .errors import LoadFault, LoadWarning, Refused, ReplyFault, StateFault, UnknownStatement
 from .files import written
-from .lists import ListOptions, word_of
+from .lists import ListOptions, create_text, rows_script, word_of
 from .loading import Source, load_script
 from .program import Child
 from .replies import IS_REFUSAL, Row, row_of
 from .rows import Cell, Rows
-from .scripts import Bytes, Schema, Statement, quoted, remark_text, remarks, row_text, selected, shown_schema, statements, verb_of
+from .scripts import Bytes, Schema, Statement, quoted, remark_text, remarks, row_text, selected, shown_schema, statements, tokens, verb_of
 
 #: Statements that not every program knows: how each begins, and the reply of a program that doesn't know it.
 NEWER = (("disputed", b"error 2 Syntax at 0\n"), ("against", b"error 2 Syntax at 0\n"), ("prove", b"error 2 Syntax at 0\n"),
@@ -41,6 +43,7 @@ class Session:
         """Starts the program: the one named, or else that of the variable CQA_PROGRAM, of the repository in which this package
         stands, or of the path. Or goes on with a child that runs. Raises NotBuilt where there is none."""
         self._child = child or Child(program)
+        self._settings = b""
         self._places: Dict[Tuple[str, str], int] = {}
         self._sources: Dict[str, str] = {}
 
@@ -101,6 +104,8 @@ class Session:
         lines = self._child.tell(bytes(script[part.start:part.end]), verb)
         if lines and IS_REFUSAL.match(lines[0]):
             self._refuse(lines[0], text)
+        if verb == "set":
+            self._settings = bytes(script[part.start:part.end]) + b"\n"
         return [line[:-1] for line in lines]
 
     def _refuse(self, line: bytes, text: str) -> None:
@@ -126,7 +131,13 @@ class Session:
         time: columns of dates or of times in UTC. text: columns that are text though they hold numbers. missing: what an empty
         field outside the key is: "refuse", "keep" or "drop". strict: whether a new table takes no two rows of one key.
 
-        Raises LoadFault with every fault of the lists, and then nothing of them is loaded; ValueError for options that tell nothing.
+        A table that is there gets the kinds and places that a further list needs: an int column becomes text where the list has
+        other fields, and numbers get more places.
+
+        Warns (LoadWarning) of what is no fault and good to know, as that numbers became texts.
+
+        Raises LoadFault with every fault of the lists, and then nothing of them is loaded; ValueError for options that tell nothing;
+        Refused where the program refuses a list (a strict table's key is taken, more rows than fit), and then those before it stay.
         """
         if missing not in ("refuse", "keep", "drop"):
             raise ValueError("missing is refuse, keep or drop, and not %r" % missing)
@@ -142,18 +153,17 @@ class Session:
             raise ValueError("the key of %s is %s" % (options.table, ", ".join(there.key)))
         if there is None and not options.key:
             raise ValueError("the key of the new table %s is wanted" % options.table)
+        if there is not None and sources[0][1] is not None and options.source_column not in there.columns:
+            raise ValueError("%s has no column %s" % (options.table, options.source_column))
         key = options.key or (there.key if there else [])
-        return self._loaded(replace(options, key=key, decimals=self._decimals(options.table, options.decimals, there)), sources, there)
+        return self._loaded(replace(options, key=key, decimals=self._decimals(options)), sources, there)
 
-    def _decimals(self, table: str, decimal: Mapping[str, int], there: Optional[Schema]) -> Dict[str, int]:
-        """The number of places by column, those of the table that is there among them."""
-        told = {word_of(name): places for name, places in decimal.items()}
-        known = {column: places for (owner, column), places in self._places.items() if owner == table}
-        for name, places in told.items():
-            if there is not None and known.get(name) != places:
-                raise ValueError("the column %s of %s was loaded with %s places; load all lists of a table in one call, or each with its decimal"
-                                 % (name, table, known.get(name, "no")))
-        return {**known, **told}
+    def _decimals(self, options: ListOptions) -> Dict[str, int]:
+        """The number of places by column: of those that are told and those of the table, the greater."""
+        places = {column: count for (table, column), count in self._places.items() if table == options.table}
+        for name, count in options.decimals.items():
+            places[word_of(name)] = max(count, places.get(word_of(name), 0))
+        return places
 
     def _loaded(self, options: ListOptions, sources: Sequence[Source], there: Optional[Schema]) -> int:
         faults: List[str] = []
@@ -161,11 +171,50 @@ class Session:
             lists = load_script(options, sources, file, faults.append, there)
             if lists is None:
                 raise LoadFault(faults)
+            if there is not None:
+                self._convert(there, lists.schema(), options.decimals)
             file.seek(0)
             script = file.read()
         replies = [self._told(script, part) for part in statements(script)]
         self.heed(script)
+        for note in lists.notes():
+            warnings.warn(note, LoadWarning, stacklevel=4)
         return sum(int(lines[0].split(b" ")[1]) for lines in replies if lines[0].startswith((b"copied ", b"inserted ")))
+
+    def _convert(self, old: Schema, new: Schema, decimals: Mapping[str, int]) -> None:
+        """Gives a table the kinds and places that further lists need: ints become texts, numbers get more places. Raises LoadFault
+        where a stored text is no such number, and then nothing changes."""
+        scales = {name: places - self._places.get((old.table, name), 0) for name, places in decimals.items() if name in old.columns}
+        if old.columns == new.columns and not any(scales.values()):
+            return
+        names = list(old.columns)
+        told = self.tell("possible select %s from %s;" % (", ".join(names), old.table))
+        faults: List[str] = []
+        rows = [tuple(_converted(name, value, new.columns[name], scales.get(name), faults) for name, value in zip(names, row_of(line)))
+                for line in told[:-1]]
+        if faults:
+            raise LoadFault(["%s: %s" % (old.table, fault) for fault in faults])
+        self._begin_anew({old.table: create_text(new) + rows_script(old.table, rows)})
+
+    def _begin_anew(self, changed: Mapping[str, str]) -> None:
+        """Starts the program anew with the same tables, some of them made by other scripts."""
+        dump = "".join(line + "\n" for line in self.tell("dump;")).encode("utf-8")
+        parts: List[bytes] = [self._settings]
+        for part in statements(dump):
+            words = tokens(part.text(dump).decode("utf-8"))
+            name = words[words.index("table") + 1] if words[0] == "create" else words[-1] if words[0] == "copy" else words[2]
+            if name not in changed:
+                parts.append(bytes(dump[part.start:part.end]) + b"\n")
+            elif words[0] == "create":
+                parts.append(changed[name].encode("utf-8"))
+        before, self._child = self._child, Child(self.program, self._child.is_apart)
+        try:
+            self.run(b"".join(parts))
+        except BaseException:
+            self._child.kill()
+            self._child = before
+            raise
+        before.close()
 
     def tables(self) -> List[Schema]:
         """The tables in order of creation."""
@@ -347,6 +396,16 @@ class Session:
             session.close()
             raise
         return session
+
+
+def _converted(name: str, value: Union[int, str], kind: str, places: Optional[int], faults: List[str]) -> Union[int, str]:
+    """A stored value as a column of another kind, or with more places, stores it; what can't be is told."""
+    if kind == "text":
+        return str(value)
+    number = scaled(str(value), places or 0)
+    if number is None or not is_in_range(number):
+        faults.append("%s: %r, which was loaded before, is no number with such places" % (name, value))
+    return value if number is None else number
 
 
 def _sources(path: Union[str, "os.PathLike[str]", Mapping[str, Union[str, "os.PathLike[str]"]]], source: Optional[str]) -> List[Source]:

@@ -9,6 +9,7 @@ import shlex
 import signal
 import sys
 import time
+import warnings
 from types import FrameType
 from typing import Iterator, List, Optional, Sequence
 
@@ -166,11 +167,15 @@ class Shell:
             return
         options, sources = options_of(told), sources_of(told)
         try:
-            count = self.session.load_lists(options, sources)
+            with warnings.catch_warnings(record=True) as notes:
+                warnings.simplefilter("always")
+                count = self.session.load_lists(options, sources)
         except LoadFault as fault:
             self._fault("\n".join(fault.faults) + "\nnothing is loaded")
         else:
             print("loaded %d rows into %s" % (count, options.table))
+            for note in notes:
+                print(note.message, file=sys.stderr)
             self._look()
 
     def _describe(self, tables: Sequence[str]) -> None:

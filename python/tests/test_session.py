@@ -186,16 +186,41 @@ class Lists(ProgramCase):
         self.db.load("customer", self.shop, source="shop")
         self.assertEqual(len(self.db.conflicts("customer")), 1)
         with self.assertRaises(ValueError):
-            self.db.load("customer", self.shop, source="shop", decimal={"credit": 3})
-        with self.assertRaises(ValueError):
             self.db.load("customer", self.shop, key="name", source="shop")
+        with self.assertRaises(ValueError):
+            self.db.load("customer", self.shop, source="shop", source_column="origin")
 
-    def test_a_kind_of_the_table_binds_a_later_list(self) -> None:
-        self.db.load("customer", self.file("one.csv", "id,zip\n1,5003\n"), key="id")
+    def test_places_that_are_told_late(self) -> None:
+        self.db.run("create table other (a int, primary key (a)); insert into other values (1); set conflicts 77;")
+        with self.assertWarnsRegex(cqa.LoadWarning, "credit holds numbers and is text"):
+            self.db.load("customer", self.crm, key="id", source="crm")
+        self.db.load("customer", self.shop, key="id", source="shop", decimal={"credit": 2})
+        self.assertEqual(self.db.certain("select id, credit from customer where credit >= 90000"),
+                         [(1, decimal.Decimal("900.00")), (2, decimal.Decimal("1200.50"))])
+        self.assertEqual([schema.table for schema in self.db.tables()], ["other", "customer"])
+        self.assertEqual(self.db.rows("other"), [(1,)])
+        self.db.load("customer", self.file("more.csv", "id,name,city,credit\n9,Eva,Voss,1.125\n"), source="more", decimal={"credit": 3})
+        self.assertEqual(self.db.certain("select credit from customer where id = 9"), [(decimal.Decimal("1.125"),)])
+        self.assertEqual(self.db.certain("select credit from customer where id = 2"), [(decimal.Decimal("1200.500"),)])
+
+    def test_a_stored_text_that_is_no_number(self) -> None:
+        self.db.load("t", self.file("one.csv", "id,n\n1,many\n2,3.5\n"), key="id")
         with self.assertRaises(cqa.LoadFault) as caught:
-            self.db.load("customer", self.file("two.csv", "id,zip\n1,0150\n2,N-1\n"))
-        self.assertEqual(len(caught.exception.faults), 2)
-        self.assertEqual(len(self.db.rows("customer")), 1)
+            self.db.load("t", self.file("two.csv", "id,n\n3,4.5\n"), decimal={"n": 1})
+        self.assertEqual(caught.exception.faults, ["t: n: 'many', which was loaded before, is no number with such places"])
+        self.assertEqual(self.db.rows("t"), [(1, "many"), (2, "3.5")])
+
+    def test_an_int_column_becomes_text_where_a_later_list_needs_it(self) -> None:
+        hostile = "a\n\\.\nb'\"c"
+        self.db.load("t", self.file("one.csv", "id,zip,note\n1,5003,\"%s\"\n" % hostile.replace('"', '""')), key="id")
+        with self.assertWarnsRegex(cqa.LoadWarning, "zip is text, because of '0150' in .*two.csv:2"):
+            self.db.load("t", self.file("two.csv", "note,id,zip\nx,1,0150\ny,2,N-1\n"))
+        self.assertEqual(self.db.rows("t"), [(1, "0150", "x"), (1, "5003", hostile), (2, "N-1", "y")])
+
+    def test_the_column_of_sources_stands_anywhere(self) -> None:
+        self.db.run("create table t (source text, id int, name text, primary key (id));")
+        self.db.load("t", self.file("one.csv", "id,name\n1,Ada\n"), source="crm")
+        self.assertEqual(self.db.rows("t"), [("crm", 1, "Ada")])
 
     def test_a_faulty_list_loads_nothing(self) -> None:
         bad = self.file("bad.csv", "id,name,city,credit\n1,Ada,Bergen,1\n,Nobody,Voss,1\n2,Bo,Stavanger,1\n")
