@@ -10,8 +10,8 @@ import re
 import stat
 import unicodedata
 from dataclasses import dataclass, field
-from itertools import repeat
-from typing import IO, BinaryIO, Callable, Dict, Iterable, Iterator, List, Mapping, Optional, Protocol, Sequence, TextIO, Tuple, TypeVar, Union
+from itertools import chain, repeat
+from typing import IO, Callable, Dict, Iterable, Iterator, List, Mapping, Optional, Protocol, Sequence, TextIO, Tuple, TypeVar, Union
 
 from .columns import Column, DecimalColumn, TextColumn, TimeColumn, csv_fault
 from .scripts import Schema, row_text
@@ -30,7 +30,9 @@ class ListOptions:
     """How lists become a table.
 
     table: its name. key: the columns of its key. columns: those that are taken, all where None. decimals: the number of places
-    by column. times, texts: the columns that are one. delimiter, encoding: how the lists are written. decimal_mark: "." or ",".
+    by column. times, texts: the columns that are one. delimiter: what stands between two fields; where it isn't told, that of the
+    header line. encoding: how the lists are written; one with a byte order mark of UTF-8 is UTF-8. renamed: the names of columns by
+    those that lists have. decimal_mark: "." or ",".
     missing: what becomes of a record with an empty field outside the key: "refuse", "keep" (the empty text is a value) or "drop".
     source_column: the name of the column that says from which list a row is.
     """
@@ -41,8 +43,9 @@ class ListOptions:
     decimals: Mapping[str, int] = field(default_factory=dict)
     times: Sequence[str] = ()
     texts: Sequence[str] = ()
-    delimiter: str = ","
+    delimiter: str = ""
     encoding: str = "utf-8"
+    renamed: Mapping[str, str] = field(default_factory=dict)
     decimal_mark: str = "."
     missing: str = "refuse"
     strict: bool = False
@@ -116,19 +119,21 @@ class Lists:
             if stat.S_ISREG(before.st_mode) and (before.st_size, before.st_mtime_ns) != (after.st_size, after.st_mtime_ns):
                 self.tell(path, None, "it changed while it was read")
 
-    def _decoded(self, raw: BinaryIO) -> io.TextIOWrapper:
+    def _decoded(self, raw: io.BufferedReader) -> io.TextIOWrapper:
         encoding = self.options.encoding
-        if codecs.lookup(encoding).name == "utf-8":
+        if codecs.lookup(encoding).name == "utf-8" or raw.peek(3)[:3] == codecs.BOM_UTF8:
             return io.TextIOWrapper(raw, encoding="utf-8-sig", errors="surrogateescape", newline="")
         return io.TextIOWrapper(raw, encoding=encoding, newline="")
 
     def _read(self, path: str, source: Optional[str], text: io.TextIOWrapper) -> None:
-        reader = csv.reader(text, delimiter=self.options.delimiter, strict=True)
+        first = text.readline()
+        reader = csv.reader(chain([first], text), delimiter=self.options.delimiter or _delimiter_of(first), strict=True)
+        faults = self.faults
         header = self._header(path, reader)
-        if header is None:
+        places = self._places(path, header, source is not None) if header else []
+        if header is None or self.faults > faults:
             text.detach()
             return
-        places = self._places(path, header, source is not None)
         writer = _BlockWriter(self._blocks, self.options.table, path, self._apart, self._source_place())
         for lines, rows, end in self._pieces(path, reader):
             self._is_in_piece = True
@@ -148,7 +153,11 @@ class Lists:
         if names is None:
             self.tell(path, None, "it is empty, and a header line is wanted")
             return None
-        words = [word_of(name) for name in names]
+        if any("\udc80" <= letter <= "\udcff" for name in names for letter in name):
+            self.tell(path, reader.line_num, "the header isn't UTF-8; --encoding says how the list is written, as latin-1")
+            return None
+        renamed = {word_of(old): new for old, new in self.options.renamed.items()}
+        words = [renamed.get(word_of(name), word_of(name)) for name in names]
         for at, (word, name) in enumerate(zip(words, names), 1):
             if not word or len(word) > MOST_NAME:
                 self.tell(path, reader.line_num, "the header of column %d, %r, makes no name" % (at, name))
@@ -168,7 +177,7 @@ class Lists:
         wanted = [column.name for column in self._columns]
         for name in wanted:
             if name not in header:
-                self.tell(path, 1, "no column %s; it has %s" % (name, ", ".join(header)))
+                self.tell(path, 1, "no column %s; it has %s (--rename OLD=NEW names a column anew)" % (name, ", ".join(header)))
         if self.options.columns is None:
             for name in header:
                 if name not in wanted and name != self.options.source_column:
@@ -183,7 +192,7 @@ class Lists:
             names = [word_of(name) for name in self.options.columns] if self.options.columns is not None else list(header)
         for name in self._key:
             if name not in names and not (self._has_source and name == self.options.source_column):
-                hint = "; is the delimiter %r?" % self.options.delimiter if len(header) == 1 else ""
+                hint = "; --delimiter says what stands between two fields" if len(header) == 1 else ""
                 self.tell(path, 1, "no column %s for the key; it has %s%s" % (name, ", ".join(header), hint))
         named = [word_of(name) for name in (*self.options.decimals, *self.options.times, *self.options.texts)]
         for name in named:
@@ -368,6 +377,11 @@ def create_text(schema: Schema) -> str:
     """The statement that makes a table."""
     columns = ", ".join("%s %s" % item for item in schema.columns.items())
     return "create %stable %s (%s, primary key (%s));\n" % ("strict " if schema.strict else "", schema.table, columns, ", ".join(schema.key))
+
+
+def _delimiter_of(header: str) -> str:
+    """What stands between the fields of a header line: a comma, unless it has none and has another mark that is used for it."""
+    return "," if "," in header else next((mark for mark in ";\t|" if mark in header), ",")
 
 
 def _those(values: Sequence[_Item], kept: Sequence[bool]) -> List[_Item]:

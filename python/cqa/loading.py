@@ -59,7 +59,8 @@ def parser() -> argparse.ArgumentParser:
     words.add_argument("--source", action="append", default=[], metavar="NAME=LIST", help="a list, and what its rows have in the column of sources")
     words.add_argument("--source-column", default="source", metavar="NAME", help="what the column of sources is called (source)")
     words.add_argument("--columns", help="the columns that are taken: id,name,city")
-    words.add_argument("--delimiter", default=",", help="what stands between two fields (,); tab is written \\t")
+    words.add_argument("--rename", action="append", default=[], metavar="OLD=NEW", help="a column that a list calls otherwise")
+    words.add_argument("--delimiter", default="", help="what stands between two fields: else a comma, or what the header has in its place; tab is written \\t")
     words.add_argument("--encoding", default="utf-8", help="how the lists are written (utf-8), as latin-1")
     words.add_argument("--decimal", action="append", default=[], metavar="COLUMN:PLACES", help="a column of numbers with so many places, stored as ints")
     words.add_argument("--decimal-mark", choices=[".", ","], default=".", help="the mark before the places (.)")
@@ -75,7 +76,7 @@ def parser() -> argparse.ArgumentParser:
 def options_of(words: argparse.Namespace) -> ListOptions:
     """The options that the words tell. Raises ValueError where they tell none."""
     delimiter = "\t" if words.delimiter in ("\\t", "tab") else words.delimiter
-    if len(delimiter) != 1 or delimiter in '"\r\n':
+    if len(delimiter) > 1 or delimiter and delimiter in '"\r\n':
         raise ValueError("--delimiter wants one letter")
     decimals = {}
     for decimal in words.decimal:
@@ -83,10 +84,13 @@ def options_of(words: argparse.Namespace) -> ListOptions:
         if not name or not places.isdigit() or int(places) > 18:
             raise ValueError("--decimal wants COLUMN:PLACES, with at most 18 places, and not %s" % decimal)
         decimals[name] = int(places)
+    renamed = dict(pair.partition("=")[::2] for pair in words.rename)
+    if not all(word_of(new) == new != "" for new in renamed.values()):
+        raise ValueError("--rename wants OLD=NEW, where NEW is a name of lower-case letters, digits and _")
     if word_of(words.table) != words.table.lower() or not words.table:
         raise ValueError("--table wants a name of letters, digits and _, and not %r" % words.table)
     return ListOptions(words.table, words.key.split(","), words.columns.split(",") if words.columns else None, decimals, words.time,
-                       words.text, delimiter, words.encoding, words.decimal_mark, words.missing, words.strict, words.source_column)
+                       words.text, delimiter, words.encoding, renamed, words.decimal_mark, words.missing, words.strict, words.source_column)
 
 
 def sources_of(words: argparse.Namespace) -> List[Source]:

@@ -120,15 +120,16 @@ class Session:
 
     def load(self, table: str, path: Union[str, "os.PathLike[str]", Mapping[str, Union[str, "os.PathLike[str]"]]], *,
              key: Union[str, Sequence[str]] = (), source: Optional[str] = None, columns: Optional[Sequence[str]] = None,
-             decimal: Optional[Mapping[str, int]] = None, time: Sequence[str] = (), text: Sequence[str] = (), delimiter: str = ",",
-             encoding: str = "utf-8", decimal_mark: str = ".", missing: str = "refuse", strict: bool = False,
+             decimal: Optional[Mapping[str, int]] = None, time: Sequence[str] = (), text: Sequence[str] = (), delimiter: str = "",
+             encoding: str = "utf-8", renamed: Optional[Mapping[str, str]] = None, decimal_mark: str = ".", missing: str = "refuse", strict: bool = False,
              source_column: str = "source") -> int:
         """Loads a CSV list with a header line into a table, which is made where it isn't there, and gives the number of new rows.
 
         path: the list, or several as {"crm": "crm.csv", "shop": "shop.csv"} by their sources; the kinds of a new table's columns
         are found over all lists of the call. key: the columns of the key of a new table. source: what the rows have in the column
         `source_column`. decimal: the number of places by column; such a column is stored as int and given as Decimal.
-        time: columns of dates or of times in UTC. text: columns that are text though they hold numbers. missing: what an empty
+        delimiter: where it isn't told, a comma, or what the header has in its place. renamed: names of columns by those that the
+        list has. time: columns of dates or of times in UTC. text: columns that are text though they hold numbers. missing: what an empty
         field outside the key is: "refuse", "keep" or "drop". strict: whether a new table takes no two rows of one key.
 
         A table that is there gets the kinds and places that a further list needs: an int column becomes text where the list has
@@ -142,7 +143,7 @@ class Session:
         if missing not in ("refuse", "keep", "drop"):
             raise ValueError("missing is refuse, keep or drop, and not %r" % missing)
         wanted = [key] if isinstance(key, str) else list(key)
-        return self.load_lists(ListOptions(table, wanted, columns, decimal or {}, time, text, delimiter, encoding, decimal_mark, missing,
+        return self.load_lists(ListOptions(table, wanted, columns, decimal or {}, time, text, delimiter, encoding, renamed or {}, decimal_mark, missing,
                                            strict, source_column), _sources(path, source))
 
     def load_lists(self, options: ListOptions, sources: Sequence[Source]) -> int:

@@ -29,6 +29,14 @@ class Taken(Case):
                          '-- a.csv:2\ncopy t;\n"1","Ada","Oslo","A"\n"3","Moe, Cy","Hamar","A"\n\\.\n'
                          '-- b.csv:2\ncopy t;\n"1","Ada","Bergen","B"\n\\.\n')
 
+    def test_lists_that_are_written_differently(self) -> None:
+        self.file("a.csv", "id;tlf;sum\n1;11;350,50\n".encode("latin-1"))
+        self.file("b.csv", "\ufeffid\tTelefon\tsum\n2\tMärta\t0.5\n")
+        out = self.load("--key", "id", "--rename", "telefon=tlf", "--decimal", "sum:2", "--decimal-mark", ",", "--encoding", "latin-1", "a.csv", "b.csv")
+        self.assertIn("(id int, tlf text, sum int, primary key (id))", out)
+        self.assertIn('"1","11","35050"', out)
+        self.assertIn('"2","Märta","50"', out)
+
     def test_kinds_are_found(self) -> None:
         self.file("a.csv", "id,zip,phone,minus,plus,zero,greatest,real\n1,0150,+4722,-5,+5,-0,9223372036854775807,1.0\n"
                            "2,5003,11,0,6,0,-9223372036854775808,2\n")
@@ -124,13 +132,15 @@ class Faults(Case):
     def test_encodings(self) -> None:
         self.assertEqual(self.faults(b"id,name\n1,Ada\n2,M\xe4rta\n"),
                          ["a.csv:3: name: the byte 0xE4 isn't UTF-8; --encoding says how the list is written, as latin-1"])
+        self.assertEqual(self.faults("id,größe\n1,2\n".encode("latin-1")), ["a.csv:1: the header isn't UTF-8; --encoding says how the list is written, as latin-1"])
         self.assertTrue(self.faults("id,name\n1,Ada\n".encode("utf-16")))
         self.assertTrue(self.faults("id,name\n1,A\0da\n"))
         self.assertEqual(self.faults("id,name\n1,Ada\n", "--encoding", "klingon"), ["a.csv: no encoding is called klingon"])
 
     def test_headers(self) -> None:
         self.assertEqual(self.faults(""), ["a.csv: it is empty, and a header line is wanted"])
-        self.assertEqual(self.faults("nr;name\n1;Ada\n"), ["a.csv:1: no column id for the key; it has nr_name; is the delimiter ','?"])
+        self.assertEqual(self.faults("nr name\n1,Ada\n"), ["a.csv:1: no column id for the key; it has nr_name; --delimiter says what stands between two fields"])
+        self.assertEqual(self.faults("nr;name\n1;Ada,b,c\n"), ["a.csv:1: no column id for the key; it has nr, name"])
         self.assertEqual(self.faults("id,Name,name\n1,a,b\n"), ["a.csv:1: columns 2 and 3 are both called name"])
         self.assertEqual(self.faults("id,,x\n1,a,b\n"), ["a.csv:1: the header of column 2, '', makes no name"])
         wide = ",".join(["id"] + ["c%d" % at for at in range(16)])
@@ -140,7 +150,7 @@ class Faults(Case):
         self.file("b.csv", "id,name,phone\n1,Ada,1\n")
         self.file("a.csv", "id,name,city\n1,Ada,Oslo\n")
         _, out, told = self.command("load", "--table", "t", "--key", "id", "a.csv", "b.csv")
-        self.assertEqual((out, lines(told)[:-1]), ("", ["b.csv:1: no column city; it has id, name, phone",
+        self.assertEqual((out, lines(told)[:-1]), ("", ["b.csv:1: no column city; it has id, name, phone (--rename OLD=NEW names a column anew)",
                                                         "b.csv:1: a column phone, which a.csv hasn't; --columns says which are taken"]))
 
     def test_lists_that_cant_be_read(self) -> None:
