@@ -11,7 +11,7 @@ import stat
 import unicodedata
 from dataclasses import dataclass, field
 from itertools import chain, repeat
-from typing import IO, Callable, Dict, Iterable, Iterator, List, Mapping, Optional, Protocol, Sequence, TextIO, Tuple, TypeVar, Union
+from typing import IO, Callable, Iterable, Iterator, List, Mapping, Optional, Protocol, Sequence, TextIO, Tuple, TypeVar, Union
 
 from .columns import Column, DecimalColumn, TextColumn, TimeColumn, csv_fault
 from .scripts import Schema, row_text

@@ -3,6 +3,7 @@
 from __future__ import annotations
 
 import csv
+import difflib
 import io
 import re
 from typing import Dict, List, NamedTuple, Optional, Tuple
@@ -16,6 +17,9 @@ _TOKEN = re.compile(rb"[A-Za-z_][A-Za-z0-9_]*|-?[0-9]+|'[^']*(?:''[^']*)*'|<>|<=
 _OF_LIST = re.compile(rb"-- (.+):([0-9]+)[ \t\r]*\n\Z")
 _INT = re.compile(r"-?[0-9]+")
 _NAMED = ("UnknownTable", "UnknownColumn", "AmbiguousColumn", "SelfJoin", "DuplicateColumn", "BadKey", "TableExists")
+
+_MARKS = {b"\xef\xbb\xbf": "a mark of byte order: save the script without it", b"\xff\xfe": "the script is UTF-16: save it as UTF-8",
+          b"\xfe\xff": "the script is UTF-16: save it as UTF-8", b"\x1f\x8b": "the script is compressed"}
 
 Token = Tuple[bytes, int]
 
@@ -58,9 +62,21 @@ def place_of(script: Bytes, statement: Statement, refusal: str, schemas: Dict[st
         masked = _COMMENT_OR_TEXT.sub(lambda found: found[0] if found[0][:1] == b"'" else b" " * len(found[0]), text)
         tokens = [(found[0], found.start()) for found in _TOKEN.finditer(masked)]
         inner = _offset(tokens, refusal, name, len(text))
-        note = advice_for(masked.decode("utf-8", "replace"), _letters(masked, inner), refusal)
+        note = advice_for(masked.decode("utf-8", "replace"), _letters(masked, inner), refusal) or _meant(refusal, schemas)
         at = statement.start + inner
+        if name == "BadByte":
+            note = next((text for mark, text in _MARKS.items() if script[at:at + len(mark)] == mark), note)
     return _shown(script, at, note, of_list)
+
+
+def _meant(refusal: str, schemas: Dict[str, Schema]) -> str:
+    """The name that is like one that isn't there."""
+    found = re.match(r"error \d+ Unknown(Table|Column) (?:\w+\.)?(\w+)$", refusal)
+    if found is None:
+        return ""
+    names = set(schemas) if found[1] == "Table" else {name for schema in schemas.values() for name in schema.columns}
+    near = difflib.get_close_matches(found[2], names, 1, 0.7)
+    return "is it `%s`?" % near[0] if near else ""
 
 
 def _letters(text: bytes, offset: int) -> int:

@@ -5,6 +5,7 @@ from __future__ import annotations
 import os
 import shutil
 import subprocess
+import threading
 from typing import BinaryIO, List, Optional, Union
 
 from .errors import Ended, NotBuilt, ended
@@ -49,6 +50,7 @@ class Child:
         """Starts the program. is_apart: Ctrl-C at the terminal doesn't reach it. Raises NotBuilt where there is none."""
         self.program = found_program(program)
         self.is_apart = is_apart
+        self._lock = threading.Lock()
         environment = dict(os.environ)
         environment.setdefault("GLIBC_TUNABLES", "glibc.malloc.hugetlb=1")
         try:
@@ -74,11 +76,17 @@ class Child:
             raise self._ending() from None
 
     def tell(self, statement: bytes, verb: str) -> List[bytes]:
-        """Sends one complete statement and gives the lines of its reply."""
-        self.write(statement)
-        self.write(END_STATEMENT)
-        self.flush()
-        return self.reply(verb)
+        """Sends one complete statement and gives the lines of its reply. Where this is interrupted the program is ended, so that
+        no later statement gets this one's reply; threads wait for each other."""
+        with self._lock:
+            try:
+                self.write(statement)
+                self.write(END_STATEMENT)
+                self.flush()
+                return self.reply(verb)
+            except BaseException:
+                self.kill()
+                raise
 
     def reply(self, verb: str) -> List[bytes]:
         """The lines of the reply to a statement behind which the empty one was sent."""
@@ -97,9 +105,8 @@ class Child:
     def close(self) -> int:
         """Ends the program and gives its status. Closing twice does nothing more."""
         self.end_input()
-        if self._process.poll() is None and not self.replies.closed:
-            while self.replies.read(_PIECE):
-                pass
+        while not self.replies.closed and self.replies.read(_PIECE):
+            pass
         self.replies.close()
         return self._process.wait()
 

@@ -6,7 +6,6 @@ import os
 import resource
 import subprocess
 import sys
-import time
 import unittest
 from typing import List
 

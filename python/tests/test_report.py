@@ -7,7 +7,6 @@ import unittest
 from html.parser import HTMLParser
 from typing import List, Tuple
 
-import support
 from support import ProgramCase, lines
 
 VOID = {"meta", "br", "img", "link", "input"}

@@ -7,7 +7,6 @@ import stat
 import subprocess
 import unittest
 
-import support
 from support import TOP, Case, ProgramCase, lines
 
 from cqa.habits import HABITS, advice_for
@@ -62,9 +61,9 @@ class Places(ProgramCase):
             "ask select id,\n nmae from staff;\nask select id\n  from staff, staff;\ninsert into staff values (1, 'a', 2),\n (2, 3, 4);\n"
             "delete from staff where id = 1\n and name = 2;\ninsert into staff values\n (1, 'a');\ncreate table t (a int,\n a text, primary key (a));\n"
             "create table t (a int,\n primary key (b));\nask exists from staf;\n"),
-            ["s.cqa:3: error 6 UnknownColumn nmae", "s.cqa:5: error 8 SelfJoin staff", "s.cqa:7: error 9 TypeMismatch row 2 column 2",
+            ["s.cqa:3: error 6 UnknownColumn nmae: is it `name`?", "s.cqa:5: error 8 SelfJoin staff", "s.cqa:7: error 9 TypeMismatch row 2 column 2",
              "s.cqa:9: error 9 TypeMismatch condition 2", "s.cqa:11: error 10 WrongArity row 1", "s.cqa:13: error 11 DuplicateColumn a",
-             "s.cqa:15: error 12 BadKey b", "s.cqa:16: error 4 UnknownTable staf"])
+             "s.cqa:15: error 12 BadKey b", "s.cqa:16: error 4 UnknownTable staf: is it `staff`?"])
 
     def test_a_bad_record_names_its_line_its_list_and_its_cause(self) -> None:
         self.assertEqual(self.refusals("-- crm.csv:17\ncopy staff;\n7,Ida,12\n\n8,\"two\nlines\",1\n,Ola,3\n9,Per\n\\.\ncopy staff;\nid,name,room\n\\.\n"),
@@ -83,6 +82,12 @@ class Places(ProgramCase):
             with self.subTest(habit.written):
                 script = habit.written.encode()
                 self.assertTrue(place_of(script, next(statements(script)), habit.reply, {}).note.endswith(habit.write))
+
+    def test_marks_of_other_files(self) -> None:
+        self.file("s.cqa", b"\xef\xbb\xbf" + STAFF.encode())
+        self.assertEqual(self.command("run", "s.cqa"), (1, "", "s.cqa:1: error 1 BadByte at 0: a mark of byte order: save the script without it\n"))
+        self.file("s.cqa", STAFF.encode("utf-16"))
+        self.assertIn("UTF-16", self.command("run", "s.cqa")[2])
 
     def test_a_misspelt_verb(self) -> None:
         self.assertEqual(advice_for("possibel select id from t", 0, "error 2 Syntax at 0"), "write `possible`")

@@ -5,9 +5,9 @@ from __future__ import annotations
 import decimal
 import os
 import stat
+import threading
 import unittest
 
-import support
 from support import ProgramCase
 
 import cqa
@@ -148,6 +148,37 @@ class Ends(ProgramCase):
             with Session(self.other("read line; echo \"(1, 'half\"; kill -9 $$")) as db:
                 db.certain("select id from staff")
         self.assertEqual(caught.exception.status, -9)
+
+    def test_an_interrupted_statement_ends_the_session(self) -> None:
+        with Session() as db:
+            db.run(STAFF)
+
+            def interrupted(verb: str) -> None:
+                raise KeyboardInterrupt
+
+            db._child.reply = interrupted  # type: ignore
+            with self.assertRaises(KeyboardInterrupt):
+                db.certain("select id from staff")
+            del db._child.reply
+            with self.assertRaises(cqa.Ended):
+                db.certain("select name from staff")
+
+    def test_threads_wait_for_each_other(self) -> None:
+        with Session() as db:
+            db.run("create table t (a int, primary key (a)); insert into t values %s;" % ", ".join("(%d)" % at for at in range(300)))
+            found = []
+
+            def ask(number: int) -> None:
+                for _ in range(20):
+                    found.append((number, db.certain("select a from t where a = %d" % number)))
+
+            threads = [threading.Thread(target=ask, args=(number,)) for number in range(8)]
+            for thread in threads:
+                thread.start()
+            for thread in threads:
+                thread.join()
+            self.assertEqual(len(found), 160)
+            self.assertTrue(all(rows == [(number,)] for number, rows in found))
 
     def test_a_program_that_dies_in_the_middle_of_a_load(self) -> None:
         path = self.file("a.csv", "id,name\n" + "".join("%d,Name\n" % number for number in range(200_000)))

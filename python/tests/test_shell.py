@@ -6,7 +6,6 @@ import contextlib
 import io
 import os
 import pty
-import re
 import select
 import signal
 import subprocess

@@ -9,7 +9,6 @@ import subprocess
 import unittest
 from decimal import Decimal
 
-import support
 from support import TOP, Case, ProgramCase, lines
 
 import cqa
