@@ -64,6 +64,7 @@ class Runner:
         self.child = child
         self.schemas: Dict[str, Schema] = {}
         self.sent_bytes = 0
+        self._bytes_before = 0
         self.answered = 0
         self._files = files
         self._sent: "queue.Queue[Optional[_Sent]]" = queue.Queue(maxsize=10_000)
@@ -90,6 +91,7 @@ class Runner:
             for file in self._files:
                 if not self._send_file(file):
                     break
+                self._bytes_before += len(file.script)
             self.child.flush()
         except Ended:
             pass
@@ -119,7 +121,7 @@ class Runner:
         for begin in range(statement.start, statement.end, _PIECE):
             end = min(begin + _PIECE, statement.end)
             self.child.write(script[begin:end])
-            self.sent_bytes = end
+            self.sent_bytes = self._bytes_before + end
         self.child.write(END_STATEMENT)
         if self._sent.qsize() <= 1:
             self.child.flush()
