@@ -125,8 +125,8 @@ class DecimalColumn(Column):
         number = field.replace(",", ".") if self._mark == "," and "." not in field else field
         value = scaled(number, self._places)
         if value is None:
-            cause = "has more than %d places" % self._places if _NUMBER.fullmatch(number) else "is no number"
-            say(at, "%s: %s %s" % (self.name, _shown(field), cause))
+            most = "%d place%s" % (self._places, "" if self._places == 1 else "s")
+            say(at, "%s: %s %s" % (self.name, _shown(field), "has more than " + most if _NUMBER.fullmatch(number) else "is no number"))
         elif not is_in_range(value):
             say(at, "%s: %s is out of range" % (self.name, _shown(field)))
         return str(value)

@@ -45,7 +45,8 @@ class Conflicts:
 
     def __str__(self) -> str:
         columns = ["%s %d" % (name, count) for name, count in self.by_column.items() if count]
-        head = "%s: %d key%s, %d in conflict%s\n" % (self.table, self.keys, "" if self.keys == 1 else "s", len(self), ": " + ", ".join(columns) if columns else "")
+        shown = ": " + ", ".join(columns) if columns else ""
+        head = "%s: %d key%s, %d in conflict%s\n" % (self.table, self.keys, "" if self.keys == 1 else "s", len(self), shown)
         return head + "".join(_block_line(block) for block in self.disputed)
 
     def _repr_html_(self) -> str:

@@ -12,10 +12,11 @@ _LONGEST = 20
 _LETTER = 7.6
 _HEIGHT = 30.0
 
+_HEAD = ('<marker id="%s-head" viewBox="0 0 10 10" refX="9" refY="5" markerWidth="%d" markerHeight="%d" markerUnits="userSpaceOnUse" '
+         'orient="auto"><path class="%s-head" d="M0 0L10 5L0 10z"/></marker>')
 #: The heads of the lines, which stand once in a page.
-HEADS = '<svg class="graph" width="0" height="0" style="position:absolute" aria-hidden="true"><defs>%s</defs></svg>' % "".join(
-    '<marker id="%s-head" viewBox="0 0 10 10" refX="9" refY="5" markerWidth="%d" markerHeight="%d" markerUnits="userSpaceOnUse" orient="auto">'
-    '<path class="%s-head" d="M0 0L10 5L0 10z"/></marker>' % (kind, size, size, kind) for kind, size in (("weak", 9), ("strong", 13)))
+HEADS = ('<svg class="graph" width="0" height="0" style="position:absolute" aria-hidden="true"><defs>%s%s</defs></svg>'
+         % (_HEAD % ("weak", 9, 9, "weak"), _HEAD % ("strong", 13, 13, "strong")))
 
 _Point = Tuple[float, float]
 
@@ -29,7 +30,8 @@ def attack_graph(tables: Sequence[str], attacks: Sequence[Attack]) -> str:
     points = {name: _on_circle(at, len(tables), radius) for at, name in enumerate(tables)}
     lines = "".join(_line(points, widths, attack) for attack in attacks if attack.attacker in points and attack.attacked in points)
     nodes = "".join(_node(name, points[name], widths[name]) for name in tables)
-    label = "; ".join("%s attacks %s, %s" % (one.attacker, one.attacked, "strong" if one.is_strong else "weak") for one in attacks) or "no attacks"
+    told = ["%s attacks %s, %s" % (one.attacker, one.attacked, "strong" if one.is_strong else "weak") for one in attacks]
+    label = "; ".join(told) or "no attacks"
     return ('<svg class="graph" role="img" aria-label="%s" viewBox="%.0f %.0f %.0f %.0f" width="%.0f" height="%.0f">'
             "%s%s</svg>"
             % (html.escape(label), -across, -down, 2 * across, 2 * down, 2 * across, 2 * down, lines, nodes))

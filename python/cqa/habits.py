@@ -7,9 +7,9 @@ them what to write. tools/blocks.py runs each of them and compares its reply.
 from __future__ import annotations
 
 import re
-from typing import NamedTuple, Tuple
+from typing import NamedTuple, Sequence, Tuple
 
-from .statements import VERBS
+from .statements import VERBS, WORDS
 
 
 class Habit(NamedTuple):
@@ -95,14 +95,14 @@ def advice_for(text: str, at: int, refusal: str) -> str:
     for habit in HABITS:
         if re.compile(habit.at, re.I).match(text, at) and (not habit.before or re.search(habit.before, before, re.I | re.S)):
             return ("write " if habit.write.startswith("`") else "") + habit.write
-    return _near_verb(text) if not before.strip() else ""
+    return _near_word(text, at, VERBS if not before.strip() else WORDS) if " Syntax " in refusal else ""
 
 
-def _near_verb(text: str) -> str:
-    """The verb that was meant where the first word differs from it by a letter."""
-    word = (re.match(r"\s*([A-Za-z_]\w*)", text) or [""])[0].strip()
-    near = [verb for verb in VERBS if _differ_by_one(word.lower(), verb)]
-    return "write `%s`" % near[0] if word and near else ""
+def _near_word(text: str, at: int, words: Sequence[str]) -> str:
+    """The word that was meant where the one at a place differs from it by a letter."""
+    found = re.compile(r"[A-Za-z_]\w*").match(text, at)
+    near = [word for word in words if found and _differ_by_one(found[0].lower(), word)]
+    return "is it `%s`?" % near[0] if near else ""
 
 
 def _differ_by_one(one: str, other: str) -> bool:

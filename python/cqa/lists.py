@@ -22,7 +22,8 @@ _PIECE = 5_000
 _MOST_APART = 10_000
 _Item = TypeVar("_Item")
 _ENDS_BLOCK = re.compile(r"\n\\\.\r?\n")
-_PLAIN_LETTERS = str.maketrans({"æ": "ae", "ø": "o", "å": "a", "ß": "ss", "đ": "d", "ð": "d", "þ": "th", "ł": "l", "œ": "oe", "ı": "i"})
+_PLAIN_LETTERS = str.maketrans(
+    {"æ": "ae", "ø": "o", "å": "a", "ß": "ss", "đ": "d", "ð": "d", "þ": "th", "ł": "l", "œ": "oe", "ı": "i"})
 
 
 @dataclass(frozen=True)
@@ -173,7 +174,8 @@ class Lists:
             names = self._taken(path, header)
             self._columns = [self._column(name) for name in names]
         if has_source and self.options.source_column in header:
-            self.tell(path, 1, "it has a column %s itself: --source-column says what the column of sources is called" % self.options.source_column)
+            self.tell(path, 1, "it has a column %s itself: --source-column says what the column of sources is called"
+                      % self.options.source_column)
         wanted = [column.name for column in self._columns]
         for name in wanted:
             if name not in header:
@@ -211,7 +213,9 @@ class Lists:
             return TimeColumn(name)
         if name in map(word_of, self.options.texts):
             return TextColumn(name)
-        return TextColumn(name) if self._there is not None and self._there.columns.get(name) == "text" else Column(name, self._there is not None)
+        if self._there is not None and self._there.columns.get(name) == "text":
+            return TextColumn(name)
+        return Column(name, self._there is not None)
 
     def _pieces(self, path: str, reader: "_Reader") -> Iterator[Tuple[List[int], List[List[str]], int]]:
         """The records by pieces, with the line on which each begins and the line on which the piece ends. Faulty ones are told."""
@@ -376,7 +380,8 @@ def rows_script(table: str, rows: Iterable[Tuple[Union[int, str], ...]]) -> str:
 def create_text(schema: Schema) -> str:
     """The statement that makes a table."""
     columns = ", ".join("%s %s" % item for item in schema.columns.items())
-    return "create %stable %s (%s, primary key (%s));\n" % ("strict " if schema.strict else "", schema.table, columns, ", ".join(schema.key))
+    first = "create strict table" if schema.strict else "create table"
+    return "%s %s (%s, primary key (%s));\n" % (first, schema.table, columns, ", ".join(schema.key))
 
 
 def _delimiter_of(header: str) -> str:

@@ -56,18 +56,23 @@ def parser() -> argparse.ArgumentParser:
     words.add_argument("files", nargs="*", metavar="LIST", help="a list without a source")
     words.add_argument("--table", required=True, help="the table's name")
     words.add_argument("--key", required=True, help="the columns of its key: id or id,day")
-    words.add_argument("--source", action="append", default=[], metavar="NAME=LIST", help="a list, and what its rows have in the column of sources")
+    words.add_argument("--source", action="append", default=[], metavar="NAME=LIST",
+                       help="a list, and what its rows have in the column of sources")
     words.add_argument("--source-column", default="source", metavar="NAME", help="what the column of sources is called (source)")
     words.add_argument("--columns", help="the columns that are taken: id,name,city")
     words.add_argument("--rename", action="append", default=[], metavar="OLD=NEW", help="a column that a list calls otherwise")
-    words.add_argument("--delimiter", default="", help="what stands between two fields: else a comma, or what the header has in its place; tab is written \\t")
+    words.add_argument("--delimiter", default="",
+                       help="what stands between two fields: else a comma, or what the header has in its place; tab is written \\t")
     words.add_argument("--encoding", default="utf-8", help="how the lists are written (utf-8), as latin-1")
-    words.add_argument("--decimal", action="append", default=[], metavar="COLUMN:PLACES", help="a column of numbers with so many places, stored as ints")
+    words.add_argument("--decimal", action="append", default=[], metavar="COLUMN:PLACES",
+                       help="a column of numbers with so many places, stored as ints")
     words.add_argument("--decimal-mark", choices=[".", ","], default=".", help="the mark before the places (.)")
-    words.add_argument("--time", action="append", default=[], metavar="COLUMN", help="a column of dates, or of times in UTC, all in one form")
-    words.add_argument("--text", action="append", default=[], metavar="COLUMN", help="a column that is text, even where it holds numbers alone")
+    words.add_argument("--time", action="append", default=[], metavar="COLUMN",
+                       help="a column of dates, or of times in UTC, all in one form")
+    words.add_argument("--text", action="append", default=[], metavar="COLUMN",
+                       help="a column that is text, even where it holds numbers alone")
     words.add_argument("--missing", choices=["refuse", "keep", "drop"], default="refuse",
-                       help="what an empty field outside the key is: a fault (refuse), the text '' (keep), or its record is left out (drop)")
+                       help="an empty field outside the key is a fault (refuse), the text '' (keep), or its record is left out (drop)")
     words.add_argument("--strict", action="store_true", help="the table takes no two rows of one key")
     words.add_argument("-o", "--output", metavar="FILE", help="the script's file, in place of standard output")
     return words

@@ -37,8 +37,8 @@ def csv_main(arguments: Sequence[str]) -> int:
 
 def conflicts_main(arguments: Sequence[str]) -> int:
     """The command `conflicts FILE [TABLE]`: the keys whose rows differ. Where a statement is refused nothing is written."""
-    words = argparse.ArgumentParser(prog="cqa conflicts", description="The keys of tables whose rows differ: how many by column, and for each "
-                                    "its values with their sources. Where a statement is refused, nothing is written.")
+    words = argparse.ArgumentParser(prog="cqa conflicts", description="The keys of tables whose rows differ: how many by column, and "
+                                    "for each its values with their sources. Where a statement is refused, nothing is written.")
     words.add_argument("file", metavar="FILE", help="a script")
     words.add_argument("tables", nargs="*", metavar="TABLE", help="a table; all where none is named")
     words.add_argument("--source", metavar="COLUMN", help="the column of sources, which is no conflict (source)")

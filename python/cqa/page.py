@@ -38,7 +38,8 @@ td.number { text-align: right; white-space: nowrap; font-variant-numeric: tabula
 ul.facts { display: flex; flex-wrap: wrap; gap: .5rem; list-style: none; padding: 0; margin: 1rem 0; }
 ul.facts li { flex: 1 1 8rem; background: var(--panel); border-radius: .4rem; padding: .6rem .8rem; }
 ul.facts b { display: block; font-size: 1.4rem; font-variant-numeric: tabular-nums; }
-.bars { display: grid; grid-template-columns: fit-content(14rem) minmax(4rem, 24rem) 1fr; gap: .35rem .75rem; align-items: center; font-size: .9rem; }
+.bars { display: grid; grid-template-columns: fit-content(14rem) minmax(4rem, 24rem) 1fr; gap: .35rem .75rem; align-items: center;
+  font-size: .9rem; }
 .bars .name { overflow-wrap: anywhere; }
 .bars .track { background: var(--track); height: .8rem; border-radius: .2rem; overflow: hidden; }
 .bars .bar { background: var(--bar); height: 100%; }
@@ -76,7 +77,8 @@ def table(columns: Sequence[str], rows: Sequence[Sequence[Cell]]) -> str:
         return '<p class="quiet">none</p>'
     parts = [_table(columns, rows[:_MOST_SHOWN])]
     if len(rows) > _MOST_SHOWN:
-        parts.append("<details><summary>%s more</summary>%s</details>" % (number(len(rows) - _MOST_SHOWN), _table(columns, rows[_MOST_SHOWN:_MOST_HELD])))
+        more = _table(columns, rows[_MOST_SHOWN:_MOST_HELD])
+        parts.append("<details><summary>%s more</summary>%s</details>" % (number(len(rows) - _MOST_SHOWN), more))
     if len(rows) > _MOST_HELD:
         parts.append('<p class="quiet">%s of %s are on this page</p>' % (number(_MOST_HELD), number(len(rows))))
     return "".join(parts)
@@ -99,8 +101,8 @@ def _cell(value: Cell) -> str:
 
 def facts(pairs: Sequence["tuple[str, int]"]) -> str:
     """Counts with their names, which are written for several."""
-    return '<ul class="facts">%s</ul>' % "".join(
-        "<li><b>%s</b>%s</li>" % (number(count), html.escape(re.sub(r"s\b", "", name, count=1) if count == 1 else name)) for name, count in pairs)
+    named = [(count, re.sub(r"s\b", "", name, count=1) if count == 1 else name) for name, count in pairs]
+    return '<ul class="facts">%s</ul>' % "".join("<li><b>%s</b>%s</li>" % (number(count), html.escape(name)) for count, name in named)
 
 
 def bars(counts: Sequence["tuple[str, int]"], whole: int) -> str:

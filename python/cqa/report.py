@@ -58,8 +58,8 @@ def questions_of(answers: Sequence[Answer]) -> List[Question]:
 
 def main(arguments: Sequence[str]) -> int:
     """The command `report FILE ..`. Where a statement is refused nothing is written."""
-    words = argparse.ArgumentParser(prog="cqa report", description="A page of what script files make: tables, conflicts, and for each question its "
-                                    "certain and its disputed rows. Where a statement is refused, nothing is written.")
+    words = argparse.ArgumentParser(prog="cqa report", description="A page of what script files make: tables, conflicts, and for each "
+                                    "question its certain and its disputed rows. Where a statement is refused, nothing is written.")
     words.add_argument("files", nargs="+", metavar="FILE")
     words.add_argument("--source", metavar="COLUMN", help="the column of sources, which is no conflict (source)")
     words.add_argument("-o", "--output", metavar="FILE", help="the page's file, in place of standard output")
@@ -84,8 +84,8 @@ def report(session: Session, answers: Sequence[Answer], title: str, source: Opti
     whole = [("tables", len(schemas)), ("rows", sum(one.rows for one in found.values())), ("keys", sum(one.keys for one in found.values())),
              ("keys in conflict", sum(len(one) for one in found.values())), ("questions", len(questions))]
     body = [HEADS, "<h1>%s</h1>" % page.text(title), page.facts(whole),
-            "<p><b>Certain means undisputed, not confirmed:</b> of the stored rows of each key one is taken to be right. A row is certain if it is an "
-            "answer whichever these are, and disputed if it is one for some choice alone.</p>"]
+            "<p><b>Certain means undisputed, not confirmed:</b> of the stored rows of each key one is taken to be right. A row is "
+            "certain if it is an answer whichever these are, and disputed if it is one for some choice alone.</p>"]
     body += [_table_part(schema, found[schema.table]) for schema in schemas]
     body += [_question_part(session, schemas, number, question) for number, question in enumerate(questions, 1)]
     return page.page("cqa: " + title, "\n".join(body))
@@ -94,15 +94,17 @@ def report(session: Session, answers: Sequence[Answer], title: str, source: Opti
 def _table_part(schema: Schema, conflicts: Conflicts) -> str:
     """A table: its counts, in how many keys each column differs, and the worst keys."""
     columns = ", ".join("%s %s" % item for item in schema.columns.items())
+    kind = ", strict" if schema.strict else ""
     parts = ["<h2>Table %s</h2>" % page.text(schema.table),
-             "<p class=\"quiet\"><code>%s</code>, key <code>%s</code>%s</p>" % (html.escape(columns), html.escape(", ".join(schema.key)), ", strict" if schema.strict else ""),
+             '<p class="quiet"><code>%s</code>, key <code>%s</code>%s</p>' % (html.escape(columns), html.escape(", ".join(schema.key)), kind),
              page.facts([("rows", conflicts.rows), ("keys", conflicts.keys), ("keys in conflict", len(conflicts))])]
     if not conflicts.disputed:
         return "".join(parts) + '<p class="quiet">No key of this table is in conflict.</p>'
     parts.append("<h3>Keys that disagree, by column</h3>")
     parts.append(page.bars([item for item in sorted(conflicts.by_column.items(), key=lambda item: -item[1])], conflicts.keys))
     worst = sorted(conflicts.disputed, key=lambda block: (-len(block.values), -len(block.rows)))[:_WORST]
-    parts.append("<h3>%s</h3>" % ("The keys in conflict" if len(worst) == len(conflicts) else "The %d keys that disagree most" % len(worst)))
+    is_all = len(worst) == len(conflicts)
+    parts.append("<h3>The keys in conflict</h3>" if is_all else "<h3>The %d keys that disagree most</h3>" % len(worst))
     parts.append(page.raw_table((*conflicts.key, "column", "values"), (cells for block in worst for cells in _block_cells(block))))
     return "".join(parts)
 
@@ -112,10 +114,13 @@ def _block_cells(block: Disputed) -> List[List[str]]:
     lines = []
     for number, (name, values) in enumerate(block.values.items()):
         key = ['<td rowspan="%d">%s</td>' % (len(block.values), page.text(value)) for value in block.key] if number == 0 else []
-        items = "".join("<li>%s%s</li>" % (page.text(value), ' <span class="quiet">%s</span>' % ", ".join(map(page.text, sources)) if sources else "")
-                        for value, sources in values.items())
+        items = "".join("<li>%s%s</li>" % (page.text(value), _sources_part(sources)) for value, sources in values.items())
         lines.append([*key, "<td>%s</td>" % page.text(name), '<td><ul class="values">%s</ul></td>' % items])
     return lines
+
+
+def _sources_part(sources: Sequence[Cell]) -> str:
+    return ' <span class="quiet">%s</span>' % ", ".join(map(page.text, sources)) if sources else ""
 
 
 def _question_part(session: Session, schemas: Sequence[Schema], number: int, question: Question) -> str:
@@ -128,13 +133,14 @@ def _question_part(session: Session, schemas: Sequence[Schema], number: int, que
         return head + '<p class="odd">%s</p>' % page.text(refused.line)
     known = set(certain)
     disputed = Rows(possible.columns, (row for row in possible if row not in known))
-    return "".join([head, _answer_part(certain, disputed), _class_part(question.query, classified), _why_part(session, schemas, question, disputed)])
+    return "".join([head, _answer_part(certain, disputed), _class_part(question.query, classified),
+                    _why_part(session, schemas, question, disputed)])
 
 
 def _answer_part(certain: Rows, disputed: Rows) -> str:
     if not certain.columns:
-        told = "Yes, whichever rows are right." if certain else "Yes for some choice of rows, no for others." if disputed else "No, whichever rows are right."
-        return "<h3>Answer</h3><p>%s</p>" % told
+        sure = "Yes, whichever rows are right." if certain else "No, whichever rows are right."
+        return "<h3>Answer</h3><p>%s</p>" % ("Yes for some choice of rows, no for others." if disputed else sure)
     return '<div class="pair"><div><h3>Certain rows: %s</h3>%s</div><div><h3>Disputed rows: %s</h3>%s</div></div>' % (
         page.number(len(certain)), page.table(certain.columns, certain), page.number(len(disputed)), page.table(disputed.columns, disputed))
 

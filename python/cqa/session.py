@@ -121,7 +121,8 @@ class Session:
     def load(self, table: str, path: Union[str, "os.PathLike[str]", Mapping[str, Union[str, "os.PathLike[str]"]]], *,
              key: Union[str, Sequence[str]] = (), source: Optional[str] = None, columns: Optional[Sequence[str]] = None,
              decimal: Optional[Mapping[str, int]] = None, time: Sequence[str] = (), text: Sequence[str] = (), delimiter: str = "",
-             encoding: str = "utf-8", renamed: Optional[Mapping[str, str]] = None, decimal_mark: str = ".", missing: str = "refuse", strict: bool = False,
+             encoding: str = "utf-8", renamed: Optional[Mapping[str, str]] = None, decimal_mark: str = ".",
+             missing: str = "refuse", strict: bool = False,
              source_column: str = "source") -> int:
         """Loads a CSV list with a header line into a table, which is made where it isn't there, and gives the number of new rows.
 
@@ -143,8 +144,9 @@ class Session:
         if missing not in ("refuse", "keep", "drop"):
             raise ValueError("missing is refuse, keep or drop, and not %r" % missing)
         wanted = [key] if isinstance(key, str) else list(key)
-        return self.load_lists(ListOptions(table, wanted, columns, decimal or {}, time, text, delimiter, encoding, renamed or {}, decimal_mark, missing,
-                                           strict, source_column), _sources(path, source))
+        options = ListOptions(table, wanted, columns, decimal or {}, time, text, delimiter, encoding, renamed or {}, decimal_mark, missing,
+                              strict, source_column)
+        return self.load_lists(options, _sources(path, source))
 
     def load_lists(self, options: ListOptions, sources: Sequence[Source]) -> int:
         """Loads lists as options say, each with what its rows have in the column of sources, and gives the number of new rows.
@@ -275,7 +277,8 @@ class Session:
         return answers.against(self.tell("against row %s for %s;" % (row_text(self.stored(row, query)), query)))
 
     def prove(self, row: Sequence[Cell], query: str) -> Explanation:
-        """A certificate that a row is certain, which `cqa check` verifies. Raises Refused; UnknownStatement where the program is too old."""
+        """A certificate that a row is certain, which `cqa check` verifies. Raises Refused; UnknownStatement where the program is too
+        old."""
         return answers.explanation(self.tell("prove row %s for %s;" % (row_text(self.stored(row, query)), query)))
 
     def range(self, aggregate: str) -> Range:

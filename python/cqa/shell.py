@@ -140,7 +140,8 @@ class Shell:
 
     def _command(self, line: str) -> None:
         try:
-            words = shlex.split(line.rstrip(";"), posix=True) if not line.startswith("\\") else ["\\" + line[1:].split(" ")[0], *shlex.split(line[1:])[1:]]
+            words = shlex.split(line.rstrip(";").lstrip("\\"))
+            words[:1] = [line[:line.startswith("\\")] + word for word in words[:1]] or [""]
             if words[0] == "\\load":
                 self._load(words[1:])
             elif words[0] == "\\save" and len(words) == 2:

@@ -35,8 +35,8 @@ STATEMENTS: Tuple[Help, ...] = (
 VERBS = tuple(statement.name for statement in STATEMENTS)
 
 #: All words of the language, for completion.
-WORDS = tuple(sorted(set(VERBS) | {"and", "conflicts", "drop", "exists", "for", "from", "int", "into", "key", "log", "primary", "row", "select",
-                                   "strict", "table", "tables", "text", "values", "where"}))
+WORDS = tuple(sorted({*VERBS, "and", "conflicts", "drop", "exists", "for", "from", "int", "into", "key", "log", "primary", "row", "select",
+                      "strict", "table", "tables", "text", "values", "where"}))
 
 
 def all_statements() -> str:

@@ -90,7 +90,9 @@ class Places(ProgramCase):
         self.assertIn("UTF-16", self.command("run", "s.cqa")[2])
 
     def test_a_misspelt_verb(self) -> None:
-        self.assertEqual(advice_for("possibel select id from t", 0, "error 2 Syntax at 0"), "write `possible`")
+        self.assertEqual(advice_for("possibel select id from t", 0, "error 2 Syntax at 0"), "is it `possible`?")
+        self.assertEqual(advice_for("ask select id frm t", 14, "error 2 Syntax at 14"), "is it `from`?")
+        self.assertEqual(advice_for("ask exists from t wehre a = 1", 18, "error 2 Syntax at 18"), "is it `where`?")
         self.assertEqual(advice_for("frobnicate", 0, "error 2 Syntax at 0"), "")
 
     def test_texts_lead_no_place_astray(self) -> None:
