@@ -69,7 +69,7 @@ class Column:
         """
         joined = "\n".join(fields) + "\n"
         _check_text(self.name, fields, joined, say)
-        if self.kind == "int" and not _SHORT_INTS.fullmatch(joined):
+        if self.kind == "int" and not (_SHORT_INTS.fullmatch(joined) and joined.count("\n") == len(fields)):
             self._find_kind(fields, where, path)
         self._are_numbers = self._are_numbers and _NUMBERS.fullmatch(joined) is not None
         self._mixes = True

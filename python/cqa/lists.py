@@ -10,6 +10,7 @@ import re
 import stat
 import unicodedata
 from dataclasses import dataclass, field
+from functools import partial
 from itertools import chain, repeat
 from typing import IO, Callable, Iterable, Iterator, List, Mapping, Optional, Protocol, Sequence, TextIO, Tuple, TypeVar, Union
 
@@ -19,6 +20,8 @@ from .scripts import Schema, row_text
 MOST_COLUMNS = 16
 MOST_NAME = 64
 _PIECE = 5_000
+#: Letters of a line that are read at once: a longer line is no record of a table, and is told as several that are wrong.
+_LONGEST_LINE = 1_000_000
 _MOST_APART = 10_000
 _Item = TypeVar("_Item")
 _ENDS_BLOCK = re.compile(r"\n\\\.\r?\n")
@@ -127,8 +130,9 @@ class Lists:
         return io.TextIOWrapper(raw, encoding=encoding, newline="")
 
     def _read(self, path: str, source: Optional[str], text: io.TextIOWrapper) -> None:
-        first = text.readline()
-        reader = csv.reader(chain([first], text), delimiter=self.options.delimiter or _delimiter_of(first), strict=True)
+        first = text.readline(_LONGEST_LINE)
+        rest = iter(partial(text.readline, _LONGEST_LINE), "")
+        reader = csv.reader(chain([first], rest), delimiter=self.options.delimiter or _delimiter_of(first), strict=True)
         faults = self.faults
         header = self._header(path, reader)
         places = self._places(path, header, source is not None) if header else []

@@ -28,6 +28,7 @@ from .scripts import Bytes, Schema, Statement, quoted, remark_text, remarks, row
 NEWER = (("disputed", b"error 2 Syntax at 0\n"), ("against", b"error 2 Syntax at 0\n"), ("prove", b"error 2 Syntax at 0\n"),
          ("range", b"error 2 Syntax at 0\n"), ("prefer", b"error 2 Syntax at 0\n"), ("show conflicts", b"error 2 Syntax at 5\n"))
 
+_NAME = re.compile(r"[A-Za-z_][A-Za-z0-9_]*")
 _STATE_HEAD = "-- cqa state: kept by the Python package; it is a script, and its last line tells its size\n"
 _STATE_END = re.compile(rb"-- cqa state: (\d+) tables, (\d+) rows\n\Z")
 
@@ -151,6 +152,9 @@ class Session:
     def load_lists(self, options: ListOptions, sources: Sequence[Source]) -> int:
         """Loads lists as options say, each with what its rows have in the column of sources, and gives the number of new rows.
         Raises as `load`."""
+        for name in (options.table, options.source_column):
+            if not _NAME.fullmatch(name):
+                raise ValueError("%r is no name" % name)
         there = self.schema(options.table)
         if there is not None and options.key and [word_of(name) for name in options.key] != there.key:
             raise ValueError("the key of %s is %s" % (options.table, ", ".join(there.key)))
@@ -270,42 +274,42 @@ class Session:
 
     def explain(self, row: Sequence[Cell], query: str) -> Explanation:
         """Why a row is certain, or a repair in which it is no answer. Raises Refused."""
-        return answers.explanation(self.tell("explain row %s for %s;" % (row_text(self.stored(row, query)), query)))
+        return answers.explanation(self.tell("explain row %s for %s;" % (row_text(self.stored(row, query)), _plain(query))))
 
     def against(self, row: Sequence[Cell], query: str) -> Explanation:
         """The fewest rows that stand against a row. Raises Refused; UnknownStatement where the program is too old."""
-        return answers.against(self.tell("against row %s for %s;" % (row_text(self.stored(row, query)), query)))
+        return answers.against(self.tell("against row %s for %s;" % (row_text(self.stored(row, query)), _plain(query))))
 
     def prove(self, row: Sequence[Cell], query: str) -> Explanation:
         """A certificate that a row is certain, which `cqa check` verifies. Raises Refused; UnknownStatement where the program is too
         old."""
-        return answers.explanation(self.tell("prove row %s for %s;" % (row_text(self.stored(row, query)), query)))
+        return answers.explanation(self.tell("prove row %s for %s;" % (row_text(self.stored(row, query)), _plain(query))))
 
     def range(self, aggregate: str) -> Range:
         """The ends of `sum credit from customer where ..`, of `count from ..`, `min ..` or `max ..` over all repairs, as they are
         stored: those of a column with places aren't scaled. Raises Refused; UnknownStatement where the program is too old."""
-        return answers.ranges(self.tell("range %s;" % aggregate))
+        return answers.ranges(self.tell("range %s;" % _plain(aggregate)))
 
     def ranges(self, aggregate: str) -> List[Group]:
         """As `range`, for `sum credit from customer group by city`: one for each value. Raises as `range`."""
-        return answers.groups(self.tell("range %s;" % aggregate))
+        return answers.groups(self.tell("range %s;" % _plain(aggregate)))
 
     def classify(self, query: str) -> Classification:
         """How hard the query is, by its attacks. Raises Refused."""
-        return answers.classification(self.tell("classify %s;" % query))
+        return answers.classification(self.tell("classify %s;" % _plain(query)))
 
     def plan(self, query: str) -> Optional[List[str]]:
         """The tables in the order in which they can be gone through without a search, or None where there is none. Raises Refused."""
-        lines = self.tell("plan %s;" % query)
+        lines = self.tell("plan %s;" % _plain(query))
         return None if lines == ["no plan"] else [line.split(" ")[2] for line in lines]
 
     def sql(self, query: str) -> Optional[str]:
         """One query in SQL for the certain rows, or None where no plan decides them. Raises Refused."""
-        lines = self.tell("sql %s;" % query)
+        lines = self.tell("sql %s;" % _plain(query))
         return None if lines == ["no plan"] else "".join(line + "\n" for line in lines)
 
     def _answer(self, verb: str, query: str) -> Rows:
-        return self.rows_of(query, self.tell("%s %s;" % (verb, query)))
+        return self.rows_of(query, self.tell("%s %s;" % (verb, _plain(query))))
 
     def rows_of(self, query: str, lines: Sequence[str]) -> Rows:
         """The rows of a query's reply, with the query's columns."""
@@ -400,6 +404,11 @@ class Session:
             session.close()
             raise
         return session
+
+
+def _plain(query: str) -> str:
+    """A query without the `;` that may stand at its end."""
+    return query.strip().rstrip(";")
 
 
 def _converted(name: str, value: Union[int, str], kind: str, places: Optional[int], faults: List[str]) -> Union[int, str]:

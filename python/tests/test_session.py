@@ -35,7 +35,7 @@ class Questions(ProgramCase):
         rows = self.db.certain("select name, staff.id from staff")
         self.assertEqual(rows, [("Ida", 7), ("Per", 9)])
         self.assertEqual(rows.columns, ("name", "staff.id"))
-        self.assertEqual(self.db.possible("select room from staff where id = 7"), [(12,), (14,)])
+        self.assertEqual(self.db.possible("select room from staff where id = 7;"), [(12,), (14,)])
 
     def test_exists_is_the_row_without_values(self) -> None:
         yes = self.db.certain("exists from staff where room = 12")
@@ -252,6 +252,10 @@ class Lists(ProgramCase):
         self.db.run("create table t (source text, id int, name text, primary key (id));")
         self.db.load("t", self.file("one.csv", "id,name\n1,Ada\n"), source="crm")
         self.assertEqual(self.db.rows("t"), [("crm", 1, "Ada")])
+
+    def test_names_are_names(self) -> None:
+        with self.assertRaises(ValueError):
+            self.db.load("t (id int, primary key (id)); delete from customer; create table u", self.crm, key="id")
 
     def test_a_faulty_list_loads_nothing(self) -> None:
         bad = self.file("bad.csv", "id,name,city,credit\n1,Ada,Bergen,1\n,Nobody,Voss,1\n2,Bo,Stavanger,1\n")

@@ -90,7 +90,7 @@ class AtATerminal(ProgramCase):
 
     def until(self, wanted: str) -> str:
         """What is shown, up to a text that has to come within some seconds."""
-        shown, end = "", time.monotonic() + 20
+        shown, end = "", time.monotonic() + 60
         while wanted not in shown:
             ready = select.select([self.master], [], [], max(0, end - time.monotonic()))[0]
             self.assertTrue(ready, "%r isn't shown, but %r" % (wanted, shown))
@@ -120,7 +120,7 @@ class AtATerminal(ProgramCase):
         self.type("1,Ada\n\\.\n")
         self.until("copied 1\r\ncqa> ")
         self.type("\x04")
-        self.assertEqual(self.child.wait(20), 0)
+        self.assertEqual(self.child.wait(60), 0)
         self.assertTrue(os.path.exists(self.path("history")))
 
 
