@@ -11,6 +11,8 @@ from support import TOP, Case, ProgramCase, lines
 
 from cqa.habits import HABITS, advice_for
 from cqa.places import place_of
+from cqa.program import Child
+from cqa.running import run_files
 from cqa.scripts import remarks, schema_of, selected, statements
 
 STAFF = "create table staff (id int, name text, room int, primary key (id));\n"
@@ -131,6 +133,18 @@ class Runs(ProgramCase):
         for name in ("first", "two_lists", "literature"):
             with self.subTest(name), open(os.path.join(TOP, "examples", name + ".out"), encoding="utf-8") as file:
                 self.assertEqual(self.command("run", os.path.join(TOP, "examples", name + ".cqa")), (0, file.read(), ""))
+
+    def test_every_stored_script_gets_the_same_replies(self) -> None:
+        stricter = {"copies"}  # `run FILE` refuses a block with something behind a closing quote
+        folder = os.path.join(TOP, "crates", "script_tests", "data")
+        for name in sorted(name[:-4] for name in os.listdir(folder) if name.endswith(".cqa")):
+            with self.subTest(name), open(os.path.join(folder, name + ".out"), "rb") as file:
+                child = Child()
+                replies = [[answer.refusal.encode()] if answer.refusal else answer.lines
+                           for answer in run_files([os.path.join(folder, name + ".cqa")], child, False)]
+                child.kill()
+                written = b"".join(line + b"\n" for lines in replies for line in lines)
+                self.assertEqual(written == file.read(), name not in stricter)
 
     def test_many_small_statements_and_long_replies(self) -> None:
         self.file("s.cqa", STAFF + "".join("insert into staff values (%d, 'x', 1);\n" % at for at in range(30_000)) + "ask select id, name from staff;\n" * 3)
