@@ -10,7 +10,7 @@ from typing import Dict, List, NamedTuple, Optional, Tuple
 
 from .columns import csv_fault
 from .habits import advice_for
-from .scripts import Bytes, Schema, Statement, open_part
+from .scripts import Schema, Statement, open_part
 
 _COMMENT_OR_TEXT = re.compile(rb"--[^\n]*|'[^']*(?:'|\Z)")
 _TOKEN = re.compile(rb"[A-Za-z_][A-Za-z0-9_]*|-?[0-9]+|'[^']*(?:''[^']*)*'|<>|<=|>=|[(),.=<>]")
@@ -49,7 +49,7 @@ class Place(NamedTuple):
         return len(self.shown.encode()[:self.column - 1].decode(errors="replace"))
 
 
-def place_of(script: Bytes, statement: Statement, refusal: str, schemas: Dict[str, Schema]) -> Place:
+def place_of(script: bytes, statement: Statement, refusal: str, schemas: Dict[str, Schema]) -> Place:
     """The place of a refusal: the line "error 6 UnknownColumn nmae" to a statement of a script, over the tables that are there."""
     text = statement.text(script)
     name = refusal.split(" ")[2] if refusal.count(" ") > 1 else ""
@@ -83,13 +83,13 @@ def _letters(text: bytes, offset: int) -> int:
     return len(text[:offset].decode("utf-8", "replace"))
 
 
-def _shown(script: Bytes, at: int, note: str, of_list: str) -> Place:
+def _shown(script: bytes, at: int, note: str, of_list: str) -> Place:
     begin = script.rfind(b"\n", 0, at) + 1
     end = script.find(b"\n", at)
-    line = bytes(script[begin:end if end >= 0 else len(script)])[:400]
+    line = script[begin:end if end >= 0 else len(script)][:400]
     word = _TOKEN.match(line, at - begin)
     width = len(word[0].decode("utf-8", "replace")) if word else 1
-    return Place(bytes(script[:at]).count(b"\n") + 1, at - begin + 1, line.decode("utf-8", "replace").rstrip("\r"), width, note, of_list)
+    return Place(script[:at].count(b"\n") + 1, at - begin + 1, line.decode("utf-8", "replace").rstrip("\r"), width, note, of_list)
 
 
 def _offset(tokens: List[Token], refusal: str, name: str, length: int) -> int:
@@ -139,7 +139,7 @@ def _condition(tokens: List[Token], number: int) -> int:
     return tokens[at][1] if at < len(tokens) else 0
 
 
-def _unfinished(script: Bytes, statement: Statement) -> Tuple[int, str]:
+def _unfinished(script: bytes, statement: Statement) -> Tuple[int, str]:
     """Where what is left at the end begins, and what is missing."""
     if statement.block is not None:
         text = statement.text(script)
@@ -151,14 +151,14 @@ def _unfinished(script: Bytes, statement: Statement) -> Tuple[int, str]:
     return at, "the text that begins here has no end" if part == "text" else "the statement that begins here has no ;"
 
 
-def _bad_record(script: Bytes, statement: Statement, refusal: str, schemas: Dict[str, Schema]) -> Tuple[int, str, str]:
+def _bad_record(script: bytes, statement: Statement, refusal: str, schemas: Dict[str, Schema]) -> Tuple[int, str, str]:
     """Where the refused record of a block begins, what is wrong with it and how many more are, and its place in its list."""
     assert statement.block is not None
     begin, end = statement.block
     table = re.search(rb"copy\s+(\w+)", statement.text(script))
     schema = schemas.get(table[1].decode()) if table else None
     number = int(refusal.rsplit(" ", 1)[1])
-    block = bytes(script[begin:end])
+    block = script[begin:end]
     line, causes = _record_causes(block, schema, number)
     at = begin
     for _ in range(line):
@@ -166,7 +166,7 @@ def _bad_record(script: Bytes, statement: Statement, refusal: str, schemas: Dict
     note = causes[0] if causes else "it is no row of the table"
     if len(causes) > 1:
         note += "; and %d more" % (len(causes) - 1)
-    told = _OF_LIST.search(bytes(script[max(0, statement.start - 5000):statement.start]))
+    told = _OF_LIST.search(script[max(0, statement.start - 5000):statement.start])
     of_list = "%s:%d" % (told[1].decode("utf-8", "replace"), int(told[2]) + line) if told else ""
     return at, note, of_list
 

@@ -4,21 +4,18 @@ from __future__ import annotations
 
 import argparse
 import csv
-import mmap
-import os
 import queue
-import stat
 import sys
 import threading
 import time
 from typing import BinaryIO, Dict, Iterator, List, NamedTuple, Optional, Sequence, Tuple
 
-from .errors import Ended
+from .errors import Ended, InputTooLong
 from .files import standard_output
 from .places import Place, place_of
 from .program import Child
 from .replies import END_STATEMENT, IS_REFUSAL
-from .scripts import Bytes, Schema, Statement, schema_of, statements, verb_of
+from .scripts import Schema, Statement, schema_of, statements, verb_of
 from .session import Session
 
 _PIECE = 1 << 20
@@ -37,20 +34,15 @@ class Answer(NamedTuple):
 
 
 class ScriptFile:
-    """A script in a file: mapped where it can be, and else read."""
+    """A script in a file, read as it is when the run begins."""
 
     def __init__(self, path: str) -> None:
-        """Raises OSError where the file can't be read."""
+        """Raises OSError where the file can't be read, and InputTooLong where it is longer than the program takes."""
         self.path = path
         with open(path, "rb") as file:
-            status = os.fstat(file.fileno())
-            if stat.S_ISDIR(status.st_mode):
-                raise IsADirectoryError(21, "it is a folder", path)
-            self.script: Bytes = b""
-            if stat.S_ISREG(status.st_mode) and status.st_size:
-                self.script = mmap.mmap(file.fileno(), 0, access=mmap.ACCESS_READ)
-            elif not stat.S_ISREG(status.st_mode):
-                self.script = file.read(_MOST_INPUT + 1)
+            self.script = file.read(_MOST_INPUT + 1)
+        if len(self.script) > _MOST_INPUT:
+            raise InputTooLong(6, path)
 
 
 #: A statement, and why it isn't sent.
@@ -117,7 +109,7 @@ class Runner:
             self.child.flush()
             self._sent.put(sent)
 
-    def _send_statement(self, script: Bytes, statement: Statement) -> None:
+    def _send_statement(self, script: bytes, statement: Statement) -> None:
         for begin in range(statement.start, statement.end, _PIECE):
             end = min(begin + _PIECE, statement.end)
             self.child.write(script[begin:end])
@@ -143,7 +135,7 @@ class Runner:
         return Answer(file.path, text, verb, [], refusal, place_of(file.script, statement, refusal, self.schemas))
 
 
-def _fault_of(script: Bytes, statement: Statement) -> str:
+def _fault_of(script: bytes, statement: Statement) -> str:
     """Why a statement isn't sent: it isn't complete, or its block has a quote that is never closed, or that something stands
     behind. The program takes such a block, and records between two such quotes are then part of a text."""
     if not statement.complete:
@@ -159,7 +151,7 @@ def _fault_of(script: Bytes, statement: Statement) -> str:
     return ""
 
 
-def _block_lines(script: Bytes, begin: int, end: int) -> Iterator[str]:
+def _block_lines(script: bytes, begin: int, end: int) -> Iterator[str]:
     """The lines of a block with their ends."""
     while begin < end:
         found = script.find(b"\n", begin, end) + 1

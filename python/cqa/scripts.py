@@ -2,11 +2,8 @@
 
 from __future__ import annotations
 
-import mmap
 import re
 from typing import Dict, Iterator, List, Mapping, NamedTuple, Optional, Tuple, Union
-
-Bytes = Union[bytes, mmap.mmap]
 
 _GAP = re.compile(rb"(?:[ \t\r\n]+|--[^\n]*)*")
 _MARK = re.compile(rb"[;'\-]")
@@ -34,9 +31,9 @@ class Statement(NamedTuple):
     end: int
     complete: bool
 
-    def text(self, script: Bytes) -> bytes:
+    def text(self, script: bytes) -> bytes:
         """The statement's text, without its `;`."""
-        return bytes(script[self.start:self.text_end])
+        return script[self.start:self.text_end]
 
 
 class Schema(NamedTuple):
@@ -48,7 +45,7 @@ class Schema(NamedTuple):
     strict: bool = False
 
 
-def statements(script: Bytes, at: int = 0) -> Iterator[Statement]:
+def statements(script: bytes, at: int = 0) -> Iterator[Statement]:
     """The statements of a script; the last one may be incomplete."""
     size = len(script)
     at = _past_gap(script, at)
@@ -58,10 +55,10 @@ def statements(script: Bytes, at: int = 0) -> Iterator[Statement]:
         at = _past_gap(script, statement.end)
 
 
-def remarks(script: Bytes) -> Tuple[Dict[Tuple[str, str], int], Dict[str, str]]:
+def remarks(script: bytes) -> Tuple[Dict[Tuple[str, str], int], Dict[str, str]]:
     """What the comments before the first statement say of columns: the places of those that hold numbers with places, by table
     and column, and each table's column of sources."""
-    head = bytes(script[:_past_gap(script, 0)])
+    head = script[:_past_gap(script, 0)]
     places = {(table.decode(), column.decode()): int(count) for table, column, count in _PLACES.findall(head)}
     return places, {table.decode(): column.decode() for table, column in _SOURCES.findall(head)}
 
@@ -72,12 +69,12 @@ def remark_text(places: Mapping[Tuple[str, str], int], sources: Mapping[str, str
                    + ["-- cqa: column %s.%s has the sources\n" % name for name in sources.items()])
 
 
-def _past_gap(script: Bytes, at: int) -> int:
+def _past_gap(script: bytes, at: int) -> int:
     found = _GAP.match(script, at)
     return found.end() if found else at
 
 
-def _statement(script: Bytes, start: int, size: int) -> Statement:
+def _statement(script: bytes, start: int, size: int) -> Statement:
     text_end = _text_end(script, start)
     if text_end < 0:
         return Statement(start, size, None, size, False)
@@ -91,7 +88,7 @@ def _statement(script: Bytes, start: int, size: int) -> Statement:
     return Statement(start, text_end, (begin, last[0]), last[1], True)
 
 
-def _text_end(script: Bytes, at: int) -> int:
+def _text_end(script: bytes, at: int) -> int:
     """The place of the `;` that ends the statement at a place, or -1."""
     while True:
         mark = _MARK.search(script, at)
@@ -110,7 +107,7 @@ def _text_end(script: Bytes, at: int) -> int:
             return -1
 
 
-def _block_end(script: Bytes, begin: int) -> Optional[Tuple[int, int]]:
+def _block_end(script: bytes, begin: int) -> Optional[Tuple[int, int]]:
     """Where the line `\\.` of a block begins, and where the next line does."""
     at = begin
     while True:
@@ -122,11 +119,11 @@ def _block_end(script: Bytes, begin: int) -> Optional[Tuple[int, int]]:
             return None
 
 
-def open_part(script: Bytes, statement: Statement) -> Tuple[str, int]:
+def open_part(script: bytes, statement: Statement) -> Tuple[str, int]:
     """What is open at the end of an incomplete statement, "block", "text" or "statement", and where it begins."""
     if statement.block is not None:
         return "block", statement.start
-    text = bytes(script[statement.start:statement.end])
+    text = script[statement.start:statement.end]
     found = None
     for found in _COMMENT_OR_TEXT_BYTES.finditer(text):
         pass

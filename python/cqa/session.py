@@ -22,7 +22,7 @@ from .loading import Source, load_script
 from .program import Child
 from .replies import IS_REFUSAL, Row, row_of
 from .rows import Cell, Rows
-from .scripts import Bytes, Schema, Statement, quoted, remark_text, remarks, row_text, selected, shown_schema, statements, tokens, verb_of
+from .scripts import Schema, Statement, quoted, remark_text, remarks, row_text, selected, shown_schema, statements, tokens, verb_of
 
 #: Statements that not every program knows: how each begins, and the reply of a program that doesn't know it.
 NEWER = (("disputed", b"error 2 Syntax at 0\n"), ("against", b"error 2 Syntax at 0\n"), ("prove", b"error 2 Syntax at 0\n"),
@@ -92,21 +92,21 @@ class Session:
             raise ValueError("the script ends within a statement: %r" % text[parts[-1].start:][:200])
         return [[line.decode("utf-8") for line in self._told(text, part)] for part in parts]
 
-    def heed(self, script: Bytes) -> None:
+    def heed(self, script: bytes) -> None:
         """Heeds what the comments at the head of a script say of columns: numbers with places, and columns of sources."""
         places, sources = remarks(script)
         self._places.update(places)
         self._sources.update(sources)
 
-    def _told(self, script: Bytes, part: Statement) -> List[bytes]:
+    def _told(self, script: bytes, part: Statement) -> List[bytes]:
         """Sends a statement of a script and gives its reply's lines without line feeds."""
         text = part.text(script).decode("utf-8", "replace")
         verb = verb_of(text)
-        lines = self._child.tell(bytes(script[part.start:part.end]), verb)
+        lines = self._child.tell(script[part.start:part.end], verb)
         if lines and IS_REFUSAL.match(lines[0]):
             self._refuse(lines[0], text)
         if verb == "set":
-            self._settings = bytes(script[part.start:part.end]) + b"\n"
+            self._settings = script[part.start:part.end] + b"\n"
         return [line[:-1] for line in lines]
 
     def _refuse(self, line: bytes, text: str) -> None:
@@ -211,7 +211,7 @@ class Session:
             words = tokens(part.text(dump).decode("utf-8"))
             name = words[words.index("table") + 1] if words[0] == "create" else words[-1] if words[0] == "copy" else words[2]
             if name not in changed:
-                parts.append(bytes(dump[part.start:part.end]) + b"\n")
+                parts.append(dump[part.start:part.end] + b"\n")
             elif words[0] == "create":
                 parts.append(changed[name].encode("utf-8"))
         before, self._child = self._child, Child(self.program, self._child.is_apart)

@@ -112,7 +112,7 @@ class Shell:
 
     def _run(self, statement: Statement) -> None:
         began = time.monotonic()
-        script = bytes(self._buffer[statement.start:statement.end])
+        script = self._buffer[statement.start:statement.end]
         try:
             with _patience():
                 replies = self.session.run(script)

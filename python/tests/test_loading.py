@@ -2,15 +2,20 @@
 
 from __future__ import annotations
 
+import io
 import os
 import resource
 import subprocess
 import sys
 import unittest
 from typing import List
+from unittest import mock
 
 import support
 from support import Case, ProgramCase, lines
+
+from cqa.lists import ListOptions
+from cqa.loading import load_script
 
 
 class Taken(Case):
@@ -163,6 +168,15 @@ class Faults(Case):
         self.file("a.csv", "id,name\n1,Ada\n")
         _, out, told = self.command("load", "--table", "t", "--key", "id", "a.csv", "missing.csv", self.folder)
         self.assertEqual((out, lines(told)[:-1]), ("", ["missing.csv: no such file or directory", self.folder + ": is a directory"]))
+
+    def test_a_list_that_changes_while_it_is_read(self) -> None:
+        path = self.file("a.csv", "id,name\n1,Ada\n")
+        now = os.stat(path)
+        later = os.stat_result((*now[:6], now.st_size + 1, *now[7:10]))
+        faults: List[str] = []
+        with mock.patch("cqa.lists.os.fstat", side_effect=[now, later]):
+            self.assertIsNone(load_script(ListOptions("t", ["id"]), [(path, None)], io.BytesIO(), faults.append))
+        self.assertEqual(faults, [path + ": it changed while it was read"])
 
     def test_wrong_words_have_status_2(self) -> None:
         self.file("a.csv", "id,name\n1,Ada\n")

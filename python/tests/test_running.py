@@ -156,6 +156,9 @@ class Runs(ProgramCase):
         status, out, told = self.command("run", self.folder)
         self.assertEqual((status, out, len(lines(told))), (1, "", 1))
         self.assertEqual(self.command("run", self.file("empty.cqa", "")), (0, "", ""))
+        with open(self.file("long.cqa", ""), "r+b") as file:
+            file.truncate(268_435_457)
+        self.assertEqual(self.command("run", "long.cqa"), (6, "", "cqa run: long.cqa: status 6: the input is longer than 268,435,456 bytes\n"))
         self.assertEqual(self.command("run", "/dev/stdin", stdin=STAFF.encode()), (0, "created staff\n", ""))
 
     def test_statuses_of_the_program_are_told_in_a_line(self) -> None:
