@@ -3,6 +3,7 @@
 from __future__ import annotations
 
 import errno
+import io
 import os
 import sys
 from typing import Callable, Dict, Sequence
@@ -23,6 +24,9 @@ COMMANDS: Dict[str, Callable[[Sequence[str]], int]] = {
 
 def main(words: Sequence[str]) -> int:
     """Runs a command and gives its status; a fault is one line on standard error, and the status isn't 0."""
+    for stream, errors in ((sys.stdin, "surrogateescape"), (sys.stdout, "surrogateescape"), (sys.stderr, "backslashreplace")):
+        if isinstance(stream, io.TextIOWrapper):
+            stream.reconfigure(encoding="utf-8", errors=errors)
     command = COMMANDS.get(words[0]) if words else None
     if command is None:
         print("cqa: the commands are %s; each tells its words by --help" % ", ".join(COMMANDS), file=sys.stderr)

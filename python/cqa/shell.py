@@ -42,6 +42,7 @@ class Shell:
         self.session = session
         self.status = 0
         self._buffer = b""
+        self._block: Optional[List[bytes]] = None  # the further lines of a block that is open
         self._is_timing = False
         self._schemas: List[Schema] = []
         self._look()
@@ -60,9 +61,14 @@ class Shell:
     def drop(self) -> None:
         """Drops what is typed so far."""
         self._buffer = b""
+        self._block = None
 
     def take(self, line: str) -> bool:
         """Takes a line without its end, and says whether the shell goes on."""
+        text = line.encode("utf-8", "surrogateescape") + b"\n"
+        if self._block is not None and line.rstrip("\r") != "\\.":
+            self._block.append(text)
+            return True
         if not self.is_open:
             word = line.strip().rstrip(";").strip()
             if word in ("\\q", "quit", "exit"):
@@ -73,7 +79,7 @@ class Shell:
             if word.startswith("."):
                 self._fault("there are no commands with a dot: \\d shows the tables, \\? all commands")
                 return True
-        self._buffer += line.encode("utf-8", "surrogateescape") + b"\n"
+        self._buffer += b"".join(self._block or []) + text
         self._run_complete()
         return True
 
@@ -86,6 +92,7 @@ class Shell:
 
     def _run_complete(self) -> None:
         """Runs the statements that are complete, and keeps the rest."""
+        self._block = None
         while True:
             statement = next(statements(self._buffer), None)
             if statement is None:
@@ -94,6 +101,7 @@ class Shell:
             if statement.block is not None and self._is_wrong_copy(statement):
                 return
             if not statement.complete:
+                self._block = [] if statement.block is not None else None
                 return
             self._run(statement)
             self._buffer = self._buffer[statement.end:]

@@ -51,6 +51,12 @@ class ByLines(ProgramCase):
         self.assertEqual((status, told), (1, "bad.csv:2: the key id is empty\nnothing is loaded\n"))
         self.assertEqual(self.shell("ask select credit from t;\n", "my state"), (0, "(950)\n1 rows\n", ""))
 
+    def test_bytes_that_are_no_text(self) -> None:
+        status, out, told = self.command("shell", stdin=STAFF.encode() + b"insert into staff values (1, 'M\xe4rta', 2);\ncopy staff;\n1,M\xe4rta,2\n\\.\nshow tables;\n")
+        self.assertEqual((status, lines(out)[0], lines(out)[-1]), (1, "created staff", "1 tables"))
+        self.assertIn("error 1 BadByte at 31", told)
+        self.assertIn("error 19 BadCsv record 1: name isn't UTF-8", told)
+
     def test_ends_and_unknown_commands(self) -> None:
         for word in ("\\q", "quit", "exit;", "quit;"):
             self.assertEqual(self.shell(word + "\nask exists from nothing;\n"), (0, "", ""))
