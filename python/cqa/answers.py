@@ -36,7 +36,7 @@ class Explanation(NamedTuple):
     kind: "block" (certain by the block `table` with the key `key`), "refutation" (certain: `proof` is a formula with its
     refutation, which `cqa check` verifies), "rewriting" (certain: `proof` is a certificate), "rejected" (not certain: the
     repair that keeps `kept` has no witness of the row), "against" (not certain: no repair that keeps `kept` has one),
-    "certain", or "no plan".
+    "certain", or "no plan". Keys and rows are as they are stored: numbers with places as ints.
     """
 
     kind: str

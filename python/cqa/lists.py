@@ -74,7 +74,8 @@ def word_of(header: str) -> str:
 
 
 class Lists:
-    """The lists of one table. `add` reads one after the other; then `schema` and `write` give the script, if there are no faults."""
+    """The lists of one table. `add` reads one after the other, and then `end` tells what only all together show; where there are no
+    faults, `schema` is the table and `finish_blocks` completes the file of its blocks."""
 
     def __init__(self, options: ListOptions, blocks: IO[bytes], fault: Callable[[str], None], there: Optional[Schema] = None) -> None:
         """blocks: a file for the blocks, which stand behind the schema. fault: told of each fault. there: the table, if it is there."""
@@ -293,6 +294,7 @@ class Lists:
 
     def end(self) -> None:
         """Tells the faults that only all lists together show."""
+        self._tell_all()
         for column in self._columns:
             for fault in column.faults():
                 self.faults += 1
