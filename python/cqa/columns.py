@@ -117,11 +117,20 @@ class DecimalColumn(Column):
         super().__init__(name)
         self._places = places
         self._mark = mark
+        self._zeros = ["0" * (places - count) for count in range(places + 1)]
 
     def take(self, fields: Sequence[str], where: Sequence[int], path: str, say: Say) -> Sequence[str]:
         return [self._scaled(at, field, say) for at, field in enumerate(fields)]
 
     def _scaled(self, at: int, field: str, say: Say) -> str:
+        whole, mark, places = field.partition(self._mark)
+        count = len(places)
+        is_plain = whole.isdecimal() and field.isascii() and (places.isdecimal() or not mark)
+        if is_plain and count <= self._places and len(whole) + self._places <= 18:
+            return str(int(whole + places + self._zeros[count]))
+        return self._scaled_with_care(at, field, say)
+
+    def _scaled_with_care(self, at: int, field: str, say: Say) -> str:
         number = field.replace(",", ".") if self._mark == "," and "." not in field else field
         value = scaled(number, self._places)
         if value is None:
@@ -141,6 +150,9 @@ class TimeColumn(TextColumn):
         self._length: Optional[int] = None
 
     def take(self, fields: Sequence[str], where: Sequence[int], path: str, say: Say) -> Sequence[str]:
+        distinct = set(fields)
+        if {*map(len, distinct)} <= {self._length} and all(map(_is_time, distinct)):
+            return fields
         for at, field in enumerate(fields):
             if not _is_time(field):
                 say(at, "%s: %s is no date, and no time in UTC as 2026-03-01T00:10:00Z" % (self.name, _shown(field)))
