@@ -3,6 +3,8 @@
 
     differential/scripts.py [PROGRAM] [--seed S] [--count N] [--pieces]
 
+Half of the scripts ask joins of four to six tables that have a plan; the others have queries of all kinds.
+
 Where a reply is free, it is judged by what it has to be: the repair of an explanation must hold no witness of its row, a
 refutation must be one of the row's formula and `check` must verify it, and a search may be refused as spent only where its
 budget can be too small for the row's formula. Each step of a log must follow by its hints, in an order in which each of
@@ -12,6 +14,7 @@ expected, and ends with status 1. Python 3.9 and its library alone are needed.
 """
 
 import argparse
+import itertools
 import os
 import random
 import re
@@ -194,9 +197,11 @@ class Script:
         return not any(table.strict or table.key != [0, 1] for table in self.cycle)
 
     def fill(self, table, rows):
-        """Rows of a table of the cycle in place of those that it has."""
+        """Rows of a table in place of those that it has."""
         table.rows = rows
-        self.say("delete from %s where g >= 0;" % table.name, lambda out: out.while_like("deleted [0-9]+"))
+        column, kind = table.columns[0]
+        least = literal(0 if kind == "int" else "")
+        self.say("delete from %s where %s >= %s;" % (table.name, column, least), lambda out: out.while_like("deleted [0-9]+"))
         if rows:
             self.replied("insert into %s values %s;" % (table.name, ", ".join(map(row_text, sorted(rows)))), "inserted %d" % len(rows))
 
@@ -229,11 +234,84 @@ class Script:
         for table in self.cycle:
             self.fill(table, set())
 
+    # Joins of several tables.
+
+    def create_linked(self, kind):
+        """Six tables of one kind of values, whose first columns are their keys."""
+        pick, strict = self.random, self.random.random() < 0.1
+        for number in range(6):
+            key = [0, 1] if pick.random() < 0.4 else [0]
+            table = Table("t%d" % number, [("c%d" % place, kind) for place in range(4)], key, strict and number == 1)
+            self.tables.append(table)
+            self.replied("create %stable %s;" % ("strict " if table.strict else "", table.schema()), "created " + table.name)
+
+    def fill_linked(self, table, values):
+        """Rows of these values in place of those of a table: most keys have one, and a few of them a second one."""
+        pick, rows = self.random, set()
+        for key in itertools.product(values, repeat=len(table.key)):
+            for _ in range(pick.choice([0, 1, 1, 1, 1, 1, 2, 2]) if len(table.key) == 1 else pick.choice([0, 0, 1, 1, 1, 2])):
+                row = [pick.choice(values) for _ in table.columns]
+                for place, value in zip(table.key, key):
+                    row[place] = value
+                rows.add(tuple(row))
+        self.fill(table, rows if not table.strict else {block[0] for block in table.with_rows(rows).blocks()})
+
+    def columns_of_edge(self, tables, edge):
+        """Joins of two tables: on the key of one of them or off it, and on two columns of each in three of ten."""
+        def others(table):
+            return [place for place in range(len(table.columns)) if place not in table.key]
+
+        pick, left, right = self.random, *(tables[atom] for atom in edge)
+        count = 2 if pick.random() < 0.3 else 1
+        is_foreign = pick.random() < 0.75
+        theirs = right.key + (others(right)[:max(count - len(right.key), 0)] if is_foreign else others(right))
+        pairs = zip(pick.sample(others(left), count), pick.sample(theirs, count))
+        return [((edge[0], one), (edge[1], other)) for one, other in pairs]
+
+    def linked(self, values):
+        """A query of four to six tables: a tree, a star or a chain, some with a cycle of conditions or a table apart."""
+        pick = self.random
+        tables = [table.copy() for table in pick.sample(self.tables, pick.randint(4, 6))]
+        before = pick.choice([pick.randrange, pick.randrange, lambda place: 0, lambda place: place - 1])
+        linked = len(tables) - 1 if pick.random() < 0.1 else len(tables)
+        edges = [(before(place), place) for place in range(1, linked)]
+        if pick.random() < 0.2:
+            edges.append(tuple(pick.sample(range(linked), 2)))
+        joins = [join for edge in edges for join in self.columns_of_edge(tables, edge if pick.random() < 0.5 else edge[::-1])]
+        columns = [(atom, place) for atom, table in enumerate(tables) for place in range(len(table.columns))]
+        tests = [(pick.choice(columns), pick.choice(["=", "=", "<>", "<", "<=", ">", ">="]), pick.choice(values))
+                 for _ in range(pick.choice([0, 0, 1]))]
+        query = Query(tables, [pick.choice(columns) for _ in range(pick.randint(0, 3))], joins, tests)
+        order = pick.sample(range(len(tables)), len(tables))
+        return query.reordered(order)
+
+    def linked_asked(self, values):
+        """A query of these with a plan, over rows of which some are new."""
+        for table in self.random.sample(self.tables, self.random.choice([0, 0, 1, 2])):
+            self.fill_linked(table, values)
+        query = next((query for query in (self.linked(values) for _ in range(30)) if query.plan() is not None), None)
+        if query:
+            self.ask_of(query)
+
+    def make_linked(self, length):
+        kind = self.random.choice(["int", "int", "int", "text"])
+        values = (NUMBERS if kind == "int" else TEXTS[1:])[:self.random.choice([2, 3, 3])]
+        self.create_linked(kind)
+        for table in self.tables:
+            self.fill_linked(table, values)
+        rare = [self.delete, self.show, lambda: self.fill_linked(self.random.choice(self.tables), values)]
+        length += len(self.statements)
+        while len(self.statements) < length:
+            if self.random.random() < 0.1:
+                self.random.choice(rare)()
+            self.linked_asked(values)
+        return self
+
     def asked(self):
         self.ask_of(self.query())
 
     def ask_of(self, query):
-        if query.number_of_repairs() > 600 or query.work() > 40_000:
+        if query.number_of_repairs() > 600 or query.work() > 300_000:
             return
         self.ask_or_explain(query)
         if needs_search(query):
@@ -486,7 +564,8 @@ def run(program, script, pieces):
 
 def compare(program, seed, pieces):
     """Runs one script; gives how many replies agreed, and the number of steps of each spent log."""
-    script = Script(seed).make(length=25)
+    script = Script(seed)
+    script = script.make_linked(length=18) if seed % 2 == 0 else script.make(length=25)
     text = "\n".join(statement for statement, _ in script.statements) + "\n"
     ran = run(program, text.encode(), random.Random(seed) if pieces else None)
     out = Lines(ran.stdout.decode(), program)

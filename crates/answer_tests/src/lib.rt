@@ -2,16 +2,12 @@
 //! memory, and with the answer that was worked out by hand, or by another program.
 #![tactic(auto)]
 
-pub mod draws;
 #[cfg(test)]
-mod listing;
-pub mod making;
+mod making;
 #[cfg(test)]
 mod orders;
 #[cfg(test)]
 mod questions;
-#[cfg(test)]
-mod random_questions;
 #[cfg(test)]
 mod repairs;
 #[cfg(test)]

@@ -14,7 +14,7 @@ struct Case {
 
 impl Wanted for Case {
     fn comes(&self, alloc: Global, _db: &Database, query: &Query) -> bool {
-        match elimination_of(alloc, query) {
+        match elimination_of(alloc, query, &[]) {
             Ok(Some(plan)) => {
                 let right = plan.order.as_slice() == self.order;
                 drop(plan);

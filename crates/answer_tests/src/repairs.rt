@@ -50,7 +50,7 @@ fn is_mended(alloc: Global, db: &Database, query: &Query, row: &Row, wanted: Opt
     match plan_of(alloc, query) {
         Ok(Some(plan)) => {
             let held = holds(alloc, &plan, db, query, row);
-            let found = mend(alloc, db, query, &plan, row, &[]);
+            let found = mend(alloc, db, query, &plan, row, &[], &[]);
             drop(plan);
             match (found, wanted) {
                 (Ok(None), None) => held,

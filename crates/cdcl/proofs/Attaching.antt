@@ -8,12 +8,12 @@ use Rattle.cnf_form.specs.declared.formula.Clause.{Clause}
 use Rattle.cnf_form.specs.Literals.{literals, Denied}
 use Rattle.cdcl.specs.declared.watch.Pair.{Pair}
 use Rattle.cdcl.specs.declared.solver.Solver.{Solver}
-use Rattle.implication_graph.specs.Trail.{IsOpen, At, held}
+use Rattle.search_trail.specs.Trail.{IsOpen, At, held}
 use Rattle.cdcl.specs.State.{IsSound}
 use Rattle.cdcl.specs.Watching.{IsListed, IsWatching, IsBase, AreLists}
 use Rattle.cdcl.specs.Looking.{IsEnqueued, IsSameBeside, IsForcedIn, IsWatchful, IsFirst, CanWatch}
 use Rattle.cdcl.specs.Visits.{IsConflict}
-use Rattle.implication_graph.proofs.Works.{At-same}
+use Rattle.search_trail.proofs.Works.{At-same}
 use Rattle.cdcl.proofs.States.{held_push, literals_count}
 use Rattle.cdcl.proofs.WatchState.{watching_put}
 

@@ -13,12 +13,12 @@ use Rattle.cnf_form.specs.Literals.{opposite, literals}
 use Rattle.cnf_form.specs.Logs.{Live, HintsPass, numbered, with_clause, StepsPass, Passes, added, Refutes}
 use Rattle.cnf_form.specs.Propagation.{ReachesEmpty, StaysOpen}
 use Rattle.cnf_form.specs.Spent.{AreNew, OnlyAdds, IsSpentLog}
-use Rattle.implication_graph.specs.Trail.{At}
-use Rattle.implication_graph.specs.Analysis.{ChainPasses}
+use Rattle.search_trail.specs.Trail.{At}
+use Rattle.search_trail.specs.Analysis.{ChainPasses}
 use Rattle.cdcl.specs.Lines.{AreLines, IsLineStep, IsLastStep, EndsEmpty, EndsSpent, added_lits, learnt}
 use Rattle.cdcl.specs.Outcomes.{AreConsecutive}
 use Rattle.cdcl.proofs.States.{literals_count}
-use Rattle.implication_graph.proofs.Places.{At-push_cases}
+use Rattle.search_trail.proofs.Places.{At-push_cases}
 
 -- the clause at each place is live under the id that follows the place
 abbrev pub Covers : Live → List (List Lit) → Type 0

@@ -7,16 +7,16 @@ use Rattle.std.proofs.lemmas.List.{map-append}
 use Rattle.cqa_value.proofs.Words.{mem-tail, mem-cases, mem-head}
 use Rattle.cnf_form.specs.declared.formula.Lit.{Lit}
 use Rattle.cnf_form.specs.Literals.{opposite, Denied, AllDenied, literals}
-use Rattle.implication_graph.specs.Trail.{IsConsistent, IsOpen, At, held}
+use Rattle.search_trail.specs.Trail.{IsConsistent, IsOpen, At, held}
 use Rattle.cdcl.specs.Settled.{IsSettled, AllSettled}
 use Rattle.cdcl.proofs.SettledLemmas.{not_reached, stays_open}
 use Rattle.cnf_form.proofs.Lits.{lit_cases}
 use Rattle.cnf_form.specs.declared.log.Step.{Step}
 use Rattle.cnf_form.specs.declared.log.Step.TheVariants.{Add, Delete}
-use Rattle.implication_graph.specs.Analysis.{ChainPasses}
+use Rattle.search_trail.specs.Analysis.{ChainPasses}
 use Rattle.cdcl.specs.declared.solver.Solver.{Solver}
 use Rattle.cdcl.specs.State.{IsSound}
-use Rattle.implication_graph.proofs.Places.{consistent, At-push_old}
+use Rattle.search_trail.proofs.Places.{consistent, At-push_old}
 use Rattle.cdcl.proofs.States.{literals_count}
 use Rattle.cdcl.specs.Visits.{IsStill, IsComplete, IsModelled}
 use Rattle.cdcl.specs.Lines.{Adds, IsLine, AreLines, IsLineStep, IsLastStep, EndsEmpty, EndsLog, EndsSpent, added_lits, learnt}

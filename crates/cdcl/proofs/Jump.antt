@@ -1,5 +1,5 @@
 -- What holds of a learnt clause after the jump back.
-use Rattle.implication_graph.specs.Trail.{At, IsConsistent, IsOpen, held, AllInRange, AllLow, IsApart}
+use Rattle.search_trail.specs.Trail.{At, IsConsistent, IsOpen, held, AllInRange, AllLow, IsApart}
 use Rattle.std.proofs.Common.{take, ◌≡◌, ℕ, zero, suc, ◌<◌, ◌≤◌, ◌-◌, ℤ, List, [], ◌∷◌, ◌++◌, ◌⊎◌, inl, inr, refl, sym, ◌∙◌, ap, subst, arith, length, get_or, Option, ◌+◌}
 use Rattle.std.specs.Prelude.{Contains}
 use Rattle.std.proofs.lemmas.List.Elements.{Contains-push_cases, Contains-append_left, Contains-push}
@@ -8,18 +8,18 @@ use Rattle.cnf_form.specs.declared.formula.Lit.{Lit}
 use Rattle.cnf_form.specs.Literals.{literals, opposite}
 use Rattle.cdcl.specs.Settled.{IsSettled, AllSettledTo}
 use Rattle.cdcl.proofs.SettledLemmas.{new_by_settled}
-use Rattle.implication_graph.specs.declared.trail.Entry.{Entry}
+use Rattle.search_trail.specs.declared.trail.Entry.{Entry}
 use Rattle.cdcl.specs.Looks.{IsForced}
-use Rattle.implication_graph.specs.Analysis.{IsLearntClause}
+use Rattle.search_trail.specs.Analysis.{IsLearntClause}
 use Rattle.cdcl.specs.State.{IsState, IsSound}
 use Rattle.cdcl.specs.declared.solver.Solver.{Solver}
-use Rattle.implication_graph.specs.declared.analysis.LearntClause.{LearntClause}
+use Rattle.search_trail.specs.declared.analysis.LearntClause.{LearntClause}
 use Rattle.cdcl.specs.Visits.{IsPrefix, IsLearnt, LeavesLevel}
 use Rattle.cdcl.specs.Lines.{IsLine, IsNewTo}
 use Rattle.cdcl.specs.Looking.{IsWatchful}
 use Rattle.cdcl.proofs.TrailLemmas.{settled_by_open}
-use Rattle.implication_graph.proofs.Works.{At-get_or, At-same, At-take, At-in_take, At-contains, contains_taken}
-use Rattle.implication_graph.proofs.Places.{apart_by_places, consistent}
+use Rattle.search_trail.proofs.Works.{At-get_or, At-same, At-take, At-in_take, At-contains, contains_taken}
+use Rattle.search_trail.proofs.Places.{apart_by_places, consistent}
 use Rattle.cdcl.proofs.States.{held_take, last_is}
 
 pub end_within : (db : List (List Lit)) (t : List Lit) (start : ℕ) (lits : List Lit) (hints : List ℤ) (a : Lit) (end : ℕ)

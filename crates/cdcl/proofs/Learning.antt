@@ -8,14 +8,14 @@ use Rattle.cnf_form.specs.Literals.{literals, Denied, opposite}
 use Rattle.cnf_form.proofs.Lits.{opposite-opposite}
 use Rattle.cdcl.specs.declared.watch.Pair.{Pair}
 use Rattle.cdcl.specs.declared.solver.Solver.{Solver}
-use Rattle.implication_graph.specs.Trail.{At, held}
+use Rattle.search_trail.specs.Trail.{At, held}
 use Rattle.cdcl.specs.Settled.{IsSettled}
 use Rattle.cdcl.specs.Looks.{IsForced}
 use Rattle.cdcl.specs.State.{IsSound}
 use Rattle.cdcl.specs.Watching.{IsListed, IsWatching, IsBase, AreLists}
 use Rattle.cdcl.specs.Looking.{IsEnqueued, IsSameBeside, IsWatchful, CanWatch, IsPairFor}
-use Rattle.implication_graph.proofs.Works.{At-same, At-contains}
-use Rattle.implication_graph.proofs.Places.{At-push_old, At-push_new, apart_by_places, consistent}
+use Rattle.search_trail.proofs.Works.{At-same, At-contains}
+use Rattle.search_trail.proofs.Places.{At-push_old, At-push_new, apart_by_places, consistent}
 use Rattle.cdcl.proofs.States.{held_push, literals_count}
 use Rattle.cdcl.proofs.Watches.{watch_new, watch_learnt}
 use Rattle.cdcl.proofs.WatchState.{watching_more, watching_put}

@@ -7,13 +7,13 @@ use Rattle.std.proofs.lemmas.Bool.{cases_eq}
 use Rattle.cnf_form.specs.declared.formula.Lit.{Lit}
 use Rattle.cnf_form.specs.Literals.{opposite, Denied}
 use Rattle.cnf_form.proofs.Lits.{equal_or_not}
-use Rattle.implication_graph.specs.declared.trail.Entry.{Entry}
+use Rattle.search_trail.specs.declared.trail.Entry.{Entry}
 use Rattle.cdcl.specs.declared.watch.Pair.{Pair}
-use Rattle.implication_graph.specs.Trail.{At, held}
+use Rattle.search_trail.specs.Trail.{At, held}
 use Rattle.cdcl.specs.State.{IsState}
 use Rattle.cdcl.specs.Watching.{code_of, IsListed, listed_at, IsListedBut, HoldsIn, IsWatching, HasWatch, IsPairOf, IsPending, AreLists}
 use Rattle.cdcl.specs.Looking.{IsLooking}
-use Rattle.implication_graph.proofs.Works.{At-same, At-contains}
+use Rattle.search_trail.proofs.Works.{At-same, At-contains}
 use Rattle.cdcl.proofs.States.{held_push}
 use Rattle.cdcl.proofs.WatchState.{code_one, code_small, watching_relist, watching_put, watching_drop, watching_move, pending_first, pending_held, pending_drop, pending_move, pending_put}
 

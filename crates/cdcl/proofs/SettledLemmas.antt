@@ -6,7 +6,7 @@ use Rattle.cnf_form.specs.declared.formula.Lit.{Lit}
 use Rattle.cnf_form.specs.Literals.{opposite, Denied, OthersDenied}
 use Rattle.cnf_form.specs.Propagation.{IsPropagation, ReachesEmpty, StaysOpen}
 use Rattle.cnf_form.proofs.Lits.{equal_or_not}
-use Rattle.implication_graph.specs.Trail.{IsConsistent, IsOpen}
+use Rattle.search_trail.specs.Trail.{IsConsistent, IsOpen}
 use Rattle.cdcl.specs.Settled.{IsSettled, AllSettled}
 
 pub settled_by_true : (t c : List Lit) (l : Lit) → IsConsistent t → Contains c l → Contains t l → IsSettled t c

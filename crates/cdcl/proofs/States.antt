@@ -1,5 +1,5 @@
 -- How a solver's state changes.
-use Rattle.implication_graph.specs.Trail.{At, held, ArePlaces, AllInRange, AllLow}
+use Rattle.search_trail.specs.Trail.{At, held, ArePlaces, AllInRange, AllLow}
 use Rattle.std.proofs.Common.{take, ◌≡◌, ℕ, zero, suc, ◌<◌, ◌≤◌, ◌+◌, ◌-◌, List, [], ◌∷◌, ◌++◌, ◌⊎◌, inl, inr, refl, sym, ◌∙◌, ap, subst, arith, length, get_or, Option, Some, None}
 use Rattle.std.specs.Prelude.{Contains}
 use Rattle.std.proofs.lemmas.List.{length-map, map-append, take-append-le, length-take, take_all, take-take, length_push}
@@ -7,11 +7,11 @@ use Rattle.std.proofs.lemmas.List.Elements.{Contains-push_cases, Contains-append
 use Rattle.cnf_form.specs.declared.formula.Lit.{Lit}
 use Rattle.cnf_form.specs.declared.formula.Clause.{Clause}
 use Rattle.cnf_form.specs.Literals.{OthersDenied, literals}
-use Rattle.implication_graph.specs.declared.trail.Entry.{Entry}
-use Rattle.implication_graph.specs.Analysis.{IsForcedBy}
+use Rattle.search_trail.specs.declared.trail.Entry.{Entry}
+use Rattle.search_trail.specs.Analysis.{IsForcedBy}
 use Rattle.cdcl.specs.State.{IsState}
-use Rattle.implication_graph.proofs.Works.{At-same, At-take, At-contains}
-use Rattle.implication_graph.proofs.Places.{At-push_cases, At-push_old, At-push_new}
+use Rattle.search_trail.proofs.Works.{At-same, At-take, At-contains}
+use Rattle.search_trail.proofs.Places.{At-push_cases, At-push_old, At-push_new}
 
 pub held_take : (s : ℕ) (trail : List Entry) → held (take s trail) ≡ take s (held trail)
 held_take zero trail = refl

@@ -1,5 +1,5 @@
 -- Literals of a clause that the trail denies.
-use Rattle.implication_graph.specs.Trail.{IsOpen}
+use Rattle.search_trail.specs.Trail.{IsOpen}
 use Rattle.std.proofs.Common.{◌≢◌, List, inl, inr, refl, sym, subst}
 use Rattle.std.specs.Prelude.{Contains}
 use Rattle.cnf_form.specs.declared.formula.Lit.{Lit}

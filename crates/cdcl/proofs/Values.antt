@@ -4,15 +4,15 @@ use Rattle.std.specs.Prelude.{Contains}
 use Rattle.std.proofs.lemmas.Bool.{cases_eq}
 use Rattle.std.proofs.lemmas.List.{length_push}
 use Rattle.cnf_form.specs.declared.formula.Lit.{Lit}
-use Rattle.implication_graph.specs.Trail.{held, ValueIs, AllLow, AreAllInRange}
+use Rattle.search_trail.specs.Trail.{held, ValueIs, AllLow, AreAllInRange}
 use Rattle.cdcl.specs.Watching.{IsWatching, AreLists}
 use Rattle.cnf_form.specs.Literals.{SatisfiesAll}
 use Rattle.cdcl.specs.declared.solver.Solver.{Solver}
 use Rattle.cdcl.specs.State.{IsState, IsSound}
 use Rattle.cdcl.specs.Visits.{AgreesBelow, AgreesWith, IsModelled, OpenVarIs}
 use Rattle.cdcl.specs.Outcomes.{assignment}
-use Rattle.search_heuristics.specs.Open.{NextIs}
-use Rattle.implication_graph.proofs.Places.{has_var, some_none}
+use Rattle.search_trail.specs.Open.{NextIs}
+use Rattle.search_trail.proofs.Places.{has_var, some_none}
 
 get_push_old : (xs : List Bool) (x : Bool) (k : ℕ) → k < length xs → get_or (xs ++ x ∷ []) k false ≡ get_or xs k false
 get_push_old [] x k h = absurd (omega arith)

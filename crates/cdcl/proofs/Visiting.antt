@@ -8,18 +8,18 @@ use Rattle.cqa_value.proofs.Words.{mem-head}
 use Rattle.cnf_form.specs.declared.formula.Lit.{Lit}
 use Rattle.cnf_form.specs.declared.formula.Clause.{Clause}
 use Rattle.cnf_form.specs.Literals.{literals, Denied, opposite}
-use Rattle.implication_graph.specs.declared.trail.Entry.{Entry}
+use Rattle.search_trail.specs.declared.trail.Entry.{Entry}
 use Rattle.cdcl.specs.declared.watch.Pair.{Pair}
 use Rattle.cdcl.specs.declared.solver.Solver.{Solver}
 use Rattle.cdcl.specs.declared.look.Visit.{Visit}
 use Rattle.cdcl.specs.declared.look.Visit.TheVariants.{Conflict}
-use Rattle.implication_graph.specs.Trail.{At, held}
+use Rattle.search_trail.specs.Trail.{At, held}
 use Rattle.cdcl.specs.State.{IsState, IsSound}
 use Rattle.cdcl.specs.Watching.{HasWatch, IsPairOf, code_of, IsPending, IsWatching, IsListed, AreLists}
 use Rattle.cdcl.specs.Looking.{IsLooking, IsLookingAt, IsEnqueued, IsSameBeside, IsReady, IsGrown, Stays, VisitIs}
 use Rattle.cdcl.specs.Visits.{IsConflict, IsStill}
-use Rattle.implication_graph.proofs.Works.{At-same}
-use Rattle.implication_graph.proofs.Places.{At-push_old, consistent, trail_fits}
+use Rattle.search_trail.proofs.Works.{At-same}
+use Rattle.search_trail.proofs.Places.{At-push_old, consistent, trail_fits}
 use Rattle.cdcl.proofs.States.{db_at, literals_count, length_held}
 use Rattle.cdcl.proofs.WatchState.{code_small, watching_next, watching_settled}
 use Rattle.cdcl.proofs.Stretches.{drop_set, next_index}

@@ -9,12 +9,12 @@ use Rattle.cnf_form.specs.declared.formula.Lit.{Lit}
 use Rattle.cnf_form.specs.Literals.{opposite, Denied}
 use Rattle.cnf_form.proofs.Lits.{equal_or_not, opposite-opposite}
 use Rattle.cdcl.specs.declared.watch.Pair.{Pair}
-use Rattle.implication_graph.specs.Trail.{At, IsConsistent}
+use Rattle.search_trail.specs.Trail.{At, IsConsistent}
 use Rattle.cdcl.specs.Settled.{IsSettled, AllSettledTo}
 use Rattle.cdcl.specs.Watching.{sign_code, code_of, IsListed, listed_at, IsListedBut, HoldsIn, IsBase, WatchIs, IsPaired, IsWatching, HasWatch, IsPairOf, IsPending}
 use Rattle.cdcl.proofs.SettledLemmas.{settled_by_true}
-use Rattle.implication_graph.proofs.Works.{At-same, At-contains, At-in_take, At-get_or}
-use Rattle.implication_graph.proofs.Places.{At-push_cases, At-push_old}
+use Rattle.search_trail.proofs.Works.{At-same, At-contains, At-in_take, At-get_or}
+use Rattle.search_trail.proofs.Places.{At-push_cases, At-push_old}
 use Rattle.cdcl.proofs.Watches.{watches_settle, watch_back, watch_put, watch_level, watch_look, watch_new}
 
 -- the literals of one code are one

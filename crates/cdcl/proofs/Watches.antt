@@ -1,5 +1,5 @@
 -- Watched literals: what each clause keeps, and why it is settled once all of the trail is looked at.
-use Rattle.implication_graph.specs.Trail.{At, IsConsistent}
+use Rattle.search_trail.specs.Trail.{At, IsConsistent}
 use Rattle.std.proofs.Common.{take, ◌≡◌, ◌≢◌, ℕ, ◌<◌, ◌≤◌, ◌+◌, min, List, [], ◌∷◌, ◌++◌, ◌⊎◌, inl, inr, subst, arith, length}
 use Rattle.std.specs.Prelude.{Contains}
 use Rattle.std.proofs.lemmas.List.Elements.{Contains-push_cases, Contains-append_left, Contains-push}
@@ -10,8 +10,8 @@ use Rattle.cdcl.specs.Settled.{IsSettled}
 use Rattle.cdcl.proofs.SettledLemmas.{settled_by_two, settled_by_true}
 use Rattle.cnf_form.proofs.Lits.{equal_or_not}
 use Rattle.cdcl.specs.Watching.{WatchIs}
-use Rattle.implication_graph.proofs.Works.{At-take, At-contains, At-in_take, At-same}
-use Rattle.implication_graph.proofs.Places.{At-push_cases, At-push_old}
+use Rattle.search_trail.proofs.Works.{At-take, At-contains, At-in_take, At-same}
+use Rattle.search_trail.proofs.Places.{At-push_cases, At-push_old}
 
 contains_or_not : (t : List Lit) (l : Lit) → Contains t l ⊎ (Contains t l → ⊥)
 contains_or_not [] l = inr (λ i. omega (arith, i.1))

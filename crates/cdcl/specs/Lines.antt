@@ -11,8 +11,8 @@ use Rattle.cdcl.specs.declared.solver.Verdict.{Verdict}
 use Rattle.cdcl.specs.declared.solver.Verdict.TheVariants.{Sat, Unsat, Spent}
 use Rattle.cdcl.specs.State.{IsSound}
 use Rattle.cdcl.specs.Visits.{IsModelled}
-use Rattle.implication_graph.specs.Trail.{At, AllInRange, AllLow}
-use Rattle.implication_graph.specs.Analysis.{ChainPasses}
+use Rattle.search_trail.specs.Trail.{At, AllInRange, AllLow}
+use Rattle.search_trail.specs.Analysis.{ChainPasses}
 
 -- no clause below the place is within the other
 abbrev pub IsNewTo : ℕ → List (List Lit) → List Lit → Type 0

@@ -2,13 +2,13 @@
 use Rattle.std.specs.Prelude.{◌≡◌, ◌≢◌, ◌<◌, ℕ, List, [], ◌∷◌, ◌++◌, length, Contains, Option, Some, None}
 use Rattle.cnf_form.specs.declared.formula.Lit.{Lit}
 use Rattle.cnf_form.specs.Literals.{Denied, literals}
-use Rattle.implication_graph.specs.declared.trail.Entry.{Entry}
+use Rattle.search_trail.specs.declared.trail.Entry.{Entry}
 use Rattle.cdcl.specs.declared.watch.Pair.{Pair}
 use Rattle.cdcl.specs.declared.look.Found.{Found}
 use Rattle.cdcl.specs.declared.solver.Solver.{Solver}
 use Rattle.cdcl.specs.declared.look.Visit.{Visit}
 use Rattle.cdcl.specs.declared.look.Visit.TheVariants.{Kept, Dropped, Conflict}
-use Rattle.implication_graph.specs.Trail.{At, held}
+use Rattle.search_trail.specs.Trail.{At, held}
 use Rattle.cdcl.specs.Looks.{IsForced, FoundIs}
 use Rattle.cdcl.specs.State.{IsState, IsSound}
 use Rattle.cdcl.specs.Watching.{IsListed, IsListedBut, WatchIs, IsWatching, IsPending, AreLists}

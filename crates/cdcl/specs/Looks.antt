@@ -2,7 +2,7 @@
 use Rattle.std.specs.Prelude.{◌≡◌, ◌≢◌, List, Contains}
 use Rattle.cnf_form.specs.declared.formula.Lit.{Lit}
 use Rattle.cnf_form.specs.Literals.{Denied, AllDenied, OthersDenied}
-use Rattle.implication_graph.specs.Trail.{IsOpen}
+use Rattle.search_trail.specs.Trail.{IsOpen}
 use Rattle.cdcl.specs.declared.look.Watches.{Watches}
 use Rattle.cdcl.specs.declared.look.Watches.TheVariants.{None as NoLit, One, Two}
 use Rattle.cdcl.specs.declared.look.Found.{Found}

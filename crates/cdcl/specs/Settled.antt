@@ -1,6 +1,6 @@
 -- What a list of literals leaves to be forced.
 use Rattle.std.specs.Prelude.{ℕ, ◌<◌, List, Contains}
-use Rattle.implication_graph.specs.Trail.{At}
+use Rattle.search_trail.specs.Trail.{At}
 use Rattle.cnf_form.specs.declared.formula.Lit.{Lit}
 use Rattle.cnf_form.specs.Literals.{OthersDenied}
 

@@ -1,11 +1,11 @@
 -- What a solver keeps true.
-use Rattle.implication_graph.specs.Trail.{At, held, ArePlaces, AllInRange, AllLow, AreAllInRange}
+use Rattle.search_trail.specs.Trail.{At, held, ArePlaces, AllInRange, AllLow, AreAllInRange}
 use Rattle.std.specs.Prelude.{◌<◌, ℕ, List, Option, length, Contains}
 use Rattle.cnf_form.specs.declared.formula.Lit.{Lit}
 use Rattle.cnf_form.specs.Literals.{literals}
-use Rattle.implication_graph.specs.declared.trail.Entry.{Entry}
+use Rattle.search_trail.specs.declared.trail.Entry.{Entry}
 use Rattle.cdcl.specs.declared.solver.Solver.{Solver}
-use Rattle.implication_graph.specs.Analysis.{IsForcedAt, AreReasons}
+use Rattle.search_trail.specs.Analysis.{IsForcedAt, AreReasons}
 
 -- The trail, the places of variables, and where levels start, over clauses.
 pub record IsState (db : List (List Lit)) (trail : List Entry) (places : List (Option ℕ)) (level_starts : List ℕ) : Type 0 where

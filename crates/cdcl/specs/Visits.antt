@@ -1,14 +1,14 @@
 -- What visits to clauses tell.
 use Rattle.cnf_form.specs.Literals.{HasVar}
-use Rattle.implication_graph.specs.Trail.{At, IsOpen, held}
+use Rattle.search_trail.specs.Trail.{At, IsOpen, held}
 use Rattle.std.specs.Prelude.{◌≡◌, ◌<◌, ◌≤◌, ◌-◌, ℕ, Bool, false, slice_index_or, List, length, Contains, Option, None, Some, ◌++◌, ◌∷◌, [], take}
 use Rattle.cnf_form.specs.declared.formula.Lit.{Lit}
 use Rattle.cnf_form.specs.Literals.{literals}
 use Rattle.cdcl.specs.Settled.{AllSettledTo}
-use Rattle.implication_graph.specs.declared.analysis.LearntClause.{LearntClause}
+use Rattle.search_trail.specs.declared.analysis.LearntClause.{LearntClause}
 use Rattle.cdcl.specs.declared.solver.Solver.{Solver}
-use Rattle.implication_graph.specs.declared.trail.Entry.{Entry}
-use Rattle.implication_graph.specs.Analysis.{IsFalse, IsLearntClause}
+use Rattle.search_trail.specs.declared.trail.Entry.{Entry}
+use Rattle.search_trail.specs.Analysis.{IsFalse, IsLearntClause}
 
 -- the clause at a place has all its literals denied by the trail
 abbrev pub IsConflict : Solver → ℕ → Type 0

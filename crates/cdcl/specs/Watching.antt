@@ -3,7 +3,7 @@ use Rattle.std.specs.Prelude.{◌≡◌, ◌≢◌, ◌<◌, ◌≤◌, ◌+◌,
 use Rattle.cnf_form.specs.declared.formula.Lit.{Lit}
 use Rattle.cnf_form.specs.Literals.{opposite}
 use Rattle.cdcl.specs.declared.watch.Pair.{Pair}
-use Rattle.implication_graph.specs.Trail.{At}
+use Rattle.search_trail.specs.Trail.{At}
 use Rattle.cdcl.specs.Settled.{AllSettledTo}
 
 -- the place of a literal's list among the lists

@@ -5,7 +5,7 @@ ghost use Rattle.cdcl.specs.Watching.{IsThinned, AreThinned};
 
 use crate::watch::put_list;
 use cqa_value::{Items, NoMemory};
-use search_heuristics::usage::Usage;
+use search_trail::usage::Usage;
 use std::alloc::Global;
 
 /// The indexes of a list that are below a number, or used.

@@ -2,11 +2,11 @@
 
 ghost use Rattle.std.specs.Prelude.{◌≡◌, ◌<◌, ◌≤◌, ◌+◌, ◌≢◌, length, Contains, MatchOption, true, false};
 ghost use Rattle.cnf_form.specs.Literals.{Denied, OthersDenied, literals};
-ghost use Rattle.implication_graph.specs.Trail.{IsConsistent, At, held, ArePlaces, AllInRange};
+ghost use Rattle.search_trail.specs.Trail.{IsConsistent, At, held, ArePlaces, AllInRange};
 ghost use Rattle.cdcl.specs.Looks.{FoundIs, IsFree, WatchesAre};
 
 use cnf_form::{Lit, Truth};
-use implication_graph::{Entry, truth_of};
+use search_trail::{Entry, truth_of};
 
 /// What a clause comes to that watches a false literal and another one.
 #[derive(Clone, Copy)]

@@ -12,7 +12,7 @@ ghost use Rattle.cdcl.specs.Outcomes.{AreConsecutive, AttemptIs, IsModel, IsOnce
 use crate::solver::{Solver, Verdict};
 use cnf_form::{Cnf, Log};
 use cqa_value::{Items, NoMemory};
-use search_heuristics::usage::FIRST_LIMIT;
+use search_trail::usage::FIRST_LIMIT;
 use std::alloc::Global;
 
 /// What a solver finds out of a formula, with evidence.

@@ -3,10 +3,10 @@
 ghost use Rattle.std.specs.Prelude.{◌≡◌, ◌<◌, ◌≤◌, ◌+◌, ◌≢◌, ℕ, length, List, Contains, OnOk, IfOk, true, false, replicate, take, ◌++◌, ◌∷◌, [], ◌-◌, ◌^◌, MatchOption};
 ghost use Rattle.cnf_form.specs.Literals.{literals, opposite};
 ghost use Rattle.cdcl.specs.Settled.{IsSettled};
-ghost use Rattle.implication_graph.specs.Trail.{IsOpen, At, held, ValueIs, AllInRange, AllLow, AreAllInRange};
+ghost use Rattle.search_trail.specs.Trail.{IsOpen, At, held, ValueIs, AllInRange, AllLow, AreAllInRange};
 ghost use Rattle.cdcl.specs.Looks.{IsForced};
 ghost use Rattle.cdcl.specs.State.{IsSound};
-ghost use Rattle.implication_graph.specs.Marks.{AllClear, AllMet};
+ghost use Rattle.search_trail.specs.Marks.{AllClear, AllMet};
 ghost use Rattle.cdcl.specs.Watching.{AreLists, IsBase};
 ghost use Rattle.cdcl.specs.Looking.{IsForcedIn, IsEnqueued, IsSameBeside, IsSameAttached, Stays, IsGrown, FoundIsAt, IsLookingAt, VisitIs, LookedIs, IsReady, IsWatchful, IsUnattached, IsFirst, CanWatch, IsPairFor};
 ghost use Rattle.cdcl.specs.Visits.{ConflictIs, OpenVarIs, SearchIs, IsStill, LeavesLevel, IsPrefix, IsConflict, IsLearnt, AgreesWith};
@@ -18,13 +18,13 @@ use crate::look::{Found, Visit, Watches, seek, watches_of};
 use crate::watch::{Pair, close_gap, code, no_lists, other_of, push_index, put_list, take_list};
 use cnf_form::{Clause, Cnf, Lit, Step, Truth};
 use cqa_value::{Items, NoMemory};
-use implication_graph::{
+use search_trail::order::{Order, first_open};
+use search_trail::restart::Restarts;
+use search_trail::usage::Usage;
+use search_trail::{
     Entry, LearntClause, SeenBuffer, analyze, cut, enqueue, lit_at, literals_at, refute, truth_of,
     value_at,
 };
-use search_heuristics::order::{Order, first_open};
-use search_heuristics::restart::Restarts;
-use search_heuristics::usage::Usage;
 use std::alloc::Global;
 
 /// How a search ends.

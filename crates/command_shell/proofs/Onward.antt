@@ -6,9 +6,9 @@ use Rattle.script_lex.proofs.Statements.{Begins-append}
 use Rattle.reply_text.specs.declared.reply.Reply.{Reply}
 use Rattle.reply_text.specs.Texts.{is_refusal}
 use Rattle.cqa_session.specs.State.{State}
-use Rattle.cqa_session.specs.Runs.{Run, Answers, CutShort, text_of, has_refusal}
+use Rattle.cqa_session.specs.Runs.{Run, Answers, CutShort, ReachesLast, text_of, has_refusal}
 use Rattle.command_shell.specs.Taking.{Takes, TakesLast, TakesRun, HandsAnswers}
-use Rattle.command_shell.proofs.Progress.{text_of-append}
+use Rattle.command_shell.proofs.Progress.{text_of-append, after_whole}
 
 Run-trans : (old : State) (s : List Statement) (a : List Reply) (mid : State) (t : List Statement) (b : List Reply) (new : State) → Run old s a mid → Run mid t b new → Run old (s ++ t) (a ++ b) new
 Run-trans old [] [] mid t b new h k = subst (λ state. Run state t b new) h k
@@ -91,4 +91,6 @@ module _ {T : Type 0} {took : T → List ℕ → Reply → T → Type 0} {t_old 
     tail = c.tail;
     written_is = ap (λ l. l ++ text_of c.last) (text_of-append o.replies c.replies) ∙ append_assoc (text_of o.replies) (text_of c.replies) (text_of c.last)
         ∙ ap (λ l. text_of o.replies ++ l) c.written_is ∙ ap (λ l. l ++ (more ++ c.more)) (sym o.written_is) ∙ sym (append_assoc written more c.more);
+    late = subst (λ l. ReachesLast l (written ++ more)) (sym (append_assoc o.replies c.replies c.last))
+        (subst (λ l. ReachesLast (o.replies ++ (c.replies ++ c.last)) (l ++ more)) (sym o.written_is) (after_whole o.replies (c.replies ++ c.last) more c.late));
   }

@@ -1,6 +1,6 @@
 -- How the answers to an input go on, statement by statement.
 use Rattle.std.proofs.Common.{◌≡◌, ◌⊎◌, inl, inr, ℕ, Bool, true, false, ◌||◌, List, [], ◌∷◌, ◌++◌, take, drop, Option, Result, Ok, Err, IsErrAnd, OnOk, refl, sym, ap, ◌∙◌, subst, append_assoc, append-nil}
-use Rattle.std.proofs.lemmas.List.{take-append-drop}
+use Rattle.std.proofs.lemmas.List.{take-append-drop, same_from_push}
 use Rattle.std.specs.Io.KnownBytes.{Appends, Keeps}
 use Rattle.std.proofs.KnownBytes.{Appends-nil, Appends-trans, Appends-kept}
 use Rattle.std.proofs.Math.Bool.{or-false, or-true}
@@ -17,7 +17,7 @@ use Rattle.command_shell.specs.declared.ending.Stop.{Stop}
 use Rattle.command_shell.specs.declared.ending.Stop.TheVariants as stops
 use Rattle.cqa_session.specs.State.{State}
 use Rattle.cqa_session.specs.Machine.{Step}
-use Rattle.cqa_session.specs.Runs.{Run, Closes, CutShort, text_of, has_refusal}
+use Rattle.cqa_session.specs.Runs.{Run, Closes, CutShort, ReachesLast, text_of, has_refusal}
 use Rattle.command_shell.specs.Parts.{AnswerRow, ReplyRow, CloseRow, ProgressRow}
 use Rattle.command_shell.specs.Taking.{Takes, HandsAnswers}
 
@@ -41,6 +41,31 @@ text_of-append (x ∷ xs) ys = ap (λ l. reply_text x ++ l) (text_of-append xs y
 
 pub text_of-push : (xs : List Reply) (y : Reply) → text_of xs ++ reply_text y ≡ text_of (xs ++ y ∷ [])
 text_of-push xs y = ap (λ l. text_of xs ++ l) (sym (append-nil (reply_text y))) ∙ sym (text_of-append xs (y ∷ []))
+
+-- ---- all replies but the last one
+
+pub all_written : (replies : List Reply) → ReachesLast replies (text_of replies)
+all_written replies early reply is = (reply_text reply, ap text_of is ∙ sym (text_of-push early reply))
+
+last_begun : (xs : List Reply) (y : Reply) (front : List ℕ) → ReachesLast (xs ++ y ∷ []) (text_of xs ++ front)
+last_begun xs y front early reply is = (front, ap (λ l. text_of l ++ front) (same_from_push xs early y reply is).0)
+
+last_unwritten : (xs : List Reply) (y : Reply) → ReachesLast (xs ++ y ∷ []) (text_of xs)
+last_unwritten xs y early reply is = ([], ap text_of (same_from_push xs early y reply is).0 ∙ sym (append-nil (text_of early)))
+
+-- the end adds no reply
+no_end : {replies : List Reply} {written : List ℕ} → ReachesLast replies written → ReachesLast (replies ++ []) written
+no_end {replies = replies} late early reply is = late early reply (sym (append-nil replies) ∙ is)
+
+-- replies were written whole before others
+pub after_whole : (before after : List Reply) (written : List ℕ) → ReachesLast after written → ReachesLast (before ++ after) (text_of before ++ written)
+after_whole [] after written late early reply is = late early reply is
+after_whole (b ∷ before) after written late [] reply is = (text_of (b ∷ before) ++ written, refl)
+after_whole (b ∷ before) after written late (e ∷ early) reply is =
+    let rest : before ++ after ≡ early ++ reply ∷ [] = cc in
+    let first : b ≡ e = cc in
+    let k = after_whole before after written late early reply rest in
+    (k.0, append_assoc (reply_text b) (text_of before) written ∙ ap (λ l. reply_text b ++ l) k.1 ∙ sym (append_assoc (reply_text b) (text_of early) k.0) ∙ ap (λ r. (reply_text r ++ text_of early) ++ k.0) first)
 
 or_assoc : (a b c : Bool) → (a || (b || c)) ≡ ((a || b) || c)
 or_assoc true b c = refl
@@ -134,6 +159,7 @@ module _ {T : Type 0} {took : T → List ℕ → Reply → T → Type 0} {t_old 
         run = subst (Run old s.statements s.replies) (sym same) s.run;
         tail = inl refl;
         written_is = refl;
+        late = no_end (all_written s.replies);
       }
       | inr step ↦ record {
         ended = ended;
@@ -147,6 +173,7 @@ module _ {T : Type 0} {took : T → List ℕ → Reply → T → Type 0} {t_old 
         run = Run-push old s.statements s.replies now (statement_at rest text block) step.0 new s.run step.1;
         tail = inl refl;
         written_is = append-nil (text_of (s.replies ++ step.0 ∷ [])) ∙ sym (text_of-push s.replies step.0);
+        late = no_end (last_unwritten s.replies step.0);
       }
     ],
   )
@@ -173,6 +200,7 @@ module _ {T : Type 0} {took : T → List ℕ → Reply → T → Type 0} {t_old 
           run = Run-push old s.statements s.replies now (statement_at rest text block) reply new s.run row.2;
           tail = inl refl;
           written_is = append-nil (text_of (s.replies ++ reply ∷ [])) ∙ parted s.replies reply n;
+          late = no_end (last_begun s.replies reply (take n (reply_text reply)));
         },
       )
 
@@ -193,8 +221,8 @@ module _ {T : Type 0} {took : T → List ℕ → Reply → T → Type 0} {t_old 
 -- what is left at the end of an input that has ended
 module _ {T : Type 0} {took : T → List ℕ → Reply → T → Type 0} {t_old t_now : T} {old : State} {input rest : List ℕ} {now : State} {refused : Bool} {held_old held_now : Option (List ℕ)} where
   last_begins : (s : SoFar took t_old t_now old input true rest now refused held_old held_now) → HasNoStatement true rest → (IsSpace rest → ⊥) → (written left : List ℕ)
-      → text_of s.replies ++ text_of (Refused Unfinished ∷ []) ≡ written ++ left → CutShort old input (true ≡ true) now written
-  last_begins s over some written left is = record {
+      → text_of s.replies ++ text_of (Refused Unfinished ∷ []) ≡ written ++ left → ReachesLast (s.replies ++ Refused Unfinished ∷ []) written → CutShort old input (true ≡ true) now written
+  last_begins s over some written left is late = record {
     ended = true;
     is_end = λ e. e;
     statements = s.statements;
@@ -206,6 +234,7 @@ module _ {T : Type 0} {took : T → List ℕ → Reply → T → Type 0} {t_old 
     run = s.run;
     tail = inr (refl, over, (some, refl, refl));
     written_is = is;
+    late = late;
   }
 
   pub close_ended : (t_new : T) (held_new : Option (List ℕ)) (result : Result Bool Stop) (rose rose_all : Type 0) → (rose → rose_all) → SoFar took t_old t_now old input true rest now refused held_old held_now → IsCut true rest cuts.Part
@@ -232,13 +261,14 @@ module _ {T : Type 0} {took : T → List ℕ → Reply → T → Type 0} {t_old 
           text_of s.replies ++ take n last,
           Appends-trans held_old held_now held_new (text_of s.replies) (take n last) s.written row.1.1,
           last_begins s cut.1 cut.0 (text_of s.replies ++ take n last) (drop n last)
-              (ap (λ l. text_of s.replies ++ l) (append-nil last ∙ sym (take-append-drop n last)) ∙ sym (append_assoc (text_of s.replies) (take n last) (drop n last))),
+              (ap (λ l. text_of s.replies ++ l) (append-nil last ∙ sym (take-append-drop n last)) ∙ sym (append_assoc (text_of s.replies) (take n last) (drop n last)))
+              (last_begun s.replies (Refused Unfinished) (take n last)),
         ),
       )
   close_ended t_new held_new (Err stops.OutOfMemory) rose rose_all up s cut row one = (
     text_of s.replies,
     Appends-kept held_old held_now held_new (text_of s.replies) s.written row,
-    last_begins s cut.1 cut.0 (text_of s.replies) (text_of (Refused Unfinished ∷ [])) refl,
+    last_begins s cut.1 cut.0 (text_of s.replies) (text_of (Refused Unfinished ∷ [])) refl (last_unwritten s.replies (Refused Unfinished)),
   )
 
 -- what is left of an input that hasn't ended gets no reply
@@ -279,7 +309,7 @@ nothing_answered t state ended = (
 )
 
 pub nothing_written : (old : State) (bytes : List ℕ) (at_end : Type 0) → CutShort old bytes at_end old []
-nothing_written old bytes at_end = record { ended = false; is_end = λ e. absurd (cc e); statements = []; rest = bytes; replies = []; last = []; more = []; begins = refl; run = refl; tail = inl refl; written_is = refl }
+nothing_written old bytes at_end = record { ended = false; is_end = λ e. absurd (cc e); statements = []; rest = bytes; replies = []; last = []; more = []; begins = refl; run = refl; tail = inl refl; written_is = refl; late = all_written [] }
 
 -- a piece found no memory
 pub unfed : {T : Type 0} (took : T → List ℕ → Reply → T → Type 0) (t : T) (result : Result Bool Stop) → IsErrAnd result (λ stop. stop ≡ stops.OutOfMemory) → (rose : Type 0) (held : Option (List ℕ)) (old : State) (bytes : List ℕ) (ended : Bool) (rest : List ℕ)

@@ -34,6 +34,7 @@ of_front bytes n at_end s = record {
   run = s.run;
   tail = elim s.tail [ inl e ↦ inl e | inr h ↦ absurd (false≢true (s.is_end h.0)) ];
   written_is = s.written_is;
+  late = s.late;
 }
 
 -- ---- how a run ends
@@ -58,6 +59,7 @@ at_its_end end s = record {
   run = s.run;
   tail = s.tail;
   written_is = s.written_is;
+  late = s.late;
 }
 
 -- words that aren't accepted
@@ -94,7 +96,7 @@ check_completed WriteFault call status is took row reads writes short = absurd (
 check_completed OutOfMemory call status is took row reads writes short = inr (inr is)
 check_completed TooLong call status is took row reads writes short = absurd (too_long call.before.left call.after.left call.came took short row.0)
 
-demo_completed : (size : ℕ) (ending : Ending) (call : Call) (status : ℕ) → status ≡ code_of ending → DemoRow size ending call → (CountsWriteFault call → ⊥) → IsCompleted status
+pub demo_completed : (size : ℕ) (ending : Ending) (call : Call) (status : ℕ) → status ≡ code_of ending → DemoRow size ending call → (CountsWriteFault call → ⊥) → IsCompleted status
 demo_completed size Answered call status is row writes = inl is
 demo_completed size WithRefusal call status is row writes = inr (inl is)
 demo_completed size BadWords call status is row writes = absurd row

@@ -11,5 +11,6 @@ mod tally;
 mod top;
 mod verdict;
 
+pub use cqa_session::Session;
 pub use proof_check::{CheckReply, check_bytes};
 pub use top::run_words;

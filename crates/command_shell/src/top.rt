@@ -1,9 +1,9 @@
 //! The top call: from words and bytes to a status.
 
-ghost use Rattle.std.specs.Prelude.{◌≡◌, ◌≤◌, ◌∷◌, [], Option, Some, MatchOption};
+ghost use Rattle.std.specs.Prelude.{◌≡◌, ◌≤◌, ◌∷◌, [], ℕ, Option, Some, MatchOption};
 ghost use Rattle.cqa_io.specs.Causes.{Rose};
 ghost use Rattle.cqa_session.specs.State.{opening, State};
-ghost use Rattle.command_shell.specs.declared.ending.Command.TheVariants.{Check as CheckWord};
+ghost use Rattle.command_shell.specs.declared.ending.Command.TheVariants.{Check as CheckWord, Demo as DemoWord};
 ghost use Rattle.command_shell.specs.Top.{code_of, StandFor, AreWordsFor, IsAskedBy, told, Ended, IsWithinLimit, IsCompleted};
 
 use crate::demo::{demo, size_of};
@@ -87,6 +87,8 @@ pub fn run_words<S: Source, K: Sink>(
     ensures row { (command : Option Command) × IsAskedBy words.now command × ((ending : Ending) × (result ≡ code_of ending) × Ended command ending (told (S.left source.old) (K.held sink.old) (S.faults source.old) (K.faults sink.old)) (told (S.left source.new) (K.held sink.new) (S.faults source.new) (K.faults sink.new)) session.old session.new) }
     // With accepted words, where no fault is counted and the source tells that its bytes are within the limit, all is answered, or memory runs out.
     ensures completed { (command : Command) → AreWordsFor words.now command → (Rose (S.faults source.old) (S.faults source.new) → ⊥) → (Rose (K.faults sink.old) (K.faults sink.new) → ⊥) → IsWithinLimit (S.left source.old) → IsCompleted result }
+    // `demo` and a size read nothing, so all is answered, or memory runs out, where no fault of writing is counted.
+    ensures demo_completed { (size : ℕ) → AreWordsFor words.now (DemoWord size) → (Rose (K.faults sink.old) (K.faults sink.new) → ⊥) → IsCompleted result }
     ensures reads { S.faults source.old ≤ S.faults source.new }
     ensures writes { K.faults sink.old ≤ K.faults sink.new }
 {

@@ -6,7 +6,7 @@ use Rattle.cqa_value.specs.declared.value.Value.{Value}
 use Rattle.cqa_model.specs.declared.schema.Schema.{Schema}
 use Rattle.cqa_model.specs.Database.{Table}
 use Rattle.table_blocks.specs.Tables.{rows_at}
-use Rattle.dump_text.specs.Dumps.{dump_text, table_text}
+use Rattle.csv_rows.specs.Dumps.{dump_text, table_text}
 
 one_more : (db : List Table) (at : ℕ) (schema : Schema) (rows : List (List Value)) → at < length db → IfSome (slice_get db at) (λ t. schema ≡ t.schema) → rows ≡ rows_at db at →
     dump_text (take (suc at) db) ≡ dump_text (take at db) ++ table_text schema rows

@@ -15,7 +15,7 @@ use Rattle.cqa_model.specs.declared.query.Query.{Query}
 use Rattle.cqa_model.specs.declared.query.RowId.{RowId}
 use Rattle.cqa_model.specs.Database.{Table}
 use Rattle.cdcl.specs.declared.outcome.Outcome.TheVariants.{Spent}
-use Rattle.repair_clauses.specs.Deciding.{IsDecided}
+use Rattle.search_answers.specs.Deciding.{IsDecided}
 use Rattle.search_answers.specs.Searching.{IsSpentFor}
 use Rattle.reply_text.specs.declared.reply.Proof.{Proof}
 use Rattle.cqa_session.specs.State.{State}

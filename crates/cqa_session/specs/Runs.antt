@@ -48,7 +48,12 @@ pub record Answers (old : State) (bytes : List ℕ) (ended : Bool) (new : State)
   pub written_is : written ≡ text_of replies
   pub refused_is : refused ≡ has_refusal replies
 
--- What was written begins the replies to the first statements of the bytes, or to all of them and the end. The state is that after these statements.
+-- all of these replies but the last one were written whole
+abbrev pub ReachesLast : List Reply → List ℕ → Type 0
+ReachesLast replies written = (early : List Reply) (reply : Reply) → replies ≡ early ++ reply ∷ [] → (front : List ℕ) × (written ≡ text_of early ++ front)
+
+-- What was written begins the replies to the first statements of the bytes, or to all of them and the end, and all of these but the last one were
+-- written whole. The state is that after these statements.
 pub record CutShort (old : State) (bytes : List ℕ) (at_end : Type 0) (new : State) (written : List ℕ) : Type 0 where
   pub ended : Bool
   pub is_end : ended ≡ true → at_end
@@ -61,3 +66,4 @@ pub record CutShort (old : State) (bytes : List ℕ) (at_end : Type 0) (new : St
   pub run : Run old statements replies new
   pub tail : (last ≡ []) ⊎ ((ended ≡ true) × HasNoStatement true rest × Closes true rest last)
   pub written_is : text_of replies ++ text_of last ≡ written ++ more
+  pub late : ReachesLast (replies ++ last) written

@@ -4,3 +4,4 @@ pub mod OneWay
 pub mod PlainRows
 mod Quoting
 mod Records
+mod Parting

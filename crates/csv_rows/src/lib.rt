@@ -1,5 +1,5 @@
 //! Rows as CSV (RFC 4180): the rows that a block of records holds, and rows written as records that are read as the
-//! same rows.
+//! same rows; and the script that makes a table with its rows, which is what `dump` answers.
 #![tactic(auto)]
 
 mod ends;
@@ -8,9 +8,11 @@ mod laws;
 mod plain;
 mod reading;
 mod record;
+mod table;
 mod writing;
 
 pub use ends::row_has_end;
 pub use laws::a_block_reads_in_one_way;
 pub use reading::read_rows;
+pub use table::append_table;
 pub use writing::{append_block, write_rows};

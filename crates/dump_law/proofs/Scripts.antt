@@ -13,7 +13,7 @@ use Rattle.cqa_model.specs.Valid.{HasNames, IsValidTable, AreValid}
 use Rattle.script_lex.specs.Scripts.{Statement}
 use Rattle.csv_rows.specs.Ends.{row_has_end, plain_rows, other_rows}
 use Rattle.csv_rows.specs.Texts.{rows_bytes}
-use Rattle.dump_text.specs.Dumps.{create_words, create_text, copy_text, insert_text, table_text, dump_text}
+use Rattle.csv_rows.specs.Dumps.{create_words, create_text, copy_text, insert_text, table_text, dump_text}
 use Rattle.reply_text.specs.declared.reply.Reply.{Reply}
 use Rattle.reply_text.specs.Texts.{is_refusal}
 use Rattle.table_blocks.specs.Tables.{table_named}

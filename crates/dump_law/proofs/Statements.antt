@@ -19,7 +19,7 @@ use Rattle.spj_syntax.specs.declared.tree.RawSchema.{RawSchema}
 use Rattle.spj_syntax.specs.declared.tree.Statement.TheVariants as statements
 use Rattle.spj_syntax.specs.Lexemes.{Lexeme, Word, Mark}
 use Rattle.spj_syntax.specs.Written.{name_tokens, literal_tokens, column_tokens, listed_tokens, each_after, row_tokens, strict_tokens, schema_tokens, statement_tokens}
-use Rattle.dump_text.specs.Dumps.{create_words}
+use Rattle.csv_rows.specs.Dumps.{create_words}
 use Rattle.dump_law.proofs.Pieces.{Stops}
 use Rattle.dump_law.proofs.Tokens.{Spelled, nothing_more, word_then, blank_then, open_then, close_then, comma_then, literal_then, list_then, word_is}
 

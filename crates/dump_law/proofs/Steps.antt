@@ -29,7 +29,7 @@ use Rattle.csv_rows.specs.Blocks.{HoldsRows}
 use Rattle.csv_rows.specs.Texts.{rows_bytes}
 use Rattle.csv_rows.proofs.Again.{rows_again}
 use Rattle.csv_rows.proofs.OneWay.{in_one_way}
-use Rattle.dump_text.specs.Dumps.{create_words}
+use Rattle.csv_rows.specs.Dumps.{create_words}
 use Rattle.reply_text.specs.declared.reply.Reply.{Reply}
 use Rattle.reply_text.specs.declared.reply.Reply.TheVariants.{Created, Copied, Inserted, Refused}
 use Rattle.reply_text.specs.Texts.{is_refusal}

@@ -23,7 +23,7 @@ use Rattle.script_lex.specs.declared.modes.Mode.TheVariants.{Outside}
 use Rattle.script_lex.specs.Bytes.{is_word_byte, is_digit}
 use Rattle.script_lex.specs.Scripts.{BeginsOutright, IsText, IsCopy}
 use Rattle.script_lex.specs.Tokens.{IsToken}
-use Rattle.dump_text.specs.Dumps.{create_words}
+use Rattle.csv_rows.specs.Dumps.{create_words}
 use Rattle.dump_law.proofs.Numbers.{is_written, few_digits, IsWritten}
 use Rattle.dump_law.proofs.Outside.{is_plain, Quiet, word_plain, letter_plain, digit_plain, mono, quiet_plain, quiet_both, quiet_words, quiet_minus, quiet_text}
 use Rattle.dump_law.proofs.Quotes.{doubled_length}

@@ -4,7 +4,7 @@ use Rattle.std.proofs.lemmas.List.{append-nil}
 use Rattle.script_lex.specs.Scripts.{IsSpace}
 use Rattle.script_lex.proofs.Statements.{at_most_one_cut}
 use Rattle.reply_text.specs.declared.reply.Reply.{Reply}
-use Rattle.dump_text.specs.Dumps.{dump_text}
+use Rattle.csv_rows.specs.Dumps.{dump_text}
 use Rattle.cqa_session.specs.State.{State}
 use Rattle.cqa_session.specs.Runs.{Run, Closes, has_refusal}
 use Rattle.dump_law.specs.Again.{DumpRunsAgain, DumpAnswersAgain}

@@ -1,7 +1,7 @@
 -- A dump that is run again.
 use Rattle.std.specs.Prelude.{◌≡◌, ℕ, Bool, true, false, List, []}
 use Rattle.reply_text.specs.declared.reply.Reply.{Reply}
-use Rattle.dump_text.specs.Dumps.{dump_text}
+use Rattle.csv_rows.specs.Dumps.{dump_text}
 use Rattle.cqa_session.specs.State.{State, IsState}
 use Rattle.cqa_session.specs.Runs.{RunsOver, has_refusal, Answers}
 

@@ -1,23 +1,17 @@
 -- What the blocks so far give has come.
-use Rattle.std.proofs.Common.{◌≡◌, ◌<◌, ◌≤◌, ◌+◌, ◌⊎◌, ℕ, inl, inr, List, [], ◌∷◌, length, sym, subst, arith, Contains}
+use Rattle.std.proofs.Common.{◌≡◌, ◌<◌, ◌≤◌, ◌+◌, ◌⊎◌, ℕ, inl, inr, None, List, length, sym, subst, arith, Contains}
 use native.Mathlib.Decide.{dec_lt}
-use Rattle.std.specs.Option.{option_copied}
-use Rattle.std.proofs.lemmas.List.Elements.{Contains-get_or}
 use Rattle.cqa_value.specs.declared.value.Value.{Value}
-use Rattle.cqa_model.specs.declared.query.Query.{Query}
 use Rattle.cqa_model.specs.Repairs.{SharesKey}
-use Rattle.cqa_model.specs.Query.{atom_key, rows_of}
-use Rattle.cqa_model.specs.Plan.{Placed}
 use Rattle.cqa_model.specs.OneTable.{SomeBlockFits}
-use Rattle.cqa_model.proofs.Repairs.{shares-self}
-use Rattle.plan_rows.specs.Knowing.{HasKnown}
-use Rattle.fo_plan.specs.Enough.{IsEnough, row_of, IsFirst, IsPassed, IsNextBlock}
-use Rattle.plan_rows.specs.Fitting.{Suits}
-use Rattle.fo_plan.specs.Holding.{RowHolds}
-use Rattle.fo_plan.specs.Giving.{IsAnswer, Gives, IsAdded}
+use Rattle.plan_rows.specs.Over.{query_of, rows_before}
+use Rattle.plan_rows.specs.declared.steps.Step.{Step}
+use Rattle.fo_plan.specs.Enough.{row_of, IsFirst, WholeHas, IsPassed, AreSought, AreReached, IsNextBlock}
+use Rattle.fo_plan.specs.Holding.{HoldsWith}
+use Rattle.fo_plan.specs.Giving.{IsAnswer, StepGives, IsAdded}
 use Rattle.fo_plan.specs.declared.enough.Blocks.{Blocks}
-use Rattle.fo_plan.proofs.Passing.{WholeHas, some-at, at-some, found-in-table}
-use Rattle.plan_rows.proofs.Suiting.{suits-from}
+use Rattle.fo_plan.proofs.Passing.{some-at, at-some}
+use Rattle.fo_plan.proofs.Reached.{given-reached}
 use Rattle.fo_plan.proofs.Gathered.{adds-same}
 
 -- a row has a property, and with it each row of the block that begins at a place
@@ -30,11 +24,10 @@ pub record AddedBefore (s : Blocks) (Q : List Value → Type 0) (R : List Value 
   pub given : (row : List Value) → Contains new row → Contains old row ⊎ ((at : ℕ) × GivesFrom s Q R at row)
   pub all : (row : List Value) (at : ℕ) → at < place → GivesFrom s Q R at row → Contains new row
 
-module _ (s : Blocks) (Q : List Value → Type 0) (R : List Value → List Value → Type 0) (known : (row y : List Value) → R row y → HasKnown (option_copied s.index) s.values y) where
+module _ (s : Blocks) (Q : List Value → Type 0) (R : List Value → List Value → Type 0) (sought : (row : List Value) → AreSought s (R row)) where
   -- what is passed gives nothing
   passed : (from to at : ℕ) (row : List Value) → IsPassed s from to → from ≤ at → at < to → GivesFrom s Q R at row → ⊥
-  passed from to at row h low high g =
-      h at low high g.1 (known row (row_of s.rows at) (g.3 (row_of s.rows at) (Contains-get_or s.rows at [] g.0) (shares-self s.key.now (row_of s.rows at))))
+  passed from to at row h low high g = h at low high g.1 (sought row at g.0 g.1 g.3)
 
   pub added-starts : (start : ℕ) (old : List (List Value)) → IsPassed s 0 start → AddedBefore s Q R start old old
   added-starts start old h = record {
@@ -94,11 +87,9 @@ module _ (s : Blocks) (Q : List Value → Type 0) (R : List Value → List Value
               early (no a) = absurd (passed from (length s.rows) b.0 row n (omega (arith, a)) b.1 g)
 
 -- what the blocks give that are gone over is what the rows taken and the plan give
-pub gives-table : (q : Query) (tables : List (List (List Value))) (taken : List Placed) (F : ℕ) (plan : List ℕ) (s : Blocks) → s.key.now ≡ atom_key q F → IsEnough (atom_key q F) (rows_of q tables F) (Suits q taken F) s.rows →
-    (old new : List (List Value)) → IsAdded (λ row. IsAnswer q taken row × SomeBlockFits s.key.now s.rows (RowHolds q tables row taken F plan)) old new → IsAdded (Gives q tables taken (F ∷ plan)) old new
-gives-table q tables taken F plan s e h old new =
-    adds-same (λ row. IsAnswer q taken row × SomeBlockFits s.key.now s.rows (RowHolds q tables row taken F plan)) (Gives q tables taken (F ∷ plan))
-    (λ row.
-    let t = found-in-table s (atom_key q F) (rows_of q tables F) (Suits q taken F) e h (RowHolds q tables row taken F plan) (λ y r. suits-from q taken F y row r.0) in
-    ((λ p. (p.0, t.0 p.1)), (λ p. (p.0, t.1 p.1))))
+pub gives-table : (step : Step) (s : Blocks) → AreReached step None s → (old new : List (List Value)) → IsAdded (λ row. IsAnswer (query_of step) (rows_before step) row × SomeBlockFits s.key.now s.rows (HoldsWith step row)) old new →
+    IsAdded (StepGives step) old new
+gives-table step s h old new =
+    adds-same (λ row. IsAnswer (query_of step) (rows_before step) row × SomeBlockFits s.key.now s.rows (HoldsWith step row)) (StepGives step)
+    (λ row. let t = (given-reached step s row h).1 in ((λ p. (p.0, t.0 p.1)), (λ p. (p.0, t.1 p.1))))
     old new

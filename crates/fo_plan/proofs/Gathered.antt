@@ -1,5 +1,5 @@
 -- What the rows taken and the rest of a plan give, block by block.
-use Rattle.std.proofs.Common.{◌≡◌, ◌≢◌, ℕ, ◌<◌, ◌≤◌, ◌+◌, ◌-◌, ◌⊎◌, ◌↔◌, inl, inr, Bool, IsTrue, IsFalse, true, false, cond, List, [], ◌∷◌, ◌++◌, length, get_or, map, take, drop, refl, ap, sym, ◌∙◌, subst, arith, Contains, ◌==◌, below_more, Result, Ok, Err, OnOk}
+use Rattle.std.proofs.Common.{◌≡◌, ◌≢◌, ℕ, ◌<◌, ◌≤◌, ◌⊎◌, ◌↔◌, inl, inr, Bool, IsTrue, false, List, [], ◌∷◌, ◌++◌, length, get_or, map, drop, refl, ap, sym, ◌∙◌, subst, arith, Contains, Result, Ok, Err, OnOk}
 use Rattle.std.proofs.lemmas.Bool.{false≢true}
 use Rattle.std.proofs.lemmas.List.{length-map, get_or-map}
 use Rattle.std.proofs.lemmas.List.Elements.{All-contains, Contains-get_or, Contains-append_left, Contains-append_right, Contains-append_cases}
@@ -14,8 +14,9 @@ use Rattle.cqa_model.proofs.Classic.{mem-head, mem-tail, mem-nil, mem-cases}
 use Rattle.cqa_model.proofs.Exactness.{map_is}
 use Rattle.plan_rows.specs.Taking.{taken_value, AreAgreed}
 use Rattle.plan_rows.specs.Fitting.{Suits, GivesAt}
-use Rattle.fo_plan.specs.Holding.{RowHolds, AllHold}
 use Rattle.plan_rows.specs.Left.{IsSettled}
+use Rattle.plan_rows.specs.Links.{RowHolds}
+use Rattle.fo_plan.specs.Holding.{AllHold}
 use Rattle.fo_plan.specs.Giving.{AreAll, IsAnswer, Gives, BlockGives, IsAdded}
 use Rattle.plan_rows.proofs.Sharing.{value-taken}
 use Rattle.plan_rows.proofs.Suiting.{of_all, fits-of, suits-from, gives-from}
@@ -182,17 +183,11 @@ kept-ends P proposed left old new h none row = (
   ],
 )
 
--- one row was added, or not, as it has a property or not
-pub one-added : (P : List Value → Type 0) (old new : List (List Value)) (row : List Value) → P row → new ≡ old ++ row ∷ [] → IsAdded (λ r. (r ≡ row) × P r) old new
-one-added P old new row p is r = (
-  (λ m. elim (Contains-append_cases old (row ∷ []) r (subst (λ z. Contains z r) is m)) [
-    | inl k ↦ inl k
-    | inr k ↦ elim (mem-cases r row [] k) [ inl e ↦ inr (sym e, subst P e p) | inr n ↦ absurd (mem-nil r n) ]
-  ]),
-  (λ s. subst (λ z. Contains z r) (sym is) (elim s [
-    | inl k ↦ Contains-append_left old (row ∷ []) r k
-    | inr k ↦ Contains-append_right old (row ∷ []) r (subst (Contains (row ∷ [])) (sym k.0) (mem-head row []))
-  ])),
+-- one row was put in, or not, as it has a property or not
+pub one-put : (P : List Value → Type 0) (old new : List (List Value)) (row : List Value) → P row → ((other : List Value) → Contains new other ↔ (Contains old other ⊎ (row ≡ other))) → IsAdded (λ r. (r ≡ row) × P r) old new
+one-put P old new row p put r = (
+  (λ m. elim ((put r).0 m) [ inl k ↦ inl k | inr e ↦ inr (sym e, subst P e p) ]),
+  (λ s. (put r).1 (elim s [ inl k ↦ inl k | inr k ↦ inr (sym k.0) ])),
 )
 
 pub none-added : (P : List Value → Type 0) (old : List (List Value)) (row : List Value) → (P row → ⊥) → IsAdded (λ r. (r ≡ row) × P r) old old
@@ -209,6 +204,18 @@ add-block G A P old none part new e add step same row = (
     part-of row (inl m) = absurd (mem-nil row (subst (λ z. Contains z row) e m))
     part-of row (inr g) = g
 
+-- nothing was given where nothing was added to no rows
+pub none-given : (P : List Value → Type 0) (none new : List (List Value)) → IsAdded P none new → new ≡ [] → (row : List Value) → P row → ⊥
+none-given P none new a e row p = mem-nil row (subst (λ z. Contains z row) e ((a row).1 (inr p)))
+
+-- what was added to no rows was moved
+pub moved-on : (P : List Value → Type 0) (none part old new : List (List Value)) → none ≡ [] → IsAdded P none part → IsAdded (Contains part) old new → IsAdded P old new
+moved-on P none part old new e a moved = adds-same (Contains part) P (λ row. ((λ m. only row ((a row).0 m)), (λ p. (a row).1 (inr p)))) old new moved
+  where
+    only : (row : List Value) → Contains none row ⊎ P row → P row
+    only row (inl m) = absurd (mem-nil row (subst (λ z. Contains z row) e m))
+    only row (inr p) = p
+
 -- a block of one row
 pub add-one : (q : Query) (tables : List (List (List Value))) (taken : List Placed) (F : ℕ) (plan : List ℕ) (first : List Value) (block : List (List Value)) → block ≡ first ∷ [] → Suits q taken F first → (old new : List (List Value)) →
     IsAdded (Gives q tables (record { atom = F; row = first } ∷ taken) plan) old new → IsAdded (BlockGives q tables taken F plan block) old new
@@ -219,18 +226,12 @@ add-one q tables taken F plan first block is s old new =
       (λ b. ((first-gives q tables taken F plan first [] block is s row).1 b).0),
     )) old new
 
--- the answer of the rows taken was added, where the rest of the plan holds
+-- the answer of the rows taken was put in, where the rest of the plan holds
 pub add-answer : (q : Query) (tables : List (List (List Value))) (taken : List Placed) (plan : List ℕ) → AreAgreed q taken → AreAll q taken plan → IsSettled q plan → ((row : List Value) → PlanHolds q tables row taken plan) → (old new : List (List Value)) (answer : List Value) →
-    answer ≡ map (taken_value taken) q.answer → new ≡ old ++ answer ∷ [] → IsAdded (Gives q tables taken plan) old new
-add-answer q tables taken plan agreed all settled holds old new answer ea en row = (
-  (λ m. elim (Contains-append_cases old (answer ∷ []) row (subst (λ z. Contains z row) en m)) [
-    | inl k ↦ inl k
-    | inr k ↦ elim (mem-cases row answer [] k) [ inl e ↦ inr (is-answer q taken agreed (settled-columns q taken plan all settled) row (sym ea ∙ e), holds row) | inr n ↦ absurd (mem-nil row n) ]
-  ]),
-  (λ s. subst (λ z. Contains z row) (sym en) (elim s [
-    | inl k ↦ Contains-append_left old (answer ∷ []) row k
-    | inr g ↦ Contains-append_right old (answer ∷ []) row (subst (λ z. Contains (answer ∷ []) z) (ea ∙ answer-of q taken agreed (settled-columns q taken plan all settled) row g.0) (mem-head answer []))
-  ])),
+    answer ≡ map (taken_value taken) q.answer → ((other : List Value) → Contains new other ↔ (Contains old other ⊎ (answer ≡ other))) → IsAdded (Gives q tables taken plan) old new
+add-answer q tables taken plan agreed all settled holds old new answer ea put row = (
+  (λ m. elim ((put row).0 m) [ inl k ↦ inl k | inr e ↦ inr (is-answer q taken agreed (settled-columns q taken plan all settled) row (sym ea ∙ e), holds row) ]),
+  (λ s. (put row).1 (elim s [ inl k ↦ inl k | inr g ↦ inr (ea ∙ answer-of q taken agreed (settled-columns q taken plan all settled) row g.0) ])),
 )
 
 pub no-plan : (plan : List ℕ) → length plan < 1 → plan ≡ []
@@ -257,7 +258,3 @@ gives-all q tables plan found h row = (
 pub on-ok : {A : Type 0} {P Q : Type 0} (r : Result A NoMemory) → (P → Q) → OnOk r P → OnOk r Q
 on-ok (Ok a) f p = f p
 on-ok (Err e) f p = tt
-
-pub no-rows : (rows : List (List Value)) → length rows ≡ 0 → rows ≡ []
-no-rows [] e = refl
-no-rows (x ∷ rows) e = absurd (omega (arith, e))

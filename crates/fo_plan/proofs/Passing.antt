@@ -1,7 +1,6 @@
 -- Blocks by the places of their first rows: what holds of those that were passed.
 use Rattle.std.proofs.Common.{◌≡◌, Bool, IsTrue, true, false, not, ◌↔◌, ◌<◌, ◌≤◌, ◌+◌, ◌-◌, ℕ, zero, suc, List, [], length, refl, sym, ◌∙◌, subst, arith, Contains}
 use native.Mathlib.Decide.{dec_lt, ℕ_discrete}
-use Rattle.std.specs.Option.{option_copied}
 use Rattle.std.specs.List.Sorted.{IsStrictlySortedBy}
 use Rattle.std.proofs.lemmas.Bool.{false≢true}
 use Rattle.std.proofs.lemmas.List.{get_or_default}
@@ -12,8 +11,8 @@ use Rattle.cqa_model.specs.OneTable.{SomeBlockFits}
 use Rattle.cqa_model.specs.Database.{block_cmp}
 use Rattle.cqa_model.proofs.BlockOrder.{grouped}
 use Rattle.cqa_model.proofs.Repairs.{shares-self, shares-sym, shares-trans, dec_shares}
-use Rattle.plan_rows.specs.Knowing.{HasKnown}
-use Rattle.fo_plan.specs.Enough.{IsEnough, row_of, IsFirst, IsPassed, IsNextBlock}
+use Rattle.plan_rows.specs.Wanted.{IsWanted}
+use Rattle.fo_plan.specs.Enough.{IsEnough, row_of, IsFirst, WholeHas, IsPassed, AreSought, IsNextBlock}
 use Rattle.fo_plan.specs.declared.enough.Blocks.{Blocks}
 
 -- what is enough of a table has a block with a property exactly where the table has one, if rows with it fit
@@ -21,14 +20,10 @@ pub part-some : (key : List ℕ) (rows part : List (List Value)) (fits : List Va
     SomeBlockFits key part P ↔ SomeBlockFits key rows P
 part-some key rows part fits h P strong = (
   (λ s. (s.0, h.stored s.0 s.1, λ y m t. s.2 y (h.whole s.0 y s.1 m t) t)),
-  (λ s. (s.0, h.enough s.0 s.1 (λ y m t. strong y (s.2 y m t)), λ y m t. s.2 y (h.stored y m) t)),
+  (λ s. (s.0, h.enough s.0 s.1 (strong s.0 (s.2 s.0 s.1 (shares-self key s.0))), λ y m t. s.2 y (h.stored y m) t)),
 )
 
 module _ (key : List ℕ) (rows : List (List Value)) where
-  -- all rows of the block that begins at a place have a property
-  abbrev pub WholeHas : (List Value → Type 0) → ℕ → Type 0
-  WholeHas P at = (y : List Value) → Contains rows y → SharesKey key (row_of rows at) y → P y
-
   -- the block of a row begins somewhere
   first-place : (d n i : ℕ) → n + d ≡ i → ((j : ℕ) → j < n → SharesKey key (row_of rows j) (row_of rows i) → ⊥) → (at : ℕ) × (at ≤ i) × IsFirst key rows at × SharesKey key (row_of rows at) (row_of rows i)
   first-place zero n i e none =
@@ -46,14 +41,14 @@ module _ (key : List ℕ) (rows : List (List Value)) where
       go (yes s) further = (n, omega (arith, e), (λ j l t. none j l (shares-trans key (row_of rows j) (row_of rows n) (row_of rows i) t s)), s)
       go (no f) further = further (λ j l s. before f j l s (ℕ_discrete j n))
 
-  pub some-at : (P : List Value → Type 0) → SomeBlockFits key rows P → (at : ℕ) × (at < length rows) × IsFirst key rows at × WholeHas P at
+  pub some-at : (P : List Value → Type 0) → SomeBlockFits key rows P → (at : ℕ) × (at < length rows) × IsFirst key rows at × WholeHas key rows P at
   some-at P (x, (i, li, ei), f) =
       let is : row_of rows i ≡ x = get_or_default rows i [] x li ∙ ei in
       let b = first-place i 0 i (omega arith) (λ j l s. absurd (omega (arith, l))) in
       let low = b.1 in
       (b.0, omega (arith, low, li), b.2, λ y m s. f y m (shares-trans key x (row_of rows b.0) y (shares-sym key (row_of rows b.0) x (subst (SharesKey key (row_of rows b.0)) is b.3)) s))
 
-  pub at-some : (P : List Value → Type 0) (at : ℕ) → at < length rows → WholeHas P at → SomeBlockFits key rows P
+  pub at-some : (P : List Value → Type 0) (at : ℕ) → at < length rows → WholeHas key rows P at → SomeBlockFits key rows P
   at-some P at l h = (row_of rows at, Contains-get_or rows at [] l, h)
 
 module _ (s : Blocks) where
@@ -61,11 +56,10 @@ module _ (s : Blocks) where
   abbrev pub NoneBefore : (List Value → Type 0) → ℕ → Type 0
   NoneBefore P place = (at : ℕ) → at < place → at < length s.rows → IsFirst s.key.now s.rows at → WholeHas s.key.now s.rows P at → ⊥
 
-  module _ (P : List Value → Type 0) (known : (y : List Value) → P y → HasKnown (option_copied s.index) s.values y) where
+  module _ (P : List Value → Type 0) (sought : AreSought s P) where
     -- what is passed hasn't the property
     passed-has : (from to at : ℕ) → IsPassed s from to → from ≤ at → at < to → at < length s.rows → IsFirst s.key.now s.rows at → WholeHas s.key.now s.rows P at → ⊥
-    passed-has from to at h low high there first all =
-        h at low high first (known (row_of s.rows at) (all (row_of s.rows at) (Contains-get_or s.rows at [] there) (shares-self s.key.now (row_of s.rows at))))
+    passed-has from to at h low high there first all = h at low high first (sought at there first all)
 
     pub none-starts : (start : ℕ) → IsPassed s 0 start → NoneBefore P start
     none-starts start h at l there first all = passed-has 0 start at h (omega arith) l there first all
@@ -94,10 +88,10 @@ module _ (s : Blocks) where
   pub passed-on : (from at on : ℕ) → IsPassed s from at → (IsFirst s.key.now s.rows at → ⊥) → IsPassed s (at + 1) on → IsPassed s from on
   passed-on from at on before off behind k low high = go (dec_lt k at) (dec_lt at k)
     where
-      go : Dec (k < at) → Dec (at < k) → IsFirst s.key.now s.rows k → HasKnown (option_copied s.index) s.values (row_of s.rows k) → ⊥
+      go : Dec (k < at) → Dec (at < k) → IsFirst s.key.now s.rows k → IsWanted s.wanted k → ⊥
       go (yes a) b = before k low a
       go (no a) (yes b) = behind k (omega (arith, b)) high
-      go (no a) (no b) = λ first known. off (subst (IsFirst s.key.now s.rows) (let e : k ≡ at = omega (arith, a, b) in e) first)
+      go (no a) (no b) = λ first wanted. off (subst (IsFirst s.key.now s.rows) (let e : k ≡ at = omega (arith, a, b) in e) first)
 
   -- what is passed from a place on is passed from a later one on
   pub passed-later : (before from to : ℕ) → before < from → IsPassed s (before + 1) to → IsPassed s from to
@@ -138,7 +132,7 @@ module _ (key : List ℕ) (rows : List (List Value)) (at : ℕ) where
       go true k = ((λ e. absurd (false≢true e)), (λ leads. absurd (begins-apart some leads (apart (k.0 refl)))))
       go false k = ((λ e. first-begins sorted there (λ s. false≢true (k.1 (shared s)))), (λ leads. refl))
 
--- the blocks that are gone over have a property exactly where the table has it
+-- the blocks that are gone over have a property exactly where the table has it, if rows with it fit
 pub found-in-table : (s : Blocks) (key : List ℕ) (rows : List (List Value)) (fits : List Value → Type 0) → s.key.now ≡ key → IsEnough key rows fits s.rows → (P : List Value → Type 0) → ((y : List Value) → P y → fits y) →
     SomeBlockFits s.key.now s.rows P ↔ SomeBlockFits key rows P
 found-in-table s key rows fits e h P strong = subst (λ k. SomeBlockFits k s.rows P ↔ SomeBlockFits key rows P) (sym e) (part-some key rows s.rows fits h P strong)

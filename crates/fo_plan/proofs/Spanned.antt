@@ -12,8 +12,6 @@ use Rattle.cqa_model.specs.declared.query.Query.{Query}
 use Rattle.cqa_model.specs.Database.{Table, stored, key_of, block_cmp}
 use Rattle.cqa_model.specs.Query.{atom_at, atom_key, rows_of, FitsDatabase}
 use Rattle.cqa_model.specs.Repairs.{SharesKey}
-use Rattle.cqa_model.specs.Blocks.{AreBlocks}
-use Rattle.cqa_model.proofs.Repairs.{shares-self}
 use Rattle.cqa_model.proofs.Classic.{mem-head, mem-tail}
 use Rattle.table_blocks.specs.Spans.{first_key, IsSpan}
 use Rattle.table_blocks.specs.Tables.{rows_at, key_at}
@@ -61,7 +59,7 @@ same-first_key key probe x y s = go (length probe) key s
         let es : key_of (take n ks) x ≡ key_of (take n ks) y = go n ks (λ p m. h p (mem-tail p k ks m)) in
         cc
 
--- a block all of whose rows fit lies in the span, where fitting tells the first key values
+-- a row that fits lies in the span, where fitting tells the first key values
 module _ (key : List ℕ) (rows : List (List Value)) (probe : List Value) (start : ℕ) (span : List (List Value)) (s : IsSpan key rows probe start span) where
   in-rows : (x : List Value) → Contains span x → Contains rows x
   in-rows x m = subst (λ xs. Contains xs x) (sym s.parts) (Contains-append_right s.before (span ++ s.behind) x (Contains-append_left span s.behind x m))
@@ -79,7 +77,7 @@ module _ (key : List ℕ) (rows : List (List Value)) (probe : List Value) (start
   span-enough fits told = record {
     stored = in-rows;
     whole = λ x y m n t. in-span y n (sym (same-first_key key probe x y t) ∙ All-contains (λ row. first_key key probe row ≡ probe) span x s.these m);
-    enough = λ x m f. in-span x m (told x (f x m (shares-self key x)));
+    enough = λ x m f. in-span x m (told x f);
   }
 
 -- the whole table is enough

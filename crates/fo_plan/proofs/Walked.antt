@@ -1,7 +1,6 @@
 -- Blocks that are gone over one after the other, in rows in block order.
-use Rattle.std.proofs.Common.{◌≡◌, ◌↔◌, ◌<◌, ◌≤◌, ◌+◌, ◌-◌, ℕ, suc, Bool, IsTrue, false, Option, None, Some, IsSome, IfSome, List, [], ◌∷◌, length, take, drop, refl, sym, ap, ◌∙◌, subst, arith, Contains}
+use Rattle.std.proofs.Common.{◌≡◌, ◌↔◌, ◌<◌, ◌≤◌, ◌+◌, ◌-◌, ℕ, suc, Bool, IsTrue, false, Option, None, Some, IfSome, List, [], ◌∷◌, length, take, drop, refl, sym, ap, ◌∙◌, subst, arith, Contains}
 use native.Mathlib.Decide.{dec_lt}
-use Rattle.std.specs.Option.{option_copied}
 use Rattle.std.specs.List.Sorted.{IsStrictlySortedBy}
 use Rattle.std.proofs.lemmas.Bool.{false≢true}
 use Rattle.std.proofs.lemmas.List.{drop-drop, length-drop, length-take-le, get_or_default, get_or-drop, get_or-take}
@@ -11,7 +10,9 @@ use Rattle.cqa_model.specs.Repairs.{SharesKey}
 use Rattle.cqa_model.specs.Database.{block_cmp}
 use Rattle.cqa_model.proofs.BlockOrder.{grouped}
 use Rattle.cqa_model.proofs.Repairs.{shares-sym, shares-trans}
-use Rattle.plan_rows.specs.Knowing.{HasKnown}
+use Rattle.plan_rows.specs.Wanted.{IsWanted, NoneWanted}
+use Rattle.plan_rows.specs.declared.wanted.Wanted.{Wanted}
+use Rattle.plan_rows.specs.declared.wanted.Wanted.TheVariants.{All}
 use Rattle.fo_plan.specs.Enough.{row_of, IsFirst, IsBlockAt, IsPassed, IsNextBlock, IsSpot}
 use Rattle.fo_plan.specs.declared.enough.Blocks.{Blocks}
 use Rattle.fo_plan.specs.declared.enough.Spot.{Spot}
@@ -103,7 +104,7 @@ walked-next s sorted at leads rest is end behind within ends block e = record {
   low = omega arith;
   high = omega (arith, behind);
   before = λ k low high. absurd (omega (arith, low, high));
-  behind = λ k low high first known. first at (omega (arith, low)) (below-shares s.key.now s.rows sorted at leads rest is end behind within ends k (omega (arith, low)) high);
+  behind = λ k low high first wanted. first at (omega (arith, low)) (below-shares s.key.now s.rows sorted at leads rest is end behind within ends k (omega (arith, low)) high);
 }
 
 -- what is the next block from a place on is so from an earlier one, if nothing is left out between
@@ -117,17 +118,17 @@ found-next s from at on block low passed n = record {
   behind = n.behind;
 }
   where
-    go : (k : ℕ) → from ≤ k → k < n.at → Dec (k < at) → IsFirst s.key.now s.rows k → HasKnown (option_copied s.index) s.values (row_of s.rows k) → ⊥
+    go : (k : ℕ) → from ≤ k → k < n.at → Dec (k < at) → IsFirst s.key.now s.rows k → IsWanted s.wanted k → ⊥
     go k l h (yes b) = passed k l b
     go k l h (no b) = n.before k (omega (arith, b)) h
 
 -- a place behind a block
 pub spot-behind : (s : Blocks) (from : ℕ) (spot : Spot) (block : List (List Value)) → IsNextBlock s from block spot.place → spot.place ≤ length s.rows → IfSome spot.last (λ at. at < spot.place) →
-    (s.index ≡ None → spot.rest ≡ drop spot.place s.rows) → (s.index ≡ None → spot.place < length s.rows → IsFirst s.key.now s.rows spot.place) → IsSpot s spot
+    spot.rest ≡ drop spot.place s.rows → (spot.place < length s.rows → IsFirst s.key.now s.rows spot.place) → IsSpot s spot
 spot-behind s from spot block n within last rest begins = record {
   last = go spot.last last;
   rest = rest;
-  begins = begins;
+  begins = λ e. begins;
 }
   where
     go : (o : Option ℕ) → IfSome o (λ at. at < spot.place) → IfSome o (λ at. (at < spot.place) × (spot.place ≤ length s.rows))
@@ -144,6 +145,10 @@ pub rest-there : (rows : List (List Value)) (at : ℕ) (rest : List (List Value)
 rest-there rows at [] t is says off = absurd (false≢true (sym off ∙ says.1 refl))
 rest-there rows at (x ∷ rest) t is says off = let l = length-drop at rows in let e : suc (length rest) ≡ length (drop at rows) = ap length is in omega (arith, l, e)
 
-pub not-none : {A : Type 0} {T : Type 0} (o : Option A) → IsSome o → o ≡ None → T
-not-none None s e = absurd (false≢true s)
-not-none (Some a) s e = absurd (cc e)
+-- where all are looked for, the first place is 0
+pub starts-all : (w : Wanted) (place : ℕ) → w ≡ All → NoneWanted w 0 place → place ≡ 0
+starts-all w place e none = go (dec_lt 0 place)
+  where
+    go : Dec (0 < place) → place ≡ 0
+    go (yes l) = absurd (none 0 (omega arith) l (subst (λ v. IsWanted v 0) (sym e) tt))
+    go (no l) = omega (arith, l)

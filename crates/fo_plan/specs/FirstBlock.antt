@@ -5,7 +5,7 @@ use Rattle.cqa_model.specs.declared.query.Query.{Query}
 use Rattle.cqa_model.specs.Database.{Table, stored}
 use Rattle.cqa_model.specs.Blocks.{AreBlocks}
 use Rattle.cqa_model.specs.Query.{atom_key, rows_of}
-use Rattle.fo_plan.specs.Holding.{RowHolds}
+use Rattle.plan_rows.specs.Links.{RowHolds}
 
 -- the first block, in block order, all of whose rows have a property
 pub record IsFirstWith (key : List ℕ) (rows : List (List Value)) (P : List Value → Type 0) (block : List (List Value)) : Type 0 where

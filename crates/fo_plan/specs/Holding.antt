@@ -1,18 +1,16 @@
 -- What it is that a plan holds, atom by atom.
-use Rattle.std.specs.Prelude.{ℕ, List, ◌∷◌, Contains}
+use Rattle.std.specs.Prelude.{ℕ, List, Contains}
 use Rattle.cqa_value.specs.declared.value.Value.{Value}
 use Rattle.cqa_model.specs.declared.query.Query.{Query}
 use Rattle.cqa_model.specs.Database.{stored}
-use Rattle.cqa_model.specs.Plan.{Placed, Fits, PlanHolds}
+use Rattle.cqa_model.specs.Plan.{Placed, PlanHolds}
+use Rattle.plan_rows.specs.Links.{RowHolds}
 use Rattle.plan_rows.specs.Taking.{placed}
 use Rattle.plan_rows.specs.Over.{query_of, tables_of, rows_before}
 use Rattle.plan_rows.specs.declared.steps.Rest.{Rest}
 use Rattle.plan_rows.specs.declared.steps.Step.{Step}
 
--- a row of F fits, and the rest of the plan holds once it is taken
-abbrev pub RowHolds : Query → List (List (List Value)) → List Value → List Placed → ℕ → List ℕ → List Value → Type 0
-RowHolds q tables row taken F plan y = Fits q row taken F y × PlanHolds q tables row (record { atom = F; row = y } ∷ taken) plan
-
+-- with each of these rows of F the plan holds
 abbrev pub AllHold : Query → List (List (List Value)) → List Value → List Placed → ℕ → List ℕ → List (List Value) → Type 0
 AllHold q tables row taken F plan block = (y : List Value) → Contains block y → RowHolds q tables row taken F plan y
 

@@ -7,6 +7,7 @@ ghost use Rattle.cqa_model.specs.Plan.{Fits, HoldsOver};
 ghost use Rattle.row_cursor.specs.Blocks.{blocks_left};
 ghost use Rattle.row_cursor.specs.Spots.{ArePaths};
 ghost use Rattle.plan_rows.specs.Left.{AreAtoms};
+ghost use Rattle.plan_rows.specs.Links.{AreWays};
 ghost use Rattle.plan_rows.specs.Over.{query_of, tables_of, rows_before};
 ghost use Rattle.plan_rows.specs.Underway.{IsRight};
 ghost use Rattle.fo_plan.specs.Holding.{HoldsWith};
@@ -15,9 +16,10 @@ ghost use Rattle.fo_plan.specs.FirstBlock.{AreAmong, IsFirstBlock, IsFirstWith};
 use crate::enough::told_rows;
 use crate::holding::all_hold;
 use cqa_model::{Plan, Query, variables};
-use cqa_value::Row;
+use cqa_value::{Items, Row};
 use plan_rows::{
-    Course, Memo, Setting, Step, Taken, known_values, shared_or_none, turns_before_memo,
+    Course, Link, Memo, Setting, Step, Taken, known_values, rests_to_keep, shared_or_none,
+    turns_before_memo,
 };
 use row_cursor::{BlockCursor, RowIndex, table_of};
 use row_pieces::Rows;
@@ -32,7 +34,7 @@ fn told_blocks<'a, 'x>(db: &'a Database, step: &Step<'x>, row: &'x Row) -> Block
     let course = step.course;
     let table = table_of(course.setting.query, step.atom);
     let key = db.schema(table).key.as_slice();
-    let known = known_values(step, Some(row), key);
+    let known = known_values(&step.look(), Some(row), key);
     BlockCursor::over(told_rows(db, table, &known), key)
 }
 
@@ -74,7 +76,8 @@ fn found_block<'a, 'x>(db: &'a Database, course: &'x Course<'x>, row: &'x Row) -
                 rest,
             };
             let setting = &course.setting;
-            let mut memo = Memo::new(setting.alloc, turns_before_memo(setting));
+            let turns = turns_before_memo(setting);
+            let mut memo = Memo::new(setting.alloc, turns, rests_to_keep(setting));
             let found = first_block(db, &step, &*row, &mut memo);
             drop(memo);
             found
@@ -84,8 +87,9 @@ fn found_block<'a, 'x>(db: &'a Database, course: &'x Course<'x>, row: &'x Row) -
 
 /// The first block, in block order, of the plan's first atom by which the plan holds for a row: all its rows fit the
 /// row, and for each of them the rest of the plan holds with that row taken (Koutris and Wijsen, ACM TODS 2017). `None`
-/// exactly where the plan doesn't hold. Rows are found by the given indexes, of each atom's table one or none. Once
-/// many rows were looked at, what was decided of rests of the plan is remembered, as far as there is memory for it.
+/// exactly where the plan doesn't hold. Rows are found by the given indexes, of each atom's table one or none, and by the
+/// given links of later atoms. Once many rows were looked at, what was decided of rests of the plan is remembered, as far
+/// as there is memory for it.
 pub fn block_of<'a>(
     alloc: Global,
     plan: &Plan,
@@ -93,11 +97,13 @@ pub fn block_of<'a>(
     query: &Query,
     row: &Row,
     paths: &[Option<RowIndex<'_>>],
+    ways: &[Items<Link<'_>>],
 ) -> Option<Rows<'a>>
     requires fits { FitsDatabase query.now db.now }
     requires plan { AreAtoms query.now plan.now.order }
     requires all { (F : ℕ) → F < length query.now.atoms → Contains plan.now.order F }
     requires paths { ArePaths query.now db.now paths.now }
+    requires ways { AreWays query.now db.now plan.now.order ways.now }
     ensures { MatchOption result (HoldsOver db.now query.now row.now plan.now.order → ⊥) (λ block. HoldsOver db.now query.now row.now plan.now.order × IsFirstBlock db.now query.now row.now plan.now.order block) }
 {
     let order = plan.order.as_slice();
@@ -113,6 +119,7 @@ pub fn block_of<'a>(
         setting,
         order,
         shared: shared.as_slice(),
+        ways,
     };
     found_block(db, &course, row)
 }

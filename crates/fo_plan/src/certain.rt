@@ -8,47 +8,39 @@ ghost use Rattle.cqa_model.specs.Query.{FitsDatabase};
 ghost use Rattle.cqa_model.specs.Plan.{HoldsOver};
 ghost use Rattle.row_cursor.specs.Spots.{ArePaths};
 ghost use Rattle.plan_rows.specs.Left.{AreAtoms};
+ghost use Rattle.plan_rows.specs.Links.{AreWays};
 
 use crate::giving::add_given;
+use crate::notes::Notes;
 use cqa_model::{Plan, Query, variables};
 use cqa_value::{Items, NoMemory, Row};
-use plan_rows::{Course, Memo, Rest, Setting, Taken, shared_columns, turns_before_memo};
+use plan_rows::{
+    Course, Link, Memo, Rest, Setting, Taken, rests_to_keep, shared_columns, turns_before_memo,
+};
+use row_answers::Answers;
 use row_cursor::RowIndex;
 use std::alloc::Global;
-use std::cmp::Ordering;
 use table_blocks::Database;
 
-/// Puts rows in ascending order, each once.
-fn sorted(mut rows: Vec<Row>) -> Vec<Row>
-    ensures ascending { IsStrictlySortedBy row_cmp result.items }
-    ensures same { (row : List Cell) → Contains result.items row ↔ Contains rows.items row }
-{
-    rows.sort_unstable_by(
-        |a, b| -> Ordering
-            ensures { result ≡ row_cmp a.now b.now }
-        { a.cmp(b) },
-    );
-    rows.dedup();
-    rows
-}
-
 /// The rows of the answer's length for which a plan of all atoms holds, ascending and each once. Rows are found by the
-/// given indexes, of each atom's table one or none.
+/// given indexes, of each atom's table one or none, and by the given links of later atoms.
 ///
 /// # Errors
 ///
 /// `NoMemory` where memory is refused.
-pub fn answers<'a>(
+pub fn answers(
     alloc: Global,
     plan: &Plan,
-    db: &'a Database,
-    query: &'a Query,
-    paths: &'a [Option<RowIndex<'a>>],
+    db: &Database,
+    query: &Query,
+    paths: &[Option<RowIndex<'_>>],
+    ways: &[Items<Link<'_>>],
 ) -> Result<Items<Row>, NoMemory>
     requires fits { FitsDatabase query.now db.now }
     requires plan { AreAtoms query.now plan.now.order }
     requires all { (F : ℕ) → F < length query.now.atoms → Contains plan.now.order F }
     requires paths { ArePaths query.now db.now paths.now }
+    requires ways { AreWays query.now db.now plan.now.order ways.now }
     ensures ascending { IfOk result (IsStrictlySortedBy row_cmp) }
     ensures exactly { IfOk result (λ answers. (row : List Cell) → Contains answers row ↔ ((length row ≡ length query.now.answer) × HoldsOver db.now query.now row plan.now.order)) }
 {
@@ -61,11 +53,13 @@ pub fn answers<'a>(
         paths,
     };
     let turns = turns_before_memo(&setting);
+    let most = rests_to_keep(&setting);
     let shared = shared_columns(&setting, order)?;
     let course = Course {
         setting,
         order,
         shared: shared.as_slice(),
+        ways,
     };
     let none = Taken::Nothing;
     let rest = Rest {
@@ -73,12 +67,15 @@ pub fn answers<'a>(
         taken: &none,
         plan: order,
     };
-    let mut memo = Memo::new(alloc, turns);
-    let mut found = Vec::new(alloc);
-    let added = add_given(&rest, &mut found, &mut memo);
-    drop(memo);
+    let mut notes = Notes {
+        memo: Memo::new(alloc, turns, most),
+        barren: None,
+    };
+    let mut found = Answers::new(alloc);
+    let added = add_given(&rest, &mut found, &mut notes);
+    drop(notes);
     match added {
-        Ok(()) => Ok(Items::from_vec(sorted(found))),
+        Ok(()) => Ok(found.listed()),
         Err(fault) => {
             drop(found);
             Err(fault)

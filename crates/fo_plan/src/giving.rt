@@ -2,29 +2,33 @@
 //! row of each block proposes rows, and the block's other rows test them.
 
 ghost use Rattle.std.specs.Prelude.{◌≡◌, ◌<◌, ◌↔◌, IsTrue, Contains, List, OnOk, [], length, slice_index_or};
-ghost use Rattle.std.specs.Option.{option_copied};
 ghost use Rattle.cqa_value.specs.declared.value.Value.{Value as Cell};
 ghost use Rattle.cqa_model.specs.OneTable.{SomeBlockFits};
 ghost use Rattle.plan_rows.specs.Fitting.{Suits};
-ghost use Rattle.plan_rows.specs.Knowing.{HasKnown};
 ghost use Rattle.plan_rows.specs.Left.{IsSettled};
 ghost use Rattle.plan_rows.specs.Over.{query_of, tables_of, rows_before};
 ghost use Rattle.plan_rows.specs.Underway.{IsRight};
+ghost use Rattle.fo_plan.specs.Enough.{AreSought};
 ghost use Rattle.fo_plan.specs.Holding.{HoldsWith, AllHoldWith};
+ghost use Rattle.plan_rows.specs.Taking.{placed};
+ghost use Rattle.fo_plan.specs.Noted.{StandsApart, AreRight};
 ghost use Rattle.fo_plan.specs.Giving.{IsAnswer, BlockGives, IsAdded, RestHasAll, StepHasAll, RestGives, StepGives};
 
 use crate::enough::Blocks;
 use crate::holding::{all_hold, holds_with};
+use crate::notes::Notes;
 use cqa_value::{NoMemory, Row};
 use plan_rows::{Memo, Rest, Step, Taken, answer_of, are_settled, suits};
+use row_answers::Answers;
 use row_pieces::Rows;
 
 /// Whether all rows of a block fit the rows taken, but for a candidate.
 fn all_suit(step: &Step<'_>, block: &Rows<'_>) -> bool
     ensures { IsTrue result ↔ ((y : List Cell) → Contains block.now y → Suits (query_of step.now) (rows_before step.now) step.now.atom y) }
 {
+    let look = step.look();
     for y in block.again() {
-        if !suits(step, y) {
+        if !suits(&look, y) {
             return false;
         }
     }
@@ -36,15 +40,15 @@ fn keep_one(
     step: &Step<'_>,
     block: &Rows<'_>,
     row: Row,
-    found: &mut Vec<Row>,
+    found: &mut Answers,
     memo: &mut Memo,
 ) -> Result<(), NoMemory>
     requires { IsRight step.now.course.now memo.old }
-    ensures added { OnOk result (IsAdded (λ r. (r ≡ row) × AllHoldWith step.now r block.now) found.old.items found.new.items) }
+    ensures added { OnOk result (IsAdded (λ r. (r ≡ row) × AllHoldWith step.now r block.now) found.old found.new) }
     ensures memo { IsRight step.now.course.now memo.new }
 {
     if all_hold(&*step, &row, block, memo) {
-        found.push(row)?;
+        found.put(row)?;
     } else {
         drop(row);
     }
@@ -55,12 +59,12 @@ fn keep_one(
 fn keep_all(
     step: &Step<'_>,
     block: &Rows<'_>,
-    part: &mut Vec<Row>,
-    found: &mut Vec<Row>,
+    part: &mut Answers,
+    found: &mut Answers,
     memo: &mut Memo,
 ) -> Result<(), NoMemory>
     requires { IsRight step.now.course.now memo.old }
-    ensures added { OnOk result (IsAdded (λ r. Contains part.old.items r × AllHoldWith step.now r block.now) found.old.items found.new.items) }
+    ensures added { OnOk result (IsAdded (λ r. Contains part.old r × AllHoldWith step.now r block.now) found.old found.new) }
     ensures memo { IsRight step.now.course.now memo.new }
 {
     while let Some(row) = part.pop() {
@@ -70,11 +74,11 @@ fn keep_all(
 }
 
 /// Adds the answer of the rows taken if a rest of a plan holds that doesn't change it.
-fn add_settled(rest: &Rest<'_>, found: &mut Vec<Row>, memo: &mut Memo) -> Result<(), NoMemory>
+fn add_settled(rest: &Rest<'_>, found: &mut Answers, memo: &mut Memo) -> Result<(), NoMemory>
     requires all { RestHasAll rest.now }
     requires settled { IsSettled rest.now.course.now.setting.query.now rest.now.plan.now }
     requires memo { IsRight rest.now.course.now memo.old }
-    ensures added { OnOk result (IsAdded (RestGives rest.now) found.old.items found.new.items) }
+    ensures added { OnOk result (IsAdded (RestGives rest.now) found.old found.new) }
     ensures memo { IsRight rest.now.course.now memo.new }
 {
     let course = rest.course;
@@ -83,7 +87,29 @@ fn add_settled(rest: &Rest<'_>, found: &mut Vec<Row>, memo: &mut Memo) -> Result
     let held = holds_with(&*rest, &none, memo);
     drop(none);
     if held {
-        found.push(answer_of(setting.alloc, rest.taken, setting.query.answer.as_slice())?)?;
+        found.put(answer_of(setting.alloc, rest.taken, setting.query.answer.as_slice())?)?;
+    }
+    Ok(())
+}
+
+/// Whether no column of the rows taken is of a variable of the atoms that are left, while there are both.
+fn stands_apart(rest: &Rest<'_>) -> bool
+    ensures { IsTrue result → StandsApart rest.now.course.now (placed rest.now.taken.now) }
+{
+    let course = rest.course;
+    let place = course.order.len() - rest.plan.len();
+    if place >= course.shared.len() {
+        return false;
+    }
+    place > 0 && course.shared[place].as_slice().is_empty()
+}
+
+/// Moves rows to others.
+fn move_all(part: &mut Answers, found: &mut Answers) -> Result<(), NoMemory>
+    ensures { OnOk result (IsAdded (Contains part.old) found.old found.new) }
+{
+    while let Some(row) = part.pop() {
+        found.put(row)?;
     }
     Ok(())
 }
@@ -92,18 +118,21 @@ fn add_settled(rest: &Rest<'_>, found: &mut Vec<Row>, memo: &mut Memo) -> Result
 #[cycle(giving)]
 pub(crate) fn add_given(
     rest: &Rest<'_>,
-    found: &mut Vec<Row>,
-    memo: &mut Memo,
+    found: &mut Answers,
+    notes: &mut Notes,
 ) -> Result<(), NoMemory>
     requires all { RestHasAll rest.now }
-    requires memo { IsRight rest.now.course.now memo.old }
-    ensures added { OnOk result (IsAdded (RestGives rest.now) found.old.items found.new.items) }
-    ensures memo { IsRight rest.now.course.now memo.new }
+    requires notes { AreRight rest.now.course.now notes.old }
+    ensures added { OnOk result (IsAdded (RestGives rest.now) found.old found.new) }
+    ensures notes { AreRight rest.now.course.now notes.new }
 {
     let course = rest.course;
     let plan = rest.plan;
+    if notes.give_none(plan.len()) {
+        return Ok(());
+    }
     if are_settled(course.setting.query, plan) {
-        return add_settled(rest, found, memo);
+        return add_settled(rest, found, &mut notes.memo);
     }
     match plan {
         [] => unreachable!(),
@@ -114,21 +143,65 @@ pub(crate) fn add_given(
                 atom: *atom,
                 rest: others,
             };
-            add_blocks(&step, found, memo)
+            if stands_apart(rest) {
+                add_apart(&step, found, notes)
+            } else {
+                add_blocks(&step, found, notes)
+            }
         }
     }
 }
 
+/// Adds the rows that an atom's table gives where nothing of the atoms that are left is shared with the rows taken. If there are
+/// none, that is noted.
+#[cycle(giving)]
+fn add_apart(step: &Step<'_>, found: &mut Answers, notes: &mut Notes) -> Result<(), NoMemory>
+    requires all { StepHasAll step.now }
+    requires apart { StandsApart step.now.course.now (rows_before step.now) }
+    requires notes { AreRight step.now.course.now notes.old }
+    ensures added { OnOk result (IsAdded (StepGives step.now) found.old found.new) }
+    ensures notes { AreRight step.now.course.now notes.new }
+{
+    let course = step.course;
+    let mut part = Answers::new(course.setting.alloc);
+    let added = add_or_note(step, &mut part, found, notes);
+    drop(part);
+    added
+}
+
+/// The same, by way of a list of what is given.
+#[cycle(giving)]
+fn add_or_note(
+    step: &Step<'_>,
+    part: &mut Answers,
+    found: &mut Answers,
+    notes: &mut Notes,
+) -> Result<(), NoMemory>
+    requires all { StepHasAll step.now }
+    requires apart { StandsApart step.now.course.now (rows_before step.now) }
+    requires none { part.old ≡ [] }
+    requires notes { AreRight step.now.course.now notes.old }
+    ensures added { OnOk result (IsAdded (StepGives step.now) found.old found.new) }
+    ensures notes { AreRight step.now.course.now notes.new }
+{
+    add_blocks(step, part, notes)?;
+    if part.is_empty() {
+        notes.barren = Some(step.rest.len() + 1);
+        return Ok(());
+    }
+    move_all(part, found)
+}
+
 /// Adds the rows that the blocks of an atom's table give.
 #[cycle(giving)]
-fn add_blocks(step: &Step<'_>, found: &mut Vec<Row>, memo: &mut Memo) -> Result<(), NoMemory>
+fn add_blocks(step: &Step<'_>, found: &mut Answers, notes: &mut Notes) -> Result<(), NoMemory>
     requires all { StepHasAll step.now }
-    requires memo { IsRight step.now.course.now memo.old }
-    ensures added { OnOk result (IsAdded (StepGives step.now) found.old.items found.new.items) }
-    ensures memo { IsRight step.now.course.now memo.new }
+    requires notes { AreRight step.now.course.now notes.old }
+    ensures added { OnOk result (IsAdded (StepGives step.now) found.old found.new) }
+    ensures notes { AreRight step.now.course.now notes.new }
 {
     let blocks = Blocks::new(step, None);
-    let added = add_all_of(step, &blocks, found, memo);
+    let added = add_all_of(step, &blocks, found, notes);
     drop(blocks);
     added
 }
@@ -138,18 +211,18 @@ fn add_blocks(step: &Step<'_>, found: &mut Vec<Row>, memo: &mut Memo) -> Result<
 fn add_all_of(
     step: &Step<'_>,
     blocks: &Blocks<'_>,
-    found: &mut Vec<Row>,
-    memo: &mut Memo,
+    found: &mut Answers,
+    notes: &mut Notes,
 ) -> Result<(), NoMemory>
     requires all { StepHasAll step.now }
-    requires known { (y : List Cell) → Suits (query_of step.now) (rows_before step.now) step.now.atom y → HasKnown (option_copied blocks.now.index) blocks.now.values y }
-    requires memo { IsRight step.now.course.now memo.old }
-    ensures added { OnOk result (IsAdded (λ row. IsAnswer (query_of step.now) (rows_before step.now) row × SomeBlockFits blocks.now.key.now blocks.now.rows (HoldsWith step.now row)) found.old.items found.new.items) }
-    ensures memo { IsRight step.now.course.now memo.new }
+    requires sought { (row : List Cell) → AreSought blocks.now (HoldsWith step.now row) }
+    requires notes { AreRight step.now.course.now notes.old }
+    ensures added { OnOk result (IsAdded (λ row. IsAnswer (query_of step.now) (rows_before step.now) row × SomeBlockFits blocks.now.key.now blocks.now.rows (HoldsWith step.now row)) found.old found.new) }
+    ensures notes { AreRight step.now.course.now notes.new }
 {
     let mut spot = blocks.start();
     while let Some(block) = blocks.next(&mut spot) {
-        add_block(step, &block, found, memo)?;
+        add_block(step, &block, found, notes)?;
     }
     Ok(())
 }
@@ -159,14 +232,14 @@ fn add_all_of(
 fn add_block(
     step: &Step<'_>,
     block: &Rows<'_>,
-    found: &mut Vec<Row>,
-    memo: &mut Memo,
+    found: &mut Answers,
+    notes: &mut Notes,
 ) -> Result<(), NoMemory>
     requires all { StepHasAll step.now }
     requires some { 0 < length block.now }
-    requires memo { IsRight step.now.course.now memo.old }
-    ensures added { OnOk result (IsAdded (BlockGives (query_of step.now) (tables_of step.now) (rows_before step.now) step.now.atom step.now.rest.now block.now) found.old.items found.new.items) }
-    ensures memo { IsRight step.now.course.now memo.new }
+    requires notes { AreRight step.now.course.now notes.old }
+    ensures added { OnOk result (IsAdded (BlockGives (query_of step.now) (tables_of step.now) (rows_before step.now) step.now.atom step.now.rest.now block.now) found.old found.new) }
+    ensures notes { AreRight step.now.course.now notes.new }
 {
     if !all_suit(step, block) {
         return Ok(());
@@ -178,11 +251,11 @@ fn add_block(
             taken: &more,
             plan: &*step.rest,
         };
-        return add_given(&rest, found, memo);
+        return add_given(&rest, found, notes);
     }
     let course = step.course;
-    let mut part = Vec::new(course.setting.alloc);
-    let added = add_tested(step, block, &mut part, found, memo);
+    let mut part = Answers::new(course.setting.alloc);
+    let added = add_tested(step, block, &mut part, found, notes);
     drop(part);
     added
 }
@@ -192,17 +265,17 @@ fn add_block(
 fn add_tested(
     step: &Step<'_>,
     block: &Rows<'_>,
-    part: &mut Vec<Row>,
-    found: &mut Vec<Row>,
-    memo: &mut Memo,
+    part: &mut Answers,
+    found: &mut Answers,
+    notes: &mut Notes,
 ) -> Result<(), NoMemory>
     requires all { StepHasAll step.now }
     requires some { 0 < length block.now }
     requires first { Suits (query_of step.now) (rows_before step.now) step.now.atom (slice_index_or block.now 0 []) }
-    requires none { part.old.items ≡ [] }
-    requires memo { IsRight step.now.course.now memo.old }
-    ensures added { OnOk result (IsAdded (BlockGives (query_of step.now) (tables_of step.now) (rows_before step.now) step.now.atom step.now.rest.now block.now) found.old.items found.new.items) }
-    ensures memo { IsRight step.now.course.now memo.new }
+    requires none { part.old ≡ [] }
+    requires notes { AreRight step.now.course.now notes.old }
+    ensures added { OnOk result (IsAdded (BlockGives (query_of step.now) (tables_of step.now) (rows_before step.now) step.now.atom step.now.rest.now block.now) found.old found.new) }
+    ensures notes { AreRight step.now.course.now notes.new }
 {
     let more = Taken::Before(step.atom, block.get(0), &*step.taken);
     let rest = Rest {
@@ -210,7 +283,7 @@ fn add_tested(
         taken: &more,
         plan: &*step.rest,
     };
-    add_given(&rest, part, memo)?;
+    add_given(&rest, part, notes)?;
     let (_, others) = block.split_at(1);
-    keep_all(step, &others, part, found, memo)
+    keep_all(step, &others, part, found, &mut notes.memo)
 }

@@ -1,15 +1,13 @@
 //! Whether a plan holds, atom by atom: some block all of whose rows fit, and for each of them the rest.
 
-ghost use Rattle.std.specs.Prelude.{◌↔◌, ◌∷◌, IsTrue, List};
-ghost use Rattle.std.specs.Option.{option_copied};
-ghost use Rattle.cqa_value.specs.declared.value.Value.{Value as Cell};
+ghost use Rattle.std.specs.Prelude.{◌↔◌, ◌∷◌, IsTrue};
 ghost use Rattle.cqa_model.specs.Query.{atom_key, rows_of, FitsDatabase};
 ghost use Rattle.cqa_model.specs.OneTable.{SomeBlockFits};
-ghost use Rattle.cqa_model.specs.Plan.{Fits, HoldsOver, PlanHolds};
+ghost use Rattle.cqa_model.specs.Plan.{HoldsOver, PlanHolds};
 ghost use Rattle.plan_rows.specs.Left.{AreAtoms};
-ghost use Rattle.plan_rows.specs.Knowing.{HasKnown};
 ghost use Rattle.plan_rows.specs.Over.{query_of, tables_of, rows_before};
 ghost use Rattle.plan_rows.specs.Underway.{IsKey, IsRight};
+ghost use Rattle.fo_plan.specs.Enough.{AreSought};
 ghost use Rattle.fo_plan.specs.Holding.{RestHolds, HoldsWith, AllHoldWith};
 
 use crate::enough::Blocks;
@@ -78,7 +76,7 @@ fn some_block<'x>(step: &Step<'x>, row: &'x Row, memo: &mut Memo) -> bool
 /// Whether all rows of some of these blocks hold.
 #[cycle(holds)]
 fn some_of<'x>(step: &Step<'x>, row: &'x Row, blocks: &Blocks<'_>, memo: &mut Memo) -> bool
-    requires known { (y : List Cell) → Fits (query_of step.now) row.now (rows_before step.now) step.now.atom y → HasKnown (option_copied blocks.now.index) blocks.now.values y }
+    requires sought { AreSought blocks.now (HoldsWith step.now row.now) }
     requires memo { IsRight step.now.course.now memo.old }
     ensures holds { IsTrue result ↔ SomeBlockFits blocks.now.key.now blocks.now.rows (HoldsWith step.now row.now) }
     ensures memo { IsRight step.now.course.now memo.new }
@@ -115,7 +113,7 @@ fn row_holds<'x>(step: &Step<'x>, row: &'x Row, y: &Row, memo: &mut Memo) -> boo
     ensures memo { IsRight step.now.course.now memo.new }
 {
     memo.turn();
-    if !fits(step, row, y) {
+    if !fits(&step.look(), row, y) {
         return false;
     }
     let more = Taken::Before(step.atom, &*y, &*step.taken);
@@ -147,6 +145,7 @@ pub fn holds(alloc: Global, plan: &Plan, db: &Database, query: &Query, row: &Row
         setting,
         order,
         shared: &[],
+        ways: &[],
     };
     let none = Taken::Nothing;
     let rest = Rest {
@@ -154,7 +153,7 @@ pub fn holds(alloc: Global, plan: &Plan, db: &Database, query: &Query, row: &Row
         taken: &none,
         plan: order,
     };
-    let mut memo = Memo::new(alloc, 0);
+    let mut memo = Memo::new(alloc, 0, 0);
     let held = holds_with(&rest, row, &mut memo);
     drop(memo);
     held

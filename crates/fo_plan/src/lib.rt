@@ -1,4 +1,5 @@
-//! Plans over a database: the rows for which a plan holds, and the block by which it holds for one.
+//! Plans over a database: the rows for which a plan holds, which are the certain rows of a query that has one, and the block by
+//! which a plan holds for a row.
 #![tactic(auto)]
 
 mod block;
@@ -6,9 +7,15 @@ mod certain;
 mod enough;
 mod giving;
 mod holding;
+mod links;
+mod notes;
 mod paths;
+mod planned;
+mod ways;
 
 pub use block::block_of;
 pub use certain::answers;
 pub use holding::holds;
 pub use paths::paths_of;
+pub use planned::certain_by_plan;
+pub use ways::ways_of;

@@ -1,7 +1,9 @@
 -- An elimination order names each atom of its view, and each once.
 use Rattle.std.proofs.Common.{◌≡◌, ℕ, zero, suc, ◌<◌, List, [], ◌∷◌, length, get_or, refl, ap, sym, subst, arith, Contains, ◌∙◌}
 use native.Mathlib.Decide.{ℕ_discrete}
+use Rattle.std.specs.List.{All}
 use Rattle.std.proofs.lemmas.List.{get_or_default}
+use Rattle.std.proofs.lemmas.List.Elements.{Contains-get_or}
 use Rattle.cqa_model.specs.declared.query.Query.{Query}
 use Rattle.cqa_model.specs.Shape.{AreDistinct}
 use Rattle.cqa_model.specs.Variables.{View, whole, after}
@@ -27,6 +29,10 @@ module _ (q : Query) where
   -- an elimination order names atoms of the query
   pub plan-atoms : (plan : List ℕ) → IsEliminationOf q plan → (F : ℕ) → Contains plan F → F < length q.atoms
   plan-atoms plan h F (i, l, e) = subst (λ z. z < length q.atoms) (get_or_default plan i 0 F l ∙ e) (in_view plan (whole q) h i l)
+
+  -- so does a list of the same numbers
+  pub plan-within : (plan order : List ℕ) → order ≡ plan → IsEliminationOf q plan → All (λ F. F < length q.atoms) order
+  plan-within plan order e h i d l = plan-atoms plan h (get_or order i d) (subst (λ xs. Contains xs (get_or order i d)) e (Contains-get_or order i d l))
 
   -- an elimination order has all atoms of its view
   pub plan-all : (view : View) (plan : List ℕ) → IsElimination q view plan → (F : ℕ) → view.has F → Contains plan F

@@ -1,3 +1,4 @@
 pub mod Sameness
 pub mod Distinct
 pub mod PlanSteps
+mod Columns

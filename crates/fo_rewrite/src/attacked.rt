@@ -12,24 +12,32 @@ use attack_graph::attack_row;
 use cqa_model::MOST_ATOMS;
 use key_closure::{AtomSet, Named};
 
-/// An atom of the view that none attacks: the first, or the one that is preferred.
-pub(crate) fn next_atom(named: &Named<'_>, left: &AtomSet, choice: Choice) -> Option<u32>
-    requires { (K : ℕ) → HasAtom left.now K ↔ IsLeft named.now.query.now named.now.view K }
+/// An atom of the view that none attacks: the first, or the one that is preferred by the rows of each atom's table.
+pub(crate) fn next_atom<'x>(
+    named: &'x Named<'x>,
+    sizes: &'x [u32],
+    left: &AtomSet,
+    attacked: &AtomSet,
+    choice: Choice,
+) -> Option<u32>
+    requires left { (K : ℕ) → HasAtom left.now K ↔ IsLeft named.now.query.now named.now.view K }
+    requires attacked { (G : ℕ) → HasAtom attacked.now G ↔ IsAttacked named.now.query.now (seen named.now.query.now named.now.view) G }
     ensures first { choice ≡ First → IfSome result (IsFirst named.now.query.now (seen named.now.query.now named.now.view)) }
     ensures next { MatchOption result (IsStuck named.now.query.now (seen named.now.query.now named.now.view)) (IsNext named.now.query.now (seen named.now.query.now named.now.view)) }
 {
-    let attacked = attacked_atoms(named);
-    let Some(first) = first_outside(left, &attacked) else {
+    let Some(first) = first_outside(left, attacked) else {
         return None;
     };
     match choice {
         Choice::First => Some(first),
-        Choice::Preferred => Some(preferred(named.query, left, &attacked, first)),
+        Choice::Preferred { first: wanted } => {
+            Some(preferred(named, sizes, left, attacked, wanted, first))
+        }
     }
 }
 
 /// The atoms that an atom of the view attacks.
-fn attacked_atoms(named: &Named<'_>) -> AtomSet
+pub(crate) fn attacked_atoms(named: &Named<'_>) -> AtomSet
     ensures { (G : ℕ) → HasAtom result G ↔ IsAttacked named.now.query.now (seen named.now.query.now named.now.view) G }
 {
     let mut attacked = AtomSet::new();

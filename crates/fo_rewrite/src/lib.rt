@@ -2,7 +2,11 @@
 #![tactic(auto)]
 
 mod attacked;
+mod known;
+mod linking;
+mod passes;
 mod planning;
 mod preference;
 
-pub use planning::{elimination_of, plan_of};
+pub use passes::elimination_of;
+pub use planning::plan_of;

@@ -5,14 +5,23 @@ ghost use Rattle.cqa_model.specs.Variables.{whole};
 ghost use Rattle.cqa_model.specs.Graph.{HasCycle};
 ghost use Rattle.cqa_model.specs.Plan.{IsEliminationOf, IsPlanOf};
 ghost use Rattle.fo_rewrite.specs.Planning.{IsExact};
+ghost use Rattle.fo_rewrite.specs.Starting.{IsWhole};
 ghost use Rattle.fo_rewrite.specs.declared.preference.Choice.TheVariants.{First};
 
-use crate::attacked::next_atom;
+use crate::attacked::{attacked_atoms, next_atom};
 use crate::preference::Choice;
 use cqa_model::{Plan, Query, variables};
 use cqa_value::{Items, NoMemory};
 use key_closure::{AtomSet, Named, View};
 use std::alloc::Global;
+
+/// A whole query, the atoms that are attacked at first, and the rows of each atom's table.
+#[derive(Clone, Copy)]
+pub(crate) struct Outset<'a> {
+    pub named: &'a Named<'a>,
+    pub attacked: AtomSet,
+    pub sizes: &'a [u32],
+}
 
 /// The plan of a query: again and again the first atom that no atom attacks once those before it are taken; `None` exactly
 /// where the attacks have a cycle. Over each database that the query fits, the plan holds for a row exactly where the row is
@@ -26,40 +35,37 @@ pub fn plan_of(alloc: Global, query: &Query) -> Result<Option<Plan>, NoMemory>
     ensures cycle { IfOk result (λ found. IsNone found ↔ HasCycle query.now (whole query.now)) }
     ensures exact { IfOk result (λ found. IfSome found (λ plan. IsExact query.now plan.order)) }
 {
-    eliminated(alloc, query, Choice::First)
-}
-
-/// An elimination order of a query that is good for evaluation: again and again an atom that no atom attacks once those
-/// before it are taken, those that joins link to an answer column before all others; `None` exactly where the attacks have
-/// a cycle. Over each database that the query fits, the order holds for a row exactly where the row is certain (Koutris and
-/// Wijsen, ACM TODS 2017).
-///
-/// # Errors
-///
-/// `NoMemory` where memory is refused.
-pub fn elimination_of(alloc: Global, query: &Query) -> Result<Option<Plan>, NoMemory>
-    ensures order { IfOk result (λ found. IfSome found (λ plan. IsEliminationOf query.now plan.order)) }
-    ensures cycle { IfOk result (λ found. IsNone found ↔ HasCycle query.now (whole query.now)) }
-    ensures exact { IfOk result (λ found. IfSome found (λ plan. IsExact query.now plan.order)) }
-{
-    eliminated(alloc, query, Choice::Preferred)
+    let named = Named {
+        query,
+        variables: variables(query),
+        view: View::whole(query),
+    };
+    let outset = Outset {
+        named: &named,
+        attacked: attacked_atoms(&named),
+        sizes: &[],
+    };
+    eliminated(alloc, &outset, Choice::First)
 }
 
 /// The elimination order of a query that the choice of each next atom makes.
-fn eliminated(alloc: Global, query: &Query, choice: Choice) -> Result<Option<Plan>, NoMemory>
-    ensures plan { choice ≡ First → IfOk result (λ found. IfSome found (λ plan. IsPlanOf query.now plan.order)) }
-    ensures order { IfOk result (λ found. IfSome found (λ plan. IsEliminationOf query.now plan.order)) }
-    ensures cycle { IfOk result (λ found. IsNone found ↔ HasCycle query.now (whole query.now)) }
-    ensures exact { IfOk result (λ found. IfSome found (λ plan. IsExact query.now plan.order)) }
+pub(crate) fn eliminated(
+    alloc: Global,
+    outset: &Outset<'_>,
+    choice: Choice,
+) -> Result<Option<Plan>, NoMemory>
+    requires { IsWhole outset.now }
+    ensures plan { choice ≡ First → IfOk result (λ found. IfSome found (λ plan. IsPlanOf outset.now.named.now.query.now plan.order)) }
+    ensures order { IfOk result (λ found. IfSome found (λ plan. IsEliminationOf outset.now.named.now.query.now plan.order)) }
+    ensures cycle { IfOk result (λ found. IsNone found ↔ HasCycle outset.now.named.now.query.now (whole outset.now.named.now.query.now)) }
+    ensures exact { IfOk result (λ found. IfSome found (λ plan. IsExact outset.now.named.now.query.now plan.order)) }
 {
-    let variables = variables(query);
-    let mut view = View::whole(query);
-    let mut left = Named {
-        query,
-        variables,
-        view,
-    }
-    .left();
+    let named = outset.named;
+    let query = named.query;
+    let variables = named.variables;
+    let mut view = named.view;
+    let mut left = named.left();
+    let mut attacked = outset.attacked;
     let mut order = Items::new(alloc);
     'take: while let Some(atom) = next_atom(
         &Named {
@@ -67,7 +73,9 @@ fn eliminated(alloc: Global, query: &Query, choice: Choice) -> Result<Option<Pla
             variables,
             view,
         },
+        outset.sizes,
         &left,
+        &attacked,
         choice,
     ) {
         order.push(atom)?;
@@ -78,6 +86,11 @@ fn eliminated(alloc: Global, query: &Query, choice: Choice) -> Result<Option<Pla
             view,
         }
         .after(atom);
+        attacked = attacked_atoms(&Named {
+            query,
+            variables,
+            view,
+        });
     }
     match left.first_shared(&AtomSet::full()) {
         None => Ok(Some(Plan { order })),

@@ -1,67 +1,117 @@
 //! Which of the atoms that none attacks is best taken next.
 
-ghost use Rattle.std.specs.Prelude.{◌<◌};
+ghost use Rattle.std.specs.Prelude.{◌≡◌, ◌<◌, length};
 ghost use Rattle.cqa_model.specs.declared.limits.TheConstants.{MOST_ATOMS};
 ghost use Rattle.key_closure.specs.Sets.{HasAtom};
 
-use cqa_model::{Cond, MOST_ATOMS, Query};
-use key_closure::AtomSet;
+use crate::known::Known;
+use crate::linking::{Link, linked_to};
+use cqa_model::{MOST_ATOMS, Query};
+use key_closure::{AtomSet, Named};
 
-/// How the next atom is chosen among those that none attacks: the first, or the one that is best for evaluation.
+/// How the next atom is chosen among those that none attacks.
 #[derive(Clone, Copy)]
 pub(crate) enum Choice {
+    /// The first.
     First,
-    Preferred,
+
+    /// The one that is best for evaluation; of those that joins link alike to the atoms taken, one comes first where it is
+    /// given.
+    Preferred { first: Option<u32> },
+}
+
+/// The rank of an atom, less being better.
+#[derive(Clone, Copy, PartialEq, Eq, PartialOrd, Ord)]
+struct Rank {
+    /// How joins link it to the atoms taken.
+    link: Link,
+
+    /// Joins link it to no answer column.
+    outside: bool,
+
+    /// It isn't the one that comes first of those that are linked alike.
+    later: bool,
+
+    /// About how many of its rows agree with what is known, in bits.
+    rows: i32,
+
+    /// It has no answer column: rows taken before are remembered only once the answer is settled.
+    silent: bool,
+}
+
+/// What atoms are ranked by.
+#[derive(Drop)]
+struct Ranking<'a> {
+    known: Known<'a>,
+
+    /// The atoms with answer columns.
+    answered: AtomSet,
+
+    /// Those, and the atoms that joins link to them.
+    inside: AtomSet,
+
+    /// The atom that comes first of those that are linked alike.
+    first: Option<u32>,
+}
+
+impl Ranking<'_> {
+    /// The rank of an atom.
+    fn rank(&self, atom: u32) -> Rank
+        requires { atom < length self.now.known.query.now.atoms }
+    {
+        Rank {
+            link: self.known.link(atom),
+            outside: !self.inside.has(atom),
+            later: self.first != Some(atom),
+            rows: self.known.row_bits(atom),
+            silent: !self.answered.has(atom),
+        }
+    }
 }
 
 /// The atom of a set outside another that ranks first; of those that rank alike the first.
-pub(crate) fn preferred(query: &Query, left: &AtomSet, attacked: &AtomSet, first: u32) -> u32
-    requires { (first < MOST_ATOMS) × HasAtom left.now first × (HasAtom attacked.now first → ⊥) }
+pub(crate) fn preferred<'x>(
+    named: &'x Named<'x>,
+    sizes: &'x [u32],
+    left: &AtomSet,
+    attacked: &AtomSet,
+    first: Option<u32>,
+    start: u32,
+) -> u32
+    requires there { start < length named.now.query.now.atoms }
+    requires free { (start < MOST_ATOMS) × HasAtom left.now start × (HasAtom attacked.now start → ⊥) }
     ensures { (result < MOST_ATOMS) × HasAtom left.now result × (HasAtom attacked.now result → ⊥) }
 {
-    let linked = linked_to_answer(query);
-    let taken = outside(left);
-    let mut best = first;
-    for atom in 0..MOST_ATOMS {
+    let query = named.query;
+    let answered = answered_atoms(query);
+    let ranking = Ranking {
+        known: Known::new(named, sizes, &outside(left)),
+        inside: linked_to(query, &answered),
+        answered,
+        first,
+    };
+    let mut best = start;
+    let mut least = ranking.rank(start);
+    for atom in 0..query.atoms.len() as u32 {
         let is_open = left.has(atom) && !attacked.has(atom);
-        if is_open && rank(query, &linked, &taken, atom) < rank(query, &linked, &taken, best) {
-            best = atom;
+        if is_open {
+            let rank = ranking.rank(atom);
+            if rank < least {
+                best = atom;
+                least = rank;
+            }
         }
     }
     best
 }
 
-/// The rank of an atom, less being better: those that joins link to an answer column come first, among them those that
-/// are joined to a taken atom, and then those with answer columns.
-fn rank(query: &Query, linked: &AtomSet, taken: &AtomSet, atom: u32) -> u32 {
-    let joined = is_joined(query, taken, atom);
-    match (is_in(linked, atom), joined, is_answered(query, atom)) {
-        (true, true, true) => 0,
-        (true, true, false) => 1,
-        (true, false, true) => 2,
-        (true, false, false) => 3,
-        (false, true, _) => 4,
-        (false, false, _) => 5,
+/// The atoms with answer columns.
+fn answered_atoms(query: &Query) -> AtomSet {
+    let mut atoms = AtomSet::new();
+    for column in query.answer.as_slice() {
+        atoms.insert_if(column.atom, true);
     }
-}
-
-/// The atoms with answer columns, and those that joins link to them, straight or by way of others.
-fn linked_to_answer(query: &Query) -> AtomSet {
-    let mut linked = AtomSet::new();
-    for _ in 0..query.atoms.len() {
-        linked = spread(query, &linked);
-    }
-    linked
-}
-
-/// A set with the atoms that have answer columns or are joined to one of it.
-fn spread(query: &Query, set: &AtomSet) -> AtomSet {
-    let mut wider = *set;
-    for atom in 0..MOST_ATOMS {
-        let wanted = is_answered(query, atom) || is_joined(query, set, atom);
-        wider.insert_if(atom, wanted);
-    }
-    wider
+    atoms
 }
 
 /// The places of atoms that are outside a set.
@@ -71,29 +121,4 @@ fn outside(set: &AtomSet) -> AtomSet {
         others.insert_if(atom, !set.has(atom));
     }
     others
-}
-
-/// Whether an atom is in a set.
-fn is_in(set: &AtomSet, atom: u32) -> bool {
-    atom < MOST_ATOMS && set.has(atom)
-}
-
-/// Whether a column of an atom is joined to one of an atom of a set.
-fn is_joined(query: &Query, set: &AtomSet, atom: u32) -> bool {
-    query.conds.as_slice().iter().any(|cond| match cond {
-        Cond::Join { left, right } => {
-            (left.atom == atom && is_in(set, right.atom))
-                || (right.atom == atom && is_in(set, left.atom))
-        }
-        Cond::Test { .. } => false,
-    })
-}
-
-/// Whether the answer has a column of an atom.
-fn is_answered(query: &Query, atom: u32) -> bool {
-    query
-        .answer
-        .as_slice()
-        .iter()
-        .any(|column| column.atom == atom)
 }

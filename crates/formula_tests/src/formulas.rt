@@ -2,12 +2,12 @@
 
 ghost use Rattle.std.specs.Prelude.{◌<◌};
 
-use answer_check::is_accepted;
 use cdcl::{Outcome, solve};
 use cnf_form::{Cnf, Lit, formula_text, read_formula};
 use lrat_check::{check, log_text, read_log};
-use search_heuristics::order::Order;
-use search_heuristics::restart::Restarts;
+use merged_search::is_accepted;
+use search_trail::order::Order;
+use search_trail::restart::Restarts;
 use std::alloc::{AllocError, Global};
 use std::test::Fail;
 

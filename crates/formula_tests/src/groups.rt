@@ -1,11 +1,10 @@
 //! Formulas of a join on three values, decided by groups of rows.
 
 use crate::making::{pair, value_of};
-use answer_check::is_accepted;
 use cdcl::Outcome;
 use cnf_form::{Clause, Cnf};
 use cqa_value::{Items, NoMemory};
-use merged_search::{MERGED_FROM, solve};
+use merged_search::{MERGED_FROM, is_accepted, solve};
 use std::alloc::Global;
 use std::test::Fail;
 

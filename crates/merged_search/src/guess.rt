@@ -11,11 +11,11 @@ mod resolvent;
 mod rows;
 mod values;
 
+use crate::accepted::is_accepted;
 use crate::guess::additions::Additions;
 use crate::guess::groups::Groups;
 use crate::guess::lifting::lift_log;
 use crate::guess::merged::{Merged, merge};
-use answer_check::is_accepted;
 use cdcl::{Outcome, solve};
 use cnf_form::{Cnf, Log};
 use cqa_value::{Items, NoMemory};

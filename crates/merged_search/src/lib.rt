@@ -3,7 +3,15 @@
 //! is searched anew, row by row.
 #![tactic(auto)]
 
+mod accepted;
 mod guess;
+mod model;
+mod outcome;
+mod refutation;
 mod search;
 
+pub use accepted::is_accepted;
+pub use model::is_model;
+pub use outcome::is_answer;
+pub use refutation::is_refutation;
 pub use search::{MERGED_FROM, by_groups, solve};

@@ -6,10 +6,10 @@ ghost use Rattle.cnf_form.specs.Literals.{IsInRange};
 ghost use Rattle.cnf_form.specs.Logs.{Refutes};
 ghost use Rattle.cnf_form.specs.Spent.{IsSpentLog};
 ghost use Rattle.cdcl.specs.Outcomes.{AreConsecutive, IsModel, IsOnce, OutcomeIs};
-ghost use Rattle.answer_check.specs.Answers.{IsAnswer};
+ghost use Rattle.merged_search.specs.Answers.{IsAnswer};
 
 use crate::guess::guess;
-use answer_check::is_answer;
+use crate::outcome::is_answer;
 use cdcl::Outcome;
 use cnf_form::Cnf;
 use cqa_value::NoMemory;

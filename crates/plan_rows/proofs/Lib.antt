@@ -4,3 +4,9 @@ pub mod PlanParts
 pub mod Columns
 pub mod Keeping
 pub mod Sharing
+pub mod Reaching
+pub mod Linked
+pub mod Looking
+pub mod Wanting
+pub mod Guessing
+pub mod Spanning

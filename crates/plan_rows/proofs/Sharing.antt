@@ -100,11 +100,11 @@ passed-count s taken plan u =
     omega (arith, e, l, h)
 
 -- rows that agree with the ones agree with the others
-SameFor : Query → List ℕ → List Placed → List Placed → Type 0
+pub SameFor : Query → List ℕ → List Placed → List Placed → Type 0
 SameFor q plan taken others = (F : ℕ) → Contains plan F → (x : List Value) → AgreesAll q F x taken → AgreesAll q F x others
 
 -- then a plan that holds with the ones holds with the others
-same-plan : (q : Query) (tables : List (List (List Value))) (row : List Value) (taken others : List Placed) (plan : List ℕ) → SameFor q plan taken others → PlanHolds q tables row taken plan → PlanHolds q tables row others plan
+pub same-plan : (q : Query) (tables : List (List (List Value))) (row : List Value) (taken others : List Placed) (plan : List ℕ) → SameFor q plan taken others → PlanHolds q tables row taken plan → PlanHolds q tables row others plan
 unfolding SameFor
 same-plan q tables row taken others [] s h = tt
 same-plan q tables row taken others (F ∷ plan) s (x, m, all) = (x, m, λ y my k. let r = all y my k in (fits y r.0, same-plan q tables row (now y ∷ taken) (now y ∷ others) plan (more y) r.1))
@@ -128,23 +128,27 @@ same-plan q tables row taken others (F ∷ plan) s (x, m, all) = (x, m, λ y my 
       | inr n ↦ s G (mem-tail G F plan mG) z (λ u mu. a u (mem-tail u (record { atom = F; row = y }) taken mu)) t n
     ]
 
+-- a plan holds for any candidate with the same values in its atoms' answer columns
+pub same-answers : (q : Query) (tables : List (List (List Value))) (row other : List Value) (taken : List Placed) (plan : List ℕ) → ((F : ℕ) → Contains plan F → (i : ℕ) → i < length q.answer → (answer_at q i).atom ≡ F → get_or row i nothing ≡ get_or other i nothing) →
+    PlanHolds q tables row taken plan → PlanHolds q tables other taken plan
+same-answers q tables row other taken [] same h = tt
+same-answers q tables row other taken (F ∷ plan) same (x, m, all) = (
+  x,
+  m,
+  λ y my k. let r = all y my k in (
+    record { agrees = r.0.agrees; tests = r.0.tests; answers = λ i l e. r.0.answers i l e ∙ same F (mem-head F plan) i l e },
+    same-answers q tables row other (record { atom = F; row = y } ∷ taken) plan (λ G mG. same G (mem-tail G F plan mG)) r.1,
+  ),
+)
+
 -- a rest without answer columns holds for any candidate
 pub settled-plan : (q : Query) (tables : List (List (List Value))) (row other : List Value) (taken : List Placed) (plan : List ℕ) → IsSettled q plan → PlanHolds q tables row taken plan → PlanHolds q tables other taken plan
-settled-plan q tables row other taken plan settled h = go plan taken (λ F m i l e. All-contains (λ c. c.atom ≢ F) q.answer (answer_at q i) (All-contains (λ G. All (λ c. c.atom ≢ G) q.answer) plan F settled m) (Contains-get_or q.answer i (record { atom = 0; col = 0 }) l) e) h
-  where
-    go : (plan : List ℕ) (taken : List Placed) → ((F : ℕ) → Contains plan F → (i : ℕ) → i < length q.answer → (answer_at q i).atom ≡ F → ⊥) → PlanHolds q tables row taken plan → PlanHolds q tables other taken plan
-    go [] taken apart h = tt
-    go (F ∷ plan) taken apart (x, m, all) = (
-      x,
-      m,
-      λ y my k. let r = all y my k in (
-        record { agrees = r.0.agrees; tests = r.0.tests; answers = λ i l e. absurd (apart F (mem-head F plan) i l e) },
-        go plan (record { atom = F; row = y } ∷ taken) (λ G mG. apart G (mem-tail G F plan mG)) r.1,
-      ),
-    )
+settled-plan q tables row other taken plan settled =
+    same-answers q tables row other taken plan
+    (λ F m i l e. absurd (All-contains (λ c. c.atom ≢ F) q.answer (answer_at q i) (All-contains (λ G. All (λ c. c.atom ≢ G) q.answer) plan F settled m) (Contains-get_or q.answer i (record { atom = 0; col = 0 }) l) e))
 
 -- rows taken of the same atoms, with the same values in the columns that the rest shares with them
-same-shared : (s : Course) (taken others : List Placed) (plan : List ℕ) → IsUnderway s taken plan → IsUnderway s others plan → atoms_of taken ≡ atoms_of others → length taken < length s.shared.now →
+pub same-shared : (s : Course) (taken others : List Placed) (plan : List ℕ) → IsUnderway s taken plan → IsUnderway s others plan → atoms_of taken ≡ atoms_of others → length taken < length s.shared.now →
     map (taken_value taken) (get_or s.shared.now (length taken) []) ≡ map (taken_value others) (get_or s.shared.now (length taken) []) → SameFor s.setting.query.now plan taken others
 unfolding SameFor
 same-shared s taken others plan u v atoms there e F mF x a t m i li j lj linked =

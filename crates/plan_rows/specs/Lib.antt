@@ -5,3 +5,6 @@ pub mod Left
 pub mod Once
 pub mod Underway
 pub mod Over
+pub mod Links
+pub mod Wanted
+pub mod Places

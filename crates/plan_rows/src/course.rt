@@ -1,27 +1,49 @@
 //! A plan that is gone over, and the columns by which the rests of it depend on the rows taken before.
 
+ghost use Rattle.std.specs.Prelude.{◌≤◌, ◌*◌, length};
+ghost use Rattle.cqa_model.specs.declared.limits.TheConstants.{MOST_ROWS};
 ghost use Rattle.plan_rows.specs.Left.{AreAtoms, AreShared};
+ghost use Rattle.plan_rows.specs.Links.{AreWays};
 
+use crate::links::Link;
 use crate::setting::Setting;
 use cqa_model::ColRef;
 use cqa_value::Items;
 
-/// What a plan is evaluated over, the order of its atoms, and for each number of first atoms the columns of them that are
-/// linked to columns of the others, as far as there are such lists.
+/// How many rests of a plan are remembered at least, where there are so many.
+const FEWEST_KEPT: usize = 1_024;
+
+/// What a plan is evaluated over, the order of its atoms, for each number of first atoms the columns of them that are
+/// linked to columns of the others, as far as there are such lists, and by atom the later atoms by which it is linked to those
+/// before it, where links are wanted.
 #[derive(Drop)]
 pub struct Course<'a> {
     pub setting: Setting<'a>,
     pub order: &'a [u32],
     pub shared: &'a [Items<ColRef>],
+    pub ways: &'a [Items<Link<'a>>],
     pub ghost atoms: { AreAtoms setting.query.now order.now },
     pub ghost shares: { ∥ AreShared setting.query.now order.now shared.now ∥₁ },
+    pub ghost linked: { ∥ AreWays setting.query.now setting.db.now order.now ways.now ∥₁ },
 }
 
-/// How many rows a plan may look at before what is decided is remembered: four times those of the query's tables.
-pub fn turns_before_memo(setting: &Setting<'_>) -> u64 {
+/// How many rows the tables of a query's atoms have, a table counted once for each of its atoms.
+fn row_total(setting: &Setting<'_>) -> u64
+    ensures { result ≤ length setting.now.query.now.atoms * MOST_ROWS }
+{
     let mut rows = 0;
     for atom in setting.query.atoms.as_slice() {
         rows += setting.db.rows(atom.table).len() as u64;
     }
-    4 * rows
+    rows
+}
+
+/// How many rows a plan may look at before what is decided is remembered: four times those of the query's tables.
+pub fn turns_before_memo(setting: &Setting<'_>) -> u64 {
+    4 * row_total(setting)
+}
+
+/// How many rests of a plan are remembered at most: as many as the query's tables have rows, at least 1,024.
+pub fn rests_to_keep(setting: &Setting<'_>) -> usize {
+    FEWEST_KEPT.max(row_total(setting) as usize)
 }

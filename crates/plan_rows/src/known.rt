@@ -11,10 +11,10 @@ ghost use Rattle.table_blocks.specs.Spans.{first_key};
 ghost use Rattle.plan_rows.specs.Taking.{placed, AreOfAtoms};
 ghost use Rattle.plan_rows.specs.Fitting.{ColumnAgrees, AgreesAll, GivesAt};
 ghost use Rattle.plan_rows.specs.Knowing.{MayFit};
-ghost use Rattle.plan_rows.specs.Over.{query_of, rows_before};
+ghost use Rattle.plan_rows.specs.Over.{look_query, look_taken};
 
+use crate::look::Look;
 use crate::setting::Setting;
-use crate::steps::Step;
 use crate::taken_rows::Taken;
 use cqa_model::{ColRef, Cond, MOST_COLUMNS, Op, Query};
 use cqa_value::{Row, Value};
@@ -98,21 +98,20 @@ fn told_by_answer<'b>(query: &Query, row: &'b Row, column: ColRef) -> Option<&'b
     None
 }
 
-/// The value that each row of the next atom has in a column if it fits.
-fn known<'b>(step: &Step<'b>, row: Option<&'b Row>, col: u32) -> Option<&'b Value>
-    requires { col < (atom_at (query_of step.now) step.now.atom).width }
-    ensures { IfSome result (λ value. (y : List Cell) → MayFit (query_of step.now) (option_copied row.entry) (rows_before step.now) step.now.atom y → slice_index_or y col nothing ≡ value.now) }
+/// The value that each row has in a column if it fits.
+fn known<'b>(look: &Look<'b>, row: Option<&'b Row>, col: u32) -> Option<&'b Value>
+    requires { col < (atom_at (look_query look.now) look.now.atom).width }
+    ensures { IfSome result (λ value. (y : List Cell) → MayFit (look_query look.now) (option_copied row.entry) (look_taken look.now) look.now.atom y → slice_index_or y col nothing ≡ value.now) }
 {
-    let course = step.course;
-    let setting = &course.setting;
+    let setting = look.setting;
     let column = ColRef {
-        atom: step.atom,
+        atom: look.atom,
         col,
     };
     if let Some(value) = told(setting.query.conds.as_slice(), column) {
         return Some(value);
     }
-    if let Some(value) = told_by_taken(setting, step.taken, column) {
+    if let Some(value) = told_by_taken(setting, look.taken, column) {
         return Some(value);
     }
     match row {
@@ -121,21 +120,19 @@ fn known<'b>(step: &Step<'b>, row: Option<&'b Row>, col: u32) -> Option<&'b Valu
     }
 }
 
-/// The values that each row of the next atom has in some columns if it fits: those of the first columns, as many as are
-/// known.
-pub fn known_values<'b>(step: &Step<'b>, row: Option<&'b Row>, columns: &[u32]) -> Probe<'b>
+/// The values that each row has in some columns if it fits: those of the first columns, as many as are known.
+pub fn known_values<'b>(look: &Look<'b>, row: Option<&'b Row>, columns: &[u32]) -> Probe<'b>
     ensures few { length result ≤ length columns.now }
-    ensures known { (y : List Cell) → MayFit (query_of step.now) (option_copied row.entry) (rows_before step.now) step.now.atom y → first_key columns.now result y ≡ result }
+    ensures known { (y : List Cell) → MayFit (look_query look.now) (option_copied row.entry) (look_taken look.now) look.now.atom y → first_key columns.now result y ≡ result }
 {
-    let course = step.course;
-    let setting = &course.setting;
-    let width = width_of(setting.query, step.atom);
+    let setting = look.setting;
+    let width = width_of(setting.query, look.atom);
     let mut probe = Probe::new(setting.alloc);
     for col in columns {
         if *col >= width || probe.len() == MOST_COLUMNS {
             return probe;
         }
-        let Some(value) = known(step, row, *col) else {
+        let Some(value) = known(look, row, *col) else {
             return probe;
         };
         probe.put(value);

@@ -17,13 +17,12 @@ use cqa_value::{MOST_VALUES, Row, Value};
 use std::alloc::Global;
 use std::collections::BTreeMap;
 
-/// How many rests are remembered at most.
-const MOST_KNOWN: usize = 1_000_000;
-
-/// Whether rests of a plan hold, by their keys; nothing is remembered before so many rows were looked at.
+/// Whether rests of a plan hold, by their keys; nothing is remembered before so many rows were looked at, and so many rests at
+/// most.
 #[derive(Drop)]
 pub struct Memo {
     turns: u64,
+    most: usize,
     known: BTreeMap<Row, bool>,
 }
 
@@ -87,12 +86,13 @@ fn key_of(
 }
 
 impl Memo {
-    /// Nothing remembered, and nothing to be before so many rows were looked at.
-    pub fn new(alloc: Global, turns: u64) -> Memo
+    /// Nothing remembered, and nothing to be before so many rows were looked at; at most so many rests are at a time.
+    pub fn new(alloc: Global, turns: u64, most: usize) -> Memo
         ensures { (key : List Cell) → get row_cmp result.known key ≡ None }
     {
         Memo {
             turns,
+            most,
             known: BTreeMap::new(alloc),
         }
     }
@@ -104,22 +104,25 @@ impl Memo {
         self.turns = self.turns.saturating_sub(1);
     }
 
-    /// By what it is remembered whether a rest of a plan holds; `None` before the turns are used up, and where there is no
-    /// key.
+    /// By what it is remembered whether a rest of a plan holds; `None` where there is no key, and before the turns are used
+    /// up, unless the rest depends neither on the rows taken nor on a candidate.
     pub fn key(&self, rest: &Rest<'_>, row: &Row) -> Option<Row>
         ensures { IfSome result (IsKey rest.now.course.now (placed rest.now.taken.now) rest.now.plan.now row.now) }
     {
-        if self.turns > 0 {
-            return None;
-        }
         let course = rest.course;
         let plan = rest.plan;
         let place = course.order.len() - plan.len();
         if place >= course.shared.len() {
             return None;
         }
-        let settled = are_settled(course.setting.query, plan);
         let columns = course.shared[place].as_slice();
+        if self.turns > 0 && !columns.is_empty() {
+            return None;
+        }
+        let settled = are_settled(course.setting.query, plan);
+        if self.turns > 0 && !settled {
+            return None;
+        }
         key_of(
             course.setting.alloc,
             plan.len(),
@@ -137,14 +140,21 @@ impl Memo {
         self.known.get(key).copied()
     }
 
-    /// Remembers what was decided under a key, if there is room for it.
+    /// Forgets what is remembered where it is as much as may be.
+    fn make_room(&mut self)
+        ensures { (k : List Cell) (b : Bool) → get row_cmp self.new.known k ≡ Some b → get row_cmp self.old.known k ≡ Some b }
+    {
+        if self.known.len() >= self.most {
+            self.known.clear();
+        }
+    }
+
+    /// Remembers what was decided under a key, if memory is granted. Where as many rests are remembered as may be, all these are
+    /// forgotten first.
     pub fn keep(&mut self, key: Row, held: bool)
         ensures { (k : List Cell) (b : Bool) → get row_cmp self.new.known k ≡ Some b → (get row_cmp self.old.known k ≡ Some b) ⊎ ((k ≡ key) × (b ≡ held)) }
     {
-        if self.known.len() >= MOST_KNOWN {
-            drop(key);
-            return;
-        }
+        self.make_room();
         match self.known.insert(key, held) {
             Ok(_) => {}
             Err(_) => {}

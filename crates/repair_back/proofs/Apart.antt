@@ -111,16 +111,14 @@ left-first : (q : Query) (later first : List Placed) (K : ℕ) → (view_of q (l
 left-first q [] first K h = h
 left-first q (t ∷ later) first K h = left-first q later first K h.0
 
--- a plan names atoms of the query
-plan-in : (q : Query) (view : View) (plan : List ℕ) → ((F : ℕ) → view.has F → F < length q.atoms) → IsPlan q view plan → AreAtoms q plan
-plan-in q view [] there is F m = absurd (mem-nil F m)
-plan-in q view (G ∷ plan) there is F m = elim (mem-cases F G plan m) [
-  | inl e ↦ subst (λ H. H < length q.atoms) e (there G is.0)
-  | inr n ↦ plan-in q (after q view G) plan (λ H h. there H h.0) is.3 F n
-]
+-- the atoms of a view's plan are in the view
+pub plan-has : (q : Query) (view : View) (plan : List ℕ) → IsPlan q view plan → (F : ℕ) → Contains plan F → view.has F
+plan-has q view [] is F m = absurd (mem-nil F m)
+plan-has q view (G ∷ plan) is F m = elim (mem-cases F G plan m) [ inl e ↦ subst (λ H. view.has H) e is.0 | inr n ↦ (plan-has q (after q view G) plan is.3 F n).0 ]
 
+-- a query's plan names its atoms
 pub plan-atoms : (q : Query) (plan : List ℕ) → IsPlanOf q plan → AreAtoms q plan
-plan-atoms q plan is = plan-in q (whole q) plan (λ F l. l) is
+plan-atoms q plan is = plan-has q (whole q) plan is
 
 -- a later row agrees with the first ones
 later-fits : (q : Query) (row : List Value) (later first : List Placed) → AllFit q row (later ++ first) → (u : Placed) → Contains later u → (t : Placed) → Contains first t → (j : ℕ) → j < (atom_at q u.atom).width → (h : ℕ) → h < (atom_at q t.atom).width →

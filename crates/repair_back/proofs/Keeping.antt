@@ -2,6 +2,7 @@
 use Rattle.std.proofs.Common.{◌≡◌, ℕ, zero, suc, ◌<◌, ◌⊎◌, inl, inr, Bool, List, [], ◌∷◌, length, get_or, refl, ap, sym, subst, arith, Contains}
 use native.Mathlib.Decide.{ℕ_discrete}
 use Rattle.std.proofs.lemmas.List.{length-map}
+use Rattle.std.proofs.lemmas.List.Elements.{Contains-get_or}
 use Rattle.cqa_value.specs.declared.value.Value.{Value}
 use Rattle.cqa_model.specs.declared.query.Query.{Query}
 use Rattle.cqa_model.specs.Database.{Table, stored, keys_of}
@@ -13,7 +14,7 @@ use Rattle.cqa_model.proofs.Classic.{choose}
 use Rattle.cqa_model.proofs.Existence.{last_rows, last_rows-repair}
 use Rattle.cqa_model.proofs.Views.{view-in_range}
 use Rattle.repair_back.specs.Flags.{kept_of, kept_tables, flags_of, AreChosen}
-use Rattle.repair_back.proofs.Choosing.{choice-repair}
+use Rattle.repair_back.proofs.Choosing.{choice-repair, kept_of-out}
 
 -- what is kept of one table
 pub kept-table : (tables : List (List (List Value))) (flags : List (List Bool)) (t : ℕ) → get_or (kept_tables tables flags) t [] ≡ kept_of (get_or tables t []) (get_or flags t [])
@@ -30,6 +31,15 @@ kept-table (rows ∷ tables) (f ∷ flags) (suc t) = kept-table tables flags t
 -- the rows kept of an atom's table
 pub kept-atom : (q : Query) (db : List Table) (flags : List (List Bool)) (F : ℕ) → rows_of q (kept_tables (stored db) flags) F ≡ kept_of (rows_of q (stored db) F) (flags_of q flags F)
 kept-atom q db flags F = kept-table (stored db) flags (atom_at q F).table
+
+-- the rows of a witness that are kept are stored
+pub stored-witness : (q : Query) (db : List Table) (flags : List (List Bool)) (row : List Value) (taken : List Placed) (w : List (List Value)) → IsPartial q row taken (kept_tables (stored db) flags) w → IsPartial q row taken (stored db) w
+stored-witness q db flags row taken w h = record { size = h.size; keeps = λ F has. is F (h.keeps F has); holds = h.holds; answers = h.answers; extends = h.extends }
+  where
+    is : (F : ℕ) → Contains (rows_of q (kept_tables (stored db) flags) F) (row_at w F) → Contains (rows_of q (stored db) F) (row_at w F)
+    is F m =
+        let p = kept_of-out (rows_of q (stored db) F) (flags_of q flags F) (row_at w F) (subst (λ rows. Contains rows (row_at w F)) (kept-atom q db flags F) m) in
+        subst (λ z. Contains (rows_of q (stored db) F) z) p.3 (Contains-get_or (rows_of q (stored db) F) p.0 [] p.1)
 
 -- a witness looks at the atoms' tables alone
 pub partial-same : (q : Query) (row : List Value) (taken : List Placed) (r s : List (List (List Value))) (w : List (List Value)) →

@@ -4,12 +4,11 @@ mod Keeping
 mod Stepping
 mod BlockEnds
 mod Mended
+mod Looking
 mod Settling
 mod Naming
 mod Answering
 mod Beside
 mod Marking
-mod Telling
-mod Looking
 mod Starting
 mod Outcomes

@@ -1,28 +1,39 @@
--- Where rows are looked for that may fit.
-use Rattle.std.proofs.Common.{◌≡◌, ℕ, ◌<◌, ◌≤◌, ◌⊎◌, inl, inr, Option, Some, None, List, [], length, get_or, ap, sym, ◌∙◌, subst, arith, IfSome, le_of_eq}
-use Rattle.std.specs.Option.{option_copied}
-use Rattle.std.proofs.lemmas.List.{take_all}
-use Rattle.cqa_value.specs.declared.value.Value.{Value}
+-- Rows of later atoms lead to each row that is in a witness.
+use Rattle.std.proofs.Common.{ℕ, ◌<◌, ◌≤◌, ◌⊎◌, Some, List, [], length, get_or, subst, arith}
 use Rattle.cqa_model.specs.declared.query.Query.{Query}
-use Rattle.cqa_model.specs.Database.{key_of}
-use Rattle.cqa_model.specs.Plan.{Placed, Fits}
-use Rattle.row_cursor.specs.Chains.{Indexed}
-use Rattle.table_blocks.specs.Spans.{first_key}
-use Rattle.plan_rows.specs.Knowing.{HasKnown}
-use Rattle.repair_back.specs.declared.places.Places.{Places}
-use Rattle.repair_back.specs.Looking.{AreThere, IsPassedIn, IsPassed}
-use Rattle.repair_back.specs.Walking.{MayFit}
+use Rattle.cqa_model.specs.Database.{Table, stored}
+use Rattle.cqa_model.specs.Plan.{Placed}
+use Rattle.cqa_model.specs.Variables.{after}
+use Rattle.cqa_model.specs.Partial.{view_of}
+use Rattle.plan_rows.specs.Links.{LeadsTo}
+use Rattle.plan_rows.specs.Places.{IsPassed}
+use Rattle.plan_rows.specs.declared.places.Places.{Places}
+use Rattle.plan_rows.proofs.Reaching.{witnesses_are_reached}
+use Rattle.repair_back.specs.declared.way.Way.{Way}
+use Rattle.repair_back.specs.Mending.{IsNext}
+use Rattle.repair_back.specs.Along.{rows_on, AreLed}
+use Rattle.repair_back.proofs.Apart.{plan-has}
+use Rattle.repair_back.proofs.Mended.{IsInWitness}
 
-pub whole-known : (columns : List ℕ) (values y : List Value) → length values ≡ length columns → first_key columns values y ≡ values → key_of columns y ≡ values
-whole-known columns values y size e = ap (λ cs. key_of cs y) (sym (take_all (length values) columns (le_of_eq (sym size)))) ∙ e
+module _ (way : Way) (taken : List Placed) (F : ℕ) (rest : List ℕ) (next : IsNext way taken F rest) (s : Places) (h : AreLed way taken F rest s) where
+  abbrev q : Query
+  q = way.course.now.setting.query.now
 
-passed-in : (o : Option Indexed) (values : List Value) (rows : List (List Value)) (fits : List Value → Type 0) → IfSome o (λ x. x.rows ≡ rows) → ((y : List Value) → fits y → HasKnown o values y) →
-    (from to : ℕ) → IsPassedIn o values from to → (i : ℕ) → from < i → i < to → fits (get_or rows i []) → ⊥
-passed-in None values rows fits index known from to passed i low high f = omega (arith, passed, low, high)
-passed-in (Some x) values rows fits index known from to passed i low high f =
-    passed i low high (subst (λ (rs : List (List Value)). key_of x.columns (get_or rs i []) ≡ values) (sym index) (known (get_or rows i []) f))
+  abbrev db : List Table
+  db = way.course.now.setting.db.now
 
-module _ (q : Query) (row : List Value) (taken : List Placed) (F : ℕ) (rows : List (List Value)) (s : Places) (h : AreThere q row taken F rows s) where
-  -- no row fits that is passed
-  pub passed-fits : (from to : ℕ) → IsPassed s from to → (i : ℕ) → from < i → i < to → Fits q row taken F (get_or rows i []) → ⊥
-  passed-fits from to passed = passed-in (option_copied s.index) s.values rows (λ y. Fits q row taken F y) h.index h.known from to passed
+  abbrev pub IsHeld : ℕ → Type 0
+  IsHeld i = IsInWitness q db way.row.now taken F (get_or (rows_on way F) i [])
+
+  led : (i : ℕ) → IsHeld i → LeadsTo q (stored db) (Some way.row.now) taken h.0 F (get_or (rows_on way F) i [])
+  led i (w, p, e) = subst (λ y. LeadsTo q (stored db) (Some way.row.now) taken h.0 F y) e
+      (witnesses_are_reached db q (stored db) way.row.now taken F h.0 w way.course.now.setting.fits way.long (λ G x has m. m)
+      (λ G m. (plan-has q (after q (view_of q taken) F) rest next.plan G (h.1 G m)).0) p)
+
+  -- no row outside of the places is in a witness
+  pub outside-led : (i : ℕ) → i < length (rows_on way F) → (i < s.start) ⊎ (s.end ≤ i) → IsHeld i → ⊥
+  outside-led i l o k = h.2.others i l o (led i k)
+
+  -- and no row that is passed
+  pub passed-led : (from to : ℕ) → IsPassed s from to → (i : ℕ) → from < i → i < to → i < length (rows_on way F) → IsHeld i → ⊥
+  passed-led from to none i low high l k = none i (omega (arith, low)) high (h.2.known i l (led i k))

@@ -6,23 +6,20 @@ use Rattle.std.proofs.lemmas.List.Elements.{Contains-get_or}
 use Rattle.cqa_value.specs.declared.value.Value.{Value}
 use Rattle.cqa_value.proofs.Words.{member_place, cases_le, cases_next}
 use Rattle.cqa_model.specs.declared.query.Query.{Query}
-use Rattle.cqa_model.specs.Database.{Table, stored, keys_of}
+use Rattle.cqa_model.specs.Database.{Table, stored}
 use Rattle.cqa_model.specs.Repairs.{SharesKey}
 use Rattle.cqa_model.specs.Query.{atom_at, atom_key, rows_of, row_at, FitsDatabase}
-use Rattle.cqa_model.specs.Plan.{Placed, Fits, PlanHolds, IsUnattacked, IsPlan}
+use Rattle.cqa_model.specs.Plan.{Placed, PlanHolds, IsUnattacked, IsPlan}
 use Rattle.cqa_model.specs.Variables.{after}
-use Rattle.cqa_model.specs.Partial.{view_of, AllFit}
-use Rattle.cqa_model.proofs.Fitting.{fits_tables}
-use Rattle.cqa_model.proofs.Classic.{mem-cases}
+use Rattle.cqa_model.specs.Partial.{view_of, AllFit, IsPartial}
 use Rattle.cqa_model.proofs.Repairs.{shares-sym, shares-trans, shares-eq}
 use Rattle.cqa_model.proofs.Views.{view-in_range}
-use Rattle.cqa_model.proofs.Reification.{placed}
-use Rattle.cqa_model.proofs.Exactness.{fits_of}
+use Rattle.plan_rows.specs.Links.{RowHolds}
 use Rattle.repair_back.specs.Flags.{IsFlagged, kept_of, kept_tables, flags_of, IsChoice, AreChosen}
-use Rattle.repair_back.specs.Mending.{IsKeptWitness, HasNone, Lacks, IsStep, IsReached, RowHolds}
+use Rattle.repair_back.specs.Mending.{IsKeptWitness, HasNone, Lacks, IsStep, IsReached}
 use Rattle.repair_back.specs.Walking.{IsBlock}
 use Rattle.repair_back.proofs.Choosing.{flag-there, kept_of-into, kept_of-out, exchanged-choice, exchanged-here}
-use Rattle.repair_back.proofs.Keeping.{kept-atom}
+use Rattle.repair_back.proofs.Keeping.{kept-atom, stored-witness}
 use Rattle.repair_back.proofs.Stepping.{reached-lacks, reached-joined, reached-self, reached-step, held-witness}
 
 -- what holds of the rows before a place, and of the row there, holds of the rows up to it
@@ -35,11 +32,38 @@ module _ (q : Query) (db : List Table) (row : List Value) (taken : List Placed) 
   pub lacks-shared : (flags : List (List Bool)) (x y : List Value) → SharesKey (atom_key q F) x y → Lacks db q row taken F flags x → Lacks db q row taken F flags y
   lacks-shared flags x y s lacks w h sh = lacks w h (shares-trans (atom_key q F) x y (row_at w F) s sh)
 
-  -- the rows before a place, and those before the end of the last block, were mended, as far as they fit
+  -- a row of F is in a witness with the rows taken whose other rows are stored
+  abbrev pub IsInWitness : List Value → Type 0
+  IsInWitness y = (w : List (List Value)) × IsPartial q row taken (stored db) w × (row_at w F ≡ y)
+
+  -- the rows before a place, and those before the end of the last block, were mended, as far as they are in a witness
   pub record BlocksSoFar (old flags : List (List Bool)) (rows : List (List Value)) (start at done : ℕ) : Type 0 where
     pub chosen : AreChosen q db flags
     pub reached : IsReached db q row taken old flags
-    pub lacks : (i : ℕ) → start ≤ i → (i < at) ⊎ (i < done) → Fits q row taken F (get_or rows i []) → Lacks db q row taken F flags (get_or rows i [])
+    pub lacks : (i : ℕ) → start ≤ i → i < length rows → (i < at) ⊎ (i < done) → IsInWitness (get_or rows i []) → Lacks db q row taken F flags (get_or rows i [])
+
+  -- where all rows were mended that are in a witness, none is left
+  pub blocks-all : (view_of q taken).has F → (old flags : List (List Bool)) (rows : List (List Value)) (start end at done : ℕ) → rows ≡ rows_of q (stored db) F →
+      ((i : ℕ) → i < length rows → (i < start) ⊎ (end ≤ i) → IsInWitness (get_or rows i []) → ⊥) → BlocksSoFar old flags rows start at done → end ≤ at → HasNone db q row taken flags
+  blocks-all hF old flags rows start end at done is others h le w hw =
+      go (kept_of-out (rows_of q (stored db) F) (flags_of q flags F) (row_at w F) (subst (λ kept. Contains kept (row_at w F)) (kept-atom q db flags F) (hw.keeps F hF)))
+    where
+      go : ((p : ℕ) × (p < length (rows_of q (stored db) F)) × IsFlagged (flags_of q flags F) p × (get_or (rows_of q (stored db) F) p [] ≡ row_at w F)) → ⊥
+      go (p, l, f, e) = cases (cases_le start p) (cases_le end p)
+        where
+          here : get_or rows p [] ≡ row_at w F
+          here = ap (λ (rs : List (List Value)). get_or rs p []) is ∙ e
+
+          lp : p < length rows
+          lp = subst (λ (rs : List (List Value)). p < length rs) (sym is) l
+
+          held : IsInWitness (get_or rows p [])
+          held = (w, stored-witness q db flags row taken w hw, sym here)
+
+          cases : (start ≤ p) ⊎ (p < start) → (end ≤ p) ⊎ (p < end) → ⊥
+          cases (inr b) d = others p lp (inl b) held
+          cases (inl b) (inl d) = others p lp (inr d) held
+          cases (inl b) (inr d) = h.lacks p b lp (inl (omega (arith, d, le))) held w hw (shares-eq (atom_key q F) (get_or rows p []) (row_at w F) here)
 
   -- rows of a block that were tried
   pub record RowsSoFar (plan : List ℕ) (old flags : List (List Bool)) (rows : List (List Value)) (start end last next : ℕ) : Type 0 where
@@ -48,8 +72,8 @@ module _ (q : Query) (db : List Table) (row : List Value) (taken : List Placed) 
     pub after : start ≤ last
     pub before : last < end
     pub is_kept : IsFlagged (flags_of q flags F) last
-    pub holds : RowHolds db q row taken F plan (get_or rows last [])
-    pub held : (i : ℕ) → start ≤ i → i < next → RowHolds db q row taken F plan (get_or rows i [])
+    pub holds : RowHolds q (stored db) row taken F plan (get_or rows last [])
+    pub held : (i : ℕ) → start ≤ i → i < next → RowHolds q (stored db) row taken F plan (get_or rows i [])
 
 -- what is read at the place of an atom's table
 pub flags-read : (q : Query) (db : List Table) → FitsDatabase q db → (flags : List (List Bool)) → length flags ≡ length db → (F : ℕ) → F < length q.atoms → (t : ℕ) → t ≡ (atom_at q F).table →
@@ -77,82 +101,50 @@ module _ (q : Query) (db : List Table) (flags : List (List Bool)) (chosen : AreC
 
 module _ (q : Query) (db : List Table) (fits : FitsDatabase q db) (row : List Value) (long : length row ≡ length q.answer) (taken : List Placed) (all : AllFit q row taken)
     (F : ℕ) (hF : (view_of q taken).has F) where
-  -- a row of a witness fits
-  witness-fits : (flags : List (List Bool)) (w : List (List Value)) → IsKeptWitness db q row taken flags w → Fits q row taken F (row_at w F)
-  witness-fits flags w h = fits_of q (keys_of db) (stored db) (fits_tables q db fits) row long taken (kept_tables (stored db) flags) F (row_at w F) w (record {
-    size = h.size;
-    holds = h.holds;
-    answers = h.answers;
-    keeps = λ K p. h.keeps K p.0;
-    extends = λ t m. elim (mem-cases t (placed F (row_at w F)) taken m) [ inl e ↦ subst (λ u. row_at w u.atom ≡ u.row) e refl | inr n ↦ h.extends t n ];
-  })
-
   pub blocks-none : (old : List (List Bool)) (rows : List (List Value)) (start : ℕ) → AreChosen q db old → BlocksSoFar q db row taken F old old rows start start 0
   blocks-none old rows start chosen = record {
     chosen = chosen;
     reached = reached-self q db fits row long taken old;
-    lacks = λ i l o f. absurd (elim o [ inl b ↦ omega (arith, l, b) | inr b ↦ omega (arith, b) ]);
+    lacks = λ i l lr o f. absurd (elim o [ inl b ↦ omega (arith, l, b) | inr b ↦ omega (arith, b) ]);
   }
 
   -- the block of the row at a place was mended
-  pub blocks-more : IsUnattacked q (view_of q taken) F → (old flags new : List (List Bool)) (rows : List (List Value)) (start at done begin end : ℕ) → BlocksSoFar q db row taken F old flags rows start at done →
-      IsBlock (atom_key q F) rows begin end → begin ≤ at → at < end → AreChosen q db new → IsReached db q row taken flags new → Lacks db q row taken F new (get_or rows begin []) →
-      BlocksSoFar q db row taken F old new rows start at end
+  pub blocks-more : IsUnattacked q (view_of q taken) F → (old flags new : List (List Bool)) (rows : List (List Value)) (start at done begin end : ℕ) →
+      BlocksSoFar q db row taken F old flags rows start at done → IsBlock (atom_key q F) rows begin end → begin ≤ at → at < end → AreChosen q db new → IsReached db q row taken flags new →
+      Lacks db q row taken F new (get_or rows begin []) → BlocksSoFar q db row taken F old new rows start at end
   blocks-more free old flags new rows start at done begin end h block low high chosen reached lacks = record {
     chosen = chosen;
     reached = reached-joined q db fits row long taken old flags new h.reached reached;
-    lacks = λ i l o f. go i l (elim o [ inl b ↦ omega (arith, b, high) | inr b ↦ b ]) f (cases_le begin i);
+    lacks = λ i l lr o f. go i l lr (elim o [ inl b ↦ omega (arith, b, high) | inr b ↦ b ]) f (cases_le begin i);
   }
     where
-      go : (i : ℕ) → start ≤ i → i < end → Fits q row taken F (get_or rows i []) → (begin ≤ i) ⊎ (i < begin) → Lacks db q row taken F new (get_or rows i [])
-      go i l b f (inl k) = let within = block.within in lacks-shared q db row taken F new (get_or rows begin []) (get_or rows i []) ((block.exactly i (omega (arith, b, within))).1 (k, b)) lacks
-      go i l b f (inr k) = reached-lacks q db fits row long taken all F hF free flags new h.chosen reached (get_or rows i []) (h.lacks i l (inl (omega (arith, k, low))) f)
+      go : (i : ℕ) → start ≤ i → i < length rows → i < end → IsInWitness q db row taken F (get_or rows i []) → (begin ≤ i) ⊎ (i < begin) → Lacks db q row taken F new (get_or rows i [])
+      go i l lr b f (inl k) = lacks-shared q db row taken F new (get_or rows begin []) (get_or rows i []) ((block.exactly i lr).1 (k, b)) lacks
+      go i l lr b f (inr k) = reached-lacks q db fits row long taken all F hF free flags new h.chosen reached (get_or rows i []) (h.lacks i l lr (inl (omega (arith, k, low))) f)
 
-  -- no row up to a later place fits, but for those of the block
+  -- no row up to a later place is in a witness, but for those of the block
   pub blocks-on : (old flags : List (List Bool)) (rows : List (List Value)) (start at done to : ℕ) → BlocksSoFar q db row taken F old flags rows start at done → at < done →
-      ((i : ℕ) → at < i → i < to → Fits q row taken F (get_or rows i []) → ⊥) → BlocksSoFar q db row taken F old flags rows start to done
+      ((i : ℕ) → at < i → i < to → i < length rows → IsInWitness q db row taken F (get_or rows i []) → ⊥) → BlocksSoFar q db row taken F old flags rows start to done
   blocks-on old flags rows start at done to h more passed = record {
     chosen = h.chosen;
     reached = h.reached;
-    lacks = λ i l o f. go i l f o (cases_le i at);
+    lacks = λ i l lr o f. go i l lr f o (cases_le i at);
   }
     where
-      go : (i : ℕ) → start ≤ i → Fits q row taken F (get_or rows i []) → (i < to) ⊎ (i < done) → (i ≤ at) ⊎ (at < i) → Lacks db q row taken F flags (get_or rows i [])
-      go i l f (inr b) c = h.lacks i l (inr b) f
-      go i l f (inl b) (inl c) = h.lacks i l (inr (omega (arith, c, more))) f
-      go i l f (inl b) (inr c) = absurd (passed i c b f)
-
-  pub blocks-all : (old flags : List (List Bool)) (rows : List (List Value)) (start end at done : ℕ) → rows ≡ rows_of q (stored db) F →
-      ((i : ℕ) → i < length rows → (i < start) ⊎ (end ≤ i) → Fits q row taken F (get_or rows i []) → ⊥) → BlocksSoFar q db row taken F old flags rows start at done → end ≤ at → HasNone db q row taken flags
-  blocks-all old flags rows start end at done is others h le w hw =
-      go (kept_of-out (rows_of q (stored db) F) (flags_of q flags F) (row_at w F) (subst (λ kept. Contains kept (row_at w F)) (kept-atom q db flags F) (hw.keeps F hF)))
-    where
-      go : ((p : ℕ) × (p < length (rows_of q (stored db) F)) × IsFlagged (flags_of q flags F) p × (get_or (rows_of q (stored db) F) p [] ≡ row_at w F)) → ⊥
-      go (p, l, f, e) = cases (cases_le start p) (cases_le end p)
-        where
-          here : get_or rows p [] ≡ row_at w F
-          here = ap (λ (rs : List (List Value)). get_or rs p []) is ∙ e
-
-          lp : p < length rows
-          lp = subst (λ (rs : List (List Value)). p < length rs) (sym is) l
-
-          fit : Fits q row taken F (get_or rows p [])
-          fit = subst (λ x. Fits q row taken F x) (sym here) (witness-fits flags w hw)
-
-          cases : (start ≤ p) ⊎ (p < start) → (end ≤ p) ⊎ (p < end) → ⊥
-          cases (inr b) d = others p lp (inl b) fit
-          cases (inl b) (inl d) = others p lp (inr d) fit
-          cases (inl b) (inr d) = h.lacks p b (inl (omega (arith, d, le))) fit w hw (shares-eq (atom_key q F) (get_or rows p []) (row_at w F) here)
+      go : (i : ℕ) → start ≤ i → i < length rows → IsInWitness q db row taken F (get_or rows i []) → (i < to) ⊎ (i < done) → (i ≤ at) ⊎ (at < i) → Lacks db q row taken F flags (get_or rows i [])
+      go i l lr f (inr b) c = h.lacks i l lr (inr b) f
+      go i l lr f (inl b) (inl c) = h.lacks i l lr (inr (omega (arith, c, more))) f
+      go i l lr f (inl b) (inr c) = absurd (passed i c b lr f)
 
   -- all rows of a block hold: so does the plan
   pub block-holds : (plan : List ℕ) (rows : List (List Value)) (at next : ℕ) → rows ≡ rows_of q (stored db) F → IsBlock (atom_key q F) rows at next →
-      ((i : ℕ) → at ≤ i → i < next → RowHolds db q row taken F plan (get_or rows i [])) → PlanHolds q (stored db) row taken (F ∷ plan)
+      ((i : ℕ) → at ≤ i → i < next → RowHolds q (stored db) row taken F plan (get_or rows i [])) → PlanHolds q (stored db) row taken (F ∷ plan)
   block-holds plan rows at next is block holds = (
     get_or rows at [],
     subst (λ (rs : List (List Value)). Contains rs (get_or rows at [])) is (Contains-get_or rows at [] (let some = block.some in let within = block.within in omega (arith, some, within))),
     λ y my s. let p = member_place rows y [] (subst (λ (rs : List (List Value)). Contains rs y) (sym is) my) in
         let b = (block.exactly p.0 p.1).0 (subst (λ z. SharesKey (atom_key q F) (get_or rows at []) z) (sym p.2) s) in
-        subst (λ z. RowHolds db q row taken F plan z) p.2 (holds p.0 b.0 b.1),
+        subst (λ z. RowHolds q (stored db) row taken F plan z) p.2 (holds p.0 b.0 b.1),
   )
 
   lF : F < length q.atoms
@@ -162,7 +154,7 @@ module _ (q : Query) (db : List Table) (fits : FitsDatabase q db) (row : List Va
       (start end : ℕ) (block : IsBlock (atom_key q F) rows start end) where
     -- one row is kept for another
     module _ (flags new : List (List Bool)) (chosen : AreChosen q db flags) (last next : ℕ) (ll : start ≤ last) (lb : last < end) (nl : start ≤ next) (nb : next < end)
-        (kept : IsFlagged (flags_of q flags F) last) (holds : RowHolds db q row taken F plan (get_or rows last []))
+        (kept : IsFlagged (flags_of q flags F) last) (holds : RowHolds q (stored db) row taken F plan (get_or rows last []))
         (long_new : length new ≡ length flags) (size : length (flags_of q new F) ≡ length (flags_of q flags F))
         (is_new : (p : ℕ) → IsFlagged (flags_of q new F) p ↔ ((p ≡ next) ⊎ (IsFlagged (flags_of q flags F) p × (p ≢ last))))
         (others : (t : ℕ) → t ≢ (atom_at q F).table → get_or new t [] ≡ get_or flags t []) where
@@ -188,8 +180,8 @@ module _ (q : Query) (db : List Table) (fits : FitsDatabase q db) (row : List Va
               (exchanged-choice (atom_key q F) (rows_of q (stored db) F) (flags_of q flags F) (flags_of q new F) last next size kept shares (chosen.each F lF) is_new)
           go H l (no ne) = subst (λ f. IsChoice (atom_key q H) (rows_of q (stored db) H) f) (sym (same H l ne)) (chosen.each H l)
 
-      held' : RowHolds db q row taken F plan (get_or (rows_of q (stored db) F) last [])
-      held' = subst (λ (rs : List (List Value)). RowHolds db q row taken F plan (get_or rs last [])) is holds
+      held' : RowHolds q (stored db) row taken F plan (get_or (rows_of q (stored db) F) last [])
+      held' = subst (λ (rs : List (List Value)). RowHolds q (stored db) row taken F plan (get_or rs last [])) is holds
 
       kept-step : IsStep db q row taken flags new
       kept-step = go (held-witness q db fits row long taken all F hF (get_or (rows_of q (stored db) F) last []) flags chosen (kept-row q db flags chosen F lF last kept) plan is_plan held')
@@ -238,7 +230,7 @@ module _ (q : Query) (db : List Table) (fits : FitsDatabase q db) (row : List Va
     -- a row was mended after it
     pub rows-turned : (old flags new later : List (List Bool)) (last next : ℕ) → RowsSoFar q db row taken F plan old flags rows start end last next → Turned old flags new next → start ≤ next → next < end →
         ((p : ℕ) → IsFlagged (flags_of q new F) p ↔ ((p ≡ next) ⊎ (IsFlagged (flags_of q flags F) p × (p ≢ last)))) →
-        AreChosen q db later → IsReached db q row taken new later → flags_of q later F ≡ flags_of q new F → RowHolds db q row taken F plan (get_or rows next []) →
+        AreChosen q db later → IsReached db q row taken new later → flags_of q later F ≡ flags_of q new F → RowHolds q (stored db) row taken F plan (get_or rows next []) →
         RowsSoFar q db row taken F plan old later rows start end next (next + 1)
     rows-turned old flags new later last next h t nl nb is_new chosen reached same holds = record {
       chosen = chosen;
@@ -247,13 +239,13 @@ module _ (q : Query) (db : List Table) (fits : FitsDatabase q db) (row : List Va
       before = nb;
       is_kept = subst (λ f. IsFlagged f next) (sym same) ((is_new next).1 (inl refl));
       holds = holds;
-      held = held_on rows (RowHolds db q row taken F plan) start next h.held holds;
+      held = held_on rows (RowHolds q (stored db) row taken F plan) start next h.held holds;
     }
 
 module _ (q : Query) (db : List Table) (row : List Value) (taken : List Placed) (F : ℕ) (plan : List ℕ) where
   -- a row that holds is passed over
   pub rows-skip : (old flags : List (List Bool)) (rows : List (List Value)) (start end last next : ℕ) → RowsSoFar q db row taken F plan old flags rows start end last next →
-      RowHolds db q row taken F plan (get_or rows next []) → RowsSoFar q db row taken F plan old flags rows start end last (next + 1)
+      RowHolds q (stored db) row taken F plan (get_or rows next []) → RowsSoFar q db row taken F plan old flags rows start end last (next + 1)
   rows-skip old flags rows start end last next h holds = record {
     chosen = h.chosen;
     reached = h.reached;
@@ -261,7 +253,7 @@ module _ (q : Query) (db : List Table) (row : List Value) (taken : List Placed) 
     before = h.before;
     is_kept = h.is_kept;
     holds = h.holds;
-    held = held_on rows (RowHolds db q row taken F plan) start next h.held holds;
+    held = held_on rows (RowHolds q (stored db) row taken F plan) start next h.held holds;
   }
 
   -- a block lacks its key where one of its rows does

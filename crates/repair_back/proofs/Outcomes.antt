@@ -3,10 +3,10 @@ use Rattle.std.proofs.Common.{◌≡◌, ◌≤◌, ℕ, Bool, Option, Some, IfS
 use Rattle.cqa_value.specs.declared.value.Value.{Value}
 use Rattle.cqa_model.specs.Plan.{Placed}
 use Rattle.repair_back.specs.declared.way.Way.{Way}
-use Rattle.repair_back.specs.Along.{KeepsOne, LeadsTo, IsFreeFrom, LacksBlock, MendsBlock}
+use Rattle.repair_back.specs.Along.{KeepsOne, IsExchanged, IsFreeFrom, LacksBlock, MendsBlock}
 
 -- where the rows taken and a row of the block were made free of witnesses
-pub block-found : (way : Way) (taken : List Placed) (F : ℕ) (x : List Value) (H : Type 0) (old new : List (List Bool)) (r : Option ℕ) (count : ℕ) → r ≡ Some count → KeepsOne way new → LeadsTo way taken old new →
+pub block-found : (way : Way) (taken : List Placed) (F : ℕ) (x : List Value) (H : Type 0) (old new : List (List Bool)) (r : Option ℕ) (count : ℕ) → r ≡ Some count → KeepsOne way new → IsExchanged way taken old new →
     IfSome r (λ n. IsFreeFrom way taken new n) → LacksBlock way taken F new x → MendsBlock way taken F x H old new (Some count)
 block-found way taken F x H old new r count is chosen reached free lacks = record {
   chosen = chosen;

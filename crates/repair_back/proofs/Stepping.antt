@@ -18,8 +18,9 @@ use Rattle.cqa_model.proofs.Exchange.{exchanged}
 use Rattle.cqa_model.proofs.Reification.{placed, kept-stored}
 use Rattle.cqa_model.proofs.Elimination.{plan-eliminates}
 use Rattle.cqa_model.proofs.Exactness.{forget, sound, fits_of}
+use Rattle.plan_rows.specs.Links.{RowHolds}
 use Rattle.repair_back.specs.Flags.{kept_of, kept_tables, flags_of, AreChosen}
-use Rattle.repair_back.specs.Mending.{IsKeptWitness, HasNone, Lacks, IsStep, IsReachedIn, IsReached, RowHolds}
+use Rattle.repair_back.specs.Mending.{IsKeptWitness, HasNone, Lacks, IsStep, IsReachedIn, IsReached}
 use Rattle.repair_back.proofs.Keeping.{kept-atom, partial-same, shown}
 
 module _ (q : Query) (db : List Table) (fits : FitsDatabase q db) (row : List Value) (long : length row ≡ length q.answer) where
@@ -148,7 +149,7 @@ module _ (q : Query) (db : List Table) (fits : FitsDatabase q db) (row : List Va
         lacks-unfit unfit w h sh = unfit (fits_of q (keys_of db) (stored db) tables row long taken (Kept flags) F y w (with-taken w h sh))
 
         -- where y holds, there is a witness with it
-        pub held-witness : (plan : List ℕ) → IsPlan q (after q (view_of q taken) F) plan → RowHolds db q row taken F plan y → (w : List (List Value)) × IsKeptWitness db q row taken flags w × (row_at w F ≡ y)
+        pub held-witness : (plan : List ℕ) → IsPlan q (after q (view_of q taken) F) plan → RowHolds q (stored db) row taken F plan y → (w : List (List Value)) × IsKeptWitness db q row taken flags w × (row_at w F ≡ y)
         held-witness plan is_plan (fy, holds) = go (shown q db fits flags chosen)
           where
             go : ((r : List (List (List Value))) × IsRepair db r × ((H : ℕ) → H < length q.atoms → rows_of q r H ≡ rows_of q (Kept flags) H)) → (w : List (List Value)) × IsKeptWitness db q row taken flags w × (row_at w F ≡ y)

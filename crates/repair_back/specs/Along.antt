@@ -1,12 +1,15 @@
 -- What is said of mending along a way: of its database, its query and its row.
-use Rattle.std.specs.Prelude.{ℕ, ◌≤◌, Bool, Option, IfSome, IsSome, IsNone, List, length}
+use Rattle.std.specs.Prelude.{ℕ, ◌≤◌, Bool, Option, Some, IfSome, IsSome, IsNone, List, length, Contains}
 use Rattle.cqa_value.specs.declared.value.Value.{Value}
 use Rattle.cqa_model.specs.Database.{stored}
 use Rattle.cqa_model.specs.Query.{rows_of}
 use Rattle.cqa_model.specs.Plan.{Placed, PlanHolds}
+use Rattle.plan_rows.specs.Links.{RowHolds}
+use Rattle.plan_rows.specs.Places.{AreThere}
+use Rattle.plan_rows.specs.declared.places.Places.{Places}
 use Rattle.repair_back.specs.declared.way.Way.{Way}
 use Rattle.repair_back.specs.Flags.{kept_tables, AreChosen}
-use Rattle.repair_back.specs.Mending.{HasNone, HasNoneFrom, Lacks, IsReached, RowHolds}
+use Rattle.repair_back.specs.Mending.{HasNone, HasNoneFrom, Lacks, IsReached}
 
 -- the stored rows of an atom
 abbrev pub rows_on : Way → ℕ → List (List Value)
@@ -16,13 +19,18 @@ rows_on way F = rows_of way.course.now.setting.query.now (stored way.course.now.
 abbrev pub kept_on : Way → List (List Bool) → ℕ → List (List Value)
 kept_on way flags F = rows_of way.course.now.setting.query.now (kept_tables (stored way.course.now.setting.db.now) flags) F
 
+-- the places have each row of F to which rows of some links among the rest lead
+abbrev pub AreLed : Way → List Placed → ℕ → List ℕ → Places → Type 0
+AreLed way taken F rest s = (links : List ℕ) × ((G : ℕ) → Contains links G → Contains rest G) ×
+    AreThere way.course.now.setting.query.now (stored way.course.now.setting.db.now) (Some way.row.now) taken links F (rows_on way F) s
+
 -- one row is kept of each block
 abbrev pub KeepsOne : Way → List (List Bool) → Type 0
 KeepsOne way flags = AreChosen way.course.now.setting.query.now way.course.now.setting.db.now flags
 
 -- exchanges along witnesses with these rows lead from one choice to another
-abbrev pub LeadsTo : Way → List Placed → List (List Bool) → List (List Bool) → Type 0
-LeadsTo way taken old new = IsReached way.course.now.setting.db.now way.course.now.setting.query.now way.row.now taken old new
+abbrev pub IsExchanged : Way → List Placed → List (List Bool) → List (List Bool) → Type 0
+IsExchanged way taken old new = IsReached way.course.now.setting.db.now way.course.now.setting.query.now way.row.now taken old new
 
 -- no witness with these rows is kept
 abbrev pub IsFree : Way → List Placed → List (List Bool) → Type 0
@@ -38,7 +46,7 @@ LacksBlock way taken F flags x = Lacks way.course.now.setting.db.now way.course.
 
 -- a row of F fits, and the rest of the plan holds with it
 abbrev pub HoldsWith : Way → List Placed → ℕ → List ℕ → List Value → Type 0
-HoldsWith way taken F plan y = RowHolds way.course.now.setting.db.now way.course.now.setting.query.now way.row.now taken F plan y
+HoldsWith way taken F plan y = RowHolds way.course.now.setting.query.now (stored way.course.now.setting.db.now) way.row.now taken F plan y
 
 -- the rest of the plan holds
 abbrev pub RestHolds : Way → List Placed → List ℕ → Type 0
@@ -48,7 +56,7 @@ RestHolds way taken plan = PlanHolds way.course.now.setting.query.now (stored wa
 -- rows taken as no kept witness has, or else the rest holds.
 pub record Mends (way : Way) (taken : List Placed) (plan : List ℕ) (old new : List (List Bool)) (result : Option ℕ) : Type 0 where
   pub chosen : KeepsOne way new
-  pub reached : LeadsTo way taken old new
+  pub reached : IsExchanged way taken old new
   pub few : IfSome result (λ count. count ≤ length taken)
   pub mended : IfSome result (λ count. IsFreeFrom way taken new count)
   pub holds : IsNone result → RestHolds way taken plan
@@ -57,7 +65,7 @@ pub record Mends (way : Way) (taken : List Placed) (plan : List ℕ) (old new : 
 -- said of its rows holds.
 pub record MendsBlock (way : Way) (taken : List Placed) (F : ℕ) (x : List Value) (H : Type 0) (old new : List (List Bool)) (result : Option ℕ) : Type 0 where
   pub chosen : KeepsOne way new
-  pub reached : LeadsTo way taken old new
+  pub reached : IsExchanged way taken old new
   pub mended : IfSome result (λ count. IsFreeFrom way taken new count)
   pub lacks : IsSome result → LacksBlock way taken F new x
   pub holds : IsNone result → H

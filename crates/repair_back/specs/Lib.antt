@@ -3,5 +3,4 @@ pub mod Flags
 pub mod Mending
 pub mod Along
 pub mod Walking
-pub mod Looking
 pub mod Results

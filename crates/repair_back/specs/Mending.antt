@@ -5,7 +5,7 @@ use Rattle.cqa_model.specs.declared.query.Query.{Query}
 use Rattle.cqa_model.specs.Database.{Table, stored}
 use Rattle.cqa_model.specs.Repairs.{SharesKey}
 use Rattle.cqa_model.specs.Query.{atom_key, rows_of, row_at}
-use Rattle.cqa_model.specs.Plan.{Placed, Fits, IsUnattacked, IsPlan, PlanHolds}
+use Rattle.cqa_model.specs.Plan.{Placed, IsUnattacked, IsPlan}
 use Rattle.cqa_model.specs.Variables.{after}
 use Rattle.cqa_model.specs.Partial.{view_of, AllFit, IsPartial}
 use Rattle.plan_rows.specs.Underway.{IsUnderway}
@@ -43,10 +43,6 @@ IsReachedIn db q row taken (suc n) old new = (flags : List (List Bool)) × IsSte
 
 abbrev pub IsReached : List Table → Query → List Value → List Placed → List (List Bool) → List (List Bool) → Type 0
 IsReached db q row taken old new = (n : ℕ) × IsReachedIn db q row taken n old new
-
--- a row of F fits, and the rest of the plan holds once it is taken
-abbrev pub RowHolds : List Table → Query → List Value → List Placed → ℕ → List ℕ → List Value → Type 0
-RowHolds db q row taken F plan y = Fits q row taken F y × PlanHolds q (stored db) row (record { atom = F; row = y } ∷ taken) plan
 
 -- there is no witness of the row with the first rows taken, where these are at least so many
 abbrev pub HasNoneFrom : List Table → Query → List Value → List Placed → List (List Bool) → ℕ → Type 0

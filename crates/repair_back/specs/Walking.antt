@@ -1,10 +1,7 @@
 -- Blocks as stretches of rows in block order.
-use Rattle.std.specs.Prelude.{◌≡◌, ℕ, ◌<◌, ◌≤◌, ◌⊎◌, ◌↔◌, List, [], length, slice_index_or}
+use Rattle.std.specs.Prelude.{ℕ, ◌<◌, ◌≤◌, ◌↔◌, List, [], length, slice_index_or}
 use Rattle.cqa_value.specs.declared.value.Value.{Value}
-use Rattle.cqa_model.specs.declared.query.Query.{Query}
 use Rattle.cqa_model.specs.Repairs.{SharesKey}
-use Rattle.cqa_model.specs.Query.{atom_key}
-use Rattle.cqa_model.specs.Plan.{Placed, Fits}
 
 -- the rows before a place are of other blocks than the row there
 abbrev pub Begins : List ℕ → List (List Value) → ℕ → Type 0
@@ -15,8 +12,3 @@ pub record IsBlock (key : List ℕ) (rows : List (List Value)) (start end : ℕ)
   pub some : start < end
   pub within : end ≤ length rows
   pub exactly : (i : ℕ) → i < length rows → SharesKey key (slice_index_or rows start []) (slice_index_or rows i []) ↔ ((start ≤ i) × (i < end))
-
--- the rows from one place to another are all that may fit
-pub record MayFit (q : Query) (row : List Value) (taken : List Placed) (F : ℕ) (rows : List (List Value)) (start end : ℕ) : Type 0 where
-  pub within : end ≤ length rows
-  pub others : (i : ℕ) → i < length rows → (i < start) ⊎ (end ≤ i) → Fits q row taken F (slice_index_or rows i []) → ⊥

@@ -53,7 +53,7 @@ fn picked(
 
 /// The repair that a model gives: of each block of the query's tables the first row that is listed with `true`, or else
 /// the first row. Where the list is that of a formula's variables and the model satisfies it, the repair holds no
-/// witness of the formula's row (Dixit and Kolaitis, SAT 2019).
+/// witness of the formula's row: a law, `row_reasons::model_rejects` (Dixit and Kolaitis, SAT 2019).
 ///
 /// # Errors
 ///

@@ -7,7 +7,6 @@ mod choice;
 mod from_models;
 mod kept;
 mod mending;
-mod places;
 mod repair;
 mod rivals;
 mod way;

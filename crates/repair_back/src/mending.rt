@@ -14,24 +14,24 @@ ghost use Rattle.cqa_model.specs.Plan.{IsPlanOf};
 ghost use Rattle.plan_rows.specs.Taking.{placed};
 ghost use Rattle.row_cursor.specs.Spots.{ArePaths};
 ghost use Rattle.plan_rows.specs.Underway.{IsKey, IsRight};
+ghost use Rattle.plan_rows.specs.Links.{AreWays};
 ghost use Rattle.repair_back.specs.Flags.{IsFlagged, flags_of, AreBlank, AreChosen};
 ghost use Rattle.repair_back.specs.Mending.{IsHere, IsNext};
-ghost use Rattle.repair_back.specs.Along.{rows_on, kept_on, KeepsOne, IsFree, HoldsWith, RestHolds, Mends, MendsBlock};
+ghost use Rattle.repair_back.specs.Along.{rows_on, kept_on, AreLed, KeepsOne, IsFree, HoldsWith, RestHolds, Mends, MendsBlock};
 ghost use Rattle.repair_back.specs.Results.{Rejects, AreStored};
-ghost use Rattle.repair_back.specs.Looking.{AreThere};
 ghost use Rattle.repair_back.specs.Walking.{IsBlock};
 
 use crate::atoms::key_of;
 use crate::blocks::{block_end, block_start};
 use crate::choice::Choice;
 use crate::kept::{blank, settle_all};
-use crate::places::Places;
 use crate::repair::{Repair, named};
 use crate::way::{Way, enough_for, enough_of};
 use cqa_model::{Plan, Query, variables};
-use cqa_value::{NoMemory, Row};
+use cqa_value::{Items, NoMemory, Row};
 use plan_rows::{
-    Course, Memo, Rest, Setting, Step, Taken, fits, shared_or_none, turns_before_memo,
+    Course, Link, Look, Memo, Places, Rest, Setting, Step, Taken, fits, rests_to_keep,
+    shared_or_none, turns_before_memo,
 };
 use row_cursor::{RowIndex, table_of};
 use row_pieces::Rows;
@@ -167,13 +167,20 @@ fn mend_blocks<'x>(
     ensures memo { IsRight way.now.course.now memo.new }
     ensures mends { Mends way.now (placed taken.now) (atom ∷ rest.now) kept.old kept.new result }
 {
+    let course = way.course;
     let step = Step {
-        course: &*way.course,
+        course: &*course,
         taken: &*taken,
         atom,
         rest: &*rest,
     };
-    let places = Places::new(&step, way.row);
+    let look = Look {
+        setting: &course.setting,
+        taken: &*taken,
+        atom,
+    };
+    let path = course.setting.index_of(atom);
+    let places = Places::reached(&look, Some(way.row), path, step.links());
     let mended = mend_places(way, taken, atom, rest, &places, kept, memo);
     drop(places);
     mended
@@ -191,7 +198,7 @@ fn mend_places<'x>(
     memo: &mut Memo,
 ) -> Option<usize>
     requires next { IsNext way.now (placed taken.now) atom rest.now }
-    requires there { AreThere way.now.course.now.setting.query.now way.now.row.now (placed taken.now) atom (rows_on way.now atom) places.now }
+    requires there { AreLed way.now (placed taken.now) atom rest.now places.now }
     requires chosen { KeepsOne way.now kept.old }
     requires memo { IsRight way.now.course.now memo.old }
     ensures memo { IsRight way.now.course.now memo.new }
@@ -281,14 +288,13 @@ fn row_mended<'x>(
     ensures mends { MendsBlock way.now (placed taken.now) atom y.now (HoldsWith way.now (placed taken.now) atom rest.now y.now) kept.old kept.new result }
 {
     memo.turn();
-    let step = Step {
-        course: &*way.course,
+    let course = way.course;
+    let look = Look {
+        setting: &course.setting,
         taken: &*taken,
         atom,
-        rest: &*rest,
     };
-    if !fits(&step, way.row, y) {
-        let course = way.course;
+    if !fits(&look, way.row, y) {
         return Some(course.order.len() - rest.len());
     }
     mend_rest(&*way, &Taken::Before(atom, &*y, &*taken), rest, kept, memo)
@@ -304,7 +310,8 @@ fn mend_all(way: &Way<'_>, kept: &mut [Choice]) -> bool
 {
     let course = way.course;
     let setting = &course.setting;
-    let mut memo = Memo::new(setting.alloc, turns_before_memo(setting));
+    let turns = turns_before_memo(setting);
+    let mut memo = Memo::new(setting.alloc, turns, rests_to_keep(setting));
     let mended = mend_rest(way, &Taken::Nothing, course.order, kept, &mut memo);
     drop(memo);
     mended.is_some()
@@ -329,8 +336,8 @@ fn mended(way: &Way<'_>, kept: &mut [Choice]) -> Result<Option<Repair>, NoMemory
 }
 
 /// A repair that holds no witness of a row, by the query's plan; `None` exactly where the row is certain, so that there
-/// is no such repair (Koutris and Wijsen, ACM TODS 2017). Rows are found by the given indexes, of each atom's table one or
-/// none.
+/// is no such repair (Koutris and Wijsen, ACM TODS 2017). Rows of an atom are found by the index at its place in `paths`, if
+/// there is one, or else by rows of the later atoms that `ways` lists at its place; either may be empty.
 ///
 /// # Errors
 ///
@@ -342,11 +349,13 @@ pub fn mend(
     plan: &Plan,
     row: &Row,
     paths: &[Option<RowIndex<'_>>],
+    ways: &[Items<Link<'_>>],
 ) -> Result<Option<Repair>, NoMemory>
     requires fits { FitsDatabase query.now db.now }
     requires plan { IsPlanOf query.now plan.now.order }
     requires long { length row.now ≡ length query.now.answer }
     requires paths { ArePaths query.now db.now paths.now }
+    requires ways { AreWays query.now db.now plan.now.order ways.now }
     ensures certain { IfOk result (λ found. IsNone found ↔ IsCertain db.now query.now row.now) }
     ensures rejects { IfOk result (λ found. IfSome found (λ repair. Rejects query.now db.now row.now repair.kept)) }
     ensures stored { IfOk result (λ found. IfSome found (λ repair. AreStored db.now repair.kept)) }
@@ -366,6 +375,7 @@ pub fn mend(
         setting,
         order,
         shared: shared.as_slice(),
+        ways: &*ways,
     };
     let way = Way {
         course: &course,

@@ -12,7 +12,6 @@ pub mod Placing
 pub mod Columns
 pub mod Naming
 pub mod Encoding
-pub mod Deciding
 pub mod Candidates
 pub mod FreeRows
 pub mod Loosening

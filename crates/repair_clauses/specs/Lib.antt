@@ -6,5 +6,4 @@ pub mod Runs
 pub mod Avoiding
 pub mod Laws
 pub mod Encodings
-pub mod Deciding
 pub mod Candidates

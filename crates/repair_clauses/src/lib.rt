@@ -6,7 +6,6 @@
 mod avoiding;
 mod clauses;
 pub mod column;
-mod decision;
 mod formula;
 pub mod laws;
 pub mod numbering;
@@ -17,6 +16,5 @@ pub mod span;
 
 pub use avoiding::are_avoidable;
 pub use clauses::{add_blocks, fill_block, fill_witness};
-pub use decision::{Decided, decide, solved};
 pub use formula::{Encoded, encode, formula_over};
 pub use relevant::{atom_of, relevant_blocks};

@@ -3,3 +3,6 @@ pub mod Joining
 pub mod Opening
 pub mod Putting
 pub mod Retaining
+pub mod Answering
+pub mod Halving
+pub mod Marking

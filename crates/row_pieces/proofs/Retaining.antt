@@ -7,7 +7,7 @@ use Rattle.std.proofs.lemmas.List.Elements.{filter-append}
 use Rattle.cqa_value.specs.declared.value.Value.{Value as Cell}
 use Rattle.row_pieces.specs.declared.piece.Piece.{Piece}
 use Rattle.row_pieces.specs.Joined.{joined, AreNumbered, IsPieceOf}
-use Rattle.marked_rows.specs.Retained.{retained}
+use Rattle.row_pieces.specs.Retained.{retained}
 use Rattle.row_pieces.proofs.Joining.{take_past, drop_past, joined-append, joined_at, joined_more, joined_parts, joined_rest, joined_set, numbered_at}
 use native.Mathlib.Decide.{dec_le}
 

@@ -1,2 +1,4 @@
 pub mod Inserted
 pub mod Joined
+pub mod Marks
+pub mod Retained

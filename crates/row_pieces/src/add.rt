@@ -3,9 +3,9 @@
 ghost use Rattle.std.specs.Prelude.{◌≡◌, ◌≤◌, ◌++◌, OnOk, OnErr, [], length, reverse, take};
 ghost use Rattle.row_pieces.specs.Joined.{joined, AreNumbered};
 
+use crate::marked::MarkedRows;
 use crate::piece::{MOST_IN_PIECE, Piece};
 use cqa_value::{NoMemory, Row};
-use marked_rows::MarkedRows;
 
 /// Cuts rows into pieces, from the last on, until few are left.
 ///

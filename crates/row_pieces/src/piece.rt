@@ -3,9 +3,9 @@
 ghost use Rattle.std.specs.Prelude.{◌≡◌, ℕ, IsTrue, ◌≤◌, ◌<◌, ◌+◌, ◌-◌, ◌++◌, ◌^◌, Some, length, take, drop, slice_get};
 ghost use Rattle.row_pieces.specs.Joined.{joined, AreNumbered, IsPieceOf};
 
+use crate::marked::MarkedRows;
 use crate::near::{piece_about, piece_from};
 use cqa_value::Row;
-use marked_rows::MarkedRows;
 
 /// The most rows that a piece is left with where memory is had to cut it.
 pub const MOST_IN_PIECE: usize = 256;

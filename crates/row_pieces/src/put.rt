@@ -7,9 +7,9 @@ ghost use Rattle.row_pieces.specs.Inserted.{with_item, with_items, AreRising};
 ghost use Rattle.row_pieces.specs.Joined.{joined, AreNumbered, IsOpen};
 
 use crate::add::add_behind;
+use crate::marked::MarkedRows;
 use crate::piece::{MOST_IN_PIECE, Piece, piece_near};
 use cqa_value::{NoMemory, Row};
-use marked_rows::MarkedRows;
 
 /// Cuts a piece in two where memory is had for that, and gives the number of pieces up to its end.
 fn cut(pieces: &mut Vec<Piece>, at: usize, middle: usize) -> usize

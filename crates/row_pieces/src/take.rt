@@ -4,11 +4,11 @@ ghost use Rattle.std.specs.Prelude.{◌≡◌, ◌≤◌, ◌+◌, ◌-◌, ◌+
 ghost use Rattle.std.specs.Fn.{ComputesKey};
 ghost use Rattle.cqa_value.specs.declared.value.Value.{Value as Cell};
 ghost use Rattle.row_pieces.specs.Joined.{joined, AreNumbered};
-ghost use Rattle.marked_rows.specs.Retained.{retained};
+ghost use Rattle.row_pieces.specs.Retained.{retained};
 
+use crate::marked::MarkedRows;
 use crate::piece::{Piece, piece_of};
 use cqa_value::Row;
-use marked_rows::MarkedRows;
 
 /// Takes the rows of a stretch away that don't pass a test, as far as it goes over these, and gives the test.
 fn retain_some<P: FnMut(&Row) -> bool>(rows: &mut MarkedRows, from: usize, to: usize, stays: P) -> P

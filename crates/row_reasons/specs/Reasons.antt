@@ -18,7 +18,7 @@ use Rattle.cdcl.specs.declared.outcome.Outcome.TheVariants as outcomes
 use Rattle.fo_plan.specs.FirstBlock.{IsFirstBlock}
 use Rattle.join_witness.specs.Listing.{HasTooMany}
 use Rattle.repair_back.specs.Results.{AreStored, Rejects, contested_of}
-use Rattle.repair_clauses.specs.Deciding.{IsDecided}
+use Rattle.search_answers.specs.Deciding.{IsDecided}
 use Rattle.repair_clauses.specs.Encodings.{IsEncoded}
 use Rattle.weak_pairs.specs.Pairs.{IsPair}
 use Rattle.row_reasons.specs.declared.reason.Reason.{Reason}

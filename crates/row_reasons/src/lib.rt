@@ -5,10 +5,12 @@
 
 mod chosen;
 mod explain;
+mod laws;
 mod paired;
 mod planned;
 mod reason;
 mod searched;
 
 pub use explain::explain_row;
+pub use laws::model_rejects;
 pub use reason::{Reason, Stop};

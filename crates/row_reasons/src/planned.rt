@@ -7,14 +7,16 @@ ghost use Rattle.cqa_model.specs.Certain.{IsCertain};
 ghost use Rattle.cqa_model.specs.declared.limits.TheConstants.{MOST_COLUMNS};
 ghost use Rattle.cqa_model.specs.Plan.{IsPlanOf};
 ghost use Rattle.row_cursor.specs.Spots.{ArePaths};
+ghost use Rattle.plan_rows.specs.Links.{AreWays};
 ghost use Rattle.fo_rewrite.specs.Planning.{IsExact};
 ghost use Rattle.row_reasons.specs.Reasons.{HasNoPlan, IsReason};
 
 use crate::chosen::chosen;
 use crate::reason::Reason;
 use cqa_model::{Plan, Query};
-use cqa_value::{NOTHING, NoMemory, Row};
-use fo_plan::{block_of, paths_of};
+use cqa_value::{Items, NOTHING, NoMemory, Row};
+use fo_plan::{block_of, paths_of, ways_of};
+use plan_rows::Link;
 use repair_back::mend;
 use row_cursor::RowIndex;
 use std::alloc::Global;
@@ -33,23 +35,25 @@ fn values_of(alloc: Global, key: &[u32], row: &Row) -> Result<Row, NoMemory>
 }
 
 /// The block by which a row is certain, if it is.
-fn by_block<'a>(
+fn by_block(
     alloc: Global,
-    db: &'a Database,
-    query: &'a Query,
+    db: &Database,
+    query: &Query,
     plan: &Plan,
     row: &Row,
-    paths: &'a [Option<RowIndex<'a>>],
+    paths: &[Option<RowIndex<'_>>],
+    ways: &[Items<Link<'_>>],
 ) -> Result<Option<Reason>, NoMemory>
     requires fits { FitsDatabase query.now db.now }
     requires plan { IsPlanOf query.now plan.now.order }
     requires exact { IsExact query.now plan.now.order }
     requires long { length row.now ≡ length query.now.answer }
     requires paths { ArePaths query.now db.now paths.now }
+    requires ways { AreWays query.now db.now plan.now.order ways.now }
     ensures found { IfOk result (λ found. IfSome found (IsReason db.now query.now row.now)) }
     ensures none { IfOk result (λ found. IsNone found → IsCertain db.now query.now row.now → ⊥) }
 {
-    let Some(block) = block_of(alloc, plan, db, query, row, paths) else {
+    let Some(block) = block_of(alloc, plan, db, query, row, paths, ways) else {
         return Ok(None);
     };
     let first = plan.order.as_slice()[0];
@@ -67,30 +71,57 @@ fn rejected(
     plan: &Plan,
     row: &Row,
     paths: &[Option<RowIndex<'_>>],
+    ways: &[Items<Link<'_>>],
 ) -> Result<Reason, NoMemory>
     requires fits { FitsDatabase query.now db.now }
     requires plan { IsPlanOf query.now plan.now.order }
     requires acyclic { HasNoPlan query.now → ⊥ }
     requires long { length row.now ≡ length query.now.answer }
     requires paths { ArePaths query.now db.now paths.now }
+    requires ways { AreWays query.now db.now plan.now.order ways.now }
     requires uncertain { IsCertain db.now query.now row.now → ⊥ }
     ensures { IfOk result (IsReason db.now query.now row.now) }
 {
-    let Some(repair) = mend(alloc, db, query, plan, row, paths)? else {
+    let Some(repair) = mend(alloc, db, query, plan, row, paths, ways)? else {
         unreachable!()
     };
     let names = chosen(alloc, db, repair)?;
     Ok(Reason::Rejected(names))
 }
 
-/// The reason of a row, by indexes of the query's tables.
-fn by_paths<'a>(
+/// The reason of a row, by indexes of the query's tables and by links of its atoms.
+fn by_ways(
     alloc: Global,
-    db: &'a Database,
-    query: &'a Query,
+    db: &Database,
+    query: &Query,
     plan: &Plan,
     row: &Row,
-    paths: &'a [Option<RowIndex<'a>>],
+    paths: &[Option<RowIndex<'_>>],
+    ways: &[Items<Link<'_>>],
+) -> Result<Reason, NoMemory>
+    requires fits { FitsDatabase query.now db.now }
+    requires plan { IsPlanOf query.now plan.now.order }
+    requires exact { IsExact query.now plan.now.order }
+    requires acyclic { HasNoPlan query.now → ⊥ }
+    requires long { length row.now ≡ length query.now.answer }
+    requires paths { ArePaths query.now db.now paths.now }
+    requires ways { AreWays query.now db.now plan.now.order ways.now }
+    ensures { IfOk result (IsReason db.now query.now row.now) }
+{
+    match by_block(alloc, db, query, plan, row, paths, ways)? {
+        Some(reason) => Ok(reason),
+        None => rejected(alloc, db, query, plan, row, paths, ways),
+    }
+}
+
+/// The reason of a row, by indexes of the query's tables.
+fn by_paths(
+    alloc: Global,
+    db: &Database,
+    query: &Query,
+    plan: &Plan,
+    row: &Row,
+    paths: &[Option<RowIndex<'_>>],
 ) -> Result<Reason, NoMemory>
     requires fits { FitsDatabase query.now db.now }
     requires plan { IsPlanOf query.now plan.now.order }
@@ -100,10 +131,10 @@ fn by_paths<'a>(
     requires paths { ArePaths query.now db.now paths.now }
     ensures { IfOk result (IsReason db.now query.now row.now) }
 {
-    match by_block(alloc, db, query, plan, row, paths)? {
-        Some(reason) => Ok(reason),
-        None => rejected(alloc, db, query, plan, row, paths),
-    }
+    let ways = ways_of(alloc, plan, db, query, query.answer.as_slice())?;
+    let reason = by_ways(alloc, db, query, plan, row, paths, ways.as_slice());
+    drop(ways);
+    reason
 }
 
 /// The reason of a row of a query that has a plan.
@@ -111,10 +142,10 @@ fn by_paths<'a>(
 /// # Errors
 ///
 /// `NoMemory` where memory is refused.
-pub(crate) fn by_plan<'a>(
+pub(crate) fn by_plan(
     alloc: Global,
-    db: &'a Database,
-    query: &'a Query,
+    db: &Database,
+    query: &Query,
     plan: &Plan,
     row: &Row,
 ) -> Result<Reason, NoMemory>

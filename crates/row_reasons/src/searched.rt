@@ -5,7 +5,7 @@ ghost use Rattle.cqa_model.specs.Query.{FitsDatabase};
 ghost use Rattle.cdcl.specs.Outcomes.{IsModel};
 ghost use Rattle.join_witness.specs.Listing.{HasTooMany};
 ghost use Rattle.repair_back.specs.Results.{AreStored};
-ghost use Rattle.repair_clauses.specs.Deciding.{IsDecided};
+ghost use Rattle.search_answers.specs.Deciding.{IsDecided};
 ghost use Rattle.repair_clauses.specs.Encodings.{IsEncoded};
 ghost use Rattle.row_reasons.specs.Reasons.{IsReason, IsRejected, IsStopped, NeedsSearch};
 
@@ -16,7 +16,8 @@ use cqa_model::{Query, RowId};
 use cqa_value::{Fail, Items, NoMemory, Row};
 use join_witness::TooMany;
 use repair_back::from_model;
-use repair_clauses::{Decided, Encoded, decide};
+use repair_clauses::Encoded;
+use search_answers::{Decided, decide};
 use std::alloc::Global;
 use table_blocks::Database;
 

@@ -1,4 +1,5 @@
-//! The cases that no script can show: devices that fail, words that aren't accepted, how much is read, and a long proof.
+//! The cases that no script can show: words that aren't accepted, sizes of `demo`, devices that fail, how much is read, and a
+//! long proof.
 
 use crate::comparing::ends_as_wanted;
 use crate::running::{Case, run, run_calm};
@@ -36,7 +37,7 @@ const FIRST_STATEMENT: usize = 70;
 const REFUTED: &[u8] = b"c two units\np cnf 1 2\n1 0 -1\n0\nlrat\n3 0 1 2 0\n";
 
 /// A run that is answered whole.
-const ANSWERED: Case<'static> = Case {
+pub const ANSWERED: Case<'static> = Case {
     words: &["run"],
     input: WHOLE,
     piece: 7,
@@ -48,7 +49,7 @@ const ANSWERED: Case<'static> = Case {
 };
 
 /// A check of a proof that passes.
-const VERIFIED: Case<'static> = Case {
+pub const VERIFIED: Case<'static> = Case {
     words: &["check"],
     input: REFUTED,
     output: b"verified\n",
@@ -76,31 +77,79 @@ const FIRST_WRITE_FAILS: Case<'static> = Case {
     ..WRITE_FAILS
 };
 
-/// Each status of `run`, and words that aren't accepted.
-const RUNS: [Case<'static>; 9] = [
+/// Words that aren't accepted.
+const REFUSED: Case<'static> = Case {
+    status: 2,
+    output: b"",
+    ..ANSWERED
+};
+
+/// The first of them are other words, the next ones sizes that `demo` doesn't take.
+const REFUSALS: [Case<'static>; 8] = [
+    Case {
+        words: &["runs"],
+        ..REFUSED
+    },
+    Case {
+        words: &[],
+        ..REFUSED
+    },
+    Case {
+        words: &["run", "run"],
+        ..REFUSED
+    },
+    Case {
+        words: &["run", "x"],
+        ..REFUSED
+    },
+    Case {
+        words: &["--help"],
+        ..REFUSED
+    },
+    Case {
+        words: &["demo", "0"],
+        ..REFUSED
+    },
+    Case {
+        words: &["demo", "100001"],
+        ..REFUSED
+    },
+    Case {
+        words: &["demo", "+5"],
+        ..REFUSED
+    },
+];
+
+/// The script of the least size. A first read would fail: the input stays unread.
+const DEMO: Case<'static> = Case {
+    words: &["demo", "1"],
+    read: 1,
+    output: b"demo 1: statements 12, rows 156, certain 0, possible 2, refused 0\n",
+    ..ANSWERED
+};
+
+/// Scripts of three sizes.
+const DEMOS: [Case<'static>; 3] = [
+    DEMO,
+    Case {
+        words: &["demo", "300"],
+        output: b"demo 300: statements 12, rows 1625, certain 175, possible 500, refused 0\n",
+        ..DEMO
+    },
+    Case {
+        words: &["demo", "20000"],
+        output: b"demo 20000: statements 12, rows 98483, certain 11666, possible 33333, refused 0\n",
+        ..DEMO
+    },
+];
+
+/// Each status of `run`.
+const RUNS: [Case<'static>; 6] = [
     ANSWERED,
     Case {
         input: UNFINISHED,
         status: 1,
         output: b"created t\ninserted 2\nerror 15 Unfinished\n",
-        ..ANSWERED
-    },
-    Case {
-        words: &["runs"],
-        status: 2,
-        output: b"",
-        ..ANSWERED
-    },
-    Case {
-        words: &[],
-        status: 2,
-        output: b"",
-        ..ANSWERED
-    },
-    Case {
-        words: &["run", "run"],
-        status: 2,
-        output: b"",
         ..ANSWERED
     },
     Case {
@@ -274,14 +323,17 @@ fn checks_a_long_proof(rt: &HostRuntime) -> io::Result<bool> {
 
 /// How many cases of all tables end otherwise. Lines say which.
 fn all_failures(rt: &HostRuntime) -> io::Result<u64> {
+    let refusals = failures(rt, "words that aren't accepted", &REFUSALS)?;
+    let demos = failures(rt, "a size of demo", &DEMOS)?;
     let runs = failures(rt, "a status of run", &RUNS)?;
     let checks = failures(rt, "a status of check", &CHECKS)?;
     let failing = failures(rt, "a device that fails", &FAILING)?;
-    Ok(runs.saturating_add(checks).saturating_add(failing))
+    let statuses = runs.saturating_add(checks).saturating_add(failing);
+    Ok(refusals.saturating_add(demos).saturating_add(statuses))
 }
 
 /// Hands on whether something is so. A line says it where it isn't.
-fn told(rt: &HostRuntime, is_so: bool, otherwise: &str) -> io::Result<bool> {
+pub fn told(rt: &HostRuntime, is_so: bool, otherwise: &str) -> io::Result<bool> {
     if !is_so {
         println!(rt; "{otherwise}")?;
     }

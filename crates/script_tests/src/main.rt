@@ -4,6 +4,8 @@
 
 mod comparing;
 mod devices;
+mod explanations;
+mod limits;
 mod running;
 mod scripts;
 
@@ -18,6 +20,12 @@ fn main(rt: HostRuntime) -> io::Result<()> {
     }
     if devices::all_pass(&rt)? {
         println!(rt; "each call ends as it has to")?;
+    }
+    if explanations::all_pass(&rt)? {
+        println!(rt; "each explanation is one that it may be")?;
+    }
+    if limits::all_pass(&rt)? {
+        println!(rt; "each limit is kept")?;
     }
     Ok(())
 }

@@ -1,10 +1,11 @@
 //! A call of the program, over a new session and devices in memory.
 
 ghost use Rattle.std.specs.Prelude.{◌≡◌, ◌∷◌, [], IfOk, map, max, string_bytes};
-ghost use Rattle.script_tests.specs.Calls.{Ends, IsCall, outside};
+ghost use Rattle.command_shell.specs.Top.{told};
+ghost use Rattle.script_tests.specs.Calls.{Ends, IsCall};
 
 use command_shell::run_words;
-use cqa_io::{CalmSource, CountSink, MemSink, MemSource};
+use cqa_io::{CalmSource, CountSink, MemSink, MemSource, Sink, Source};
 use cqa_session::{CONFLICTS, Session};
 use std::alloc::{AllocError, Global};
 
@@ -65,14 +66,14 @@ fn sink_of(alloc: Global, case: &Case<'_>) -> Result<MemSink, AllocError>
     MemSink::new(alloc, case.room, failing).map_err(|_| AllocError)
 }
 
-/// The status of a call of the program over its devices.
-fn status_of(
+/// The status of a call of the program on a case's words, over these devices.
+pub fn status_of<S: Source, K: Sink>(
     alloc: Global,
     case: &Case<'_>,
-    source: &mut MemSource,
-    sink: &mut MemSink,
+    source: &mut S,
+    sink: &mut K,
 ) -> Result<u8, AllocError>
-    ensures { IfOk result (λ status. IsCall (map (λ word. word.now) case.now.words.now) (outside source.old sink.old) status (outside source.new sink.new)) }
+    ensures { IfOk result (λ status. IsCall (map (λ word. word.now) case.now.words.now) (told (S.left source.old) (K.held sink.old) (S.faults source.old) (K.faults sink.old)) status (told (S.left source.new) (K.held sink.new) (S.faults source.new) (K.faults sink.new))) }
 {
     let words = words_of(alloc, case)?;
     let mut session = Session::new(alloc, CONFLICTS);
@@ -100,17 +101,7 @@ pub fn run(alloc: Global, case: &Case<'_>) -> Result<End, AllocError>
 pub fn run_calm(alloc: Global, case: &Case<'_>) -> Result<(u8, u64), AllocError> {
     let mut source = CalmSource::new(Vec::from_slice(alloc, case.input)?);
     let mut sink = CountSink::new();
-    let words = words_of(alloc, case)?;
-    let mut session = Session::new(alloc, CONFLICTS);
-    let status = run_words(
-        alloc,
-        words.as_slice(),
-        &mut session,
-        &mut source,
-        &mut sink,
-    );
-    drop(session);
-    drop(words);
+    let status = status_of(alloc, case, &mut source, &mut sink)?;
     drop(source);
     let written = sink.count();
     drop(sink);

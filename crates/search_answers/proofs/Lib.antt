@@ -4,3 +4,4 @@ pub mod Marking
 pub mod ClassLists
 pub mod Searching
 pub mod WitnessRows
+pub mod Deciding

@@ -39,7 +39,7 @@ use Rattle.repair_clauses.proofs.Rows.{number_below, one_variable, dec_number}
 use Rattle.repair_clauses.proofs.Order.{map_var, variable_total}
 use Rattle.repair_clauses.proofs.Naming.{named-size, of_names, placed}
 use Rattle.repair_clauses.proofs.Alike.{classes_are_exact}
-use Rattle.repair_clauses.proofs.Deciding.{no-var-twice}
+use Rattle.search_answers.proofs.Deciding.{no-var-twice}
 use Rattle.search_answers.proofs.ClassLists.{some_some}
 use Rattle.search_answers.proofs.WitnessRows.{rising, span_at}
 

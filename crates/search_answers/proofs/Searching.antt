@@ -20,7 +20,7 @@ use Rattle.search_answers.specs.declared.search.Stop.{Stop}
 use Rattle.search_answers.specs.declared.search.Stop.TheVariants as stop
 use Rattle.cdcl.specs.declared.outcome.Outcome.{Outcome}
 use Rattle.cdcl.specs.declared.outcome.Outcome.TheVariants as outcome
-use Rattle.repair_clauses.specs.Deciding.{SaysOf}
+use Rattle.search_answers.specs.Deciding.{SaysOf}
 use Rattle.cdcl.specs.Outcomes.{OutcomeIs}
 use Rattle.repair_clauses.specs.Encodings.{IsEncoded}
 use Rattle.repair_clauses.specs.declared.formula.Encoded.{Encoded}

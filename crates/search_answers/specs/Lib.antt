@@ -1,3 +1,4 @@
 pub mod Classing
 pub mod Looking
 pub mod Searching
+pub mod Deciding

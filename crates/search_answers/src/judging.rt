@@ -11,6 +11,7 @@ ghost use Rattle.repair_clauses.specs.Encodings.{AreBlocksOf};
 ghost use Rattle.search_answers.specs.Classing.{AreWitnessed};
 ghost use Rattle.search_answers.specs.Searching.{IsVerdict, Judges};
 
+use crate::decision::{Decided, solved};
 use crate::first_look::{Room, first_look};
 use crate::second_look::second_look;
 use cdcl::Outcome;
@@ -20,7 +21,7 @@ use cqa_value::{Fail, NoMemory, Row};
 use flat_formula::Found;
 use join_witness::{Lookup, TooMany, Witness, witnesses_by};
 use repair_clauses::numbering::Numbering;
-use repair_clauses::{Decided, are_avoidable, formula_over, relevant_blocks, solved};
+use repair_clauses::{are_avoidable, formula_over, relevant_blocks};
 use std::alloc::Global;
 use table_blocks::Database;
 

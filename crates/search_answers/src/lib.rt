@@ -5,6 +5,7 @@
 
 mod class_clauses;
 mod classing;
+mod decision;
 mod first_look;
 mod judging;
 mod search;
@@ -12,4 +13,5 @@ mod second_look;
 mod spoken;
 mod witness_rows;
 
+pub use decision::{Decided, decide};
 pub use search::{Searched, Stop, certain_by_search};

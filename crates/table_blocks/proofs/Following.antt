@@ -9,7 +9,7 @@ use Rattle.std.proofs.lemmas.Option.{get_or_from_slice_get}
 use Rattle.cqa_value.specs.declared.value.Value.{Value}
 use Rattle.cqa_value.specs.Values.{nothing, value_cmp, value_cmp_total, row_cmp}
 use Rattle.cqa_model.specs.Database.{key_of, block_cmp}
-use Rattle.marked_rows.specs.Marks.{FollowsFirst, FollowsSecond}
+use Rattle.row_pieces.specs.Marks.{FollowsFirst, FollowsSecond}
 use Rattle.table_blocks.specs.Spans.{probe_cmp, comes_before}
 
 -- to come before a row in block order

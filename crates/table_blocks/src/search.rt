@@ -4,7 +4,7 @@ ghost use Rattle.std.specs.Prelude.{◌≡◌, ◌≤◌, Bool, true, false, Lis
 ghost use Rattle.std.specs.Fn.{ComputesKey};
 ghost use Rattle.std.specs.List.Sorted.{IsPartitionedBy, IsPartitionPoint};
 ghost use Rattle.cqa_value.specs.declared.value.Value.{Value as Cell};
-ghost use Rattle.marked_rows.specs.Marks.{FollowsFirst, FollowsSecond};
+ghost use Rattle.row_pieces.specs.Marks.{FollowsFirst, FollowsSecond};
 
 use cqa_value::{Row, Value};
 use row_pieces::Rows;

@@ -1,6 +1,6 @@
 -- `dump`
 use Rattle.std.specs.Prelude.{◌≡◌}
-use Rattle.dump_text.specs.Dumps.{dump_text}
+use Rattle.csv_rows.specs.Dumps.{dump_text}
 use Rattle.reply_text.specs.declared.reply.Reply.{Reply}
 use Rattle.reply_text.specs.declared.reply.Reply.TheVariants.{Dumped}
 use Rattle.cqa_session.specs.State.{State}

@@ -12,9 +12,9 @@ ghost use Rattle.cqa_session.specs.Statements.Ask.{AnswersCertain, StopsAt, Tell
 use crate::Session;
 use cqa_model::{Query, Refusal};
 use cqa_value::Fail;
+use fo_plan::certain_by_plan;
 use pair_answers::is_pair;
 use pair_formula::certain_by_pairs;
-use plan_answers::certain_by_plan;
 use query_resolve::resolve;
 use reply_text::{Proof, Reply};
 use search_answers::{Searched, Stop, certain_by_search};

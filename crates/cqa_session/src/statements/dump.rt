@@ -7,7 +7,7 @@ ghost use Rattle.cqa_session.specs.Statements.Dump.{Dumps};
 use crate::Session;
 use cqa_model::Refusal;
 use cqa_value::{Fail, Items};
-use dump_text::append_table;
+use csv_rows::append_table;
 use reply_text::Reply;
 use std::alloc::Global;
 

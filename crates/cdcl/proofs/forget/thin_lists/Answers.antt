@@ -1,7 +1,7 @@
 use Rattle.std.proofs.Common.{set, get_or, ◌≡◌, ◌<◌, ℕ, List, [], length, sym, ◌∙◌, ap, subst, arith}
 use Rattle.std.proofs.lemmas.List.{length-set}
 use Rattle.cdcl.specs.Watching.{IsThinned, AreThinned}
-use Rattle.implication_graph.proofs.Works.{At-same, At-get_or}
+use Rattle.search_trail.proofs.Works.{At-same, At-get_or}
 use Rattle.cdcl.proofs.Thinning.{lists_set}
 use Rattle.cdcl.proofs.forget.thin_lists.Goals as goal
 

@@ -1,5 +1,5 @@
 use Rattle.std.proofs.Common.{refl}
-use Rattle.implication_graph.specs.Trail.{held}
+use Rattle.search_trail.specs.Trail.{held}
 use Rattle.cdcl.proofs.TrailLemmas.{all_denied}
 use Rattle.cdcl.proofs.look.seek.Goals as goal
 

@@ -1,7 +1,9 @@
-use Rattle.std.proofs.Common.{None, Some}
+use Rattle.std.proofs.Common.{None, Some, codes, subst}
 use Rattle.command_shell.specs.declared.ending.Command.TheVariants.{Run, Check, Demo}
 use Rattle.command_shell.specs.declared.ending.Ending.TheVariants.{BadWords}
-use Rattle.command_shell.proofs.Statuses.{refused_words, completed}
+use Rattle.command_shell.specs.Top.{AreWordsFor}
+use Rattle.command_shell.proofs.Statuses.{refused_words, completed, demo_completed}
+use Rattle.command_shell.proofs.Words.{no_demo}
 use Rattle.command_shell.proofs.top.run_words.Goals as goal
 
 pub returns-in-None-clause-row : goal.returns-in-None-clause-row
@@ -17,3 +19,16 @@ returns-in-Some-Check-clause-completed g c some words reads writes short =
 pub returns-in-Some-Demo-clause-completed : goal.returns-in-Some-Demo-clause-completed
 returns-in-Some-Demo-clause-completed g c some words reads writes short =
     completed (Some (Demo c.in-Some-Demo.size)) c.demo.result _ _ c.args.session.now _ _ c.code-in-Some-Demo.ensures (c.demo.ensures.row (g.S.Source.left c.args.source.now) (g.S.Source.faults c.args.source.now)) (λ e. (cc)) reads writes short
+
+pub returns-in-None-clause-demo_completed : goal.returns-in-None-clause-demo_completed
+returns-in-None-clause-demo_completed g c size words writes = absurd (c.in-None.ensures (Demo size) words)
+
+pub returns-in-Some-Run-clause-demo_completed : goal.returns-in-Some-Run-clause-demo_completed
+returns-in-Some-Run-clause-demo_completed g c size words writes = absurd (no_demo c.args.words.now (codes "run") size (subst (AreWordsFor c.args.words.now) c.in-Some-Run.field-0-is c.in-Some-Run.ensures) words)
+
+pub returns-in-Some-Check-clause-demo_completed : goal.returns-in-Some-Check-clause-demo_completed
+returns-in-Some-Check-clause-demo_completed g c size words writes = absurd (no_demo c.args.words.now (codes "check") size (subst (AreWordsFor c.args.words.now) c.in-Some-Check.field-0-is c.in-Some-Check.ensures) words)
+
+pub returns-in-Some-Demo-clause-demo_completed : goal.returns-in-Some-Demo-clause-demo_completed
+returns-in-Some-Demo-clause-demo_completed g c size words writes =
+    demo_completed c.in-Some-Demo.size c.demo.result _ _ c.code-in-Some-Demo.ensures (c.demo.ensures.row (g.S.Source.left c.args.source.now) (g.S.Source.faults c.args.source.now)).row writes

@@ -1,6 +1,7 @@
 use Rattle.std.proofs.Common.{subst, sym, Contains, MatchOption}
 use Rattle.cqa_model.specs.Plan.{HoldsOver}
 use Rattle.plan_rows.specs.Left.{AreAtoms, AreShared}
+use Rattle.plan_rows.specs.Links.{AreWays}
 use Rattle.fo_plan.specs.FirstBlock.{IsFirstBlock}
 use Rattle.fo_plan.proofs.block.block_of.Goals as goal
 
@@ -11,6 +12,7 @@ pub invariant_of-course : goal.invariant_of-course
 invariant_of-course c = record {
   atoms = subst (AreAtoms c.args.query.now) (sym c.as_slice-order.ensures) c.requires.plan;
   shares = ∣ subst (AreShared c.args.query.now c.as_slice-order.result.now) (sym c.as_slice.ensures.value) c.shared_or_none-shared.ensures ∣₁;
+  linked = ∣ subst (λ order. AreWays c.args.query.now c.args.db.now order c.args.ways.now) (sym c.as_slice-order.ensures) c.requires.ways ∣₁;
 }
 
 pub found_block-requires-clause-all : goal.found_block-requires-clause-all

@@ -1,6 +1,7 @@
 use Rattle.std.proofs.Common.{subst, sym, inl, Contains, []}
 use Rattle.cqa_model.specs.Database.{stored}
 use Rattle.plan_rows.specs.Left.{AreAtoms, AreShared}
+use Rattle.plan_rows.specs.Links.{AreWays}
 use Rattle.fo_plan.specs.Giving.{Gives, IsAdded}
 use Rattle.fo_plan.proofs.Gathered.{gives-all}
 use Rattle.plan_rows.proofs.Sharing.{underway-starts, none-right}
@@ -13,6 +14,7 @@ pub invariant_of-course : goal.invariant_of-course
 invariant_of-course c = record {
   atoms = subst (AreAtoms c.args.query.now) (sym c.as_slice-order.ensures) c.requires.plan;
   shares = ∣ subst (AreShared c.args.query.now c.as_slice-order.result.now) (sym c.as_slice.ensures.value) c.in_ok-shared.ensures ∣₁;
+  linked = ∣ subst (λ order. AreWays c.args.query.now c.args.db.now order c.args.ways.now) (sym c.as_slice-order.ensures) c.requires.ways ∣₁;
 }
 
 pub invariant_of-rest : goal.invariant_of-rest
@@ -21,17 +23,15 @@ invariant_of-rest c = record { underway = underway-starts _ }
 pub add_given-added-requires-clause-all : goal.add_given-added-requires-clause-all
 add_given-added-requires-clause-all c F l = inl (subst (λ p. Contains p F) (sym c.as_slice-order.ensures) (c.requires.all F l))
 
-pub add_given-added-requires-clause-memo : goal.add_given-added-requires-clause-memo
-add_given-added-requires-clause-memo c = none-right _ c.new-memo.result c.new-memo.ensures
+pub add_given-added-requires-clause-notes : goal.add_given-added-requires-clause-notes
+add_given-added-requires-clause-notes c = record { memo = none-right _ c.new.result c.new.ensures; barren = tt }
 
 pub returns-in-Ok-clause-exactly : goal.returns-in-Ok-clause-exactly
 returns-in-Ok-clause-exactly c row =
     let q = c.args.query.now in
     let tables = stored c.args.db.now in
     let order = c.args.plan.now.order in
-    let found = c.add_given-added.new.found.items in
-    let all = gives-all q tables order found (subst (λ p. IsAdded (Gives q tables [] p) [] found) c.as_slice-order.ensures (subst (λ old. IsAdded (Gives q tables [] c.as_slice-order.result.now) old found) c.new-found.ensures.items c.in-Ok.ensures.added)) row in
-    let same = c.sorted.ensures.same row in (
-      (λ m. all.0 (same.0 (subst (λ z. Contains z row) c.from_vec.ensures m))),
-      (λ h. subst (λ z. Contains z row) (sym c.from_vec.ensures) (same.1 (all.1 h))),
-    )
+    let found = c.add_given-added.new.found in
+    let all = gives-all q tables order found (subst (λ p. IsAdded (Gives q tables [] p) [] found) c.as_slice-order.ensures (subst (λ old. IsAdded (Gives q tables [] c.as_slice-order.result.now) old found) c.new-found.ensures c.in-Ok.ensures.added)) row in
+    let same = c.listed.ensures.same row in
+    ((λ m. all.0 (same.0 m)), (λ h. same.1 (all.1 h)))

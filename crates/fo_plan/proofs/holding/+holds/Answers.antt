@@ -1,17 +1,17 @@
-use Rattle.std.proofs.Common.{rules, IsTrue, ◌↔◌, ◌∙◌, ◌∷◌, refl, subst, sym, arith, Some}
+use Rattle.std.proofs.Common.{rules, IsTrue, ◌↔◌, ◌∙◌, ◌∷◌, refl, subst, sym, arith}
 use Rattle.std.proofs.lemmas.Bool.{false≢true}
 use Rattle.cqa_model.specs.Database.{stored}
-use Rattle.cqa_model.specs.Query.{atom_key, rows_of}
-use Rattle.cqa_model.specs.Plan.{PlanHolds}
+use Rattle.cqa_model.specs.Plan.{Fits, PlanHolds}
 use Rattle.plan_rows.specs.Taking.{placed}
-use Rattle.plan_rows.specs.Knowing.{MayFit}
-use Rattle.plan_rows.specs.Over.{query_of, tables_of, rows_before}
+use Rattle.plan_rows.specs.Over.{query_of, rows_before}
 use Rattle.plan_rows.specs.Underway.{IsUnderway, IsKey}
 use Rattle.plan_rows.proofs.Suiting.{suits-from}
 use Rattle.plan_rows.proofs.PlanParts.{rest-shorter, plan-split}
 use Rattle.plan_rows.proofs.Sharing.{first-atom, underway-more, still-right, keeps-right}
 use Rattle.fo_plan.specs.Holding.{HoldsWith}
-use Rattle.fo_plan.proofs.Passing.{found-in-table, next-some, none-starts, none-on, none-ends}
+use Rattle.fo_plan.proofs.Looks.{of-look}
+use Rattle.fo_plan.proofs.Passing.{next-some, none-starts, none-on, none-ends}
+use Rattle.fo_plan.proofs.Reached.{held-reached}
 use Rattle.fo_plan.proofs.Gathered.{held-starts, held-not, held-on, held-ends}
 use Rattle.fo_plan.proofs.holding.+holds.Goals as goal
 
@@ -91,29 +91,38 @@ all_hold-returns-clause-holds t c = (
 pub row_holds-returns-then-not-fits-clause-memo : goal.row_holds-returns-then-not-fits-clause-memo
 row_holds-returns-then-not-fits-clause-memo t c = still-right c.args.step.now.course.now c.args.memo.now c.turn.new.self c.turn.ensures c.requires
 
+pub row_holds-returns-then-not-fits-clause-holds : goal.row_holds-returns-then-not-fits-clause-holds
+row_holds-returns-then-not-fits-clause-holds t c =
+    let says = of-look c.args.step.now c.look.result c.look.ensures.setting c.look.ensures.taken c.look.ensures.atom (λ s taken F. IsTrue c.fits.result ↔ Fits s.query.now c.args.row.now taken F c.args.y.now) c.fits.ensures in
+    ((λ e. absurd (false≢true e)), (λ h. absurd (false≢true (sym c.if-not-fits.true ∙ says.1 h.0))))
+
+pub row_holds-returns-clause-holds : goal.row_holds-returns-clause-holds
+row_holds-returns-clause-holds t c =
+    let says = of-look c.args.step.now c.look.result c.look.ensures.setting c.look.ensures.taken c.look.ensures.atom (λ s taken F. IsTrue c.fits.result ↔ Fits s.query.now c.args.row.now taken F c.args.y.now) c.fits.ensures in
+    ((λ e. (says.0 c.if-not-fits.false, c.holds_with.ensures.holds.0 e)), (λ h. c.holds_with.ensures.holds.1 h.1))
+
 pub row_holds-invariant_of-rest : goal.row_holds-invariant_of-rest
 row_holds-invariant_of-rest t c =
     let step = c.args.step.now in
-    record { underway = underway-more step.course.now (rows_before step) step.atom step.rest.now c.args.y.now step.underway (suits-from (query_of step) (rows_before step) step.atom c.args.y.now c.args.row.now (c.fits.ensures.0 c.if-not-fits.false)) }
+    let says = of-look step c.look.result c.look.ensures.setting c.look.ensures.taken c.look.ensures.atom (λ s taken F. IsTrue c.fits.result ↔ Fits s.query.now c.args.row.now taken F c.args.y.now) c.fits.ensures in
+    record { underway = underway-more step.course.now (rows_before step) step.atom step.rest.now c.args.y.now step.underway (suits-from (query_of step) (rows_before step) step.atom c.args.y.now c.args.row.now (says.0 c.if-not-fits.false)) }
 
 pub row_holds-holds_with-requires : goal.row_holds-holds_with-requires
 row_holds-holds_with-requires t c = (omega (arith, c.decreases), still-right c.args.step.now.course.now c.args.memo.now c.turn.new.self c.turn.ensures c.requires)
 
 pub some_block-some_of-held-requires : goal.some_block-some_of-held-requires
-some_block-some_of-held-requires t c = (omega (arith, c.decreases), (c.new-blocks.ensures.known, c.requires))
+some_block-some_of-held-requires t c = (omega (arith, c.decreases), ((held-reached c.args.step.now c.new-blocks.result c.args.row.now c.new-blocks.ensures).0, c.requires))
 
 pub some_block-returns-clause-holds : goal.some_block-returns-clause-holds
 some_block-returns-clause-holds t c =
-    let step = c.args.step.now in
-    let q = query_of step in
-    let there = found-in-table c.new-blocks.result (atom_key q step.atom) (rows_of q (tables_of step) step.atom) (MayFit q (Some c.args.row.now) (rows_before step) step.atom) c.new-blocks.ensures.key c.new-blocks.ensures.enough (HoldsWith step c.args.row.now) (λ y r. r.0) in (
+    let there = (held-reached c.args.step.now c.new-blocks.result c.args.row.now c.new-blocks.ensures).1 in (
       (λ e. there.0 (c.some_of-held.ensures.holds.0 e)),
       (λ h. c.some_of-held.ensures.holds.1 (there.1 h)),
     )
 
 pub some_of-loop-block-init : goal.some_of-loop-block-init
 some_of-loop-block-init t c = record {
-  none = none-starts c.args.blocks.now (HoldsWith c.args.step.now c.args.row.now) (λ y r. c.requires.known y r.0) c.start-spot.result.place c.start-spot.ensures.passed;
+  none = none-starts c.args.blocks.now (HoldsWith c.args.step.now c.args.row.now) c.requires.sought c.start-spot.result.place c.start-spot.ensures.passed;
   spot = c.start-spot.ensures.spot;
   right = c.requires.memo;
 }
@@ -126,7 +135,7 @@ some_of-returns-then-all_hold-clause-holds t c = (
 
 pub some_of-loop-block-preserved : goal.some_of-loop-block-preserved
 some_of-loop-block-preserved t c = record {
-  none = none-on c.args.blocks.now (HoldsWith c.args.step.now c.args.row.now) (λ y r. c.requires.known y r.0) c.loop-block.spot.place c.next.new.spot.place c.in-Some.block c.loop-block.invariant.none c.in-Some.ensures.next
+  none = none-on c.args.blocks.now (HoldsWith c.args.step.now c.args.row.now) c.requires.sought c.loop-block.spot.place c.next.new.spot.place c.in-Some.block c.loop-block.invariant.none c.in-Some.ensures.next
       (λ h. false≢true (sym c.if-all_hold.false ∙ c.all_hold.ensures.holds.1 h));
   spot = c.next.ensures.spot;
   right = c.all_hold.ensures.memo;
@@ -135,5 +144,5 @@ some_of-loop-block-preserved t c = record {
 pub some_of-returns-clause-holds : goal.some_of-returns-clause-holds
 some_of-returns-clause-holds t c = (
   (λ e. absurd (false≢true e)),
-  (λ h. absurd (none-ends c.args.blocks.now (HoldsWith c.args.step.now c.args.row.now) (λ y r. c.requires.known y r.0) c.loop-block.spot.place c.loop-block.invariant.none c.in_default.ensures.next h)),
+  (λ h. absurd (none-ends c.args.blocks.now (HoldsWith c.args.step.now c.args.row.now) c.requires.sought c.loop-block.spot.place c.loop-block.invariant.none c.in_default.ensures.next h)),
 )

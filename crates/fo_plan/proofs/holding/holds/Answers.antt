@@ -1,11 +1,16 @@
 use Rattle.std.proofs.Common.{◌↔◌, IsTrue, subst, sym, arith}
 use Rattle.cqa_model.specs.Plan.{HoldsOver}
+use Rattle.cqa_model.proofs.Classic.{mem-nil}
 use Rattle.plan_rows.specs.Left.{AreAtoms}
 use Rattle.plan_rows.proofs.Sharing.{underway-starts, none-right}
 use Rattle.fo_plan.proofs.holding.holds.Goals as goal
 
 pub invariant_of-course : goal.invariant_of-course
-invariant_of-course c = record { atoms = subst (AreAtoms c.args.query.now) (sym c.as_slice-order.ensures) c.requires.plan; shares = ∣ (λ front rest e l. absurd (omega (arith, l))) ∣₁ }
+invariant_of-course c = record {
+  atoms = subst (AreAtoms c.args.query.now) (sym c.as_slice-order.ensures) c.requires.plan;
+  shares = ∣ (λ front rest e l. absurd (omega (arith, l))) ∣₁;
+  linked = ∣ record { links = λ F l m. absurd (mem-nil l m); behind = λ front rest F e G m. absurd (mem-nil G m) } ∣₁;
+}
 
 pub invariant_of-rest : goal.invariant_of-rest
 invariant_of-rest c = record { underway = underway-starts _ }

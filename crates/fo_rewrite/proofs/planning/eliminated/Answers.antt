@@ -8,35 +8,41 @@ use Rattle.fo_rewrite.specs.declared.preference.Choice.TheVariants.{First}
 use Rattle.fo_rewrite.proofs.planning.eliminated.Goals as goal
 
 pub take-init : goal.take-init
-take-init c = rw c.new-order.ensures (planned-start c.args.query.now (c.args.choice ≡ First) c.whole-view.result c.left-left.result c.whole-view.ensures.is c.left-left.ensures)
+take-init c = record {
+  planned = rw c.new-order.ensures (planned-start c.args.outset.now.named.now.query.now (c.args.choice ≡ First) c.args.outset.now.named.now.view c.left-left.result c.requires.whole c.left-left.ensures);
+  attacked = c.requires.attacked;
+}
 
 pub take-preserved : goal.take-preserved
-take-preserved c = rw c.in_ok-push.ensures.ok
-    (planned-more c.args.query.now (c.args.choice ≡ First) c.take.view c.take.left c.remove.new.self c.take.order c.in-Some.atom c.after-view.result c.take.invariant c.in-Some.ensures.next c.in-Some.ensures.first c.after-view.ensures.is c.remove.ensures.is)
+take-preserved c = record {
+  planned = rw c.in_ok-push.ensures.ok
+      (planned-more c.args.outset.now.named.now.query.now (c.args.choice ≡ First) c.take.view c.take.left c.remove.new.self c.take.order c.in-Some.atom c.after-view.result c.take.invariant.planned c.in-Some.ensures.next c.in-Some.ensures.first c.after-view.ensures.is c.remove.ensures.is);
+  attacked = c.attacked_atoms-attacked.ensures;
+}
 
 pub invariant_of-result : goal.invariant_of-result
 invariant_of-result c = record {
-  apart = plan-distinct c.args.query.now c.take.order (whole c.args.query.now) (planned-some c.args.query.now (c.args.choice ≡ First) c.take.view c.take.left c.full.result c.take.order c.take.invariant c.full.ensures c.in-None.ensures);
+  apart = plan-distinct c.args.outset.now.named.now.query.now c.take.order (whole c.args.outset.now.named.now.query.now) (planned-some c.args.outset.now.named.now.query.now (c.args.choice ≡ First) c.take.view c.take.left c.full.result c.take.order c.take.invariant.planned c.full.ensures c.in-None.ensures);
 }
 
 pub returns-in-None-clause-plan : goal.returns-in-None-clause-plan
-returns-in-None-clause-plan c = λ first. planned-first c.args.query.now (c.args.choice ≡ First) c.take.view c.take.left c.full.result c.take.order c.take.invariant c.full.ensures c.in-None.ensures first
+returns-in-None-clause-plan c = λ first. planned-first c.args.outset.now.named.now.query.now (c.args.choice ≡ First) c.take.view c.take.left c.full.result c.take.order c.take.invariant.planned c.full.ensures c.in-None.ensures first
 
 pub returns-in-None-clause-order : goal.returns-in-None-clause-order
-returns-in-None-clause-order c = planned-some c.args.query.now (c.args.choice ≡ First) c.take.view c.take.left c.full.result c.take.order c.take.invariant c.full.ensures c.in-None.ensures
+returns-in-None-clause-order c = planned-some c.args.outset.now.named.now.query.now (c.args.choice ≡ First) c.take.view c.take.left c.full.result c.take.order c.take.invariant.planned c.full.ensures c.in-None.ensures
 
 pub returns-in-None-clause-cycle : goal.returns-in-None-clause-cycle
 returns-in-None-clause-cycle c = (
   (λ e. absurd (true≢false e)),
-  (λ h. absurd (plan_or_cycle.not_both c.args.query.now c.take.order (planned-some c.args.query.now (c.args.choice ≡ First) c.take.view c.take.left c.full.result c.take.order c.take.invariant c.full.ensures c.in-None.ensures) h)),
+  (λ h. absurd (plan_or_cycle.not_both c.args.outset.now.named.now.query.now c.take.order (planned-some c.args.outset.now.named.now.query.now (c.args.choice ≡ First) c.take.view c.take.left c.full.result c.take.order c.take.invariant.planned c.full.ensures c.in-None.ensures) h)),
 )
 
 pub returns-in-None-clause-exact : goal.returns-in-None-clause-exact
 returns-in-None-clause-exact c = λ db row fits long.
-    elimination_is_exact db c.args.query.now row c.take.order fits long (planned-some c.args.query.now (c.args.choice ≡ First) c.take.view c.take.left c.full.result c.take.order c.take.invariant c.full.ensures c.in-None.ensures)
+    elimination_is_exact db c.args.outset.now.named.now.query.now row c.take.order fits long (planned-some c.args.outset.now.named.now.query.now (c.args.choice ≡ First) c.take.view c.take.left c.full.result c.take.order c.take.invariant.planned c.full.ensures c.in-None.ensures)
 
 pub returns-in-Some-first_shared-clause-cycle : goal.returns-in-Some-first_shared-clause-cycle
 returns-in-Some-first_shared-clause-cycle c = (
-  (λ e. planned-none c.args.query.now (c.args.choice ≡ First) c.take.view c.take.left c.take.order c.take.invariant c.in_default.ensures.next c.in-Some-first_shared.field-0 c.in-Some-first_shared.ensures.1),
+  (λ e. planned-none c.args.outset.now.named.now.query.now (c.args.choice ≡ First) c.take.view c.take.left c.take.order c.take.invariant.planned c.in_default.ensures.next c.in-Some-first_shared.field-0 c.in-Some-first_shared.ensures.1),
   (λ h. refl),
 )

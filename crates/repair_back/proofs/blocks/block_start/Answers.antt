@@ -1,4 +1,4 @@
-use Rattle.std.proofs.Common.{ℕ, ◌≤◌, [], get_or, arith}
+use Rattle.std.proofs.Common.{◌≤◌, [], get_or, arith}
 use Rattle.cqa_model.specs.Repairs.{SharesKey}
 use Rattle.cqa_model.proofs.Repairs.{shares-sym, shares-trans}
 use Rattle.repair_back.proofs.blocks.block_start.Goals as goal

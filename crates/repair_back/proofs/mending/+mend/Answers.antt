@@ -7,25 +7,26 @@ use Rattle.cqa_model.specs.Database.{stored}
 use Rattle.cqa_value.specs.declared.value.Value.{Value}
 use Rattle.cqa_model.specs.Repairs.{SharesKey}
 use Rattle.cqa_model.specs.Query.{atom_key}
-use Rattle.cqa_model.specs.Plan.{Fits, IsPlan, PlanHolds}
+use Rattle.cqa_model.specs.Plan.{IsPlan, PlanHolds}
 use Rattle.cqa_model.specs.Partial.{view_of}
 use Rattle.cqa_model.proofs.Views.{view-in_range}
 use Rattle.plan_rows.specs.Taking.{placed}
 use Rattle.plan_rows.specs.Underway.{IsUnderway, IsRight}
 use Rattle.plan_rows.specs.declared.memo.Memo.{Memo}
-use Rattle.plan_rows.proofs.Sharing.{passed-count, underway-more, still-right, keeps-right}
+use Rattle.plan_rows.proofs.Sharing.{passed-count, underway-more, underway-taken, still-right, keeps-right}
 use Rattle.plan_rows.proofs.Suiting.{suits-from}
 use Rattle.plan_rows.proofs.PlanParts.{plan-split, rest-shorter}
+use Rattle.plan_rows.specs.Links.{RowHolds, atoms_on}
 use Rattle.repair_back.specs.Flags.{IsFlagged}
-use Rattle.repair_back.specs.Mending.{Lacks, RowHolds}
-use Rattle.repair_back.specs.Along.{IsFreeFrom, Mends, rows_on}
+use Rattle.repair_back.specs.Mending.{Lacks}
+use Rattle.repair_back.specs.Along.{IsFreeFrom, Mends}
 use Rattle.repair_back.proofs.Outcomes.{block-found, few-of}
 use Rattle.repair_back.specs.Walking.{IsBlock}
 use Rattle.repair_back.proofs.Apart.{none-enough, none-whole, none-past, if-before, some-none}
 use Rattle.repair_back.proofs.Stepping.{reached-joined, reached-same, reached-forget, lacks-none, lacks-unfit}
-use Rattle.repair_back.proofs.Looking.{passed-fits}
+use Rattle.repair_back.proofs.Looking.{passed-led, outside-led}
 use Rattle.repair_back.proofs.BlockEnds.{in-block}
-use Rattle.repair_back.proofs.Mended.{BlocksSoFar, blocks-none, blocks-more, blocks-on, blocks-all, block-holds, turned, rows-turned, rows-skip, block-lacks, kept-read}
+use Rattle.repair_back.proofs.Mended.{IsInWitness, BlocksSoFar, blocks-none, blocks-more, blocks-on, blocks-all, block-holds, turned, rows-turned, rows-skip, block-lacks, kept-read}
 use Rattle.repair_back.proofs.mending.+mend.Goals as goal
 use Rattle.repair_back.proofs.mending.+mend.Goals.{mend_places-then-at-done+in_ok-mended+else-mended-before, mend_places-else-at-done}
 
@@ -57,7 +58,7 @@ mend_block-loop-next-init t c =
         after = k.after;
         before = k.before;
         is_kept = subst (λ f. IsFlagged f c.kept_of-first.result) (sym c.row_mended.ensures.same) k.kept;
-        holds = subst (λ x. RowHolds c.args.way.now.course.now.setting.db.now c.args.way.now.course.now.setting.query.now c.args.way.now.row.now (placed c.args.taken.now) c.args.atom c.args.rest.now x)
+        holds = subst (λ x. RowHolds c.args.way.now.course.now.setting.query.now (stored c.args.way.now.course.now.setting.db.now) c.args.way.now.row.now (placed c.args.taken.now) c.args.atom c.args.rest.now x)
             (sym (get_or_from_slice_get c.args.rows.now c.kept_of-first.result c.get.result.now [] c.get.ensures)) (m.holds (search rules));
         held = λ i l b. absurd (omega (arith, l, b));
       };
@@ -70,7 +71,7 @@ mend_block-loop-next-preserved-then-next-first t c =
     record {
       right = c.loop-next.invariant.right;
       rows = rows-skip c.args.way.now.course.now.setting.query.now c.args.way.now.course.now.setting.db.now c.args.way.now.row.now (placed c.args.taken.now) c.args.atom c.args.rest.now c.args.kept.now c.loop-next.kept c.args.rows.now c.args.start c.args.end c.loop-next.last c.loop-next.next c.loop-next.invariant.rows
-          (subst (λ x. RowHolds c.args.way.now.course.now.setting.db.now c.args.way.now.course.now.setting.query.now c.args.way.now.row.now (placed c.args.taken.now) c.args.atom c.args.rest.now x)
+          (subst (λ x. RowHolds c.args.way.now.course.now.setting.query.now (stored c.args.way.now.course.now.setting.db.now) c.args.way.now.row.now (placed c.args.taken.now) c.args.atom c.args.rest.now x)
           (sym (get_or_from_slice_get c.args.rows.now c.kept_of-first.result c.get.result.now [] c.get.ensures) ∙ ap (λ i. get_or c.args.rows.now i []) (sym c.if-next-first.true))
           (c.row_mended.ensures.mends.holds (search rules)));
     }
@@ -110,7 +111,7 @@ mend_block-loop-next-preserved t c =
       rows = rows-turned c.args.way.now.course.now.setting.query.now c.args.way.now.course.now.setting.db.now c.args.way.now.course.now.setting.fits c.args.way.now.row.now c.args.way.now.long (placed c.args.taken.now) c.requires.next.taken_fit c.args.atom c.requires.next.has c.args.rest.now c.requires.next.plan
           c.args.rows.now c.requires.rows c.args.start c.args.end c.requires.block c.args.kept.now c.loop-next.kept c.keep.new.kept c.row_mended-in-loop-next.new.kept c.loop-next.last c.loop-next.next c.loop-next.invariant.rows turn c.loop-next.auto.next test
           k.is m.chosen m.reached c.row_mended-in-loop-next.ensures.same
-          (subst (λ x. RowHolds c.args.way.now.course.now.setting.db.now c.args.way.now.course.now.setting.query.now c.args.way.now.row.now (placed c.args.taken.now) c.args.atom c.args.rest.now x)
+          (subst (λ x. RowHolds c.args.way.now.course.now.setting.query.now (stored c.args.way.now.course.now.setting.db.now) c.args.way.now.row.now (placed c.args.taken.now) c.args.atom c.args.rest.now x)
           (sym (get_or_from_slice_get c.args.rows.now c.loop-next.next c.get-in-loop-next.result.now [] c.get-in-loop-next.ensures)) (m.holds (search rules)));
     }
 
@@ -121,11 +122,11 @@ mend_places-loop-at-init t c =
 pub mend_places-loop-at-preserved : goal.mend_places-loop-at-preserved
 mend_places-loop-at-preserved t c =
     let is = c.rows-rows.ensures.is ∙ ap (λ n. get_or (stored c.args.way.now.course.now.setting.db.now) n []) c.table_of.ensures in
-    let within = c.requires.there.within in
+    let within = c.requires.there.2.within in
     let inside : c.loop-at.at < length c.rows-rows.result = subst (λ (rs : List (List Value)). c.loop-at.at < length rs) (sym is) (omega (arith, c.loop-at-test.true, within)) in
-    let passed : (i : ℕ) → c.loop-at.at < i → i < c.after-at.result → Fits c.args.way.now.course.now.setting.query.now c.args.way.now.row.now (placed c.args.taken.now) c.args.atom (get_or c.rows-rows.result i []) → ⊥ =
-    λ i low high f. passed-fits c.args.way.now.course.now.setting.query.now c.args.way.now.row.now (placed c.args.taken.now) c.args.atom (rows_on c.args.way.now c.args.atom) c.args.places.now c.requires.there c.loop-at.at c.after-at.result c.after-at.ensures.passed i low high
-    (subst (λ (rs : List (List Value)). Fits c.args.way.now.course.now.setting.query.now c.args.way.now.row.now (placed c.args.taken.now) c.args.atom (get_or rs i [])) is f) in
+    let passed : (i : ℕ) → c.loop-at.at < i → i < c.after-at.result → i < length c.rows-rows.result → IsInWitness c.args.way.now.course.now.setting.query.now c.args.way.now.course.now.setting.db.now c.args.way.now.row.now (placed c.args.taken.now) c.args.atom (get_or c.rows-rows.result i []) → ⊥ =
+    λ i low high. subst (λ (rs : List (List Value)). i < length rs → IsInWitness c.args.way.now.course.now.setting.query.now c.args.way.now.course.now.setting.db.now c.args.way.now.row.now (placed c.args.taken.now) c.args.atom (get_or rs i []) → ⊥) (sym is)
+    (passed-led c.args.way.now (placed c.args.taken.now) c.args.atom c.args.rest.now c.requires.next c.args.places.now c.requires.there c.loop-at.at c.after-at.result c.after-at.ensures.passed i low high) in
     elim c.if-at-done.branch [
       | mend_places-then-at-done+in_ok-mended+else-mended-before w ↦
           let block = subst (λ key. IsBlock key c.rows-rows.result w.block_start-start.result w.block_end-done.result) c.key_of-key.ensures w.block_end-done.ensures.block in
@@ -266,9 +267,10 @@ mend_places-returns-clause-mends t c =
       reached = b.reached;
       few = omega (arith, n);
       mended = none-whole c.args.way.now.course.now.setting.query.now c.args.way.now.course.now.setting.db.now c.args.way.now.row.now c.loop-at.kept (placed c.args.taken.now) _ (omega (arith, n))
-          (blocks-all c.args.way.now.course.now.setting.query.now c.args.way.now.course.now.setting.db.now c.args.way.now.course.now.setting.fits c.args.way.now.row.now c.args.way.now.long (placed c.args.taken.now) c.requires.next.taken_fit c.args.atom c.requires.next.has c.args.kept.now c.loop-at.kept
+          (blocks-all c.args.way.now.course.now.setting.query.now c.args.way.now.course.now.setting.db.now c.args.way.now.row.now (placed c.args.taken.now) c.args.atom c.requires.next.has c.args.kept.now c.loop-at.kept
           c.rows-rows.result c.args.places.now.start c.args.places.now.end c.loop-at.at c.loop-at.done is
-          (subst (λ (rs : List (List Value)). (i : ℕ) → i < length rs → (i < c.args.places.now.start) ⊎ (c.args.places.now.end ≤ i) → Fits c.args.way.now.course.now.setting.query.now c.args.way.now.row.now (placed c.args.taken.now) c.args.atom (get_or rs i []) → ⊥) (sym is) c.requires.there.others)
+          (subst (λ (rs : List (List Value)). (i : ℕ) → i < length rs → (i < c.args.places.now.start) ⊎ (c.args.places.now.end ≤ i) → IsInWitness c.args.way.now.course.now.setting.query.now c.args.way.now.course.now.setting.db.now c.args.way.now.row.now (placed c.args.taken.now) c.args.atom (get_or rs i []) → ⊥) (sym is)
+          (outside-led c.args.way.now (placed c.args.taken.now) c.args.atom c.args.rest.now c.requires.next c.args.places.now c.requires.there))
           c.loop-at.invariant.blocks (omega (arith, c.loop-at-test.false)));
       holds = λ e. absurd (true≢false e);
     }
@@ -349,5 +351,12 @@ pub remembered-returns-in-None-clause-mends : goal.remembered-returns-in-None-cl
 remembered-returns-in-None-clause-mends t c =
     subst (λ r. Mends c.args.way.now (placed c.args.taken.now) c.args.plan.now c.args.kept.now c.mend_anew.new.kept r) c.in-None.is c.mend_anew.ensures.mends
 
+pub mend_blocks-invariant_of-look : goal.mend_blocks-invariant_of-look
+mend_blocks-invariant_of-look t c = record { of_atoms = underway-taken c.args.way.now.course.now (placed c.args.taken.now) (c.args.atom ∷ c.args.rest.now) c.requires.next.underway; there = c.requires.next.there }
+
+pub row_mended-invariant_of-look : goal.row_mended-invariant_of-look
+row_mended-invariant_of-look t c = record { of_atoms = underway-taken c.args.way.now.course.now (placed c.args.taken.now) (c.args.atom ∷ c.args.rest.now) c.requires.next.underway; there = c.requires.next.there }
+
 pub mend_blocks-mend_places-mended-requires : goal.mend_blocks-mend_places-mended-requires
-mend_blocks-mend_places-mended-requires t c = (omega (arith, c.decreases), (c.requires.next, (c.new-places.ensures, (c.requires.chosen, c.requires.memo))))
+mend_blocks-mend_places-mended-requires t c =
+    (omega (arith, c.decreases), (c.requires.next, ((atoms_on c.links.result.now, c.links.ensures.behind, c.reached-places.ensures), (c.requires.chosen, c.requires.memo))))

@@ -1,6 +1,7 @@
 use Rattle.std.proofs.Common.{sym, subst}
 use Rattle.cqa_model.specs.Plan.{IsPlanOf}
 use Rattle.plan_rows.specs.Left.{AreAtoms, AreShared}
+use Rattle.plan_rows.specs.Links.{AreWays}
 use Rattle.repair_back.specs.Apart.{AreEnough}
 use Rattle.repair_back.proofs.Apart.{plan-atoms}
 use Rattle.repair_back.proofs.mending.mend.Goals as goal
@@ -15,6 +16,7 @@ pub invariant_of-course : goal.invariant_of-course
 invariant_of-course c = record {
   atoms = subst (AreAtoms c.args.query.now) (sym c.as_slice-order.ensures) (plan-atoms c.args.query.now c.args.plan.now.order c.requires.plan);
   shares = ∣ subst (AreShared c.args.query.now c.as_slice-order.result.now) (sym c.as_slice.ensures.value) c.shared_or_none-shared.ensures ∣₁;
+  linked = ∣ subst (λ order. AreWays c.args.query.now c.args.db.now order c.args.ways.now) (sym c.as_slice-order.ensures) c.requires.ways ∣₁;
 }
 
 pub mended-found-requires-clause-plan : goal.mended-found-requires-clause-plan

@@ -3,7 +3,7 @@ use denote.Param.Always.{always_mut}
 use Rattle.std.specs.Fn.{ComputesKey}
 use Rattle.cqa_value.specs.declared.value.Value.{Value as Cell}
 use Rattle.row_pieces.specs.Joined.{joined}
-use Rattle.marked_rows.specs.Retained.{retained}
+use Rattle.row_pieces.specs.Retained.{retained}
 use Rattle.row_pieces.proofs.take.retain_each.Given as goal
 
 -- the pieces so far are done, and the others are as they were

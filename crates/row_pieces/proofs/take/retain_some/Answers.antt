@@ -1,6 +1,6 @@
 use Rattle.std.proofs.Common.{◌-◌, ◌++◌, length, ap, sym, ◌∙◌, arith}
 use Prim.Native.Nat.{min}
-use Rattle.marked_rows.specs.Retained.{retained}
+use Rattle.row_pieces.specs.Retained.{retained}
 use Rattle.row_pieces.proofs.Retaining.{retained_across, retained_behind}
 use Rattle.row_pieces.proofs.take.retain_some.Goals as goal
 

@@ -1,7 +1,7 @@
 use Rattle.std.proofs.Common.{sym, subst}
 use Rattle.cdcl.specs.declared.outcome.Outcome.{Outcome}
 use Rattle.cdcl.specs.Outcomes.{IsModel, OutcomeIs}
-use Rattle.repair_clauses.specs.Deciding.{IsDecided}
+use Rattle.search_answers.specs.Deciding.{IsDecided}
 use Rattle.row_reasons.specs.Reasons.{IsRefuted}
 use Rattle.row_reasons.proofs.searched.by_outcome.Goals as goal
 

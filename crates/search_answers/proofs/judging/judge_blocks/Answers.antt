@@ -4,7 +4,7 @@ use Rattle.join_witness.specs.Listing.{names_of}
 use Rattle.repair_clauses.specs.declared.formula.Encoded.{Encoded}
 use Rattle.repair_clauses.specs.Encodings.{IsEncoded}
 use Rattle.repair_clauses.proofs.Encoding.{of_atoms, told, encoded}
-use Rattle.repair_clauses.proofs.Deciding.{in_range, once, says_of}
+use Rattle.search_answers.proofs.Deciding.{in_range, once, says_of}
 use Rattle.search_answers.proofs.Searching.{verdict_is}
 use Rattle.search_answers.proofs.judging.judge_blocks.Goals as goal
 

@@ -5,8 +5,8 @@ use Rattle.std.proofs.lemmas.Option.{slice_get_within, get_or_from_slice_get}
 use Rattle.std.proofs.lemmas.List.{length-take, length-drop}
 use Rattle.std.proofs.lemmas.List.Elements.{at_read}
 use borrow.Author.Rules.{of_calls}
-use Rattle.marked_rows.proofs.Halving.{front_passes, back_fails}
-use Rattle.marked_rows.proofs.Answering.{answers}
+use Rattle.row_pieces.proofs.Halving.{front_passes, back_fails}
+use Rattle.row_pieces.proofs.Answering.{answers}
 use Rattle.table_blocks.proofs.Halving.{part_point}
 use Rattle.table_blocks.proofs.search.leading.Goals as goal
 use Rattle.table_blocks.proofs.search.leading.Goals.{then-next-len, else-next-len+then-not-passes}

@@ -1,7 +1,7 @@
 use Rattle.std.proofs.Common.{◌≡◌, ◌+◌, ◌/◌, ◌<◌, length, true, false, Bool, List, arith, sym, ap, ◌∙◌}
 use Rattle.std.proofs.lemmas.List.Elements.{at_read}
 use Rattle.std.proofs.lemmas.Option.{get_or_from_slice_get}
-use Rattle.marked_rows.proofs.Halving.{front_passes, back_fails}
+use Rattle.row_pieces.proofs.Halving.{front_passes, back_fails}
 use Rattle.cqa_value.specs.declared.value.Value.{Value}
 use Rattle.table_blocks.specs.Spans.{probe_cmp, comes_before}
 use Rattle.table_blocks.proofs.Halving.{halves}

@@ -3,8 +3,8 @@ use Rattle.std.proofs.lemmas.List.{map-append, length_push}
 use Rattle.cnf_form.specs.declared.formula.Lit.{Lit}
 use Rattle.cnf_form.specs.declared.formula.Clause.{Clause}
 use Rattle.cnf_form.specs.Literals.{literals}
-use Rattle.implication_graph.specs.declared.trail.Entry.{Entry}
-use Rattle.implication_graph.specs.Trail.{At, held}
+use Rattle.search_trail.specs.declared.trail.Entry.{Entry}
+use Rattle.search_trail.specs.Trail.{At, held}
 use Rattle.cdcl.specs.State.{IsState}
 use Rattle.cdcl.specs.Looking.{CanWatch, IsPairFor}
 use Rattle.cdcl.proofs.States.{state_learnt, length_held}

@@ -1,10 +1,10 @@
-use Rattle.implication_graph.specs.Trail.{At, held}
+use Rattle.search_trail.specs.Trail.{At, held}
 use Rattle.std.proofs.Common.{◌-◌, ◌<◌, ℕ, Option, List, sym, subst, length, arith}
 use Rattle.std.specs.Prelude.{Contains}
 use Rattle.cnf_form.specs.declared.formula.Clause.{Clause}
 use Rattle.cnf_form.specs.Literals.{literals, Denied}
-use Rattle.implication_graph.specs.declared.trail.Entry.{Entry}
-use Rattle.implication_graph.specs.Analysis.{AreReasons}
+use Rattle.search_trail.specs.declared.trail.Entry.{Entry}
+use Rattle.search_trail.specs.Analysis.{AreReasons}
 use Rattle.cdcl.proofs.solver.Solver.analyze.Goals as goal
 
 pub analyze-requires-clause-range : goal.analyze-requires-clause-range

@@ -3,9 +3,9 @@ use Rattle.std.proofs.lemmas.List.{length-set, length_push}
 use Rattle.cnf_form.specs.declared.formula.Lit.{Lit}
 use Rattle.cnf_form.specs.Literals.{literals}
 use Rattle.cdcl.specs.declared.watch.Pair.{Pair}
-use Rattle.implication_graph.specs.Trail.{held}
+use Rattle.search_trail.specs.Trail.{held}
 use Rattle.cdcl.specs.Watching.{IsListed, IsWatching, IsPaired, AreLists, code_of, listed_at}
-use Rattle.implication_graph.proofs.Works.{At-contains}
+use Rattle.search_trail.proofs.Works.{At-contains}
 use Rattle.cdcl.proofs.WatchState.{code_small, watching_attach, watching_relist, listed_more, listed_new}
 use Rattle.cdcl.proofs.LookState.{lists_wider, lists_more}
 use Rattle.cdcl.proofs.solver.Solver.attach.Goals as goal

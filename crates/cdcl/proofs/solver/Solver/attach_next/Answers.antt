@@ -1,13 +1,13 @@
 use Rattle.std.proofs.Common.{◌≡◌, ℕ, Option, List, refl, sym, ap, subst, length, arith}
 use Rattle.cnf_form.specs.declared.formula.Clause.{Clause}
 use Rattle.cnf_form.specs.Literals.{literals, Denied}
-use Rattle.implication_graph.specs.declared.trail.Entry.{Entry}
+use Rattle.search_trail.specs.declared.trail.Entry.{Entry}
 use Rattle.cdcl.specs.declared.solver.Solver.{Solver}
 use Rattle.std.specs.Prelude.{Contains}
-use Rattle.implication_graph.specs.Trail.{IsOpen, At, held}
+use Rattle.search_trail.specs.Trail.{IsOpen, At, held}
 use Rattle.cdcl.specs.Watching.{IsBase}
 use Rattle.cdcl.specs.Looking.{IsWatchful, CanWatch}
-use Rattle.implication_graph.proofs.Works.{At-contains}
+use Rattle.search_trail.proofs.Works.{At-contains}
 use Rattle.cdcl.proofs.Attaching.{conflict_none, conflict_one, forced_one, forced_base, base_one, forced_watchful}
 use Rattle.cdcl.proofs.solver.Solver.attach_next.Goals.{in-True, in-Open+in_ok-force-in-Open}
 use Rattle.cdcl.proofs.solver.Solver.attach_next.Goals as goal

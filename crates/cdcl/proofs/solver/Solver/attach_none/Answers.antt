@@ -2,7 +2,7 @@ use Rattle.std.proofs.Common.{◌≡◌, ◌++◌, ◌∷◌, [], List, inl, sym
 use Rattle.std.proofs.lemmas.List.{length_push}
 use Rattle.cnf_form.specs.Literals.{literals}
 use Rattle.cdcl.specs.declared.watch.Pair.{Pair}
-use Rattle.implication_graph.specs.Trail.{held}
+use Rattle.search_trail.specs.Trail.{held}
 use Rattle.cdcl.specs.Watching.{IsListed, IsWatching, AreLists}
 use Rattle.cdcl.proofs.WatchState.{watching_attach}
 use Rattle.cdcl.proofs.LookState.{lists_wider}

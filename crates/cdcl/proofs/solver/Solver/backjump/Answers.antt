@@ -1,6 +1,6 @@
 use Rattle.std.proofs.Common.{◌≡◌, ◌-◌, ◌≤◌, ℕ, List, ◌∙◌, ap, length, take, arith, get_or}
-use Rattle.implication_graph.specs.declared.trail.Entry.{Entry}
-use Rattle.implication_graph.specs.Trail.{held}
+use Rattle.search_trail.specs.declared.trail.Entry.{Entry}
+use Rattle.search_trail.specs.Trail.{held}
 use Rattle.cdcl.proofs.States.{take_cut, prefix_more, last_is}
 use Rattle.cdcl.proofs.solver.Solver.backjump.Goals as goal
 

@@ -1,5 +1,5 @@
 use Rattle.std.proofs.Common.{◌≡◌, length, take}
-use Rattle.implication_graph.specs.Trail.{held}
+use Rattle.search_trail.specs.Trail.{held}
 use Rattle.cdcl.specs.Looking.{IsReady}
 use Rattle.cdcl.specs.Visits.{IsPrefix}
 use Rattle.cdcl.proofs.solver.Solver.backjump.Given as goal

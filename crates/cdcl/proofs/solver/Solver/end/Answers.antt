@@ -1,10 +1,10 @@
-use Rattle.implication_graph.specs.Trail.{At, held}
+use Rattle.search_trail.specs.Trail.{At, held}
 use Rattle.std.proofs.Common.{◌≡◌, ◌<◌, ◌+◌, ℕ, [], arith, Option, List, sym, subst, length}
 use Rattle.std.specs.Prelude.{Contains}
 use Rattle.cnf_form.specs.declared.formula.Clause.{Clause}
 use Rattle.cnf_form.specs.Literals.{literals, Denied}
-use Rattle.implication_graph.specs.declared.trail.Entry.{Entry}
-use Rattle.implication_graph.specs.Analysis.{ChainPasses}
+use Rattle.search_trail.specs.declared.trail.Entry.{Entry}
+use Rattle.search_trail.specs.Analysis.{ChainPasses}
 use Rattle.cdcl.proofs.States.{literals_count}
 use Rattle.cdcl.proofs.Ends.{last_step}
 use Rattle.cdcl.proofs.solver.Solver.end.Goals as goal

@@ -1,9 +1,9 @@
 use Rattle.std.proofs.Common.{Some, List, sym, subst, refl}
 use Rattle.cnf_form.specs.Literals.{literals}
-use Rattle.implication_graph.specs.declared.trail.Entry.{Entry}
-use Rattle.implication_graph.specs.Trail.{held, ArePlaces}
+use Rattle.search_trail.specs.declared.trail.Entry.{Entry}
+use Rattle.search_trail.specs.Trail.{held, ArePlaces}
 use Rattle.cdcl.specs.State.{IsState}
-use Rattle.implication_graph.proofs.Works.{At-contains}
+use Rattle.search_trail.proofs.Works.{At-contains}
 use Rattle.cdcl.proofs.States.{state_forced}
 use Rattle.cdcl.proofs.solver.Solver.force.Goals as goal
 

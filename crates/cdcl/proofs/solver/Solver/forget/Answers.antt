@@ -1,6 +1,6 @@
 use Rattle.std.proofs.Common.{length}
 use Rattle.cnf_form.specs.Literals.{literals}
-use Rattle.implication_graph.specs.Trail.{held}
+use Rattle.search_trail.specs.Trail.{held}
 use Rattle.cdcl.proofs.Thinning.{watching_thinned, lists_thinned}
 use Rattle.cdcl.proofs.solver.Solver.forget.Goals as goal
 

@@ -2,7 +2,7 @@ use Rattle.std.proofs.Common.{◌∙◌, List, sym, subst, arith}
 use Rattle.std.specs.Prelude.{Contains, take}
 use Rattle.cnf_form.specs.declared.formula.Lit.{Lit}
 use Rattle.cdcl.specs.Settled.{IsSettled}
-use Rattle.implication_graph.specs.Trail.{held, AllLow}
+use Rattle.search_trail.specs.Trail.{held, AllLow}
 use Rattle.cdcl.specs.Looks.{IsForced}
 use Rattle.cdcl.proofs.Jump.{learn_facts, learnt_last}
 use Rattle.cdcl.proofs.solver.Solver.jump_and_add.Goals as goal

@@ -2,8 +2,8 @@ use Rattle.std.proofs.Common.{◌≡◌, ◌≤◌, ◌++◌, ◌∷◌, [], ℕ
 use Rattle.std.proofs.lemmas.List.Elements.{Contains-push}
 use Rattle.cnf_form.specs.declared.formula.Lit.{Lit}
 use Rattle.cnf_form.specs.Literals.{literals}
-use Rattle.implication_graph.specs.declared.trail.Entry.{Entry}
-use Rattle.implication_graph.specs.Trail.{held, ArePlaces}
+use Rattle.search_trail.specs.declared.trail.Entry.{Entry}
+use Rattle.search_trail.specs.Trail.{held, ArePlaces}
 use Rattle.cdcl.specs.State.{IsState}
 use Rattle.cdcl.specs.Watching.{IsListed, IsWatching, AreLists}
 use Rattle.cdcl.proofs.States.{state_back, below_last, held_take, length_held}

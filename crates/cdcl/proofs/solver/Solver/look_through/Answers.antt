@@ -3,7 +3,7 @@ use Rattle.std.specs.Prelude.{Vec}
 use Rattle.std.specs.declared.alloc.Global.{Global}
 use Rattle.std.proofs.lemmas.List.{length-set, drop_all, append-nil}
 use Rattle.cdcl.specs.declared.look.Visit.{Visit}
-use Rattle.implication_graph.specs.Trail.{held}
+use Rattle.search_trail.specs.Trail.{held}
 use Rattle.cdcl.specs.Watching.{code_of}
 use Rattle.cdcl.specs.Looking.{IsLookingAt, VisitIs}
 use Rattle.cdcl.proofs.Stretches.{next_index}

@@ -1,5 +1,5 @@
 use Rattle.std.proofs.Common.{◌≡◌, ◌≤◌, length, take, drop}
-use Rattle.implication_graph.specs.Trail.{held}
+use Rattle.search_trail.specs.Trail.{held}
 use Rattle.cdcl.specs.Looking.{IsLookingAt, Stays, IsGrown}
 use Rattle.cdcl.proofs.solver.Solver.look_through.Given as goal
 

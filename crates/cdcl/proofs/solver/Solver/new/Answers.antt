@@ -4,7 +4,7 @@ use Rattle.std.proofs.lemmas.List.{length-replicate}
 use Rattle.cnf_form.specs.declared.formula.Cnf.{Cnf}
 use Rattle.cnf_form.specs.declared.formula.Lit.{Lit}
 use Rattle.cnf_form.specs.Literals.{literals}
-use Rattle.implication_graph.specs.Trail.{AllLow, AreAllInRange}
+use Rattle.search_trail.specs.Trail.{AllLow, AreAllInRange}
 use Rattle.cdcl.specs.Watching.{IsListed, AreLists}
 use Rattle.cdcl.proofs.Values.{state_first, watching_first}
 use Rattle.cdcl.proofs.solver.Solver.new.Goals as goal

@@ -1,5 +1,5 @@
 use Rattle.std.proofs.Common.{Option, ℕ, List, subst}
-use Rattle.search_heuristics.specs.Open.{NextIs}
+use Rattle.search_trail.specs.Open.{NextIs}
 use Rattle.cdcl.proofs.Values.{open_var_is}
 use Rattle.cdcl.proofs.solver.Solver.open_var.Goals as goal
 

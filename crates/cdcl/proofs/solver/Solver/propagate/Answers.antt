@@ -2,8 +2,8 @@ use Rattle.std.proofs.Common.{◌≤◌, ◌+◌, ℕ, Option, None, List, sym, 
 use Rattle.cnf_form.specs.declared.formula.Lit.{Lit}
 use Rattle.cnf_form.specs.Literals.{opposite}
 use Rattle.cnf_form.proofs.Lits.{opposite-opposite}
-use Rattle.implication_graph.specs.declared.trail.Entry.{Entry}
-use Rattle.implication_graph.specs.Trail.{At, held}
+use Rattle.search_trail.specs.declared.trail.Entry.{Entry}
+use Rattle.search_trail.specs.Trail.{At, held}
 use Rattle.cdcl.specs.Looking.{LookedIs}
 use Rattle.cdcl.proofs.Visiting.{grown_at, grown_long, next_at, still_at, fits_at}
 use Rattle.cdcl.proofs.solver.Solver.propagate.Goals as goal

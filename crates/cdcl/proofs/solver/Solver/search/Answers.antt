@@ -1,8 +1,8 @@
 use Rattle.std.proofs.Common.{arith, List, Option, ℕ, None, subst}
 use Rattle.cdcl.specs.Visits.{ConflictIs}
-use Rattle.implication_graph.specs.Trail.{held}
-use Rattle.search_heuristics.specs.Open.{NextIs}
-use Rattle.implication_graph.proofs.Places.{trail_fits}
+use Rattle.search_trail.specs.Trail.{held}
+use Rattle.search_trail.specs.Open.{NextIs}
+use Rattle.search_trail.proofs.Places.{trail_fits}
 use Rattle.cdcl.proofs.Values.{open_var_is}
 use Rattle.cdcl.proofs.States.{length_held}
 use Rattle.cdcl.proofs.solver.Solver.search.Goals as goal

@@ -3,10 +3,10 @@ use Rattle.std.specs.Prelude.{Contains}
 use Rattle.cnf_form.specs.declared.formula.Lit.{Lit}
 use Rattle.cnf_form.specs.declared.formula.Clause.{Clause}
 use Rattle.cnf_form.specs.Literals.{literals}
-use Rattle.implication_graph.specs.declared.trail.Entry.{Entry}
-use Rattle.implication_graph.specs.Trail.{At, held}
+use Rattle.search_trail.specs.declared.trail.Entry.{Entry}
+use Rattle.search_trail.specs.Trail.{At, held}
 use Rattle.cdcl.specs.Looks.{FoundIs}
-use Rattle.implication_graph.proofs.Works.{At-contains, At-same}
+use Rattle.search_trail.proofs.Works.{At-contains, At-same}
 use Rattle.cdcl.proofs.solver.Solver.seek.Goals as goal
 
 pub seek-requires-clause-range : goal.seek-requires-clause-range

@@ -1,6 +1,6 @@
 use Rattle.std.proofs.Common.{List, subst}
-use Rattle.implication_graph.specs.declared.trail.Entry.{Entry}
-use Rattle.implication_graph.specs.Trail.{held, ValueIs}
+use Rattle.search_trail.specs.declared.trail.Entry.{Entry}
+use Rattle.search_trail.specs.Trail.{held, ValueIs}
 use Rattle.cdcl.proofs.solver.Solver.value_of.Goals as goal
 
 pub returns : goal.returns

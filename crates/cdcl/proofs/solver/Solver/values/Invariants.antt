@@ -1,5 +1,5 @@
 use Rattle.std.proofs.Common.{◌≡◌, ◌+◌, length}
-use Rattle.implication_graph.specs.Trail.{held}
+use Rattle.search_trail.specs.Trail.{held}
 use Rattle.cdcl.specs.Visits.{AgreesBelow}
 use Rattle.cdcl.proofs.solver.Solver.values.Given as goal
 

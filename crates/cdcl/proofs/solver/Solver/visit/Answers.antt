@@ -1,10 +1,10 @@
 use Rattle.std.proofs.Common.{◌≡◌, ℕ, List, length, set, sym, ◌∙◌, ap, subst, arith}
 use Rattle.cnf_form.specs.Literals.{literals}
 use Rattle.cdcl.specs.declared.watch.Pair.{Pair}
-use Rattle.implication_graph.specs.Trail.{At}
+use Rattle.search_trail.specs.Trail.{At}
 use Rattle.cdcl.specs.Watching.{code_of, listed_at}
 use Rattle.cdcl.specs.Looking.{IsLooking}
-use Rattle.implication_graph.proofs.Works.{At-contains}
+use Rattle.search_trail.proofs.Works.{At-contains}
 use Rattle.cdcl.proofs.WatchState.{code_small}
 use Rattle.cdcl.proofs.LookState.{looking_move}
 use Rattle.cdcl.proofs.Visiting.{small_at, within_at, clause_at, drop_at, kept_at, force_at}

@@ -1,6 +1,6 @@
 use Rattle.std.proofs.Common.{inr, refl, ap, subst, ◌<◌, ◌∙◌, arith}
 use Rattle.std.proofs.lemmas.List.{take_all}
-use Rattle.dump_text.specs.Dumps.{dump_text}
+use Rattle.csv_rows.specs.Dumps.{dump_text}
 use Rattle.reply_text.specs.declared.reply.Reply.TheVariants.{Dumped}
 use Rattle.cqa_session.proofs.Dumping.{next_table}
 use Rattle.cqa_session.proofs.statements.dump.dump.Goals as goal

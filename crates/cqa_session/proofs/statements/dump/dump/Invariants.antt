@@ -1,5 +1,5 @@
 use Rattle.std.proofs.Common.{◌≡◌, take}
-use Rattle.dump_text.specs.Dumps.{dump_text}
+use Rattle.csv_rows.specs.Dumps.{dump_text}
 use Rattle.cqa_session.proofs.statements.dump.dump.Given as goal
 
 -- the script of the tables so far

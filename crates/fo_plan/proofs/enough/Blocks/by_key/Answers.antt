@@ -1,13 +1,29 @@
-use Rattle.std.proofs.Common.{◌∙◌}
+use Rattle.std.proofs.Common.{List, [], ◌≡◌, ◌∙◌}
 use Rattle.std.specs.Option.{option_copied}
+use Rattle.cqa_value.specs.declared.value.Value.{Value}
+use Rattle.cqa_model.proofs.Classic.{mem-nil}
+use Rattle.table_blocks.specs.Spans.{first_key}
 use Rattle.plan_rows.specs.Knowing.{MayFit}
-use Rattle.plan_rows.specs.Over.{query_of, rows_before}
-use Rattle.fo_plan.proofs.Spanned.{key-enough}
+use Rattle.plan_rows.specs.Over.{rows_before}
+use Rattle.fo_plan.proofs.Looks.{of-look}
+use Rattle.fo_plan.proofs.Spanned.{key-of-atom, key-enough}
 use Rattle.fo_plan.proofs.enough.Blocks.by_key.Goals as goal
 
-pub returns-clause-enough : goal.returns-clause-enough
-returns-clause-enough c =
+pub returns : goal.returns
+returns c =
     let step = c.args.step.now in
     let setting = step.course.now.setting in
-    key-enough setting.query.now setting.db.now step.atom c.table_of-table.result c.as_slice-key.result.now setting.fits step.there c.table_of-table.ensures (c.as_slice-key.ensures ∙ c.schema.ensures.key)
-    c.known_values-values.result c.told_rows.ensures.span.0 c.told_rows.result (MayFit (query_of step) (option_copied c.args.row) (rows_before step) step.atom) c.told_rows.ensures.span.1 c.known_values-values.ensures.known
+    let given = option_copied c.args.row in
+    let key = c.as_slice-key.result.now in
+    let is = c.as_slice-key.ensures ∙ c.schema.ensures.key in
+    let values = c.known_values-values.result in
+    let look = c.look.ensures in
+    let known = of-look step c.look.result look.setting look.taken look.atom (λ s taken F. (y : List Value) → MayFit s.query.now given taken F y → first_key key values y ≡ values) c.known_values-values.ensures.known in
+    record {
+      key = key-of-atom setting.query.now setting.db.now step.atom c.table_of-table.result key setting.fits step.there c.table_of-table.ensures is;
+      links = [];
+      behind = λ G m. absurd (mem-nil G m);
+      enough = key-enough setting.query.now setting.db.now step.atom c.table_of-table.result key setting.fits step.there c.table_of-table.ensures is
+          values c.told_rows.ensures.span.0 c.told_rows.result (MayFit setting.query.now given (rows_before step) step.atom) c.told_rows.ensures.span.1 known;
+      wanted = λ at there may. tt;
+    }

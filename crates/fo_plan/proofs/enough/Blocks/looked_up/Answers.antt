@@ -1,7 +1,7 @@
 use Rattle.std.proofs.Common.{ℕ, ◌<◌, Option, IfSome, arith, subst, sym, length, ◌∙◌}
 use Rattle.std.proofs.lemmas.Bool.{false≢true}
 use Rattle.fo_plan.proofs.Passing.{passed-on, passed-less}
-use Rattle.fo_plan.proofs.Walked.{found-next, not-none, spot-behind}
+use Rattle.fo_plan.proofs.Walked.{found-next, spot-behind}
 use Rattle.fo_plan.proofs.enough.Blocks.looked_up.Goals as goal
 
 pub loop-at-preserved : goal.loop-at-preserved
@@ -22,7 +22,7 @@ returns-then-begins_block-clause-spot c =
     let t = c.taken_at.ensures in
     spot-behind c.args.self.now c.loop-at.at c.taken_at.new.spot c.taken_at.result t.next t.within
     (subst (λ (o : Option ℕ). IfSome o (λ at. at < c.taken_at.new.spot.place)) (sym t.last) (let low = t.next.low in let high = t.next.high in let h : c.loop-at.at < c.taken_at.new.spot.place = omega (arith, low, high) in h))
-    (not-none c.args.self.now.index c.requires.index) (not-none c.args.self.now.index c.requires.index)
+    t.rest t.begins
 
 pub returns-then-begins_block-clause-next : goal.returns-then-begins_block-clause-next
 returns-then-begins_block-clause-next c =

@@ -1,4 +1,4 @@
-use Rattle.std.proofs.Common.{ℕ, ◌<◌, ◌≤◌, Option, IfSome, subst, sym, arith, length}
+use Rattle.std.proofs.Common.{ℕ, ◌<◌, ◌≤◌, Option, IfSome, subst, length}
 use Rattle.fo_plan.proofs.Passing.{passed-later}
 use Rattle.fo_plan.proofs.enough.Blocks.on.Goals as goal
 

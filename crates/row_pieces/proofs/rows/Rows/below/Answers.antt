@@ -1,5 +1,5 @@
 use Rattle.std.proofs.Common.{arith}
-use Rattle.marked_rows.proofs.Marking.{marked_within, told_front}
+use Rattle.row_pieces.proofs.Marking.{marked_within, told_front}
 use Rattle.row_pieces.proofs.rows.Rows.below.Goals as goal
 
 pub returns-then-found-mark-clause-within : goal.returns-then-found-mark-clause-within

@@ -1,8 +1,8 @@
 use Rattle.std.proofs.Common.{◌≡◌, ◌+◌, ◌-◌, ◌/◌, true, false, arith, sym, subst, ◌∙◌}
 use Rattle.std.specs.List.{HoldsAt}
 use borrow.Author.Rules.{of_calls}
-use Rattle.marked_rows.proofs.Answering.{answers}
-use Rattle.marked_rows.proofs.Halving.{front_passes, back_fails, seen_near}
+use Rattle.row_pieces.proofs.Answering.{answers}
+use Rattle.row_pieces.proofs.Halving.{front_passes, back_fails, seen_near}
 use Rattle.row_pieces.proofs.rows.Rows.halve.Goals as goal
 
 pub loop-low-preserved-then-passes : goal.loop-low-preserved-then-passes

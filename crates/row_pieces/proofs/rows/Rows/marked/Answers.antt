@@ -1,9 +1,9 @@
 use Rattle.std.proofs.Common.{◌≡◌, ◌+◌, ◌-◌, length, arith, refl, sym, ap, ◌∙◌, slice_get}
 use Rattle.std.proofs.lemmas.Option.{slice_get_read}
 use Rattle.row_pieces.specs.Joined.{joined}
-use Rattle.marked_rows.specs.Marks.{row_mark}
+use Rattle.row_pieces.specs.Marks.{row_mark}
 use Rattle.row_pieces.proofs.Joining.{row_placed, seen_there}
-use Rattle.marked_rows.proofs.Marking.{mapped, unmapped}
+use Rattle.row_pieces.proofs.Marking.{mapped, unmapped}
 use Rattle.row_pieces.proofs.rows.Rows.marked.Goals as goal
 
 pub returns-then-place-self : goal.returns-then-place-self

@@ -2,8 +2,8 @@ use Rattle.std.proofs.Common.{◌≡◌, true, false, arith, sym, subst, ◌∙�
 use Rattle.std.specs.List.{HoldsAt}
 use Rattle.std.proofs.lemmas.Option.{get_or_from_slice_get}
 use borrow.Author.Rules.{of_calls}
-use Rattle.marked_rows.proofs.Answering.{answers}
-use Rattle.marked_rows.proofs.Halving.{front_passes, back_fails}
+use Rattle.row_pieces.proofs.Answering.{answers}
+use Rattle.row_pieces.proofs.Halving.{front_passes, back_fails}
 use Rattle.row_pieces.proofs.rows.Rows.narrow.Goals as goal
 
 pub loop-first-preserved-then-passes : goal.loop-first-preserved-then-passes

@@ -1,4 +1,4 @@
-use Rattle.marked_rows.proofs.Marking.{told_back}
+use Rattle.row_pieces.proofs.Marking.{told_back}
 use Rattle.row_pieces.proofs.rows.Rows.told_above.Goals as goal
 
 pub returns-then-mark-found-clause-told : goal.returns-then-mark-found-clause-told

@@ -1,7 +1,0 @@
-use Rattle.std.proofs.Common.{take}
-use Rattle.answer_check.specs.Clauses.{RisesFrom}
-use Rattle.answer_check.proofs.Walks.{Each}
-use Rattle.answer_check.proofs.accepted.is_accepted.Given as goal
-
-abbrev pub invariant-loop-clause : goal.invariant-loop-clause
-invariant-loop-clause l = Each (RisesFrom 0 l.cnf.vars) (take l.clause-index l.clause-items)

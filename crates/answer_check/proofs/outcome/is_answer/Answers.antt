@@ -1,9 +1,0 @@
-use Rattle.std.proofs.Common.{◌↔◌, ◌≡◌, true, Bool, List, subst, sym}
-use Rattle.cdcl.specs.declared.outcome.Outcome.{Outcome}
-use Rattle.cdcl.specs.Outcomes.{IsModel}
-use Rattle.answer_check.specs.Answers.{IsAnswer}
-use Rattle.answer_check.proofs.outcome.is_answer.Goals as goal
-
-pub returns-in-Sat : goal.returns-in-Sat
-returns-in-Sat c = subst (λ (o : Outcome). c.is_model.result ≡ true ↔ IsAnswer c.args.cnf.now c.args.budget o) (sym c.in-Sat.is)
-    (subst (λ (values : List Bool). c.is_model.result ≡ true ↔ IsModel c.args.cnf.now values) c.as_slice.ensures c.is_model.ensures)

@@ -1,6 +1,0 @@
-//! The script that makes tables with their rows: what `dump` answers.
-#![tactic(auto)]
-
-mod table;
-
-pub use table::append_table;

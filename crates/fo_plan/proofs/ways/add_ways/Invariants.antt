@@ -1,0 +1,10 @@
+use Rattle.std.proofs.Common.{◌≡◌, length}
+use Rattle.plan_rows.specs.Links.{AreWays}
+use Rattle.fo_plan.proofs.ways.add_ways.Given as goal
+
+-- there are links of the atoms so far
+abbrev pub invariant-loop-atom : goal.invariant-loop-atom
+invariant-loop-atom l = record {
+  size : length l.ways.items ≡ l.atom;
+  ways : AreWays l.setting.query.now l.db l.order l.ways.items;
+}

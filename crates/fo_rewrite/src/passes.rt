@@ -1,0 +1,133 @@
+//! An elimination order that is good for evaluation: the cheapest of a few.
+
+ghost use Rattle.std.specs.Prelude.{◌↔◌, ◌<◌, All, IfOk, IfSome, IsNone, length};
+ghost use Rattle.cqa_model.specs.Variables.{whole};
+ghost use Rattle.cqa_model.specs.Graph.{HasCycle};
+ghost use Rattle.cqa_model.specs.Plan.{IsEliminationOf};
+ghost use Rattle.fo_rewrite.specs.Planning.{IsExact};
+ghost use Rattle.fo_rewrite.specs.Starting.{IsWhole};
+
+use crate::attacked::attacked_atoms;
+use crate::known::Known;
+use crate::linking::Link;
+use crate::planning::{Outset, eliminated};
+use crate::preference::Choice;
+use cqa_model::{Plan, Query, variables};
+use cqa_value::NoMemory;
+use key_closure::{AtomSet, Named, View};
+use std::alloc::Global;
+
+/// So many orders are made at most.
+const MOST_PASSES: u32 = 4;
+
+/// Rows are counted up to this many bits.
+const MOST_BITS: i32 = 58;
+
+/// What an order costs, less being better.
+#[derive(Clone, Copy, PartialEq, Eq, PartialOrd, Ord)]
+struct Cost {
+    /// The steps whose atom later ones alone link to those before it.
+    apart: u32,
+
+    /// About how many rows are kept, those of each step added.
+    rows: u64,
+}
+
+/// An order, and what it costs.
+#[derive(Drop)]
+struct Pass {
+    plan: Plan,
+    cost: Cost,
+}
+
+/// An elimination order of a query that is good for evaluation: again and again an atom that no atom attacks once those
+/// before it are taken, `None` exactly where the attacks have a cycle. Over each database that the query fits, the order
+/// holds for a row exactly where the row is certain (Koutris and Wijsen, ACM TODS 2017).
+///
+/// `sizes` are the rows of each atom's table, none where it is missing. Atoms that joins link to those taken come before
+/// others, those that joins link to an answer column before the rest, and then those with the fewest rows that agree with
+/// what is known. Where the order has a step whose atom later ones alone link to those before it, orders that begin with
+/// other atoms are made too, and the best is taken.
+///
+/// # Errors
+///
+/// `NoMemory` where memory is refused.
+pub fn elimination_of(alloc: Global, query: &Query, sizes: &[u32]) -> Result<Option<Plan>, NoMemory>
+    ensures order { IfOk result (λ found. IfSome found (λ plan. IsEliminationOf query.now plan.order)) }
+    ensures cycle { IfOk result (λ found. IsNone found ↔ HasCycle query.now (whole query.now)) }
+    ensures exact { IfOk result (λ found. IfSome found (λ plan. IsExact query.now plan.order)) }
+{
+    let named = Named {
+        query,
+        variables: variables(query),
+        view: View::whole(query),
+    };
+    let outset = Outset {
+        named: &named,
+        attacked: attacked_atoms(&named),
+        sizes,
+    };
+    match eliminated(alloc, &outset, Choice::Preferred { first: None })? {
+        Some(plan) => Ok(Some(cheapest(alloc, &outset, plan))),
+        None => Ok(None),
+    }
+}
+
+/// The cheapest of an order and a few that begin with other atoms, which are made until one has no step apart.
+fn cheapest(alloc: Global, outset: &Outset<'_>, plan: Plan) -> Plan
+    requires whole { IsWhole outset.now }
+    requires order { IsEliminationOf outset.now.named.now.query.now plan.order }
+    ensures { IsEliminationOf outset.now.named.now.query.now result.order }
+{
+    let begun = plan.order.as_slice().first().copied();
+    let cost = cost_of(outset, plan.order.as_slice());
+    let mut best = Pass { plan, cost };
+    let mut passes = 1;
+    for atom in 0..outset.named.query.atoms.len() as u32 {
+        let wanted = !outset.attacked.has(atom) && begun != Some(atom);
+        if wanted && passes < MOST_PASSES && best.cost.apart > 0 {
+            begin_with(alloc, outset, atom, &mut best);
+            passes += 1;
+        }
+    }
+    let Pass { plan, .. } = best;
+    plan
+}
+
+/// Takes the order that begins with an atom in place of another if it is cheaper. Where memory is refused, the other stays.
+fn begin_with(alloc: Global, outset: &Outset<'_>, atom: u32, best: &mut Pass)
+    requires whole { IsWhole outset.now }
+    requires order { IsEliminationOf outset.now.named.now.query.now best.old.plan.order }
+    ensures { IsEliminationOf outset.now.named.now.query.now best.new.plan.order }
+{
+    match eliminated(alloc, outset, Choice::Preferred { first: Some(atom) }) {
+        Ok(Some(plan)) => {
+            let cost = cost_of(outset, plan.order.as_slice());
+            if cost < best.cost {
+                *best = Pass { plan, cost };
+            } else {
+                drop(plan);
+            }
+        }
+        Ok(None) | Err(NoMemory) => {}
+    }
+}
+
+/// What an order costs.
+fn cost_of(outset: &Outset<'_>, order: &[u32]) -> Cost
+    requires { All (λ F. F < length outset.now.named.now.query.now.atoms) order.now }
+{
+    let mut cost = Cost { apart: 0, rows: 0 };
+    let mut taken = AtomSet::new();
+    let mut bits: i32 = 0;
+    for atom in order {
+        let known = Known::new(outset.named, outset.sizes, &taken);
+        if known.link(*atom) == Link::Through {
+            cost.apart = cost.apart.saturating_add(1);
+        }
+        bits = bits.saturating_add(known.row_bits(*atom));
+        cost.rows = cost.rows.saturating_add(1 << bits.clamp(0, MOST_BITS));
+        taken.insert_if(*atom, true);
+    }
+    cost
+}

@@ -1,7 +1,0 @@
-use Rattle.std.proofs.Common.{◌≡◌, map, take}
-use Rattle.marked_rows.specs.Marks.{row_mark}
-use Rattle.marked_rows.proofs.marked.set_marks.Given as goal
-
--- the marks so far are those of the rows
-abbrev pub invariant-loop-at : goal.invariant-loop-at
-invariant-loop-at l = take l.at l.marks ≡ map row_mark (take l.at l.rows)

@@ -1,7 +1,0 @@
-use Rattle.std.proofs.Common.{◌≤◌, ◌*◌}
-use Rattle.cqa_model.specs.declared.limits.TheConstants.{MOST_ROWS}
-use Rattle.plan_rows.proofs.course.turns_before_memo.Given as goal
-
--- no table has more rows than a table may have
-abbrev pub invariant-loop-atom : goal.invariant-loop-atom
-invariant-loop-atom l = l.rows ≤ l.atom-index * MOST_ROWS

@@ -1,0 +1,17 @@
+//! A row of an atom that is looked for.
+
+ghost use Rattle.std.specs.Prelude.{◌<◌, length};
+ghost use Rattle.plan_rows.specs.Taking.{placed, AreOfAtoms};
+
+use crate::setting::Setting;
+use crate::taken_rows::Taken;
+
+/// A row of an atom that is looked for, where rows of others were taken, in whatever order.
+#[derive(Clone, Copy)]
+pub struct Look<'a> {
+    pub setting: &'a Setting<'a>,
+    pub taken: &'a Taken<'a>,
+    pub atom: u32,
+    pub ghost of_atoms: { AreOfAtoms setting.now.query.now (placed taken.now) },
+    pub ghost there: { atom < length setting.now.query.now.atoms },
+}

@@ -1,0 +1,89 @@
+//! One row is decided by its formula, and what the solver answers is the evidence.
+//! A model keeps a witness out of a repair, and a refutation says that none can be kept out.
+
+ghost use Rattle.std.specs.Prelude.{◌≡◌, IfOk, IfErr, Ok, length};
+ghost use Rattle.cqa_model.specs.Query.{FitsDatabase};
+ghost use Rattle.cnf_form.specs.Literals.{IsInRange};
+ghost use Rattle.cdcl.specs.Outcomes.{IsOnce, OutcomeIs};
+ghost use Rattle.join_witness.specs.Listing.{HasTooMany, IsOver};
+ghost use Rattle.search_answers.specs.Deciding.{IsDecided};
+
+use cdcl::Outcome;
+use cqa_model::Query;
+use cqa_value::{Fail, NoMemory, Row};
+use join_witness::{TooMany, witnesses};
+use repair_clauses::{Encoded, encode};
+use std::alloc::Global;
+use table_blocks::Database;
+
+/// The formula of a row, and what the solver found out of it.
+#[derive(Debug, Drop)]
+pub struct Decided {
+    pub formula: Encoded,
+    pub outcome: Outcome,
+}
+
+/// A formula with what was found out of it.
+fn with_outcome(formula: Encoded, found: Result<Outcome, NoMemory>) -> Result<Decided, NoMemory>
+    ensures same { IfOk result (λ decided. decided.formula ≡ formula) }
+    ensures outcome { IfOk result (λ decided. found ≡ Ok decided.outcome) }
+{
+    match found {
+        Ok(outcome) => Ok(Decided { formula, outcome }),
+        Err(fault) => {
+            drop(formula);
+            Err(fault)
+        }
+    }
+}
+
+/// Hands a formula to the solver.
+///
+/// # Errors
+///
+/// `NoMemory` where memory is refused.
+pub(crate) fn solved(alloc: Global, formula: Encoded, budget: u32) -> Result<Decided, NoMemory>
+    requires range { IsInRange formula.cnf }
+    requires once { IsOnce formula.cnf }
+    ensures same { IfOk result (λ decided. decided.formula ≡ formula) }
+    ensures outcome { IfOk result (λ decided. OutcomeIs formula.cnf budget decided.outcome) }
+{
+    let found = cdcl::solve(alloc, &formula.cnf, budget);
+    with_outcome(formula, found)
+}
+
+/// The same for a formula that may be large: rows that exclude the same rows are searched as one.
+fn solved_by_groups(alloc: Global, formula: Encoded, budget: u32) -> Result<Decided, NoMemory>
+    requires range { IsInRange formula.cnf }
+    requires once { IsOnce formula.cnf }
+    ensures same { IfOk result (λ decided. decided.formula ≡ formula) }
+    ensures outcome { IfOk result (λ decided. OutcomeIs formula.cnf budget decided.outcome) }
+{
+    let found = merged_search::solve(alloc, &formula.cnf, budget);
+    with_outcome(formula, found)
+}
+
+/// Decides whether every repair holds a witness of a row, by searches of at most `budget` conflicts each.
+///
+/// # Errors
+///
+/// `TooMany` exactly where the row has more than `MOST_WITNESSES` witnesses; `NoMemory` where memory is refused.
+pub fn decide(
+    alloc: Global,
+    db: &Database,
+    query: &Query,
+    row: &Row,
+    budget: u32,
+) -> Result<Decided, Fail<TooMany>>
+    requires fits { FitsDatabase query.now db.now }
+    requires long { length row.now ≡ length query.now.answer }
+    ensures decided { IfOk result (λ decided. IsDecided query.now db.now row.now budget decided) }
+    ensures within { IfOk result (λ decided. HasTooMany query.now db.now row.now → ⊥) }
+    ensures over { IfErr result (IsOver (HasTooMany query.now db.now row.now)) }
+{
+    let found = witnesses(alloc, db, query, row)?;
+    let formula = encode(alloc, db, query, found.as_slice());
+    drop(found);
+    let decided = solved_by_groups(alloc, formula?, budget)?;
+    Ok(decided)
+}

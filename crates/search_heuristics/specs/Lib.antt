@@ -1,2 +1,0 @@
--- What the order of decisions hands out.
-pub mod Open
