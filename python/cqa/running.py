@@ -3,7 +3,6 @@
 from __future__ import annotations
 
 import argparse
-import csv
 import queue
 import sys
 import threading
@@ -15,7 +14,7 @@ from .files import standard_output
 from .places import Place, place_of
 from .program import Child
 from .replies import END_STATEMENT, IS_REFUSAL
-from .scripts import Schema, Statement, schema_of, statements, verb_of
+from .scripts import Schema, Statement, fault_of, schema_of, statements, verb_of
 from .session import Session
 
 _PIECE = 1 << 20
@@ -93,7 +92,7 @@ class Runner:
     def _send_file(self, file: ScriptFile) -> bool:
         """Sends the statements of a file, and says whether the next file may follow."""
         for statement in statements(file.script):
-            fault = _fault_of(file.script, statement)
+            fault = fault_of(file.script, statement)
             self._put((file, statement, fault))
             if self._is_stopped or not statement.complete:
                 return False
@@ -133,31 +132,6 @@ class Runner:
 
     def _refused(self, file: ScriptFile, statement: Statement, text: str, verb: str, refusal: str) -> Answer:
         return Answer(file.path, text, verb, [], refusal, place_of(file.script, statement, refusal, self.schemas))
-
-
-def _fault_of(script: bytes, statement: Statement) -> str:
-    """Why a statement isn't sent: it isn't complete, or its block has a quote that is never closed, or that something stands
-    behind. The program takes such a block, and records between two such quotes are then part of a text."""
-    if not statement.complete:
-        return "error 15 Unfinished"
-    if statement.block is None or script.find(b'"', *statement.block) < 0:
-        return ""
-    number = 0
-    try:
-        for record in csv.reader(_block_lines(script, *statement.block), strict=True):
-            number += bool(record)
-    except csv.Error:
-        return "error 19 BadCsv record %d" % (number + 1)
-    return ""
-
-
-def _block_lines(script: bytes, begin: int, end: int) -> Iterator[str]:
-    """The lines of a block with their ends."""
-    while begin < end:
-        found = script.find(b"\n", begin, end) + 1
-        line_end = found or end
-        yield script[begin:line_end].decode("latin-1")
-        begin = line_end
 
 
 class Progress:

@@ -2,6 +2,7 @@
 
 from __future__ import annotations
 
+import csv
 import re
 from typing import Dict, Iterator, List, Mapping, NamedTuple, Optional, Tuple, Union
 
@@ -130,6 +131,31 @@ def open_part(script: bytes, statement: Statement) -> Tuple[str, int]:
     if found is not None and found[1] and (len(found[1]) == 1 or not found[1].endswith(b"'")):
         return "text", statement.start + found.start()
     return "statement", statement.start
+
+
+def fault_of(script: bytes, statement: Statement) -> str:
+    """Why a statement isn't sent: it isn't complete, or its block has a quote that is never closed, or that something stands
+    behind. The program takes such a block, and records between two such quotes are then part of a text."""
+    if not statement.complete:
+        return "error 15 Unfinished"
+    if statement.block is None or script.find(b'"', *statement.block) < 0:
+        return ""
+    number = 0
+    try:
+        for record in csv.reader(_block_lines(script, *statement.block), strict=True):
+            number += bool(record)
+    except csv.Error:
+        return "error 19 BadCsv record %d" % (number + 1)
+    return ""
+
+
+def _block_lines(script: bytes, begin: int, end: int) -> Iterator[str]:
+    """The lines of a block with their ends."""
+    while begin < end:
+        found = script.find(b"\n", begin, end) + 1
+        line_end = found or end
+        yield script[begin:line_end].decode("latin-1")
+        begin = line_end
 
 
 def without_comments(text: str) -> str:

@@ -22,7 +22,7 @@ from .loading import Source, load_script
 from .program import Child
 from .replies import IS_REFUSAL, Row, row_of
 from .rows import Cell, Rows
-from .scripts import Schema, Statement, quoted, remark_text, remarks, row_text, selected, shown_schema, statements, tokens, verb_of
+from .scripts import Schema, Statement, fault_of, quoted, remark_text, remarks, row_text, selected, shown_schema, statements, tokens, verb_of
 
 #: Statements that not every program knows: how each begins, and the reply of a program that doesn't know it.
 NEWER = (("disputed", b"error 2 Syntax at 0\n"), ("against", b"error 2 Syntax at 0\n"), ("prove", b"error 2 Syntax at 0\n"),
@@ -98,10 +98,14 @@ class Session:
         self._places.update(places)
         self._sources.update(sources)
 
-    def _told(self, script: bytes, part: Statement) -> List[bytes]:
-        """Sends a statement of a script and gives its reply's lines without line feeds."""
+    def _told(self, script: bytes, part: Statement, is_made: bool = False) -> List[bytes]:
+        """Sends a statement of a script and gives its reply's lines without line feeds. is_made: this package wrote the script,
+        so that its quotes needn't be looked at."""
         text = part.text(script).decode("utf-8", "replace")
         verb = verb_of(text)
+        fault = "" if is_made else fault_of(script, part)
+        if fault:
+            raise Refused(fault, text, "its block has a quote that is never closed, or that something stands behind")
         lines = self._child.tell(script[part.start:part.end], verb)
         if lines and IS_REFUSAL.match(lines[0]):
             self._refuse(lines[0], text)
@@ -182,7 +186,7 @@ class Session:
                 self._convert(there, lists.schema(), options.decimals)
             file.seek(0)
             script = file.read()
-        replies = [self._told(script, part) for part in statements(script)]
+        replies = [self._told(script, part, is_made=True) for part in statements(script)]
         self.heed(script)
         for note in lists.notes():
             warnings.warn(note, LoadWarning, stacklevel=4)

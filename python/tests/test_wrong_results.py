@@ -122,6 +122,31 @@ class TwoLists(ProgramCase):
         self.assertEqual(self.command("run", "state.cqa"), (0, "created customer\ncopied 3\ncreated note\ncopied 1\n", ""))
 
 
+class EverySender(ProgramCase):
+    """A block whose quote has no end is refused wherever a statement is sent."""
+
+    UNENDED = 'create table c (id int, name text, primary key (id));\ncopy c;\n1,"a"b\n2,"Bo\n3,Cy\n4,"Dag"\n\\.\nask select id from c;\n'
+
+    def test_in_python(self) -> None:
+        with cqa.Session() as db, self.assertRaises(cqa.Refused) as caught:
+            db.run(self.UNENDED)
+        self.assertIn("error 19 BadCsv record 1", str(caught.exception))
+        with cqa.Session() as db:
+            db.tell("create table c (id int, name text, primary key (id));")
+            with self.assertRaises(cqa.Refused):
+                db.tell('copy c;\n2,"Bo\n3,Cy\n4,"Dag"\n\\.\n')
+            self.assertEqual(db.rows("c"), [])
+
+    def test_in_the_shell_and_in_states(self) -> None:
+        status, out, told = self.command("shell", stdin=self.UNENDED.encode())
+        self.assertEqual((status, lines(out)), (1, ["created c", "0 rows"]))
+        self.assertIn("error 19 BadCsv record 1: something stands behind a closing quote", told)
+        state = self.file("state", "-- cqa state: kept by the Python package; it is a script, and its last line tells its size\n"
+                          + self.UNENDED + "-- cqa state: 1 tables, 1 rows\n")
+        with self.assertRaises(cqa.Refused):
+            cqa.Session.restored(state)
+
+
 class Elsewhere(Case):
     def test_the_readmes_sql_by_hand_is_plain_sql(self) -> None:
         with open(os.path.join(TOP, "README.md"), encoding="utf-8") as file:
