@@ -6,7 +6,7 @@ import csv
 import datetime
 import functools
 import re
-from typing import Callable, List, Optional, Sequence, Tuple
+from typing import Callable, List, Optional, Sequence, Set, Tuple
 
 #: A fault or a note about the field of a record: the record's place in the piece, and what to say.
 Say = Callable[[int, str], None]
@@ -15,7 +15,8 @@ LONGEST_TEXT = 1024
 _LEAST, _GREATEST = -(2 ** 63), 2 ** 63 - 1
 _INT = re.compile(r"0|-?[1-9][0-9]*")
 _SHORT_INTS = re.compile(r"(?:(?:0|-?[1-9][0-9]{0,17})\n)*")
-_NUMBERS = re.compile(r"(?:-?(?:0|[1-9][0-9]*)(?:\.[0-9]+)?\n)*")
+_NUMBERS = re.compile(r"(?:-?(?:0|[1-9][0-9]*)(?:[.,][0-9]+)?\n)*")
+_MARKED = re.compile(r"([.,])([0-9]+)")
 _NUMBER = re.compile(r"[+-]?(?:[0-9]+(?:\.[0-9]*)?|\.[0-9]+)")
 _TIME = re.compile(r"([0-9]{4}-[0-9]{2}-[0-9]{2})(?:T([0-9]{2}):([0-9]{2})(?::([0-9]{2})(\.[0-9]{1,9})?)?Z)?")
 
@@ -60,6 +61,8 @@ class Column:
         self.note = ""
         self._mixes = is_there
         self._are_numbers = True
+        self._marks: Set[str] = set()
+        self._most_places = 0
         self._too_great: List[Tuple[str, int, str]] = []
 
     def take(self, fields: Sequence[str], where: Sequence[int], path: str, say: Say) -> Sequence[str]:
@@ -71,9 +74,17 @@ class Column:
         _check_text(self.name, fields, joined, say)
         if self.kind == "int" and not (_SHORT_INTS.fullmatch(joined) and joined.count("\n") == len(fields)):
             self._find_kind(fields, where, path)
-        self._are_numbers = self._are_numbers and _NUMBERS.fullmatch(joined) is not None
+        if self._are_numbers and self.kind == "text":
+            self._look_for_places(joined)
         self._mixes = True
         return fields
+
+    def _look_for_places(self, joined: str) -> None:
+        """Sees whether the fields are numbers with places, which marks stand before these, and how many there are."""
+        self._are_numbers = _NUMBERS.fullmatch(joined) is not None
+        for mark, places in _MARKED.findall(joined) if self._are_numbers else ():
+            self._marks.add(mark)
+            self._most_places = max(self._most_places, len(places))
 
     def _find_kind(self, fields: Sequence[str], where: Sequence[int], path: str) -> None:
         for at, field in enumerate(fields):
@@ -88,9 +99,11 @@ class Column:
 
     def notes(self) -> List[str]:
         """What is good to know of the column."""
-        if self.kind == "text" and self._are_numbers:
-            return ["%s holds numbers and is text, which compares by its bytes: --decimal %s:2 stores such numbers with two places"
-                    % (self.name, self.name)]
+        if self.kind == "text" and self._are_numbers and len(self._marks) == 1:
+            mark = " --decimal-mark ," if "," in self._marks else ""
+            most = "1 place" if self._most_places == 1 else "%d places" % self._most_places
+            return ["%s holds numbers and is text, which compares by its bytes: --decimal %s:%d%s stores such numbers with %s"
+                    % (self.name, self.name, self._most_places, mark, most)]
         return [self.note] if self.kind == "text" and self.note else []
 
     def faults(self) -> List[str]:
@@ -131,14 +144,24 @@ class DecimalColumn(Column):
         return self._scaled_with_care(at, field, say)
 
     def _scaled_with_care(self, at: int, field: str, say: Say) -> str:
-        number = field.replace(",", ".") if self._mark == "," and "." not in field else field
-        value = scaled(number, self._places)
+        is_pointed = self._mark == "," and "." in field
+        number = field.replace(",", ".") if self._mark == "," and not is_pointed else field
+        value = None if is_pointed else scaled(number, self._places)
         if value is None:
-            most = "%d place%s" % (self._places, "" if self._places == 1 else "s")
-            say(at, "%s: %s %s" % (self.name, _shown(field), "has more than " + most if _NUMBER.fullmatch(number) else "is no number"))
+            say(at, "%s: %s %s" % (self.name, _shown(field), self._cause(number)))
         elif not is_in_range(value):
             say(at, "%s: %s is out of range" % (self.name, _shown(field)))
         return str(value)
+
+
+    def _cause(self, number: str) -> str:
+        """Why a field isn't taken: the number that it is, with a point before its places."""
+        if self._mark == "," and "." in number and _NUMBER.fullmatch(number):
+            return "has a point, and the mark before the places is a comma"
+        if self._mark == "." and "," in number and _NUMBER.fullmatch(number.replace(",", ".", 1)):
+            return "has a comma: --decimal-mark , takes it as the mark before the places"
+        most = "%d place%s" % (self._places, "" if self._places == 1 else "s")
+        return "has more than " + most if _NUMBER.fullmatch(number) else "is no number"
 
 
 class TimeColumn(TextColumn):

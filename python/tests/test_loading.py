@@ -35,7 +35,7 @@ class Taken(Case):
 
     def test_lists_that_are_written_differently(self) -> None:
         self.file("a.csv", "id;tlf;sum\n1;11;350,50\n".encode("latin-1"))
-        self.file("b.csv", "\ufeffid\tTelefon\tsum\n2\tMärta\t0.5\n")
+        self.file("b.csv", "\ufeffid\tTelefon\tsum\n2\tMärta\t0,5\n")
         out = self.load("--key", "id", "--rename", "telefon=tlf", "--decimal", "sum:2", "--decimal-mark", ",", "--encoding", "latin-1", "a.csv", "b.csv")
         self.assertIn("(id int, tlf text, sum int, primary key (id))", out)
         self.assertIn('"1","11","35050"', out)
@@ -57,6 +57,22 @@ class Taken(Case):
                          ['"1","90000"', '"2","-120050"', '"3","50"', '"4","700"', '"5","0"', '"6","150"'])
         self.file("b.csv", "id;credit\n1;900,5\n")
         self.assertIn('"1","9005"', self.load("--key", "id", "--delimiter", ";", "--decimal", "credit:1", "--decimal-mark", ",", "b.csv"))
+
+    def test_the_mark_before_the_places(self) -> None:
+        self.file("a.csv", "id;amount\n1;1.200\n2;12,50\n3;1.200,50\n")
+        status, out, told = self.command("load", "--table", "t", "--key", "id", "--decimal", "amount:2", "--decimal-mark", ",", "a.csv")
+        self.assertEqual((status, out, lines(told)[:2]), (1, "", [
+            "a.csv:2: amount: '1.200' has a point, and the mark before the places is a comma", "a.csv:4: amount: '1.200,50' is no number"]))
+        self.file("b.csv", "id;amount\n2;12,50\n")
+        told = self.command("load", "--table", "t", "--key", "id", "--decimal", "amount:2", "b.csv")[2]
+        self.assertIn("b.csv:2: amount: '12,50' has a comma: --decimal-mark , takes it as the mark before the places", told)
+
+    def test_columns_of_numbers_are_told(self) -> None:
+        self.file("a.csv", "id;dues;rate\n1;100,00;1.5\n2;250;2.125\n")
+        status, _, told = self.command("load", "--table", "t", "--key", "id", "a.csv")
+        self.assertEqual((status, lines(told)[:-1]), (0, [
+            "cqa load: dues holds numbers and is text, which compares by its bytes: --decimal dues:2 --decimal-mark , stores such numbers with 2 places",
+            "cqa load: rate holds numbers and is text, which compares by its bytes: --decimal rate:3 stores such numbers with 3 places"]))
 
     def test_encodings_and_names(self) -> None:
         self.file("a.csv", "Kunde-Nr;Größe;2nd;primary;Tromsø\n1;Märta;x;y;z\n".encode("latin-1"))
