@@ -81,8 +81,10 @@ class Lists:
         """blocks: a file for the blocks, which stand behind the schema. fault: told of each fault. there: the table, if it is there."""
         self.options = options
         self.records = 0
+        self.counts: List[Tuple[str, int]] = []  # the lists, by their sources or paths, with their numbers of records
         self.dropped = 0
         self.faults = 0
+        self._notes: List[str] = []
         self._fault = fault
         self._told: List[Tuple[int, str]] = []
         self._is_in_piece = False
@@ -112,7 +114,9 @@ class Lists:
             with open(path, "rb") as raw:
                 before = os.fstat(raw.fileno())
                 codecs.lookup(self.options.encoding)
-                self._read(path, source, self._decoded(raw))
+                before_it = self.records
+                self._read(path, source, self._decoded(path, raw))
+                self.counts.append((source or path, self.records - before_it))
                 after = os.fstat(raw.fileno()) if not raw.closed else before
         except OSError as fault:
             self.tell(path, None, (fault.strerror or str(fault)).lower())
@@ -124,9 +128,14 @@ class Lists:
             if stat.S_ISREG(before.st_mode) and (before.st_size, before.st_mtime_ns) != (after.st_size, after.st_mtime_ns):
                 self.tell(path, None, "it changed while it was read")
 
-    def _decoded(self, raw: io.BufferedReader) -> io.TextIOWrapper:
+    def _decoded(self, path: str, raw: io.BufferedReader) -> io.TextIOWrapper:
+        """A list as text. One that is UTF-8 with a letter beyond ASCII is read so, whatever encoding was told."""
         encoding = self.options.encoding
-        if codecs.lookup(encoding).name == "utf-8" or raw.peek(3)[:3] == codecs.BOM_UTF8:
+        is_told = codecs.lookup(encoding).name == "utf-8" or raw.peek(3)[:3] == codecs.BOM_UTF8
+        if not is_told and _is_utf_8(raw):
+            self._notes.append("%s is UTF-8, and is read so, not as %s" % (path, encoding))
+            is_told = True
+        if is_told:
             return io.TextIOWrapper(raw, encoding="utf-8-sig", errors="surrogateescape", newline="")
         return io.TextIOWrapper(raw, encoding=encoding, newline="")
 
@@ -302,7 +311,8 @@ class Lists:
 
     def notes(self) -> List[str]:
         """What is no fault and good to know."""
-        notes = [note for column in self._columns for note in column.notes()]
+        notes = self._notes + ["%s has no records" % name for name, count in self.counts if not count]
+        notes += [note for column in self._columns for note in column.notes()]
         if self.dropped:
             notes.append("%d record%s with an empty field left out" % (self.dropped, "" if self.dropped == 1 else "s"))
         return notes
@@ -388,6 +398,24 @@ def create_text(schema: Schema) -> str:
     columns = ", ".join("%s %s" % item for item in schema.columns.items())
     first = "create strict table" if schema.strict else "create table"
     return "%s %s (%s, primary key (%s));\n" % (first, schema.table, columns, ", ".join(schema.key))
+
+
+def _is_utf_8(raw: io.BufferedReader) -> bool:
+    """Whether a file is UTF-8 with a letter beyond ASCII; of one that can't be read twice, whether its beginning is."""
+    decoder = codecs.getincrementaldecoder("utf-8")()
+    is_ascii = True
+    try:
+        if not raw.seekable():
+            return not decoder.decode(raw.peek(1)).isascii()
+        for piece in iter(partial(raw.read, 1 << 20), b""):
+            is_ascii = decoder.decode(piece).isascii() and is_ascii
+        decoder.decode(b"", True)
+        return not is_ascii
+    except UnicodeDecodeError:
+        return False
+    finally:
+        if raw.seekable():
+            raw.seek(0)
 
 
 def _delimiter_of(header: str) -> str:

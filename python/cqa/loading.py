@@ -128,7 +128,9 @@ def main(arguments: Sequence[str]) -> int:
         return 1
     for note in lists.notes():
         print("cqa load: %s" % note, file=sys.stderr)
-    print("cqa load: %s, %d records" % (_shown(lists.schema()), lists.records), file=sys.stderr)
+    parts = " (%s)" % ", ".join("%s %d" % part for part in lists.counts) if len(lists.counts) > 1 else ""
+    records = "1 record" if lists.records == 1 else "%d records" % lists.records
+    print("cqa load: %s, %s%s" % (_shown(lists.schema()), records, parts), file=sys.stderr)
     return 0
 
 

@@ -70,6 +70,9 @@ def main(arguments: Sequence[str]) -> int:
         print("cqa report: nothing is written", file=sys.stderr)
         return 1
     with session:
+        if not session.tables():
+            print("cqa report: %s makes no table; nothing is written" % ", ".join(told.files), file=sys.stderr)
+            return 1
         text = report(session, answers, ", ".join(os.path.basename(path) for path in told.files), told.source)
     with written(told.output) if told.output else standard_output() as out:
         out.write(text.encode("utf-8", "replace"))

@@ -80,6 +80,22 @@ class Taken(Case):
         self.assertIn("(kunde_nr int, grosse text, c_2nd text, primary_ text, tromso text,", out)
         self.assertIn('"Märta"', out)
 
+    def test_a_list_in_another_encoding_than_told(self) -> None:
+        self.file("a.csv", "id,name\n1,Sæther\n".encode("latin-1"))
+        self.file("b.csv", "id,name\n1,Sæther\n")
+        words = ["--key", "id", "--encoding", "latin-1", "--source", "a=a.csv", "--source", "b=b.csv"]
+        out = self.load(*words)
+        self.assertEqual(out.count("Sæther"), 2)
+        self.assertIn("cqa load: b.csv is UTF-8, and is read so, not as latin-1\n", self.command("load", "--table", "t", *words)[2])
+
+    def test_records_are_told_by_list(self) -> None:
+        self.file("a.csv", "id,name\n1,Ada\n2,Bo\n")
+        self.file("b.csv", "id,name\n")
+        told = self.command("load", "--table", "t", "--key", "id", "--source", "A=a.csv", "--source", "B=b.csv")[2]
+        self.assertEqual(lines(told), ["cqa load: B has no records", "cqa load: t (id int, name text, source text) by id, 2 records (A 2, B 0)"])
+        self.file("empty.cqa", "")
+        self.assertEqual(self.command("report", "empty.cqa"), (1, "", "cqa report: empty.cqa makes no table; nothing is written\n"))
+
     def test_missing_fields_as_told(self) -> None:
         self.file("a.csv", "id,email,age\n1,a@b,7\n2,,8\n3,c@d,\n")
         self.assertIn('"2","","8"', self.load("--key", "id", "--missing", "keep", "a.csv"))

@@ -99,7 +99,8 @@ class Pages(ProgramCase):
         self.assertEqual(len(lines(told)), 2)
 
     def test_an_empty_script_and_long_answers(self) -> None:
-        self.assertIn("0\ntables", self.page("").text)
+        self.file("s.cqa", "")
+        self.assertEqual(self.command("report", "s.cqa"), (1, "", "cqa report: s.cqa makes no table; nothing is written\n"))
         rows = ", ".join("(%d, 'x', 'y', 'z')" % at for at in range(1000))
         read = self.page(SCRIPT.split("insert")[0] + "insert into customer values %s;\nask select id from customer;\n" % rows)
         self.assertIn("985 more", read.text)
