@@ -8,6 +8,8 @@ import functools
 import re
 from typing import Callable, List, Optional, Sequence, Set, Tuple
 
+from .unseen import Unseen
+
 #: A fault or a note about the field of a record: the record's place in the piece, and what to say.
 Say = Callable[[int, str], None]
 
@@ -64,6 +66,7 @@ class Column:
         self._marks: Set[str] = set()
         self._most_places = 0
         self._too_great: List[Tuple[str, int, str]] = []
+        self._unseen = Unseen()
 
     def take(self, fields: Sequence[str], where: Sequence[int], path: str, say: Say) -> Sequence[str]:
         """Looks at the fields of a piece of a list and gives what is written for them.
@@ -74,6 +77,8 @@ class Column:
         _check_text(self.name, fields, joined, say)
         if self.kind == "int" and not (_SHORT_INTS.fullmatch(joined) and joined.count("\n") == len(fields)):
             self._find_kind(fields, where, path)
+        if self.kind == "text":
+            self._unseen.look(fields, joined, where, path)
         if self._are_numbers and self.kind == "text":
             self._look_for_places(joined)
         self._mixes = True
@@ -99,6 +104,9 @@ class Column:
 
     def notes(self) -> List[str]:
         """What is good to know of the column."""
+        return self._kind_notes() + self._unseen.notes(self.name)
+
+    def _kind_notes(self) -> List[str]:
         if self.kind == "text" and self._are_numbers and len(self._marks) == 1:
             mark = " --decimal-mark ," if "," in self._marks else ""
             most = "1 place" if self._most_places == 1 else "%d places" % self._most_places

@@ -7,6 +7,7 @@ from itertools import groupby
 from typing import Dict, Iterable, List, Optional, Sequence, Tuple
 
 from .rows import Cell
+from .unseen import seen
 
 
 @dataclass(frozen=True)
@@ -95,7 +96,7 @@ def _add(found: Conflicts, key: Tuple[Cell, ...], rows: List[Tuple[Cell, ...]], 
 
 
 def _values_text(values: Dict[Cell, List[Cell]]) -> str:
-    return " | ".join("%s%s" % (_shown(value), " (%s)" % ", ".join(map(str, sources)) if sources else "")
+    return " | ".join("%s%s" % (_shown(value), " (%s)" % ", ".join(map(_shown, sources)) if sources else "")
                       for value, sources in values.items())
 
 
@@ -105,5 +106,5 @@ def _block_line(block: Disputed) -> str:
 
 
 def _shown(value: Cell) -> str:
-    """A value in a line of its own: line feeds are written as \\n, and an empty text is seen."""
-    return "''" if value == "" else str(value).replace("\\", "\\\\").replace("\n", "\\n").replace("\r", "\\r")
+    """A value in a line of its own: line feeds are written as \\n, and what nobody sees is marked."""
+    return "''" if value == "" else seen(str(value).replace("\\", "\\\\").replace("\n", "\\n").replace("\r", "\\r"))

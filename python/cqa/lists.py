@@ -38,7 +38,7 @@ class ListOptions:
     header line. encoding: how the lists are written; one with a byte order mark of UTF-8 is UTF-8. renamed: the names of columns by
     those that lists have. decimal_mark: "." or ",".
     missing: what becomes of a record with an empty field outside the key: "refuse", "keep" (the empty text is a value) or "drop".
-    source_column: the name of the column that says from which list a row is.
+    source_column: the name of the column that says from which list a row is. strip: whether blanks at the ends of fields are left out.
     """
 
     table: str
@@ -54,6 +54,7 @@ class ListOptions:
     missing: str = "refuse"
     strict: bool = False
     source_column: str = "source"
+    strip: bool = False
 
 
 class _Reader(Protocol):
@@ -265,6 +266,8 @@ class Lists:
             lines, rows = _those(lines, kept), _those(rows, kept)
         fields = list(zip(*rows))
         columns: List[Sequence[str]] = [fields[place] for place in places] if rows else []
+        if self.options.strip:
+            columns = [[value.strip() for value in values] for values in columns]
         if any("" in values for values in columns):
             kept = self._without_missing(path, lines, columns)
             lines, columns = _those(lines, kept), [_those(values, kept) for values in columns]

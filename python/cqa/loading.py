@@ -73,6 +73,7 @@ def parser() -> argparse.ArgumentParser:
                        help="a column that is text, even where it holds numbers alone")
     words.add_argument("--missing", choices=["refuse", "keep", "drop"], default="refuse",
                        help="an empty field outside the key is a fault (refuse), the text '' (keep), or its record is left out (drop)")
+    words.add_argument("--strip", action="store_true", help="blanks at the ends of fields are left out")
     words.add_argument("--strict", action="store_true", help="the table takes no two rows of one key")
     words.add_argument("-o", "--output", metavar="FILE", help="the script's file, in place of standard output")
     return words
@@ -95,7 +96,8 @@ def options_of(words: argparse.Namespace) -> ListOptions:
     if word_of(words.table) != words.table.lower() or not words.table:
         raise ValueError("--table wants a name of letters, digits and _, and not %r" % words.table)
     return ListOptions(words.table, words.key.split(","), words.columns.split(",") if words.columns else None, decimals, words.time,
-                       words.text, delimiter, words.encoding, renamed, words.decimal_mark, words.missing, words.strict, words.source_column)
+                       words.text, delimiter, words.encoding, renamed, words.decimal_mark, words.missing, words.strict, words.source_column,
+                       words.strip)
 
 
 def sources_of(words: argparse.Namespace) -> List[Source]:

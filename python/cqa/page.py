@@ -7,8 +7,8 @@ import re
 from typing import Iterable, List, Sequence
 
 from .rows import Cell
+from .unseen import seen
 
-_CONTROL = re.compile(r"[\x00-\x08\x0b-\x1f\x7f]")
 _LONG_WORD = re.compile(r"\S{25}")
 _MOST_SHOWN = 15
 _MOST_HELD = 500
@@ -58,8 +58,8 @@ details summary { cursor: pointer; color: var(--quiet); margin: .4rem 0; }
 
 
 def text(value: Cell) -> str:
-    """A value as text of the page: its own direction, and its control letters seen."""
-    shown = _CONTROL.sub(lambda found: "\u2421" if found[0] == "\x7f" else chr(0x2400 + ord(found[0])), str(value))
+    """A value as text of the page: its own direction, and marks for what nobody sees."""
+    shown = seen(str(value))
     if not shown:
         return '<bdi class="quiet">(empty)</bdi>'
     kind = ' class="long"' if _LONG_WORD.search(shown) else ""

@@ -127,8 +127,7 @@ class Session:
              key: Union[str, Sequence[str]] = (), source: Optional[str] = None, columns: Optional[Sequence[str]] = None,
              decimal: Optional[Mapping[str, int]] = None, time: Sequence[str] = (), text: Sequence[str] = (), delimiter: str = "",
              encoding: str = "utf-8", renamed: Optional[Mapping[str, str]] = None, decimal_mark: str = ".",
-             missing: str = "refuse", strict: bool = False,
-             source_column: str = "source") -> int:
+             missing: str = "refuse", strict: bool = False, source_column: str = "source", strip: bool = False) -> int:
         """Loads a CSV list with a header line into a table, which is made where it isn't there, and gives the number of new rows.
 
         path: the list, or several as {"crm": "crm.csv", "shop": "shop.csv"} by their sources; the kinds of a new table's columns
@@ -136,7 +135,8 @@ class Session:
         `source_column`. decimal: the number of places by column; such a column is stored as int and given as Decimal.
         delimiter: where it isn't told, a comma, or what the header has in its place. renamed: names of columns by those that the
         list has. time: columns of dates or of times in UTC. text: columns that are text though they hold numbers. missing: what an empty
-        field outside the key is: "refuse", "keep" or "drop". strict: whether a new table takes no two rows of one key.
+        field outside the key is: "refuse", "keep" or "drop". strict: whether a new table takes no two rows of one key. strip: whether
+        blanks at the ends of fields are left out.
 
         A table that is there gets the kinds and places that a further list needs: an int column becomes text where the list has
         other fields, and numbers get more places.
@@ -150,7 +150,7 @@ class Session:
             raise ValueError("missing is refuse, keep or drop, and not %r" % missing)
         wanted = [key] if isinstance(key, str) else list(key)
         options = ListOptions(table, wanted, columns, decimal or {}, time, text, delimiter, encoding, renamed or {}, decimal_mark, missing,
-                              strict, source_column)
+                              strict, source_column, strip)
         return self.load_lists(options, _sources(path, source))
 
     def load_lists(self, options: ListOptions, sources: Sequence[Source]) -> int:

@@ -96,6 +96,16 @@ class Taken(Case):
         self.file("empty.cqa", "")
         self.assertEqual(self.command("report", "empty.cqa"), (1, "", "cqa report: empty.cqa makes no table; nothing is written\n"))
 
+    def test_blanks_and_signs_that_nobody_sees(self) -> None:
+        self.file("a.csv", "id,city\n1 ,Oslo \n2,Os\u200blo\n3,Be\u0301b\n")
+        status, _, told = self.command("load", "--table", "t", "--key", "id", "a.csv")
+        self.assertEqual((status, lines(told)[:-1]), (0, [
+            "cqa load: id: a blank at an end in 1 field, as 1\u2423 in a.csv:2; such a text differs from the one without; --strip takes blanks off",
+            "cqa load: city: a blank at an end in 1 field, as Oslo\u2423 in a.csv:2; such a text differs from the one without; --strip takes blanks off",
+            "cqa load: city: a sign that nobody sees in 1 field, as Os\\u200blo in a.csv:3; such a text differs from the one without",
+            "cqa load: city: an accent apart from its letter in 1 field, as Be\\u0301b in a.csv:4; such a text differs from the one with both as one letter"]))
+        self.assertIn('"1","Oslo"\n', self.load("--key", "id", "--strip", "a.csv"))
+
     def test_missing_fields_as_told(self) -> None:
         self.file("a.csv", "id,email,age\n1,a@b,7\n2,,8\n3,c@d,\n")
         self.assertIn('"2","","8"', self.load("--key", "id", "--missing", "keep", "a.csv"))
