@@ -3,11 +3,14 @@
 from __future__ import annotations
 
 import argparse
+import re
 import sys
 from typing import List, Optional, Sequence
 
 from .files import standard_output, written
 from .running import Answer, loaded
+
+_NAME = re.compile(r"[A-Za-z_][A-Za-z0-9_]*")
 
 #: The statements whose answer is rows.
 QUESTIONS = ("ask", "possible", "disputed")
@@ -36,25 +39,29 @@ def csv_main(arguments: Sequence[str]) -> int:
 
 
 def conflicts_main(arguments: Sequence[str]) -> int:
-    """The command `conflicts FILE [TABLE]`: the keys whose rows differ. Where a statement is refused nothing is written."""
+    """The command `conflicts FILE .. [TABLE ..]`: the keys whose rows differ. Where a statement is refused nothing is written."""
     words = argparse.ArgumentParser(prog="cqa conflicts", description="The keys of tables whose rows differ: how many by column, and "
                                     "for each its values with their sources. Where a statement is refused, nothing is written.")
-    words.add_argument("file", metavar="FILE", help="a script")
-    words.add_argument("tables", nargs="*", metavar="TABLE", help="a table; all where none is named")
+    words.add_argument("first", metavar="FILE", help="a script")
+    words.add_argument("others", nargs="*", metavar="FILE or TABLE",
+                       help="a word that may be a table's name is one, as customer; another is a script, as b.cqa or ./customer")
     words.add_argument("--source", metavar="COLUMN", help="the column of sources, which is no conflict (source)")
     told = words.parse_args(arguments)
-    session = loaded([told.file])
+    tables = [word for word in told.others if _NAME.fullmatch(word)]
+    files = [told.first] + [word for word in told.others if not _NAME.fullmatch(word)]
+    session = loaded(files)
     if session is None:
         print("cqa conflicts: nothing is written", file=sys.stderr)
         return 1
     with session:
         there = [schema.table for schema in session.tables()]
-        missing = [table for table in told.tables if table not in there]
+        missing = [table for table in tables if table not in there]
         if missing or not there:
-            print("cqa conflicts: no table %s in %s" % (missing[0] if missing else "", told.file), file=sys.stderr)
+            lacking = "no table %s in %s" % (missing[0], ", ".join(files)) if missing else "%s makes no table" % ", ".join(files)
+            print("cqa conflicts: %s" % lacking, file=sys.stderr)
             return 1
         try:
-            text = "".join(str(session.conflicts(table, told.source)) for table in told.tables or there)
+            text = "".join(str(session.conflicts(table, told.source)) for table in tables or there)
         except KeyError as fault:
             print("cqa conflicts: %s" % fault.args[0], file=sys.stderr)
             return 1

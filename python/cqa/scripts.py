@@ -57,11 +57,25 @@ def statements(script: bytes, at: int = 0) -> Iterator[Statement]:
 
 
 def remarks(script: bytes) -> Tuple[Dict[Tuple[str, str], int], Dict[str, str]]:
-    """What the comments before the first statement say of columns: the places of those that hold numbers with places, by table
-    and column, and each table's column of sources."""
-    head = script[:_past_gap(script, 0)]
-    places = {(table.decode(), column.decode()): int(count) for table, column, count in _PLACES.findall(head)}
-    return places, {table.decode(): column.decode() for table, column in _SOURCES.findall(head)}
+    """What the comments between statements say of columns: the places of those that hold numbers with places, by table and
+    column, and each table's column of sources. What stands in a text or in a block is no comment."""
+    places: Dict[Tuple[str, str], int] = {}
+    sources: Dict[str, str] = {}
+    for comments in _gaps(script):
+        places.update({(table.decode(), column.decode()): int(count) for table, column, count in _PLACES.findall(comments)})
+        sources.update({table.decode(): column.decode() for table, column in _SOURCES.findall(comments)})
+    return places, sources
+
+
+def _gaps(script: bytes) -> Iterator[bytes]:
+    """What stands before the first statement and between statements, up to the last comment that may speak of a column."""
+    last = script.rfind(b"\n-- cqa: column ")
+    at = _past_gap(script, 0)
+    yield script[:at]
+    while 0 <= at < last:
+        end = _statement(script, at, len(script)).end
+        at = _past_gap(script, end)
+        yield script[end:at]
 
 
 def remark_text(places: Mapping[Tuple[str, str], int], sources: Mapping[str, str]) -> str:

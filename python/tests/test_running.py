@@ -47,7 +47,8 @@ class Scripts(unittest.TestCase):
         self.assertEqual(selected("ask select from, t.select from from, t where a = 'from x'"), (["from", "t.select"], ["from", "t"]))
         self.assertEqual(selected("exists from a, b"), ([], ["a", "b"]))
         self.assertEqual(remarks(b"-- cqa: column t.a has 2 places\n-- cqa: column t.b has the sources\ncreate"), ({("t", "a"): 2}, {"t": "b"}))
-        self.assertEqual(remarks(b"dump;\n-- cqa: column t.a has 2 places\n"), ({}, {}))
+        self.assertEqual(remarks(b"dump;\n-- cqa: column t.a has 2 places\n"), ({("t", "a"): 2}, {}))
+        self.assertEqual(remarks(b"copy t;\n-- cqa: column t.a has 2 places\n\\.\n"), ({}, {}))
 
 
 class Places(ProgramCase):

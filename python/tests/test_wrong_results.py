@@ -147,6 +147,22 @@ class EverySender(ProgramCase):
             cqa.Session.restored(state)
 
 
+class Comments(ProgramCase):
+    """What the comments of scripts say of columns."""
+
+    def test_scripts_one_after_the_other_in_a_file(self) -> None:
+        first = "-- cqa: column m.kilde has the sources\ncreate table m (id int, kilde text, primary key (id));\ninsert into m values (1, 'a'), (1, 'b');\n"
+        second = ("-- cqa: column n.id has 2 places\n-- cqa: column n.kilde has the sources\ncreate table n (id int, name text, kilde text, primary key (id));\n"
+                  "copy n;\n100,a,x\n100,b,y\n\\.\ninsert into m values (2, '\n-- cqa: column m.id has 1 places\n');\n")
+        wanted = "n: 1 key, 1 in conflict: name 1\n1.00  name: a (x) | b (y)\n"
+        self.file("a.cqa", first)
+        self.file("b.cqa", second)
+        self.file("both.cqa", first + second)
+        self.assertEqual(self.command("conflicts", "both.cqa"), (0, "m: 2 keys, 0 in conflict\n" + wanted, ""))
+        self.assertEqual(self.command("conflicts", "a.cqa", "b.cqa", "n"), (0, wanted, ""))
+        self.assertEqual(self.command("conflicts", "a.cqa", "n")[::2], (1, "cqa conflicts: no table n in a.cqa\n"))
+
+
 class Elsewhere(Case):
     def test_the_readmes_sql_by_hand_is_plain_sql(self) -> None:
         with open(os.path.join(TOP, "README.md"), encoding="utf-8") as file:
