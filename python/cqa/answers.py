@@ -6,9 +6,10 @@ import re
 from typing import List, NamedTuple, Optional, Tuple
 
 from .errors import ReplyFault
-from .replies import Row, Value, kept_of, row_of
+from .replies import Value, kept_of, row_of
+from .rows import Cell
 
-Kept = Tuple[str, Row]
+Kept = Tuple[str, Tuple[Cell, ...]]
 
 _ATTACK = re.compile(r"(\w+) attacks (\w+), (weak|strong)\Z")
 _BY_BLOCK = re.compile(r"certain by block (\w+) (\(.*\))\Z", re.S)
@@ -36,12 +37,12 @@ class Explanation(NamedTuple):
     kind: "block" (certain by the block `table` with the key `key`), "refutation" (certain: `proof` is a formula with its
     refutation, which `cqa check` verifies), "rewriting" (certain: `proof` is a certificate), "rejected" (not certain: the
     repair that keeps `kept` has no witness of the row), "against" (not certain: no repair that keeps `kept` has one),
-    "certain", or "no plan". Keys and rows are as they are stored: numbers with places as ints.
+    "certain", or "no plan".
     """
 
     kind: str
     table: Optional[str] = None
-    key: Optional[Row] = None
+    key: Optional[Tuple[Cell, ...]] = None
     kept: Tuple[Kept, ...] = ()
     proof: str = ""
 
@@ -57,8 +58,8 @@ class Range(NamedTuple):
     None stands for `none`: no row meets the tests.
     """
 
-    least: Optional[Value]
-    greatest: Optional[Value]
+    least: Optional[Cell]
+    greatest: Optional[Cell]
     low: Tuple[Kept, ...] = ()
     high: Tuple[Kept, ...] = ()
 
@@ -66,9 +67,9 @@ class Range(NamedTuple):
 class Group(NamedTuple):
     """The least and the greatest value of an aggregate for one value of the column behind `group by`."""
 
-    value: Value
-    least: Optional[Value]
-    greatest: Optional[Value]
+    value: Cell
+    least: Optional[Cell]
+    greatest: Optional[Cell]
 
 
 def classification(lines: List[str]) -> Classification:

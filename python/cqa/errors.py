@@ -111,6 +111,10 @@ class LoadWarning(UserWarning):
     """What is no fault of a list and good to know, as that numbers became texts."""
 
 
+class ScaleWarning(UserWarning):
+    """A statement or a query tests or inserts numbers of a column with places as they are stored."""
+
+
 class StateFault(CqaError):
     """A file of a kept state isn't whole."""
 

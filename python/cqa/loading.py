@@ -11,6 +11,7 @@ from typing import IO, Callable, List, Optional, Sequence, Tuple
 from .errors import LoadFault
 from .files import standard_output, written
 from .lists import ListOptions, Lists, create_text, word_of
+from .scaling import stored_note
 from .scripts import Schema, remark_text
 
 #: A list and what its rows have in the column of sources; None where there is no such column.
@@ -130,6 +131,8 @@ def main(arguments: Sequence[str]) -> int:
         return 1
     for note in lists.notes():
         print("cqa load: %s" % note, file=sys.stderr)
+    for name, count in options.decimals.items():
+        print("cqa load: " + stored_note(word_of(name), count), file=sys.stderr)
     parts = " (%s)" % ", ".join("%s %d" % part for part in lists.counts) if len(lists.counts) > 1 else ""
     records = "1 record" if lists.records == 1 else "%d records" % lists.records
     print("cqa load: %s, %s%s" % (_shown(lists.schema()), records, parts), file=sys.stderr)

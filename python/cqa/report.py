@@ -7,6 +7,7 @@ import html
 import os
 import re
 import sys
+from decimal import Decimal
 from typing import Dict, List, NamedTuple, Optional, Sequence
 
 from . import page
@@ -173,9 +174,13 @@ def _why_part(session: Session, schemas: Sequence[Schema], question: Question, d
         return head + '<p class="odd">%s</p>' % page.text(refused.line)
     if not kept:
         return head + "<p>No choice of rows gives it: it isn't even possible.</p>"
-    rows = [(table, "(%s)" % ", ".join(quoted(value) for value in row)) for table, row in kept[:_MOST_KEPT]]
+    rows = [(table, _row_shown(row)) for table, row in session._shown_kept(kept[:_MOST_KEPT])]
     more = "<p class=\"quiet\">and %s more</p>" % page.number(len(kept) - _MOST_KEPT) if len(kept) > _MOST_KEPT else ""
     return head + "<p>It is no answer where these rows are the right ones of their keys:</p>" + page.table(("table", "row"), rows) + more
+
+
+def _row_shown(row: Sequence[Cell]) -> str:
+    return "(%s)" % ", ".join(str(value) if isinstance(value, Decimal) else quoted(value) for value in row)
 
 
 def _by_block(told: Explanation) -> str:
@@ -186,7 +191,7 @@ def _by_block(told: Explanation) -> str:
 
 def _literals(session: Session, query: str, row: Sequence[Cell]) -> List[str]:
     """The values of a row as literals."""
-    return [quoted(value) for value in session.stored(row, query)]
+    return [quoted(value) for value in session._stored(row, query)]
 
 
 def _against(session: Session, query: str, literal: str) -> Explanation:

@@ -7,22 +7,25 @@ import queue
 import sys
 import threading
 import time
-from typing import BinaryIO, Dict, Iterator, List, NamedTuple, Optional, Sequence, Tuple
+from typing import BinaryIO, Dict, Iterator, List, NamedTuple, Optional, Sequence, Set, Tuple
 
 from .errors import Ended, InputTooLong
 from .files import standard_output
 from .places import Place, place_of
 from .program import Child
 from .replies import END_STATEMENT, IS_REFUSAL
-from .scripts import Schema, Statement, fault_of, schema_of, statements, verb_of
+from .scaling import shown_notes, statement_notes
+from .scripts import Schema, Statement, fault_of, remarks, schema_of, statements, verb_of
 from .session import Session
 
 _PIECE = 1 << 20
 _MOST_INPUT = 268_435_456
+_MOST_NOTES = 20
 
 
 class Answer(NamedTuple):
-    """A statement of a file with its reply: its lines without their line feeds, or a refusal with its place."""
+    """A statement of a file with its reply: its lines without their line feeds, or a refusal with its place. notes: what to know
+    of the numbers that the statement names; shown: of those in its reply's rows. line: where it begins."""
 
     path: str
     text: str
@@ -30,6 +33,9 @@ class Answer(NamedTuple):
     lines: List[bytes]
     refusal: str
     place: Optional[Place]
+    notes: Sequence[str] = ()
+    shown: Sequence[str] = ()
+    line: int = 0
 
 
 class ScriptFile:
@@ -54,6 +60,9 @@ class Runner:
     def __init__(self, child: Child, files: Sequence[ScriptFile]) -> None:
         self.child = child
         self.schemas: Dict[str, Schema] = {}
+        self._places: Dict[Tuple[str, str], int] = {}
+        for file in files:
+            self._places.update(remarks(file.script)[0])
         self.sent_bytes = 0
         self._bytes_before = 0
         self.answered = 0
@@ -118,6 +127,14 @@ class Runner:
             self.child.flush()
 
     def _answer(self, file: ScriptFile, statement: Statement, fault: str) -> Answer:
+        answer = self._plain_answer(file, statement, fault)
+        if not self._places:
+            return answer
+        notes, shown = statement_notes(answer.text, self._places), shown_notes(answer.text, self._places)
+        line = file.script.count(b"\n", 0, statement.start) + 1 if notes or shown else 0
+        return answer._replace(notes=notes, shown=shown, line=line)
+
+    def _plain_answer(self, file: ScriptFile, statement: Statement, fault: str) -> Answer:
         text = statement.text(file.script).decode("utf-8", "replace")
         verb = verb_of(text)
         if fault:
@@ -171,12 +188,33 @@ class Progress:
         self.clear()
 
 
-def run_files(paths: Sequence[str], child: Child, stops: bool) -> Iterator[Answer]:
+class Notes:
+    """Tells what is to know of the answers of a run: each note once, and the first ones alone."""
+
+    def __init__(self, is_shown: bool) -> None:
+        """is_shown: whether rows are shown as they are stored."""
+        self._is_shown = is_shown
+        self._known: Set[str] = set()
+
+    def tell(self, answer: Answer) -> None:
+        """Writes the notes of an answer that weren't told yet to standard error."""
+        for note in (*answer.notes, *(answer.shown if self._is_shown else ())):
+            if note not in self._known:
+                self._known.add(note)
+                if len(self._known) <= _MOST_NOTES:
+                    print("%s:%d: note: %s" % (answer.path, answer.line, note), file=sys.stderr)
+
+    def end(self) -> None:
+        """Says how many notes weren't told."""
+        if len(self._known) > _MOST_NOTES:
+            print("cqa: and %d more notes like these" % (len(self._known) - _MOST_NOTES), file=sys.stderr)
+
+
+def run_files(files: Sequence[ScriptFile], child: Child, stops: bool) -> Iterator[Answer]:
     """Runs files one after the other as one script and gives each answer; `stops` ends it behind the first refusal.
 
-    Raises OSError where a file can't be read, before anything is run, and Ended where the program ends.
+    Raises Ended where the program ends.
     """
-    files = [ScriptFile(path) for path in paths]
     runner = Runner(child, files)
     progress = Progress(runner, sum(len(file.script) for file in files))
     try:
@@ -195,13 +233,16 @@ def loaded(paths: Sequence[str], answers: Optional[List[Answer]] = None, is_apar
 
     is_apart: Ctrl-C doesn't reach the program. Raises OSError where a file can't be read, and Ended where the program ends.
     """
+    files = [ScriptFile(path) for path in paths]
     child = Child(is_apart=is_apart)
     is_refused = False
     session = Session(child=child)
+    notes = Notes(is_shown=False)
     try:
-        for path in paths:
-            session.heed(ScriptFile(path).script)
-        for answer in run_files(paths, child, False):
+        for file in files:
+            session.heed(file.script)
+        for answer in run_files(files, child, False):
+            notes.tell(answer)
             if answer.refusal:
                 is_refused = True
                 tell_refusal(answer)
@@ -210,6 +251,7 @@ def loaded(paths: Sequence[str], answers: Optional[List[Answer]] = None, is_apar
     except BaseException:
         child.kill()
         raise
+    notes.end()
     if is_refused:
         child.kill()
     return None if is_refused else session
@@ -230,10 +272,11 @@ def main(arguments: Sequence[str]) -> int:
     words.add_argument("files", nargs="+", metavar="FILE")
     words.add_argument("--stop", action="store_true", help="end at the first refusal")
     told = words.parse_args(arguments)
+    files = [ScriptFile(path) for path in told.files]
     child = Child()
     try:
         with standard_output() as out:
-            status = _print_answers(told.files, child, told.stop, out)
+            status = _print_answers(files, child, told.stop, out)
     except BaseException:
         child.kill()
         raise
@@ -244,10 +287,14 @@ def main(arguments: Sequence[str]) -> int:
     return status
 
 
-def _print_answers(paths: Sequence[str], child: Child, stops: bool, out: BinaryIO) -> int:
+def _print_answers(files: Sequence[ScriptFile], child: Child, stops: bool, out: BinaryIO) -> int:
     """Writes replies to a stream and refusals to standard error, in their order. 1 where a statement was refused, and else 0."""
     status = 0
-    for answer in run_files(paths, child, stops):
+    notes = Notes(is_shown=True)
+    for answer in run_files(files, child, stops):
+        if answer.notes or answer.shown:
+            out.flush()
+            notes.tell(answer)
         if answer.refusal:
             status = 1
             out.flush()
@@ -256,4 +303,5 @@ def _print_answers(paths: Sequence[str], child: Child, stops: bool, out: BinaryI
             out.writelines(line + b"\n" for line in answer.lines)
             if out.isatty():
                 out.flush()
+    notes.end()
     return status

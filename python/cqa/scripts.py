@@ -228,6 +228,11 @@ def query_parts(text: str) -> QueryParts:
     return QueryParts(columns, tables, " ".join(words[at + 1:]))
 
 
+def names_from(words: List[str]) -> List[str]:
+    """The names behind the first `from` of a statement's tokens."""
+    return _names(words, words.index("from") + 1)[0] if "from" in words else []
+
+
 def selected(text: str) -> Tuple[List[str], List[str]]:
     """What a query selects, as it is written, and its tables."""
     parts = query_parts(text)

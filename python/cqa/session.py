@@ -4,25 +4,28 @@ from __future__ import annotations
 
 import os
 import re
+import sys
 import tempfile
 import warnings
 from dataclasses import replace
 from decimal import Decimal
 from types import TracebackType
-from typing import Dict, Iterable, Iterator, List, Mapping, Optional, Sequence, Tuple, Type, Union
+from typing import Callable, Dict, Iterable, Iterator, List, Mapping, Optional, Sequence, Tuple, Type, Union
 
 from . import answers
-from .answers import Classification, Explanation, Group, Range
+from .answers import Classification, Explanation, Group, Kept, Range
 from .columns import is_in_range, scaled
 from .conflicts import Conflicts, conflicts_of
-from .errors import LoadFault, LoadWarning, Refused, ReplyFault, StateFault, UnknownStatement
+from .errors import LoadFault, LoadWarning, Refused, ReplyFault, ScaleWarning, StateFault, UnknownStatement
 from .files import written
 from .lists import ListOptions, create_text, rows_script, word_of
 from .loading import Source, load_script
 from .program import Child
-from .replies import IS_REFUSAL, Row, row_of
+from .replies import IS_REFUSAL, row_of
 from .rows import Cell, Rows
-from .scripts import Schema, Statement, fault_of, quoted, remark_text, remarks, row_text, selected, shown_schema, statements, tokens, verb_of
+from .scaling import places_of, query_notes, scaled_tests, shown_notes, statement_notes, stored, tables_of
+from .scripts import (Schema, Statement, fault_of, names_from, quoted, remark_text, remarks, row_text, selected, shown_schema, statements,
+                      tokens, verb_of)
 
 #: Statements that not every program knows: how each begins, and the reply of a program that doesn't know it.
 NEWER = (("disputed", b"error 2 Syntax at 0\n"), ("against", b"error 2 Syntax at 0\n"), ("prove", b"error 2 Syntax at 0\n"),
@@ -37,7 +40,9 @@ class Session:
     """Tables in a running program. Used by `with`, it ends with the block; else by `close`.
 
     Each statement is answered before its method returns. A refused one raises `Refused` and changes nothing. Values are `int`
-    and `str`, and `Decimal` where a column was loaded with a number of places.
+    and `str`, and `Decimal` where a column was loaded with a number of places. Such a column is stored as int, times a power of ten:
+    a query compares it to a number with a point, as in "credit >= 1000.00", which is scaled; a number without one is compared as it
+    is stored, and ScaleWarning says so. Statements of `tell` and `run` are sent as they are written.
     """
 
     def __init__(self, program: Optional[str] = None, child: Optional[Child] = None) -> None:
@@ -71,7 +76,15 @@ class Session:
 
         Raises Refused, UnknownStatement where the installed program is too old for it, ValueError where the text is no complete
         statement or more than one, and Ended where the program ends.
+
+        The statement is sent as it is written: columns with places are tested and inserted as they are stored, and ScaleWarning
+        says so.
         """
+        self._warn_of(statement)
+        return self._lines(statement)
+
+    def _lines(self, statement: str) -> List[str]:
+        """As `tell`, for a statement that this package wrote."""
         text = statement.encode("utf-8")
         parts = list(statements(text))
         if len(parts) == 1 and not parts[0].complete and parts[0].block is None:
@@ -84,13 +97,38 @@ class Session:
 
     def run(self, script: Union[str, bytes]) -> List[List[str]]:
         """Sends the statements of a script one after the other and gives the lines of each reply. The first refusal ends it and
-        is raised, and so is a script that ends within a statement (ValueError), before anything is sent."""
-        text = script.encode("utf-8") if isinstance(script, str) else script
-        self.heed(text)
-        parts = list(statements(text))
+        is raised, and so is a script that ends within a statement (ValueError), before anything is sent. Statements are sent as
+        they are written, as by `tell`."""
+        return list(self._replies(script.encode("utf-8") if isinstance(script, str) else script, self._warn_of))
+
+    def _replies(self, script: bytes, warn: Callable[[str], None]) -> Iterator[List[str]]:
+        """Sends the statements of a script; `warn` is called with each before."""
+        self.heed(script)
+        parts = list(statements(script))
         if parts and not parts[-1].complete:
-            raise ValueError("the script ends within a statement: %r" % text[parts[-1].start:][:200])
-        return [[line.decode("utf-8") for line in self._told(text, part)] for part in parts]
+            raise ValueError("the script ends within a statement: %r" % script[parts[-1].start:][:200])
+        for part in parts:
+            warn(part.text(script).decode("utf-8", "replace"))
+            yield [line.decode("utf-8") for line in self._told(script, part)]
+
+    def _warn_of(self, statement: str) -> None:
+        for note in self._notes(statement)[0]:
+            _warn(note, ScaleWarning)
+
+    def _notes(self, statement: str) -> Tuple[List[str], List[str]]:
+        """What is to know of the numbers that a statement names, and of those that its reply shows as they are stored."""
+        return (statement_notes(statement, self._places), shown_notes(statement, self._places)) if self._places else ([], [])
+
+    def _query(self, query: str, tables: Sequence[str] = ()) -> str:
+        """A query, or tests of tables, as they are sent: without the `;` that may stand at the end, and with numbers that have a
+        point as their columns store them."""
+        plain = query.strip().rstrip(";")
+        if not self._places:
+            return plain
+        named = tables or tables_of(plain)
+        for note in query_notes(plain, named, self._places):
+            _warn(note, ScaleWarning)
+        return scaled_tests(plain, named, self._places)
 
     def heed(self, script: bytes) -> None:
         """Heeds what the comments at the head of a script say of columns: numbers with places, and columns of sources."""
@@ -189,7 +227,7 @@ class Session:
         replies = [self._told(script, part, is_made=True) for part in statements(script)]
         self.heed(script)
         for note in lists.notes():
-            warnings.warn(note, LoadWarning, stacklevel=4)
+            _warn(note, LoadWarning)
         return sum(int(lines[0].split(b" ")[1]) for lines in replies if lines[0].startswith((b"copied ", b"inserted ")))
 
     def _convert(self, old: Schema, new: Schema, decimals: Mapping[str, int]) -> None:
@@ -199,7 +237,7 @@ class Session:
         if old.columns == new.columns and not any(scales.values()):
             return
         names = list(old.columns)
-        told = self.tell("possible select %s from %s;" % (", ".join(names), old.table))
+        told = self._lines("possible select %s from %s;" % (", ".join(names), old.table))
         faults: List[str] = []
         rows = [tuple(_converted(name, value, new.columns[name], scales.get(name), faults) for name, value in zip(names, row_of(line)))
                 for line in told[:-1]]
@@ -209,7 +247,7 @@ class Session:
 
     def _begin_anew(self, changed: Mapping[str, str]) -> None:
         """Starts the program anew with the same tables, some of them made by other scripts."""
-        dump = "".join(line + "\n" for line in self.tell("dump;")).encode("utf-8")
+        dump = "".join(line + "\n" for line in self._lines("dump;")).encode("utf-8")
         parts: List[bytes] = [self._settings]
         for part in statements(dump):
             words = tokens(part.text(dump).decode("utf-8"))
@@ -220,7 +258,7 @@ class Session:
                 parts.append(changed[name].encode("utf-8"))
         before, self._child = self._child, Child(self.program, self._child.is_apart)
         try:
-            self.run(b"".join(parts))
+            list(self._replies(b"".join(parts), lambda _: None))
         except BaseException:
             self._child.kill()
             self._child = before
@@ -229,7 +267,7 @@ class Session:
 
     def tables(self) -> List[Schema]:
         """The tables in order of creation."""
-        shown = [shown_schema(line) for line in self.tell("show tables;")[:-1]]
+        shown = [shown_schema(line) for line in self._lines("show tables;")[:-1]]
         return [schema for schema in shown if schema is not None]
 
     def schema(self, table: str) -> Optional[Schema]:
@@ -252,7 +290,7 @@ class Session:
         if source is not None and source not in schema.columns:
             raise KeyError("%s has no column %s" % (table, source))
         told = source or self._sources.get(table) or ("source" if "source" in schema.columns else None)
-        lines = self.tell("possible select %s from %s;" % (", ".join(names), table))
+        lines = self._lines("possible select %s from %s;" % (", ".join(names), table))
         rows = self._scaled(map(row_of, lines[:-1]), self._column_places(names, [table]))
         return conflicts_of(table, names, schema.key, told if told not in schema.key else None, rows)
 
@@ -278,42 +316,46 @@ class Session:
 
     def explain(self, row: Sequence[Cell], query: str) -> Explanation:
         """Why a row is certain, or a repair in which it is no answer. Raises Refused."""
-        return answers.explanation(self.tell("explain row %s for %s;" % (row_text(self.stored(row, query)), _plain(query))))
+        return self._shown_explanation(answers.explanation(self._lines("explain row %s for %s;" % (row_text(self._stored(row, query)), self._query(query)))))
 
     def against(self, row: Sequence[Cell], query: str) -> Explanation:
         """The fewest rows that stand against a row. Raises Refused; UnknownStatement where the program is too old."""
-        return answers.against(self.tell("against row %s for %s;" % (row_text(self.stored(row, query)), _plain(query))))
+        return self._shown_explanation(answers.against(self._lines("against row %s for %s;" % (row_text(self._stored(row, query)), self._query(query)))))
 
     def prove(self, row: Sequence[Cell], query: str) -> Explanation:
         """A certificate that a row is certain, which `cqa check` verifies. Raises Refused; UnknownStatement where the program is too
         old."""
-        return answers.explanation(self.tell("prove row %s for %s;" % (row_text(self.stored(row, query)), _plain(query))))
+        return self._shown_explanation(answers.explanation(self._lines("prove row %s for %s;" % (row_text(self._stored(row, query)), self._query(query)))))
 
     def range(self, aggregate: str) -> Range:
-        """The ends of `sum credit from customer where ..`, of `count from ..`, `min ..` or `max ..` over all repairs, as they are
-        stored: those of a column with places aren't scaled. Raises Refused; UnknownStatement where the program is too old."""
-        return answers.ranges(self.tell("range %s;" % _plain(aggregate)))
+        """The ends of `sum credit from customer where ..`, of `count from ..`, `min ..` or `max ..` over all repairs.
+        Raises Refused; UnknownStatement where the program is too old."""
+        told = answers.ranges(self._lines("range %s;" % self._query(aggregate)))
+        places = self._aggregated(aggregate)[0]
+        return Range(_shown_end(told.least, places), _shown_end(told.greatest, places), self._shown_kept(told.low), self._shown_kept(told.high))
 
     def ranges(self, aggregate: str) -> List[Group]:
         """As `range`, for `sum credit from customer group by city`: one for each value. Raises as `range`."""
-        return answers.groups(self.tell("range %s;" % _plain(aggregate)))
+        of_what, of_groups = self._aggregated(aggregate)
+        told = answers.groups(self._lines("range %s;" % self._query(aggregate)))
+        return [Group(_shown_value(group.value, of_groups), _shown_end(group.least, of_what), _shown_end(group.greatest, of_what)) for group in told]
 
     def classify(self, query: str) -> Classification:
         """How hard the query is, by its attacks. Raises Refused."""
-        return answers.classification(self.tell("classify %s;" % _plain(query)))
+        return answers.classification(self._lines("classify %s;" % self._query(query)))
 
     def plan(self, query: str) -> Optional[List[str]]:
         """The tables in the order in which they can be gone through without a search, or None where there is none. Raises Refused."""
-        lines = self.tell("plan %s;" % _plain(query))
+        lines = self._lines("plan %s;" % self._query(query))
         return None if lines == ["no plan"] else [line.split(" ")[2] for line in lines]
 
     def sql(self, query: str) -> Optional[str]:
         """One query in SQL for the certain rows, or None where no plan decides them. Raises Refused."""
-        lines = self.tell("sql %s;" % _plain(query))
+        lines = self._lines("sql %s;" % self._query(query))
         return None if lines == ["no plan"] else "".join(line + "\n" for line in lines)
 
     def _answer(self, verb: str, query: str) -> Rows:
-        return self.rows_of(query, self.tell("%s %s;" % (verb, _plain(query))))
+        return self.rows_of(query, self._lines("%s %s;" % (verb, self._query(query))))
 
     def rows_of(self, query: str, lines: Sequence[str]) -> Rows:
         """The rows of a query's reply, with the query's columns."""
@@ -335,51 +377,71 @@ class Session:
         return found if max(found, default=-1) >= 0 else []
 
     @staticmethod
-    def _scaled(rows: Iterable[Row], places: Sequence[int]) -> Iterator[Tuple[Cell, ...]]:
+    def _scaled(rows: Iterable[Tuple[Cell, ...]], places: Sequence[int]) -> Iterator[Tuple[Cell, ...]]:
         if not places:
             return iter(rows)
-        return (tuple(Decimal(value).scaleb(-count) if count >= 0 and isinstance(value, int) else value
-                      for value, count in zip(row, places)) for row in rows)
+        return (tuple(_shown_value(value, count) for value, count in zip(row, places)) for row in rows)
 
-    def stored(self, row: Sequence[Cell], query: str) -> Tuple[Union[int, str], ...]:
-        """The values of an answer's row as they are stored: those of columns with places are scaled. Raises ValueError where one
-        has more places than its column."""
+    def _stored(self, row: Sequence[Cell], query: str) -> Tuple[Union[int, str], ...]:
+        """The values of an answer's row as they are stored: those of columns with places are scaled. Raises as `insert`."""
         columns, tables = selected(query)
-        places = self._column_places(columns, tables) + [-1] * len(row)
-        values: List[Union[int, str]] = []
-        for value, count in zip(row, places if columns else [-1] * len(row)):
-            if isinstance(value, str):
-                values.append(value)
-                continue
-            scaled = Decimal(value).scaleb(max(count, 0))
-            if scaled != scaled.to_integral_value():
-                raise ValueError("%s has more places than its column" % value)
-            values.append(int(scaled))
-        return tuple(values)
+        names = [*columns, *("value %d" % at for at in range(len(columns) + 1, len(row) + 1))]
+        return tuple(stored(value, places_of(name, tables, self._places), name) for value, name in zip(row, names))
+
+    def _shown_kept(self, kept: Sequence[Kept]) -> Tuple[Kept, ...]:
+        """Rows of tables with the numbers of columns with places as Decimal."""
+        if not self._places or not kept:
+            return tuple(kept)
+        schemas = {schema.table: schema for schema in self.tables()}
+        return tuple((table, next(self._scaled([row], self._column_places(list(schemas[table].columns), [table])))) for table, row in kept)
+
+    def _shown_explanation(self, told: Explanation) -> Explanation:
+        """An explanation with the numbers of columns with places as Decimal."""
+        if told.table is not None and told.key is not None and self._places:
+            names = self._there(told.table).key
+            return told._replace(key=next(self._scaled([told.key], self._column_places(names, [told.table]))))
+        return told._replace(kept=self._shown_kept(told.kept))
+
+    def _aggregated(self, aggregate: str) -> Tuple[int, int]:
+        """The places of the column of an aggregate, and of that of its groups; -1 where there are none."""
+        words = tokens(aggregate)
+        tables = names_from(words)
+        of_what = places_of(words[1], tables, self._places) if words[:1] and words[0] != "count" and len(words) > 1 else 0
+        of_groups = places_of(words[-1], tables, self._places) if words[-3:-1] == ["group", "by"] else 0
+        return of_what or -1, of_groups or -1
 
     # -- change and keep ----------------------------------------------------------------------------------------------------
 
     def delete(self, table: str, where: str = "") -> int:
         """Takes away the rows of a table for which the tests hold, as "id = 1 and source = 'shop'"; all rows without tests.
         Gives their number. Raises Refused."""
-        return int(self.tell("delete from %s%s;" % (table, " where " + where if where else ""))[0].split(" ")[1])
+        return int(self._lines("delete from %s%s;" % (table, " where " + self._query(where, [table]) if where else ""))[0].split(" ")[1])
 
     def prefer(self, table: str, where: str) -> int:
         """Of each block in which a row passes the tests, takes away the rows that don't. Gives the number of rows taken away.
         Raises Refused; UnknownStatement where the program is too old."""
-        return int(self.tell("prefer %s where %s;" % (table, where))[0].split(" ")[1])
+        return int(self._lines("prefer %s where %s;" % (table, self._query(where, [table])))[0].split(" ")[1])
 
-    def insert(self, table: str, rows: Sequence[Sequence[Union[int, str]]]) -> int:
-        """Puts rows into a table and gives the number of those that weren't there. Raises Refused."""
-        values = ", ".join("(" + ", ".join(map(quoted, row)) + ")" for row in rows)
-        return int(self.tell("insert into %s values %s;" % (table, values))[0].split(" ")[1])
+    def insert(self, table: str, rows: Sequence[Sequence[Cell]]) -> int:
+        """Puts rows into a table and gives the number of those that weren't there. Numbers of a column with places, int or
+        Decimal, are scaled: 12 and Decimal("12.00") are the same. Raises Refused; TypeError for a value that is no int, Decimal or
+        str (a float isn't exact), and ValueError for a number with more places than its column."""
+        schema = self.schema(table) if self._places else None
+        names = list(schema.columns) if schema else []
+        values = ", ".join("(" + ", ".join(quoted(value) for value in self._stored_row(table, names, row)) + ")" for row in rows)
+        return int(self._lines("insert into %s values %s;" % (table, values))[0].split(" ")[1])
+
+    def _stored_row(self, table: str, names: Sequence[str], row: Sequence[Cell]) -> Iterator[Union[int, str]]:
+        for at, value in enumerate(row):
+            name = names[at] if at < len(names) else ""
+            yield stored(value, self._places.get((table, name), 0), name or "value %d" % (at + 1))
 
     def save(self, path: str) -> None:
         """Keeps the tables in a file: a script that makes them again, beside which only comments stand. It is written beside its
         place and then moved, so that no half of it is ever there."""
-        shown = self.tell("show tables;")
+        shown = self._lines("show tables;")
         rows = sum(int(found[1]) for found in (re.search(r" rows (\d+) blocks \d+$", line) for line in shown[:-1]) if found)
-        dump = self.tell("dump;")
+        dump = self._lines("dump;")
         with written(path) as file:
             file.write(_STATE_HEAD.encode())
             file.write(remark_text(self._places, self._sources).encode())
@@ -398,7 +460,7 @@ class Session:
             raise StateFault("%s is no whole state: its first and its last line aren't those that `save` writes" % path)
         session = cls(program)
         try:
-            session.run(script)
+            list(session._replies(script, lambda _: None))
             shown = session.tell("show tables;")
             rows = sum(int(line.split(" rows ")[-1].split(" ")[0]) for line in shown[:-1])
             if (len(shown) - 1, rows) != (int(end[1]), int(end[2])):
@@ -410,9 +472,22 @@ class Session:
         return session
 
 
-def _plain(query: str) -> str:
-    """A query without the `;` that may stand at its end."""
-    return query.strip().rstrip(";")
+def _warn(text: str, category: Type[Warning]) -> None:
+    """Warns at the place of the caller outside of this package."""
+    here = os.path.dirname(os.path.abspath(__file__)) + os.sep
+    level, frame = 1, sys._getframe()
+    while frame.f_back is not None and os.path.abspath(frame.f_code.co_filename).startswith(here):
+        level, frame = level + 1, frame.f_back
+    warnings.warn(text, category, stacklevel=level)
+
+
+def _shown_value(value: Cell, places: int) -> Cell:
+    """A stored value as its column with so many places shows it; -1 where it has none."""
+    return Decimal(value).scaleb(-places) if places >= 0 and isinstance(value, int) else value
+
+
+def _shown_end(value: Optional[Cell], places: int) -> Optional[Cell]:
+    return None if value is None else _shown_value(value, places)
 
 
 def _converted(name: str, value: Union[int, str], kind: str, places: Optional[int], faults: List[str]) -> Union[int, str]:

@@ -11,9 +11,9 @@ import sys
 import time
 import warnings
 from types import FrameType
-from typing import Iterator, List, Optional, Sequence
+from typing import Iterator, List, Optional, Sequence, Set
 
-from .errors import CqaError, Ended, LoadFault, Refused
+from .errors import CqaError, Ended, LoadFault, Refused, ScaleWarning
 from .habits import advice_for
 from .loading import options_of, parser, sources_of
 from .places import place_of
@@ -45,6 +45,7 @@ class Shell:
         self._block: Optional[List[bytes]] = None  # the further lines of a block that is open
         self._is_timing = False
         self._schemas: List[Schema] = []
+        self._shown_notes: Set[str] = set()
         self._look()
 
     @property
@@ -121,8 +122,10 @@ class Shell:
     def _run(self, statement: Statement) -> None:
         began = time.monotonic()
         script = self._buffer[statement.start:statement.end]
+        self._tell_notes(statement.text(self._buffer).decode("utf-8", "replace"))
         try:
-            with _patience():
+            with _patience(), warnings.catch_warnings():
+                warnings.simplefilter("ignore", ScaleWarning)
                 replies = self.session.run(script)
             print("".join(line + "\n" for lines in replies for line in lines), end="")
         except Refused as refused:
@@ -131,6 +134,14 @@ class Shell:
             print("%.1f ms" % (1000 * (time.monotonic() - began)))
         if verb_of(statement.text(self._buffer).decode("utf-8", "replace")) in ("create", "alter"):
             self._look()
+
+    def _tell_notes(self, text: str) -> None:
+        """Says what is to know of the numbers that a statement names, and once of those that it shows."""
+        named, shown = self.session._notes(text)
+        shown = [note for note in shown if note not in self._shown_notes]
+        self._shown_notes.update(shown)
+        for note in (*named, *shown):
+            print("note: " + note, file=sys.stderr)
 
     def _refused(self, statement: Statement, line: str) -> None:
         place = place_of(self._buffer, statement, line, {schema.table: schema for schema in self._schemas})

@@ -12,7 +12,7 @@ from support import TOP, Case, ProgramCase, lines
 from cqa.habits import HABITS, advice_for
 from cqa.places import place_of
 from cqa.program import Child
-from cqa.running import run_files
+from cqa.running import ScriptFile, run_files
 from cqa.scripts import remarks, schema_of, selected, statements
 
 STAFF = "create table staff (id int, name text, room int, primary key (id));\n"
@@ -142,7 +142,7 @@ class Runs(ProgramCase):
             with self.subTest(name), open(os.path.join(folder, name + ".out"), "rb") as file:
                 child = Child()
                 replies = [[answer.refusal.encode()] if answer.refusal else answer.lines
-                           for answer in run_files([os.path.join(folder, name + ".cqa")], child, False)]
+                           for answer in run_files([ScriptFile(os.path.join(folder, name + ".cqa"))], child, False)]
                 child.kill()
                 written = b"".join(line + b"\n" for lines in replies for line in lines)
                 self.assertEqual(written == file.read(), name not in stricter)

@@ -200,7 +200,7 @@ class Lists(ProgramCase):
 
     def test_decimals_compare_as_numbers_and_are_given_as_decimals(self) -> None:
         self.load_both()
-        self.assertEqual(self.db.certain("select id, credit from customer where credit >= 90000"),
+        self.assertEqual(self.db.certain("select id, credit from customer where credit >= 900.00"),
                          [(1, decimal.Decimal("900.00")), (2, decimal.Decimal("1200.50"))])
         told = self.db.explain((decimal.Decimal("900"),), "select credit from customer where id = 1")
         self.assertEqual(told.kind, "block")
@@ -233,7 +233,7 @@ class Lists(ProgramCase):
         with self.assertWarnsRegex(cqa.LoadWarning, "credit holds numbers and is text"):
             self.db.load("customer", self.crm, key="id", source="crm")
         self.db.load("customer", self.shop, key="id", source="shop", decimal={"credit": 2})
-        self.assertEqual(self.db.certain("select id, credit from customer where credit >= 90000"),
+        self.assertEqual(self.db.certain("select id, credit from customer where credit >= 900.00"),
                          [(1, decimal.Decimal("900.00")), (2, decimal.Decimal("1200.50"))])
         self.assertEqual([schema.table for schema in self.db.tables()], ["other", "customer"])
         self.assertEqual(self.db.rows("other"), [(1,)])

@@ -7,6 +7,7 @@ import re
 import sqlite3
 import subprocess
 import unittest
+import warnings
 from decimal import Decimal
 
 from support import TOP, Case, ProgramCase, lines
@@ -161,6 +162,68 @@ class Comments(ProgramCase):
         self.assertEqual(self.command("conflicts", "both.cqa"), (0, "m: 2 keys, 0 in conflict\n" + wanted, ""))
         self.assertEqual(self.command("conflicts", "a.cqa", "b.cqa", "n"), (0, wanted, ""))
         self.assertEqual(self.command("conflicts", "a.cqa", "n")[::2], (1, "cqa conflicts: no table n in a.cqa\n"))
+
+
+class ColumnsWithPlaces(ProgramCase):
+    """A column with places is stored as int: what speaks of it either means what it says, or is told."""
+
+    def setUp(self) -> None:
+        super().setUp()
+        self.list = self.file("A.csv", "id,credit\n1,900.00\n2,1200.50\n3,2500.00\n")
+        self.db = cqa.Session()
+        self.addCleanup(self.db.close)
+        self.db.load("c", self.list, key="id", decimal={"credit": 2})
+
+    def test_numbers_with_a_point_are_scaled(self) -> None:
+        with warnings.catch_warnings():
+            warnings.simplefilter("error")
+            self.assertEqual(self.db.certain("select id, credit from c where credit >= 1000.00"), [(2, Decimal("1200.50")), (3, Decimal("2500.00"))])
+            self.assertEqual(self.db.certain("select id from c where c . credit = 1200.5 -- credit = 1.5\n and id <> 7;"), [(2,)])
+            self.assertEqual(self.db.possible("select id from c where credit > 0"), [(1,), (2,), (3,)])
+            self.assertEqual(self.db.delete("c", "credit < 1000.0"), 1)
+            with self.assertRaises(ValueError):
+                self.db.certain("select id from c where credit > 1.005")
+
+    def test_numbers_without_one_are_told(self) -> None:
+        with self.assertWarnsRegex(cqa.ScaleWarning, "credit is stored times 100: 1000 stands for 10.00 here; write 1000.00 for 1000") as caught:
+            self.assertEqual(len(self.db.certain("select id from c where credit >= 1000")), 3)
+        self.assertEqual(os.path.basename(caught.filename), os.path.basename(__file__))
+        for speaks in (lambda: self.db.delete("c", "credit < 10"), lambda: self.db.tell("ask select id from c where credit = 7"),
+                       lambda: self.db.run("insert into c values (9, 12);")):
+            with self.assertWarns(cqa.ScaleWarning):
+                speaks()
+
+    def test_rows_are_inserted_as_they_are_given(self) -> None:
+        self.db.insert("c", [(4, 12), (5, Decimal("12.5")), *self.db.rows("c")])
+        self.assertEqual(self.db.certain("select credit from c where id > 3"), [(Decimal("12.00"),), (Decimal("12.50"),)])
+        for wrong in (12.5, None, True):
+            with self.assertRaises(TypeError):
+                self.db.insert("c", [(6, wrong)])  # type: ignore[list-item]
+        for number in ("1.005", "NaN", "1e-3"):
+            with self.assertRaises(ValueError):
+                self.db.insert("c", [(6, Decimal(number))])
+        self.assertEqual(len(self.db.rows("c")), 5)
+
+    def test_explanations_and_joins(self) -> None:
+        self.db.insert("c", [(1, 7)])
+        told = self.db.explain((Decimal("900.00"),), "select credit from c")
+        self.assertEqual([row for table, row in told.kept if row[0] == 1], [(1, Decimal("7.00"))])
+        self.db.run("create table a (id int, amt int, primary key (id));")
+        with self.assertWarnsRegex(cqa.ScaleWarning, "c.credit and a.amt are compared as they are stored, times 100 and times 1"):
+            self.db.certain("exists from a, c where c.credit = a.amt")
+
+    def test_scripts_are_told(self) -> None:
+        told = self.command("load", "--table", "c", "--key", "id", "--decimal", "credit:2", "A.csv", "-o", "load.cqa")[2]
+        self.assertIn("cqa load: credit is stored times 100: statements write 1000 as 100000\n", told)
+        self.file("q.cqa", "ask select id, credit from c where credit >= 1000;\ninsert into c values (4, 12);\nask select id from c where credit > 10.5;\n")
+        test = "q.cqa:1: note: credit is stored times 100: 1000 stands for 10.00 here; 1000.00 is written 100000"
+        insert = "q.cqa:2: note: c.credit is stored times 100: statements write 1000 as 100000"
+        third = ["q.cqa:3: note: credit is stored times 100: 10.5 is written 1050", "q.cqa:3: error 2 Syntax at 38"]
+        shown = "q.cqa:1: note: credit is shown as it is stored, times 100"
+        self.assertEqual(lines(self.command("run", "load.cqa", "q.cqa")[2]), [test, shown, insert, *third])
+        self.assertEqual(lines(self.command("csv", "load.cqa", "q.cqa")[2])[:-1], [test, insert, *third])
+        told = self.command("shell", "load.cqa", stdin=b"ask select id, credit from c where credit >= 1000;\n")[2]
+        self.assertEqual(lines(told), [test.replace("q.cqa:1: ", ""), shown.replace("q.cqa:1: ", "")])
 
 
 class Elsewhere(Case):
