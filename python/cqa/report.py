@@ -18,11 +18,12 @@ from .errors import Refused, UnknownStatement
 from .files import standard_output, written
 from .replies import row_of
 from .rows import Cell, Rows
-from .running import Answer, loaded
+from .running import QUERY_VERBS, Answer, loaded
 from .scripts import Schema, query_parts, quoted, selected, tokens, without_comments
 from .session import Session
 
-_OF_QUERY = ("ask", "possible", "disputed", "classify", "plan", "sql", "explain", "against", "prove")
+#: Statements that change no table and no setting.
+_QUIET = (*QUERY_VERBS, "show", "dump", "range", "")
 _EXPLAINS = re.compile(r"\s*(?:explain|against|prove)\s+row\s*(\((?:[^')]|'[^']*')*\))\s*for\b(.*)", re.S)
 _WORST = 20
 _MOST_KEPT = 20
@@ -35,17 +36,18 @@ _CLASSES = {
 
 
 class Question(NamedTuple):
-    """A query of the scripts, and a row of which they ask why, if they do."""
+    """A query of the scripts, a row of which they ask why, if they do, and where it is asked first."""
 
     query: str
     row: Optional[str]
+    place: str
 
 
 def questions_of(answers: Sequence[Answer]) -> List[Question]:
     """The queries of the scripts in their order, each once."""
     found: Dict[str, Question] = {}
     for answer in answers:
-        if answer.verb not in _OF_QUERY:
+        if answer.verb not in QUERY_VERBS:
             continue
         text = without_comments(answer.text)
         explained = _EXPLAINS.match(text)
@@ -53,8 +55,30 @@ def questions_of(answers: Sequence[Answer]) -> List[Question]:
         name = " ".join(tokens(query))
         row = explained[1] if explained else None
         known = found.get(name)
-        found[name] = Question(known.query if known else query.strip(), (known.row if known else None) or row)
+        place = "%s:%d" % (os.path.basename(answer.path), answer.line)
+        found[name] = Question(known.query if known else query.strip(), (known.row if known else None) or row, known.place if known else place)
     return list(found.values())
+
+
+class Questions:
+    """The questions of scripts, each answered over the tables as they are where it stands."""
+
+    def __init__(self) -> None:
+        self.answers: List[Answer] = []
+        self.parts: List[str] = []
+        self._answered = 0
+
+    def before(self, session: Session, verb: str) -> None:
+        """Answers the questions so far before a statement that may change what they are about."""
+        if verb not in _QUIET:
+            self.answer(session)
+
+    def answer(self, session: Session) -> None:
+        """Answers the questions that aren't answered yet: of those between two changes each once."""
+        questions = questions_of(self.answers[self._answered:])
+        self._answered = len(self.answers)
+        schemas = session.tables() if questions else []
+        self.parts += [_question_part(session, schemas, number, question) for number, question in enumerate(questions, len(self.parts) + 1)]
 
 
 def main(arguments: Sequence[str]) -> int:
@@ -65,8 +89,8 @@ def main(arguments: Sequence[str]) -> int:
     words.add_argument("--source", metavar="COLUMN", help="the column of sources, which is no conflict (source)")
     words.add_argument("-o", "--output", metavar="FILE", help="the page's file, in place of standard output")
     told = words.parse_args(arguments)
-    answers: List[Answer] = []
-    session = loaded(told.files, answers)
+    questions = Questions()
+    session = loaded(told.files, questions.answers, before=questions.before)
     if session is None:
         print("cqa report: nothing is written", file=sys.stderr)
         return 1
@@ -74,24 +98,25 @@ def main(arguments: Sequence[str]) -> int:
         if not session.tables():
             print("cqa report: %s makes no table; nothing is written" % ", ".join(told.files), file=sys.stderr)
             return 1
-        text = report(session, answers, ", ".join(os.path.basename(path) for path in told.files), told.source)
+        questions.answer(session)
+        text = report(session, questions.parts, ", ".join(os.path.basename(path) for path in told.files), told.source)
     with written(told.output) if told.output else standard_output() as out:
         out.write(text.encode("utf-8", "replace"))
     return 0
 
 
-def report(session: Session, answers: Sequence[Answer], title: str, source: Optional[str] = None) -> str:
-    """The page of a session's tables, and of the questions among the answers."""
+def report(session: Session, questions: Sequence[str], title: str, source: Optional[str] = None) -> str:
+    """The page of a session's tables, with the parts of questions."""
     schemas = session.tables()
     found = {schema.table: session.conflicts(schema.table, source if source in schema.columns else None) for schema in schemas}
-    questions = questions_of(answers)
     whole = [("tables", len(schemas)), ("rows", sum(one.rows for one in found.values())), ("keys", sum(one.keys for one in found.values())),
              ("keys in conflict", sum(len(one) for one in found.values())), ("questions", len(questions))]
     body = [HEADS, "<h1>%s</h1>" % page.text(title), page.facts(whole),
             "<p><b>Certain means undisputed, not confirmed:</b> of the stored rows of each key one is taken to be right. A row is "
-            "certain if it is an answer whichever these are, and disputed if it is one for some choice alone.</p>"]
+            "certain if it is an answer whichever these are, and disputed if it is one only for some choices. Tables and conflicts are "
+            "as the scripts leave them; each question is answered where it stands.</p>"]
     body += [_table_part(schema, found[schema.table]) for schema in schemas]
-    body += [_question_part(session, schemas, number, question) for number, question in enumerate(questions, 1)]
+    body += questions
     return page.page("cqa: " + title, "\n".join(body))
 
 
@@ -129,7 +154,7 @@ def _sources_part(sources: Sequence[Cell]) -> str:
 
 def _question_part(session: Session, schemas: Sequence[Schema], number: int, question: Question) -> str:
     """A question: its certain and its disputed rows, its class and attacks, and why a row isn't certain."""
-    head = "<h2>Question %d</h2><pre>%s</pre>" % (number, page.text(question.query))
+    head = '<h2>Question %d <span class="quiet">%s</span></h2><pre>%s</pre>' % (number, page.text(question.place), page.text(question.query))
     try:
         certain, possible = session.certain(question.query), session.possible(question.query)
         classified = session.classify(question.query)

@@ -7,7 +7,8 @@ import queue
 import sys
 import threading
 import time
-from typing import BinaryIO, Dict, Iterator, List, NamedTuple, Optional, Sequence, Set, Tuple
+from functools import partial
+from typing import BinaryIO, Callable, Dict, Iterator, List, NamedTuple, Optional, Sequence, Set, Tuple
 
 from .errors import Ended, InputTooLong
 from .files import standard_output
@@ -21,6 +22,10 @@ from .session import Session
 _PIECE = 1 << 20
 _MOST_INPUT = 268_435_456
 _MOST_NOTES = 20
+
+
+#: The statements that ask of a query, and change nothing.
+QUERY_VERBS = ("ask", "possible", "disputed", "classify", "plan", "sql", "explain", "against", "prove")
 
 
 class Answer(NamedTuple):
@@ -65,6 +70,7 @@ class Runner:
             self._places.update(remarks(file.script)[0])
         self.sent_bytes = 0
         self._bytes_before = 0
+        self._counted: Tuple[Optional[ScriptFile], int, int] = (None, 0, 1)
         self.answered = 0
         self._files = files
         self._sent: "queue.Queue[Optional[_Sent]]" = queue.Queue(maxsize=10_000)
@@ -81,6 +87,20 @@ class Runner:
             self.answered += 1
             if self._is_stopped or not sent[1].complete:
                 return
+
+    def answers_in_step(self, before: Callable[[str], None]) -> Iterator[Answer]:
+        """As `answers`, but each statement is sent when the one before is dealt with, so that the program can be asked in between.
+        before: called with the first word of each statement before it is sent."""
+        for file in self._files:
+            for statement in statements(file.script):
+                fault = fault_of(file.script, statement)
+                before(verb_of(statement.text(file.script).decode("utf-8", "replace")))
+                if not fault:
+                    self._send_statement(file.script, statement)
+                    self.child.flush()
+                yield self._answer(file, statement, fault)
+                if not statement.complete:
+                    return
 
     def stop(self) -> None:
         """Ends the run: no further answer comes."""
@@ -128,11 +148,21 @@ class Runner:
 
     def _answer(self, file: ScriptFile, statement: Statement, fault: str) -> Answer:
         answer = self._plain_answer(file, statement, fault)
+        if answer.verb in QUERY_VERBS or self._places:
+            answer = answer._replace(line=self._line_of(file, statement.start))
         if not self._places:
             return answer
         notes, shown = statement_notes(answer.text, self._places), shown_notes(answer.text, self._places)
-        line = file.script.count(b"\n", 0, statement.start) + 1 if notes or shown else 0
-        return answer._replace(notes=notes, shown=shown, line=line)
+        return answer._replace(notes=notes, shown=shown)
+
+    def _line_of(self, file: ScriptFile, start: int) -> int:
+        """The line of a statement, counted on from the last one that was asked for."""
+        known, at, line = self._counted
+        if known is not file or at > start:
+            at, line = 0, 1
+        line += file.script.count(b"\n", at, start)
+        self._counted = file, start, line
+        return line
 
     def _plain_answer(self, file: ScriptFile, statement: Statement, fault: str) -> Answer:
         text = statement.text(file.script).decode("utf-8", "replace")
@@ -228,10 +258,12 @@ def run_files(files: Sequence[ScriptFile], child: Child, stops: bool) -> Iterato
         progress.end()
 
 
-def loaded(paths: Sequence[str], answers: Optional[List[Answer]] = None, is_apart: bool = False) -> Optional[Session]:
+def loaded(paths: Sequence[str], answers: Optional[List[Answer]] = None, is_apart: bool = False,
+           before: Optional[Callable[[Session, str], None]] = None) -> Optional[Session]:
     """A session over what files make, or None where a statement was refused; each refusal is told. Answers go into a list.
 
-    is_apart: Ctrl-C doesn't reach the program. Raises OSError where a file can't be read, and Ended where the program ends.
+    is_apart: Ctrl-C doesn't reach the program. before: called with the session, which may be asked then, and with the first word of
+    each statement before it is run. Raises OSError where a file can't be read, and Ended where the program ends.
     """
     files = [ScriptFile(path) for path in paths]
     child = Child(is_apart=is_apart)
@@ -241,7 +273,8 @@ def loaded(paths: Sequence[str], answers: Optional[List[Answer]] = None, is_apar
     try:
         for file in files:
             session.heed(file.script)
-        for answer in run_files(files, child, False):
+        run = run_files(files, child, False) if before is None else Runner(child, files).answers_in_step(partial(before, session))
+        for answer in run:
             notes.tell(answer)
             if answer.refusal:
                 is_refused = True

@@ -77,6 +77,15 @@ class Pages(ProgramCase):
         self.assertEqual(graphs, ["customer attacks branch, weak"])
         self.assertEqual([attributes["style"] for tag, attributes in read.tags if attributes.get("class") == "bar"], ["width:33.33%", "width:0.00%", "width:33.33%"])
 
+    def test_questions_are_answered_where_they_stand(self) -> None:
+        read = self.page("create table c (id int, city text, primary key (id));\ninsert into c values (1, 'Oslo'), (1, 'Bergen');\nask select city from c;\n"
+                         "possible select city from c;\ndelete from c where city = 'Oslo';\nask select city from c;\n")
+        words = " ".join(read.text.split())
+        first, second = words.split("Question 2 s.cqa:6")
+        self.assertIn("Question 1 s.cqa:3 select city from c Certain rows: 0", first)
+        self.assertIn("Disputed rows: 2", first)
+        self.assertIn("Certain rows: 1 city Bergen Disputed rows: 0", second)
+
     def test_weak_and_strong_attacks_are_told_apart(self) -> None:
         read = self.page(SCRIPT + "create table head (person text, region text, primary key (person));\n"
                          "ask exists from customer, branch, head where customer.city = branch.city and branch.region = head.region;\n")
