@@ -205,6 +205,16 @@ class Shell:
 
     # -- completion ---------------------------------------------------------------------------------------------------------
 
+    def takes_tabs(self, line: str) -> bool:
+        """Whether a block or a text is open behind the beginning of a line, so that a tab is a tab."""
+        if self._block is not None:
+            return True
+        text = self._buffer + line.encode("utf-8", "surrogateescape")
+        rest = None
+        for rest in statements(text):
+            pass
+        return rest is not None and not rest.complete and open_part(text, rest)[0] != "statement"
+
     def complete(self, begin: str) -> List[str]:
         """The words, tables and columns that begin so."""
         names = {name for schema in self._schemas for name in (schema.table, *schema.columns)}
@@ -244,7 +254,11 @@ def _set_up_readline(shell: Shell) -> None:
     found: List[str] = []
 
     def complete(begin: str, number: int) -> Optional[str]:
-        if number == 0:
+        if number == 0 and shell.takes_tabs(readline.get_line_buffer()[:readline.get_endidx()]):
+            readline.insert_text("\t")  # a completion would close the text's quote, too
+            readline.redisplay()
+            found.clear()
+        elif number == 0:
             found[:] = shell.complete(begin)
         return found[number] if number < len(found) else None
 

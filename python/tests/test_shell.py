@@ -49,7 +49,8 @@ class ByLines(ProgramCase):
         self.assertEqual(lines(out), ["loaded 1 rows into t", "t (id int, credit int, primary key (id)) rows 1 blocks 1", "1 tables",
                                       "t (id int, credit int, primary key (id)) rows 1 blocks 1", "saved my state"])
         self.assertEqual((status, told), (1, "bad.csv:2: the key id is empty\nnothing is loaded\n"))
-        self.assertEqual(self.shell("ask select credit from t;\n", "my state"), (0, "(950)\n1 rows\n", ""))
+        self.assertEqual(self.shell("ask select credit from t;\n", "my state"),
+                         (0, "(950)\n1 rows\n", "note: credit is shown as it is stored, times 100\n"))
 
     def test_bytes_that_are_no_text(self) -> None:
         status, out, told = self.command("shell", stdin=STAFF.encode() + b"insert into staff values (1, 'M\xe4rta', 2);\ncopy staff;\n1,M\xe4rta,2\n\\.\nshow tables;\n")
@@ -123,8 +124,14 @@ class AtATerminal(ProgramCase):
         self.until("1 tables\r\ncqa> ")
         self.type("copy staff;\n")
         self.until("copy> ")
-        self.type("1,Ada\n\\.\n")
+        self.type("1,se\tq\n\\.\n")
         self.until("copied 1\r\ncqa> ")
+        self.type("insert into staff values (2, 'cop\ty');\n")
+        self.until("inserted 1\r\ncqa> ")
+        self.type("ask select name from sta\t;\n")
+        shown = self.until("2 rows\r\ncqa> ")
+        self.assertIn("('cop\ty')", shown.replace("     y", "\ty"))
+        self.assertIn("('se\tq')", shown.replace("     q", "\tq"))
         self.type("\x04")
         self.assertEqual(self.child.wait(60), 0)
         self.assertTrue(os.path.exists(self.path("history")))
