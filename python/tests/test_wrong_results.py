@@ -95,7 +95,7 @@ class TwoLists(ProgramCase):
         self.assertIn("credit holds numbers and is text", told)
         with cqa.Session() as db:
             db.load("customer", {"A": self.path("A.csv"), "B": self.path("B.csv")}, key="id", decimal={"credit": 2})
-            self.assertEqual(db.certain("select id, credit from customer where credit >= 100000"), [(2, Decimal("1200.50")), (3, Decimal("2500.00"))])
+            self.assertEqual(db.certain("select id, credit from customer where credit >= 1000.00"), [(2, Decimal("1200.50")), (3, Decimal("2500.00"))])
             self.assertEqual(len(db.conflicts("customer")), 0)
 
     def test_a_time_with_an_offset_is_refused(self) -> None:
