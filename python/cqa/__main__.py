@@ -1,0 +1,66 @@
+"""The commands: python3 -m cqa load .."""
+
+from __future__ import annotations
+
+import errno
+import io
+import os
+import sys
+from typing import Callable, Dict, Sequence
+
+from . import helping, loading, looking, report, running, shell
+from .errors import CqaError, Ended, NotBuilt
+
+COMMANDS: Dict[str, Callable[[Sequence[str]], int]] = {
+    "load": loading.main,
+    "run": running.main,
+    "csv": looking.csv_main,
+    "conflicts": looking.conflicts_main,
+    "report": report.main,
+    "shell": shell.main,
+    "help": helping.main,
+}
+
+
+def main(words: Sequence[str]) -> int:
+    """Runs a command and gives its status; a fault is one line on standard error, and the status isn't 0."""
+    for stream, errors in ((sys.stdin, "surrogateescape"), (sys.stdout, "surrogateescape"), (sys.stderr, "backslashreplace")):
+        if isinstance(stream, io.TextIOWrapper):
+            stream.reconfigure(encoding="utf-8", errors=errors)
+    command = COMMANDS.get(words[0]) if words else None
+    if command is None:
+        print("cqa: the commands are %s; each tells its words by --help" % ", ".join(COMMANDS), file=sys.stderr)
+        return 2
+    try:
+        status = command(words[1:])
+        sys.stdout.flush()
+        return status
+    except BrokenPipeError:
+        return _no_output()
+    except KeyboardInterrupt:
+        return 130
+    except Ended as fault:
+        print("cqa %s: %s" % (words[0], fault), file=sys.stderr)
+        return fault.status if fault.status > 0 else 1
+    except NotBuilt as fault:
+        print("cqa %s: %s" % (words[0], fault), file=sys.stderr)
+        return 127
+    except (CqaError, OSError) as fault:
+        print("cqa %s: %s" % (words[0], _said(fault)), file=sys.stderr)
+        return _no_output() if isinstance(fault, OSError) and fault.errno == errno.ENOSPC else 1
+
+
+def _said(fault: Exception) -> str:
+    if isinstance(fault, OSError) and fault.strerror:
+        return "%s%s" % (fault.filename + ": " if isinstance(fault.filename, str) else "", fault.strerror.lower())
+    return str(fault)
+
+
+def _no_output() -> int:
+    """The status where output can't be written; what is kept back is thrown away, so that the end of the process is silent."""
+    os.dup2(os.open(os.devnull, os.O_WRONLY), 1)
+    return 4
+
+
+if __name__ == "__main__":
+    sys.exit(main(sys.argv[1:]))

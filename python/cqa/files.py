@@ -1,0 +1,52 @@
+"""Files that are never half written: beside their place first, then moved to it."""
+
+from __future__ import annotations
+
+import contextlib
+import os
+import sys
+import tempfile
+from typing import BinaryIO, Iterator
+
+
+@contextlib.contextmanager
+def written(path: str) -> Iterator[BinaryIO]:
+    """A file to write, which takes the place of the one at a path where all went well, and else is gone.
+
+    Where the path is no ordinary file, as /dev/stdout, it is written as it is.
+    """
+    if os.path.exists(path) and not os.path.isfile(path):
+        with open(path, "wb") as stream:
+            yield stream
+        return
+    folder = os.path.dirname(os.path.realpath(path))
+    number, beside = tempfile.mkstemp(prefix="." + os.path.basename(path) + ".", dir=folder)
+    try:
+        with os.fdopen(number, "wb") as file:
+            yield file
+            file.flush()
+            os.fsync(file.fileno())
+        os.chmod(beside, _mode_of(path))
+        os.replace(beside, os.path.realpath(path))
+    except BaseException:
+        with contextlib.suppress(OSError):
+            os.unlink(beside)
+        raise
+
+
+@contextlib.contextmanager
+def standard_output() -> Iterator[BinaryIO]:
+    """Standard output as bytes, through a buffer of its own: where Python runs unbuffered, its own may write a part and drop the rest."""
+    sys.stdout.flush()
+    with open(1, "wb", closefd=False) as stream:
+        yield stream
+
+
+def _mode_of(path: str) -> int:
+    """The rights of a file that is there, or those of a new one."""
+    try:
+        return os.stat(path).st_mode & 0o777
+    except OSError:
+        mask = os.umask(0)
+        os.umask(mask)
+        return 0o666 & ~mask

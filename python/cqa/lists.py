@@ -1,0 +1,430 @@
+"""CSV lists with header lines, made one script: every fault is told by its list and line, and a list with a fault isn't loaded."""
+
+from __future__ import annotations
+
+import codecs
+import csv
+import io
+import os
+import re
+import stat
+import unicodedata
+from dataclasses import dataclass, field
+from functools import partial
+from itertools import chain, repeat
+from typing import IO, Callable, Iterable, Iterator, List, Mapping, Optional, Protocol, Sequence, TextIO, Tuple, TypeVar, Union
+
+from .columns import Column, DecimalColumn, TextColumn, TimeColumn, csv_fault
+from .scripts import Schema, row_text
+
+MOST_COLUMNS = 16
+MOST_NAME = 64
+_PIECE = 5_000
+#: Letters of a line that are read at once: a longer line is no record of a table, and is told as several that are wrong.
+_LONGEST_LINE = 1_000_000
+_MOST_APART = 10_000
+_Item = TypeVar("_Item")
+_ENDS_BLOCK = re.compile(r"\n\\\.\r?\n")
+_PLAIN_LETTERS = str.maketrans(
+    {"æ": "ae", "ø": "o", "å": "a", "ß": "ss", "đ": "d", "ð": "d", "þ": "th", "ł": "l", "œ": "oe", "ı": "i"})
+
+
+@dataclass(frozen=True)
+class ListOptions:
+    """How lists become a table.
+
+    table: its name. key: the columns of its key. columns: those that are taken, all where None. decimals: the number of places
+    by column. times, texts: the columns that are one. delimiter: what stands between two fields; where it isn't told, that of the
+    header line. encoding: how the lists are written; one with a byte order mark of UTF-8 is UTF-8. renamed: the names of columns by
+    those that lists have. decimal_mark: "." or ",".
+    missing: what becomes of a record with an empty field outside the key: "refuse", "keep" (the empty text is a value) or "drop".
+    source_column: the name of the column that says from which list a row is. strip: whether blanks at the ends of fields are left out.
+    """
+
+    table: str
+    key: Sequence[str]
+    columns: Optional[Sequence[str]] = None
+    decimals: Mapping[str, int] = field(default_factory=dict)
+    times: Sequence[str] = ()
+    texts: Sequence[str] = ()
+    delimiter: str = ""
+    encoding: str = "utf-8"
+    renamed: Mapping[str, str] = field(default_factory=dict)
+    decimal_mark: str = "."
+    missing: str = "refuse"
+    strict: bool = False
+    source_column: str = "source"
+    strip: bool = False
+
+
+class _Reader(Protocol):
+    """What `csv.reader` gives."""
+
+    line_num: int
+
+    def __iter__(self) -> Iterator[List[str]]: ...
+
+    def __next__(self) -> List[str]: ...
+
+
+def word_of(header: str) -> str:
+    """A header as a name of the language: `Full Name` is full_name. Empty where nothing of it is left."""
+    plain = unicodedata.normalize("NFKD", header.strip().lower().translate(_PLAIN_LETTERS))
+    word = re.sub(r"[^a-z0-9]+", "_", "".join(letter for letter in plain if not unicodedata.combining(letter))).strip("_")
+    return "c_" + word if word[:1].isdigit() else "primary_" if word == "primary" else word
+
+
+class Lists:
+    """The lists of one table. `add` reads one after the other, and then `end` tells what only all together show; where there are no
+    faults, `schema` is the table and `finish_blocks` completes the file of its blocks."""
+
+    def __init__(self, options: ListOptions, blocks: IO[bytes], fault: Callable[[str], None], there: Optional[Schema] = None) -> None:
+        """blocks: a file for the blocks, which stand behind the schema. fault: told of each fault. there: the table, if it is there."""
+        self.options = options
+        self.records = 0
+        self.counts: List[Tuple[str, int]] = []  # the lists, by their sources or paths, with their numbers of records
+        self.dropped = 0
+        self.faults = 0
+        self._notes: List[str] = []
+        self._fault = fault
+        self._told: List[Tuple[int, str]] = []
+        self._is_in_piece = False
+        self._there = there
+        self._blocks = io.TextIOWrapper(blocks, encoding="utf-8", newline="", write_through=False)
+        self._columns: List[Column] = []
+        self._has_source = False
+        self._key = [word_of(name) for name in options.key]
+        self._headers: Optional[Tuple[str, List[str]]] = None
+        self._apart: List[Tuple[str, ...]] = []
+
+    def tell(self, path: str, line: Optional[int], text: str) -> None:
+        """Tells a fault. Those of a piece are told in the order of their lines, behind it."""
+        self.faults += 1
+        self._told.append((line or 0, "%s: %s" % (path if line is None else "%s:%d" % (path, line), text)))
+        if not self._is_in_piece:
+            self._tell_all()
+
+    def _tell_all(self) -> None:
+        for _, fault in sorted(self._told, key=lambda told: told[0]):
+            self._fault(fault)
+        self._told.clear()
+
+    def add(self, path: str, source: Optional[str]) -> None:
+        """Reads a list. source: what the rows have in the column of sources; None where there is no such column."""
+        try:
+            with open(path, "rb") as raw:
+                before = os.fstat(raw.fileno())
+                codecs.lookup(self.options.encoding)
+                before_it = self.records
+                self._read(path, source, self._decoded(path, raw))
+                self.counts.append((source or path, self.records - before_it))
+                after = os.fstat(raw.fileno()) if not raw.closed else before
+        except OSError as fault:
+            self.tell(path, None, (fault.strerror or str(fault)).lower())
+        except LookupError:
+            self.tell(path, None, "no encoding is called %s" % self.options.encoding)
+        except UnicodeError as fault:
+            self.tell(path, None, "it isn't written in %s: %s" % (self.options.encoding, fault))
+        else:
+            if stat.S_ISREG(before.st_mode) and (before.st_size, before.st_mtime_ns) != (after.st_size, after.st_mtime_ns):
+                self.tell(path, None, "it changed while it was read")
+
+    def _decoded(self, path: str, raw: io.BufferedReader) -> io.TextIOWrapper:
+        """A list as text. One that is UTF-8 with a letter beyond ASCII is read so, whatever encoding was told."""
+        encoding = self.options.encoding
+        is_told = codecs.lookup(encoding).name == "utf-8" or raw.peek(3)[:3] == codecs.BOM_UTF8
+        if not is_told and _is_utf_8(raw):
+            self._notes.append("%s is UTF-8, and is read so, not as %s" % (path, encoding))
+            is_told = True
+        if is_told:
+            return io.TextIOWrapper(raw, encoding="utf-8-sig", errors="surrogateescape", newline="")
+        return io.TextIOWrapper(raw, encoding=encoding, newline="")
+
+    def _read(self, path: str, source: Optional[str], text: io.TextIOWrapper) -> None:
+        first = text.readline(_LONGEST_LINE)
+        rest = iter(partial(text.readline, _LONGEST_LINE), "")
+        reader = csv.reader(chain([first], rest), delimiter=self.options.delimiter or _delimiter_of(first), strict=True)
+        faults = self.faults
+        header = self._header(path, reader)
+        places = self._places(path, header, source is not None) if header else []
+        if header is None or self.faults > faults:
+            text.detach()
+            return
+        writer = _BlockWriter(self._blocks, self.options.table, path, self._apart, self._source_place())
+        for lines, rows, end in self._pieces(path, reader):
+            self._is_in_piece = True
+            self._piece(path, source, places, len(header), lines, rows, writer, end)
+            self._is_in_piece = False
+            self._tell_all()
+        writer.end()
+        text.detach()
+
+    def _header(self, path: str, reader: "_Reader") -> Optional[List[str]]:
+        """The names of a list's columns, or None where they can't be had."""
+        try:
+            names = next((row for row in reader if row), None)
+        except csv.Error as fault:
+            self.tell(path, 1, csv_fault(fault))
+            return None
+        if names is None:
+            self.tell(path, None, "it is empty, and a header line is wanted")
+            return None
+        if any("\udc80" <= letter <= "\udcff" for name in names for letter in name):
+            self.tell(path, reader.line_num, "the header isn't UTF-8; --encoding says how the list is written, as latin-1")
+            return None
+        renamed = {word_of(old): new for old, new in self.options.renamed.items()}
+        words = [renamed.get(word_of(name), word_of(name)) for name in names]
+        for at, (word, name) in enumerate(zip(words, names), 1):
+            if not word or len(word) > MOST_NAME:
+                self.tell(path, reader.line_num, "the header of column %d, %r, makes no name" % (at, name))
+            elif word in words[:at - 1]:
+                self.tell(path, reader.line_num, "columns %d and %d are both called %s" % (words.index(word) + 1, at, word))
+        return words
+
+    def _places(self, path: str, header: List[str], has_source: bool) -> List[int]:
+        """Where in a record the taken columns stand; the columns themselves are made with the first list."""
+        if self._headers is None:
+            self._headers = (path, header)
+            self._has_source = has_source
+            names = self._taken(path, header)
+            self._columns = [self._column(name) for name in names]
+        if has_source and self.options.source_column in header:
+            self.tell(path, 1, "it has a column %s itself: --source-column says what the column of sources is called"
+                      % self.options.source_column)
+        wanted = [column.name for column in self._columns]
+        for name in wanted:
+            if name not in header:
+                self.tell(path, 1, "no column %s; it has %s (--rename OLD=NEW names a column anew)" % (name, ", ".join(header)))
+        if self.options.columns is None:
+            for name in header:
+                if name not in wanted and name != self.options.source_column:
+                    self.tell(path, 1, "a column %s, which %s hasn't; --columns says which are taken" % (name, self._headers[0]))
+        return [header.index(name) for name in wanted if name in header]
+
+    def _taken(self, path: str, header: List[str]) -> List[str]:
+        """The names of the table's columns but that of sources: the key's first faults are told here."""
+        if self._there is not None:
+            names = [name for name in self._there.columns if not (self._has_source and name == self.options.source_column)]
+        else:
+            names = [word_of(name) for name in self.options.columns] if self.options.columns is not None else list(header)
+        for name in self._key:
+            if name not in names and not (self._has_source and name == self.options.source_column):
+                hint = "; --delimiter says what stands between two fields" if len(header) == 1 else ""
+                self.tell(path, 1, "no column %s for the key; it has %s%s" % (name, ", ".join(header), hint))
+        named = [word_of(name) for name in (*self.options.decimals, *self.options.times, *self.options.texts)]
+        for name in named:
+            if name not in names:
+                self.tell(path, 1, "no column %s; it has %s" % (name, ", ".join(header)))
+        if len(names) + self._has_source > MOST_COLUMNS:
+            self.tell(path, 1, "%d columns, and a table has at most %d: --columns says which are taken"
+                      % (len(names) + self._has_source, MOST_COLUMNS))
+        return names
+
+    def _column(self, name: str) -> Column:
+        decimals = {word_of(key): places for key, places in self.options.decimals.items()}
+        if name in decimals:
+            return DecimalColumn(name, decimals[name], self.options.decimal_mark)
+        if name in map(word_of, self.options.times):
+            return TimeColumn(name)
+        if name in map(word_of, self.options.texts):
+            return TextColumn(name)
+        if self._there is not None and self._there.columns.get(name) == "text":
+            return TextColumn(name)
+        return Column(name, self._there is not None)
+
+    def _pieces(self, path: str, reader: "_Reader") -> Iterator[Tuple[List[int], List[List[str]], int]]:
+        """The records by pieces, with the line on which each begins and the line on which the piece ends. Faulty ones are told."""
+        lines: List[int] = []
+        rows: List[List[str]] = []
+        at = reader.line_num
+        while True:
+            try:
+                for row in reader:
+                    rows.append(row)
+                    lines.append(at + 1)
+                    at = reader.line_num
+                    if len(rows) == _PIECE:
+                        yield lines, rows, at
+                        lines, rows = [], []
+                break
+            except csv.Error as fault:
+                if rows:
+                    yield lines, rows, at
+                    lines, rows = [], []
+                self.tell(path, at + 1, csv_fault(fault))
+                at = reader.line_num
+                if "field limit" in str(fault):
+                    break
+        if rows:
+            yield lines, rows, at
+
+    def _piece(self, path: str, source: Optional[str], places: List[int], width: int, lines: List[int], rows: List[List[str]],
+               writer: "_BlockWriter", end: int) -> None:
+        """Looks at a piece of a list and writes its rows."""
+        if any(len(row) != width for row in rows):
+            kept = [self._is_whole(path, line, row, width) for line, row in zip(lines, rows)]
+            lines, rows = _those(lines, kept), _those(rows, kept)
+        fields = list(zip(*rows))
+        columns: List[Sequence[str]] = [fields[place] for place in places] if rows else []
+        if self.options.strip:
+            columns = [[value.strip() for value in values] for values in columns]
+        if any("" in values for values in columns):
+            kept = self._without_missing(path, lines, columns)
+            lines, columns = _those(lines, kept), [_those(values, kept) for values in columns]
+        if not lines or len(columns) != len(self._columns):
+            return
+        self.records += len(lines)
+        taken = [column.take(values, lines, path, lambda at, text: self.tell(path, lines[at], text))
+                 for column, values in zip(self._columns, columns)]
+        if not self.faults:
+            writer.write(lines, taken, source, end)
+            if len(self._apart) > _MOST_APART:
+                self.tell(path, None, "more than %d texts with a line \\., which ends a block" % _MOST_APART)
+
+    def _is_whole(self, path: str, line: int, row: List[str], width: int) -> bool:
+        """Whether a record has as many fields as the header; a blank line is no record."""
+        if row and len(row) != width:
+            self.tell(path, line, "%d field%s, and the header has %d" % (len(row), "s" if len(row) > 1 else "", width))
+        return len(row) == width
+
+    def _without_missing(self, path: str, lines: Sequence[int], columns: Sequence[Sequence[str]]) -> List[bool]:
+        """Which records of a piece are looked at further: those without an empty field, and, where the options keep them, those
+        with one outside the key. What the options refuse is told."""
+        kept = [True] * len(lines)
+        for column, values in zip(self._columns, columns):
+            fate = "key" if column.name in self._key else self.options.missing
+            if "" not in values or fate == "keep":
+                continue
+            for at, value in enumerate(values):
+                if not value:
+                    kept[at] = False
+                    if fate != "drop":
+                        self.tell(path, lines[at], "the key %s is empty" % column.name if fate == "key" else
+                                  "%s is empty: --missing keep takes it as the text '', --missing drop leaves the record out" % column.name)
+        self.dropped += kept.count(False)
+        return kept
+
+    def end(self) -> None:
+        """Tells the faults that only all lists together show."""
+        self._tell_all()
+        for column in self._columns:
+            for fault in column.faults():
+                self.faults += 1
+                self._fault(fault)
+
+    def notes(self) -> List[str]:
+        """What is no fault and good to know."""
+        notes = self._notes + ["%s has no records" % name for name, count in self.counts if not count]
+        notes += [note for column in self._columns for note in column.notes()]
+        if self.dropped:
+            notes.append("%d record%s with an empty field left out" % (self.dropped, "" if self.dropped == 1 else "s"))
+        return notes
+
+    def schema(self) -> Schema:
+        """The table that the lists make."""
+        kinds = [(column.name, column.kind) for column in self._columns]
+        if self._has_source:
+            kinds.insert(self._source_place(), (self.options.source_column, "text"))
+        return Schema(self.options.table, dict(kinds), self._key, self._there.strict if self._there else self.options.strict)
+
+    def _source_place(self) -> int:
+        """Where among the columns that of sources stands: behind all of a new table."""
+        columns = list(self._there.columns) if self._there else []
+        return columns.index(self.options.source_column) if self.options.source_column in columns else len(self._columns)
+
+    def finish_blocks(self) -> None:
+        """Sees to it that all blocks are in their file, and behind them the rows that no block can hold."""
+        kinds = list(self.schema().columns.values())
+        for row in self._apart:
+            values: Tuple[Union[int, str], ...] = tuple(int(value) if kind == "int" else value for value, kind in zip(row, kinds))
+            self._blocks.write("insert into %s values %s;\n" % (self.options.table, row_text(values)))
+        self._blocks.flush()
+        self._blocks.detach()
+
+
+class _BlockWriter:
+    """Writes the rows of a list as `copy` blocks. Line K of a block is line K of the list from the one on that the comment names,
+    so blank lines stand where the list has what is no row. Rows that would end a block go apart."""
+
+    def __init__(self, out: TextIO, table: str, path: str, apart: List[Tuple[str, ...]], source_place: int) -> None:
+        self._out = out
+        self._table = table
+        self._path = re.sub(r"[\r\n]", "?", path).encode("utf-8", "replace").decode()
+        self._csv = csv.writer(out, lineterminator="\n", quoting=csv.QUOTE_ALL)
+        self._apart = apart
+        self._source_place = source_place
+        self._next = 0
+
+    def write(self, lines: Sequence[int], columns: Sequence[Sequence[str]], source: Optional[str], end: int) -> None:
+        """Writes the rows of a piece that ends on a line."""
+        place = self._source_place
+        rows = zip(*columns) if source is None else zip(*columns[:place], repeat(source), *columns[place:])
+        if self._next == lines[0] and end - lines[0] + 1 == len(lines):
+            self._csv.writerows(rows)
+            self._next = end + 1
+            return
+        for line, row in zip(lines, rows):
+            if any(_ENDS_BLOCK.search(value) for value in row if "\\." in value):
+                self._apart.append(row)
+            else:
+                self._write_row(line, row)
+
+    def _write_row(self, line: int, row: Tuple[str, ...]) -> None:
+        if not self._next:
+            self._out.write("-- %s:%d\ncopy %s;\n" % (self._path, line, self._table))
+            self._next = line
+        self._out.write("\n" * (line - self._next))
+        self._csv.writerow(row)
+        self._next = line + 1 + sum(value.count("\n") for value in row)
+
+    def end(self) -> None:
+        """Ends the block, if one is open."""
+        if self._next:
+            self._out.write("\\.\n")
+            self._next = 0
+
+
+def rows_script(table: str, rows: Iterable[Tuple[Union[int, str], ...]]) -> str:
+    """The statements that put rows into a table."""
+    block, apart = io.StringIO(newline=""), []
+    writer = csv.writer(block, lineterminator="\n", quoting=csv.QUOTE_ALL)
+    for row in rows:
+        if any(isinstance(value, str) and _ENDS_BLOCK.search(value) for value in row):
+            apart.append("insert into %s values %s;\n" % (table, row_text(row)))
+        else:
+            writer.writerow(row)
+    return "copy %s;\n%s\\.\n%s" % (table, block.getvalue(), "".join(apart))
+
+
+def create_text(schema: Schema) -> str:
+    """The statement that makes a table."""
+    columns = ", ".join("%s %s" % item for item in schema.columns.items())
+    first = "create strict table" if schema.strict else "create table"
+    return "%s %s (%s, primary key (%s));\n" % (first, schema.table, columns, ", ".join(schema.key))
+
+
+def _is_utf_8(raw: io.BufferedReader) -> bool:
+    """Whether a file is UTF-8 with a letter beyond ASCII; of one that can't be read twice, whether its beginning is."""
+    decoder = codecs.getincrementaldecoder("utf-8")()
+    is_ascii = True
+    try:
+        if not raw.seekable():
+            return not decoder.decode(raw.peek(1)).isascii()
+        for piece in iter(partial(raw.read, 1 << 20), b""):
+            is_ascii = decoder.decode(piece).isascii() and is_ascii
+        decoder.decode(b"", True)
+        return not is_ascii
+    except UnicodeDecodeError:
+        return False
+    finally:
+        if raw.seekable():
+            raw.seek(0)
+
+
+def _delimiter_of(header: str) -> str:
+    """What stands between the fields of a header line: a comma, unless it has none and has another mark that is used for it."""
+    return "," if "," in header else next((mark for mark in ";\t|" if mark in header), ",")
+
+
+def _those(values: Sequence[_Item], kept: Sequence[bool]) -> List[_Item]:
+    return [value for value, is_kept in zip(values, kept) if is_kept]

@@ -1,0 +1,154 @@
+"""Lists made a script, and the command `load`."""
+
+from __future__ import annotations
+
+import argparse
+import shutil
+import sys
+import tempfile
+from typing import IO, Callable, List, Optional, Sequence, Tuple
+
+from .errors import LoadFault
+from .files import standard_output, written
+from .lists import ListOptions, Lists, create_text, word_of
+from .scaling import stored_note
+from .scripts import Schema, remark_text
+
+#: A list and what its rows have in the column of sources; None where there is no such column.
+Source = Tuple[str, Optional[str]]
+
+_PIECE = 1 << 20
+_MOST_INPUT = 268_435_456
+
+
+def load_script(options: ListOptions, sources: Sequence[Source], out: IO[bytes], fault: Callable[[str], None],
+                there: Optional[Schema] = None) -> Optional[Lists]:
+    """Writes the script that loads lists to a file, where none of them has a fault; `fault` is told of each.
+
+    there: the table, if it is there already; then the script has no `create`. None is given where there are faults, and then
+    nothing is written. The lists are read once, and no row is kept in memory.
+    """
+    with tempfile.TemporaryFile() as blocks:
+        lists = Lists(options, blocks, fault, there)
+        for path, source in sources:
+            lists.add(path, source)
+        lists.end()
+        if lists.faults:
+            lists.finish_blocks()
+            return None
+        lists.finish_blocks()
+        if blocks.tell() > _MOST_INPUT:
+            lists.tell(options.table, None, "%d bytes of records, and a script has at most 268,435,456" % blocks.tell())
+            return None
+        places = {(options.table, word_of(name)): count for name, count in options.decimals.items()}
+        out.write(remark_text(places, {options.table: options.source_column} if sources[0][1] is not None else {}).encode())
+        if there is None:
+            out.write(create_text(lists.schema()).encode())
+        blocks.seek(0)
+        shutil.copyfileobj(blocks, out, _PIECE)
+        return lists
+
+
+def parser() -> argparse.ArgumentParser:
+    """The words of `load`."""
+    words = argparse.ArgumentParser(
+        prog="cqa load", description="CSV lists with header lines as one script of cqa. With a fault in a list nothing is written.",
+        epilog="example: cqa load --table customer --key id --source shop=shop.csv --source crm=crm.csv >load.cqa")
+    words.add_argument("files", nargs="*", metavar="LIST", help="a list without a source")
+    words.add_argument("--table", required=True, help="the table's name")
+    words.add_argument("--key", required=True, help="the columns of its key: id or id,day")
+    words.add_argument("--source", action="append", default=[], metavar="NAME=LIST",
+                       help="a list, and what its rows have in the column of sources")
+    words.add_argument("--source-column", default="source", metavar="NAME", help="what the column of sources is called (source)")
+    words.add_argument("--columns", help="the columns that are taken: id,name,city")
+    words.add_argument("--rename", action="append", default=[], metavar="OLD=NEW", help="a column that a list calls otherwise")
+    words.add_argument("--delimiter", default="",
+                       help="what stands between two fields: else a comma, or what the header has in its place; tab is written \\t")
+    words.add_argument("--encoding", default="utf-8", help="how the lists are written (utf-8), as latin-1")
+    words.add_argument("--decimal", action="append", default=[], metavar="COLUMN:PLACES",
+                       help="a column of numbers with so many places, stored as ints")
+    words.add_argument("--decimal-mark", choices=[".", ","], default=".", help="the mark before the places (.)")
+    words.add_argument("--time", action="append", default=[], metavar="COLUMN",
+                       help="a column of dates, or of times in UTC, all in one form")
+    words.add_argument("--text", action="append", default=[], metavar="COLUMN",
+                       help="a column that is text, even where it holds numbers alone")
+    words.add_argument("--missing", choices=["refuse", "keep", "drop"], default="refuse",
+                       help="an empty field outside the key is a fault (refuse), the text '' (keep), or its record is left out (drop)")
+    words.add_argument("--strip", action="store_true", help="blanks at the ends of fields are left out")
+    words.add_argument("--strict", action="store_true", help="the table takes no two rows of one key")
+    words.add_argument("-o", "--output", metavar="FILE", help="the script's file, in place of standard output")
+    return words
+
+
+def options_of(words: argparse.Namespace) -> ListOptions:
+    """The options that the words tell. Raises ValueError where they tell none."""
+    delimiter = "\t" if words.delimiter in ("\\t", "tab") else words.delimiter
+    if len(delimiter) > 1 or delimiter and delimiter in '"\r\n':
+        raise ValueError("--delimiter wants one letter")
+    decimals = {}
+    for decimal in words.decimal:
+        name, _, places = decimal.rpartition(":")
+        if not name or not places.isdigit() or int(places) > 18:
+            raise ValueError("--decimal wants COLUMN:PLACES, with at most 18 places, and not %s" % decimal)
+        decimals[name] = int(places)
+    renamed = dict(pair.partition("=")[::2] for pair in words.rename)
+    if not all(word_of(new) == new != "" for new in renamed.values()):
+        raise ValueError("--rename wants OLD=NEW, where NEW is a name of lower-case letters, digits and _")
+    if word_of(words.table) != words.table.lower() or not words.table:
+        raise ValueError("--table wants a name of letters, digits and _, and not %r" % words.table)
+    return ListOptions(words.table, words.key.split(","), words.columns.split(",") if words.columns else None, decimals, words.time,
+                       words.text, delimiter, words.encoding, renamed, words.decimal_mark, words.missing, words.strict, words.source_column,
+                       words.strip)
+
+
+def sources_of(words: argparse.Namespace) -> List[Source]:
+    """The lists in the order that the words tell. Raises ValueError where some have a source and others none."""
+    sources: List[Source] = []
+    for pair in words.source:
+        name, is_given, path = pair.partition("=")
+        if not is_given or not name or not path or "\n" in name or len(name.encode()) > 1024:
+            raise ValueError("--source wants NAME=LIST, and not %s" % pair)
+        sources.append((path, name))
+    if sources and words.files:
+        raise ValueError("each list has a source or none has: --source NAME=%s" % words.files[0])
+    if not sources and not words.files:
+        raise ValueError("no list is named: --source NAME=LIST, or LIST")
+    return sources or [(path, None) for path in words.files]
+
+
+def main(arguments: Sequence[str]) -> int:
+    """The command `load`: 0, or 1 with the faults on standard error and nothing written, or 2 for wrong words."""
+    words = parser().parse_args(arguments)
+    try:
+        options, sources = options_of(words), sources_of(words)
+    except ValueError as fault:
+        print("cqa load: %s" % fault, file=sys.stderr)
+        return 2
+    try:
+        lists = _written(options, sources, words.output)
+    except LoadFault:
+        print("cqa load: nothing is written", file=sys.stderr)
+        return 1
+    for note in lists.notes():
+        print("cqa load: %s" % note, file=sys.stderr)
+    for name, count in options.decimals.items():
+        print("cqa load: " + stored_note(word_of(name), count), file=sys.stderr)
+    parts = " (%s)" % ", ".join("%s %d" % part for part in lists.counts) if len(lists.counts) > 1 else ""
+    records = "1 record" if lists.records == 1 else "%d records" % lists.records
+    print("cqa load: %s, %s%s" % (_shown(lists.schema()), records, parts), file=sys.stderr)
+    return 0
+
+
+def _written(options: ListOptions, sources: Sequence[Source], output: Optional[str]) -> Lists:
+    """Writes the script to a file or to standard output. Raises LoadFault where a list has a fault, which then is told."""
+    with written(output) if output else standard_output() as out:
+        lists = load_script(options, sources, out, lambda fault: print(fault, file=sys.stderr))
+        if lists is None:
+            raise LoadFault([])
+        out.flush()
+        return lists
+
+
+def _shown(schema: Schema) -> str:
+    columns = ", ".join("%s %s" % item for item in schema.columns.items())
+    return "%s (%s) by %s" % (schema.table, columns, ", ".join(schema.key))

@@ -1,0 +1,74 @@
+"""The commands that look at what script files make: `csv` and `conflicts`."""
+
+from __future__ import annotations
+
+import argparse
+import re
+import sys
+from typing import List, Optional, Sequence
+
+from .files import standard_output, written
+from .running import Answer, loaded
+
+_NAME = re.compile(r"[A-Za-z_][A-Za-z0-9_]*")
+
+#: The statements whose answer is rows.
+QUESTIONS = ("ask", "possible", "disputed")
+
+
+def csv_main(arguments: Sequence[str]) -> int:
+    """The command `csv FILE ..`: the rows of the last question as CSV. Where a statement is refused nothing is written."""
+    words = argparse.ArgumentParser(prog="cqa csv", description="The rows of the last question of script files as CSV with a header. "
+                                    "Where a statement is refused, nothing is written.")
+    words.add_argument("files", nargs="+", metavar="FILE")
+    words.add_argument("-o", "--output", metavar="FILE", help="the file to write, in place of standard output")
+    told = words.parse_args(arguments)
+    answers: List[Answer] = []
+    session = loaded(told.files, answers)
+    if session is None:
+        print("cqa csv: nothing is written", file=sys.stderr)
+        return 1
+    with session:
+        last = next((answer for answer in reversed(answers) if answer.verb in QUESTIONS), None)
+        if last is None:
+            print("cqa csv: no statement of %s is an ask or a possible" % ", ".join(told.files), file=sys.stderr)
+            return 1
+        text = session.rows_of(last.text, [line.decode("utf-8") for line in last.lines]).csv_text()
+    _write(text, told.output)
+    return 0
+
+
+def conflicts_main(arguments: Sequence[str]) -> int:
+    """The command `conflicts FILE .. [TABLE ..]`: the keys whose rows differ. Where a statement is refused nothing is written."""
+    words = argparse.ArgumentParser(prog="cqa conflicts", description="The keys of tables whose rows differ: how many by column, and "
+                                    "for each its values with their sources. Where a statement is refused, nothing is written.")
+    words.add_argument("first", metavar="FILE", help="a script")
+    words.add_argument("others", nargs="*", metavar="FILE or TABLE",
+                       help="a word that may be a table's name is one, as customer; another is a script, as b.cqa or ./customer")
+    words.add_argument("--source", metavar="COLUMN", help="the column of sources, which is no conflict (source)")
+    told = words.parse_args(arguments)
+    tables = [word for word in told.others if _NAME.fullmatch(word)]
+    files = [told.first] + [word for word in told.others if not _NAME.fullmatch(word)]
+    session = loaded(files)
+    if session is None:
+        print("cqa conflicts: nothing is written", file=sys.stderr)
+        return 1
+    with session:
+        there = [schema.table for schema in session.tables()]
+        missing = [table for table in tables if table not in there]
+        if missing or not there:
+            lacking = "no table %s in %s" % (missing[0], ", ".join(files)) if missing else "%s makes no table" % ", ".join(files)
+            print("cqa conflicts: %s" % lacking, file=sys.stderr)
+            return 1
+        try:
+            text = "".join(str(session.conflicts(table, told.source)) for table in tables or there)
+        except KeyError as fault:
+            print("cqa conflicts: %s" % fault.args[0], file=sys.stderr)
+            return 1
+    _write(text, None)
+    return 0
+
+
+def _write(text: str, path: Optional[str]) -> None:
+    with written(path) if path else standard_output() as out:
+        out.write(text.encode("utf-8"))

@@ -1,0 +1,129 @@
+"""The program as a child: where it is, how it is started, and what its end means."""
+
+from __future__ import annotations
+
+import os
+import shutil
+import subprocess
+import threading
+from typing import BinaryIO, List, Optional, Union
+
+from .errors import Ended, NotBuilt, ended
+from .replies import END_LINE, END_STATEMENT, reply_lines
+
+_BUILT = os.path.join("crates", "cqa_cli", "out", "cqa_cli")
+_PIECE = 1 << 20
+
+
+def found_program(given: Optional[str] = None) -> str:
+    """The path of the built program: the one given, that of the variable CQA_PROGRAM, that of the repository in which this
+    file stands, `cqa_cli` on the path, or that of the repository to which a `cqa` on the path belongs.
+
+    Raises NotBuilt where there is none.
+    """
+    named = given or os.environ.get("CQA_PROGRAM")
+    if named:
+        return _runnable(named)
+    here = os.path.dirname(os.path.dirname(os.path.dirname(os.path.abspath(__file__))))
+    candidates = [os.path.join(here, _BUILT), shutil.which("cqa_cli") or ""]
+    wrapper = shutil.which("cqa")
+    if wrapper:
+        candidates.append(os.path.join(os.path.dirname(os.path.realpath(wrapper)), _BUILT))
+    for path in candidates:
+        if path and os.access(path, os.X_OK) and os.path.isfile(path):
+            return path
+    raise NotBuilt("the program isn't built: `./cqa build` in the repository builds it; CQA_PROGRAM names one that is elsewhere")
+
+
+def _runnable(path: str) -> str:
+    if not os.path.isfile(path):
+        raise NotBuilt("no program at %s: `./cqa build` in the repository builds it" % path)
+    if not os.access(path, os.X_OK):
+        raise NotBuilt("%s can't be run" % path)
+    return path
+
+
+class Child:
+    """A running program that reads a script and is asked statement by statement."""
+
+    def __init__(self, program: Optional[str] = None, is_apart: bool = False) -> None:
+        """Starts the program. is_apart: Ctrl-C at the terminal doesn't reach it. Raises NotBuilt where there is none."""
+        self.program = found_program(program)
+        self.is_apart = is_apart
+        self._lock = threading.Lock()
+        environment = dict(os.environ)
+        environment.setdefault("GLIBC_TUNABLES", "glibc.malloc.hugetlb=1")
+        try:
+            self._process = subprocess.Popen([self.program, "run"], stdin=subprocess.PIPE, stdout=subprocess.PIPE,
+                                             bufsize=_PIECE, env=environment, start_new_session=is_apart)
+        except OSError as fault:
+            raise NotBuilt("%s can't be started: %s" % (self.program, fault.strerror or fault)) from None
+        self._input = _piped(self._process.stdin)
+        self.replies = _piped(self._process.stdout)
+
+    def write(self, part: Union[bytes, memoryview]) -> None:
+        """Sends bytes, which may be kept back until `flush`. Raises Ended where nobody reads them."""
+        try:
+            self._input.write(part)
+        except (BrokenPipeError, ValueError):
+            raise self._ending() from None
+
+    def flush(self) -> None:
+        """Sends what is kept back."""
+        try:
+            self._input.flush()
+        except (BrokenPipeError, ValueError):
+            raise self._ending() from None
+
+    def tell(self, statement: bytes, verb: str) -> List[bytes]:
+        """Sends one complete statement and gives the lines of its reply. Where this is interrupted the program is ended, so that
+        no later statement gets this one's reply; threads wait for each other."""
+        with self._lock:
+            try:
+                self.write(statement)
+                self.write(END_STATEMENT)
+                self.flush()
+                return self.reply(verb)
+            except BaseException:
+                self.kill()
+                raise
+
+    def reply(self, verb: str) -> List[bytes]:
+        """The lines of the reply to a statement behind which the empty one was sent."""
+        lines = reply_lines(self.replies, verb)
+        if lines[-1] != END_LINE:
+            raise self._ending()
+        return lines[:-1]
+
+    def end_input(self) -> None:
+        """Says that nothing more comes."""
+        try:
+            self._input.close()
+        except BrokenPipeError:
+            pass
+
+    def close(self) -> int:
+        """Ends the program and gives its status. Closing twice does nothing more."""
+        self.end_input()
+        while not self.replies.closed and self.replies.read(_PIECE):
+            pass
+        self.replies.close()
+        return self._process.wait()
+
+    def kill(self) -> None:
+        """Ends the program at once."""
+        self._process.kill()
+        self.end_input()
+        self.replies.close()
+        self._process.wait()
+
+    def _ending(self) -> Ended:
+        """What to raise where the program has ended by itself."""
+        self.end_input()
+        self.replies.close()
+        return ended(self._process.wait(), self.program)
+
+
+def _piped(stream: Optional[object]) -> BinaryIO:
+    assert stream is not None
+    return stream  # type: ignore[return-value]

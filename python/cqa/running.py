@@ -1,0 +1,340 @@
+"""Script files, run: rows on standard output, refusals on standard error with their file and line."""
+
+from __future__ import annotations
+
+import argparse
+import queue
+import sys
+import threading
+import time
+from functools import partial
+from typing import BinaryIO, Callable, Dict, Iterator, List, NamedTuple, Optional, Sequence, Set, Tuple
+
+from .errors import Ended, InputTooLong
+from .files import standard_output
+from .places import Place, place_of
+from .program import Child
+from .replies import END_STATEMENT, IS_REFUSAL
+from .scaling import shown_notes, statement_notes
+from .scripts import Schema, Statement, fault_of, remarks, schema_of, statements, verb_of
+from .session import Session
+
+_PIECE = 1 << 20
+_MOST_INPUT = 268_435_456
+_MOST_NOTES = 20
+
+
+#: The statements that ask of a query, and change nothing.
+QUERY_VERBS = ("ask", "possible", "disputed", "classify", "plan", "sql", "explain", "against", "prove")
+
+
+class Answer(NamedTuple):
+    """A statement of a file with its reply: its lines without their line feeds, or a refusal with its place. notes: what to know
+    of the numbers that the statement names; shown: of those in its reply's rows. line: where it begins."""
+
+    path: str
+    text: str
+    verb: str
+    lines: List[bytes]
+    refusal: str
+    place: Optional[Place]
+    notes: Sequence[str] = ()
+    shown: Sequence[str] = ()
+    line: int = 0
+
+
+class ScriptFile:
+    """A script in a file, read as it is when the run begins."""
+
+    def __init__(self, path: str) -> None:
+        """Raises OSError where the file can't be read, and InputTooLong where it is longer than the program takes."""
+        self.path = path
+        with open(path, "rb") as file:
+            self.script = file.read(_MOST_INPUT + 1)
+        if len(self.script) > _MOST_INPUT:
+            raise InputTooLong(6, path)
+
+
+#: A statement, and why it isn't sent.
+_Sent = Tuple[ScriptFile, Statement, str]
+
+
+class Runner:
+    """Runs files as one script. A thread sends the statements, so that the program needn't wait for the replies to be read."""
+
+    def __init__(self, child: Child, files: Sequence[ScriptFile]) -> None:
+        self.child = child
+        self.schemas: Dict[str, Schema] = {}
+        self._places: Dict[Tuple[str, str], int] = {}
+        for file in files:
+            self._places.update(remarks(file.script)[0])
+        self.sent_bytes = 0
+        self._bytes_before = 0
+        self._counted: Tuple[Optional[ScriptFile], int, int] = (None, 0, 1)
+        self.answered = 0
+        self._files = files
+        self._sent: "queue.Queue[Optional[_Sent]]" = queue.Queue(maxsize=10_000)
+        self._is_stopped = False
+
+    def answers(self) -> Iterator[Answer]:
+        """The answers in the order of the statements. What is left at the end of a file is refused, and ends all."""
+        threading.Thread(target=self._send, daemon=True).start()
+        while True:
+            sent = self._sent.get()
+            if sent is None:
+                return
+            yield self._answer(*sent)
+            self.answered += 1
+            if self._is_stopped or not sent[1].complete:
+                return
+
+    def answers_in_step(self, before: Callable[[str], None]) -> Iterator[Answer]:
+        """As `answers`, but each statement is sent when the one before is dealt with, so that the program can be asked in between.
+        before: called with the first word of each statement before it is sent."""
+        for file in self._files:
+            for statement in statements(file.script):
+                fault = fault_of(file.script, statement)
+                before(verb_of(statement.text(file.script).decode("utf-8", "replace")))
+                if not fault:
+                    self._send_statement(file.script, statement)
+                    self.child.flush()
+                yield self._answer(file, statement, fault)
+                if not statement.complete:
+                    return
+
+    def stop(self) -> None:
+        """Ends the run: no further answer comes."""
+        self._is_stopped = True
+
+    def _send(self) -> None:
+        try:
+            for file in self._files:
+                if not self._send_file(file):
+                    break
+                self._bytes_before += len(file.script)
+            self.child.flush()
+        except Ended:
+            pass
+        finally:
+            self._sent.put(None)
+
+    def _send_file(self, file: ScriptFile) -> bool:
+        """Sends the statements of a file, and says whether the next file may follow."""
+        for statement in statements(file.script):
+            fault = fault_of(file.script, statement)
+            self._put((file, statement, fault))
+            if self._is_stopped or not statement.complete:
+                return False
+            if not fault:
+                self._send_statement(file.script, statement)
+        return True
+
+    def _put(self, sent: _Sent) -> None:
+        """Says that a statement is sent; where too many are unanswered, all are sent in full before it waits."""
+        try:
+            self._sent.put_nowait(sent)
+        except queue.Full:
+            self.child.flush()
+            self._sent.put(sent)
+
+    def _send_statement(self, script: bytes, statement: Statement) -> None:
+        for begin in range(statement.start, statement.end, _PIECE):
+            end = min(begin + _PIECE, statement.end)
+            self.child.write(script[begin:end])
+            self.sent_bytes = self._bytes_before + end
+        self.child.write(END_STATEMENT)
+        if self._sent.qsize() <= 1:
+            self.child.flush()
+
+    def _answer(self, file: ScriptFile, statement: Statement, fault: str) -> Answer:
+        answer = self._plain_answer(file, statement, fault)
+        if answer.verb in QUERY_VERBS or self._places:
+            answer = answer._replace(line=self._line_of(file, statement.start))
+        if not self._places:
+            return answer
+        notes, shown = statement_notes(answer.text, self._places), shown_notes(answer.text, self._places)
+        return answer._replace(notes=notes, shown=shown)
+
+    def _line_of(self, file: ScriptFile, start: int) -> int:
+        """The line of a statement, counted on from the last one that was asked for."""
+        known, at, line = self._counted
+        if known is not file or at > start:
+            at, line = 0, 1
+        line += file.script.count(b"\n", at, start)
+        self._counted = file, start, line
+        return line
+
+    def _plain_answer(self, file: ScriptFile, statement: Statement, fault: str) -> Answer:
+        text = statement.text(file.script).decode("utf-8", "replace")
+        verb = verb_of(text)
+        if fault:
+            return self._refused(file, statement, text, verb, fault)
+        lines = self.child.reply(verb)
+        if lines and IS_REFUSAL.match(lines[0]):
+            return self._refused(file, statement, text, verb, lines[0][:-1].decode("utf-8", "replace"))
+        schema = schema_of(text) if verb == "create" else None
+        if schema is not None:
+            self.schemas[schema.table] = schema
+        return Answer(file.path, text, verb, [line[:-1] for line in lines], "", None)
+
+    def _refused(self, file: ScriptFile, statement: Statement, text: str, verb: str, refusal: str) -> Answer:
+        return Answer(file.path, text, verb, [], refusal, place_of(file.script, statement, refusal, self.schemas))
+
+
+class Progress:
+    """How much of the files is read, on a terminal: a line that is written anew twice a second."""
+
+    def __init__(self, runner: Runner, total: int) -> None:
+        self._runner = runner
+        self._total = total
+        self._is_over = threading.Event()
+        self._lock = threading.Lock()
+        self._is_shown = False
+        if sys.stderr.isatty() and total > _PIECE:
+            threading.Thread(target=self._show, daemon=True).start()
+
+    def _show(self) -> None:
+        began = time.monotonic()
+        while not self._is_over.wait(0.5):
+            if time.monotonic() - began < 1:
+                continue
+            with self._lock:
+                done = self._runner.sent_bytes
+                sys.stderr.write("\r\033[K%s of %s bytes (%d%%), %s statements" % (
+                    format(done, ","), format(self._total, ","), 100 * done // max(1, self._total), format(self._runner.answered, ",")))
+                sys.stderr.flush()
+                self._is_shown = True
+
+    def clear(self) -> None:
+        """Takes the line away, before something else is written."""
+        with self._lock:
+            if self._is_shown:
+                sys.stderr.write("\r\033[K")
+                self._is_shown = False
+
+    def end(self) -> None:
+        """Ends the showing."""
+        self._is_over.set()
+        self.clear()
+
+
+class Notes:
+    """Tells what is to know of the answers of a run: each note once, and the first ones alone."""
+
+    def __init__(self, is_shown: bool) -> None:
+        """is_shown: whether rows are shown as they are stored."""
+        self._is_shown = is_shown
+        self._known: Set[str] = set()
+
+    def tell(self, answer: Answer) -> None:
+        """Writes the notes of an answer that weren't told yet to standard error."""
+        for note in (*answer.notes, *(answer.shown if self._is_shown else ())):
+            if note not in self._known:
+                self._known.add(note)
+                if len(self._known) <= _MOST_NOTES:
+                    print("%s:%d: note: %s" % (answer.path, answer.line, note), file=sys.stderr)
+
+    def end(self) -> None:
+        """Says how many notes weren't told."""
+        if len(self._known) > _MOST_NOTES:
+            print("cqa: and %d more notes like these" % (len(self._known) - _MOST_NOTES), file=sys.stderr)
+
+
+def run_files(files: Sequence[ScriptFile], child: Child, stops: bool) -> Iterator[Answer]:
+    """Runs files one after the other as one script and gives each answer; `stops` ends it behind the first refusal.
+
+    Raises Ended where the program ends.
+    """
+    runner = Runner(child, files)
+    progress = Progress(runner, sum(len(file.script) for file in files))
+    try:
+        for answer in runner.answers():
+            progress.clear()
+            yield answer
+            if stops and answer.refusal:
+                runner.stop()
+                return
+    finally:
+        progress.end()
+
+
+def loaded(paths: Sequence[str], answers: Optional[List[Answer]] = None, is_apart: bool = False,
+           before: Optional[Callable[[Session, str], None]] = None) -> Optional[Session]:
+    """A session over what files make, or None where a statement was refused; each refusal is told. Answers go into a list.
+
+    is_apart: Ctrl-C doesn't reach the program. before: called with the session, which may be asked then, and with the first word of
+    each statement before it is run. Raises OSError where a file can't be read, and Ended where the program ends.
+    """
+    files = [ScriptFile(path) for path in paths]
+    child = Child(is_apart=is_apart)
+    is_refused = False
+    session = Session(child=child)
+    notes = Notes(is_shown=False)
+    try:
+        for file in files:
+            session.heed(file.script)
+        run = run_files(files, child, False) if before is None else Runner(child, files).answers_in_step(partial(before, session))
+        for answer in run:
+            notes.tell(answer)
+            if answer.refusal:
+                is_refused = True
+                tell_refusal(answer)
+            elif answers is not None:
+                answers.append(answer)
+    except BaseException:
+        child.kill()
+        raise
+    notes.end()
+    if is_refused:
+        child.kill()
+    return None if is_refused else session
+
+
+def tell_refusal(answer: Answer) -> None:
+    """Writes a refusal to standard error as FILE:LINE: error .., with a caret under its word on a terminal."""
+    assert answer.place is not None
+    print(answer.place.message(answer.path, answer.refusal), file=sys.stderr)
+    if sys.stderr.isatty():
+        print(answer.place.caret(), file=sys.stderr)
+
+
+def main(arguments: Sequence[str]) -> int:
+    """The command `run FILE ..`."""
+    words = argparse.ArgumentParser(prog="cqa run", description="Runs script files, one after the other, as one script: rows and other "
+                                    "replies on standard output, refusals on standard error. Without a file it reads standard input.")
+    words.add_argument("files", nargs="+", metavar="FILE")
+    words.add_argument("--stop", action="store_true", help="end at the first refusal")
+    told = words.parse_args(arguments)
+    files = [ScriptFile(path) for path in told.files]
+    child = Child()
+    try:
+        with standard_output() as out:
+            status = _print_answers(files, child, told.stop, out)
+    except BaseException:
+        child.kill()
+        raise
+    if status and told.stop:
+        child.kill()
+    else:
+        child.close()
+    return status
+
+
+def _print_answers(files: Sequence[ScriptFile], child: Child, stops: bool, out: BinaryIO) -> int:
+    """Writes replies to a stream and refusals to standard error, in their order. 1 where a statement was refused, and else 0."""
+    status = 0
+    notes = Notes(is_shown=True)
+    for answer in run_files(files, child, stops):
+        if answer.notes or answer.shown:
+            out.flush()
+            notes.tell(answer)
+        if answer.refusal:
+            status = 1
+            out.flush()
+            tell_refusal(answer)
+        else:
+            out.writelines(line + b"\n" for line in answer.lines)
+            if out.isatty():
+                out.flush()
+    notes.end()
+    return status

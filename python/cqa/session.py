@@ -1,0 +1,508 @@
+"""A session: tables that are loaded, looked at, asked and kept, by a running program."""
+
+from __future__ import annotations
+
+import os
+import re
+import sys
+import tempfile
+import warnings
+from dataclasses import replace
+from decimal import Decimal
+from types import TracebackType
+from typing import Callable, Dict, Iterable, Iterator, List, Mapping, Optional, Sequence, Tuple, Type, Union
+
+from . import answers
+from .answers import Classification, Explanation, Group, Kept, Range
+from .columns import is_in_range, scaled
+from .conflicts import Conflicts, conflicts_of
+from .errors import LoadFault, LoadWarning, Refused, ReplyFault, ScaleWarning, StateFault, UnknownStatement
+from .files import written
+from .lists import ListOptions, create_text, rows_script, word_of
+from .loading import Source, load_script
+from .program import Child
+from .replies import IS_REFUSAL, row_of
+from .rows import Cell, Rows
+from .scaling import places_of, query_notes, scaled_tests, shown_notes, statement_notes, stored, tables_of
+from .scripts import (Schema, Statement, fault_of, names_from, quoted, remark_text, remarks, row_text, selected, shown_schema, statements,
+                      tokens, verb_of)
+
+#: Statements that not every program knows: how each begins, and the reply of a program that doesn't know it.
+NEWER = (("disputed", b"error 2 Syntax at 0\n"), ("against", b"error 2 Syntax at 0\n"), ("prove", b"error 2 Syntax at 0\n"),
+         ("range", b"error 2 Syntax at 0\n"), ("prefer", b"error 2 Syntax at 0\n"), ("show conflicts", b"error 2 Syntax at 5\n"))
+
+_NAME = re.compile(r"[A-Za-z_][A-Za-z0-9_]*")
+_STATE_HEAD = "-- cqa state: kept by the Python package; it is a script, and its last line tells its size\n"
+_STATE_END = re.compile(rb"-- cqa state: (\d+) tables, (\d+) rows\n\Z")
+
+
+class Session:
+    """Tables in a running program. Used by `with`, it ends with the block; else by `close`.
+
+    Each statement is answered before its method returns. A refused one raises `Refused` and changes nothing. Values are `int`
+    and `str`, and `Decimal` where a column was loaded with a number of places. Such a column is stored as int, times a power of ten:
+    a query compares it to a number with a point, as in "credit >= 1000.00", which is scaled; a number without one is compared as it
+    is stored, and ScaleWarning says so. Statements of `tell` and `run` are sent as they are written.
+    """
+
+    def __init__(self, program: Optional[str] = None, child: Optional[Child] = None) -> None:
+        """Starts the program: the one named, or else that of the variable CQA_PROGRAM, of the repository in which this package
+        stands, or of the path. Or goes on with a child that runs. Raises NotBuilt where there is none."""
+        self._child = child or Child(program)
+        self._settings = b""
+        self._places: Dict[Tuple[str, str], int] = {}
+        self._sources: Dict[str, str] = {}
+
+    def __enter__(self) -> "Session":
+        return self
+
+    def __exit__(self, kind: Optional[Type[BaseException]], fault: Optional[BaseException], trace: Optional[TracebackType]) -> None:
+        self.close()
+
+    def close(self) -> None:
+        """Ends the program. Closing twice does nothing more."""
+        self._child.close()
+
+    @property
+    def program(self) -> str:
+        """The path of the program that runs."""
+        return self._child.program
+
+    # -- statements ---------------------------------------------------------------------------------------------------------
+
+    def tell(self, statement: str) -> List[str]:
+        """Sends one statement, with or without its `;` (a `copy` with its block), and gives the lines of its reply, where line
+        feeds in texts end no line.
+
+        Raises Refused, UnknownStatement where the installed program is too old for it, ValueError where the text is no complete
+        statement or more than one, and Ended where the program ends.
+
+        The statement is sent as it is written: columns with places are tested and inserted as they are stored, and ScaleWarning
+        says so.
+        """
+        self._warn_of(statement)
+        return self._lines(statement)
+
+    def _lines(self, statement: str) -> List[str]:
+        """As `tell`, for a statement that this package wrote."""
+        text = statement.encode("utf-8")
+        parts = list(statements(text))
+        if len(parts) == 1 and not parts[0].complete and parts[0].block is None:
+            text = text.rstrip() + b"\n;"
+            parts = list(statements(text))
+        if len(parts) != 1 or not parts[0].complete:
+            raise ValueError("one complete statement is wanted, and this is %s: %r"
+                             % ("none" if len(parts) < 2 else "%d" % len(parts), statement[:200]))
+        return [line.decode("utf-8") for line in self._told(text, parts[0])]
+
+    def run(self, script: Union[str, bytes]) -> List[List[str]]:
+        """Sends the statements of a script one after the other and gives the lines of each reply. The first refusal ends it and
+        is raised, and so is a script that ends within a statement (ValueError), before anything is sent. Statements are sent as
+        they are written, as by `tell`."""
+        return list(self._replies(script.encode("utf-8") if isinstance(script, str) else script, self._warn_of))
+
+    def _replies(self, script: bytes, warn: Callable[[str], None]) -> Iterator[List[str]]:
+        """Sends the statements of a script; `warn` is called with each before."""
+        self.heed(script)
+        parts = list(statements(script))
+        if parts and not parts[-1].complete:
+            raise ValueError("the script ends within a statement: %r" % script[parts[-1].start:][:200])
+        for part in parts:
+            warn(part.text(script).decode("utf-8", "replace"))
+            yield [line.decode("utf-8") for line in self._told(script, part)]
+
+    def _warn_of(self, statement: str) -> None:
+        for note in self._notes(statement)[0]:
+            _warn(note, ScaleWarning)
+
+    def _notes(self, statement: str) -> Tuple[List[str], List[str]]:
+        """What is to know of the numbers that a statement names, and of those that its reply shows as they are stored."""
+        return (statement_notes(statement, self._places), shown_notes(statement, self._places)) if self._places else ([], [])
+
+    def _query(self, query: str, tables: Sequence[str] = ()) -> str:
+        """A query, or tests of tables, as they are sent: without the `;` that may stand at the end, and with numbers that have a
+        point as their columns store them."""
+        plain = query.strip().rstrip(";")
+        if not self._places:
+            return plain
+        named = tables or tables_of(plain)
+        for note in query_notes(plain, named, self._places):
+            _warn(note, ScaleWarning)
+        return scaled_tests(plain, named, self._places)
+
+    def heed(self, script: bytes) -> None:
+        """Heeds what the comments at the head of a script say of columns: numbers with places, and columns of sources."""
+        places, sources = remarks(script)
+        self._places.update(places)
+        self._sources.update(sources)
+
+    def _told(self, script: bytes, part: Statement, is_made: bool = False) -> List[bytes]:
+        """Sends a statement of a script and gives its reply's lines without line feeds. is_made: this package wrote the script,
+        so that its quotes needn't be looked at."""
+        text = part.text(script).decode("utf-8", "replace")
+        verb = verb_of(text)
+        fault = "" if is_made else fault_of(script, part)
+        if fault:
+            raise Refused(fault, text, "its block has a quote that is never closed, or that something stands behind")
+        lines = self._child.tell(script[part.start:part.end], verb)
+        if lines and IS_REFUSAL.match(lines[0]):
+            self._refuse(lines[0], text)
+        if verb == "set":
+            self._settings = script[part.start:part.end] + b"\n"
+        return [line[:-1] for line in lines]
+
+    def _refuse(self, line: bytes, text: str) -> None:
+        """Raises what a refusal is."""
+        plain = " ".join(text.split())
+        for word, reply in NEWER:
+            if plain.startswith(word) and line == reply:
+                raise UnknownStatement(line[:-1].decode(), text, self.program, word)
+        raise Refused(line[:-1].decode("utf-8"), text)
+
+    # -- load and look ------------------------------------------------------------------------------------------------------
+
+    def load(self, table: str, path: Union[str, "os.PathLike[str]", Mapping[str, Union[str, "os.PathLike[str]"]]], *,
+             key: Union[str, Sequence[str]] = (), source: Optional[str] = None, columns: Optional[Sequence[str]] = None,
+             decimal: Optional[Mapping[str, int]] = None, time: Sequence[str] = (), text: Sequence[str] = (), delimiter: str = "",
+             encoding: str = "utf-8", renamed: Optional[Mapping[str, str]] = None, decimal_mark: str = ".",
+             missing: str = "refuse", strict: bool = False, source_column: str = "source", strip: bool = False) -> int:
+        """Loads a CSV list with a header line into a table, which is made where it isn't there, and gives the number of new rows.
+
+        path: the list, or several as {"crm": "crm.csv", "shop": "shop.csv"} by their sources; the kinds of a new table's columns
+        are found over all lists of the call. key: the columns of the key of a new table. source: what the rows have in the column
+        `source_column`. decimal: the number of places by column; such a column is stored as int and given as Decimal.
+        delimiter: where it isn't told, a comma, or what the header has in its place. renamed: names of columns by those that the
+        list has. time: columns of dates or of times in UTC. text: columns that are text though they hold numbers. missing: what an empty
+        field outside the key is: "refuse", "keep" or "drop". strict: whether a new table takes no two rows of one key. strip: whether
+        blanks at the ends of fields are left out.
+
+        A table that is there gets the kinds and places that a further list needs: an int column becomes text where the list has
+        other fields, and numbers get more places.
+
+        Warns (LoadWarning) of what is no fault and good to know, as that numbers became texts.
+
+        Raises LoadFault with every fault of the lists, and then nothing of them is loaded; ValueError for options that tell nothing;
+        Refused where the program refuses a list (a strict table's key is taken, more rows than fit), and then those before it stay.
+        """
+        if missing not in ("refuse", "keep", "drop"):
+            raise ValueError("missing is refuse, keep or drop, and not %r" % missing)
+        wanted = [key] if isinstance(key, str) else list(key)
+        options = ListOptions(table, wanted, columns, decimal or {}, time, text, delimiter, encoding, renamed or {}, decimal_mark, missing,
+                              strict, source_column, strip)
+        return self.load_lists(options, _sources(path, source))
+
+    def load_lists(self, options: ListOptions, sources: Sequence[Source]) -> int:
+        """Loads lists as options say, each with what its rows have in the column of sources, and gives the number of new rows.
+        Raises as `load`."""
+        for name in (options.table, options.source_column):
+            if not _NAME.fullmatch(name):
+                raise ValueError("%r is no name" % name)
+        there = self.schema(options.table)
+        if there is not None and options.key and [word_of(name) for name in options.key] != there.key:
+            raise ValueError("the key of %s is %s" % (options.table, ", ".join(there.key)))
+        if there is None and not options.key:
+            raise ValueError("the key of the new table %s is wanted" % options.table)
+        if there is not None and sources[0][1] is not None and options.source_column not in there.columns:
+            raise ValueError("%s has no column %s" % (options.table, options.source_column))
+        key = options.key or (there.key if there else [])
+        return self._loaded(replace(options, key=key, decimals=self._decimals(options)), sources, there)
+
+    def _decimals(self, options: ListOptions) -> Dict[str, int]:
+        """The number of places by column: of those that are told and those of the table, the greater."""
+        places = {column: count for (table, column), count in self._places.items() if table == options.table}
+        for name, count in options.decimals.items():
+            places[word_of(name)] = max(count, places.get(word_of(name), 0))
+        return places
+
+    def _loaded(self, options: ListOptions, sources: Sequence[Source], there: Optional[Schema]) -> int:
+        faults: List[str] = []
+        with tempfile.TemporaryFile() as file:
+            lists = load_script(options, sources, file, faults.append, there)
+            if lists is None:
+                raise LoadFault(faults)
+            if there is not None:
+                self._convert(there, lists.schema(), options.decimals)
+            file.seek(0)
+            script = file.read()
+        replies = [self._told(script, part, is_made=True) for part in statements(script)]
+        self.heed(script)
+        for note in lists.notes():
+            _warn(note, LoadWarning)
+        return sum(int(lines[0].split(b" ")[1]) for lines in replies if lines[0].startswith((b"copied ", b"inserted ")))
+
+    def _convert(self, old: Schema, new: Schema, decimals: Mapping[str, int]) -> None:
+        """Gives a table the kinds and places that further lists need: ints become texts, numbers get more places. Raises LoadFault
+        where a stored text is no such number, and then nothing changes."""
+        scales = {name: places - self._places.get((old.table, name), 0) for name, places in decimals.items() if name in old.columns}
+        if old.columns == new.columns and not any(scales.values()):
+            return
+        names = list(old.columns)
+        told = self._lines("possible select %s from %s;" % (", ".join(names), old.table))
+        faults: List[str] = []
+        rows = [tuple(_converted(name, value, new.columns[name], scales.get(name), faults) for name, value in zip(names, row_of(line)))
+                for line in told[:-1]]
+        if faults:
+            raise LoadFault(["%s: %s" % (old.table, fault) for fault in faults])
+        self._begin_anew({old.table: create_text(new) + rows_script(old.table, rows)})
+
+    def _begin_anew(self, changed: Mapping[str, str]) -> None:
+        """Starts the program anew with the same tables, some of them made by other scripts."""
+        dump = "".join(line + "\n" for line in self._lines("dump;")).encode("utf-8")
+        parts: List[bytes] = [self._settings]
+        for part in statements(dump):
+            words = tokens(part.text(dump).decode("utf-8"))
+            name = words[words.index("table") + 1] if words[0] == "create" else words[-1] if words[0] == "copy" else words[2]
+            if name not in changed:
+                parts.append(dump[part.start:part.end] + b"\n")
+            elif words[0] == "create":
+                parts.append(changed[name].encode("utf-8"))
+        before, self._child = self._child, Child(self.program, self._child.is_apart)
+        try:
+            list(self._replies(b"".join(parts), lambda _: None))
+        except BaseException:
+            self._child.kill()
+            self._child = before
+            raise
+        before.close()
+
+    def tables(self) -> List[Schema]:
+        """The tables in order of creation."""
+        shown = [shown_schema(line) for line in self._lines("show tables;")[:-1]]
+        return [schema for schema in shown if schema is not None]
+
+    def schema(self, table: str) -> Optional[Schema]:
+        """The schema of a table, or None where there is no such table."""
+        return next((schema for schema in self.tables() if schema.table == table), None)
+
+    def rows(self, table: str) -> Rows:
+        """All rows of a table, in the order of its columns. Raises KeyError where it isn't there."""
+        schema = self._there(table)
+        return self.possible("select %s from %s" % (", ".join(schema.columns), table))
+
+    def conflicts(self, table: str, source: Optional[str] = None) -> Conflicts:
+        """The keys of a table whose rows differ: how many by column, and for each key its values with their sources.
+
+        source: the column of sources; where it isn't told, that with which the table was loaded, or one called `source`.
+        Rows that differ in their source alone are in no conflict. Raises KeyError where the table isn't there.
+        """
+        schema = self._there(table)
+        names = schema.key + [name for name in schema.columns if name not in schema.key]
+        if source is not None and source not in schema.columns:
+            raise KeyError("%s has no column %s" % (table, source))
+        told = source or self._sources.get(table) or ("source" if "source" in schema.columns else None)
+        lines = self._lines("possible select %s from %s;" % (", ".join(names), table))
+        rows = self._scaled(map(row_of, lines[:-1]), self._column_places(names, [table]))
+        return conflicts_of(table, names, schema.key, told if told not in schema.key else None, rows)
+
+    def _there(self, table: str) -> Schema:
+        schema = self.schema(table)
+        if schema is None:
+            raise KeyError("no table %s" % table)
+        return schema
+
+    # -- ask ----------------------------------------------------------------------------------------------------------------
+
+    def certain(self, query: str) -> Rows:
+        """The certain rows of a query, `select .. from .. where ..` or `exists ..`: those that every repair gives. Raises Refused."""
+        return self._answer("ask", query)
+
+    def possible(self, query: str) -> Rows:
+        """The possible rows of a query: those that some repair gives. Raises Refused."""
+        return self._answer("possible", query)
+
+    def disputed(self, query: str) -> Rows:
+        """The rows that are possible and not certain. Raises Refused; UnknownStatement where the program is too old."""
+        return self._answer("disputed", query)
+
+    def explain(self, row: Sequence[Cell], query: str) -> Explanation:
+        """Why a row is certain, or a repair in which it is no answer. Raises Refused."""
+        return self._shown_explanation(answers.explanation(self._lines("explain row %s for %s;" % (row_text(self._stored(row, query)), self._query(query)))))
+
+    def against(self, row: Sequence[Cell], query: str) -> Explanation:
+        """The fewest rows that stand against a row. Raises Refused; UnknownStatement where the program is too old."""
+        return self._shown_explanation(answers.against(self._lines("against row %s for %s;" % (row_text(self._stored(row, query)), self._query(query)))))
+
+    def prove(self, row: Sequence[Cell], query: str) -> Explanation:
+        """A certificate that a row is certain, which `cqa check` verifies. Raises Refused; UnknownStatement where the program is too
+        old."""
+        return self._shown_explanation(answers.explanation(self._lines("prove row %s for %s;" % (row_text(self._stored(row, query)), self._query(query)))))
+
+    def range(self, aggregate: str) -> Range:
+        """The ends of `sum credit from customer where ..`, of `count from ..`, `min ..` or `max ..` over all repairs.
+        Raises Refused; UnknownStatement where the program is too old."""
+        told = answers.ranges(self._lines("range %s;" % self._query(aggregate)))
+        places = self._aggregated(aggregate)[0]
+        return Range(_shown_end(told.least, places), _shown_end(told.greatest, places), self._shown_kept(told.low), self._shown_kept(told.high))
+
+    def ranges(self, aggregate: str) -> List[Group]:
+        """As `range`, for `sum credit from customer group by city`: one for each value. Raises as `range`."""
+        of_what, of_groups = self._aggregated(aggregate)
+        told = answers.groups(self._lines("range %s;" % self._query(aggregate)))
+        return [Group(_shown_value(group.value, of_groups), _shown_end(group.least, of_what), _shown_end(group.greatest, of_what)) for group in told]
+
+    def classify(self, query: str) -> Classification:
+        """How hard the query is, by its attacks. Raises Refused."""
+        return answers.classification(self._lines("classify %s;" % self._query(query)))
+
+    def plan(self, query: str) -> Optional[List[str]]:
+        """The tables in the order in which they can be gone through without a search, or None where there is none. Raises Refused."""
+        lines = self._lines("plan %s;" % self._query(query))
+        return None if lines == ["no plan"] else [line.split(" ")[2] for line in lines]
+
+    def sql(self, query: str) -> Optional[str]:
+        """One query in SQL for the certain rows, or None where no plan decides them. Raises Refused."""
+        lines = self._lines("sql %s;" % self._query(query))
+        return None if lines == ["no plan"] else "".join(line + "\n" for line in lines)
+
+    def _answer(self, verb: str, query: str) -> Rows:
+        return self.rows_of(query, self._lines("%s %s;" % (verb, self._query(query))))
+
+    def rows_of(self, query: str, lines: Sequence[str]) -> Rows:
+        """The rows of a query's reply, with the query's columns."""
+        if not lines or not lines[-1].endswith(" rows"):
+            raise ReplyFault("no rows: %r" % lines[-1:])
+        columns, tables = selected(query)
+        rows = [row_of(line) for line in lines[:-1]]
+        return Rows(columns, self._scaled(rows, self._column_places(columns, tables)))
+
+    def _column_places(self, columns: Sequence[str], tables: Sequence[str]) -> List[int]:
+        """The places of each selected column; -1 where it has none."""
+        if not self._places:
+            return []
+        found = []
+        for column in columns:
+            owner, _, name = column.rpartition(".")
+            owners = [owner] if owner else tables
+            found.append(next((self._places[table, name] for table in owners if (table, name) in self._places), -1))
+        return found if max(found, default=-1) >= 0 else []
+
+    @staticmethod
+    def _scaled(rows: Iterable[Tuple[Cell, ...]], places: Sequence[int]) -> Iterator[Tuple[Cell, ...]]:
+        if not places:
+            return iter(rows)
+        return (tuple(_shown_value(value, count) for value, count in zip(row, places)) for row in rows)
+
+    def _stored(self, row: Sequence[Cell], query: str) -> Tuple[Union[int, str], ...]:
+        """The values of an answer's row as they are stored: those of columns with places are scaled. Raises as `insert`."""
+        columns, tables = selected(query)
+        names = [*columns, *("value %d" % at for at in range(len(columns) + 1, len(row) + 1))]
+        return tuple(stored(value, places_of(name, tables, self._places), name) for value, name in zip(row, names))
+
+    def _shown_kept(self, kept: Sequence[Kept]) -> Tuple[Kept, ...]:
+        """Rows of tables with the numbers of columns with places as Decimal."""
+        if not self._places or not kept:
+            return tuple(kept)
+        schemas = {schema.table: schema for schema in self.tables()}
+        return tuple((table, next(self._scaled([row], self._column_places(list(schemas[table].columns), [table])))) for table, row in kept)
+
+    def _shown_explanation(self, told: Explanation) -> Explanation:
+        """An explanation with the numbers of columns with places as Decimal."""
+        if told.table is not None and told.key is not None and self._places:
+            names = self._there(told.table).key
+            return told._replace(key=next(self._scaled([told.key], self._column_places(names, [told.table]))))
+        return told._replace(kept=self._shown_kept(told.kept))
+
+    def _aggregated(self, aggregate: str) -> Tuple[int, int]:
+        """The places of the column of an aggregate, and of that of its groups; -1 where there are none."""
+        words = tokens(aggregate)
+        tables = names_from(words)
+        of_what = places_of(words[1], tables, self._places) if words[:1] and words[0] != "count" and len(words) > 1 else 0
+        of_groups = places_of(words[-1], tables, self._places) if words[-3:-1] == ["group", "by"] else 0
+        return of_what or -1, of_groups or -1
+
+    # -- change and keep ----------------------------------------------------------------------------------------------------
+
+    def delete(self, table: str, where: str = "") -> int:
+        """Takes away the rows of a table for which the tests hold, as "id = 1 and source = 'shop'"; all rows without tests.
+        Gives their number. Raises Refused."""
+        return int(self._lines("delete from %s%s;" % (table, " where " + self._query(where, [table]) if where else ""))[0].split(" ")[1])
+
+    def prefer(self, table: str, where: str) -> int:
+        """Of each block in which a row passes the tests, takes away the rows that don't. Gives the number of rows taken away.
+        Raises Refused; UnknownStatement where the program is too old."""
+        return int(self._lines("prefer %s where %s;" % (table, self._query(where, [table])))[0].split(" ")[1])
+
+    def insert(self, table: str, rows: Sequence[Sequence[Cell]]) -> int:
+        """Puts rows into a table and gives the number of those that weren't there. Numbers of a column with places, int or
+        Decimal, are scaled: 12 and Decimal("12.00") are the same. Raises Refused; TypeError for a value that is no int, Decimal or
+        str (a float isn't exact), and ValueError for a number with more places than its column."""
+        schema = self.schema(table) if self._places else None
+        names = list(schema.columns) if schema else []
+        values = ", ".join("(" + ", ".join(quoted(value) for value in self._stored_row(table, names, row)) + ")" for row in rows)
+        return int(self._lines("insert into %s values %s;" % (table, values))[0].split(" ")[1])
+
+    def _stored_row(self, table: str, names: Sequence[str], row: Sequence[Cell]) -> Iterator[Union[int, str]]:
+        for at, value in enumerate(row):
+            name = names[at] if at < len(names) else ""
+            yield stored(value, self._places.get((table, name), 0), name or "value %d" % (at + 1))
+
+    def save(self, path: str) -> None:
+        """Keeps the tables in a file: a script that makes them again, beside which only comments stand. It is written beside its
+        place and then moved, so that no half of it is ever there."""
+        shown = self._lines("show tables;")
+        rows = sum(int(found[1]) for found in (re.search(r" rows (\d+) blocks \d+$", line) for line in shown[:-1]) if found)
+        dump = self._lines("dump;")
+        with written(path) as file:
+            file.write(_STATE_HEAD.encode())
+            file.write(remark_text(self._places, self._sources).encode())
+            for line in dump:
+                file.write(line.encode("utf-8") + b"\n")
+            file.write(("-- cqa state: %d tables, %d rows\n" % (len(shown) - 1, rows)).encode())
+
+    @classmethod
+    def restored(cls, path: str, program: Optional[str] = None) -> "Session":
+        """A session with the tables of a kept state. Raises StateFault where the file isn't whole or no kept state, OSError
+        where it can't be read, Refused where the program refuses it."""
+        with open(path, "rb") as file:
+            script = file.read()
+        end = _STATE_END.search(script[-200:])
+        if not script.startswith(_STATE_HEAD.encode()) or end is None:
+            raise StateFault("%s is no whole state: its first and its last line aren't those that `save` writes" % path)
+        session = cls(program)
+        try:
+            list(session._replies(script, lambda _: None))
+            shown = session.tell("show tables;")
+            rows = sum(int(line.split(" rows ")[-1].split(" ")[0]) for line in shown[:-1])
+            if (len(shown) - 1, rows) != (int(end[1]), int(end[2])):
+                raise StateFault("%s isn't whole: it makes %d tables with %d rows, and has to make %s with %s"
+                                 % (path, len(shown) - 1, rows, end[1].decode(), end[2].decode()))
+        except BaseException:
+            session.close()
+            raise
+        return session
+
+
+def _warn(text: str, category: Type[Warning]) -> None:
+    """Warns at the place of the caller outside of this package."""
+    here = os.path.dirname(os.path.abspath(__file__)) + os.sep
+    level, frame = 1, sys._getframe()
+    while frame.f_back is not None and os.path.abspath(frame.f_code.co_filename).startswith(here):
+        level, frame = level + 1, frame.f_back
+    warnings.warn(text, category, stacklevel=level)
+
+
+def _shown_value(value: Cell, places: int) -> Cell:
+    """A stored value as its column with so many places shows it; -1 where it has none."""
+    return Decimal(value).scaleb(-places) if places >= 0 and isinstance(value, int) else value
+
+
+def _shown_end(value: Optional[Cell], places: int) -> Optional[Cell]:
+    return None if value is None else _shown_value(value, places)
+
+
+def _converted(name: str, value: Union[int, str], kind: str, places: Optional[int], faults: List[str]) -> Union[int, str]:
+    """A stored value as a column of another kind, or with more places, stores it; what can't be is told."""
+    if kind == "text":
+        return str(value)
+    number = scaled(str(value), places or 0)
+    if number is None or not is_in_range(number):
+        faults.append("%s: %r, which was loaded before, is no number with such places" % (name, value))
+    return value if number is None else number
+
+
+def _sources(path: Union[str, "os.PathLike[str]", Mapping[str, Union[str, "os.PathLike[str]"]]], source: Optional[str]) -> List[Source]:
+    if isinstance(path, Mapping):
+        if source is not None or not path:
+            raise ValueError("the lists have their sources already" if path else "no list is named")
+        return [(os.fspath(one), name) for name, one in path.items()]
+    return [(os.fspath(path), source)]

@@ -1,0 +1,120 @@
+"""The page of a report: what it says, and that texts of lists stay texts."""
+
+from __future__ import annotations
+
+import os
+import unittest
+from html.parser import HTMLParser
+from typing import List, Tuple
+
+from support import ProgramCase, lines
+
+VOID = {"meta", "br", "img", "link", "input"}
+ALLOWED = {"html", "head", "meta", "title", "style", "body", "h1", "h2", "h3", "p", "b", "ul", "li", "div", "span", "bdi", "table", "thead", "tbody", "tr", "th",
+           "td", "code", "pre", "details", "summary", "svg", "defs", "marker", "path", "rect", "g", "text"}
+SCRIPT = """
+create table customer (id int, name text, city text, source text, primary key (id));
+create table branch (city text, region text, primary key (city));
+insert into customer values (1, 'Ada', 'Oslo', 'crm'), (1, 'Ada', 'Bergen', 'shop'), (2, 'Bo', 'Hamar', 'crm'), (3, 'Cy', 'Oslo', 'shop');
+insert into branch values ('Oslo', 'East'), ('Bergen', 'West'), ('Hamar', 'East'), ('Hamar', 'Inland');
+"""
+
+
+class Reader(HTMLParser):
+    """Gathers the tags and the text of a page, and sees that each tag is closed."""
+
+    def __init__(self, page: str) -> None:
+        super().__init__(convert_charrefs=True)
+        self.tags: List[Tuple[str, dict]] = []
+        self.text = ""
+        self.open: List[str] = []
+        self.feed(page)
+
+    def handle_starttag(self, tag: str, attrs: "list") -> None:
+        self.tags.append((tag, dict(attrs)))
+        if tag not in VOID:
+            self.open.append(tag)
+
+    def handle_startendtag(self, tag: str, attrs: "list") -> None:
+        self.tags.append((tag, dict(attrs)))
+
+    def handle_endtag(self, tag: str) -> None:
+        assert self.open and self.open[-1] == tag, "%s is closed in %s" % (tag, self.open)
+        self.open.pop()
+
+    def handle_data(self, data: str) -> None:
+        if self.open[-1:] != ["style"]:
+            self.text += data + "\n"
+
+
+class Pages(ProgramCase):
+    def page(self, script: str) -> Reader:
+        """The page of a script, which has to be well formed and to need nothing from outside."""
+        self.file("s.cqa", script)
+        status, out, told = self.command("report", "s.cqa")
+        self.assertEqual((status, told), (0, ""))
+        read = Reader(out)
+        self.assertEqual(read.open, [])
+        self.assertLessEqual({tag for tag, _ in read.tags}, ALLOWED)
+        for tag, attributes in read.tags:
+            for name, value in attributes.items():
+                self.assertFalse(name.startswith("on") or name in ("src", "href"), (tag, name, value))
+        identities = [attributes["id"] for _, attributes in read.tags if "id" in attributes]
+        self.assertEqual(len(identities), len(set(identities)))
+        return read
+
+    def test_tables_conflicts_and_questions(self) -> None:
+        read = self.page(SCRIPT + "ask select id, name from customer, branch where customer.city = branch.city and region = 'East';\n"
+                         "possible select id, name from customer, branch where customer.city = branch.city and region = 'East';\n"
+                         "ask exists from customer where city <> 'Hamar';\nexplain row (1) for select id from customer where city = 'Oslo';\n"
+                         "explain row (3) for select id from customer where name = 'Cy';\n")
+        words = " ".join(read.text.split())
+        for wanted in ("8 rows", "6 keys", "1 key in conflict", "2 keys in conflict", "4 questions", "Bergen shop Oslo crm", "Certain rows: 1", "Disputed rows: 2", "Class: first-order",
+                       "Why (1, 'Ada') isn't certain", "customer (1, 'Ada', 'Bergen', 'shop')", "Yes, whichever rows are right.", "Why (1) isn't certain",
+                       "(3) is certain", "By the rows of customer with the key 3"):
+            self.assertIn(wanted, words)
+        graphs = [attributes["aria-label"] for tag, attributes in read.tags if tag == "svg" and "aria-label" in attributes]
+        self.assertEqual(graphs, ["customer attacks branch, weak"])
+        self.assertEqual([attributes["style"] for tag, attributes in read.tags if attributes.get("class") == "bar"], ["width:33.33%", "width:0.00%", "width:33.33%"])
+
+    def test_questions_are_answered_where_they_stand(self) -> None:
+        read = self.page("create table c (id int, city text, primary key (id));\ninsert into c values (1, 'Oslo'), (1, 'Bergen');\nask select city from c;\n"
+                         "possible select city from c;\ndelete from c where city = 'Oslo';\nask select city from c;\n")
+        words = " ".join(read.text.split())
+        first, second = words.split("Question 2 s.cqa:6")
+        self.assertIn("Question 1 s.cqa:3 select city from c Certain rows: 0", first)
+        self.assertIn("Disputed rows: 2", first)
+        self.assertIn("Certain rows: 1 city Bergen Disputed rows: 0", second)
+
+    def test_weak_and_strong_attacks_are_told_apart(self) -> None:
+        read = self.page(SCRIPT + "create table head (person text, region text, primary key (person));\n"
+                         "ask exists from customer, branch, head where customer.city = branch.city and branch.region = head.region;\n")
+        kinds = [attributes["class"] for tag, attributes in read.tags if tag == "path" and "marker-end" in attributes]
+        self.assertEqual(set(kinds), {"weak", "strong"})
+
+    def test_hostile_texts_stay_texts(self) -> None:
+        texts = ["<script>alert(1)</script>", "<img src=x onerror=alert(1)>", "</td></table></body>", '"\'&amp;', "\u202eright to left", "W" * 1024, "a\x01b\x00", "]]>", "<!--"]
+        rows = ", ".join("(%d, '%s', '%s')" % (at, text.replace("'", "''"), text.replace("'", "''")) for at, text in enumerate(texts))
+        more = ", ".join("(%d, 'x', '%s')" % (at, text.replace("'", "''")) for at, text in enumerate(texts))
+        read = self.page("create table note (id int, body text, source text, primary key (id));\ninsert into note values %s, %s;\n"
+                         "ask select body from note where body <> '<script>';\nask select id, source from note;\n" % (rows, more))
+        for text in texts:
+            self.assertIn(text.replace("\x01", "\u2401").replace("\x00", "\u2400").replace("\u202e", "\\u202e"), read.text)
+
+    def test_refused_questions_are_shown_and_refused_scripts_are_not(self) -> None:
+        self.file("s.cqa", SCRIPT + "ask select nothing from customer;\n")
+        status, out, told = self.command("report", "s.cqa", "-o", "report.html")
+        self.assertEqual((status, out, os.path.exists(self.path("report.html"))), (1, "", False))
+        self.assertEqual(len(lines(told)), 2)
+
+    def test_an_empty_script_and_long_answers(self) -> None:
+        self.file("s.cqa", "")
+        self.assertEqual(self.command("report", "s.cqa"), (1, "", "cqa report: s.cqa makes no table; nothing is written\n"))
+        rows = ", ".join("(%d, 'x', 'y', 'z')" % at for at in range(1000))
+        read = self.page(SCRIPT.split("insert")[0] + "insert into customer values %s;\nask select id from customer;\n" % rows)
+        self.assertIn("985 more", read.text)
+        self.assertIn("500 of 1,000 are on this page", read.text)
+
+
+if __name__ == "__main__":
+    unittest.main()

@@ -1,0 +1,141 @@
+"""The shell: by lines, and at a terminal."""
+
+from __future__ import annotations
+
+import contextlib
+import io
+import os
+import pty
+import select
+import signal
+import subprocess
+import sys
+import time
+import unittest
+
+import support
+from support import PROGRAM, ProgramCase, lines
+
+from cqa.session import Session
+from cqa.shell import Shell
+
+STAFF = "create table staff (id int, name text, room int, primary key (id));\n"
+
+
+class ByLines(ProgramCase):
+    def shell(self, text: str, *files: str) -> "tuple[int, str, str]":
+        """Runs the shell over lines."""
+        return self.command("shell", *files, stdin=text.encode())
+
+    def test_statements_over_several_lines(self) -> None:
+        self.assertEqual(self.shell(STAFF + "insert into staff\n values (1, 'a;\nb', 2);\nask select name\nfrom staff; show\ntables;\n"),
+                         (0, "created staff\ninserted 1\n('a;\nb')\n1 rows\nstaff (id int, name text, room int, primary key (id)) rows 1 blocks 1\n1 tables\n", ""))
+
+    def test_errors_have_a_caret_and_what_to_write(self) -> None:
+        status, _, told = self.shell(STAFF + "ask select id from staff\n where 7 = id;\nSELECT id FROM staff;\n")
+        self.assertEqual((status, lines(told)), (1, [
+            " where 7 = id;", "       ^", "error 2 Syntax at 32: `id = 7`: the column stands left".replace("`id", "write `id"),
+            "SELECT id FROM staff;", "^^^^^^", "error 2 Syntax at 0: words in lower case: `create table staff (id int, primary key (id));`"]))
+
+    def test_copy_from_is_told_before_it_swallows_anything(self) -> None:
+        status, out, told = self.shell(STAFF + "copy staff from 'x.csv';\nask exists from staff;\ncopy -- here\n staff;\n1,a,2\n\\.\nask exists from staff;\n")
+        self.assertEqual((status, lines(out)), (1, ["created staff", "0 rows", "copied 1", "()", "1 rows"]))
+        self.assertIn("write `copy staff;`", told)
+
+    def test_load_save_and_describe(self) -> None:
+        self.file("a.csv", "id,credit\n1,9.50\n")
+        self.file("bad.csv", "id,credit\n,1\n")
+        status, out, told = self.shell("\\load --table t --key id --decimal credit:2 a.csv\n\\load --table t bad.csv --key id\n\\d\n\\d t\n\\save 'my state'\n")
+        self.assertEqual(lines(out), ["loaded 1 rows into t", "t (id int, credit int, primary key (id)) rows 1 blocks 1", "1 tables",
+                                      "t (id int, credit int, primary key (id)) rows 1 blocks 1", "saved my state"])
+        self.assertEqual((status, told), (1, "bad.csv:2: the key id is empty\nnothing is loaded\n"))
+        self.assertEqual(self.shell("ask select credit from t;\n", "my state"),
+                         (0, "(950)\n1 rows\n", "note: credit is shown as it is stored, times 100\n"))
+
+    def test_bytes_that_are_no_text(self) -> None:
+        status, out, told = self.command("shell", stdin=STAFF.encode() + b"insert into staff values (1, 'M\xe4rta', 2);\ncopy staff;\n1,M\xe4rta,2\n\\.\nshow tables;\n")
+        self.assertEqual((status, lines(out)[0], lines(out)[-1]), (1, "created staff", "1 tables"))
+        self.assertIn("error 1 BadByte at 31", told)
+        self.assertIn("error 19 BadCsv record 1: name isn't UTF-8", told)
+
+    def test_ends_and_unknown_commands(self) -> None:
+        for word in ("\\q", "quit", "exit;", "quit;"):
+            self.assertEqual(self.shell(word + "\nask exists from nothing;\n"), (0, "", ""))
+        for word in ("\\nothing", ".tables", "\\save", "\\load --nothing", "\\load --table t", "help \""):
+            self.assertEqual(self.shell(word + "\nshow tables;\n")[1], "0 tables\n")
+        self.assertIn("error 15 Unfinished: the text that begins here has no end", self.shell("ask exists from t where a = 'x\n")[2])
+        self.assertEqual(self.shell("", "nothing.cqa")[0], 1)
+        self.assertIn("copy NAME;", self.shell("help copy\n")[1])
+
+    def test_prompts_and_completion(self) -> None:
+        with Session() as session, contextlib.redirect_stdout(io.StringIO()):
+            shell = Shell(session)
+            self.assertEqual(shell.prompt, "cqa> ")
+            for line, prompt in (("create table staff", "  ..> "), (" (id int, name text, primary key (id)); -- it's", "cqa> "), ("insert into staff values (1, 'a", "'..> "),
+                                 ("b;", "'..> "), ("c');", "cqa> "), ("copy staff;", "copy> "), ("2,it's;", "copy> "), ("\\.", "cqa> "), ("-- a comment", "cqa> ")):
+                self.assertTrue(shell.take(line))
+                self.assertEqual(shell.prompt, prompt, line)
+            self.assertEqual(shell.complete("na"), ["name"])
+            self.assertIn("staff", shell.complete("st"))
+            self.assertIn("\\load", shell.complete("\\l"))
+            self.assertTrue(shell.take("ask exists"))
+            shell.drop()
+            self.assertEqual(shell.prompt, "cqa> ")
+
+
+class AtATerminal(ProgramCase):
+    def setUp(self) -> None:
+        super().setUp()
+        self.master, slave = pty.openpty()
+        environment = dict(os.environ, PYTHONPATH=os.path.dirname(support.HERE), CQA_PROGRAM=PROGRAM or "", CQA_HISTORY=self.path("history"), TERM="dumb")
+        self.child = subprocess.Popen([sys.executable, "-m", "cqa", "shell"], stdin=slave, stdout=slave, stderr=slave, env=environment, cwd=self.folder,
+                                      start_new_session=True)
+        os.close(slave)
+        self.addCleanup(self.child.wait)
+        self.addCleanup(self.child.kill)
+        self.addCleanup(os.close, self.master)
+
+    def until(self, wanted: str) -> str:
+        """What is shown, up to a text that has to come within some seconds."""
+        shown, end = "", time.monotonic() + 60
+        while wanted not in shown:
+            ready = select.select([self.master], [], [], max(0, end - time.monotonic()))[0]
+            self.assertTrue(ready, "%r isn't shown, but %r" % (wanted, shown))
+            shown += os.read(self.master, 4096).decode()
+        return shown
+
+    def type(self, text: str) -> None:
+        """Types a text."""
+        os.write(self.master, text.encode())
+
+    def test_prompts_history_and_ctrl_c(self) -> None:
+        self.until("cqa> ")
+        self.type("create table staff (id int, name text, primary key (id));\n")
+        self.until("created staff\r\ncqa> ")
+        self.type("insert into staff\n")
+        self.until("  ..> ")
+        self.type("values (1, 'it\n")
+        self.until("'..> ")
+        self.child.send_signal(signal.SIGINT)
+        self.until("cqa> ")
+        self.type("show tables;\n")
+        self.assertIn("rows 0 blocks 0", self.until("1 tables\r\ncqa> "))
+        self.type("\x10\n")
+        self.until("1 tables\r\ncqa> ")
+        self.type("copy staff;\n")
+        self.until("copy> ")
+        self.type("1,se\tq\n\\.\n")
+        self.until("copied 1\r\ncqa> ")
+        self.type("insert into staff values (2, 'cop\ty');\n")
+        self.until("inserted 1\r\ncqa> ")
+        self.type("ask select name from sta\t;\n")
+        shown = self.until("2 rows\r\ncqa> ")
+        self.assertIn("('cop\ty')", shown.replace("     y", "\ty"))
+        self.assertIn("('se\tq')", shown.replace("     q", "\tq"))
+        self.type("\x04")
+        self.assertEqual(self.child.wait(60), 0)
+        self.assertTrue(os.path.exists(self.path("history")))
+
+
+if __name__ == "__main__":
+    unittest.main()

@@ -1,0 +1,243 @@
+"""What once ended in a wrong or an empty result with status 0: each is right now, or fails loudly."""
+
+from __future__ import annotations
+
+import os
+import re
+import sqlite3
+import subprocess
+import unittest
+import warnings
+from decimal import Decimal
+
+from support import TOP, Case, ProgramCase, lines
+
+import cqa
+
+GOOD = 'id,name,city\n1,Ada,Oslo\n2,Bo,Bergen\n3,"Moe, Cy",Hamar\n'
+BROKEN = "id,name,city\n1,Ada,Bergen\n,Nobody,Voss\n2,Bo,Stavanger\n"
+BY_HAND = "create table customer (id int, name text, city text, shop text, primary key (id));\n"
+
+
+class TwoLists(ProgramCase):
+    def recipe(self, script: str) -> "tuple[int, str, str]":
+        """Runs lines of a shell in the test's folder, with `./cqa` there."""
+        if not os.path.exists(self.path("cqa")):
+            os.symlink(os.path.join(TOP, "cqa"), self.path("cqa"))
+        ran = subprocess.run(["bash", "-c", script], cwd=self.folder, stdout=subprocess.PIPE, stderr=subprocess.PIPE, timeout=60, check=False)
+        return ran.returncode, ran.stdout.decode(), ran.stderr.decode()
+
+    LOAD = "./cqa load --table customer --key id --source A=A.csv --source B=B.csv >load.cqa || exit\n"
+
+    def test_no_list_no_word_of_no_conflict(self) -> None:
+        self.file("A.csv", GOOD)
+        self.file("B.csv", BROKEN)
+        status, out, told = self.recipe(self.LOAD + "./cqa conflicts load.cqa customer")
+        self.assertEqual((status, out), (1, ""))
+        self.assertIn("B.csv:3: the key id is empty", told)
+        self.file("load.cqa", BY_HAND + "copy customer;\n1,Ada,Oslo,A\n\\.\ncopy customer;\n1,Ada,Bergen,B\n,Nobody,Voss,B\n\\.\n")
+        status, out, told = self.recipe("./cqa conflicts load.cqa customer")
+        self.assertEqual((status, out), (1, ""))
+        self.assertIn("load.cqa:7: error 19 BadCsv record 2: id is empty", told)
+
+    def test_no_list_no_clean_list(self) -> None:
+        self.file("A.csv", GOOD)
+        self.file("B.csv", BROKEN)
+        self.file("ask.cqa", "delete from customer where id = 1 and source = 'A';\nask select id, name, city from customer;\n")
+        status, out, _ = self.recipe(self.LOAD + "./cqa csv load.cqa ask.cqa -o clean.csv")
+        self.assertEqual((status, out, os.path.exists(self.path("clean.csv"))), (1, "", False))
+
+    def test_a_list_without_its_last_line_feed(self) -> None:
+        self.file("A.csv", GOOD[:-1])
+        self.file("B.csv", BROKEN.replace(",Nobody,Voss\n", "")[:-1])
+        status, out, _ = self.recipe(self.LOAD + "./cqa conflicts load.cqa customer")
+        self.assertEqual((status, lines(out)), (0, ["customer: 3 keys, 2 in conflict: city 2", "1  city: Bergen (B) | Oslo (A)", "2  city: Bergen (A) | Stavanger (B)"]))
+
+    def test_an_unclosed_quote_swallows_no_record(self) -> None:
+        self.file("A.csv", 'id,name\n1,Ada Holm\n2,"Bo Lind\n3,Cy Moe\n4,Dag Vik\n')
+        status, out, told = self.recipe("./cqa load --table customer --key id A.csv")
+        self.assertEqual((status, out), (1, ""))
+        self.assertIn("A.csv:3: a quote is opened here and never closed", told)
+        block = 'create table customer (id int, name text, primary key (id));\ncopy customer;\n1,Ada Holm\n2,"Bo Lind\n3,Cy Moe\n4,%s\n\\.\nask select id from customer;\n'
+        for last, cause in (("Dag Vik", "a quote is opened here and never closed"), ('"Dag Vik"', "something stands behind a closing quote")):
+            self.file("s.cqa", block % last)
+            status, out, told = self.recipe("./cqa run s.cqa")
+            self.assertEqual((status, out, told), (1, "created customer\n0 rows\n", "s.cqa:4: error 19 BadCsv record 2: %s\n" % cause))
+
+    def test_headers_are_looked_at(self) -> None:
+        self.file("A.csv", GOOD)
+        self.file("B.csv", "id,city,name\n1,Oslo,Ada\n")
+        self.assertEqual(self.recipe(self.LOAD + "./cqa conflicts load.cqa customer")[1], "customer: 3 keys, 0 in conflict\n")
+        os.unlink(self.path("B.csv"))
+        status, out, told = self.recipe(self.LOAD + "./cqa conflicts load.cqa customer")
+        self.assertEqual((status, out), (1, ""))
+        self.assertIn("B.csv: no such file or directory", told)
+
+    def test_csv_of_an_answer_has_no_forged_rows_and_drops_no_error(self) -> None:
+        made = "create table note (id int, body text, primary key (id));\ninsert into note values (1, 'x\n(99, 100)\ny');\n"
+        self.file("s.cqa", made + "ask select id from note where id = 5;\nask select id, body from note;\n")
+        self.assertEqual(self.recipe("./cqa csv s.cqa"), (0, 'id,body\n1,"x\n(99, 100)\ny"\n', ""))
+        self.file("s.cqa", made + "ask select idd from note;\n")
+        status, out, told = self.recipe("./cqa csv s.cqa")
+        self.assertEqual((status, out), (1, ""))
+        self.assertIn("s.cqa:5: error 6 UnknownColumn idd", told)
+
+    def test_asks_behind_a_refused_load_can_be_stopped(self) -> None:
+        self.file("s.cqa", BY_HAND + "copy customer;\n1,Ada,Oslo,A\n\\.\ncopy customer;\n,x,y,B\n\\.\nask select id, city from customer;\n")
+        status, out, told = self.recipe("./cqa run --stop s.cqa")
+        self.assertEqual((status, out), (1, "created customer\ncopied 1\n"))
+        self.assertEqual(len(lines(told)), 1)
+
+    def test_decimals_compare_as_numbers(self) -> None:
+        self.file("A.csv", "id,credit\n1,900.00\n2,1200.50\n3,2500.0\n")
+        self.file("B.csv", "id,credit\n3,2500.00\n")
+        status, out, told = self.recipe("./cqa load --table customer --key id --source A=A.csv --source B=B.csv >load.cqa")
+        self.assertIn("credit holds numbers and is text", told)
+        with cqa.Session() as db:
+            db.load("customer", {"A": self.path("A.csv"), "B": self.path("B.csv")}, key="id", decimal={"credit": 2})
+            self.assertEqual(db.certain("select id, credit from customer where credit >= 1000.00"), [(2, Decimal("1200.50")), (3, Decimal("2500.00"))])
+            self.assertEqual(len(db.conflicts("customer")), 0)
+
+    def test_a_time_with_an_offset_is_refused(self) -> None:
+        self.file("A.csv", "id,ts\n1,2026-03-01T00:10:00+01:00\n")
+        status, out, told = self.recipe("./cqa load --table reading --key id --time ts A.csv")
+        self.assertEqual((status, out), (1, ""))
+        self.assertIn("A.csv:2: ts:", told)
+
+    def test_a_missing_field_is_told_unless_somebody_chose(self) -> None:
+        self.file("A.csv", "id,name,email\n1,Ada,\n")
+        self.file("B.csv", "id,name,email\n1,Ada,ada@example.no\n")
+        self.assertEqual(self.recipe(self.LOAD)[:2], (1, ""))
+        wanted = {"keep": "id,email\n", "drop": "id,email\n1,ada@example.no\n"}
+        self.file("q.cqa", "ask select id, email from customer;")
+        for choice, answer in wanted.items():
+            load = self.LOAD.replace("load ", "load --missing %s " % choice)
+            self.assertEqual(self.recipe(load + "./cqa csv load.cqa q.cqa")[:2], (0, answer))
+
+    def test_a_state_is_kept_and_whole(self) -> None:
+        self.file("A.csv", GOOD)
+        with cqa.Session() as db:
+            db.load("customer", self.path("A.csv"), key="id")
+            db.run("create table note (id int, primary key (id)); insert into note values (1);")
+            db.save(self.path("state.cqa"))
+        self.assertEqual(self.command("run", "state.cqa"), (0, "created customer\ncopied 3\ncreated note\ncopied 1\n", ""))
+
+
+class EverySender(ProgramCase):
+    """A block whose quote has no end is refused wherever a statement is sent."""
+
+    UNENDED = 'create table c (id int, name text, primary key (id));\ncopy c;\n1,"a"b\n2,"Bo\n3,Cy\n4,"Dag"\n\\.\nask select id from c;\n'
+
+    def test_in_python(self) -> None:
+        with cqa.Session() as db, self.assertRaises(cqa.Refused) as caught:
+            db.run(self.UNENDED)
+        self.assertIn("error 19 BadCsv record 1", str(caught.exception))
+        with cqa.Session() as db:
+            db.tell("create table c (id int, name text, primary key (id));")
+            with self.assertRaises(cqa.Refused):
+                db.tell('copy c;\n2,"Bo\n3,Cy\n4,"Dag"\n\\.\n')
+            self.assertEqual(db.rows("c"), [])
+
+    def test_in_the_shell_and_in_states(self) -> None:
+        status, out, told = self.command("shell", stdin=self.UNENDED.encode())
+        self.assertEqual((status, lines(out)), (1, ["created c", "0 rows"]))
+        self.assertIn("error 19 BadCsv record 1: something stands behind a closing quote", told)
+        state = self.file("state", "-- cqa state: kept by the Python package; it is a script, and its last line tells its size\n"
+                          + self.UNENDED + "-- cqa state: 1 tables, 1 rows\n")
+        with self.assertRaises(cqa.Refused):
+            cqa.Session.restored(state)
+
+
+class Comments(ProgramCase):
+    """What the comments of scripts say of columns."""
+
+    def test_scripts_one_after_the_other_in_a_file(self) -> None:
+        first = "-- cqa: column m.kilde has the sources\ncreate table m (id int, kilde text, primary key (id));\ninsert into m values (1, 'a'), (1, 'b');\n"
+        second = ("-- cqa: column n.id has 2 places\n-- cqa: column n.kilde has the sources\ncreate table n (id int, name text, kilde text, primary key (id));\n"
+                  "copy n;\n100,a,x\n100,b,y\n\\.\ninsert into m values (2, '\n-- cqa: column m.id has 1 places\n');\n")
+        wanted = "n: 1 key, 1 in conflict: name 1\n1.00  name: a (x) | b (y)\n"
+        self.file("a.cqa", first)
+        self.file("b.cqa", second)
+        self.file("both.cqa", first + second)
+        self.assertEqual(self.command("conflicts", "both.cqa"), (0, "m: 2 keys, 0 in conflict\n" + wanted, ""))
+        self.assertEqual(self.command("conflicts", "a.cqa", "b.cqa", "n"), (0, wanted, ""))
+        self.assertEqual(self.command("conflicts", "a.cqa", "n")[::2], (1, "cqa conflicts: no table n in a.cqa\n"))
+
+
+class ColumnsWithPlaces(ProgramCase):
+    """A column with places is stored as int: what speaks of it either means what it says, or is told."""
+
+    def setUp(self) -> None:
+        super().setUp()
+        self.list = self.file("A.csv", "id,credit\n1,900.00\n2,1200.50\n3,2500.00\n")
+        self.db = cqa.Session()
+        self.addCleanup(self.db.close)
+        self.db.load("c", self.list, key="id", decimal={"credit": 2})
+
+    def test_numbers_with_a_point_are_scaled(self) -> None:
+        with warnings.catch_warnings():
+            warnings.simplefilter("error")
+            self.assertEqual(self.db.certain("select id, credit from c where credit >= 1000.00"), [(2, Decimal("1200.50")), (3, Decimal("2500.00"))])
+            self.assertEqual(self.db.certain("select id from c where c . credit = 1200.5 -- credit = 1.5\n and id <> 7;"), [(2,)])
+            self.assertEqual(self.db.possible("select id from c where credit > 0"), [(1,), (2,), (3,)])
+            self.assertEqual(self.db.delete("c", "credit < 1000.0"), 1)
+            with self.assertRaises(ValueError):
+                self.db.certain("select id from c where credit > 1.005")
+
+    def test_numbers_without_one_are_told(self) -> None:
+        with self.assertWarnsRegex(cqa.ScaleWarning, "credit is stored times 100: 1000 stands for 10.00 here; write 1000.00 for 1000") as caught:
+            self.assertEqual(len(self.db.certain("select id from c where credit >= 1000")), 3)
+        self.assertEqual(os.path.basename(caught.filename), os.path.basename(__file__))
+        for speaks in (lambda: self.db.delete("c", "credit < 10"), lambda: self.db.tell("ask select id from c where credit = 7"),
+                       lambda: self.db.run("insert into c values (9, 12);")):
+            with self.assertWarns(cqa.ScaleWarning):
+                speaks()
+
+    def test_rows_are_inserted_as_they_are_given(self) -> None:
+        self.db.insert("c", [(4, 12), (5, Decimal("12.5")), *self.db.rows("c")])
+        self.assertEqual(self.db.certain("select credit from c where id > 3"), [(Decimal("12.00"),), (Decimal("12.50"),)])
+        for wrong in (12.5, None, True):
+            with self.assertRaises(TypeError):
+                self.db.insert("c", [(6, wrong)])  # type: ignore[list-item]
+        for number in ("1.005", "NaN", "1e-3"):
+            with self.assertRaises(ValueError):
+                self.db.insert("c", [(6, Decimal(number))])
+        self.assertEqual(len(self.db.rows("c")), 5)
+
+    def test_explanations_and_joins(self) -> None:
+        self.db.insert("c", [(1, 7)])
+        told = self.db.explain((Decimal("900.00"),), "select credit from c")
+        self.assertEqual([row for table, row in told.kept if row[0] == 1], [(1, Decimal("7.00"))])
+        self.db.run("create table a (id int, amt int, primary key (id));")
+        with self.assertWarnsRegex(cqa.ScaleWarning, "c.credit and a.amt are compared as they are stored, times 100 and times 1"):
+            self.db.certain("exists from a, c where c.credit = a.amt")
+
+    def test_scripts_are_told(self) -> None:
+        told = self.command("load", "--table", "c", "--key", "id", "--decimal", "credit:2", "A.csv", "-o", "load.cqa")[2]
+        self.assertIn("cqa load: credit is stored times 100: statements write 1000 as 100000\n", told)
+        self.file("q.cqa", "ask select id, credit from c where credit >= 1000;\ninsert into c values (4, 12);\nask select id from c where credit > 10.5;\n")
+        test = "q.cqa:1: note: credit is stored times 100: 1000 stands for 10.00 here; 1000.00 is written 100000"
+        insert = "q.cqa:2: note: c.credit is stored times 100: statements write 1000 as 100000"
+        third = ["q.cqa:3: note: credit is stored times 100: 10.5 is written 1050", "q.cqa:3: error 2 Syntax at 38"]
+        shown = "q.cqa:1: note: credit is shown as it is stored, times 100"
+        self.assertEqual(lines(self.command("run", "load.cqa", "q.cqa")[2]), [test, shown, insert, *third])
+        self.assertEqual(lines(self.command("csv", "load.cqa", "q.cqa")[2])[:-1], [test, insert, *third])
+        told = self.command("shell", "load.cqa", stdin=b"ask select id, credit from c where credit >= 1000;\n")[2]
+        self.assertEqual(lines(told), [test.replace("q.cqa:1: ", ""), shown.replace("q.cqa:1: ", "")])
+
+
+class Elsewhere(Case):
+    def test_the_readmes_sql_by_hand_is_plain_sql(self) -> None:
+        with open(os.path.join(TOP, "README.md"), encoding="utf-8") as file:
+            text = file.read()
+        found = re.search(r"`(select distinct max\(name\).*?)`", text, flags=re.S)
+        assert found is not None
+        self.assertIsNone(re.search(r"min\(city", found[1]), "a comparison is no number for PostgreSQL")
+        with sqlite3.connect(":memory:") as engine:
+            engine.execute("create table customer (id int, name text, city text)")
+            engine.executemany("insert into customer values (?, ?, ?)", [(1, "Ada", "Oslo"), (1, "Ada", "Bergen"), (2, "Bo", "Oslo"), (2, "Bo", "Oslo"), (3, "Cy", "Oslo"), (3, "Si", "Oslo")])
+            self.assertEqual(engine.execute(found[1]).fetchall(), [("Bo",)])
+
+
+if __name__ == "__main__":
+    unittest.main()
