@@ -41,7 +41,7 @@ def main(words: Sequence[str]) -> int:
         return 130
     except Ended as fault:
         print("cqa %s: %s" % (words[0], fault), file=sys.stderr)
-        return fault.status if fault.status > 0 else 1
+        return fault.status or 1 if fault.status >= 0 else 128 - fault.status
     except NotBuilt as fault:
         print("cqa %s: %s" % (words[0], fault), file=sys.stderr)
         return 127

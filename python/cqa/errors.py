@@ -71,6 +71,10 @@ class Ended(CqaError):
         super().__init__("%s: status %d: %s" % (program, status, cause))
 
 
+class Closed(CqaError):
+    """The session was closed or interrupted, or its program ended before."""
+
+
 class ReadingFailed(Ended):
     """Status 3: reading the input failed."""
 

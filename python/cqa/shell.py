@@ -228,6 +228,7 @@ def _patience() -> Iterator[None]:
     count = 0
 
     def interrupted(number: int, frame: Optional[FrameType]) -> None:
+        """Counts; the second time it raises."""
         nonlocal count
         count += 1
         if count > 1:
@@ -280,8 +281,7 @@ def _by_hand(shell: Shell) -> None:
     print("cqa: statements end with ; (help, \\? and \\q are there)")
     while True:
         try:
-            if not shell.take(input(shell.prompt)):
-                return
+            line = input(shell.prompt)
         except EOFError:
             print()
             shell.end()
@@ -289,6 +289,9 @@ def _by_hand(shell: Shell) -> None:
         except KeyboardInterrupt:
             print()
             shell.drop()
+            continue
+        if not shell.take(line):
+            return
 
 
 def main(arguments: Sequence[str]) -> int:

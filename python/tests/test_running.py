@@ -6,8 +6,9 @@ import os
 import stat
 import subprocess
 import unittest
+from unittest import mock
 
-from support import TOP, Case, ProgramCase, lines
+from support import PROGRAM, TOP, Case, ProgramCase, lines
 
 from cqa.habits import HABITS, advice_for
 from cqa.places import place_of
@@ -111,6 +112,28 @@ class Places(ProgramCase):
         self.assertEqual(place.caret(), "ask select é from staff;\n           ^")
         script = b"ask exists\n\tfrom staff wehre id = 1;"
         self.assertEqual(place_of(script, next(statements(script)), "error 2 Syntax at 23", {}).caret(), "\tfrom staff wehre id = 1;\n\t           ^^^^^")
+
+
+class Dying(ProgramCase):
+    """A program that dies while statements are sent and replies are read."""
+
+    def test_a_program_that_dies_in_the_middle(self) -> None:
+        script = "create table t (a int, b text, primary key (a));\n" + "".join("insert into t values (%d, '%s');\nask select a, b from t where a = %d;\n"
+                                                                              % (at, "x" * 60, at) for at in range(8_000))
+        self.file("many.cqa", script)
+        program = self.file("dies.sh", "#!/bin/sh\n'%s' run | head -c 29000\nkill -9 $$\n" % PROGRAM)
+        os.chmod(program, 0o755)
+        for _ in range(4):
+            status, out, told = self.command("run", "many.cqa", program=program)
+            self.assertEqual((status, told), (128 + 9, "cqa run: %s: status -9: signal 9 ended it\n" % program))
+            self.assertTrue(out.startswith("created t\ninserted 1\n"))
+
+    def test_what_the_sending_raises_is_told(self) -> None:
+        path = self.file("s.cqa", "show tables;\n")
+        child = Child()
+        with mock.patch("cqa.running.fault_of", side_effect=MemoryError), self.assertRaises(MemoryError):
+            list(run_files([ScriptFile(path)], child, False))
+        child.kill()
 
 
 class Runs(ProgramCase):

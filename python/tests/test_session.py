@@ -160,8 +160,12 @@ class Ends(ProgramCase):
             with self.assertRaises(KeyboardInterrupt):
                 db.certain("select id from staff")
             del db._child.reply
-            with self.assertRaises(cqa.Ended):
+            with self.assertRaisesRegex(cqa.Closed, "the session was interrupted"):
                 db.certain("select name from staff")
+        with Session() as other:
+            pass
+        with self.assertRaisesRegex(cqa.Closed, "the session is closed"):
+            other.certain("select name from staff")
 
     def test_threads_wait_for_each_other(self) -> None:
         with Session() as db:
@@ -299,7 +303,7 @@ class Lists(ProgramCase):
         with self.assertRaises(OSError):
             self.db.save(self.path("no/folder/state.cqa"))
         self.db.close()
-        with self.assertRaises(cqa.Ended):
+        with self.assertRaises(cqa.Closed):
             self.db.save(self.path("state.cqa"))
         self.assertEqual(self.read("state.cqa"), "old")
         self.assertEqual(sorted(os.listdir(self.folder)), ["crm.csv", "shop.csv", "state.cqa"])

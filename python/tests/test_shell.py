@@ -86,8 +86,12 @@ class ByLines(ProgramCase):
 class AtATerminal(ProgramCase):
     def setUp(self) -> None:
         super().setUp()
+        self.start(PROGRAM or "")
+
+    def start(self, program: str) -> None:
+        """Starts the shell with a program."""
         self.master, slave = pty.openpty()
-        environment = dict(os.environ, PYTHONPATH=os.path.dirname(support.HERE), CQA_PROGRAM=PROGRAM or "", CQA_HISTORY=self.path("history"), TERM="dumb")
+        environment = dict(os.environ, PYTHONPATH=os.path.dirname(support.HERE), CQA_PROGRAM=program, CQA_HISTORY=self.path("history"), TERM="dumb")
         self.child = subprocess.Popen([sys.executable, "-m", "cqa", "shell"], stdin=slave, stdout=slave, stderr=slave, env=environment, cwd=self.folder,
                                       start_new_session=True)
         os.close(slave)
@@ -135,6 +139,18 @@ class AtATerminal(ProgramCase):
         self.type("\x04")
         self.assertEqual(self.child.wait(60), 0)
         self.assertTrue(os.path.exists(self.path("history")))
+
+    def test_the_second_ctrl_c_ends_the_session(self) -> None:
+        slow = self.file("slow.sh", "#!/bin/sh\nread line; echo '0 tables'; echo 'error 2 Syntax at 0'; exec sleep 100\n")
+        os.chmod(slow, 0o755)
+        self.start(slow)
+        self.until("cqa> ")
+        self.type("ask exists from t;\n")
+        time.sleep(0.3)
+        self.child.send_signal(signal.SIGINT)
+        self.until("Ctrl-C again ends the session")
+        self.child.send_signal(signal.SIGINT)
+        self.assertEqual(self.child.wait(20), 130)
 
 
 if __name__ == "__main__":
