@@ -114,12 +114,12 @@ class Column:
                     % (self.name, self.name, self._most_places, mark, most)]
         return [self.note] if self.kind == "text" and self.note else []
 
-    def faults(self) -> List[str]:
-        """What is wrong with the column once all lists are read."""
+    def faults(self) -> List[Tuple[str, int, str]]:
+        """What is wrong with the column once all lists are read: the list, the line, and what to say."""
         if self.kind != "int":
             return []
-        return ["%s:%d: %s: %s is out of the range of int, 64 bits; --text %s takes the column as text"
-                % (path, line, self.name, _shortened(field), self.name) for path, line, field in self._too_great]
+        return [(path, line, "%s: %s is out of the range of int, 64 bits; --text %s takes the column as text"
+                 % (self.name, _shortened(field), self.name)) for path, line, field in self._too_great]
 
 
 class TextColumn(Column):

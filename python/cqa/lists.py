@@ -12,7 +12,7 @@ import unicodedata
 from dataclasses import dataclass, field
 from functools import partial
 from itertools import chain, repeat
-from typing import IO, Callable, Iterable, Iterator, List, Mapping, Optional, Protocol, Sequence, TextIO, Tuple, TypeVar, Union
+from typing import IO, Callable, Dict, Iterable, Iterator, List, Mapping, Optional, Protocol, Sequence, TextIO, Tuple, TypeVar, Union
 
 from .columns import Column, DecimalColumn, TextColumn, TimeColumn, csv_fault
 from .scripts import Schema, row_text
@@ -23,6 +23,10 @@ _PIECE = 5_000
 #: Letters of a line that are read at once: a longer line is no record of a table, and is told as several that are wrong.
 _LONGEST_LINE = 1_000_000
 _MOST_APART = 10_000
+_MOST_ALIKE = 10
+_SEPARATOR = re.compile(r"sep=([^\r\n])\r?\n")
+_NAME = re.compile(r"[A-Za-z_][A-Za-z0-9_]*")
+_VALUES = re.compile(r"'(?:[^'\\]|\\.)*'|\"(?:[^\"\\]|\\.)*\"|[0-9][0-9,]*")
 _Item = TypeVar("_Item")
 _ENDS_BLOCK = re.compile(r"\n\\\.\r?\n")
 _PLAIN_LETTERS = str.maketrans(
@@ -39,6 +43,7 @@ class ListOptions:
     those that lists have. decimal_mark: "." or ",".
     missing: what becomes of a record with an empty field outside the key: "refuse", "keep" (the empty text is a value) or "drop".
     source_column: the name of the column that says from which list a row is. strip: whether blanks at the ends of fields are left out.
+    skip: the number of lines above the header.
     """
 
     table: str
@@ -55,6 +60,22 @@ class ListOptions:
     strict: bool = False
     source_column: str = "source"
     strip: bool = False
+    skip: int = 0
+
+    def __post_init__(self) -> None:
+        """Raises ValueError where an option tells nothing."""
+        for what, name in (("table", self.table), ("source column", self.source_column), *(("new name", new) for new in self.renamed.values())):
+            if not _NAME.fullmatch(name) or len(name) > MOST_NAME:
+                raise ValueError("the %s %r is no name: letters, digits and _ are wanted" % (what, name))
+        if len(self.delimiter) > 1 or self.delimiter and self.delimiter in '"\r\n':
+            raise ValueError("the delimiter is one letter, and not %r" % self.delimiter)
+        for name, places in self.decimals.items():
+            if not isinstance(places, int) or not 0 <= places <= 18:
+                raise ValueError("%s: a number of places from 0 to 18 is wanted, and not %r" % (name, places))
+        if self.decimal_mark not in (".", ","):
+            raise ValueError("the decimal mark is . or , and not %r" % self.decimal_mark)
+        if self.missing not in ("refuse", "keep", "drop"):
+            raise ValueError("missing is refuse, keep or drop, and not %r" % self.missing)
 
 
 class _Reader(Protocol):
@@ -74,6 +95,10 @@ def word_of(header: str) -> str:
     return "c_" + word if word[:1].isdigit() else "primary_" if word == "primary" else word
 
 
+class _ReadFault(Exception):
+    """A list can't be read, and why."""
+
+
 class Lists:
     """The lists of one table. `add` reads one after the other, and then `end` tells what only all together show; where there are no
     faults, `schema` is the table and `finish_blocks` completes the file of its blocks."""
@@ -86,6 +111,9 @@ class Lists:
         self.dropped = 0
         self.faults = 0
         self._notes: List[str] = []
+        self._alike: Dict[Tuple[str, str], int] = {}  # by list and cause, how many faults there are
+        self._last_alike: Dict[Tuple[str, str], int] = {}  # and the line of the last one that was told
+        self._header_line = 1
         self._fault = fault
         self._told: List[Tuple[int, str]] = []
         self._is_in_piece = False
@@ -98,11 +126,24 @@ class Lists:
         self._apart: List[Tuple[str, ...]] = []
 
     def tell(self, path: str, line: Optional[int], text: str) -> None:
-        """Tells a fault. Those of a piece are told in the order of their lines, behind it."""
+        """Tells a fault, if not too many are like it. Those of a piece are told in the order of their lines, behind it."""
         self.faults += 1
-        self._told.append((line or 0, "%s: %s" % (path if line is None else "%s:%d" % (path, line), text)))
+        is_of_encoding = "isn't UTF-8" in text
+        kind = path, "UTF-8" if is_of_encoding else _VALUES.sub("", text)
+        self._alike[kind] = self._alike.get(kind, 0) + 1
+        if self._alike[kind] <= (1 if is_of_encoding else _MOST_ALIKE):
+            self._told.append((line or 0, "%s: %s" % (path if line is None else "%s:%d" % (path, line), text)))
+            self._last_alike[kind] = line or 0
         if not self._is_in_piece:
             self._tell_all()
+
+    def _tell_counts(self) -> None:
+        """Tells how many faults weren't told, for being like others."""
+        for kind, count in self._alike.items():
+            more = count - (1 if kind[1] == "UTF-8" else _MOST_ALIKE)
+            if more > 0:
+                self._fault("%s: and %d more like that of line %d" % (kind[0], more, self._last_alike[kind]))
+        self._alike.clear()
 
     def _tell_all(self) -> None:
         for _, fault in sorted(self._told, key=lambda told: told[0]):
@@ -110,24 +151,33 @@ class Lists:
         self._told.clear()
 
     def add(self, path: str, source: Optional[str]) -> None:
-        """Reads a list. source: what the rows have in the column of sources; None where there is no such column."""
+        """Reads a list. source: what the rows have in the column of sources; None where there is no such column. Raises OSError where
+        the file of blocks can't be written."""
         try:
-            with open(path, "rb") as raw:
-                before = os.fstat(raw.fileno())
-                codecs.lookup(self.options.encoding)
-                before_it = self.records
-                self._read(path, source, self._decoded(path, raw))
-                self.counts.append((source or path, self.records - before_it))
-                after = os.fstat(raw.fileno()) if not raw.closed else before
+            raw = open(path, "rb")
         except OSError as fault:
             self.tell(path, None, (fault.strerror or str(fault)).lower())
+            return
+        with raw:
+            try:
+                self._add(path, source, raw)
+            except _ReadFault as fault:
+                self.tell(path, None, str(fault))
+        self._tell_counts()
+
+    def _add(self, path: str, source: Optional[str], raw: io.BufferedReader) -> None:
+        try:
+            codecs.lookup(self.options.encoding)
         except LookupError:
-            self.tell(path, None, "no encoding is called %s" % self.options.encoding)
-        except UnicodeError as fault:
-            self.tell(path, None, "it isn't written in %s: %s" % (self.options.encoding, fault))
-        else:
-            if stat.S_ISREG(before.st_mode) and (before.st_size, before.st_mtime_ns) != (after.st_size, after.st_mtime_ns):
-                self.tell(path, None, "it changed while it was read")
+            raise _ReadFault("no encoding is called %s" % self.options.encoding) from None
+        before, records = os.fstat(raw.fileno()), self.records
+        text = self._decoded(path, raw)
+        self._read(path, source, text)
+        self.counts.append((source or path, self.records - records))
+        after = os.fstat(raw.fileno())
+        if stat.S_ISREG(before.st_mode) and (before.st_size, before.st_mtime_ns) != (after.st_size, after.st_mtime_ns):
+            self.tell(path, None, "it changed while it was read")
+        text.detach()
 
     def _decoded(self, path: str, raw: io.BufferedReader) -> io.TextIOWrapper:
         """A list as text. One that is UTF-8 with a letter beyond ASCII is read so, whatever encoding was told."""
@@ -141,23 +191,60 @@ class Lists:
         return io.TextIOWrapper(raw, encoding=encoding, newline="")
 
     def _read(self, path: str, source: Optional[str], text: io.TextIOWrapper) -> None:
-        first = text.readline(_LONGEST_LINE)
-        rest = iter(partial(text.readline, _LONGEST_LINE), "")
-        reader = csv.reader(chain([first], rest), delimiter=self.options.delimiter or _delimiter_of(first), strict=True)
+        rest = self._lines(text)
+        first, delimiter, above = self._first(rest)
+        reader = csv.reader(chain(repeat("\n", above), [first], rest), delimiter=delimiter, strict=True)
         faults = self.faults
         header = self._header(path, reader)
         places = self._places(path, header, source is not None) if header else []
         if header is None or self.faults > faults:
-            text.detach()
             return
         writer = _BlockWriter(self._blocks, self.options.table, path, self._apart, self._source_place())
         for lines, rows, end in self._pieces(path, reader):
             self._is_in_piece = True
-            self._piece(path, source, places, len(header), lines, rows, writer, end)
-            self._is_in_piece = False
-            self._tell_all()
+            try:
+                self._piece(path, source, places, len(header), lines, rows, writer, end)
+            finally:
+                self._is_in_piece = False
+                self._tell_all()
         writer.end()
-        text.detach()
+
+    def _lines(self, text: io.TextIOWrapper) -> Iterator[str]:
+        """The lines of a list. Raises _ReadFault where it can't be read."""
+        try:
+            yield from iter(partial(text.readline, _LONGEST_LINE), "")
+        except OSError as fault:
+            raise _ReadFault((fault.strerror or str(fault)).lower()) from None
+        except UnicodeError as fault:
+            raise _ReadFault("it isn't written in %s: %s" % (self.options.encoding, fault)) from None
+
+    def _first(self, lines: Iterator[str]) -> Tuple[str, str, int]:
+        """The header line, what stands between the fields of a list, and how many lines stand above: those that are told, and a line
+        `sep=;` as spreadsheets write it."""
+        above = self.options.skip
+        for _ in range(above):
+            next(lines, "")
+        first = next(lines, "")
+        separator = _SEPARATOR.fullmatch(first)
+        if separator:
+            first, above = next(lines, ""), above + 1
+        return first, self.options.delimiter or (separator[1] if separator else self._delimiter_of(first)), above
+
+    def _delimiter_of(self, header: str) -> str:
+        """What stands between the fields of a header line: of four marks one by which the key is found, and else the commonest."""
+        def fit(mark: str) -> Tuple[bool, int]:
+            try:
+                names = self._words(next(csv.reader([header], delimiter=mark), []))
+            except csv.Error:
+                return False, 0
+            return bool(self._key) and set(self._key) <= {*names, self.options.source_column}, len(names)
+
+        return max(",;\t|", key=fit)
+
+    def _words(self, names: Sequence[str]) -> List[str]:
+        """The headers as names of the language."""
+        renamed = {word_of(old): new for old, new in self.options.renamed.items()}
+        return [renamed.get(word_of(name), word_of(name)) for name in names]
 
     def _header(self, path: str, reader: "_Reader") -> Optional[List[str]]:
         """The names of a list's columns, or None where they can't be had."""
@@ -169,17 +256,24 @@ class Lists:
         if names is None:
             self.tell(path, None, "it is empty, and a header line is wanted")
             return None
+        self._header_line = reader.line_num
         if any("\udc80" <= letter <= "\udcff" for name in names for letter in name):
             self.tell(path, reader.line_num, "the header isn't UTF-8; --encoding says how the list is written, as latin-1")
             return None
-        renamed = {word_of(old): new for old, new in self.options.renamed.items()}
-        words = [renamed.get(word_of(name), word_of(name)) for name in names]
+        words = self._words(names)
+        taken = None if self.options.columns is None else {*map(word_of, self.options.columns), *self._key}
         for at, (word, name) in enumerate(zip(words, names), 1):
+            if taken is not None and word not in taken:
+                continue
             if not word or len(word) > MOST_NAME:
-                self.tell(path, reader.line_num, "the header of column %d, %r, makes no name" % (at, name))
+                self.tell(path, reader.line_num, "the header of column %d, %r, makes no name: --rename %s=NAME gives it one, --columns leaves it out%s"
+                          % (at, name, name, self._skip_hint(path)))
             elif word in words[:at - 1]:
                 self.tell(path, reader.line_num, "columns %d and %d are both called %s" % (words.index(word) + 1, at, word))
         return words
+
+    def _skip_hint(self, path: str) -> str:
+        return "" if self.options.skip else "; is line %d no header? --skip 1" % self._header_line
 
     def _places(self, path: str, header: List[str], has_source: bool) -> List[int]:
         """Where in a record the taken columns stand; the columns themselves are made with the first list."""
@@ -189,16 +283,16 @@ class Lists:
             names = self._taken(path, header)
             self._columns = [self._column(name) for name in names]
         if has_source and self.options.source_column in header:
-            self.tell(path, 1, "it has a column %s itself: --source-column says what the column of sources is called"
+            self.tell(path, self._header_line, "it has a column %s itself: --source-column says what the column of sources is called"
                       % self.options.source_column)
         wanted = [column.name for column in self._columns]
         for name in wanted:
             if name not in header:
-                self.tell(path, 1, "no column %s; it has %s (--rename OLD=NEW names a column anew)" % (name, ", ".join(header)))
+                self.tell(path, self._header_line, "no column %s; it has %s (--rename OLD=NEW names a column anew)" % (name, ", ".join(header)))
         if self.options.columns is None:
             for name in header:
                 if name not in wanted and name != self.options.source_column:
-                    self.tell(path, 1, "a column %s, which %s hasn't; --columns says which are taken" % (name, self._headers[0]))
+                    self.tell(path, self._header_line, "a column %s, which %s hasn't; --columns says which are taken" % (name, self._headers[0]))
         return [header.index(name) for name in wanted if name in header]
 
     def _taken(self, path: str, header: List[str]) -> List[str]:
@@ -209,14 +303,14 @@ class Lists:
             names = [word_of(name) for name in self.options.columns] if self.options.columns is not None else list(header)
         for name in self._key:
             if name not in names and not (self._has_source and name == self.options.source_column):
-                hint = "; --delimiter says what stands between two fields" if len(header) == 1 else ""
-                self.tell(path, 1, "no column %s for the key; it has %s%s" % (name, ", ".join(header), hint))
+                self.tell(path, self._header_line, "no column %s for the key; it has %s; --delimiter says what stands between two fields, "
+                          "--skip how many lines stand above the header" % (name, ", ".join(header)))
         named = [word_of(name) for name in (*self.options.decimals, *self.options.times, *self.options.texts)]
         for name in named:
             if name not in names:
-                self.tell(path, 1, "no column %s; it has %s" % (name, ", ".join(header)))
+                self.tell(path, self._header_line, "no column %s; it has %s" % (name, ", ".join(header)))
         if len(names) + self._has_source > MOST_COLUMNS:
-            self.tell(path, 1, "%d columns, and a table has at most %d: --columns says which are taken"
+            self.tell(path, self._header_line, "%d columns, and a table has at most %d: --columns says which are taken"
                       % (len(names) + self._has_source, MOST_COLUMNS))
         return names
 
@@ -309,8 +403,8 @@ class Lists:
         self._tell_all()
         for column in self._columns:
             for fault in column.faults():
-                self.faults += 1
-                self._fault(fault)
+                self.tell(*fault)
+        self._tell_counts()
 
     def notes(self) -> List[str]:
         """What is no fault and good to know."""
@@ -419,11 +513,6 @@ def _is_utf_8(raw: io.BufferedReader) -> bool:
     finally:
         if raw.seekable():
             raw.seek(0)
-
-
-def _delimiter_of(header: str) -> str:
-    """What stands between the fields of a header line: a comma, unless it has none and has another mark that is used for it."""
-    return "," if "," in header else next((mark for mark in ";\t|" if mark in header), ",")
 
 
 def _those(values: Sequence[_Item], kept: Sequence[bool]) -> List[_Item]:

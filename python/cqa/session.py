@@ -31,7 +31,6 @@ from .scripts import (Schema, Statement, fault_of, names_from, quoted, remark_te
 NEWER = (("disputed", b"error 2 Syntax at 0\n"), ("against", b"error 2 Syntax at 0\n"), ("prove", b"error 2 Syntax at 0\n"),
          ("range", b"error 2 Syntax at 0\n"), ("prefer", b"error 2 Syntax at 0\n"), ("show conflicts", b"error 2 Syntax at 5\n"))
 
-_NAME = re.compile(r"[A-Za-z_][A-Za-z0-9_]*")
 _STATE_HEAD = "-- cqa state: kept by the Python package; it is a script, and its last line tells its size\n"
 _STATE_END = re.compile(rb"-- cqa state: (\d+) tables, (\d+) rows\n\Z")
 
@@ -162,10 +161,10 @@ class Session:
     # -- load and look ------------------------------------------------------------------------------------------------------
 
     def load(self, table: str, path: Union[str, "os.PathLike[str]", Mapping[str, Union[str, "os.PathLike[str]"]]], *,
-             key: Union[str, Sequence[str]] = (), source: Optional[str] = None, columns: Optional[Sequence[str]] = None,
-             decimal: Optional[Mapping[str, int]] = None, time: Sequence[str] = (), text: Sequence[str] = (), delimiter: str = "",
+             key: Union[str, Sequence[str]] = (), source: Optional[str] = None, columns: Union[str, Sequence[str], None] = None,
+             decimal: Optional[Mapping[str, int]] = None, time: Union[str, Sequence[str]] = (), text: Union[str, Sequence[str]] = (), delimiter: str = "",
              encoding: str = "utf-8", renamed: Optional[Mapping[str, str]] = None, decimal_mark: str = ".",
-             missing: str = "refuse", strict: bool = False, source_column: str = "source", strip: bool = False) -> int:
+             missing: str = "refuse", strict: bool = False, source_column: str = "source", strip: bool = False, skip: int = 0) -> int:
         """Loads a CSV list with a header line into a table, which is made where it isn't there, and gives the number of new rows.
 
         path: the list, or several as {"crm": "crm.csv", "shop": "shop.csv"} by their sources; the kinds of a new table's columns
@@ -174,7 +173,8 @@ class Session:
         delimiter: where it isn't told, a comma, or what the header has in its place. renamed: names of columns by those that the
         list has. time: columns of dates or of times in UTC. text: columns that are text though they hold numbers. missing: what an empty
         field outside the key is: "refuse", "keep" or "drop". strict: whether a new table takes no two rows of one key. strip: whether
-        blanks at the ends of fields are left out.
+        blanks at the ends of fields are left out. skip: how many lines stand above the header. Names of columns are a list, or one
+        text with commas.
 
         A table that is there gets the kinds and places that a further list needs: an int column becomes text where the list has
         other fields, and numbers get more places.
@@ -184,19 +184,13 @@ class Session:
         Raises LoadFault with every fault of the lists, and then nothing of them is loaded; ValueError for options that tell nothing;
         Refused where the program refuses a list (a strict table's key is taken, more rows than fit), and then those before it stay.
         """
-        if missing not in ("refuse", "keep", "drop"):
-            raise ValueError("missing is refuse, keep or drop, and not %r" % missing)
-        wanted = [key] if isinstance(key, str) else list(key)
-        options = ListOptions(table, wanted, columns, decimal or {}, time, text, delimiter, encoding, renamed or {}, decimal_mark, missing,
-                              strict, source_column, strip)
+        options = ListOptions(table, _names(key), None if columns is None else _names(columns), decimal or {}, _names(time), _names(text),
+                              delimiter, encoding, renamed or {}, decimal_mark, missing, strict, source_column, strip, skip)
         return self.load_lists(options, _sources(path, source))
 
     def load_lists(self, options: ListOptions, sources: Sequence[Source]) -> int:
         """Loads lists as options say, each with what its rows have in the column of sources, and gives the number of new rows.
         Raises as `load`."""
-        for name in (options.table, options.source_column):
-            if not _NAME.fullmatch(name):
-                raise ValueError("%r is no name" % name)
         there = self.schema(options.table)
         if there is not None and options.key and [word_of(name) for name in options.key] != there.key:
             raise ValueError("the key of %s is %s" % (options.table, ", ".join(there.key)))
@@ -498,6 +492,10 @@ def _converted(name: str, value: Union[int, str], kind: str, places: Optional[in
     if number is None or not is_in_range(number):
         faults.append("%s: %r, which was loaded before, is no number with such places" % (name, value))
     return value if number is None else number
+
+
+def _names(names: Union[str, Sequence[str]]) -> List[str]:
+    return [name for name in names.split(",") if name] if isinstance(names, str) else list(names)
 
 
 def _sources(path: Union[str, "os.PathLike[str]", Mapping[str, Union[str, "os.PathLike[str]"]]], source: Optional[str]) -> List[Source]:

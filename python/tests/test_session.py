@@ -264,6 +264,16 @@ class Lists(ProgramCase):
         self.db.load("t", self.file("one.csv", "id,name\n1,Ada\n"), source="crm")
         self.assertEqual(self.db.rows("t"), [("crm", 1, "Ada")])
 
+    def test_options_that_tell_nothing(self) -> None:
+        wrong: "list[dict]" = [{"delimiter": ";;"}, {"decimal": {"credit": -1}}, {"decimal_mark": ";"}, {"missing": "no"}, {"source_column": "Kilde Ø", "source": "a"}]
+        for options in wrong:
+            with self.subTest(options), self.assertRaises(ValueError):
+                self.db.load("m", self.crm, key="id", **options)
+        with self.assertRaises(ValueError):
+            self.db.load("m x", self.crm, key="id")
+        self.db.load("m", self.crm, key="id", columns="id,credit", text="credit")
+        self.assertEqual(self.db.certain("select credit from m where id = 3;"), [("7",)])
+
     def test_names_are_names(self) -> None:
         with self.assertRaises(ValueError):
             self.db.load("t (id int, primary key (id)); delete from customer; create table u", self.crm, key="id")
