@@ -35,7 +35,13 @@ class ByLines(ProgramCase):
         status, _, told = self.shell(STAFF + "ask select id from staff\n where 7 = id;\nSELECT id FROM staff;\n")
         self.assertEqual((status, lines(told)), (1, [
             " where 7 = id;", "       ^", "error 2 Syntax at 32: `id = 7`: the column stands left".replace("`id", "write `id"),
-            "SELECT id FROM staff;", "^^^^^^", "error 2 Syntax at 0: words in lower case: `create table staff (id int, primary key (id));`"]))
+            "SELECT id FROM staff;", "^^^^^^", "error 2 Syntax at 0: words in lower case, and `ask select` for what is certain, `possible select` for what is possible"]))
+
+    def test_rows_that_dont_fit(self) -> None:
+        told = self.shell(STAFF + "insert into staff values (1, 2, 3);\ninsert into staff values ('1', 'a', 3);\ninsert into staff values (1, 'a');\n")[2]
+        self.assertEqual([line for line in lines(told) if line.startswith("error")], [
+            "error 9 TypeMismatch row 1 column 2: name is text: write '2'", "error 9 TypeMismatch row 1 column 1: id is int: write 1",
+            "error 10 WrongArity row 1: 3 columns: id, name, room"])
 
     def test_copy_from_is_told_before_it_swallows_anything(self) -> None:
         status, out, told = self.shell(STAFF + "copy staff from 'x.csv';\nask exists from staff;\ncopy -- here\n staff;\n1,a,2\n\\.\nask exists from staff;\n")
