@@ -119,6 +119,12 @@ class ScaleWarning(UserWarning):
     """A statement or a query tests or inserts numbers of a column with places as they are stored."""
 
 
+class NoSuchName(CqaError, KeyError):
+    """A method names a table or a column that isn't there."""
+
+    __str__ = Exception.__str__
+
+
 class StateFault(CqaError):
     """A file of a kept state isn't whole."""
 

@@ -16,7 +16,7 @@ from . import answers
 from .answers import Classification, Explanation, Group, Kept, Range
 from .columns import is_in_range, scaled
 from .conflicts import Conflicts, conflicts_of
-from .errors import LoadFault, LoadWarning, Refused, ReplyFault, ScaleWarning, StateFault, UnknownStatement
+from .errors import LoadFault, LoadWarning, NoSuchName, Refused, ReplyFault, ScaleWarning, StateFault, UnknownStatement
 from .files import written
 from .lists import ListOptions, create_text, rows_script, word_of
 from .loading import Source, load_script
@@ -177,7 +177,7 @@ class Session:
         text with commas.
 
         A table that is there gets the kinds and places that a further list needs: an int column becomes text where the list has
-        other fields, and numbers get more places.
+        other fields, and numbers get more places. Then the program begins anew with all tables, and the log of `show log` is gone.
 
         Warns (LoadWarning) of what is no fault and good to know, as that numbers became texts.
 
@@ -209,27 +209,53 @@ class Session:
         return places
 
     def _loaded(self, options: ListOptions, sources: Sequence[Source], there: Optional[Schema]) -> int:
+        """Loads lists, by a program that begins anew where a table's kinds or places change: it takes the place of the one before
+        where all went well."""
         faults: List[str] = []
         with tempfile.TemporaryFile() as file:
             lists = load_script(options, sources, file, faults.append, there)
             if lists is None:
                 raise LoadFault(faults)
-            if there is not None:
-                self._convert(there, lists.schema(), options.decimals)
+            changed = self._converted_table(there, lists.schema(), options.decimals) if there is not None else ""
             file.seek(0)
             script = file.read()
-        replies = [self._told(script, part, is_made=True) for part in statements(script)]
+        before = self._child
+        if changed:
+            self._child = self._begun_anew(options.table, changed)
+        try:
+            replies = self._load_replies(script)
+        except BaseException:
+            if self._child is not before:
+                self._child.kill()
+                self._child = before
+            raise
+        if self._child is not before:
+            before.close()
         self.heed(script)
         for note in lists.notes():
             _warn(note, LoadWarning)
         return sum(int(lines[0].split(b" ")[1]) for lines in replies if lines[0].startswith((b"copied ", b"inserted ")))
 
-    def _convert(self, old: Schema, new: Schema, decimals: Mapping[str, int]) -> None:
-        """Gives a table the kinds and places that further lists need: ints become texts, numbers get more places. Raises LoadFault
-        where a stored text is no such number, and then nothing changes."""
+    def _load_replies(self, script: bytes) -> List[List[bytes]]:
+        """The replies to a script of lists. A refusal names its list."""
+        replies: List[List[bytes]] = []
+        part: Optional[Statement] = None
+        try:
+            for part in statements(script):
+                replies.append(self._told(script, part, is_made=True))
+        except Refused as refused:
+            found = re.search(rb"-- ([^\n]*):[0-9]+\n\Z", script[:part.start][-5000:]) if part is not None else None
+            if found is None:
+                raise
+            raise Refused(refused.line, refused.statement, "of the list " + found[1].decode("utf-8", "replace")) from None
+        return replies
+
+    def _converted_table(self, old: Schema, new: Schema, decimals: Mapping[str, int]) -> str:
+        """The script of a table with the kinds and places that further lists need, or nothing where it has them: ints become texts,
+        numbers get more places. Raises LoadFault where a stored text is no such number."""
         scales = {name: places - self._places.get((old.table, name), 0) for name, places in decimals.items() if name in old.columns}
         if old.columns == new.columns and not any(scales.values()):
-            return
+            return ""
         names = list(old.columns)
         told = self._lines("possible select %s from %s;" % (", ".join(names), old.table))
         faults: List[str] = []
@@ -237,27 +263,26 @@ class Session:
                 for line in told[:-1]]
         if faults:
             raise LoadFault(["%s: %s" % (old.table, fault) for fault in faults])
-        self._begin_anew({old.table: create_text(new) + rows_script(old.table, rows)})
+        return create_text(new) + rows_script(old.table, rows)
 
-    def _begin_anew(self, changed: Mapping[str, str]) -> None:
-        """Starts the program anew with the same tables, some of them made by other scripts."""
+    def _begun_anew(self, table: str, changed: str) -> Child:
+        """A program with the same tables, of which one is made by another script. The log of `show log` isn't kept."""
         dump = "".join(line + "\n" for line in self._lines("dump;")).encode("utf-8")
         parts: List[bytes] = [self._settings]
         for part in statements(dump):
             words = tokens(part.text(dump).decode("utf-8"))
             name = words[words.index("table") + 1] if words[0] == "create" else words[-1] if words[0] == "copy" else words[2]
-            if name not in changed:
+            if name != table:
                 parts.append(dump[part.start:part.end] + b"\n")
             elif words[0] == "create":
-                parts.append(changed[name].encode("utf-8"))
-        before, self._child = self._child, Child(self.program, self._child.is_apart)
+                parts.append(changed.encode("utf-8"))
+        child = Child(self.program, self._child.is_apart)
         try:
-            list(self._replies(b"".join(parts), lambda _: None))
+            list(Session(child=child)._replies(b"".join(parts), lambda _: None))
         except BaseException:
-            self._child.kill()
-            self._child = before
+            child.kill()
             raise
-        before.close()
+        return child
 
     def tables(self) -> List[Schema]:
         """The tables in order of creation."""
@@ -269,7 +294,7 @@ class Session:
         return next((schema for schema in self.tables() if schema.table == table), None)
 
     def rows(self, table: str) -> Rows:
-        """All rows of a table, in the order of its columns. Raises KeyError where it isn't there."""
+        """All rows of a table, in the order of its columns. Raises NoSuchName, a KeyError, where it isn't there."""
         schema = self._there(table)
         return self.possible("select %s from %s" % (", ".join(schema.columns), table))
 
@@ -277,12 +302,12 @@ class Session:
         """The keys of a table whose rows differ: how many by column, and for each key its values with their sources.
 
         source: the column of sources; where it isn't told, that with which the table was loaded, or one called `source`.
-        Rows that differ in their source alone are in no conflict. Raises KeyError where the table isn't there.
+        Rows that differ in their source alone are in no conflict. Raises NoSuchName, a KeyError, where the table isn't there.
         """
         schema = self._there(table)
         names = schema.key + [name for name in schema.columns if name not in schema.key]
         if source is not None and source not in schema.columns:
-            raise KeyError("%s has no column %s" % (table, source))
+            raise NoSuchName("%s has no column %s" % (table, source))
         told = source or self._sources.get(table) or ("source" if "source" in schema.columns else None)
         lines = self._lines("possible select %s from %s;" % (", ".join(names), table))
         rows = self._scaled(map(row_of, lines[:-1]), self._column_places(names, [table]))
@@ -291,7 +316,7 @@ class Session:
     def _there(self, table: str) -> Schema:
         schema = self.schema(table)
         if schema is None:
-            raise KeyError("no table %s" % table)
+            raise NoSuchName("no table %s" % table)
         return schema
 
     # -- ask ----------------------------------------------------------------------------------------------------------------

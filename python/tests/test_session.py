@@ -274,6 +274,24 @@ class Lists(ProgramCase):
         self.db.load("m", self.crm, key="id", columns="id,credit", text="credit")
         self.assertEqual(self.db.certain("select credit from m where id = 3;"), [("7",)])
 
+    def test_a_refused_list_changes_nothing(self) -> None:
+        self.db.run("create strict table s (id int, n int, primary key (id)); insert into s values (1, 7);")
+        other = self.file("other.csv", "id,n\n2,x\n1,y\n")
+        with self.assertRaisesRegex(cqa.Refused, "of the list .*other.csv"):
+            self.db.load("s", other, key="id")
+        self.assertEqual(self.db.schema("s"), cqa.Schema("s", {"id": "int", "n": "int"}, ["id"], True))
+        self.assertEqual(self.db.rows("s"), [(1, 7)])
+
+    def test_missing_tables_and_slices(self) -> None:
+        with self.assertRaises(cqa.CqaError) as caught:
+            self.db.rows("nothing")
+        self.assertIsInstance(caught.exception, KeyError)
+        self.assertEqual(str(caught.exception), "no table nothing")
+        self.load_both()
+        rows = self.db.rows("customer")
+        self.assertEqual(rows[:2].columns, rows.columns)
+        self.assertEqual(rows[0], rows[:1][0])
+
     def test_names_are_names(self) -> None:
         with self.assertRaises(ValueError):
             self.db.load("t (id int, primary key (id)); delete from customer; create table u", self.crm, key="id")
