@@ -55,7 +55,7 @@ def parser() -> argparse.ArgumentParser:
     """The words of `load`."""
     words = argparse.ArgumentParser(
         prog="cqa load", description="CSV lists with header lines as one script of cqa. With a fault in a list nothing is written.",
-        epilog="example: cqa load --table customer --key id --source shop=shop.csv --source crm=crm.csv >load.cqa")
+        epilog="example: cqa load --table customer --key id --source shop=shop.csv --source crm=crm.csv -o load.cqa")
     words.add_argument("files", nargs="*", metavar="LIST", help="a list without a source")
     words.add_argument("--table", required=True, help="the table's name")
     words.add_argument("--key", required=True, help="the columns of its key: id or id,day")
@@ -66,10 +66,10 @@ def parser() -> argparse.ArgumentParser:
     words.add_argument("--rename", action="append", default=[], metavar="OLD=NEW", help="a column that a list calls otherwise")
     words.add_argument("--delimiter", default="",
                        help="what stands between two fields: else a comma, or what the header has in its place; tab is written \\t")
-    words.add_argument("--encoding", default="utf-8", help="how the lists are written (utf-8), as latin-1")
+    words.add_argument("--encoding", default="utf-8", help="the lists' encoding, such as latin-1 (utf-8 where it isn't told); a list that is UTF-8 is read so")
     words.add_argument("--decimal", action="append", default=[], metavar="COLUMN:PLACES",
-                       help="a column of numbers with so many places, stored as ints")
-    words.add_argument("--decimal-mark", choices=[".", ","], default=".", help="the mark before the places (.)")
+                       help="a column of numbers with so many places, stored as ints, as which statements speak of them")
+    words.add_argument("--decimal-mark", choices=[".", ","], default=".", metavar="MARK", help="the mark before the places: . or , (.)")
     words.add_argument("--time", action="append", default=[], metavar="COLUMN",
                        help="a column of dates, or of times in UTC, all in one form")
     words.add_argument("--text", action="append", default=[], metavar="COLUMN",

@@ -210,7 +210,7 @@ def _record_causes(block: bytes, schema: Optional[Schema], number: int) -> Tuple
 
 def _causes(record: List[str], schema: Schema) -> List[str]:
     if len(record) != len(schema.columns):
-        return ["%d fields, and the table has %d columns" % (len(record), len(schema.columns))]
+        return ["%d field%s, and the table has %d columns" % (len(record), "" if len(record) == 1 else "s", len(schema.columns))]
     return [cause for (name, kind), field in zip(schema.columns.items(), record) for cause in _field_cause(name, kind, field)]
 
 

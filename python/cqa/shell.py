@@ -114,7 +114,7 @@ class Shell:
         if len(words) == 2:
             return False
         at = len(text) - len(text.split(words[1], 1)[1].lstrip()) if len(words) > 1 else len(text)
-        self._fault("this copy isn't `copy NAME;`: " + (advice_for(text, at, "error 2 Syntax") or "it names no table alone"))
+        self._fault("this copy isn't `copy NAME;`: " + (advice_for(text, at, "error 2 Syntax") or "only a table's name stands behind copy"))
         self._buffer = self._buffer[statement.text_end + 1:]
         self._run_complete()
         return True
