@@ -8,74 +8,24 @@ import io
 import os
 import re
 import stat
-import unicodedata
-from dataclasses import dataclass, field
 from functools import partial
 from itertools import chain, repeat
-from typing import IO, Callable, Dict, Iterable, Iterator, List, Mapping, Optional, Protocol, Sequence, TextIO, Tuple, TypeVar, Union
+from typing import IO, Callable, Dict, Iterator, List, Optional, Protocol, Sequence, Tuple, TypeVar, Union
 
+from .blocks import BlockWriter
 from .columns import Column, DecimalColumn, TextColumn, TimeColumn, csv_fault
+from .options import MOST_NAME, ListOptions, word_of
 from .scripts import Schema, row_text
 
 MOST_COLUMNS = 16
-MOST_NAME = 64
 _PIECE = 5_000
 #: Letters of a line that are read at once: a longer line is no record of a table, and is told as several that are wrong.
 _LONGEST_LINE = 1_000_000
 _MOST_APART = 10_000
 _MOST_ALIKE = 10
 _SEPARATOR = re.compile(r"sep=([^\r\n])\r?\n")
-_NAME = re.compile(r"[A-Za-z_][A-Za-z0-9_]*")
 _VALUES = re.compile(r"'(?:[^'\\]|\\.)*'|\"(?:[^\"\\]|\\.)*\"|[0-9][0-9,]*")
 _Item = TypeVar("_Item")
-_ENDS_BLOCK = re.compile(r"\n\\\.\r?\n")
-_PLAIN_LETTERS = str.maketrans(
-    {"æ": "ae", "ø": "o", "å": "a", "ß": "ss", "đ": "d", "ð": "d", "þ": "th", "ł": "l", "œ": "oe", "ı": "i"})
-
-
-@dataclass(frozen=True)
-class ListOptions:
-    """How lists become a table.
-
-    table: its name. key: the columns of its key. columns: those that are taken, all where None. decimals: the number of places
-    by column. times, texts: the columns that are one. delimiter: what stands between two fields; where it isn't told, that of the
-    header line. encoding: how the lists are written; one with a byte order mark of UTF-8 is UTF-8. renamed: the names of columns by
-    those that lists have. decimal_mark: "." or ",".
-    missing: what becomes of a record with an empty field outside the key: "refuse", "keep" (the empty text is a value) or "drop".
-    source_column: the name of the column that says from which list a row is. strip: whether blanks at the ends of fields are left out.
-    skip: the number of lines above the header.
-    """
-
-    table: str
-    key: Sequence[str]
-    columns: Optional[Sequence[str]] = None
-    decimals: Mapping[str, int] = field(default_factory=dict)
-    times: Sequence[str] = ()
-    texts: Sequence[str] = ()
-    delimiter: str = ""
-    encoding: str = "utf-8"
-    renamed: Mapping[str, str] = field(default_factory=dict)
-    decimal_mark: str = "."
-    missing: str = "refuse"
-    strict: bool = False
-    source_column: str = "source"
-    strip: bool = False
-    skip: int = 0
-
-    def __post_init__(self) -> None:
-        """Raises ValueError where an option tells nothing."""
-        for what, name in (("table", self.table), ("source column", self.source_column), *(("new name", new) for new in self.renamed.values())):
-            if not _NAME.fullmatch(name) or len(name) > MOST_NAME:
-                raise ValueError("the %s %r is no name: letters, digits and _ are wanted" % (what, name))
-        if len(self.delimiter) > 1 or self.delimiter and self.delimiter in '"\r\n':
-            raise ValueError("the delimiter is one letter, and not %r" % self.delimiter)
-        for name, places in self.decimals.items():
-            if not isinstance(places, int) or not 0 <= places <= 18:
-                raise ValueError("%s: a number of places from 0 to 18 is wanted, and not %r" % (name, places))
-        if self.decimal_mark not in (".", ","):
-            raise ValueError("the decimal mark is . or , and not %r" % self.decimal_mark)
-        if self.missing not in ("refuse", "keep", "drop"):
-            raise ValueError("missing is refuse, keep or drop, and not %r" % self.missing)
 
 
 class _Reader(Protocol):
@@ -86,13 +36,6 @@ class _Reader(Protocol):
     def __iter__(self) -> Iterator[List[str]]: ...
 
     def __next__(self) -> List[str]: ...
-
-
-def word_of(header: str) -> str:
-    """A header as a name of the language: `Full Name` is full_name. Empty where nothing of it is left."""
-    plain = unicodedata.normalize("NFKD", header.strip().lower().translate(_PLAIN_LETTERS))
-    word = re.sub(r"[^a-z0-9]+", "_", "".join(letter for letter in plain if not unicodedata.combining(letter))).strip("_")
-    return "c_" + word if word[:1].isdigit() else "primary_" if word == "primary" else word
 
 
 class _ReadFault(Exception):
@@ -199,7 +142,7 @@ class Lists:
         places = self._places(path, header, source is not None) if header else []
         if header is None or self.faults > faults:
             return
-        writer = _BlockWriter(self._blocks, self.options.table, path, self._apart, self._source_place())
+        writer = BlockWriter(self._blocks, self.options.table, path, self._apart, self._source_place())
         for lines, rows, end in self._pieces(path, reader):
             self._is_in_piece = True
             try:
@@ -353,7 +296,7 @@ class Lists:
             yield lines, rows, at
 
     def _piece(self, path: str, source: Optional[str], places: List[int], width: int, lines: List[int], rows: List[List[str]],
-               writer: "_BlockWriter", end: int) -> None:
+               writer: "BlockWriter", end: int) -> None:
         """Looks at a piece of a list and writes its rows."""
         if any(len(row) != width for row in rows):
             kept = [self._is_whole(path, line, row, width) for line, row in zip(lines, rows)]
@@ -434,67 +377,6 @@ class Lists:
             self._blocks.write("insert into %s values %s;\n" % (self.options.table, row_text(values)))
         self._blocks.flush()
         self._blocks.detach()
-
-
-class _BlockWriter:
-    """Writes the rows of a list as `copy` blocks. Line K of a block is line K of the list from the one on that the comment names,
-    so blank lines stand where the list has what is no row. Rows that would end a block go apart."""
-
-    def __init__(self, out: TextIO, table: str, path: str, apart: List[Tuple[str, ...]], source_place: int) -> None:
-        self._out = out
-        self._table = table
-        self._path = re.sub(r"[\r\n]", "?", path).encode("utf-8", "replace").decode()
-        self._csv = csv.writer(out, lineterminator="\n", quoting=csv.QUOTE_ALL)
-        self._apart = apart
-        self._source_place = source_place
-        self._next = 0
-
-    def write(self, lines: Sequence[int], columns: Sequence[Sequence[str]], source: Optional[str], end: int) -> None:
-        """Writes the rows of a piece that ends on a line."""
-        place = self._source_place
-        rows = zip(*columns) if source is None else zip(*columns[:place], repeat(source), *columns[place:])
-        if self._next == lines[0] and end - lines[0] + 1 == len(lines):
-            self._csv.writerows(rows)
-            self._next = end + 1
-            return
-        for line, row in zip(lines, rows):
-            if any(_ENDS_BLOCK.search(value) for value in row if "\\." in value):
-                self._apart.append(row)
-            else:
-                self._write_row(line, row)
-
-    def _write_row(self, line: int, row: Tuple[str, ...]) -> None:
-        if not self._next:
-            self._out.write("-- %s:%d\ncopy %s;\n" % (self._path, line, self._table))
-            self._next = line
-        self._out.write("\n" * (line - self._next))
-        self._csv.writerow(row)
-        self._next = line + 1 + sum(value.count("\n") for value in row)
-
-    def end(self) -> None:
-        """Ends the block, if one is open."""
-        if self._next:
-            self._out.write("\\.\n")
-            self._next = 0
-
-
-def rows_script(table: str, rows: Iterable[Tuple[Union[int, str], ...]]) -> str:
-    """The statements that put rows into a table."""
-    block, apart = io.StringIO(newline=""), []
-    writer = csv.writer(block, lineterminator="\n", quoting=csv.QUOTE_ALL)
-    for row in rows:
-        if any(isinstance(value, str) and _ENDS_BLOCK.search(value) for value in row):
-            apart.append("insert into %s values %s;\n" % (table, row_text(row)))
-        else:
-            writer.writerow(row)
-    return "copy %s;\n%s\\.\n%s" % (table, block.getvalue(), "".join(apart))
-
-
-def create_text(schema: Schema) -> str:
-    """The statement that makes a table."""
-    columns = ", ".join("%s %s" % item for item in schema.columns.items())
-    first = "create strict table" if schema.strict else "create table"
-    return "%s %s (%s, primary key (%s));\n" % (first, schema.table, columns, ", ".join(schema.key))
 
 
 def _is_utf_8(raw: io.BufferedReader) -> bool:

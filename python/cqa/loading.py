@@ -8,9 +8,11 @@ import sys
 import tempfile
 from typing import IO, Callable, List, Optional, Sequence, Tuple
 
+from .blocks import create_text
 from .errors import LoadFault
 from .files import standard_output, written
-from .lists import ListOptions, Lists, create_text, word_of
+from .lists import Lists
+from .options import ListOptions, word_of
 from .scaling import stored_note
 from .scripts import Schema, remark_text
 

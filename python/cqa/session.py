@@ -14,12 +14,13 @@ from typing import Callable, Dict, Iterable, Iterator, List, Mapping, Optional, 
 
 from . import answers
 from .answers import Classification, Explanation, Group, Kept, Range
+from .blocks import create_text, rows_script
 from .columns import is_in_range, scaled
 from .conflicts import Conflicts, conflicts_of
 from .errors import LoadFault, LoadWarning, NoSuchName, Refused, ReplyFault, ScaleWarning, StateFault, UnknownStatement
 from .files import written
-from .lists import ListOptions, create_text, rows_script, word_of
 from .loading import Source, load_script
+from .options import ListOptions, word_of
 from .program import Child
 from .replies import IS_REFUSAL, row_of
 from .rows import Cell, Rows

@@ -14,8 +14,8 @@ from unittest import mock
 import support
 from support import Case, ProgramCase, lines
 
-from cqa.lists import ListOptions
 from cqa.loading import load_script
+from cqa.options import ListOptions
 
 
 class Taken(Case):
