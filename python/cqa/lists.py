@@ -57,6 +57,7 @@ class Lists:
         self._alike: Dict[Tuple[str, str], int] = {}  # by list and cause, how many faults there are
         self._last_alike: Dict[Tuple[str, str], int] = {}  # and the line of the last one that was told
         self._header_line = 1
+        self._unrenamed = set(map(word_of, options.renamed))
         self._fault = fault
         self._told: List[Tuple[int, str]] = []
         self._is_in_piece = False
@@ -187,6 +188,7 @@ class Lists:
     def _words(self, names: Sequence[str]) -> List[str]:
         """The headers as names of the language."""
         renamed = {word_of(old): new for old, new in self.options.renamed.items()}
+        self._unrenamed -= set(map(word_of, names))
         return [renamed.get(word_of(name), word_of(name)) for name in names]
 
     def _header(self, path: str, reader: "_Reader") -> Optional[List[str]]:
@@ -352,6 +354,7 @@ class Lists:
     def notes(self) -> List[str]:
         """What is no fault and good to know."""
         notes = self._notes + ["%s has no records" % name for name, count in self.counts if not count]
+        notes += ["no list has a column %s, which is named anew" % name for name in sorted(self._unrenamed)]
         notes += [note for column in self._columns for note in column.notes()]
         if self.dropped:
             notes.append("%d record%s with an empty field left out" % (self.dropped, "" if self.dropped == 1 else "s"))

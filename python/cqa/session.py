@@ -155,7 +155,7 @@ class Session:
         """Raises what a refusal is."""
         plain = " ".join(text.split())
         for word, reply in NEWER:
-            if plain.startswith(word) and line == reply:
+            if re.match(word + r"\b", plain) and line == reply:
                 raise UnknownStatement(line[:-1].decode(), text, self.program, word)
         raise Refused(line[:-1].decode("utf-8"), text)
 

@@ -14,13 +14,14 @@ from types import FrameType
 from typing import Iterator, List, Optional, Sequence, Set
 
 from .errors import CqaError, Ended, LoadFault, Refused, ScaleWarning
+from .files import said
 from .habits import advice_for
 from .loading import options_of, parser, sources_of
 from .places import place_of
 from .running import loaded
 from .scripts import Schema, Statement, open_part, statements, verb_of, without_comments
 from .session import Session
-from .statements import WORDS, about, all_statements
+from .statements import VERBS, WORDS, about, all_statements
 
 PROMPTS = {"": "cqa> ", "statement": "  ..> ", "text": "'..> ", "block": "copy> "}
 
@@ -80,6 +81,8 @@ class Shell:
             if word.startswith("."):
                 self._fault("there are no commands with a dot: \\d shows the tables, \\? all commands")
                 return True
+        elif self._block is None and line.strip() == "\\q" and not self.takes_tabs(""):
+            return False
         self._buffer += b"".join(self._block or []) + text
         self._run_complete()
         return True
@@ -172,19 +175,23 @@ class Shell:
                 self._is_timing = not self._is_timing
                 print("timing is %s" % ("on" if self._is_timing else "off"))
             elif words[0] == "help" or words[0] == "\\?":
-                print("".join(map(about, words[1:])) or all_statements() + "\n" + _COMMANDS, end="")
+                self._help(words[1:])
+            elif words[0] == "\\save":
+                self._fault("\\save FILE: the name of one file is wanted")
             else:
                 self._fault("no such command; these are there:\n" + _COMMANDS.rstrip())
         except (OSError, ValueError, CqaError) as fault:
             if isinstance(fault, Ended):
                 raise
-            self._fault(str(fault))
+            self._fault("a quote has no end" if str(fault) == "No closing quotation" else said(fault))
 
     def _load(self, words: Sequence[str]) -> None:
         try:
             told = parser().parse_args(words)
         except SystemExit:
             return
+        if told.output:
+            raise ValueError("\\load writes no file, so -o isn't taken")
         options, sources = options_of(told), sources_of(told)
         try:
             with warnings.catch_warnings(record=True) as notes:
@@ -198,7 +205,17 @@ class Shell:
                 print(note.message, file=sys.stderr)
             self._look()
 
+    def _help(self, words: Sequence[str]) -> None:
+        for word in words:
+            if not about(word):
+                self._fault("no statement %s; there are %s" % (word, ", ".join(VERBS)))
+        print("".join(map(about, words)) if words else all_statements() + "\n" + _COMMANDS, end="")
+
     def _describe(self, tables: Sequence[str]) -> None:
+        for table in tables:
+            if self.session.schema(table) is None:
+                self._fault("no table %s" % table)
+                return
         for line in self.session.tell("show tables;"):
             if not tables or line.split(" (")[0].split(" ")[-1] in tables:
                 print(line)

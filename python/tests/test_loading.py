@@ -253,6 +253,14 @@ class Faults(Case):
                 self.assertEqual((status, out), (2, ""), told)
                 self.assertTrue(told)
 
+    def test_empty_times_and_numbers_and_names_that_no_list_has(self) -> None:
+        drop = ", so that --missing keep doesn't fit the column: --missing drop leaves the record out"
+        self.assertEqual(self.faults("id,day,n\n1,,\n", "--time", "day", "--decimal", "n:2", "--missing", "keep"), [
+            "a.csv:2: day: an empty field is no date, and no time in UTC as 2026-03-01T00:10:00Z" + drop, "a.csv:2: n: an empty field is no number" + drop])
+        self.file("b.csv", "id\n1\n")
+        told = self.command("load", "--table", "t", "--key", "id", "--rename", "nope=x", "b.csv")[2]
+        self.assertIn("cqa load: no list has a column nope, which is named anew\n", told)
+
     def test_a_full_folder_of_temporary_files(self) -> None:
         self.file("a.csv", "id,name\n" + "".join("%d,Ada\n" % at for at in range(100_000)))
         command = 'ulimit -f 8; "%s" -m cqa load --table t --key id a.csv' % sys.executable
@@ -277,7 +285,8 @@ class Loaded(ProgramCase):
             file.write("id,note\n" + "".join('%d,"%s"\n' % (at, text.replace('"', '""')) for at, text in enumerate(texts)))
         import cqa
         with cqa.Session() as db:
-            self.assertEqual(db.load("t", self.path("a.csv"), key="id"), len(texts))
+            with self.assertWarns(cqa.LoadWarning):
+                self.assertEqual(db.load("t", self.path("a.csv"), key="id"), len(texts))
             self.assertEqual(db.rows("t"), list(enumerate(texts)))
 
     def test_a_hundred_thousand_records_in_time_and_in_little_memory(self) -> None:

@@ -5,6 +5,7 @@ from __future__ import annotations
 import os
 import stat
 import subprocess
+import sys
 import unittest
 from unittest import mock
 
@@ -133,6 +134,20 @@ class Dying(ProgramCase):
             status, out, told = self.command("run", "many.cqa", program=program)
             self.assertEqual((status, told), (128 + 9, "cqa run: %s: status -9: signal 9 ended it\n" % program))
             self.assertTrue(out.startswith("created t\ninserted 1\n"))
+
+    def test_a_script_that_is_cut_while_it_runs(self) -> None:
+        self.file("big.cqa", "create table t (a int, primary key (a));\n" + "insert into t values (1);\n" * 100_000)
+        environment = dict(os.environ, PYTHONPATH=os.path.join(TOP, "python"), CQA_PROGRAM=PROGRAM or "")
+        with subprocess.Popen([sys.executable, "-m", "cqa", "run", "big.cqa"], cwd=self.folder, env=environment, stdout=subprocess.PIPE) as ran:
+            assert ran.stdout is not None
+            ran.stdout.readline()
+            self.file("big.cqa", "")
+            self.assertEqual(ran.stdout.read().count(b"inserted "), 100_000)
+        self.assertEqual(ran.returncode, 0)
+
+    def test_a_folder_on_standard_input(self) -> None:
+        ran = subprocess.run(["bash", "-c", '"%s/cqa" run <"%s"' % (TOP, self.folder)], stderr=subprocess.PIPE, timeout=60, check=False)
+        self.assertEqual((ran.returncode, lines(ran.stderr.decode())[-1:]), (3, ["cqa: standard input is a folder"]))
 
     def test_what_the_sending_raises_is_told(self) -> None:
         path = self.file("s.cqa", "show tables;\n")

@@ -37,6 +37,12 @@ class ByLines(ProgramCase):
             " where 7 = id;", "       ^", "error 2 Syntax at 32: `id = 7`: the column stands left".replace("`id", "write `id"),
             "SELECT id FROM staff;", "^^^^^^", "error 2 Syntax at 0: words in lower case, and `ask select` for what is certain, `possible select` for what is possible"]))
 
+    def test_commands_that_say_too_little(self) -> None:
+        status, out, told = self.shell("\\d nope\n\\save\n\\save /nodir/x\nhelp foo\n\\load --table 'x\nask select id\n\\q\nshow tables;\n")
+        self.assertEqual((status, out), (1, ""))
+        self.assertEqual(lines(told)[:3], ["no table nope", "\\save FILE: the name of one file is wanted", "/nodir: no such file or directory"])
+        self.assertEqual((lines(told)[3][:17], lines(told)[4]), ("no statement foo;", "a quote has no end"))
+
     def test_rows_that_dont_fit(self) -> None:
         told = self.shell(STAFF + "insert into staff values (1, 2, 3);\ninsert into staff values ('1', 'a', 3);\ninsert into staff values (1, 'a');\n")[2]
         self.assertEqual([line for line in lines(told) if line.startswith("error")], [
