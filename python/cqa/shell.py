@@ -311,6 +311,11 @@ def _by_hand(shell: Shell) -> None:
             return
 
 
+def _hung_up(number: int, frame: Optional[FrameType]) -> None:
+    """The terminal is closed: what the program does is ended with the shell."""
+    sys.exit(128 + number)
+
+
 def main(arguments: Sequence[str]) -> int:
     """The command `shell [FILE ..]`: 1 where a statement was refused and the input is no terminal."""
     words = argparse.ArgumentParser(prog="cqa shell", description="Statements by hand. The files, scripts or kept states, are run first.")
@@ -321,6 +326,7 @@ def main(arguments: Sequence[str]) -> int:
     with session:
         shell = Shell(session)
         if sys.stdin.isatty():
+            signal.signal(signal.SIGHUP, _hung_up)
             _by_hand(shell)
             return 0
         for line in sys.stdin:

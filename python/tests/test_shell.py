@@ -152,6 +152,17 @@ class AtATerminal(ProgramCase):
         self.assertEqual(self.child.wait(60), 0)
         self.assertTrue(os.path.exists(self.path("history")))
 
+    def test_a_closed_terminal_ends_the_program(self) -> None:
+        slow = self.file("slow.sh", "#!/bin/sh\necho $$ >number; read line; echo '0 tables'; echo 'error 2 Syntax at 0'; exec sleep 100\n")
+        os.chmod(slow, 0o755)
+        self.start(slow)
+        self.until("cqa> ")
+        self.type("ask exists from t;\n")
+        time.sleep(0.3)
+        self.child.send_signal(signal.SIGHUP)
+        self.assertEqual(self.child.wait(20), 129)
+        self.assertFalse(os.path.exists("/proc/" + self.read("number").strip()))
+
     def test_the_second_ctrl_c_ends_the_session(self) -> None:
         slow = self.file("slow.sh", "#!/bin/sh\nread line; echo '0 tables'; echo 'error 2 Syntax at 0'; exec sleep 100\n")
         os.chmod(slow, 0o755)
