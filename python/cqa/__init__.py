@@ -11,14 +11,14 @@ The answers are those of the program `cqa`, which is proved; this package starts
 
 from .answers import Attack, Classification, Explanation, Group, Range
 from .conflicts import Conflicts, Disputed
-from .errors import (CqaError, Ended, InputTooLong, LoadFault, LoadWarning, MemoryRanOut, NotBuilt, ReadingFailed, Refused,
+from .errors import (Closed, CqaError, Ended, InputTooLong, LoadFault, LoadWarning, MemoryRanOut, NoSuchName, NotBuilt, ReadingFailed, Refused,
                      ReplyFault, ScaleWarning, StateFault, UnknownStatement, WordsUnreadable, WritingFailed)
 from .rows import Rows
 from .scripts import Schema
 from .session import Session
 
 __all__ = [
-    "Attack", "Classification", "Conflicts", "CqaError", "Disputed", "Ended", "Explanation", "Group", "InputTooLong",
-    "LoadFault", "LoadWarning", "MemoryRanOut", "NotBuilt", "Range", "ReadingFailed", "Refused", "ReplyFault",
+    "Attack", "Classification", "Closed", "Conflicts", "CqaError", "Disputed", "Ended", "Explanation", "Group", "InputTooLong",
+    "LoadFault", "LoadWarning", "MemoryRanOut", "NoSuchName", "NotBuilt", "Range", "ReadingFailed", "Refused", "ReplyFault",
     "Rows", "ScaleWarning", "Schema", "Session", "StateFault", "UnknownStatement", "WordsUnreadable", "WritingFailed",
 ]

@@ -10,6 +10,7 @@ from typing import Callable, Dict, Sequence
 
 from . import helping, loading, looking, report, running, shell
 from .errors import CqaError, Ended, NotBuilt
+from .files import said
 
 COMMANDS: Dict[str, Callable[[Sequence[str]], int]] = {
     "load": loading.main,
@@ -41,19 +42,13 @@ def main(words: Sequence[str]) -> int:
         return 130
     except Ended as fault:
         print("cqa %s: %s" % (words[0], fault), file=sys.stderr)
-        return fault.status if fault.status > 0 else 1
+        return fault.status or 1 if fault.status >= 0 else 128 - fault.status
     except NotBuilt as fault:
         print("cqa %s: %s" % (words[0], fault), file=sys.stderr)
         return 127
     except (CqaError, OSError) as fault:
-        print("cqa %s: %s" % (words[0], _said(fault)), file=sys.stderr)
+        print("cqa %s: %s" % (words[0], said(fault)), file=sys.stderr)
         return _no_output() if isinstance(fault, OSError) and fault.errno == errno.ENOSPC else 1
-
-
-def _said(fault: Exception) -> str:
-    if isinstance(fault, OSError) and fault.strerror:
-        return "%s%s" % (fault.filename + ": " if isinstance(fault.filename, str) else "", fault.strerror.lower())
-    return str(fault)
 
 
 def _no_output() -> int:

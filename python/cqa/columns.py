@@ -22,6 +22,8 @@ _MARKED = re.compile(r"([.,])([0-9]+)")
 _NUMBER = re.compile(r"[+-]?(?:[0-9]+(?:\.[0-9]*)?|\.[0-9]+)")
 _TIME = re.compile(r"([0-9]{4}-[0-9]{2}-[0-9]{2})(?:T([0-9]{2}):([0-9]{2})(?::([0-9]{2})(\.[0-9]{1,9})?)?Z)?")
 
+_DROP = ", so that --missing keep doesn't fit the column: --missing drop leaves the record out"
+
 _CSV_FAULTS = (
     ("unexpected end of data", "a quote is opened here and never closed"),
     ("expected after", "something stands behind a closing quote"),
@@ -114,12 +116,12 @@ class Column:
                     % (self.name, self.name, self._most_places, mark, most)]
         return [self.note] if self.kind == "text" and self.note else []
 
-    def faults(self) -> List[str]:
-        """What is wrong with the column once all lists are read."""
+    def faults(self) -> List[Tuple[str, int, str]]:
+        """What is wrong with the column once all lists are read: the list, the line, and what to say."""
         if self.kind != "int":
             return []
-        return ["%s:%d: %s: %s is out of the range of int, 64 bits; --text %s takes the column as text"
-                % (path, line, self.name, _shortened(field), self.name) for path, line, field in self._too_great]
+        return [(path, line, "%s: %s is out of the range of int, 64 bits; --text %s takes the column as text"
+                 % (self.name, _shortened(field), self.name)) for path, line, field in self._too_great]
 
 
 class TextColumn(Column):
@@ -168,6 +170,8 @@ class DecimalColumn(Column):
             return "has a point, and the mark before the places is a comma"
         if self._mark == "." and "," in number and _NUMBER.fullmatch(number.replace(",", ".", 1)):
             return "has a comma: --decimal-mark , takes it as the mark before the places"
+        if not number:
+            return "is no number" + _DROP
         most = "%d place%s" % (self._places, "" if self._places == 1 else "s")
         return "has more than " + most if _NUMBER.fullmatch(number) else "is no number"
 
@@ -186,7 +190,7 @@ class TimeColumn(TextColumn):
             return fields
         for at, field in enumerate(fields):
             if not _is_time(field):
-                say(at, "%s: %s is no date, and no time in UTC as 2026-03-01T00:10:00Z" % (self.name, _shown(field)))
+                say(at, "%s: %s is no date, and no time in UTC as 2026-03-01T00:10:00Z%s" % (self.name, _shown(field), "" if field else _DROP))
             elif self._length is None:
                 self._length = len(field)
             elif len(field) != self._length:

@@ -6,7 +6,7 @@ from dataclasses import dataclass, field
 from itertools import groupby
 from typing import Dict, Iterable, List, Optional, Sequence, Tuple
 
-from .rows import Cell
+from .rows import Cell, Rows
 from .unseen import seen
 
 
@@ -50,10 +50,18 @@ class Conflicts:
         head = "%s: %d key%s, %d in conflict%s\n" % (self.table, self.keys, "" if self.keys == 1 else "s", len(self), shown)
         return head + "".join(_block_line(block) for block in self.disputed)
 
+    def listed(self) -> Rows:
+        """A row for each value in conflict: the key, the column, the value, and its sources with a comma between two."""
+        rows = [(*block.key, name, value, ", ".join(map(str, sources)))
+                for block in self.disputed for name, values in block.values.items() for value, sources in values.items()]
+        return Rows((*self.key, "column", "value", "sources"), rows)
+
+    def to_csv(self, path: str) -> None:
+        """Writes `listed` as a CSV file in UTF-8 with a header."""
+        self.listed().to_csv(path)
+
     def _repr_html_(self) -> str:
         """A table for a notebook, with each text escaped."""
-        from .rows import Rows
-
         rows = [(", ".join(map(str, block.key)), name, _values_text(values))
                 for block in self.disputed for name, values in block.values.items()]
         return Rows((", ".join(self.key), "column", "values"), rows)._repr_html_()

@@ -71,6 +71,10 @@ class Ended(CqaError):
         super().__init__("%s: status %d: %s" % (program, status, cause))
 
 
+class Closed(CqaError):
+    """The session was closed or interrupted, or its program ended before."""
+
+
 class ReadingFailed(Ended):
     """Status 3: reading the input failed."""
 
@@ -113,6 +117,12 @@ class LoadWarning(UserWarning):
 
 class ScaleWarning(UserWarning):
     """A statement or a query tests or inserts numbers of a column with places as they are stored."""
+
+
+class NoSuchName(CqaError, KeyError):
+    """A method names a table or a column that isn't there."""
+
+    __str__ = Exception.__str__
 
 
 class StateFault(CqaError):

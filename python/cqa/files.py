@@ -20,7 +20,10 @@ def written(path: str) -> Iterator[BinaryIO]:
             yield stream
         return
     folder = os.path.dirname(os.path.realpath(path))
-    number, beside = tempfile.mkstemp(prefix="." + os.path.basename(path) + ".", dir=folder)
+    try:
+        number, beside = tempfile.mkstemp(prefix="." + os.path.basename(path) + ".", dir=folder)
+    except OSError as fault:
+        raise OSError(fault.errno, fault.strerror, folder) from None
     try:
         with os.fdopen(number, "wb") as file:
             yield file
@@ -32,6 +35,13 @@ def written(path: str) -> Iterator[BinaryIO]:
         with contextlib.suppress(OSError):
             os.unlink(beside)
         raise
+
+
+def said(fault: Exception) -> str:
+    """What a fault says, in a line: of one of the system the file and the cause."""
+    if isinstance(fault, OSError) and fault.strerror:
+        return "%s%s" % (fault.filename + ": " if isinstance(fault.filename, str) else "", fault.strerror.lower())
+    return str(fault)
 
 
 @contextlib.contextmanager

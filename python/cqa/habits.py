@@ -24,7 +24,9 @@ class Habit(NamedTuple):
 
 
 HABITS: Tuple[Habit, ...] = (
-    Habit("CREATE TABLE staff (id int, primary key (id));", "error 2 Syntax at 0", "words in lower case: `create table staff (id int, primary key (id));`",
+    Habit("SELECT id FROM staff;", "error 2 Syntax at 0", "words in lower case, and `ask select` for what is certain, `possible select` for what is possible",
+          r"(?-i:SELECT)\b", r"^\s*$"),
+    Habit("CREATE TABLE staff (id int, primary key (id));", "error 2 Syntax at 0", "words in lower case, as `create table`",
           r"(?-i:[A-Z]+)\b", r"^\s*$"),
     Habit("ask select id from staff WHERE id = 1;", "error 2 Syntax at 25", "words in lower case: `where`",
           r"(?-i:SELECT|FROM|WHERE|AND|VALUES|INTO|TABLE|PRIMARY|KEY|INT|TEXT|EXISTS)\b"),
@@ -52,7 +54,7 @@ HABITS: Tuple[Habit, ...] = (
     Habit("copy staff from 'staff.csv';", "error 15 Unfinished", "`copy staff;`, the records, and a line `\\.`; or `./cqa load --table staff --key id staff.csv`",
           r"from\b|\(", r"^copy\s+\w+\s*$"),
     Habit("select id from staff;", "error 2 Syntax at 0", "`ask select id from staff;` for what is certain, `possible select ..` for what is possible", r"select\b", r"^$"),
-    Habit("ask select * from staff;", "error 1 BadByte at 11", "the columns by name", r"\*", r"\bselect\s*$"),
+    Habit("ask select * from staff;", "error 1 BadByte at 11", "name the columns, as `select id, name`", r"\*", r"\bselect\s*$"),
     Habit("ask select count(*) from staff;", "error 1 BadByte at 17", "`show tables;` counts rows and blocks; an `ask` ends with its number of rows", r"\*", r"\bcount\s*\(\s*$"),
     Habit("ask select max(room) from staff;", "error 2 Syntax at 14", "the column alone: there are no functions in a query", r"\(", r"\bselect\b.*\w\s*$"),
     Habit("ask select distinct id from staff;", "error 2 Syntax at 20", "`ask select id from staff;`: rows come once", r"\w", r"\bselect\s+distinct\s+$"),
@@ -84,6 +86,10 @@ HABITS: Tuple[Habit, ...] = (
 )
 
 
+_TABLE = re.compile(r"\b(?:from|into|table|copy|truncate|update)\s+(?:if\s+not\s+exists\s+)?(?!if\b)([A-Za-z_]\w*)", re.I)
+_LAST_WORD = re.compile(r"([A-Za-z_]\w*)\W*\Z")
+
+
 def advice_for(text: str, at: int, refusal: str) -> str:
     """What to write in place of what stands at a place of a refused statement, or nothing.
 
@@ -94,8 +100,24 @@ def advice_for(text: str, at: int, refusal: str) -> str:
     before = text[:at]
     for habit in HABITS:
         if re.compile(habit.at, re.I).match(text, at) and (not habit.before or re.search(habit.before, before, re.I | re.S)):
-            return ("write " if habit.write.startswith("`") else "") + habit.write
+            return ("write " if habit.write.startswith("`") else "") + _in_readers_words(habit, text, before)
     return _near_word(text, at, VERBS if not before.strip() else WORDS) if " Syntax " in refusal else ""
+
+
+def _in_readers_words(habit: Habit, text: str, before: str) -> str:
+    """What a habit says to write, with the reader's table, list and column in the place of those of the example."""
+    write = habit.write
+    table = _TABLE.search(text)
+    path = re.search(r"\bfrom\s+'([^']+)'", text)
+    if path:
+        write = write.replace("staff.csv", path[1])
+    if table:
+        write = re.sub(r"\bstaff\b(?!\.csv)", table[1], write)
+    offset = re.search(r" at (\d+)$", habit.reply)
+    example, own = (_LAST_WORD.search(begin) for begin in (habit.written[:int(offset[1]) if offset else 0], before))
+    if example and own and example[1] not in (*WORDS, "staff") and own[1] not in WORDS:
+        write = re.sub(r"\b%s\b" % example[1], own[1], write)
+    return write
 
 
 def _near_word(text: str, at: int, words: Sequence[str]) -> str:

@@ -8,53 +8,24 @@ import io
 import os
 import re
 import stat
-import unicodedata
-from dataclasses import dataclass, field
 from functools import partial
 from itertools import chain, repeat
-from typing import IO, Callable, Iterable, Iterator, List, Mapping, Optional, Protocol, Sequence, TextIO, Tuple, TypeVar, Union
+from typing import IO, Callable, Dict, Iterator, List, Optional, Protocol, Sequence, Tuple, TypeVar, Union
 
+from .blocks import BlockWriter
 from .columns import Column, DecimalColumn, TextColumn, TimeColumn, csv_fault
+from .options import MOST_NAME, ListOptions, word_of
 from .scripts import Schema, row_text
 
 MOST_COLUMNS = 16
-MOST_NAME = 64
 _PIECE = 5_000
 #: Letters of a line that are read at once: a longer line is no record of a table, and is told as several that are wrong.
 _LONGEST_LINE = 1_000_000
 _MOST_APART = 10_000
+_MOST_ALIKE = 10
+_SEPARATOR = re.compile(r"sep=([^\r\n])\r?\n")
+_VALUES = re.compile(r"'(?:[^'\\]|\\.)*'|\"(?:[^\"\\]|\\.)*\"|[0-9][0-9,]*")
 _Item = TypeVar("_Item")
-_ENDS_BLOCK = re.compile(r"\n\\\.\r?\n")
-_PLAIN_LETTERS = str.maketrans(
-    {"æ": "ae", "ø": "o", "å": "a", "ß": "ss", "đ": "d", "ð": "d", "þ": "th", "ł": "l", "œ": "oe", "ı": "i"})
-
-
-@dataclass(frozen=True)
-class ListOptions:
-    """How lists become a table.
-
-    table: its name. key: the columns of its key. columns: those that are taken, all where None. decimals: the number of places
-    by column. times, texts: the columns that are one. delimiter: what stands between two fields; where it isn't told, that of the
-    header line. encoding: how the lists are written; one with a byte order mark of UTF-8 is UTF-8. renamed: the names of columns by
-    those that lists have. decimal_mark: "." or ",".
-    missing: what becomes of a record with an empty field outside the key: "refuse", "keep" (the empty text is a value) or "drop".
-    source_column: the name of the column that says from which list a row is. strip: whether blanks at the ends of fields are left out.
-    """
-
-    table: str
-    key: Sequence[str]
-    columns: Optional[Sequence[str]] = None
-    decimals: Mapping[str, int] = field(default_factory=dict)
-    times: Sequence[str] = ()
-    texts: Sequence[str] = ()
-    delimiter: str = ""
-    encoding: str = "utf-8"
-    renamed: Mapping[str, str] = field(default_factory=dict)
-    decimal_mark: str = "."
-    missing: str = "refuse"
-    strict: bool = False
-    source_column: str = "source"
-    strip: bool = False
 
 
 class _Reader(Protocol):
@@ -67,11 +38,8 @@ class _Reader(Protocol):
     def __next__(self) -> List[str]: ...
 
 
-def word_of(header: str) -> str:
-    """A header as a name of the language: `Full Name` is full_name. Empty where nothing of it is left."""
-    plain = unicodedata.normalize("NFKD", header.strip().lower().translate(_PLAIN_LETTERS))
-    word = re.sub(r"[^a-z0-9]+", "_", "".join(letter for letter in plain if not unicodedata.combining(letter))).strip("_")
-    return "c_" + word if word[:1].isdigit() else "primary_" if word == "primary" else word
+class _ReadFault(Exception):
+    """A list can't be read, and why."""
 
 
 class Lists:
@@ -86,6 +54,10 @@ class Lists:
         self.dropped = 0
         self.faults = 0
         self._notes: List[str] = []
+        self._alike: Dict[Tuple[str, str], int] = {}  # by list and cause, how many faults there are
+        self._last_alike: Dict[Tuple[str, str], int] = {}  # and the line of the last one that was told
+        self._header_line = 1
+        self._unrenamed = set(map(word_of, options.renamed))
         self._fault = fault
         self._told: List[Tuple[int, str]] = []
         self._is_in_piece = False
@@ -98,11 +70,24 @@ class Lists:
         self._apart: List[Tuple[str, ...]] = []
 
     def tell(self, path: str, line: Optional[int], text: str) -> None:
-        """Tells a fault. Those of a piece are told in the order of their lines, behind it."""
+        """Tells a fault, if not too many are like it. Those of a piece are told in the order of their lines, behind it."""
         self.faults += 1
-        self._told.append((line or 0, "%s: %s" % (path if line is None else "%s:%d" % (path, line), text)))
+        is_of_encoding = "isn't UTF-8" in text
+        kind = path, "UTF-8" if is_of_encoding else _VALUES.sub("", text)
+        self._alike[kind] = self._alike.get(kind, 0) + 1
+        if self._alike[kind] <= (1 if is_of_encoding else _MOST_ALIKE):
+            self._told.append((line or 0, "%s: %s" % (path if line is None else "%s:%d" % (path, line), text)))
+            self._last_alike[kind] = line or 0
         if not self._is_in_piece:
             self._tell_all()
+
+    def _tell_counts(self) -> None:
+        """Tells how many faults weren't told, for being like others."""
+        for kind, count in self._alike.items():
+            more = count - (1 if kind[1] == "UTF-8" else _MOST_ALIKE)
+            if more > 0:
+                self._fault("%s: and %d more like that of line %d" % (kind[0], more, self._last_alike[kind]))
+        self._alike.clear()
 
     def _tell_all(self) -> None:
         for _, fault in sorted(self._told, key=lambda told: told[0]):
@@ -110,24 +95,33 @@ class Lists:
         self._told.clear()
 
     def add(self, path: str, source: Optional[str]) -> None:
-        """Reads a list. source: what the rows have in the column of sources; None where there is no such column."""
+        """Reads a list. source: what the rows have in the column of sources; None where there is no such column. Raises OSError where
+        the file of blocks can't be written."""
         try:
-            with open(path, "rb") as raw:
-                before = os.fstat(raw.fileno())
-                codecs.lookup(self.options.encoding)
-                before_it = self.records
-                self._read(path, source, self._decoded(path, raw))
-                self.counts.append((source or path, self.records - before_it))
-                after = os.fstat(raw.fileno()) if not raw.closed else before
+            raw = open(path, "rb")
         except OSError as fault:
             self.tell(path, None, (fault.strerror or str(fault)).lower())
+            return
+        with raw:
+            try:
+                self._add(path, source, raw)
+            except _ReadFault as fault:
+                self.tell(path, None, str(fault))
+        self._tell_counts()
+
+    def _add(self, path: str, source: Optional[str], raw: io.BufferedReader) -> None:
+        try:
+            codecs.lookup(self.options.encoding)
         except LookupError:
-            self.tell(path, None, "no encoding is called %s" % self.options.encoding)
-        except UnicodeError as fault:
-            self.tell(path, None, "it isn't written in %s: %s" % (self.options.encoding, fault))
-        else:
-            if stat.S_ISREG(before.st_mode) and (before.st_size, before.st_mtime_ns) != (after.st_size, after.st_mtime_ns):
-                self.tell(path, None, "it changed while it was read")
+            raise _ReadFault("no encoding is called %s" % self.options.encoding) from None
+        before, records = os.fstat(raw.fileno()), self.records
+        text = self._decoded(path, raw)
+        self._read(path, source, text)
+        self.counts.append((source or path, self.records - records))
+        after = os.fstat(raw.fileno())
+        if stat.S_ISREG(before.st_mode) and (before.st_size, before.st_mtime_ns) != (after.st_size, after.st_mtime_ns):
+            self.tell(path, None, "it changed while it was read")
+        text.detach()
 
     def _decoded(self, path: str, raw: io.BufferedReader) -> io.TextIOWrapper:
         """A list as text. One that is UTF-8 with a letter beyond ASCII is read so, whatever encoding was told."""
@@ -141,23 +135,61 @@ class Lists:
         return io.TextIOWrapper(raw, encoding=encoding, newline="")
 
     def _read(self, path: str, source: Optional[str], text: io.TextIOWrapper) -> None:
-        first = text.readline(_LONGEST_LINE)
-        rest = iter(partial(text.readline, _LONGEST_LINE), "")
-        reader = csv.reader(chain([first], rest), delimiter=self.options.delimiter or _delimiter_of(first), strict=True)
+        rest = self._lines(text)
+        first, delimiter, above = self._first(rest)
+        reader = csv.reader(chain(repeat("\n", above), [first], rest), delimiter=delimiter, strict=True)
         faults = self.faults
         header = self._header(path, reader)
         places = self._places(path, header, source is not None) if header else []
         if header is None or self.faults > faults:
-            text.detach()
             return
-        writer = _BlockWriter(self._blocks, self.options.table, path, self._apart, self._source_place())
+        writer = BlockWriter(self._blocks, self.options.table, path, self._apart, self._source_place())
         for lines, rows, end in self._pieces(path, reader):
             self._is_in_piece = True
-            self._piece(path, source, places, len(header), lines, rows, writer, end)
-            self._is_in_piece = False
-            self._tell_all()
+            try:
+                self._piece(path, source, places, len(header), lines, rows, writer, end)
+            finally:
+                self._is_in_piece = False
+                self._tell_all()
         writer.end()
-        text.detach()
+
+    def _lines(self, text: io.TextIOWrapper) -> Iterator[str]:
+        """The lines of a list. Raises _ReadFault where it can't be read."""
+        try:
+            yield from iter(partial(text.readline, _LONGEST_LINE), "")
+        except OSError as fault:
+            raise _ReadFault((fault.strerror or str(fault)).lower()) from None
+        except UnicodeError as fault:
+            raise _ReadFault("it isn't written in %s: %s" % (self.options.encoding, fault)) from None
+
+    def _first(self, lines: Iterator[str]) -> Tuple[str, str, int]:
+        """The header line, what stands between the fields of a list, and how many lines stand above: those that are told, and a line
+        `sep=;` as spreadsheets write it."""
+        above = self.options.skip
+        for _ in range(above):
+            next(lines, "")
+        first = next(lines, "")
+        separator = _SEPARATOR.fullmatch(first)
+        if separator:
+            first, above = next(lines, ""), above + 1
+        return first, self.options.delimiter or (separator[1] if separator else self._delimiter_of(first)), above
+
+    def _delimiter_of(self, header: str) -> str:
+        """What stands between the fields of a header line: of four marks one by which the key is found, and else the commonest."""
+        def fit(mark: str) -> Tuple[bool, int]:
+            try:
+                names = self._words(next(csv.reader([header], delimiter=mark), []))
+            except csv.Error:
+                return False, 0
+            return bool(self._key) and set(self._key) <= {*names, self.options.source_column}, len(names)
+
+        return max(",;\t|", key=fit)
+
+    def _words(self, names: Sequence[str]) -> List[str]:
+        """The headers as names of the language."""
+        renamed = {word_of(old): new for old, new in self.options.renamed.items()}
+        self._unrenamed -= set(map(word_of, names))
+        return [renamed.get(word_of(name), word_of(name)) for name in names]
 
     def _header(self, path: str, reader: "_Reader") -> Optional[List[str]]:
         """The names of a list's columns, or None where they can't be had."""
@@ -169,17 +201,24 @@ class Lists:
         if names is None:
             self.tell(path, None, "it is empty, and a header line is wanted")
             return None
+        self._header_line = reader.line_num
         if any("\udc80" <= letter <= "\udcff" for name in names for letter in name):
             self.tell(path, reader.line_num, "the header isn't UTF-8; --encoding says how the list is written, as latin-1")
             return None
-        renamed = {word_of(old): new for old, new in self.options.renamed.items()}
-        words = [renamed.get(word_of(name), word_of(name)) for name in names]
+        words = self._words(names)
+        taken = None if self.options.columns is None else {*map(word_of, self.options.columns), *self._key}
         for at, (word, name) in enumerate(zip(words, names), 1):
+            if taken is not None and word not in taken:
+                continue
             if not word or len(word) > MOST_NAME:
-                self.tell(path, reader.line_num, "the header of column %d, %r, makes no name" % (at, name))
+                self.tell(path, reader.line_num, "the header of column %d, %r, makes no name: --rename %s=NAME gives it one, --columns leaves it out%s"
+                          % (at, name, name, self._skip_hint(path)))
             elif word in words[:at - 1]:
                 self.tell(path, reader.line_num, "columns %d and %d are both called %s" % (words.index(word) + 1, at, word))
         return words
+
+    def _skip_hint(self, path: str) -> str:
+        return "" if self.options.skip else "; is line %d no header? --skip 1" % self._header_line
 
     def _places(self, path: str, header: List[str], has_source: bool) -> List[int]:
         """Where in a record the taken columns stand; the columns themselves are made with the first list."""
@@ -189,16 +228,16 @@ class Lists:
             names = self._taken(path, header)
             self._columns = [self._column(name) for name in names]
         if has_source and self.options.source_column in header:
-            self.tell(path, 1, "it has a column %s itself: --source-column says what the column of sources is called"
+            self.tell(path, self._header_line, "it has a column %s itself: --source-column says what the column of sources is called"
                       % self.options.source_column)
         wanted = [column.name for column in self._columns]
         for name in wanted:
             if name not in header:
-                self.tell(path, 1, "no column %s; it has %s (--rename OLD=NEW names a column anew)" % (name, ", ".join(header)))
+                self.tell(path, self._header_line, "no column %s; it has %s (--rename OLD=NEW names a column anew)" % (name, ", ".join(header)))
         if self.options.columns is None:
             for name in header:
                 if name not in wanted and name != self.options.source_column:
-                    self.tell(path, 1, "a column %s, which %s hasn't; --columns says which are taken" % (name, self._headers[0]))
+                    self.tell(path, self._header_line, "a column %s, which %s hasn't; --columns says which are taken" % (name, self._headers[0]))
         return [header.index(name) for name in wanted if name in header]
 
     def _taken(self, path: str, header: List[str]) -> List[str]:
@@ -209,14 +248,14 @@ class Lists:
             names = [word_of(name) for name in self.options.columns] if self.options.columns is not None else list(header)
         for name in self._key:
             if name not in names and not (self._has_source and name == self.options.source_column):
-                hint = "; --delimiter says what stands between two fields" if len(header) == 1 else ""
-                self.tell(path, 1, "no column %s for the key; it has %s%s" % (name, ", ".join(header), hint))
+                self.tell(path, self._header_line, "no column %s for the key; it has %s; --delimiter says what stands between two fields, "
+                          "--skip how many lines stand above the header" % (name, ", ".join(header)))
         named = [word_of(name) for name in (*self.options.decimals, *self.options.times, *self.options.texts)]
         for name in named:
             if name not in names:
-                self.tell(path, 1, "no column %s; it has %s" % (name, ", ".join(header)))
+                self.tell(path, self._header_line, "no column %s; it has %s" % (name, ", ".join(header)))
         if len(names) + self._has_source > MOST_COLUMNS:
-            self.tell(path, 1, "%d columns, and a table has at most %d: --columns says which are taken"
+            self.tell(path, self._header_line, "%d columns, and a table has at most %d: --columns says which are taken"
                       % (len(names) + self._has_source, MOST_COLUMNS))
         return names
 
@@ -259,7 +298,7 @@ class Lists:
             yield lines, rows, at
 
     def _piece(self, path: str, source: Optional[str], places: List[int], width: int, lines: List[int], rows: List[List[str]],
-               writer: "_BlockWriter", end: int) -> None:
+               writer: "BlockWriter", end: int) -> None:
         """Looks at a piece of a list and writes its rows."""
         if any(len(row) != width for row in rows):
             kept = [self._is_whole(path, line, row, width) for line, row in zip(lines, rows)]
@@ -309,12 +348,13 @@ class Lists:
         self._tell_all()
         for column in self._columns:
             for fault in column.faults():
-                self.faults += 1
-                self._fault(fault)
+                self.tell(*fault)
+        self._tell_counts()
 
     def notes(self) -> List[str]:
         """What is no fault and good to know."""
         notes = self._notes + ["%s has no records" % name for name, count in self.counts if not count]
+        notes += ["no list has a column %s, which is named anew" % name for name in sorted(self._unrenamed)]
         notes += [note for column in self._columns for note in column.notes()]
         if self.dropped:
             notes.append("%d record%s with an empty field left out" % (self.dropped, "" if self.dropped == 1 else "s"))
@@ -342,67 +382,6 @@ class Lists:
         self._blocks.detach()
 
 
-class _BlockWriter:
-    """Writes the rows of a list as `copy` blocks. Line K of a block is line K of the list from the one on that the comment names,
-    so blank lines stand where the list has what is no row. Rows that would end a block go apart."""
-
-    def __init__(self, out: TextIO, table: str, path: str, apart: List[Tuple[str, ...]], source_place: int) -> None:
-        self._out = out
-        self._table = table
-        self._path = re.sub(r"[\r\n]", "?", path).encode("utf-8", "replace").decode()
-        self._csv = csv.writer(out, lineterminator="\n", quoting=csv.QUOTE_ALL)
-        self._apart = apart
-        self._source_place = source_place
-        self._next = 0
-
-    def write(self, lines: Sequence[int], columns: Sequence[Sequence[str]], source: Optional[str], end: int) -> None:
-        """Writes the rows of a piece that ends on a line."""
-        place = self._source_place
-        rows = zip(*columns) if source is None else zip(*columns[:place], repeat(source), *columns[place:])
-        if self._next == lines[0] and end - lines[0] + 1 == len(lines):
-            self._csv.writerows(rows)
-            self._next = end + 1
-            return
-        for line, row in zip(lines, rows):
-            if any(_ENDS_BLOCK.search(value) for value in row if "\\." in value):
-                self._apart.append(row)
-            else:
-                self._write_row(line, row)
-
-    def _write_row(self, line: int, row: Tuple[str, ...]) -> None:
-        if not self._next:
-            self._out.write("-- %s:%d\ncopy %s;\n" % (self._path, line, self._table))
-            self._next = line
-        self._out.write("\n" * (line - self._next))
-        self._csv.writerow(row)
-        self._next = line + 1 + sum(value.count("\n") for value in row)
-
-    def end(self) -> None:
-        """Ends the block, if one is open."""
-        if self._next:
-            self._out.write("\\.\n")
-            self._next = 0
-
-
-def rows_script(table: str, rows: Iterable[Tuple[Union[int, str], ...]]) -> str:
-    """The statements that put rows into a table."""
-    block, apart = io.StringIO(newline=""), []
-    writer = csv.writer(block, lineterminator="\n", quoting=csv.QUOTE_ALL)
-    for row in rows:
-        if any(isinstance(value, str) and _ENDS_BLOCK.search(value) for value in row):
-            apart.append("insert into %s values %s;\n" % (table, row_text(row)))
-        else:
-            writer.writerow(row)
-    return "copy %s;\n%s\\.\n%s" % (table, block.getvalue(), "".join(apart))
-
-
-def create_text(schema: Schema) -> str:
-    """The statement that makes a table."""
-    columns = ", ".join("%s %s" % item for item in schema.columns.items())
-    first = "create strict table" if schema.strict else "create table"
-    return "%s %s (%s, primary key (%s));\n" % (first, schema.table, columns, ", ".join(schema.key))
-
-
 def _is_utf_8(raw: io.BufferedReader) -> bool:
     """Whether a file is UTF-8 with a letter beyond ASCII; of one that can't be read twice, whether its beginning is."""
     decoder = codecs.getincrementaldecoder("utf-8")()
@@ -419,11 +398,6 @@ def _is_utf_8(raw: io.BufferedReader) -> bool:
     finally:
         if raw.seekable():
             raw.seek(0)
-
-
-def _delimiter_of(header: str) -> str:
-    """What stands between the fields of a header line: a comma, unless it has none and has another mark that is used for it."""
-    return "," if "," in header else next((mark for mark in ";\t|" if mark in header), ",")
 
 
 def _those(values: Sequence[_Item], kept: Sequence[bool]) -> List[_Item]:

@@ -8,9 +8,11 @@ import sys
 import tempfile
 from typing import IO, Callable, List, Optional, Sequence, Tuple
 
+from .blocks import create_text
 from .errors import LoadFault
 from .files import standard_output, written
-from .lists import ListOptions, Lists, create_text, word_of
+from .lists import Lists
+from .options import ListOptions, word_of
 from .scaling import stored_note
 from .scripts import Schema, remark_text
 
@@ -30,13 +32,15 @@ def load_script(options: ListOptions, sources: Sequence[Source], out: IO[bytes],
     """
     with tempfile.TemporaryFile() as blocks:
         lists = Lists(options, blocks, fault, there)
-        for path, source in sources:
-            lists.add(path, source)
-        lists.end()
-        if lists.faults:
+        try:
+            for path, source in sources:
+                lists.add(path, source)
+            lists.end()
             lists.finish_blocks()
+        except OSError as wrong:
+            raise OSError(wrong.errno, "%s, in the folder of temporary files" % wrong.strerror, tempfile.gettempdir()) from None
+        if lists.faults:
             return None
-        lists.finish_blocks()
         if blocks.tell() > _MOST_INPUT:
             lists.tell(options.table, None, "%d bytes of records, and a script has at most 268,435,456" % blocks.tell())
             return None
@@ -53,7 +57,7 @@ def parser() -> argparse.ArgumentParser:
     """The words of `load`."""
     words = argparse.ArgumentParser(
         prog="cqa load", description="CSV lists with header lines as one script of cqa. With a fault in a list nothing is written.",
-        epilog="example: cqa load --table customer --key id --source shop=shop.csv --source crm=crm.csv >load.cqa")
+        epilog="example: cqa load --table customer --key id --source shop=shop.csv --source crm=crm.csv -o load.cqa")
     words.add_argument("files", nargs="*", metavar="LIST", help="a list without a source")
     words.add_argument("--table", required=True, help="the table's name")
     words.add_argument("--key", required=True, help="the columns of its key: id or id,day")
@@ -64,10 +68,10 @@ def parser() -> argparse.ArgumentParser:
     words.add_argument("--rename", action="append", default=[], metavar="OLD=NEW", help="a column that a list calls otherwise")
     words.add_argument("--delimiter", default="",
                        help="what stands between two fields: else a comma, or what the header has in its place; tab is written \\t")
-    words.add_argument("--encoding", default="utf-8", help="how the lists are written (utf-8), as latin-1")
+    words.add_argument("--encoding", default="utf-8", help="the lists' encoding, such as latin-1 (utf-8 where it isn't told); a list that is UTF-8 is read so")
     words.add_argument("--decimal", action="append", default=[], metavar="COLUMN:PLACES",
-                       help="a column of numbers with so many places, stored as ints")
-    words.add_argument("--decimal-mark", choices=[".", ","], default=".", help="the mark before the places (.)")
+                       help="a column of numbers with so many places, stored as ints, as which statements speak of them")
+    words.add_argument("--decimal-mark", choices=[".", ","], default=".", metavar="MARK", help="the mark before the places: . or , (.)")
     words.add_argument("--time", action="append", default=[], metavar="COLUMN",
                        help="a column of dates, or of times in UTC, all in one form")
     words.add_argument("--text", action="append", default=[], metavar="COLUMN",
@@ -75,6 +79,7 @@ def parser() -> argparse.ArgumentParser:
     words.add_argument("--missing", choices=["refuse", "keep", "drop"], default="refuse",
                        help="an empty field outside the key is a fault (refuse), the text '' (keep), or its record is left out (drop)")
     words.add_argument("--strip", action="store_true", help="blanks at the ends of fields are left out")
+    words.add_argument("--skip", type=int, default=0, metavar="N", help="how many lines stand above the header (0)")
     words.add_argument("--strict", action="store_true", help="the table takes no two rows of one key")
     words.add_argument("-o", "--output", metavar="FILE", help="the script's file, in place of standard output")
     return words
@@ -83,8 +88,6 @@ def parser() -> argparse.ArgumentParser:
 def options_of(words: argparse.Namespace) -> ListOptions:
     """The options that the words tell. Raises ValueError where they tell none."""
     delimiter = "\t" if words.delimiter in ("\\t", "tab") else words.delimiter
-    if len(delimiter) > 1 or delimiter and delimiter in '"\r\n':
-        raise ValueError("--delimiter wants one letter")
     decimals = {}
     for decimal in words.decimal:
         name, _, places = decimal.rpartition(":")
@@ -92,13 +95,9 @@ def options_of(words: argparse.Namespace) -> ListOptions:
             raise ValueError("--decimal wants COLUMN:PLACES, with at most 18 places, and not %s" % decimal)
         decimals[name] = int(places)
     renamed = dict(pair.partition("=")[::2] for pair in words.rename)
-    if not all(word_of(new) == new != "" for new in renamed.values()):
-        raise ValueError("--rename wants OLD=NEW, where NEW is a name of lower-case letters, digits and _")
-    if word_of(words.table) != words.table.lower() or not words.table:
-        raise ValueError("--table wants a name of letters, digits and _, and not %r" % words.table)
     return ListOptions(words.table, words.key.split(","), words.columns.split(",") if words.columns else None, decimals, words.time,
                        words.text, delimiter, words.encoding, renamed, words.decimal_mark, words.missing, words.strict, words.source_column,
-                       words.strip)
+                       words.strip, words.skip)
 
 
 def sources_of(words: argparse.Namespace) -> List[Source]:

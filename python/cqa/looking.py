@@ -46,6 +46,8 @@ def conflicts_main(arguments: Sequence[str]) -> int:
     words.add_argument("others", nargs="*", metavar="FILE or TABLE",
                        help="a word that may be a table's name is one, as customer; another is a script, as b.cqa or ./customer")
     words.add_argument("--source", metavar="COLUMN", help="the column of sources, which is no conflict (source)")
+    words.add_argument("--csv", action="store_true", help="the values in conflict of one table as CSV, for a spreadsheet")
+    words.add_argument("-o", "--output", metavar="FILE", help="the file to write, in place of standard output")
     told = words.parse_args(arguments)
     tables = [word for word in told.others if _NAME.fullmatch(word)]
     files = [told.first] + [word for word in told.others if not _NAME.fullmatch(word)]
@@ -60,12 +62,16 @@ def conflicts_main(arguments: Sequence[str]) -> int:
             lacking = "no table %s in %s" % (missing[0], ", ".join(files)) if missing else "%s makes no table" % ", ".join(files)
             print("cqa conflicts: %s" % lacking, file=sys.stderr)
             return 1
+        if told.csv and len(tables or there) > 1:
+            print("cqa conflicts: --csv wants one table: %s" % ", ".join(tables or there), file=sys.stderr)
+            return 1
         try:
-            text = "".join(str(session.conflicts(table, told.source)) for table in tables or there)
+            found = [session.conflicts(table, told.source) for table in tables or there]
+            text = found[0].listed().csv_text() if told.csv else "".join(map(str, found))
         except KeyError as fault:
             print("cqa conflicts: %s" % fault.args[0], file=sys.stderr)
             return 1
-    _write(text, None)
+    _write(text, told.output)
     return 0
 
 

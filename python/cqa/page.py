@@ -27,6 +27,7 @@ p { margin: .5rem 0; max-width: 46rem; }
 .quiet { color: var(--quiet); }
 .odd { color: var(--odd); font-weight: 600; }
 code, pre { font-family: ui-monospace, monospace; font-size: .9em; }
+code { overflow-wrap: anywhere; }
 pre { background: var(--panel); padding: .75rem; margin: .5rem 0; border-radius: .4rem; white-space: pre-wrap; overflow-wrap: anywhere; }
 .wide { overflow-x: auto; }
 table { border-collapse: collapse; font-size: .9rem; }

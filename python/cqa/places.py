@@ -62,7 +62,8 @@ def place_of(script: bytes, statement: Statement, refusal: str, schemas: Dict[st
         masked = _COMMENT_OR_TEXT.sub(lambda found: found[0] if found[0][:1] == b"'" else b" " * len(found[0]), text)
         tokens = [(found[0], found.start()) for found in _TOKEN.finditer(masked)]
         inner = _offset(tokens, refusal, name, len(text))
-        note = advice_for(masked.decode("utf-8", "replace"), _letters(masked, inner), refusal) or _meant(refusal, schemas)
+        note = (advice_for(masked.decode("utf-8", "replace"), _letters(masked, inner), refusal) or _meant(refusal, schemas)
+                or _of_row(tokens, refusal, schemas, inner))
         at = statement.start + inner
         if name == "BadByte":
             note = next((text for mark, text in _MARKS.items() if script[at:at + len(mark)] == mark), note)
@@ -77,6 +78,23 @@ def _meant(refusal: str, schemas: Dict[str, Schema]) -> str:
     names = set(schemas) if found[1] == "Table" else {name for schema in schemas.values() for name in schema.columns}
     near = difflib.get_close_matches(found[2], names, 1, 0.7)
     return "is it `%s`?" % near[0] if near else ""
+
+
+def _of_row(tokens: List[Token], refusal: str, schemas: Dict[str, Schema], inner: int) -> str:
+    """What the table of a refused row wants."""
+    words = [word.decode("utf-8", "replace") for word, _ in tokens]
+    schema = schemas.get(words[2]) if words[:2] == ["insert", "into"] and len(words) > 2 else None
+    if schema is None:
+        return ""
+    if " WrongArity " in refusal:
+        return "%d columns: %s" % (len(schema.columns), ", ".join(schema.columns))
+    column = re.search(r" TypeMismatch row \d+ column (\d+)$", refusal)
+    if column is None or not 0 < int(column[1]) <= len(schema.columns):
+        return ""
+    name, kind = list(schema.columns.items())[int(column[1]) - 1]
+    value = next((word for word, (_, at) in zip(words, tokens) if at == inner), "")
+    wanted = "'%s'" % value if kind == "text" else value.strip("'") if re.fullmatch(r"'-?\d+'", value) else ""
+    return "%s is %s%s" % (name, kind, ": write " + wanted if wanted else "")
 
 
 def _letters(text: bytes, offset: int) -> int:
@@ -192,7 +210,7 @@ def _record_causes(block: bytes, schema: Optional[Schema], number: int) -> Tuple
 
 def _causes(record: List[str], schema: Schema) -> List[str]:
     if len(record) != len(schema.columns):
-        return ["%d fields, and the table has %d columns" % (len(record), len(schema.columns))]
+        return ["%d field%s, and the table has %d columns" % (len(record), "" if len(record) == 1 else "s", len(schema.columns))]
     return [cause for (name, kind), field in zip(schema.columns.items(), record) for cause in _field_cause(name, kind, field)]
 
 

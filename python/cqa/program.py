@@ -2,13 +2,14 @@
 
 from __future__ import annotations
 
+import contextlib
 import os
 import shutil
 import subprocess
 import threading
 from typing import BinaryIO, List, Optional, Union
 
-from .errors import Ended, NotBuilt, ended
+from .errors import Closed, Ended, NotBuilt, ended
 from .replies import END_LINE, END_STATEMENT, reply_lines
 
 _BUILT = os.path.join("crates", "cqa_cli", "out", "cqa_cli")
@@ -44,12 +45,17 @@ def _runnable(path: str) -> str:
 
 
 class Child:
-    """A running program that reads a script and is asked statement by statement."""
+    """A running program that reads a script and is asked statement by statement.
+
+    Where one thread sends and another reads the replies, the one that reads owns the program: it alone finds its end, tells it and
+    closes. The one that sends stops where nobody reads any more.
+    """
 
     def __init__(self, program: Optional[str] = None, is_apart: bool = False) -> None:
         """Starts the program. is_apart: Ctrl-C at the terminal doesn't reach it. Raises NotBuilt where there is none."""
         self.program = found_program(program)
         self.is_apart = is_apart
+        self.closed_by = ""  # why no statement can be sent any more
         self._lock = threading.Lock()
         environment = dict(os.environ)
         environment.setdefault("GLIBC_TUNABLES", "glibc.malloc.hugetlb=1")
@@ -62,30 +68,34 @@ class Child:
         self.replies = _piped(self._process.stdout)
 
     def write(self, part: Union[bytes, memoryview]) -> None:
-        """Sends bytes, which may be kept back until `flush`. Raises Ended where nobody reads them."""
+        """Sends bytes, which may be kept back until `flush`. Raises BrokenPipeError where nobody reads them."""
         try:
             self._input.write(part)
-        except (BrokenPipeError, ValueError):
-            raise self._ending() from None
+        except ValueError:
+            raise BrokenPipeError from None
 
     def flush(self) -> None:
-        """Sends what is kept back."""
+        """Sends what is kept back. Raises BrokenPipeError where nobody reads it."""
         try:
             self._input.flush()
-        except (BrokenPipeError, ValueError):
-            raise self._ending() from None
+        except ValueError:
+            raise BrokenPipeError from None
 
     def tell(self, statement: bytes, verb: str) -> List[bytes]:
         """Sends one complete statement and gives the lines of its reply. Where this is interrupted the program is ended, so that
-        no later statement gets this one's reply; threads wait for each other."""
+        no later statement gets this one's reply; threads wait for each other. Raises Closed where it was ended before, and Ended
+        where it ends."""
         with self._lock:
+            if self.closed_by:
+                raise Closed(self.closed_by)
             try:
-                self.write(statement)
-                self.write(END_STATEMENT)
-                self.flush()
+                with contextlib.suppress(BrokenPipeError):  # the end of the replies tells why
+                    self.write(statement)
+                    self.write(END_STATEMENT)
+                    self.flush()
                 return self.reply(verb)
-            except BaseException:
-                self.kill()
+            except BaseException as fault:
+                self.kill(str(fault) if isinstance(fault, Ended) else "the session was interrupted in a statement, and is ended")
                 raise
 
     def reply(self, verb: str) -> List[bytes]:
@@ -104,14 +114,16 @@ class Child:
 
     def close(self) -> int:
         """Ends the program and gives its status. Closing twice does nothing more."""
+        self.closed_by = self.closed_by or "the session is closed"
         self.end_input()
         while not self.replies.closed and self.replies.read(_PIECE):
             pass
         self.replies.close()
         return self._process.wait()
 
-    def kill(self) -> None:
-        """Ends the program at once."""
+    def kill(self, cause: str = "the session is closed") -> None:
+        """Ends the program at once. cause: why no statement can be sent any more."""
+        self.closed_by = self.closed_by or cause
         self._process.kill()
         self.end_input()
         self.replies.close()

@@ -30,7 +30,7 @@ _MOST_KEPT = 20
 
 _CLASSES = {
     "first-order": "The tables can be gone through one after the other, and each row is decided without a search.",
-    "polynomial": "Tables attack each other weakly: no such order decides it, and each row is decided in polynomial time.",
+    "polynomial": "Tables attack each other weakly: no order of the tables decides it, but each row is decided in polynomial time.",
     "conp-complete": "Tables attack each other strongly: in the worst case each row takes a search.",
 }
 
@@ -135,6 +135,8 @@ def _table_part(schema: Schema, conflicts: Conflicts) -> str:
     is_all = len(worst) == len(conflicts)
     parts.append("<h3>The keys in conflict</h3>" if is_all else "<h3>The %d keys that disagree most</h3>" % len(worst))
     parts.append(page.raw_table((*conflicts.key, "column", "values"), (cells for block in worst for cells in _block_cells(block))))
+    if not is_all:
+        parts.append('<p class="quiet">All %s are those of <code>cqa conflicts</code>.</p>' % page.number(len(conflicts)))
     return "".join(parts)
 
 

@@ -6,7 +6,7 @@ import html
 import importlib
 import re
 from decimal import Decimal
-from typing import Any, Iterable, List, Sequence, Tuple, Union
+from typing import Any, Iterable, List, Sequence, SupportsIndex, Tuple, Union, overload
 
 from .files import written
 
@@ -32,6 +32,16 @@ class Rows(List[Tuple[Cell, ...]]):
     def __init__(self, columns: Sequence[str], rows: Iterable[Tuple[Cell, ...]] = ()) -> None:
         super().__init__(rows)
         self.columns: Tuple[str, ...] = tuple(columns)
+
+    @overload
+    def __getitem__(self, at: SupportsIndex) -> Tuple[Cell, ...]: ...
+
+    @overload
+    def __getitem__(self, at: slice) -> "Rows": ...
+
+    def __getitem__(self, at: Union[SupportsIndex, slice]) -> "Union[Tuple[Cell, ...], Rows]":
+        """A row, or some rows with their columns."""
+        return Rows(self.columns, super().__getitem__(at)) if isinstance(at, slice) else super().__getitem__(at)
 
     def to_csv(self, path: str) -> None:
         """Writes a CSV file in UTF-8 with a header. The file is written beside its place and then moved."""

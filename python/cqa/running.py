@@ -3,6 +3,7 @@
 from __future__ import annotations
 
 import argparse
+import contextlib
 import queue
 import sys
 import threading
@@ -10,7 +11,7 @@ import time
 from functools import partial
 from typing import BinaryIO, Callable, Dict, Iterator, List, NamedTuple, Optional, Sequence, Set, Tuple
 
-from .errors import Ended, InputTooLong
+from .errors import InputTooLong
 from .files import standard_output
 from .places import Place, place_of
 from .program import Child
@@ -75,13 +76,17 @@ class Runner:
         self._files = files
         self._sent: "queue.Queue[Optional[_Sent]]" = queue.Queue(maxsize=10_000)
         self._is_stopped = False
+        self._failure: Optional[BaseException] = None
 
     def answers(self) -> Iterator[Answer]:
-        """The answers in the order of the statements. What is left at the end of a file is refused, and ends all."""
+        """The answers in the order of the statements. What is left at the end of a file is refused, and ends all. Raises Ended where
+        the program ends, and what the sending raises."""
         threading.Thread(target=self._send, daemon=True).start()
         while True:
             sent = self._sent.get()
             if sent is None:
+                if self._failure is not None:
+                    raise self._failure
                 return
             yield self._answer(*sent)
             self.answered += 1
@@ -96,8 +101,9 @@ class Runner:
                 fault = fault_of(file.script, statement)
                 before(verb_of(statement.text(file.script).decode("utf-8", "replace")))
                 if not fault:
-                    self._send_statement(file.script, statement)
-                    self.child.flush()
+                    with contextlib.suppress(BrokenPipeError):
+                        self._send_statement(file.script, statement)
+                        self.child.flush()
                 yield self._answer(file, statement, fault)
                 if not statement.complete:
                     return
@@ -113,8 +119,10 @@ class Runner:
                     break
                 self._bytes_before += len(file.script)
             self.child.flush()
-        except Ended:
-            pass
+        except BrokenPipeError:
+            pass  # the end of the replies tells why
+        except BaseException as fault:
+            self._failure = fault
         finally:
             self._sent.put(None)
 

@@ -14,12 +14,13 @@ from typing import Callable, Dict, Iterable, Iterator, List, Mapping, Optional, 
 
 from . import answers
 from .answers import Classification, Explanation, Group, Kept, Range
+from .blocks import create_text, rows_script
 from .columns import is_in_range, scaled
 from .conflicts import Conflicts, conflicts_of
-from .errors import LoadFault, LoadWarning, Refused, ReplyFault, ScaleWarning, StateFault, UnknownStatement
+from .errors import LoadFault, LoadWarning, NoSuchName, Refused, ReplyFault, ScaleWarning, StateFault, UnknownStatement
 from .files import written
-from .lists import ListOptions, create_text, rows_script, word_of
 from .loading import Source, load_script
+from .options import ListOptions, word_of
 from .program import Child
 from .replies import IS_REFUSAL, row_of
 from .rows import Cell, Rows
@@ -31,7 +32,6 @@ from .scripts import (Schema, Statement, fault_of, names_from, quoted, remark_te
 NEWER = (("disputed", b"error 2 Syntax at 0\n"), ("against", b"error 2 Syntax at 0\n"), ("prove", b"error 2 Syntax at 0\n"),
          ("range", b"error 2 Syntax at 0\n"), ("prefer", b"error 2 Syntax at 0\n"), ("show conflicts", b"error 2 Syntax at 5\n"))
 
-_NAME = re.compile(r"[A-Za-z_][A-Za-z0-9_]*")
 _STATE_HEAD = "-- cqa state: kept by the Python package; it is a script, and its last line tells its size\n"
 _STATE_END = re.compile(rb"-- cqa state: (\d+) tables, (\d+) rows\n\Z")
 
@@ -155,17 +155,17 @@ class Session:
         """Raises what a refusal is."""
         plain = " ".join(text.split())
         for word, reply in NEWER:
-            if plain.startswith(word) and line == reply:
+            if re.match(word + r"\b", plain) and line == reply:
                 raise UnknownStatement(line[:-1].decode(), text, self.program, word)
         raise Refused(line[:-1].decode("utf-8"), text)
 
     # -- load and look ------------------------------------------------------------------------------------------------------
 
     def load(self, table: str, path: Union[str, "os.PathLike[str]", Mapping[str, Union[str, "os.PathLike[str]"]]], *,
-             key: Union[str, Sequence[str]] = (), source: Optional[str] = None, columns: Optional[Sequence[str]] = None,
-             decimal: Optional[Mapping[str, int]] = None, time: Sequence[str] = (), text: Sequence[str] = (), delimiter: str = "",
+             key: Union[str, Sequence[str]] = (), source: Optional[str] = None, columns: Union[str, Sequence[str], None] = None,
+             decimal: Optional[Mapping[str, int]] = None, time: Union[str, Sequence[str]] = (), text: Union[str, Sequence[str]] = (), delimiter: str = "",
              encoding: str = "utf-8", renamed: Optional[Mapping[str, str]] = None, decimal_mark: str = ".",
-             missing: str = "refuse", strict: bool = False, source_column: str = "source", strip: bool = False) -> int:
+             missing: str = "refuse", strict: bool = False, source_column: str = "source", strip: bool = False, skip: int = 0) -> int:
         """Loads a CSV list with a header line into a table, which is made where it isn't there, and gives the number of new rows.
 
         path: the list, or several as {"crm": "crm.csv", "shop": "shop.csv"} by their sources; the kinds of a new table's columns
@@ -174,29 +174,24 @@ class Session:
         delimiter: where it isn't told, a comma, or what the header has in its place. renamed: names of columns by those that the
         list has. time: columns of dates or of times in UTC. text: columns that are text though they hold numbers. missing: what an empty
         field outside the key is: "refuse", "keep" or "drop". strict: whether a new table takes no two rows of one key. strip: whether
-        blanks at the ends of fields are left out.
+        blanks at the ends of fields are left out. skip: how many lines stand above the header. Names of columns are a list, or one
+        text with commas.
 
         A table that is there gets the kinds and places that a further list needs: an int column becomes text where the list has
-        other fields, and numbers get more places.
+        other fields, and numbers get more places. Then the program begins anew with all tables, and the log of `show log` is gone.
 
         Warns (LoadWarning) of what is no fault and good to know, as that numbers became texts.
 
         Raises LoadFault with every fault of the lists, and then nothing of them is loaded; ValueError for options that tell nothing;
         Refused where the program refuses a list (a strict table's key is taken, more rows than fit), and then those before it stay.
         """
-        if missing not in ("refuse", "keep", "drop"):
-            raise ValueError("missing is refuse, keep or drop, and not %r" % missing)
-        wanted = [key] if isinstance(key, str) else list(key)
-        options = ListOptions(table, wanted, columns, decimal or {}, time, text, delimiter, encoding, renamed or {}, decimal_mark, missing,
-                              strict, source_column, strip)
+        options = ListOptions(table, _names(key), None if columns is None else _names(columns), decimal or {}, _names(time), _names(text),
+                              delimiter, encoding, renamed or {}, decimal_mark, missing, strict, source_column, strip, skip)
         return self.load_lists(options, _sources(path, source))
 
     def load_lists(self, options: ListOptions, sources: Sequence[Source]) -> int:
         """Loads lists as options say, each with what its rows have in the column of sources, and gives the number of new rows.
         Raises as `load`."""
-        for name in (options.table, options.source_column):
-            if not _NAME.fullmatch(name):
-                raise ValueError("%r is no name" % name)
         there = self.schema(options.table)
         if there is not None and options.key and [word_of(name) for name in options.key] != there.key:
             raise ValueError("the key of %s is %s" % (options.table, ", ".join(there.key)))
@@ -215,27 +210,53 @@ class Session:
         return places
 
     def _loaded(self, options: ListOptions, sources: Sequence[Source], there: Optional[Schema]) -> int:
+        """Loads lists, by a program that begins anew where a table's kinds or places change: it takes the place of the one before
+        where all went well."""
         faults: List[str] = []
         with tempfile.TemporaryFile() as file:
             lists = load_script(options, sources, file, faults.append, there)
             if lists is None:
                 raise LoadFault(faults)
-            if there is not None:
-                self._convert(there, lists.schema(), options.decimals)
+            changed = self._converted_table(there, lists.schema(), options.decimals) if there is not None else ""
             file.seek(0)
             script = file.read()
-        replies = [self._told(script, part, is_made=True) for part in statements(script)]
+        before = self._child
+        if changed:
+            self._child = self._begun_anew(options.table, changed)
+        try:
+            replies = self._load_replies(script)
+        except BaseException:
+            if self._child is not before:
+                self._child.kill()
+                self._child = before
+            raise
+        if self._child is not before:
+            before.close()
         self.heed(script)
         for note in lists.notes():
             _warn(note, LoadWarning)
         return sum(int(lines[0].split(b" ")[1]) for lines in replies if lines[0].startswith((b"copied ", b"inserted ")))
 
-    def _convert(self, old: Schema, new: Schema, decimals: Mapping[str, int]) -> None:
-        """Gives a table the kinds and places that further lists need: ints become texts, numbers get more places. Raises LoadFault
-        where a stored text is no such number, and then nothing changes."""
+    def _load_replies(self, script: bytes) -> List[List[bytes]]:
+        """The replies to a script of lists. A refusal names its list."""
+        replies: List[List[bytes]] = []
+        part: Optional[Statement] = None
+        try:
+            for part in statements(script):
+                replies.append(self._told(script, part, is_made=True))
+        except Refused as refused:
+            found = re.search(rb"-- ([^\n]*):[0-9]+\n\Z", script[:part.start][-5000:]) if part is not None else None
+            if found is None:
+                raise
+            raise Refused(refused.line, refused.statement, "of the list " + found[1].decode("utf-8", "replace")) from None
+        return replies
+
+    def _converted_table(self, old: Schema, new: Schema, decimals: Mapping[str, int]) -> str:
+        """The script of a table with the kinds and places that further lists need, or nothing where it has them: ints become texts,
+        numbers get more places. Raises LoadFault where a stored text is no such number."""
         scales = {name: places - self._places.get((old.table, name), 0) for name, places in decimals.items() if name in old.columns}
         if old.columns == new.columns and not any(scales.values()):
-            return
+            return ""
         names = list(old.columns)
         told = self._lines("possible select %s from %s;" % (", ".join(names), old.table))
         faults: List[str] = []
@@ -243,27 +264,26 @@ class Session:
                 for line in told[:-1]]
         if faults:
             raise LoadFault(["%s: %s" % (old.table, fault) for fault in faults])
-        self._begin_anew({old.table: create_text(new) + rows_script(old.table, rows)})
+        return create_text(new) + rows_script(old.table, rows)
 
-    def _begin_anew(self, changed: Mapping[str, str]) -> None:
-        """Starts the program anew with the same tables, some of them made by other scripts."""
+    def _begun_anew(self, table: str, changed: str) -> Child:
+        """A program with the same tables, of which one is made by another script. The log of `show log` isn't kept."""
         dump = "".join(line + "\n" for line in self._lines("dump;")).encode("utf-8")
         parts: List[bytes] = [self._settings]
         for part in statements(dump):
             words = tokens(part.text(dump).decode("utf-8"))
             name = words[words.index("table") + 1] if words[0] == "create" else words[-1] if words[0] == "copy" else words[2]
-            if name not in changed:
+            if name != table:
                 parts.append(dump[part.start:part.end] + b"\n")
             elif words[0] == "create":
-                parts.append(changed[name].encode("utf-8"))
-        before, self._child = self._child, Child(self.program, self._child.is_apart)
+                parts.append(changed.encode("utf-8"))
+        child = Child(self.program, self._child.is_apart)
         try:
-            list(self._replies(b"".join(parts), lambda _: None))
+            list(Session(child=child)._replies(b"".join(parts), lambda _: None))
         except BaseException:
-            self._child.kill()
-            self._child = before
+            child.kill()
             raise
-        before.close()
+        return child
 
     def tables(self) -> List[Schema]:
         """The tables in order of creation."""
@@ -275,7 +295,7 @@ class Session:
         return next((schema for schema in self.tables() if schema.table == table), None)
 
     def rows(self, table: str) -> Rows:
-        """All rows of a table, in the order of its columns. Raises KeyError where it isn't there."""
+        """All rows of a table, in the order of its columns. Raises NoSuchName, a KeyError, where it isn't there."""
         schema = self._there(table)
         return self.possible("select %s from %s" % (", ".join(schema.columns), table))
 
@@ -283,12 +303,12 @@ class Session:
         """The keys of a table whose rows differ: how many by column, and for each key its values with their sources.
 
         source: the column of sources; where it isn't told, that with which the table was loaded, or one called `source`.
-        Rows that differ in their source alone are in no conflict. Raises KeyError where the table isn't there.
+        Rows that differ in their source alone are in no conflict. Raises NoSuchName, a KeyError, where the table isn't there.
         """
         schema = self._there(table)
         names = schema.key + [name for name in schema.columns if name not in schema.key]
         if source is not None and source not in schema.columns:
-            raise KeyError("%s has no column %s" % (table, source))
+            raise NoSuchName("%s has no column %s" % (table, source))
         told = source or self._sources.get(table) or ("source" if "source" in schema.columns else None)
         lines = self._lines("possible select %s from %s;" % (", ".join(names), table))
         rows = self._scaled(map(row_of, lines[:-1]), self._column_places(names, [table]))
@@ -297,7 +317,7 @@ class Session:
     def _there(self, table: str) -> Schema:
         schema = self.schema(table)
         if schema is None:
-            raise KeyError("no table %s" % table)
+            raise NoSuchName("no table %s" % table)
         return schema
 
     # -- ask ----------------------------------------------------------------------------------------------------------------
@@ -498,6 +518,10 @@ def _converted(name: str, value: Union[int, str], kind: str, places: Optional[in
     if number is None or not is_in_range(number):
         faults.append("%s: %r, which was loaded before, is no number with such places" % (name, value))
     return value if number is None else number
+
+
+def _names(names: Union[str, Sequence[str]]) -> List[str]:
+    return [name for name in names.split(",") if name] if isinstance(names, str) else list(names)
 
 
 def _sources(path: Union[str, "os.PathLike[str]", Mapping[str, Union[str, "os.PathLike[str]"]]], source: Optional[str]) -> List[Source]:

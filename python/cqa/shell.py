@@ -14,13 +14,14 @@ from types import FrameType
 from typing import Iterator, List, Optional, Sequence, Set
 
 from .errors import CqaError, Ended, LoadFault, Refused, ScaleWarning
+from .files import said
 from .habits import advice_for
 from .loading import options_of, parser, sources_of
 from .places import place_of
 from .running import loaded
 from .scripts import Schema, Statement, open_part, statements, verb_of, without_comments
 from .session import Session
-from .statements import WORDS, about, all_statements
+from .statements import VERBS, WORDS, about, all_statements
 
 PROMPTS = {"": "cqa> ", "statement": "  ..> ", "text": "'..> ", "block": "copy> "}
 
@@ -80,6 +81,8 @@ class Shell:
             if word.startswith("."):
                 self._fault("there are no commands with a dot: \\d shows the tables, \\? all commands")
                 return True
+        elif self._block is None and line.strip() == "\\q" and not self.takes_tabs(""):
+            return False
         self._buffer += b"".join(self._block or []) + text
         self._run_complete()
         return True
@@ -114,7 +117,7 @@ class Shell:
         if len(words) == 2:
             return False
         at = len(text) - len(text.split(words[1], 1)[1].lstrip()) if len(words) > 1 else len(text)
-        self._fault("this copy isn't `copy NAME;`: " + (advice_for(text, at, "error 2 Syntax") or "it names no table alone"))
+        self._fault("this copy isn't `copy NAME;`: " + (advice_for(text, at, "error 2 Syntax") or "only a table's name stands behind copy"))
         self._buffer = self._buffer[statement.text_end + 1:]
         self._run_complete()
         return True
@@ -172,19 +175,23 @@ class Shell:
                 self._is_timing = not self._is_timing
                 print("timing is %s" % ("on" if self._is_timing else "off"))
             elif words[0] == "help" or words[0] == "\\?":
-                print("".join(map(about, words[1:])) or all_statements() + "\n" + _COMMANDS, end="")
+                self._help(words[1:])
+            elif words[0] == "\\save":
+                self._fault("\\save FILE: the name of one file is wanted")
             else:
                 self._fault("no such command; these are there:\n" + _COMMANDS.rstrip())
         except (OSError, ValueError, CqaError) as fault:
             if isinstance(fault, Ended):
                 raise
-            self._fault(str(fault))
+            self._fault("a quote has no end" if str(fault) == "No closing quotation" else said(fault))
 
     def _load(self, words: Sequence[str]) -> None:
         try:
             told = parser().parse_args(words)
         except SystemExit:
             return
+        if told.output:
+            raise ValueError("\\load writes no file, so -o isn't taken")
         options, sources = options_of(told), sources_of(told)
         try:
             with warnings.catch_warnings(record=True) as notes:
@@ -198,7 +205,17 @@ class Shell:
                 print(note.message, file=sys.stderr)
             self._look()
 
+    def _help(self, words: Sequence[str]) -> None:
+        for word in words:
+            if not about(word):
+                self._fault("no statement %s; there are %s" % (word, ", ".join(VERBS)))
+        print("".join(map(about, words)) if words else all_statements() + "\n" + _COMMANDS, end="")
+
     def _describe(self, tables: Sequence[str]) -> None:
+        for table in tables:
+            if self.session.schema(table) is None:
+                self._fault("no table %s" % table)
+                return
         for line in self.session.tell("show tables;"):
             if not tables or line.split(" (")[0].split(" ")[-1] in tables:
                 print(line)
@@ -228,6 +245,7 @@ def _patience() -> Iterator[None]:
     count = 0
 
     def interrupted(number: int, frame: Optional[FrameType]) -> None:
+        """Counts; the second time it raises."""
         nonlocal count
         count += 1
         if count > 1:
@@ -280,8 +298,7 @@ def _by_hand(shell: Shell) -> None:
     print("cqa: statements end with ; (help, \\? and \\q are there)")
     while True:
         try:
-            if not shell.take(input(shell.prompt)):
-                return
+            line = input(shell.prompt)
         except EOFError:
             print()
             shell.end()
@@ -289,6 +306,14 @@ def _by_hand(shell: Shell) -> None:
         except KeyboardInterrupt:
             print()
             shell.drop()
+            continue
+        if not shell.take(line):
+            return
+
+
+def _hung_up(number: int, frame: Optional[FrameType]) -> None:
+    """The terminal is closed: what the program does is ended with the shell."""
+    sys.exit(128 + number)
 
 
 def main(arguments: Sequence[str]) -> int:
@@ -301,6 +326,7 @@ def main(arguments: Sequence[str]) -> int:
     with session:
         shell = Shell(session)
         if sys.stdin.isatty():
+            signal.signal(signal.SIGHUP, _hung_up)
             _by_hand(shell)
             return 0
         for line in sys.stdin:

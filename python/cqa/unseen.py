@@ -6,7 +6,7 @@ import re
 import unicodedata
 from typing import Dict, List, Sequence, Tuple
 
-_AT_AN_END = re.compile(r"(?:\A|\n)[ \t]|[ \t](?:\n|\Z)")
+_ENDS = (" \n", "\n ", "\t\n", "\n\t")
 _WITHOUT_LOOK = re.compile("[\x01-\x08\x0b\x0c\x0e-\x1f\x7f-\xa0\xad\u061c\u1680\u180e\u2000-\u200f\u2028-\u202f\u205f-\u206f\u3000\ufeff]")
 _PICTURES = {0x7F: "\u2421", **{code: chr(0x2400 + code) for code in range(0x20) if code not in (0x09, 0x0A)}}
 
@@ -47,8 +47,8 @@ class Unseen:
 
     def look(self, fields: Sequence[str], joined: str, where: Sequence[int], path: str) -> None:
         """Looks at the fields of a piece of a list. joined: they, with a line feed behind each. where: the line of each."""
-        is_plain = joined.isascii() or not _WITHOUT_LOOK.search(joined) and unicodedata.is_normalized("NFC", joined)
-        if is_plain and not _AT_AN_END.search(joined) and not _WITHOUT_LOOK.search(joined):
+        is_plain = joined.replace("\n", "").isprintable() and (joined.isascii() or unicodedata.is_normalized("NFC", joined))
+        if is_plain and joined[:1] not in " \t" and not any(end in joined for end in _ENDS):
             return
         for at, field in enumerate(fields):
             for cause in _causes(field):

@@ -14,8 +14,8 @@ from unittest import mock
 import support
 from support import Case, ProgramCase, lines
 
-from cqa.lists import ListOptions
 from cqa.loading import load_script
+from cqa.options import ListOptions
 
 
 class Taken(Case):
@@ -106,6 +106,17 @@ class Taken(Case):
             "cqa load: city: an accent apart from its letter in 1 field, as Be\\u0301b in a.csv:4; such a text differs from the one with both as one letter"]))
         self.assertIn('"1","Oslo"\n', self.load("--key", "id", "--strip", "a.csv"))
 
+    def test_the_delimiter_by_which_the_key_is_found(self) -> None:
+        for header in ("Nr.;Navn (etternavn, fornavn);Post nr\n1;Moe, Cy;2\n", "nr\tnavn, fullt\n1\tCy\n", '"nr";"a;b,c";d\n1;x;y\n', "sep=|\nnr|navn\n1|Cy\n"):
+            self.file("a.csv", header)
+            self.assertIn('"1",', self.load("--key", "nr", "a.csv"))
+        self.file("a.csv", "Members of 2026\n\nnr;name\n1;Ada\n")
+        self.assertIn("-- a.csv:4\n", self.load("--key", "nr", "--skip", "2", "a.csv"))
+
+    def test_headers_that_arent_taken_are_no_faults(self) -> None:
+        self.file("a.csv", "id;name;;x;x\n1;Ada;;2;3\n")
+        self.assertIn('"1","Ada"\n', self.load("--key", "id", "--columns", "id,name", "a.csv"))
+
     def test_missing_fields_as_told(self) -> None:
         self.file("a.csv", "id,email,age\n1,a@b,7\n2,,8\n3,c@d,\n")
         self.assertIn('"2","","8"', self.load("--key", "id", "--missing", "keep", "a.csv"))
@@ -141,6 +152,8 @@ class Taken(Case):
 
 
 class Faults(Case):
+    HINT = "; --delimiter says what stands between two fields, --skip how many lines stand above the header"
+
     def faults(self, content: "str | bytes", *words: str) -> List[str]:
         """The faults of a list `a.csv` whose load has to write nothing."""
         self.file("a.csv", content)
@@ -156,6 +169,14 @@ class Faults(Case):
             "a.csv:6: name is empty: --missing keep takes it as the text '', --missing drop leaves the record out",
             "a.csv:6: city is empty: --missing keep takes it as the text '', --missing drop leaves the record out",
             "a.csv:7: 4 fields, and the header has 3", "a.csv:8: a quote is opened here and never closed"])
+
+    def test_faults_alike_are_counted(self) -> None:
+        found = self.faults("id,n,m\n" + "".join("%d,12.%03d,\n" % (at, at) for at in range(300)), "--decimal", "n:2", "--missing", "keep")
+        self.assertEqual((len(found), found[0]), (11, "a.csv:3: n: '12.001' has more than 2 places"))
+        self.assertRegex(found[-1], r"^a.csv: and \d+ more like that of line \d+$")
+        found = self.faults("id,n,m\n" .encode() + b"1,\xe6,\xf8\n" * 300)
+        self.assertEqual(found, ["a.csv:2: n: the byte 0xE6 isn't UTF-8; --encoding says how the list is written, as latin-1",
+                                 "a.csv: and 599 more like that of line 2"])
 
     def test_an_unended_quote_swallows_nothing(self) -> None:
         self.assertEqual(self.faults('id,name\n1,Ada Holm\n2,"Bo Lind\n3,Cy Moe\n4,Dag Vik\n'), ["a.csv:3: a quote is opened here and never closed"])
@@ -192,10 +213,11 @@ class Faults(Case):
 
     def test_headers(self) -> None:
         self.assertEqual(self.faults(""), ["a.csv: it is empty, and a header line is wanted"])
-        self.assertEqual(self.faults("nr name\n1,Ada\n"), ["a.csv:1: no column id for the key; it has nr_name; --delimiter says what stands between two fields"])
-        self.assertEqual(self.faults("nr;name\n1;Ada,b,c\n"), ["a.csv:1: no column id for the key; it has nr, name"])
+        self.assertEqual(self.faults("nr name\n1,Ada\n"), ["a.csv:1: no column id for the key; it has nr_name" + self.HINT])
+        self.assertEqual(self.faults("nr;name\n1;Ada,b,c\n"), ["a.csv:1: no column id for the key; it has nr, name" + self.HINT])
         self.assertEqual(self.faults("id,Name,name\n1,a,b\n"), ["a.csv:1: columns 2 and 3 are both called name"])
-        self.assertEqual(self.faults("id,,x\n1,a,b\n"), ["a.csv:1: the header of column 2, '', makes no name"])
+        self.assertEqual(self.faults("id,,x\n1,a,b\n"), [
+            "a.csv:1: the header of column 2, '', makes no name: --rename =NAME gives it one, --columns leaves it out; is line 1 no header? --skip 1"])
         wide = ",".join(["id"] + ["c%d" % at for at in range(16)])
         self.assertEqual(self.faults(wide + "\n"), ["a.csv:1: 17 columns, and a table has at most 16: --columns says which are taken"])
 
@@ -224,11 +246,27 @@ class Faults(Case):
         self.file("a.csv", "id,name\n1,Ada\n")
         for words in ([], ["--table", "t"], ["--table", "t", "--key", "id"], ["--table", "t", "--key", "id", "--source", "a.csv"],
                       ["--table", "t", "--key", "id", "--decimal", "credit", "a.csv"], ["--table", "a b", "--key", "id", "a.csv"],
-                      ["--table", "t", "--key", "id", "--delimiter", ";;", "a.csv"]):
+                      ["--table", "t", "--key", "id", "--delimiter", ";;", "a.csv"],
+                      ["--table", "t", "--key", "id", "--source-column", "Kilde Ø", "--source", "A=a.csv"]):
             with self.subTest(words):
                 status, out, told = self.command("load", *words)
                 self.assertEqual((status, out), (2, ""), told)
                 self.assertTrue(told)
+
+    def test_empty_times_and_numbers_and_names_that_no_list_has(self) -> None:
+        drop = ", so that --missing keep doesn't fit the column: --missing drop leaves the record out"
+        self.assertEqual(self.faults("id,day,n\n1,,\n", "--time", "day", "--decimal", "n:2", "--missing", "keep"), [
+            "a.csv:2: day: an empty field is no date, and no time in UTC as 2026-03-01T00:10:00Z" + drop, "a.csv:2: n: an empty field is no number" + drop])
+        self.file("b.csv", "id\n1\n")
+        told = self.command("load", "--table", "t", "--key", "id", "--rename", "nope=x", "b.csv")[2]
+        self.assertIn("cqa load: no list has a column nope, which is named anew\n", told)
+
+    def test_a_full_folder_of_temporary_files(self) -> None:
+        self.file("a.csv", "id,name\n" + "".join("%d,Ada\n" % at for at in range(100_000)))
+        command = 'ulimit -f 8; "%s" -m cqa load --table t --key id a.csv' % sys.executable
+        environment = dict(os.environ, PYTHONPATH=os.path.dirname(support.HERE), TMPDIR=self.folder)
+        ran = subprocess.run(["bash", "-c", command], cwd=self.folder, env=environment, stdout=subprocess.PIPE, stderr=subprocess.PIPE, timeout=60, check=False)
+        self.assertEqual((ran.returncode, ran.stderr.decode()), (1, "cqa load: %s: file too large, in the folder of temporary files\n" % self.folder))
 
     def test_a_full_disk_and_a_broken_pipe(self) -> None:
         self.file("a.csv", "id,name\n" + "1,Ada\n" * 100_000)
@@ -247,7 +285,8 @@ class Loaded(ProgramCase):
             file.write("id,note\n" + "".join('%d,"%s"\n' % (at, text.replace('"', '""')) for at, text in enumerate(texts)))
         import cqa
         with cqa.Session() as db:
-            self.assertEqual(db.load("t", self.path("a.csv"), key="id"), len(texts))
+            with self.assertWarns(cqa.LoadWarning):
+                self.assertEqual(db.load("t", self.path("a.csv"), key="id"), len(texts))
             self.assertEqual(db.rows("t"), list(enumerate(texts)))
 
     def test_a_hundred_thousand_records_in_time_and_in_little_memory(self) -> None:

@@ -5,9 +5,11 @@ from __future__ import annotations
 import os
 import stat
 import subprocess
+import sys
 import unittest
+from unittest import mock
 
-from support import TOP, Case, ProgramCase, lines
+from support import PROGRAM, TOP, Case, ProgramCase, lines
 
 from cqa.habits import HABITS, advice_for
 from cqa.places import place_of
@@ -64,8 +66,8 @@ class Places(ProgramCase):
             "ask select id,\n nmae from staff;\nask select id\n  from staff, staff;\ninsert into staff values (1, 'a', 2),\n (2, 3, 4);\n"
             "delete from staff where id = 1\n and name = 2;\ninsert into staff values\n (1, 'a');\ncreate table t (a int,\n a text, primary key (a));\n"
             "create table t (a int,\n primary key (b));\nask exists from staf;\n"),
-            ["s.cqa:3: error 6 UnknownColumn nmae: is it `name`?", "s.cqa:5: error 8 SelfJoin staff", "s.cqa:7: error 9 TypeMismatch row 2 column 2",
-             "s.cqa:9: error 9 TypeMismatch condition 2", "s.cqa:11: error 10 WrongArity row 1", "s.cqa:13: error 11 DuplicateColumn a",
+            ["s.cqa:3: error 6 UnknownColumn nmae: is it `name`?", "s.cqa:5: error 8 SelfJoin staff", "s.cqa:7: error 9 TypeMismatch row 2 column 2: name is text: write '3'",
+             "s.cqa:9: error 9 TypeMismatch condition 2", "s.cqa:11: error 10 WrongArity row 1: 3 columns: id, name, room", "s.cqa:13: error 11 DuplicateColumn a",
              "s.cqa:15: error 12 BadKey b", "s.cqa:16: error 4 UnknownTable staf: is it `staff`?"])
 
     def test_a_bad_record_names_its_line_its_list_and_its_cause(self) -> None:
@@ -76,7 +78,7 @@ class Places(ProgramCase):
     def test_what_is_left_at_the_end(self) -> None:
         for text, note in (("ask exists from staff", "the statement that begins here has no ;"), ("delete from staff where name = 'a;\n;", "the text that begins here has no end"),
                            ("copy staff;\n1,a,1\\.", "the block of this copy has no line \\."),
-                           ("copy staff from 'x.csv';\nask exists from staff;", "write `copy staff;`, the records, and a line `\\.`; or `./cqa load --table staff --key id staff.csv`")):
+                           ("copy staff from 'x.csv';\nask exists from staff;", "write `copy staff;`, the records, and a line `\\.`; or `./cqa load --table staff --key id x.csv`")):
             with self.subTest(text):
                 self.assertEqual(self.refusals(text), ["s.cqa:2: error 15 Unfinished: " + note])
 
@@ -96,6 +98,12 @@ class Places(ProgramCase):
         self.assertEqual(advice_for("possibel select id from t", 0, "error 2 Syntax at 0"), "is it `possible`?")
         self.assertEqual(advice_for("ask select id frm t", 14, "error 2 Syntax at 14"), "is it `from`?")
         self.assertEqual(advice_for("ask exists from t wehre a = 1", 18, "error 2 Syntax at 18"), "is it `where`?")
+        self.assertEqual(advice_for("truncate customer", 0, "error 2 Syntax at 0"), "write `delete from customer;`")
+        self.assertEqual(advice_for("copy c from 'x.csv'", 7, "error 15 Unfinished"),
+                         "write `copy c;`, the records, and a line `\\.`; or `./cqa load --table c --key id x.csv`")
+        self.assertEqual(advice_for("ask exists from c where age between 1 and 2", 28, "error 2 Syntax at 28"), "write `age >= 1 and age <= 2`")
+        self.assertEqual(advice_for("SELECT id FROM c", 0, "error 2 Syntax at 0"),
+                         "words in lower case, and `ask select` for what is certain, `possible select` for what is possible")
         self.assertEqual(advice_for("frobnicate", 0, "error 2 Syntax at 0"), "")
 
     def test_texts_lead_no_place_astray(self) -> None:
@@ -111,6 +119,42 @@ class Places(ProgramCase):
         self.assertEqual(place.caret(), "ask select é from staff;\n           ^")
         script = b"ask exists\n\tfrom staff wehre id = 1;"
         self.assertEqual(place_of(script, next(statements(script)), "error 2 Syntax at 23", {}).caret(), "\tfrom staff wehre id = 1;\n\t           ^^^^^")
+
+
+class Dying(ProgramCase):
+    """A program that dies while statements are sent and replies are read."""
+
+    def test_a_program_that_dies_in_the_middle(self) -> None:
+        script = "create table t (a int, b text, primary key (a));\n" + "".join("insert into t values (%d, '%s');\nask select a, b from t where a = %d;\n"
+                                                                              % (at, "x" * 60, at) for at in range(8_000))
+        self.file("many.cqa", script)
+        program = self.file("dies.sh", "#!/bin/sh\n'%s' run | head -c 29000\nkill -9 $$\n" % PROGRAM)
+        os.chmod(program, 0o755)
+        for _ in range(4):
+            status, out, told = self.command("run", "many.cqa", program=program)
+            self.assertEqual((status, told), (128 + 9, "cqa run: %s: status -9: signal 9 ended it\n" % program))
+            self.assertTrue(out.startswith("created t\ninserted 1\n"))
+
+    def test_a_script_that_is_cut_while_it_runs(self) -> None:
+        self.file("big.cqa", "create table t (a int, primary key (a));\n" + "insert into t values (1);\n" * 100_000)
+        environment = dict(os.environ, PYTHONPATH=os.path.join(TOP, "python"), CQA_PROGRAM=PROGRAM or "")
+        with subprocess.Popen([sys.executable, "-m", "cqa", "run", "big.cqa"], cwd=self.folder, env=environment, stdout=subprocess.PIPE) as ran:
+            assert ran.stdout is not None
+            ran.stdout.readline()
+            self.file("big.cqa", "")
+            self.assertEqual(ran.stdout.read().count(b"inserted "), 100_000)
+        self.assertEqual(ran.returncode, 0)
+
+    def test_a_folder_on_standard_input(self) -> None:
+        ran = subprocess.run(["bash", "-c", '"%s/cqa" run <"%s"' % (TOP, self.folder)], stderr=subprocess.PIPE, timeout=60, check=False)
+        self.assertEqual((ran.returncode, lines(ran.stderr.decode())[-1:]), (3, ["cqa: standard input is a folder"]))
+
+    def test_what_the_sending_raises_is_told(self) -> None:
+        path = self.file("s.cqa", "show tables;\n")
+        child = Child()
+        with mock.patch("cqa.running.fault_of", side_effect=MemoryError), self.assertRaises(MemoryError):
+            list(run_files([ScriptFile(path)], child, False))
+        child.kill()
 
 
 class Runs(ProgramCase):

@@ -160,8 +160,12 @@ class Ends(ProgramCase):
             with self.assertRaises(KeyboardInterrupt):
                 db.certain("select id from staff")
             del db._child.reply
-            with self.assertRaises(cqa.Ended):
+            with self.assertRaisesRegex(cqa.Closed, "the session was interrupted"):
                 db.certain("select name from staff")
+        with Session() as other:
+            pass
+        with self.assertRaisesRegex(cqa.Closed, "the session is closed"):
+            other.certain("select name from staff")
 
     def test_threads_wait_for_each_other(self) -> None:
         with Session() as db:
@@ -260,6 +264,34 @@ class Lists(ProgramCase):
         self.db.load("t", self.file("one.csv", "id,name\n1,Ada\n"), source="crm")
         self.assertEqual(self.db.rows("t"), [("crm", 1, "Ada")])
 
+    def test_options_that_tell_nothing(self) -> None:
+        wrong: "list[dict]" = [{"delimiter": ";;"}, {"decimal": {"credit": -1}}, {"decimal_mark": ";"}, {"missing": "no"}, {"source_column": "Kilde Ø", "source": "a"}]
+        for options in wrong:
+            with self.subTest(options), self.assertRaises(ValueError):
+                self.db.load("m", self.crm, key="id", **options)
+        with self.assertRaises(ValueError):
+            self.db.load("m x", self.crm, key="id")
+        self.db.load("m", self.crm, key="id", columns="id,credit", text="credit")
+        self.assertEqual(self.db.certain("select credit from m where id = 3;"), [("7",)])
+
+    def test_a_refused_list_changes_nothing(self) -> None:
+        self.db.run("create strict table s (id int, n int, primary key (id)); insert into s values (1, 7);")
+        other = self.file("other.csv", "id,n\n2,x\n1,y\n")
+        with self.assertRaisesRegex(cqa.Refused, "of the list .*other.csv"):
+            self.db.load("s", other, key="id")
+        self.assertEqual(self.db.schema("s"), cqa.Schema("s", {"id": "int", "n": "int"}, ["id"], True))
+        self.assertEqual(self.db.rows("s"), [(1, 7)])
+
+    def test_missing_tables_and_slices(self) -> None:
+        with self.assertRaises(cqa.CqaError) as caught:
+            self.db.rows("nothing")
+        self.assertIsInstance(caught.exception, KeyError)
+        self.assertEqual(str(caught.exception), "no table nothing")
+        self.load_both()
+        rows = self.db.rows("customer")
+        self.assertEqual(rows[:2].columns, rows.columns)
+        self.assertEqual(rows[0], rows[:1][0])
+
     def test_names_are_names(self) -> None:
         with self.assertRaises(ValueError):
             self.db.load("t (id int, primary key (id)); delete from customer; create table u", self.crm, key="id")
@@ -299,7 +331,7 @@ class Lists(ProgramCase):
         with self.assertRaises(OSError):
             self.db.save(self.path("no/folder/state.cqa"))
         self.db.close()
-        with self.assertRaises(cqa.Ended):
+        with self.assertRaises(cqa.Closed):
             self.db.save(self.path("state.cqa"))
         self.assertEqual(self.read("state.cqa"), "old")
         self.assertEqual(sorted(os.listdir(self.folder)), ["crm.csv", "shop.csv", "state.cqa"])

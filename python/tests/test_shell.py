@@ -35,7 +35,19 @@ class ByLines(ProgramCase):
         status, _, told = self.shell(STAFF + "ask select id from staff\n where 7 = id;\nSELECT id FROM staff;\n")
         self.assertEqual((status, lines(told)), (1, [
             " where 7 = id;", "       ^", "error 2 Syntax at 32: `id = 7`: the column stands left".replace("`id", "write `id"),
-            "SELECT id FROM staff;", "^^^^^^", "error 2 Syntax at 0: words in lower case: `create table staff (id int, primary key (id));`"]))
+            "SELECT id FROM staff;", "^^^^^^", "error 2 Syntax at 0: words in lower case, and `ask select` for what is certain, `possible select` for what is possible"]))
+
+    def test_commands_that_say_too_little(self) -> None:
+        status, out, told = self.shell("\\d nope\n\\save\n\\save /nodir/x\nhelp foo\n\\load --table 'x\nask select id\n\\q\nshow tables;\n")
+        self.assertEqual((status, out), (1, ""))
+        self.assertEqual(lines(told)[:3], ["no table nope", "\\save FILE: the name of one file is wanted", "/nodir: no such file or directory"])
+        self.assertEqual((lines(told)[3][:17], lines(told)[4]), ("no statement foo;", "a quote has no end"))
+
+    def test_rows_that_dont_fit(self) -> None:
+        told = self.shell(STAFF + "insert into staff values (1, 2, 3);\ninsert into staff values ('1', 'a', 3);\ninsert into staff values (1, 'a');\n")[2]
+        self.assertEqual([line for line in lines(told) if line.startswith("error")], [
+            "error 9 TypeMismatch row 1 column 2: name is text: write '2'", "error 9 TypeMismatch row 1 column 1: id is int: write 1",
+            "error 10 WrongArity row 1: 3 columns: id, name, room"])
 
     def test_copy_from_is_told_before_it_swallows_anything(self) -> None:
         status, out, told = self.shell(STAFF + "copy staff from 'x.csv';\nask exists from staff;\ncopy -- here\n staff;\n1,a,2\n\\.\nask exists from staff;\n")
@@ -86,8 +98,12 @@ class ByLines(ProgramCase):
 class AtATerminal(ProgramCase):
     def setUp(self) -> None:
         super().setUp()
+        self.start(PROGRAM or "")
+
+    def start(self, program: str) -> None:
+        """Starts the shell with a program."""
         self.master, slave = pty.openpty()
-        environment = dict(os.environ, PYTHONPATH=os.path.dirname(support.HERE), CQA_PROGRAM=PROGRAM or "", CQA_HISTORY=self.path("history"), TERM="dumb")
+        environment = dict(os.environ, PYTHONPATH=os.path.dirname(support.HERE), CQA_PROGRAM=program, CQA_HISTORY=self.path("history"), TERM="dumb")
         self.child = subprocess.Popen([sys.executable, "-m", "cqa", "shell"], stdin=slave, stdout=slave, stderr=slave, env=environment, cwd=self.folder,
                                       start_new_session=True)
         os.close(slave)
@@ -135,6 +151,29 @@ class AtATerminal(ProgramCase):
         self.type("\x04")
         self.assertEqual(self.child.wait(60), 0)
         self.assertTrue(os.path.exists(self.path("history")))
+
+    def test_a_closed_terminal_ends_the_program(self) -> None:
+        slow = self.file("slow.sh", "#!/bin/sh\necho $$ >number; read line; echo '0 tables'; echo 'error 2 Syntax at 0'; exec sleep 100\n")
+        os.chmod(slow, 0o755)
+        self.start(slow)
+        self.until("cqa> ")
+        self.type("ask exists from t;\n")
+        time.sleep(0.3)
+        self.child.send_signal(signal.SIGHUP)
+        self.assertEqual(self.child.wait(20), 129)
+        self.assertFalse(os.path.exists("/proc/" + self.read("number").strip()))
+
+    def test_the_second_ctrl_c_ends_the_session(self) -> None:
+        slow = self.file("slow.sh", "#!/bin/sh\nread line; echo '0 tables'; echo 'error 2 Syntax at 0'; exec sleep 100\n")
+        os.chmod(slow, 0o755)
+        self.start(slow)
+        self.until("cqa> ")
+        self.type("ask exists from t;\n")
+        time.sleep(0.3)
+        self.child.send_signal(signal.SIGINT)
+        self.until("Ctrl-C again ends the session")
+        self.child.send_signal(signal.SIGINT)
+        self.assertEqual(self.child.wait(20), 130)
 
 
 if __name__ == "__main__":

@@ -161,6 +161,8 @@ class Comments(ProgramCase):
         self.file("both.cqa", first + second)
         self.assertEqual(self.command("conflicts", "both.cqa"), (0, "m: 2 keys, 0 in conflict\n" + wanted, ""))
         self.assertEqual(self.command("conflicts", "a.cqa", "b.cqa", "n"), (0, wanted, ""))
+        self.assertEqual(self.command("conflicts", "--csv", "a.cqa", "b.cqa")[0], 1)
+        self.assertEqual(self.command("conflicts", "--csv", "a.cqa", "b.cqa", "n")[:2], (0, "id,column,value,sources\n1.00,name,a,x\n1.00,name,b,y\n"))
         self.assertEqual(self.command("conflicts", "a.cqa", "n")[::2], (1, "cqa conflicts: no table n in a.cqa\n"))
 
 
