@@ -55,7 +55,7 @@ class Lists:
         self.faults = 0
         self._notes: List[str] = []
         self._alike: Dict[Tuple[str, str], int] = {}  # by list and cause, how many faults there are
-        self._last_alike: Dict[Tuple[str, str], int] = {}  # and the line of the last one that was told
+        self._last_alike: Dict[Tuple[str, str], str] = {}  # and the last one that was told, with its line
         self._header_line = 1
         self._unrenamed = set(map(word_of, options.renamed))
         self._fault = fault
@@ -77,7 +77,7 @@ class Lists:
         self._alike[kind] = self._alike.get(kind, 0) + 1
         if self._alike[kind] <= (1 if is_of_encoding else _MOST_ALIKE):
             self._told.append((line or 0, "%s: %s" % (path if line is None else "%s:%d" % (path, line), text)))
-            self._last_alike[kind] = line or 0
+            self._last_alike[kind] = "line %d: %s" % (line or 0, text)
         if not self._is_in_piece:
             self._tell_all()
 
@@ -86,7 +86,7 @@ class Lists:
         for kind, count in self._alike.items():
             more = count - (1 if kind[1] == "UTF-8" else _MOST_ALIKE)
             if more > 0:
-                self._fault("%s: and %d more like that of line %d" % (kind[0], more, self._last_alike[kind]))
+                self._fault("%s: and %d more like %s" % (kind[0], more, self._last_alike[kind]))
         self._alike.clear()
 
     def _tell_all(self) -> None:
@@ -211,7 +211,8 @@ class Lists:
             if taken is not None and word not in taken:
                 continue
             if not word or len(word) > MOST_NAME:
-                self.tell(path, reader.line_num, "the header of column %d, %r, makes no name: --rename %s=NAME gives it one, --columns leaves it out%s"
+                self.tell(path, reader.line_num, "the header of column %d, %r, makes no name: "
+                          "--rename %s=NAME gives it one, --columns leaves it out%s"
                           % (at, name, name, self._skip_hint(path)))
             elif word in words[:at - 1]:
                 self.tell(path, reader.line_num, "columns %d and %d are both called %s" % (words.index(word) + 1, at, word))

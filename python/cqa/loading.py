@@ -68,7 +68,8 @@ def parser() -> argparse.ArgumentParser:
     words.add_argument("--rename", action="append", default=[], metavar="OLD=NEW", help="a column that a list calls otherwise")
     words.add_argument("--delimiter", default="",
                        help="what stands between two fields: else a comma, or what the header has in its place; tab is written \\t")
-    words.add_argument("--encoding", default="utf-8", help="the lists' encoding, such as latin-1 (utf-8 where it isn't told); a list that is UTF-8 is read so")
+    words.add_argument("--encoding", default="utf-8",
+                       help="the lists' encoding, such as latin-1 (utf-8 where it isn't told); a list that is UTF-8 is read so")
     words.add_argument("--decimal", action="append", default=[], metavar="COLUMN:PLACES",
                        help="a column of numbers with so many places, stored as ints, as which statements speak of them")
     words.add_argument("--decimal-mark", choices=[".", ","], default=".", metavar="MARK", help="the mark before the places: . or , (.)")

@@ -44,7 +44,8 @@ class ListOptions:
 
     def __post_init__(self) -> None:
         """Raises ValueError where an option tells nothing."""
-        for what, name in (("table", self.table), ("source column", self.source_column), *(("new name", new) for new in self.renamed.values())):
+        names = [("table", self.table), ("source column", self.source_column), *(("new name", new) for new in self.renamed.values())]
+        for what, name in names:
             if not _NAME.fullmatch(name) or len(name) > MOST_NAME:
                 raise ValueError("the %s %r is no name: letters, digits and _ are wanted" % (what, name))
         if len(self.delimiter) > 1 or self.delimiter and self.delimiter in '"\r\n':

@@ -56,7 +56,7 @@ def questions_of(answers: Sequence[Answer]) -> List[Question]:
         row = explained[1] if explained else None
         known = found.get(name)
         place = "%s:%d" % (os.path.basename(answer.path), answer.line)
-        found[name] = Question(known.query if known else query.strip(), (known.row if known else None) or row, known.place if known else place)
+        found[name] = known._replace(row=known.row or row) if known else Question(query.strip(), row, place)
     return list(found.values())
 
 

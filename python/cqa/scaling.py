@@ -12,7 +12,8 @@ from .scripts import names_from, query_parts, tokens
 Places = Mapping[Tuple[str, str], int]
 
 _NAME = r"[A-Za-z_]\w*(?:\s*\.\s*[A-Za-z_]\w*)?"
-_PART = re.compile(r"--[^\n]*|'[^']*(?:'|\Z)|(?P<column>%s)\s*(?:<>|<=|>=|=|<|>)\s*(?P<value>-?[0-9]+(?:\.[0-9]*)?|-?\.[0-9]+|%s)" % (_NAME, _NAME))
+_PART = re.compile(r"--[^\n]*|'[^']*(?:'|\Z)|"
+                   r"(?P<column>%s)\s*(?:<>|<=|>=|=|<|>)\s*(?P<value>-?[0-9]+(?:\.[0-9]*)?|-?\.[0-9]+|%s)" % (_NAME, _NAME))
 _SHOWS = ("ask", "possible", "disputed", "explain", "against", "prove")
 
 
@@ -135,7 +136,8 @@ def _written_as(test: Test) -> str:
     if not test.is_of_number:
         return ""
     value = Decimal(test.value)
-    return "%s is written %s" % (value if "." in test.value else value.quantize(_one(test.places)), format(value.scaleb(test.places), "f").partition(".")[0])
+    meant = value if "." in test.value else value.quantize(_one(test.places))
+    return "%s is written %s" % (meant, format(value.scaleb(test.places), "f").partition(".")[0])
 
 
 def _one(places: int) -> Decimal:

@@ -163,7 +163,8 @@ class Session:
 
     def load(self, table: str, path: Union[str, "os.PathLike[str]", Mapping[str, Union[str, "os.PathLike[str]"]]], *,
              key: Union[str, Sequence[str]] = (), source: Optional[str] = None, columns: Union[str, Sequence[str], None] = None,
-             decimal: Optional[Mapping[str, int]] = None, time: Union[str, Sequence[str]] = (), text: Union[str, Sequence[str]] = (), delimiter: str = "",
+             decimal: Optional[Mapping[str, int]] = None, time: Union[str, Sequence[str]] = (),
+             text: Union[str, Sequence[str]] = (), delimiter: str = "",
              encoding: str = "utf-8", renamed: Optional[Mapping[str, str]] = None, decimal_mark: str = ".",
              missing: str = "refuse", strict: bool = False, source_column: str = "source", strip: bool = False, skip: int = 0) -> int:
         """Loads a CSV list with a header line into a table, which is made where it isn't there, and gives the number of new rows.
@@ -336,29 +337,35 @@ class Session:
 
     def explain(self, row: Sequence[Cell], query: str) -> Explanation:
         """Why a row is certain, or a repair in which it is no answer. Raises Refused."""
-        return self._shown_explanation(answers.explanation(self._lines("explain row %s for %s;" % (row_text(self._stored(row, query)), self._query(query)))))
+        return self._shown_explanation(answers.explanation(self._of_row("explain", row, query)))
 
     def against(self, row: Sequence[Cell], query: str) -> Explanation:
         """The fewest rows that stand against a row. Raises Refused; UnknownStatement where the program is too old."""
-        return self._shown_explanation(answers.against(self._lines("against row %s for %s;" % (row_text(self._stored(row, query)), self._query(query)))))
+        return self._shown_explanation(answers.against(self._of_row("against", row, query)))
 
     def prove(self, row: Sequence[Cell], query: str) -> Explanation:
         """A certificate that a row is certain, which `cqa check` verifies. Raises Refused; UnknownStatement where the program is too
         old."""
-        return self._shown_explanation(answers.explanation(self._lines("prove row %s for %s;" % (row_text(self._stored(row, query)), self._query(query)))))
+        return self._shown_explanation(answers.explanation(self._of_row("prove", row, query)))
+
+    def _of_row(self, verb: str, row: Sequence[Cell], query: str) -> List[str]:
+        """The reply to a statement about a row of a query's answer."""
+        return self._lines("%s row %s for %s;" % (verb, row_text(self._stored(row, query)), self._query(query)))
 
     def range(self, aggregate: str) -> Range:
         """The ends of `sum credit from customer where ..`, of `count from ..`, `min ..` or `max ..` over all repairs.
         Raises Refused; UnknownStatement where the program is too old."""
         told = answers.ranges(self._lines("range %s;" % self._query(aggregate)))
         places = self._aggregated(aggregate)[0]
-        return Range(_shown_end(told.least, places), _shown_end(told.greatest, places), self._shown_kept(told.low), self._shown_kept(told.high))
+        ends = _shown_end(told.least, places), _shown_end(told.greatest, places)
+        return Range(*ends, self._shown_kept(told.low), self._shown_kept(told.high))
 
     def ranges(self, aggregate: str) -> List[Group]:
         """As `range`, for `sum credit from customer group by city`: one for each value. Raises as `range`."""
         of_what, of_groups = self._aggregated(aggregate)
         told = answers.groups(self._lines("range %s;" % self._query(aggregate)))
-        return [Group(_shown_value(group.value, of_groups), _shown_end(group.least, of_what), _shown_end(group.greatest, of_what)) for group in told]
+        return [Group(_shown_value(value, of_groups), _shown_end(least, of_what), _shown_end(greatest, of_what))
+                for value, least, greatest in told]
 
     def classify(self, query: str) -> Classification:
         """How hard the query is, by its attacks. Raises Refused."""

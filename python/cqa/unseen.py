@@ -57,8 +57,8 @@ class Unseen:
 
     def notes(self, name: str) -> List[str]:
         """What is good to know of it."""
-        return ["%s: %s in %d field%s, as %s in %s; %s" % (name, cause, count, "" if count == 1 else "s", seen(first[:40]), place, _SAID[cause])
-                for cause, (count, first, place) in self._found.items()]
+        return ["%s: %s in %d field%s, as %s in %s; %s"
+                % (name, cause, count, "" if count == 1 else "s", seen(first[:40]), place, _SAID[cause]) for cause, (count, first, place) in self._found.items()]
 
 
 def _causes(field: str) -> List[str]:

@@ -173,10 +173,10 @@ class Faults(Case):
     def test_faults_alike_are_counted(self) -> None:
         found = self.faults("id,n,m\n" + "".join("%d,12.%03d,\n" % (at, at) for at in range(300)), "--decimal", "n:2", "--missing", "keep")
         self.assertEqual((len(found), found[0]), (11, "a.csv:3: n: '12.001' has more than 2 places"))
-        self.assertRegex(found[-1], r"^a.csv: and \d+ more like that of line \d+$")
+        self.assertRegex(found[-1], r"^a.csv: and \d+ more like line \d+: n: '12.0\d\d' has more than 2 places$")
         found = self.faults("id,n,m\n" .encode() + b"1,\xe6,\xf8\n" * 300)
         self.assertEqual(found, ["a.csv:2: n: the byte 0xE6 isn't UTF-8; --encoding says how the list is written, as latin-1",
-                                 "a.csv: and 599 more like that of line 2"])
+                                 "a.csv: and 599 more like line 2: n: the byte 0xE6 isn't UTF-8; --encoding says how the list is written, as latin-1"])
 
     def test_an_unended_quote_swallows_nothing(self) -> None:
         self.assertEqual(self.faults('id,name\n1,Ada Holm\n2,"Bo Lind\n3,Cy Moe\n4,Dag Vik\n'), ["a.csv:3: a quote is opened here and never closed"])
