@@ -120,6 +120,18 @@ class AtATerminal(ProgramCase):
             shown += os.read(self.master, 4096).decode()
         return shown
 
+    def interrupt(self) -> None:
+        """Interrupts the line that is open, up to the next prompt. A signal that comes just before the reader waits for keys is
+        seen with the next one, so it is sent anew until the prompt is there."""
+        shown = ""
+        for _ in range(20):
+            self.child.send_signal(signal.SIGINT)
+            while select.select([self.master], [], [], 2)[0]:
+                shown += os.read(self.master, 4096).decode()
+                if "cqa> " in shown:
+                    return
+        self.fail("no prompt, but %r" % shown)
+
     def type(self, text: str) -> None:
         """Types a text."""
         os.write(self.master, text.encode())
@@ -132,8 +144,7 @@ class AtATerminal(ProgramCase):
         self.until("  ..> ")
         self.type("values (1, 'it\n")
         self.until("'..> ")
-        self.child.send_signal(signal.SIGINT)
-        self.until("cqa> ")
+        self.interrupt()
         self.type("show tables;\n")
         self.assertIn("rows 0 blocks 0", self.until("1 tables\r\ncqa> "))
         self.type("\x10\n")
