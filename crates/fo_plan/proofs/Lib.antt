@@ -3,11 +3,11 @@ mod Chained
 mod LinkLists
 mod Spanned
 mod Parted
-mod Leading
-mod Among
+mod BlockOf
 mod Passing
 mod Walked
 mod Reached
+mod First
 mod Gathered
 mod Adding
 mod Barren

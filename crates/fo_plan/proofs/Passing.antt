@@ -12,7 +12,7 @@ use Rattle.cqa_model.specs.Database.{block_cmp}
 use Rattle.cqa_model.proofs.BlockOrder.{grouped}
 use Rattle.cqa_model.proofs.Repairs.{shares-self, shares-sym, shares-trans, dec_shares}
 use Rattle.plan_rows.specs.Wanted.{IsWanted}
-use Rattle.fo_plan.specs.Enough.{IsEnough, row_of, IsFirst, WholeHas, IsPassed, AreSought, IsNextBlock}
+use Rattle.fo_plan.specs.Enough.{IsEnough, row_of, IsFirst, WholeHas, IsFirstOf, IsPassed, AreSought, IsNextBlock}
 use Rattle.fo_plan.specs.declared.enough.Blocks.{Blocks}
 
 -- what is enough of a table has a block with a property exactly where the table has one, if rows with it fit
@@ -25,7 +25,7 @@ part-some key rows part fits h P strong = (
 
 module _ (key : List ℕ) (rows : List (List Value)) where
   -- the block of a row begins somewhere
-  first-place : (d n i : ℕ) → n + d ≡ i → ((j : ℕ) → j < n → SharesKey key (row_of rows j) (row_of rows i) → ⊥) → (at : ℕ) × (at ≤ i) × IsFirst key rows at × SharesKey key (row_of rows at) (row_of rows i)
+  pub first-place : (d n i : ℕ) → n + d ≡ i → ((j : ℕ) → j < n → SharesKey key (row_of rows j) (row_of rows i) → ⊥) → (at : ℕ) × (at ≤ i) × IsFirst key rows at × SharesKey key (row_of rows at) (row_of rows i)
   first-place zero n i e none =
       let same : n ≡ i = omega (arith, e) in
       (i, omega arith, (λ j l. none j (omega (arith, l, same))), shares-self key (row_of rows i))
@@ -75,6 +75,14 @@ module _ (s : Blocks) where
             let same : at ≡ n.at = omega (arith, b, c) in
             off (λ y m. let e = (n.is.exactly y).0 m in all y e.0 (subst (λ k. SharesKey s.key.now (row_of s.rows k) y) (sym same) e.1))
 
+    -- the next block is the first one with the property, where it has it
+    pub next-first : (from on : ℕ) (block : List (List Value)) → NoneBefore P from → IsNextBlock s from block on → ((y : List Value) → Contains block y → P y) → IsFirstOf s.key.now s.rows P block
+    next-first from on block h n all = record { at = n.at; is = n.is; all = all; none = λ j l there. go j l there (dec_lt j from) }
+      where
+        go : (j : ℕ) → j < n.at → j < length s.rows → Dec (j < from) → IsFirst s.key.now s.rows j → WholeHas s.key.now s.rows P j → ⊥
+        go j l there (yes a) = h j a there
+        go j l there (no a) = passed-has from n.at j n.before (omega (arith, a)) l there
+
     pub none-ends : (from : ℕ) → NoneBefore P from → IsPassed s from (length s.rows) → SomeBlockFits s.key.now s.rows P → ⊥
     none-ends from h n f = go (some-at s.key.now s.rows P f)
       where
@@ -99,10 +107,6 @@ module _ (s : Blocks) where
 
   pub passed-less : (from at to : ℕ) → IsPassed s from at → to ≤ at → IsPassed s from to
   passed-less from at to h l k low high = h k low (omega (arith, high, l))
-
-  -- a block that is found has the property where all its rows have it
-  pub next-some : (P : List Value → Type 0) (from on : ℕ) (block : List (List Value)) → IsNextBlock s from block on → ((y : List Value) → Contains block y → P y) → SomeBlockFits s.key.now s.rows P
-  next-some P from on block n all = at-some s.key.now s.rows P n.at n.is.there (λ y m t. all y ((n.is.exactly y).1 (m, t)))
 
 -- a row begins a block where the one before it is of another
 module _ (key : List ℕ) (rows : List (List Value)) (at : ℕ) where

@@ -48,7 +48,7 @@ module _ (key : List ℕ) (rows : List (List Value)) (probe : List Value) (start
   span-sorted h = sorted-part (block_cmp key) s.before span s.behind (subst (IsStrictlySortedBy (block_cmp key)) s.parts h)
 
 -- rows of one key have the same first key values
-pub same-first_key : (key : List ℕ) (probe x y : List Value) → SharesKey key x y → first_key key probe x ≡ first_key key probe y
+same-first_key : (key : List ℕ) (probe x y : List Value) → SharesKey key x y → first_key key probe x ≡ first_key key probe y
 same-first_key key probe x y s = go (length probe) key s
   where
     go : (n : ℕ) (ks : List ℕ) → SharesKey ks x y → key_of (take n ks) x ≡ key_of (take n ks) y
@@ -64,7 +64,7 @@ module _ (key : List ℕ) (rows : List (List Value)) (probe : List Value) (start
   in-rows : (x : List Value) → Contains span x → Contains rows x
   in-rows x m = subst (λ xs. Contains xs x) (sym s.parts) (Contains-append_right s.before (span ++ s.behind) x (Contains-append_left span s.behind x m))
 
-  pub in-span : (x : List Value) → Contains rows x → first_key key probe x ≡ probe → Contains span x
+  in-span : (x : List Value) → Contains rows x → first_key key probe x ≡ probe → Contains span x
   in-span x m e = elim (Contains-append_cases s.before (span ++ s.behind) x (subst (λ xs. Contains xs x) s.parts m)) [
     | inl h ↦ absurd (All-contains (λ row. first_key key probe row ≡ probe → ⊥) s.before x s.none_before h e)
     | inr h ↦ elim (Contains-append_cases span s.behind x h) [

@@ -3,36 +3,41 @@
 ghost use Rattle.std.specs.Prelude.{◌≡◌, ℕ, ◌<◌, MatchOption, Contains, length};
 ghost use Rattle.cqa_model.specs.OneTable.{SomeBlockFits};
 ghost use Rattle.cqa_model.specs.Query.{atom_key, rows_of, FitsDatabase};
-ghost use Rattle.cqa_model.specs.Plan.{Fits, HoldsOver};
-ghost use Rattle.row_cursor.specs.Blocks.{blocks_left};
+ghost use Rattle.cqa_model.specs.Plan.{HoldsOver};
+ghost use Rattle.table_blocks.specs.Tables.{rows_at, key_at};
 ghost use Rattle.row_cursor.specs.Spots.{ArePaths};
 ghost use Rattle.plan_rows.specs.Left.{AreAtoms};
 ghost use Rattle.plan_rows.specs.Links.{AreWays};
-ghost use Rattle.plan_rows.specs.Over.{query_of, tables_of, rows_before};
+ghost use Rattle.plan_rows.specs.Over.{query_of, tables_of};
 ghost use Rattle.plan_rows.specs.Underway.{IsRight};
 ghost use Rattle.fo_plan.specs.Holding.{HoldsWith};
-ghost use Rattle.fo_plan.specs.FirstBlock.{AreAmong, IsFirstBlock, IsFirstWith};
+ghost use Rattle.fo_plan.specs.FirstBlock.{IsBlockOf, IsFirstBlock, IsFirstWith};
 
-use crate::enough::told_rows;
-use crate::holding::all_hold;
+use crate::enough::Blocks;
+use crate::holding::first_of;
 use cqa_model::{Plan, Query, variables};
 use cqa_value::{Items, Row};
-use plan_rows::{Course, Link, Memo, Setting, Step, Taken, known_values, shared_or_none};
-use row_cursor::{BlockCursor, RowIndex, table_of};
+use plan_rows::{Course, Link, Memo, Setting, Step, Taken, shared_or_none};
+use row_blocks::{block_end, block_start};
+use row_cursor::{RowIndex, table_of};
 use row_pieces::Rows;
 use std::alloc::Global;
 use table_blocks::Database;
 
-/// The blocks of the next atom's table whose rows have the first key values that are told by a row or by tests.
-fn told_blocks<'a, 'x>(db: &'a Database, step: &Step<'x>, row: &'x Row) -> BlockCursor<'a>
-    requires { step.now.course.now.setting.db.now ≡ db.now }
-    ensures { AreAmong (atom_key (query_of step.now) step.now.atom) (rows_of (query_of step.now) (tables_of step.now) step.now.atom) (Fits (query_of step.now) row.now (rows_before step.now) step.now.atom) (blocks_left result) }
+/// The block of a row in a table.
+fn block_with<'a>(db: &'a Database, table: u32, row: &Row) -> Rows<'a>
+    requires there { table < length db.now }
+    requires stored { Contains (rows_at db.now table) row.now }
+    ensures { IsBlockOf (key_at db.now table) (rows_at db.now table) row.now result }
 {
-    let course = step.course;
-    let table = table_of(course.setting.query, step.atom);
+    let Some(at) = db.place_of(table, row) else {
+        unreachable!()
+    };
+    let rows = db.rows(table);
     let key = db.schema(table).key.as_slice();
-    let known = known_values(&step.look(), Some(row), key);
-    BlockCursor::over(told_rows(db, table, &known), key)
+    let (_, rest) = rows.split_at(block_start(&rows, key, at as usize));
+    let (block, _) = rest.split_at(block_end(&rest, key, 0));
+    block
 }
 
 /// The first block of the next atom's table all of whose rows hold.
@@ -46,13 +51,14 @@ fn first_block<'a, 'x>(
     requires memo { IsRight step.now.course.now memo.old }
     ensures { MatchOption result (SomeBlockFits (atom_key (query_of step.now) step.now.atom) (rows_of (query_of step.now) (tables_of step.now) step.now.atom) (HoldsWith step.now row.now) → ⊥) (λ block. SomeBlockFits (atom_key (query_of step.now) step.now.atom) (rows_of (query_of step.now) (tables_of step.now) step.now.atom) (HoldsWith step.now row.now) × IsFirstWith (atom_key (query_of step.now) step.now.atom) (rows_of (query_of step.now) (tables_of step.now) step.now.atom) (HoldsWith step.now row.now) block) }
 {
-    let mut cursor = told_blocks(db, step, row);
-    while let Some(block) = cursor.next() {
-        if all_hold(step, row, &block, memo) {
-            return Some(block);
-        }
-    }
-    None
+    let blocks = Blocks::new(step, Some(row));
+    let found = first_of(step, row, &blocks, memo);
+    drop(blocks);
+    let block = found?;
+    let course = step.course;
+    let table = table_of(course.setting.query, step.atom);
+    // `block` is borrowed as long as the step only, so it is looked up in the database.
+    Some(block_with(db, table, block.get(0)))
 }
 
 /// The first block of the first atom of a plan by which it holds.

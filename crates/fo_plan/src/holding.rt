@@ -1,13 +1,13 @@
 //! Whether a plan holds, atom by atom: some block all of whose rows fit, and for each of them the rest.
 
-ghost use Rattle.std.specs.Prelude.{◌↔◌, ◌∷◌, IsTrue};
+ghost use Rattle.std.specs.Prelude.{◌↔◌, ◌∷◌, IsTrue, MatchOption};
 ghost use Rattle.cqa_model.specs.Query.{atom_key, rows_of, FitsDatabase};
 ghost use Rattle.cqa_model.specs.OneTable.{SomeBlockFits};
 ghost use Rattle.cqa_model.specs.Plan.{HoldsOver, PlanHolds};
 ghost use Rattle.plan_rows.specs.Left.{AreAtoms};
 ghost use Rattle.plan_rows.specs.Over.{query_of, tables_of, rows_before};
 ghost use Rattle.plan_rows.specs.Underway.{IsKey, IsRight};
-ghost use Rattle.fo_plan.specs.Enough.{AreSought};
+ghost use Rattle.fo_plan.specs.Enough.{AreSought, IsFirstOf};
 ghost use Rattle.fo_plan.specs.Holding.{RestHolds, HoldsWith, AllHoldWith};
 
 use crate::enough::Blocks;
@@ -68,26 +68,31 @@ fn some_block<'x>(step: &Step<'x>, row: &'x Row, memo: &mut Memo) -> bool
     ensures memo { IsRight step.now.course.now memo.new }
 {
     let blocks = Blocks::new(step, Some(row));
-    let held = some_of(step, row, &blocks, memo);
+    let held = first_of(step, row, &blocks, memo).is_some();
     drop(blocks);
     held
 }
 
-/// Whether all rows of some of these blocks hold.
+/// The first of these blocks all of whose rows hold.
 #[cycle(holds)]
-fn some_of<'x>(step: &Step<'x>, row: &'x Row, blocks: &Blocks<'_>, memo: &mut Memo) -> bool
+pub(crate) fn first_of<'x>(
+    step: &Step<'x>,
+    row: &'x Row,
+    blocks: &Blocks<'x>,
+    memo: &mut Memo,
+) -> Option<Rows<'x>>
     requires sought { AreSought blocks.now (HoldsWith step.now row.now) }
     requires memo { IsRight step.now.course.now memo.old }
-    ensures holds { IsTrue result ↔ SomeBlockFits blocks.now.key.now blocks.now.rows (HoldsWith step.now row.now) }
+    ensures first { MatchOption result (SomeBlockFits blocks.now.key.now blocks.now.rows (HoldsWith step.now row.now) → ⊥) (IsFirstOf blocks.now.key.now blocks.now.rows (HoldsWith step.now row.now)) }
     ensures memo { IsRight step.now.course.now memo.new }
 {
     let mut spot = blocks.start();
     while let Some(block) = blocks.next(&mut spot) {
         if all_hold(step, row, &block, memo) {
-            return true;
+            return Some(block);
         }
     }
-    false
+    None
 }
 
 /// Whether all of these rows hold.

@@ -1,36 +1,48 @@
-use Rattle.std.proofs.Common.{◌∙◌, sym}
-use Rattle.std.proofs.lemmas.Bool.{false≢true}
+use Rattle.std.proofs.Common.{[], MatchOption, Contains, refl, subst, sym}
+use Rattle.std.proofs.lemmas.Option.{get_or_from_slice_get}
+use Rattle.cqa_model.specs.OneTable.{SomeBlockFits}
 use Rattle.cqa_model.specs.Query.{atom_key, rows_of}
-use Rattle.cqa_model.specs.Plan.{Fits}
-use Rattle.row_cursor.specs.Blocks.{blocks_left}
-use Rattle.plan_rows.specs.Over.{query_of, tables_of, rows_before}
+use Rattle.table_blocks.specs.Tables.{rows_at, key_at}
+use Rattle.plan_rows.specs.Over.{query_of, tables_of}
+use Rattle.fo_plan.specs.FirstBlock.{IsBlockOf, IsFirstWith}
 use Rattle.fo_plan.specs.Holding.{HoldsWith}
-use Rattle.fo_plan.proofs.Leading.{leads-starts, leads-on, leads-found, leads-none}
+use Rattle.fo_plan.proofs.Spanned.{rows-of-atom}
+use Rattle.fo_plan.proofs.Reached.{held-reached}
+use Rattle.fo_plan.proofs.BlockOf.{block-of-atom}
+use Rattle.fo_plan.proofs.First.{first-stored, first-holds}
 use Rattle.fo_plan.proofs.block.first_block.Goals as goal
 
-pub loop-block-init : goal.loop-block-init
-loop-block-init c = record {
-  leads = leads-starts (blocks_left c.told_blocks-cursor.result) (HoldsWith c.args.step.now c.args.row.now);
-  right = c.requires.memo;
-}
+pub first_of-found-requires-clause-sought : goal.first_of-found-requires-clause-sought
+first_of-found-requires-clause-sought c = (held-reached c.args.step.now c.new-blocks.result c.args.row.now c.new-blocks.ensures).0
 
-pub loop-block-preserved : goal.loop-block-preserved
-loop-block-preserved c = record {
-  leads =
-      leads-on (blocks_left c.told_blocks-cursor.result) (HoldsWith c.args.step.now c.args.row.now)
-      (blocks_left c.loop-block.cursor) (blocks_left c.next.new.self) c.in-Some.block c.loop-block.invariant.leads c.in-Some.ensures.steps (λ h. false≢true (sym c.if-all_hold.false ∙ c.all_hold.ensures.holds.1 h));
-  right = c.all_hold.ensures.memo;
-}
-
-pub returns-then-all_hold : goal.returns-then-all_hold
-returns-then-all_hold c =
+pub returns-in_err-block : goal.returns-in_err-block
+returns-in_err-block c =
     let step = c.args.step.now in
-    leads-found (blocks_left c.told_blocks-cursor.result) (HoldsWith step c.args.row.now)
-    (blocks_left c.loop-block.cursor) (blocks_left c.next.new.self) c.in-Some.block c.loop-block.invariant.leads c.in-Some.ensures.steps (atom_key (query_of step) step.atom) (rows_of (query_of step) (tables_of step) step.atom)
-    (Fits (query_of step) c.args.row.now (rows_before step) step.atom) c.told_blocks-cursor.ensures (λ y h. h.0) (c.all_hold.ensures.holds.0 c.if-all_hold.true)
+    let key = atom_key (query_of step) step.atom in
+    let rows = rows_of (query_of step) (tables_of step) step.atom in
+    let P = HoldsWith step c.args.row.now in
+    let there = (held-reached step c.new-blocks.result c.args.row.now c.new-blocks.ensures).1 in
+    subst (λ o. MatchOption o (SomeBlockFits key rows P → ⊥) (λ block. SomeBlockFits key rows P × IsFirstWith key rows P block)) (sym c.from_residual.ensures) (λ s. c.in_err-block.ensures.first (there.1 s))
+
+pub block_with-requires-clause-stored : goal.block_with-requires-clause-stored
+block_with-requires-clause-stored c =
+    let step = c.args.step.now in
+    let setting = step.course.now.setting in
+    let table = c.table_of-table.result in
+    let found = c.in_ok-block.block in
+    let x = c.get.result.now in
+    let stored = first-stored step c.new-blocks.result c.args.row.now c.new-blocks.ensures found c.in_ok-block.ensures.first in
+    let is = rows-of-atom setting.query.now setting.db.now step.atom table (key_at setting.db.now table) setting.fits step.there c.table_of-table.ensures refl (rows_at setting.db.now table) refl in
+    subst (λ db. Contains (rows_at db table) x) c.requires.db (subst (λ rows. Contains rows x) (sym is) (subst (Contains (rows_of (query_of step) (tables_of step) step.atom)) (get_or_from_slice_get found 0 x [] c.get.ensures) stored))
 
 pub returns : goal.returns
 returns c =
     let step = c.args.step.now in
-    leads-none (blocks_left c.told_blocks-cursor.result) (HoldsWith step c.args.row.now) (atom_key (query_of step) step.atom) (rows_of (query_of step) (tables_of step) step.atom) (Fits (query_of step) c.args.row.now (rows_before step) step.atom) (blocks_left c.loop-block.cursor)
-    c.loop-block.invariant.leads c.in_default.ensures.steps.0 c.told_blocks-cursor.ensures (λ y h. h.0)
+    let setting = step.course.now.setting in
+    let table = c.table_of-table.result in
+    let found = c.in_ok-block.block in
+    let x = c.get.result.now in
+    let block = c.block_with.result in
+    let here = block-of-atom setting.query.now setting.db.now step.atom table setting.fits step.there c.table_of-table.ensures x block (subst (λ db. IsBlockOf (key_at db table) (rows_at db table) x block) (sym c.requires.db) c.block_with.ensures) in
+    first-holds step c.new-blocks.result c.args.row.now c.new-blocks.ensures found c.in_ok-block.ensures.first block
+    (subst (λ y. IsBlockOf (atom_key (query_of step) step.atom) (rows_of (query_of step) (tables_of step) step.atom) y block) (sym (get_or_from_slice_get found 0 x [] c.get.ensures)) here)

@@ -10,8 +10,9 @@ use Rattle.plan_rows.proofs.PlanParts.{rest-shorter, plan-split}
 use Rattle.plan_rows.proofs.Sharing.{first-atom, underway-more, still-right, keeps-right}
 use Rattle.fo_plan.specs.Holding.{HoldsWith}
 use Rattle.fo_plan.proofs.Looks.{of-look}
-use Rattle.fo_plan.proofs.Passing.{next-some, none-starts, none-on, none-ends}
+use Rattle.fo_plan.proofs.Passing.{next-first, none-starts, none-on, none-ends}
 use Rattle.fo_plan.proofs.Reached.{held-reached}
+use Rattle.fo_plan.proofs.First.{first-some}
 use Rattle.fo_plan.proofs.Gathered.{held-starts, held-not, held-on, held-ends}
 use Rattle.fo_plan.proofs.holding.+holds.Goals as goal
 
@@ -110,39 +111,37 @@ row_holds-invariant_of-rest t c =
 pub row_holds-holds_with-requires : goal.row_holds-holds_with-requires
 row_holds-holds_with-requires t c = (omega (arith, c.decreases), still-right c.args.step.now.course.now c.args.memo.now c.turn.new.self c.turn.ensures c.requires)
 
-pub some_block-some_of-held-requires : goal.some_block-some_of-held-requires
-some_block-some_of-held-requires t c = (omega (arith, c.decreases), ((held-reached c.args.step.now c.new-blocks.result c.args.row.now c.new-blocks.ensures).0, c.requires))
+pub some_block-first_of-requires : goal.some_block-first_of-requires
+some_block-first_of-requires t c = (omega (arith, c.decreases), ((held-reached c.args.step.now c.new-blocks.result c.args.row.now c.new-blocks.ensures).0, c.requires))
 
 pub some_block-returns-clause-holds : goal.some_block-returns-clause-holds
 some_block-returns-clause-holds t c =
-    let there = (held-reached c.args.step.now c.new-blocks.result c.args.row.now c.new-blocks.ensures).1 in (
-      (λ e. there.0 (c.some_of-held.ensures.holds.0 e)),
-      (λ h. c.some_of-held.ensures.holds.1 (there.1 h)),
+    let blocks = c.new-blocks.result in
+    let there = (held-reached c.args.step.now blocks c.args.row.now c.new-blocks.ensures).1 in
+    let some = first-some blocks.key.now blocks.rows (HoldsWith c.args.step.now c.args.row.now) c.first_of.result c.first_of.ensures.first in (
+      (λ e. there.0 (some.0 (sym c.is_some-held.ensures ∙ e))),
+      (λ h. c.is_some-held.ensures ∙ some.1 (there.1 h)),
     )
 
-pub some_of-loop-block-init : goal.some_of-loop-block-init
-some_of-loop-block-init t c = record {
+pub first_of-loop-block-init : goal.first_of-loop-block-init
+first_of-loop-block-init t c = record {
   none = none-starts c.args.blocks.now (HoldsWith c.args.step.now c.args.row.now) c.requires.sought c.start-spot.result.place c.start-spot.ensures.passed;
   spot = c.start-spot.ensures.spot;
   right = c.requires.memo;
 }
 
-pub some_of-returns-then-all_hold-clause-holds : goal.some_of-returns-then-all_hold-clause-holds
-some_of-returns-then-all_hold-clause-holds t c = (
-  (λ e. next-some c.args.blocks.now (HoldsWith c.args.step.now c.args.row.now) c.loop-block.spot.place c.next.new.spot.place c.in-Some.block c.in-Some.ensures.next (c.all_hold.ensures.holds.0 c.if-all_hold.true)),
-  (λ h. refl),
-)
+pub first_of-returns-then-all_hold-clause-first : goal.first_of-returns-then-all_hold-clause-first
+first_of-returns-then-all_hold-clause-first t c =
+    next-first c.args.blocks.now (HoldsWith c.args.step.now c.args.row.now) c.requires.sought c.loop-block.spot.place c.next.new.spot.place c.in-Some.block c.loop-block.invariant.none c.in-Some.ensures.next (c.all_hold.ensures.holds.0 c.if-all_hold.true)
 
-pub some_of-loop-block-preserved : goal.some_of-loop-block-preserved
-some_of-loop-block-preserved t c = record {
+pub first_of-loop-block-preserved : goal.first_of-loop-block-preserved
+first_of-loop-block-preserved t c = record {
   none = none-on c.args.blocks.now (HoldsWith c.args.step.now c.args.row.now) c.requires.sought c.loop-block.spot.place c.next.new.spot.place c.in-Some.block c.loop-block.invariant.none c.in-Some.ensures.next
       (λ h. false≢true (sym c.if-all_hold.false ∙ c.all_hold.ensures.holds.1 h));
   spot = c.next.ensures.spot;
   right = c.all_hold.ensures.memo;
 }
 
-pub some_of-returns-clause-holds : goal.some_of-returns-clause-holds
-some_of-returns-clause-holds t c = (
-  (λ e. absurd (false≢true e)),
-  (λ h. absurd (none-ends c.args.blocks.now (HoldsWith c.args.step.now c.args.row.now) c.requires.sought c.loop-block.spot.place c.loop-block.invariant.none c.in_default.ensures.next h)),
-)
+pub first_of-returns-clause-first : goal.first_of-returns-clause-first
+first_of-returns-clause-first t c =
+    none-ends c.args.blocks.now (HoldsWith c.args.step.now c.args.row.now) c.requires.sought c.loop-block.spot.place c.loop-block.invariant.none c.in_default.ensures.next

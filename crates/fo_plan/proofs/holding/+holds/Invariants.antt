@@ -21,8 +21,8 @@ decreases-row_holds l = 6 * length l.step.now.rest.now + 1
 abbrev pub decreases-some_block : goal.decreases-some_block
 decreases-some_block l = 6 * length l.step.now.rest.now + 4
 
-abbrev pub decreases-some_of : goal.decreases-some_of
-decreases-some_of l = 6 * length l.step.now.rest.now + 3
+abbrev pub decreases-first_of : goal.decreases-first_of
+decreases-first_of l = 6 * length l.step.now.rest.now + 3
 
 -- the rows so far hold
 abbrev pub invariant-all_hold-loop-y : goal.invariant-all_hold-loop-y
@@ -32,12 +32,12 @@ invariant-all_hold-loop-y l = record {
 }
 
 -- none of the blocks so far holds
-abbrev pub invariant-some_of-loop-block : goal.invariant-some_of-loop-block
-invariant-some_of-loop-block l = record {
+abbrev pub invariant-first_of-loop-block : goal.invariant-first_of-loop-block
+invariant-first_of-loop-block l = record {
   none : NoneBefore l.blocks (HoldsWith l.step l.row) l.spot.place;
   spot : IsSpot l.blocks l.spot;
   right : IsRight l.step.course.now l.memo;
 }
 
-abbrev pub decreases-some_of-loop-block : goal.decreases-some_of-loop-block
-decreases-some_of-loop-block l = length l.blocks.rows - l.spot.place
+abbrev pub decreases-first_of-loop-block : goal.decreases-first_of-loop-block
+decreases-first_of-loop-block l = length l.blocks.rows - l.spot.place
