@@ -198,10 +198,10 @@ class Script:
 
     def fill(self, table, rows):
         """Rows of a table in place of those that it has."""
-        table.rows = rows
         column, kind = table.columns[0]
         least = literal(0 if kind == "int" else "")
-        self.say("delete from %s where %s >= %s;" % (table.name, column, least), lambda out: out.while_like("deleted [0-9]+"))
+        self.replied("delete from %s where %s >= %s;" % (table.name, column, least), "deleted %d" % len(table.rows))
+        table.rows = rows
         if rows:
             self.replied("insert into %s values %s;" % (table.name, ", ".join(map(row_text, sorted(rows)))), "inserted %d" % len(rows))
 
