@@ -191,11 +191,12 @@ def _why_part(session: Session, schemas: Sequence[Schema], question: Question, d
     literal = question.row or ("(%s)" % ", ".join(_literals(session, question.query, disputed[0])) if disputed else None)
     if literal is None:
         return ""
-    head = "<h3>Why %s isn't certain</h3>" % ("the yes" if literal == "()" else "<code>%s</code>" % page.text(literal))
+    shown = question.row or _row_shown(disputed[0])
+    head = "<h3>Why %s isn't certain</h3>" % ("the yes" if literal == "()" else "<code>%s</code>" % page.text(shown))
     try:
         told = _against(session, question.query, literal)
         if told.is_certain:
-            return "<h3><code>%s</code> is certain</h3>%s" % (page.text(literal), _by_block(told))
+            return "<h3><code>%s</code> is certain</h3>%s" % (page.text(shown), _by_block(told))
         kept = list(told.kept) if told.kind == "against" else _touching(session, schemas, question.query, literal, told.kept)
     except Refused as refused:
         return head + '<p class="odd">%s</p>' % page.text(refused.line)
@@ -224,9 +225,9 @@ def _literals(session: Session, query: str, row: Sequence[Cell]) -> List[str]:
 def _against(session: Session, query: str, literal: str) -> Explanation:
     """What stands against a row, by `against` where the program knows it, and else by a whole repair."""
     try:
-        return against(session.tell("against row %s for %s;" % (literal, query)))
+        return against(session._lines("against row %s for %s;" % (literal, query)))
     except UnknownStatement:
-        return explanation(session.tell("explain row %s for %s;" % (literal, query)))
+        return explanation(session._lines("explain row %s for %s;" % (literal, query)))
 
 
 def _touching(session: Session, schemas: Sequence[Schema], query: str, literal: str, kept: Sequence[Kept]) -> List[Kept]:
@@ -238,7 +239,7 @@ def _touching(session: Session, schemas: Sequence[Schema], query: str, literal: 
     found: List[Kept] = []
     for schema in (schema for schema in schemas if schema.table in parts.tables):
         key = ", ".join("%s.%s" % (schema.table, name) for name in schema.key)
-        lines = session.tell("possible select %s from %s%s;" % (key, ", ".join(parts.tables), where))
+        lines = session._lines("possible select %s from %s%s;" % (key, ", ".join(parts.tables), where))
         keys = set(map(row_of, lines[:-1]))
         places = [list(schema.columns).index(name) for name in schema.key]
         found += [one for one in kept if one[0] == schema.table and tuple(one[1][place] for place in places) in keys]

@@ -86,6 +86,12 @@ class Pages(ProgramCase):
         self.assertIn("Disputed rows: 2", first)
         self.assertIn("Certain rows: 1 city Bergen Disputed rows: 0", second)
 
+    def test_columns_with_places_bring_no_warning(self) -> None:
+        read = self.page("-- cqa: column c.credit has 2 places\ncreate table c (id int, credit int, primary key (id));\ncopy c;\n1,90000\n1,12050\n\\.\n"
+                         "ask select credit from c;\n")
+        words = " ".join(read.text.split())
+        self.assertIn("Why (120.50) isn't certain", words)
+
     def test_weak_and_strong_attacks_are_told_apart(self) -> None:
         read = self.page(SCRIPT + "create table head (person text, region text, primary key (person));\n"
                          "ask exists from customer, branch, head where customer.city = branch.city and branch.region = head.region;\n")
