@@ -95,8 +95,8 @@ fn weak_rows(named: &Named<'_>) -> [AtomSet; MOST_ATOMS as usize]
     rows
 }
 
-/// The atoms whose key an atom's key derives.
-fn weak_row(named: &Named<'_>, from: u32) -> AtomSet
+/// The atoms whose key an atom's key derives: of those that it attacks, the ones that it attacks weakly.
+pub fn weak_row(named: &Named<'_>, from: u32) -> AtomSet
     requires atom { from < length named.now.query.now.atoms }
     ensures { (G : ℕ) → HasAtom result G ↔ ((G < length named.now.query.now.atoms) × IsWeak named.now.query.now (seen named.now.query.now named.now.view) from G) }
 {

@@ -5,5 +5,5 @@ mod building;
 mod graph;
 mod spreading;
 
-pub use building::{attack_row, attacks};
+pub use building::{attack_row, attacks, weak_row};
 pub use graph::Attacks;

@@ -234,12 +234,19 @@ formula_same x y r e f =
 no_fault : (r : Result (ℕ × List (List Lit)) ℕ) (x : ℕ × List (List Lit)) (n : ℕ) → r ≡ Ok x → r ≡ Err n → ⊥
 no_fault r x n e f = cc
 
+-- the lines that are written of a formula say it, and those of the log follow
+pub says_written : (cnf : Cnf) (log : List ℕ) → IsWritable cnf →
+    (formula_in (lines (proof_bytes cnf log)) ≡ Ok (cnf.vars, literals cnf.clauses)) × (after_lrat (lines (proof_bytes cnf log)) ≡ lines log)
+says_written cnf log w =
+    let l : lines (proof_bytes cnf log) ≡ head cnf.vars (length cnf.clauses) ∷ (map line cnf.clauses ++ mark ∷ lines log) = text_lines cnf log w in
+    let t = text_reads cnf.vars cnf.clauses (lines log) w.vars w.clauses (all_small cnf.vars cnf.clauses w.literals) in
+    (ap formula_in l ∙ t.0, ap after_lrat l ∙ t.1)
+
 -- what is written is read again
 pub reads_back : (cnf : Cnf) (log bytes : List ℕ) (r : Result (Cnf × ℕ) (Fail FormatFault)) → FormulaIs bytes r → IsWritable cnf → bytes ≡ proof_bytes cnf log → ReadsBack cnf log bytes r
 reads_back cnf log bytes r f w e =
-    let l : lines bytes ≡ head cnf.vars (length cnf.clauses) ∷ (map line cnf.clauses ++ mark ∷ lines log) = ap lines e ∙ text_lines cnf log w in
-    let t = text_reads cnf.vars cnf.clauses (lines log) w.vars w.clauses (all_small cnf.vars cnf.clauses w.literals) in
-    go r f (ap formula_in l ∙ t.0) (ap after_lrat l ∙ t.1)
+    let s = says_written cnf log w in
+    go r f (ap (λ b. formula_in (lines b)) e ∙ s.0) (ap (λ b. after_lrat (lines b)) e ∙ s.1)
   where
     go : (r : Result (Cnf × ℕ) (Fail FormatFault)) → FormulaIs bytes r → formula_in (lines bytes) ≡ Ok (cnf.vars, literals cnf.clauses) → after_lrat (lines bytes) ≡ lines log → ReadsBack cnf log bytes r
     go (Ok x) f a b = (formula_same x.0 cnf (formula_in (lines bytes)) f.0 a, f.1 ∙ b)

@@ -3,7 +3,7 @@ use Rattle.std.proofs.Common.{◌≡◌, ℕ, suc, ◌<◌, ◌≤◌, ◌-◌, 
 use Rattle.std.proofs.lemmas.List.{take_all}
 use Rattle.std.proofs.lemmas.Bool.{ne_eqb}
 use Rattle.cnf_form.specs.Lines.{after_blanks, after_line, after_token, begins_blank, ends_token, front, is_blank, line_of, token_of, tokens}
-use Rattle.cnf_form.specs.Scans.{IsNext, cons_token}
+use Rattle.cnf_form.specs.Scans.{IsNextToken, cons_token}
 
 -- no blank is an LF
 not_both : (b : ℕ) → is_blank b ≡ true → (b == 10) ≡ false
@@ -130,7 +130,7 @@ token_shorter (b ∷ bs) = go (ends_token b) (token_shorter bs)
     go true r = omega arith
     go false r = omega (arith, r)
 
-pub next_is : (text skipped rest : List ℕ) → skipped ≡ after_blanks text → 1 ≤ length skipped → (get_or skipped 0 0 ≡ 10 → ⊥) → rest ≡ after_token skipped → IsNext text (token_of skipped) rest
+pub next_is : (text skipped rest : List ℕ) → skipped ≡ after_blanks text → 1 ≤ length skipped → (get_or skipped 0 0 ≡ 10 → ⊥) → rest ≡ after_token skipped → IsNextToken text (token_of skipped) rest
 next_is text [] rest e h n r = absurd (omega (arith, h))
 next_is text (b ∷ bs) rest e h n r =
     let k : ends_token b ≡ false = ends b (no_blank text bs b e) n in record {

@@ -8,6 +8,13 @@ use Rattle.cnf_form.specs.declared.formula.Cnf.{Cnf}
 abbrev pub literals : List Clause → List (List Lit)
 literals clauses = map (λ c. c.lits) clauses
 
+-- the two literals of a variable
+abbrev pub positive : ℕ → Lit
+positive n = record { var = n; positive = true }
+
+abbrev pub negative : ℕ → Lit
+negative n = record { var = n; positive = false }
+
 abbrev pub negated : Bool → Bool
 negated true = false
 negated false = true
@@ -42,8 +49,8 @@ abbrev pub AreVars : ℕ → List Lit → Type 0
 AreVars n c = (l : Lit) → Contains c l → (1 ≤ l.var) × (l.var ≤ n)
 
 -- each literal is of one of the formula's variables, which are numbered from 1
-abbrev pub IsInRange : Cnf → Type 0
-IsInRange cnf = (c : List Lit) → Contains (literals cnf.clauses) c → AreVars cnf.vars c
+abbrev pub AreVarsInRange : Cnf → Type 0
+AreVarsInRange cnf = (c : List Lit) → Contains (literals cnf.clauses) c → AreVars cnf.vars c
 
 -- a variable stands in the clause with both signs
 abbrev pub HasBothSigns : List Lit → Type 0

@@ -6,7 +6,7 @@ use Rattle.cnf_form.specs.Lines.{after_line, line_of, tokens}
 use Rattle.cnf_form.specs.Numbers.{signed_of}
 
 -- the token is the next of the line that is begun, and the rest follows it
-pub record IsNext (text token rest : List ℕ) : Type 0 where
+pub record IsNextToken (text token rest : List ℕ) : Type 0 where
   pub token_is : tokens (line_of text) ≡ token ∷ tokens (line_of rest)
   pub same_line : after_line text ≡ after_line rest
   pub shorter : length rest < length text
@@ -15,8 +15,8 @@ pub record IsNext (text token rest : List ℕ) : Type 0 where
 -- next token is no such number.
 abbrev pub NextIs : ℕ → List ℕ → Next → Type 0
 NextIs limit text (End rest) = (tokens (line_of text) ≡ []) × (after_line text ≡ rest.now) × (length rest.now ≤ length text)
-NextIs limit text (Number z rest) = (token : List ℕ) × IsNext text token rest.now × (signed_of limit token ≡ Some (z.negative, z.size)) × (z.size ≤ limit)
-NextIs limit text Other = (token rest : List ℕ) × IsNext text token rest × (signed_of limit token ≡ None)
+NextIs limit text (Number z rest) = (token : List ℕ) × IsNextToken text token rest.now × (signed_of limit token ≡ Some (z.negative, z.size)) × (z.size ≤ limit)
+NextIs limit text Other = (token rest : List ℕ) × IsNextToken text token rest × (signed_of limit token ≡ None)
 
 -- a token, unless it is empty, and those that follow
 abbrev pub cons_token : List ℕ → List (List ℕ) → List (List ℕ)

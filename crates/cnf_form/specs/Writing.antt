@@ -9,7 +9,7 @@ use Rattle.cqa_value.specs.declared.memory.Fail.{Fail}
 use Rattle.cqa_value.specs.declared.memory.Fail.TheVariants.{NoMemory, Refused}
 use Rattle.cnf_form.specs.declared.fault.FormatFault.{FormatFault}
 use Rattle.cnf_form.specs.declared.header.TheConstants.{MOST_CLAUSES, MOST_VARIABLES}
-use Rattle.cnf_form.specs.Literals.{IsInRange}
+use Rattle.cnf_form.specs.Literals.{AreVarsInRange}
 use Rattle.cnf_form.specs.Lines.{lines}
 
 -- a variable's number, after a `-` (45) where the literal is negative, and a space (32)
@@ -35,7 +35,7 @@ formula_bytes cnf = header_line cnf ++ 10 ∷ flat_map clause_line cnf.clauses
 pub record IsWritable (cnf : Cnf) : Type 0 where
   pub vars : cnf.vars ≤ MOST_VARIABLES
   pub clauses : length cnf.clauses ≤ MOST_CLAUSES
-  pub literals : IsInRange cnf
+  pub literals : AreVarsInRange cnf
 
 -- the text of a formula, the line `lrat`, and what follows
 abbrev pub proof_bytes : Cnf → List ℕ → List ℕ

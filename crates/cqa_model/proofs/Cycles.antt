@@ -102,22 +102,23 @@ least P d (suc n) = go (least P d n) (d n)
     go (inr none) (yes p) = inl (n, omega arith, p, none)
     go (inr none) (no np) = inr (λ k l p. elim (ℕ_discrete k n) [ yes e ↦ np (subst P e p) | no ne ↦ none k (omega arith) p ])
 
--- a view without a cycle has a plan
+-- a view has a plan, or a cycle
 module _ (q : Query) where
-  pub plannable : (n : ℕ) (atoms : List ℕ) → length atoms ≤ n → (view : View) → IsClosed q view → ((F : ℕ) → view.has F → Contains atoms F) →
-      ((K : ℕ) → view.has K → K < length q.atoms) → ((K : ℕ) → Dec (view.has K)) → ((v : ColRef) → Dec (view.fixed v)) →
-      (HasCycle q view → ⊥) → (plan : List ℕ) × IsPlan q view plan
-  plannable zero atoms le view closed all within dec_has dec_fixed acyclic = ([], λ F hF. none (all F hF))
+  abbrev pub HasPlanOrCycle : View → Type 0
+  HasPlanOrCycle view = ((plan : List ℕ) × IsPlan q view plan) ⊎ HasCycle q view
+
+  pub plan_or_cycle_of : (n : ℕ) (atoms : List ℕ) → length atoms ≤ n → (view : View) → IsClosed q view → ((F : ℕ) → view.has F → Contains atoms F) →
+      ((K : ℕ) → view.has K → K < length q.atoms) → ((K : ℕ) → Dec (view.has K)) → ((v : ColRef) → Dec (view.fixed v)) → HasPlanOrCycle view
+  plan_or_cycle_of zero atoms le view closed all within dec_has dec_fixed = inl ([], λ F hF. none (all F hF))
     where
       none : {F : ℕ} → Contains atoms F → ⊥
       none m = let l : m.0 < length atoms = m.1 in omega arith
-  plannable (suc n) atoms le view closed all within dec_has dec_fixed acyclic =
+  plan_or_cycle_of (suc n) atoms le view closed all within dec_has dec_fixed =
       go (least (λ F. view.has F × IsUnattacked q view F) (λ F. dec_both (dec_has F) (dec_unattacked F)) (length q.atoms))
       (λ g hg. let r = remove atoms g (all g hg) in let e : length atoms ≡ suc (length r.0) = r.1 in
-      plannable n r.0 (omega arith) (after q view g) (after-closed q view closed g)
+      plan_or_cycle_of n r.0 (omega arith) (after q view g) (after-closed q view closed g)
       (λ F hF. elim (r.2 F (all F hF.0)) [ inl f ↦ absurd (hF.1 (sym f)) | inr m ↦ m ])
-      (λ K hK. within K hK.0) (λ K. dec_both (dec_has K) (dec_not (ℕ_discrete K g))) (dec_fixed_after q view dec_fixed g)
-      (λ c. acyclic (has_cycle-before q view closed g c)))
+      (λ K hK. within K hK.0) (λ K. dec_both (dec_has K) (dec_not (ℕ_discrete K g))) (dec_fixed_after q view dec_fixed g))
     where
       attackers : (F : ℕ) → ((G : ℕ) × Attacks q view G F) ⊎ IsUnattacked q view F
       attackers = attacked q view closed within dec_has dec_fixed
@@ -125,10 +126,22 @@ module _ (q : Query) where
       dec_unattacked : (F : ℕ) → Dec (IsUnattacked q view F)
       dec_unattacked F = elim (attackers F) [ inl a ↦ no (λ u. u a.0 a.1) | inr u ↦ yes u ]
 
+      -- the first atom is taken
+      taken : (g : ℕ) → view.has g → IsUnattacked q view g → ((G : ℕ) → G < g → (view.has G × IsUnattacked q view G) → ⊥) → HasPlanOrCycle (after q view g) → HasPlanOrCycle view
+      taken g hg u first (inl p) = inl (g ∷ p.0, (hg, u, (λ G hG lG uG. first G lG (hG, uG)), p.1))
+      taken g hg u first (inr c) = inr (has_cycle-before q view closed g c)
+
+      -- where each atom is attacked, none is left or attacks come round
+      blocked : ((F : ℕ) → F < length q.atoms → (view.has F × IsUnattacked q view F) → ⊥) →
+          ((k : ℕ) × (k < length q.atoms) × view.has k × ((j : ℕ) → j < k → view.has j → ⊥)) ⊎ ((k : ℕ) → k < length q.atoms → view.has k → ⊥) → HasPlanOrCycle view
+      blocked none (inl (x, l, hx, first)) =
+          inr (stuck q view (λ F hF. elim (attackers F) [ inl a ↦ a | inr u ↦ absurd (none F (within F hF) (hF, u)) ]) atoms all x hx)
+      blocked none (inr nothing_left) = inl ([], λ x hx. nothing_left x (within x hx) hx)
+
       go : ((F : ℕ) × (F < length q.atoms) × (view.has F × IsUnattacked q view F) × ((G : ℕ) → G < F → (view.has G × IsUnattacked q view G) → ⊥)) ⊎ ((F : ℕ) → F < length q.atoms → (view.has F × IsUnattacked q view F) → ⊥) →
-          ((g : ℕ) → view.has g → (plan : List ℕ) × IsPlan q (after q view g) plan) → (plan : List ℕ) × IsPlan q view plan
-      go (inl (g, l, u, first)) next = let p = next g u.0 in (g ∷ p.0, (u.0, u.1, (λ G hG lG uG. first G lG (hG, uG)), p.1))
-      go (inr none) next = ([], λ x hx. acyclic (stuck q view (λ F hF. elim (attackers F) [ inl a ↦ a | inr u ↦ absurd (none F (within F hF) (hF, u)) ]) atoms all x hx))
+          ((g : ℕ) → view.has g → HasPlanOrCycle (after q view g)) → HasPlanOrCycle view
+      go (inl (g, l, u, first)) next = taken g u.0 u.1 first (next g u.0)
+      go (inr none) next = blocked none (least (λ F. view.has F) dec_has (length q.atoms))
 
   -- the plan is unique
   pub one_plan : (view : View) (p o : List ℕ) → IsPlan q view p → IsPlan q view o → p ≡ o
@@ -144,10 +157,15 @@ module _ (q : Query) where
 pub whole-narrow : (q : Query) → IsNarrow q (whole q)
 whole-narrow q K hK p m = All-contains (λ p. p < (atom_at q K).width) (atom_key q K) p (q.kept.each K hK).key_in_range m
 
+-- of a query
+plan_or_cycle_in : (q : Query) → ((plan : List ℕ) × IsPlan q (whole q) plan) ⊎ HasCycle q (whole q)
+plan_or_cycle_in q = plan_or_cycle_of q (length (below (length q.atoms))) (below (length q.atoms)) (omega arith) (whole q) (λ u v l f. f)
+    (λ F hF. below-all (length q.atoms) F hF) (λ K hK. hK) (λ K. dec_lt K (length q.atoms)) (λ v. no (λ f. f))
+
 pub plan_or_cycle : PlanOrCycle
 plan_or_cycle = record {
   not_both = λ q order h c. eliminated q order (whole q) (λ u v l f. f) (whole-narrow q) h c;
-  some = λ q acyclic. plannable q (length (below (length q.atoms))) (below (length q.atoms)) (omega arith) (whole q) (λ u v l f. f)
-      (λ F hF. below-all (length q.atoms) F hF) (λ K hK. hK) (λ K. dec_lt K (length q.atoms)) (λ v. no (λ f. f)) acyclic;
+  either = plan_or_cycle_in;
+  some = λ q acyclic. elim (plan_or_cycle_in q) [ inl p ↦ p | inr c ↦ absurd (acyclic c) ];
   one = λ q plan other h o. one_plan q (whole q) plan other h o;
 }

@@ -1,4 +1,4 @@
--- Exchange: where B stands for A in G's block, each key of an atom that G doesn't attack was there before.
+-- Exchange: where B stands for A in G's block, each row of another atom that G doesn't attack was there before, and each key of G.
 use Rattle.std.proofs.Common.{◌≡◌, ℕ, ◌<◌, ◌⊎◌, inl, inr, List, [], ◌∷◌, length, get_or, map, refl, ap, sym, ◌∙◌, subst, Contains}
 use native.Mathlib.Decide.{ℕ_discrete}
 use Rattle.cqa_model.specs.declared.query.Cond.{Cond}
@@ -14,7 +14,7 @@ use Rattle.cqa_model.proofs.Fitting.{FitsTables}
 use Rattle.cqa_model.specs.Database.{nothing}
 use Rattle.cqa_model.specs.Variables.{AreLinked, IsJoined, IsVar}
 use Rattle.cqa_model.specs.Closures.{CountsFor, InPlus}
-use Rattle.cqa_model.specs.Graph.{IsReached}
+use Rattle.cqa_model.specs.Graph.{IsReached, Attacks}
 use Rattle.cqa_model.specs.Plan.{Placed, IsUnattacked}
 use Rattle.cqa_model.specs.Partial.{view_of, AllFit, IsPartial}
 use Rattle.cqa_model.proofs.Classic.{Classically, choice, same_value, mem-head, mem-tail, map_agree}
@@ -94,7 +94,7 @@ module _ (q : Query) (keys : List (List ℕ)) (tables : List (List (List Value))
         extends t m (inl p) = p.1 ∙ hS.extends t m
         extends t m (inr p) = p.1 ∙ hT.extends t m
 
-    mixed-shares : (F : ℕ) → (view_of q taken).has F → IsUnattacked q (view_of q taken) F → SharesKey (atom_key q F) (row_at T F) (row_at U F)
+    mixed-shares : (F : ℕ) → (view_of q taken).has F → (Attacks q (view_of q taken) G F → ⊥) → SharesKey (atom_key q F) (row_at T F) (row_at U F)
     mixed-shares F has free = go (mixed F (view-in_range q taken F has)) (ℕ_discrete G F)
       where
         go : (IsFirst F × (row_at U F ≡ row_at S F)) ⊎ ((IsFirst F → ⊥) × (row_at U F ≡ row_at T F)) → Dec (G ≡ F) → SharesKey (atom_key q F) (row_at T F) (row_at U F)
@@ -104,11 +104,17 @@ module _ (q : Query) (keys : List (List ℕ)) (tables : List (List (List Value))
           where
             attacked : (F ≡ G) ⊎ ((v : ColRef) × IsReached q (view_of q taken) G v × IsVar q (view_of q taken) F v) → ⊥
             attacked (inl e) = ne (sym e)
-            attacked (inr h) = free G (hG, has, ne, h)
+            attacked (inr h) = free (hG, has, ne, h)
 
-  pub exchanged : (F : ℕ) → (view_of q taken).has F → IsUnattacked q (view_of q taken) F →
+  -- of an atom that G doesn't attack
+  pub exchanged_by : (F : ℕ) → (view_of q taken).has F → (Attacks q (view_of q taken) G F → ⊥) →
       Classically ((U : List (List Value)) × IsPartial q row taken r U × SharesKey (atom_key q F) (row_at T F) (row_at U F))
-  exchanged F has free k =
+  exchanged_by F has free k =
       choice [] (length q.atoms) (λ i x. (IsFirst i × (x ≡ row_at S i)) ⊎ ((IsFirst i → ⊥) × (x ≡ row_at T i)))
       (λ i l out. out (row_at T i, inr ((λ first. out (row_at S i, inl (first, refl))), refl)))
       (λ p. k (p.0, mixed-partial p.0 p.1 p.2, mixed-shares p.0 p.1 p.2 F has free))
+
+  -- and so of one that no atom attacks
+  pub exchanged : (F : ℕ) → (view_of q taken).has F → IsUnattacked q (view_of q taken) F →
+      Classically ((U : List (List Value)) × IsPartial q row taken r U × SharesKey (atom_key q F) (row_at T F) (row_at U F))
+  exchanged F has free = exchanged_by F has (free G)

@@ -23,10 +23,13 @@ pub mod Witnesses
 pub mod Formula
 mod Example
 pub mod BrokenKey
+pub mod Keys
+pub mod EachRepair
 pub mod Mending
+pub mod PartialLaws
 pub mod Labels
 pub mod Columns
-mod ClassSteps
+pub mod ClassSteps
 pub mod OverOne
 pub mod Possible
 pub mod Databases

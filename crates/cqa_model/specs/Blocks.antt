@@ -13,3 +13,9 @@ pub record AreBlocks (key : List ℕ) (rows : List (List Value)) (blocks : List 
 -- rows have so many blocks
 abbrev pub HasBlocks : List ℕ → List (List Value) → ℕ → Type 0
 HasBlocks key rows count = (blocks : List (List (List Value))) × AreBlocks key rows blocks × (length blocks ≡ count)
+
+-- the row at a place is the first row of its block that has the property; or no row has it, and it is the first
+pub record IsPick (key : List ℕ) (rows : List (List Value)) (P : ℕ → Type 0) (at : ℕ) : Type 0 where
+  pub there : at < length rows
+  pub best : (i : ℕ) → i < length rows → SharesKey key (slice_index_or rows at []) (slice_index_or rows i []) → P i → P at
+  pub first : (i : ℕ) → i < at → SharesKey key (slice_index_or rows at []) (slice_index_or rows i []) → P at × (P i → ⊥)

@@ -1,5 +1,4 @@
 pub mod Shape
-pub mod Refusal
 pub mod Database
 pub mod Valid
 pub mod Repairs

@@ -1,18 +1,14 @@
--- The columns of which conditions and answers speak are those that can be numbered.
+-- The columns of which conditions speak are those that can be numbered.
 use Rattle.std.proofs.Common.{◌≡◌, ℕ, ◌<◌, List, [], ◌∷◌, length, get_or, sym, subst, Contains}
-use Rattle.std.proofs.lemmas.List.Elements.{Contains-get_or}
 use Rattle.cqa_value.specs.declared.value.Value.{Value}
 use Rattle.cqa_model.specs.declared.query.ColRef.{ColRef}
 use Rattle.cqa_model.specs.declared.query.Cond.{Cond}
 use Rattle.cqa_model.specs.declared.query.Cond.TheVariants.{Join, Test}
 use Rattle.cqa_model.specs.declared.query.Op.{Op}
 use Rattle.cqa_model.specs.declared.query.Query.{Query}
-use Rattle.cqa_model.specs.Naming.{IsSmall, AreSmallColumns, origin}
+use Rattle.cqa_model.specs.Naming.{IsSmall}
 use Rattle.cqa_model.proofs.Classic.{mem-head, mem-tail}
 use Rattle.cqa_model.proofs.Columns.{range-small}
-
-pub answers-small : (q : Query) (answer : List ColRef) → answer ≡ q.answer → AreSmallColumns answer
-answers-small q answer same i there = range-small q (get_or answer i origin) (q.kept.answer_in_range (get_or answer i origin) (subst (λ z. Contains z (get_or answer i origin)) same (Contains-get_or answer i origin there)))
 
 module _ (q : Query) (conds : List Cond) (same : conds ≡ q.conds) (i : ℕ) (k : Cond) (there : i < length conds) (is : k ≡ get_or conds i k) where
   stands : Contains q.conds k

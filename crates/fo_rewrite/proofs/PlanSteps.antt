@@ -12,7 +12,7 @@ use Rattle.key_closure.specs.Sets.{HasAtom}
 use Rattle.key_closure.specs.Members.{seen, IsLeft, AreSame}
 use Rattle.key_closure.proofs.Members.{is_in-linked}
 use Rattle.attack_graph.proofs.Sameness.{same-sym}
-use Rattle.fo_rewrite.specs.Planning.{IsAttacked, IsStuck, IsNext, IsFirst}
+use Rattle.fo_rewrite.specs.Planning.{IsAttacked, IsStuck, IsNext, IsFirstUnattacked}
 use Rattle.fo_rewrite.proofs.Sameness.{same-cycle, same-elimination, same-plan}
 
 -- one more atom whose attacks are gathered
@@ -49,7 +49,7 @@ module _ (q : Query) (firsts : Type 0) (view : View) where
     cycle = λ c. same-cycle q (seen q view) (whole q) (same-sym (whole q) (seen q view) s) c;
   }
 
-  pub planned-more : (left rest : AtomSet) (order : List ℕ) (K : ℕ) (new : View) → Planned q firsts view left order → IsNext q (seen q view) K → (firsts → IsFirst q (seen q view) K) →
+  pub planned-more : (left rest : AtomSet) (order : List ℕ) (K : ℕ) (new : View) → Planned q firsts view left order → IsNext q (seen q view) K → (firsts → IsFirstUnattacked q (seen q view) K) →
       AreSame (after q (seen q view) K) (seen q new) → ((k : ℕ) → HasAtom rest k ↔ (HasAtom left k × (k ≢ K))) → Planned q firsts new rest (order ++ (K ∷ []))
   planned-more left rest order K new g next first s h = record {
     left_is = λ L. (

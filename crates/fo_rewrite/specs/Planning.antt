@@ -27,5 +27,5 @@ pub record IsNext (q : Query) (view : View) (G : ℕ) : Type 0 where
   pub free : IsUnattacked q view G
 
 -- each atom of the view before G is attacked
-abbrev pub IsFirst : Query → View → ℕ → Type 0
-IsFirst q view G = (H : ℕ) → H < G → view.has H → IsAttacked q view H
+abbrev pub IsFirstUnattacked : Query → View → ℕ → Type 0
+IsFirstUnattacked q view G = (H : ℕ) → H < G → view.has H → IsAttacked q view H

@@ -7,6 +7,6 @@ use Rattle.fo_rewrite.specs.declared.planning.Outset.{Outset}
 use Rattle.fo_rewrite.specs.Planning.{IsAttacked}
 
 -- the view is of the whole query, and these are the atoms that are attacked
-pub record IsWhole (o : Outset) : Type 0 where
+pub record StartsWhole (o : Outset) : Type 0 where
   pub whole : AreSame (whole o.named.now.query.now) (seen o.named.now.query.now o.named.now.view)
   pub attacked : (G : ℕ) → HasAtom o.attacked G ↔ IsAttacked o.named.now.query.now (seen o.named.now.query.now o.named.now.view) G

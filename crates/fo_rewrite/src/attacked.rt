@@ -4,7 +4,7 @@ ghost use Rattle.std.specs.Prelude.{◌≡◌, ℕ, ◌<◌, ◌↔◌, IfSome, 
 ghost use Rattle.cqa_model.specs.declared.limits.TheConstants.{MOST_ATOMS};
 ghost use Rattle.key_closure.specs.Sets.{HasAtom};
 ghost use Rattle.key_closure.specs.Members.{IsLeft, seen};
-ghost use Rattle.fo_rewrite.specs.Planning.{IsAttacked, IsNext, IsFirst, IsStuck};
+ghost use Rattle.fo_rewrite.specs.Planning.{IsAttacked, IsNext, IsFirstUnattacked, IsStuck};
 ghost use Rattle.fo_rewrite.specs.declared.preference.Choice.TheVariants.{First};
 
 use crate::known::Facts;
@@ -23,7 +23,7 @@ pub(crate) fn next_atom<'x>(
 ) -> Option<u32>
     requires left { (K : ℕ) → HasAtom left.now K ↔ IsLeft named.now.query.now named.now.view K }
     requires attacked { (G : ℕ) → HasAtom attacked.now G ↔ IsAttacked named.now.query.now (seen named.now.query.now named.now.view) G }
-    ensures first { choice ≡ First → IfSome result (IsFirst named.now.query.now (seen named.now.query.now named.now.view)) }
+    ensures first { choice ≡ First → IfSome result (IsFirstUnattacked named.now.query.now (seen named.now.query.now named.now.view)) }
     ensures next { MatchOption result (IsStuck named.now.query.now (seen named.now.query.now named.now.view)) (IsNext named.now.query.now (seen named.now.query.now named.now.view)) }
 {
     let Some(first) = first_outside(left, attacked) else {

@@ -8,5 +8,5 @@ mod passes;
 mod planning;
 mod preference;
 
-pub use passes::elimination_of;
-pub use planning::plan_of;
+pub use passes::elimination_in;
+pub use planning::{plan_in, plan_of};

@@ -4,17 +4,18 @@ ghost use Rattle.std.specs.Prelude.{◌↔◌, ◌<◌, All, IfOk, IfSome, IsNon
 ghost use Rattle.cqa_model.specs.Variables.{whole};
 ghost use Rattle.cqa_model.specs.Graph.{HasCycle};
 ghost use Rattle.cqa_model.specs.Plan.{IsEliminationOf};
+ghost use Rattle.key_closure.specs.Members.{AreSame, seen};
 ghost use Rattle.fo_rewrite.specs.Planning.{IsExact};
-ghost use Rattle.fo_rewrite.specs.Starting.{IsWhole};
+ghost use Rattle.fo_rewrite.specs.Starting.{StartsWhole};
 
 use crate::attacked::{attacked_atoms, first_outside};
 use crate::known::{Facts, Known};
 use crate::linking::Joined;
 use crate::planning::{Outset, eliminated};
 use crate::preference::Choice;
-use cqa_model::{Plan, Query, variables};
+use cqa_model::Plan;
 use cqa_value::NoMemory;
-use key_closure::{AtomSet, Named, View};
+use key_closure::{AtomSet, Named};
 use std::alloc::Global;
 
 /// So many orders are made at most.
@@ -40,7 +41,7 @@ struct Pass {
     cost: Cost,
 }
 
-/// An elimination order of a query that is good for evaluation: again and again an atom that no atom attacks once those
+/// An elimination order of a query, whose variables have their names, that is good for evaluation: again and again an atom that no atom attacks once those
 /// before it are taken, `None` exactly where the attacks have a cycle. Over each database that the query fits, the order
 /// holds for a row exactly where the row is certain (Koutris and Wijsen, ACM TODS 2017).
 ///
@@ -52,20 +53,20 @@ struct Pass {
 /// # Errors
 ///
 /// `NoMemory` where memory is refused.
-pub fn elimination_of(alloc: Global, query: &Query, sizes: &[u32]) -> Result<Option<Plan>, NoMemory>
-    ensures order { IfOk result (λ found. IfSome found (λ plan. IsEliminationOf query.now plan.order)) }
-    ensures cycle { IfOk result (λ found. IsNone found ↔ HasCycle query.now (whole query.now)) }
-    ensures exact { IfOk result (λ found. IfSome found (λ plan. IsExact query.now plan.order)) }
+pub fn elimination_in<'a>(
+    alloc: Global,
+    named: &'a Named<'a>,
+    sizes: &'a [u32],
+) -> Result<Option<Plan>, NoMemory>
+    requires { AreSame (whole named.now.query.now) (seen named.now.query.now named.now.view) }
+    ensures order { IfOk result (λ found. IfSome found (λ plan. IsEliminationOf named.now.query.now plan.order)) }
+    ensures cycle { IfOk result (λ found. IsNone found ↔ HasCycle named.now.query.now (whole named.now.query.now)) }
+    ensures exact { IfOk result (λ found. IfSome found (λ plan. IsExact named.now.query.now plan.order)) }
 {
-    let named = Named {
-        query,
-        variables: variables(query),
-        view: View::whole(query),
-    };
     let outset = Outset {
-        named: &named,
-        attacked: attacked_atoms(&named),
-        facts: Facts::new(query, &named.variables, sizes),
+        named,
+        attacked: attacked_atoms(named),
+        facts: Facts::new(named.query, &named.variables, sizes),
     };
     match eliminated(alloc, &outset, Choice::Preferred { first: None })? {
         Some(plan) => Ok(Some(cheapest(alloc, &outset, plan))),
@@ -76,7 +77,7 @@ pub fn elimination_of(alloc: Global, query: &Query, sizes: &[u32]) -> Result<Opt
 /// The cheapest of an order and a few that begin with other atoms, which are made until one has no
 /// detour.
 fn cheapest(alloc: Global, outset: &Outset<'_>, plan: Plan) -> Plan
-    requires whole { IsWhole outset.now }
+    requires whole { StartsWhole outset.now }
     requires order { IsEliminationOf outset.now.named.now.query.now plan.order }
     ensures { IsEliminationOf outset.now.named.now.query.now result.order }
 {
@@ -99,7 +100,7 @@ fn cheapest(alloc: Global, outset: &Outset<'_>, plan: Plan) -> Plan
 
 /// Takes the order that begins with an atom in place of another if it is cheaper. Where memory is refused, the other stays.
 fn begin_with(alloc: Global, outset: &Outset<'_>, atom: u32, best: &mut Pass)
-    requires whole { IsWhole outset.now }
+    requires whole { StartsWhole outset.now }
     requires order { IsEliminationOf outset.now.named.now.query.now best.old.plan.order }
     ensures { IsEliminationOf outset.now.named.now.query.now best.new.plan.order }
 {

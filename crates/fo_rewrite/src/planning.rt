@@ -4,8 +4,9 @@ ghost use Rattle.std.specs.Prelude.{◌≡◌, ◌↔◌, IfOk, IfSome, IsNone};
 ghost use Rattle.cqa_model.specs.Variables.{whole};
 ghost use Rattle.cqa_model.specs.Graph.{HasCycle};
 ghost use Rattle.cqa_model.specs.Plan.{IsEliminationOf, IsPlanOf};
+ghost use Rattle.key_closure.specs.Members.{AreSame, seen};
 ghost use Rattle.fo_rewrite.specs.Planning.{IsExact};
-ghost use Rattle.fo_rewrite.specs.Starting.{IsWhole};
+ghost use Rattle.fo_rewrite.specs.Starting.{StartsWhole};
 ghost use Rattle.fo_rewrite.specs.declared.preference.Choice.TheVariants.{First};
 
 use crate::attacked::{attacked_atoms, next_atom};
@@ -41,10 +42,24 @@ pub fn plan_of(alloc: Global, query: &Query) -> Result<Option<Plan>, NoMemory>
         variables: variables(query),
         view: View::whole(query),
     };
+    plan_in(alloc, &named)
+}
+
+/// The plan of a query whose variables have their names.
+///
+/// # Errors
+///
+/// `NoMemory` where memory is refused.
+pub fn plan_in<'a>(alloc: Global, named: &'a Named<'a>) -> Result<Option<Plan>, NoMemory>
+    requires { AreSame (whole named.now.query.now) (seen named.now.query.now named.now.view) }
+    ensures plan { IfOk result (λ found. IfSome found (λ plan. IsPlanOf named.now.query.now plan.order)) }
+    ensures cycle { IfOk result (λ found. IsNone found ↔ HasCycle named.now.query.now (whole named.now.query.now)) }
+    ensures exact { IfOk result (λ found. IfSome found (λ plan. IsExact named.now.query.now plan.order)) }
+{
     let outset = Outset {
-        named: &named,
-        attacked: attacked_atoms(&named),
-        facts: Facts::new(query, &named.variables, &[]),
+        named,
+        attacked: attacked_atoms(named),
+        facts: Facts::new(named.query, &named.variables, &[]),
     };
     eliminated(alloc, &outset, Choice::First)
 }
@@ -55,7 +70,7 @@ pub(crate) fn eliminated(
     outset: &Outset<'_>,
     choice: Choice,
 ) -> Result<Option<Plan>, NoMemory>
-    requires { IsWhole outset.now }
+    requires { StartsWhole outset.now }
     ensures plan { choice ≡ First → IfOk result (λ found. IfSome found (λ plan. IsPlanOf outset.now.named.now.query.now plan.order)) }
     ensures order { IfOk result (λ found. IfSome found (λ plan. IsEliminationOf outset.now.named.now.query.now plan.order)) }
     ensures cycle { IfOk result (λ found. IsNone found ↔ HasCycle outset.now.named.now.query.now (whole outset.now.named.now.query.now)) }

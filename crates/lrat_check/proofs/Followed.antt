@@ -9,12 +9,12 @@ use Rattle.cnf_form.specs.Logs.{Live, HintsPass}
 use Rattle.lrat_check.specs.declared.following.Follow.{Follow}
 use Rattle.lrat_check.specs.declared.following.Follow.TheVariants as follow
 use Rattle.cnf_form.specs.declared.formula.Truth.{Truth}
-use Rattle.lrat_check.specs.Marks.{Shows, HasOne, HasTwo, HoldIs}
+use Rattle.lrat_check.specs.Marks.{Shows, HasOneOpen, HasTwo, HoldIs}
 use Rattle.lrat_check.specs.Following.{ClauseIs, FollowIs, Negative, Unknown, Known, EndIs}
 use Rattle.std.specs.Prelude.{Result, Ok, Err, IfOk}
 use Rattle.lrat_check.specs.Failing.{HasTwoFree, HintsFail}
 
-pub is_unit : (ts : List Truth) (held c : List Lit) (l : Lit) → Shows ts held → HasOne ts c l → IsUnit held c l
+pub is_unit : (ts : List Truth) (held c : List Lit) (l : Lit) → Shows ts held → HasOneOpen ts c l → IsUnit held c l
 is_unit ts held c l s f = record {
   inside = f.inside;
   free = λ d. f.free (s.marked (opposite l) d);
@@ -32,7 +32,7 @@ has_two_free ts held c s f = record {
   other_free = λ d. f.other_free (s.marked (opposite f.other) d);
 }
 
-pub unit_on : (ts us : List Truth) (c : List Lit) (l : Lit) (kept : Bool) → HasOne ts c l → HoldIs ts us l kept → (held : List Lit) → Shows ts held → ClauseIs held c us follow.On
+pub unit_on : (ts us : List Truth) (c : List Lit) (l : Lit) (kept : Bool) → HasOneOpen ts c l → HoldIs ts us l kept → (held : List Lit) → Shows ts held → ClauseIs held c us follow.On
 unit_on ts us c l true f h held s = (l, is_unit ts held c l s f, h held s)
 unit_on ts us c l false f h held s = absurd (f.free h)
 

@@ -10,4 +10,4 @@ mod Stored
 pub mod Takes
 mod StepLines
 mod LogLines
-mod RoundTrip
+pub mod RoundTrip

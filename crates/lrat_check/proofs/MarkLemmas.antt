@@ -8,10 +8,10 @@ use Rattle.cqa_value.proofs.Words.{Contains-from_take}
 use Rattle.cnf_form.specs.declared.formula.Lit.{Lit}
 use Rattle.cnf_form.specs.declared.formula.Truth.{Truth}
 use Rattle.cnf_form.specs.declared.formula.Truth.TheVariants as truth
-use Rattle.lrat_check.specs.Marks.{truth_at, IsFalse, IsValid, HasOne, HasTwo, FoundIs}
+use Rattle.lrat_check.specs.Marks.{truth_at, IsFalse, IsValid, HasOneOpen, HasTwo, IsOneLeft}
 use Rattle.lrat_check.proofs.Takes.{more_cases, more_left, more_here}
 
-found_false_one : (ts : List Truth) (c : List Lit) (i : ℕ) (d l : Lit) → i < length c → HasOne ts (take i c) l → IsFalse ts (get_or c i d) → HasOne ts (take (i + 1) c) l
+found_false_one : (ts : List Truth) (c : List Lit) (i : ℕ) (d l : Lit) → i < length c → HasOneOpen ts (take i c) l → IsFalse ts (get_or c i d) → HasOneOpen ts (take (i + 1) c) l
 found_false_one ts c i d l h f n = record {
   inside = more_left c i d h l f.inside;
   free = f.free;
@@ -21,14 +21,14 @@ found_false_one ts c i d l h f n = record {
   ];
 }
 
-pub found_false : (ts : List Truth) (c : List Lit) (i : ℕ) (d : Lit) (found : Option Lit) → i < length c → FoundIs ts (take i c) found → IsFalse ts (get_or c i d) → FoundIs ts (take (i + 1) c) found
+pub found_false : (ts : List Truth) (c : List Lit) (i : ℕ) (d : Lit) (found : Option Lit) → i < length c → IsOneLeft ts (take i c) found → IsFalse ts (get_or c i d) → IsOneLeft ts (take (i + 1) c) found
 found_false ts c i d None h f n = λ m k. elim (more_cases c i d h m k) [
   | inl r ↦ f m r
   | inr e ↦ subst (λ (x : Lit). IsFalse ts x) e n
 ]
 found_false ts c i d (Some l) h f n = found_false_one ts c i d l h f n
 
-pub found_first : (ts : List Truth) (c : List Lit) (i : ℕ) (d : Lit) → i < length c → FoundIs ts (take i c) None → (IsFalse ts (get_or c i d) → ⊥) → HasOne ts (take (i + 1) c) (get_or c i d)
+pub found_first : (ts : List Truth) (c : List Lit) (i : ℕ) (d : Lit) → i < length c → IsOneLeft ts (take i c) None → (IsFalse ts (get_or c i d) → ⊥) → HasOneOpen ts (take (i + 1) c) (get_or c i d)
 found_first ts c i d h f n = record {
   inside = more_here c i d h;
   free = n;
@@ -38,7 +38,7 @@ found_first ts c i d h f n = record {
   ];
 }
 
-pub found_same : (ts : List Truth) (c : List Lit) (i : ℕ) (d l : Lit) → i < length c → HasOne ts (take i c) l → l ≡ get_or c i d → HasOne ts (take (i + 1) c) l
+pub found_same : (ts : List Truth) (c : List Lit) (i : ℕ) (d l : Lit) → i < length c → HasOneOpen ts (take i c) l → l ≡ get_or c i d → HasOneOpen ts (take (i + 1) c) l
 found_same ts c i d l h f same = record {
   inside = more_left c i d h l f.inside;
   free = f.free;
@@ -48,7 +48,7 @@ found_same ts c i d l h f same = record {
   ];
 }
 
-pub found_two : (ts : List Truth) (c : List Lit) (i : ℕ) (d l : Lit) → i < length c → HasOne ts (take i c) l → l ≢ get_or c i d → (IsFalse ts (get_or c i d) → ⊥) → HasTwo ts c
+pub found_two : (ts : List Truth) (c : List Lit) (i : ℕ) (d l : Lit) → i < length c → HasOneOpen ts (take i c) l → l ≢ get_or c i d → (IsFalse ts (get_or c i d) → ⊥) → HasTwo ts c
 found_two ts c i d l h f apart n = record {
   one = l;
   other = get_or c i d;
@@ -59,8 +59,8 @@ found_two ts c i d l h f apart n = record {
   other_free = n;
 }
 
-pub found_end : (ts : List Truth) (c : List Lit) (i : ℕ) (found : Option Lit) → length c ≤ i → FoundIs ts (take i c) found → FoundIs ts c found
-found_end ts c i found h f = subst (λ (d : List Lit). FoundIs ts d found) (take_all i c h) f
+pub found_end : (ts : List Truth) (c : List Lit) (i : ℕ) (found : Option Lit) → length c ≤ i → IsOneLeft ts (take i c) found → IsOneLeft ts c found
+found_end ts c i found h f = subst (λ (d : List Lit). IsOneLeft ts d found) (take_all i c h) f
 
 -- room that no variable needs
 pub grown_valid : (ts us : List Truth) (trail : List ℕ) → IsValid ts trail → ((v : ℕ) → truth_at us v ≡ truth_at ts v) → length ts ≤ length us → IsValid us trail

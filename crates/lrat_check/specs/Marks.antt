@@ -49,7 +49,7 @@ pub record HasTwo (ts : List Truth) (c : List Lit) : Type 0 where
   pub other_free : IsFalse ts other → ⊥
 
 -- one literal of a clause isn't false, and all others are
-pub record HasOne (ts : List Truth) (c : List Lit) (l : Lit) : Type 0 where
+pub record HasOneOpen (ts : List Truth) (c : List Lit) (l : Lit) : Type 0 where
   pub inside : Contains c l
   pub free : IsFalse ts l → ⊥
   pub others : (m : Lit) → Contains c m → m ≢ l → IsFalse ts m
@@ -57,13 +57,13 @@ pub record HasOne (ts : List Truth) (c : List Lit) (l : Lit) : Type 0 where
 -- what a look at a clause tells: all its literals are false, all but one, or not even so many
 abbrev pub Looked : List Truth → List Lit → Look → Type 0
 Looked ts c look.Conflict = (m : Lit) → Contains c m → IsFalse ts m
-Looked ts c (look.Unit l) = HasOne ts c l
+Looked ts c (look.Unit l) = HasOneOpen ts c l
 Looked ts c look.Many = HasTwo ts c
 
 -- the one literal of a clause that isn't false, or none where all are
-abbrev pub FoundIs : List Truth → List Lit → Option Lit → Type 0
-FoundIs ts c None = (m : Lit) → Contains c m → IsFalse ts m
-FoundIs ts c (Some l) = HasOne ts c l
+abbrev pub IsOneLeft : List Truth → List Lit → Option Lit → Type 0
+IsOneLeft ts c None = (m : Lit) → Contains c m → IsFalse ts m
+IsOneLeft ts c (Some l) = HasOneOpen ts c l
 
 -- What holding a literal makes of the marks.
 abbrev pub HoldIs : List Truth → List Truth → Lit → Bool → Type 0

@@ -11,7 +11,7 @@ use Rattle.cqa_model.specs.Query.{atom_at, atom_key}
 use Rattle.cqa_model.proofs.Classic.{mem-head, mem-tail, mem-nil}
 use Rattle.cqa_model.proofs.Columns.{number-small, least-of}
 use Rattle.plan_sql.specs.declared.fitting.Fitting.{Fitting}
-use Rattle.sql_text.specs.Meaning.{IsChoice, Selects}
+use Rattle.sql_text.specs.Meaning.{IsRowOfEach, Selects}
 use Rattle.plan_sql.specs.Variables.{without, ascending, variables_of, key_variables}
 use Rattle.plan_sql.specs.Statement.{held, fit_each, tables_of, asked, asked_known, level_of, blocks_select}
 use Rattle.plan_sql.proofs.Membership.{dec_has, without-into, without-from, ascending-into, ascending-from}
@@ -120,7 +120,7 @@ module _ (q : Query) (F : ℕ) (lF : F < length q.atoms) where
       EachSuits e (G ∷ Gs) (z ∷ zs) = Suits q e G z × EachSuits e Gs zs
 
       choose_rows : (e : ℕ → Value) (Gs : List ℕ) (n : ℕ) → ((G : ℕ) → Contains Gs G → (z : List Value) × Contains (tables G) z × Suits q e G z) →
-          (zs : List (List Value)) × IsChoice tables before (tables_of n Gs) zs × EachSuits e Gs zs
+          (zs : List (List Value)) × IsRowOfEach tables before (tables_of n Gs) zs × EachSuits e Gs zs
       choose_rows e [] n h = ([], tt, tt)
       choose_rows e (G ∷ Gs) n h =
           let one = h G (mem-head G Gs) in

@@ -1,5 +1,5 @@
 -- The query of a plan means exactly the rows for which the plan holds.
-use Rattle.std.proofs.Common.{◌≡◌, ℕ, zero, suc, ◌<◌, ◌≤◌, ◌-◌, ◌+◌, inl, inr, Bool, true, false, List, [], ◌∷◌, length, map, get_or, refl, ap, sym, ◌∙◌, subst, arith, cond, Contains, Some, None}
+use Rattle.std.proofs.Common.{◌≡◌, ◌↔◌, ℕ, zero, suc, ◌<◌, ◌≤◌, ◌-◌, ◌+◌, inl, inr, Bool, true, false, List, [], ◌∷◌, length, map, get_or, refl, ap, sym, ◌∙◌, subst, arith, cond, Contains, Some, None}
 use Rattle.std.specs.List.{slice_index, filter, range_with_len}
 use Rattle.std.specs.Option.{unwrap_or}
 use Rattle.std.proofs.lemmas.List.{get_or-map, length-map, ext_get_or, get_or_default}
@@ -10,12 +10,14 @@ use Rattle.cqa_model.specs.declared.query.ColRef.{ColRef}
 use Rattle.cqa_model.specs.declared.query.Query.{Query}
 use Rattle.cqa_model.specs.Database.{nothing, stored, keys_of}
 use Rattle.cqa_model.specs.Shape.{IsInRange}
-use Rattle.cqa_model.specs.Query.{rows_of}
+use Rattle.cqa_model.specs.Query.{rows_of, value}
+use Rattle.cqa_model.specs.Certain.{IsCertain}
 use Rattle.cqa_model.specs.Variables.{whole}
 use Rattle.cqa_model.specs.Plan.{answer_at, PlanHolds, IsPlanOf}
 use Rattle.cqa_model.proofs.Classic.{mem-nil}
 use Rattle.cqa_model.proofs.Databases.{rewriting_is_exact}
 use Rattle.cqa_model.proofs.Elimination.{plan-eliminates}
+use Rattle.cqa_model.proofs.Existence.{some_repair}
 use Rattle.cqa_model.proofs.Fitting.{FitsTables, fits_tables}
 use Rattle.cqa_model.proofs.Views.{view-in_range}
 use Rattle.fo_rewrite.proofs.Distinct.{plan-all}
@@ -174,13 +176,23 @@ module _ (q : Query) where
     exact-tables [] is_plan = absurd (is_plan 0 (omega (arith, q.kept.size.0)))
     exact-tables (F ∷ plan) is_plan = (exact-to F plan is_plan, exact-back F plan is_plan)
 
-pub sql_is_exact : SqlIsExact
-sql_is_exact db q row plan fits long is_plan =
-    let t = exact-tables q (keys_of db) (stored db) (fits_tables q db fits) row long plan is_plan in
-    let r = rewriting_is_exact db q row plan fits long is_plan in
-    ((λ m. r.0 (t.0 m)), (λ c. t.1 (r.1 c)))
-
 pub sql_is_wide : SqlIsWide
 sql_is_wide tables q row plan (w, c, p, g) =
     ap length (sym g) ∙ length-map (cells_of (held 0 0 (ascending (answer_variables q))) (answer_variables q)) (cell_value w)
     ∙ length-map (answer_variables q) (λ v. cell_of (held 0 0 (ascending (answer_variables q))) v) ∙ length-map q.answer (λ (c : ColRef). slice_index (variables_of q c.atom) c.col)
+
+pub sql_is_exact : SqlIsExact
+sql_is_exact q plan is_plan db row fits = ((λ m. (exact (sql_is_wide (rows_of q (stored db)) q row plan m)).0 m), (λ c. (exact (as_long c)).1 c))
+  where
+    exact : length row ≡ length q.answer → Means (rows_of q (stored db)) (sql_of q plan) row ↔ IsCertain db q row
+    exact long =
+        let t = exact-tables q (keys_of db) (stored db) (fits_tables q db fits) row long plan is_plan in
+        let r = rewriting_is_exact db q row plan fits long is_plan in
+        ((λ m. r.0 (t.0 m)), (λ c. t.1 (r.1 c)))
+
+    -- a certain row has a witness in a repair, which gives each answer column a value
+    as_long : IsCertain db q row → length row ≡ length q.answer
+    as_long certain =
+        let r = some_repair (keys_of db) (stored db) in
+        let w = certain r.0 r.1 in
+        subst (λ z. length z ≡ length q.answer) w.1.answers (length-map q.answer (value w.0))

@@ -4,6 +4,7 @@ ghost use Rattle.std.specs.Prelude.{◌≡◌, ◌++◌, ◌+◌, ◌^◌, ◌�
 ghost use Rattle.cqa_model.specs.Plan.{IsPlanOf};
 ghost use Rattle.sql_text.specs.declared.syntax.Body.TheVariants.{Distinct as DistinctBody};
 ghost use Rattle.sql_text.specs.declared.syntax.StepKind.TheVariants.{Rows as RowsKind};
+ghost use Rattle.plan_sql.specs.Laws.{IsExactSql};
 ghost use Rattle.plan_sql.specs.Shapes.{AreAtoms};
 ghost use Rattle.plan_sql.specs.Variables.{answer_variables};
 ghost use Rattle.plan_sql.specs.Runs.{run_of};
@@ -27,7 +28,9 @@ use std::alloc::Global;
 /// `NoMemory` where memory is refused.
 pub fn sql_of(alloc: Global, query: &Query, plan: &Plan) -> Result<Sql, NoMemory>
     requires { IsPlanOf query.now plan.now.order }
-    ensures { IfOk result (λ sql. sql ≡ sql_of query.now plan.now.order) }
+    ensures is { IfOk result (λ sql. sql ≡ sql_of query.now plan.now.order) }
+    // Over each database that the query fits, of any size, it means exactly the certain rows.
+    ensures exact { IfOk result (IsExactSql query.now) }
 {
     let shape = shape_of(alloc, query)?;
     let answer = shape.answer_variables(alloc)?;

@@ -1,5 +1,5 @@
 -- An input has one reply, and what is verified is true.
-use Rattle.std.proofs.Common.{◌≡◌, ◌⊎◌, inl, inr, ℕ, List, [], ◌∷◌, map, Result, Ok, Err, IfOk, refl, sym, ap, ◌∙◌, subst}
+use Rattle.std.proofs.Common.{◌≡◌, ◌⊎◌, inl, inr, ℕ, ◌<◌, ◌≤◌, ◌^◌, List, [], ◌∷◌, map, Result, Ok, Err, IfOk, refl, sym, ap, ◌∙◌, subst, arith}
 use Rattle.cqa_value.specs.declared.memory.NoMemory.{NoMemory}
 use Rattle.cnf_form.specs.declared.formula.Lit.{Lit}
 use Rattle.cnf_form.specs.declared.formula.Clause.{Clause}
@@ -12,14 +12,18 @@ use Rattle.cnf_form.specs.Literals.{literals}
 use Rattle.cnf_form.specs.Lines.{lines}
 use Rattle.cnf_form.specs.Formulas.{after_lrat, formula_in}
 use Rattle.cnf_form.specs.Logs.{Refutes}
+use Rattle.cnf_form.specs.declared.header.TheConstants.{MOST_VARIABLES}
 use Rattle.cnf_form.proofs.Sound.{refutation_sound}
+use Rattle.cnf_form.proofs.RoundTrip as formulas
 use Rattle.lrat_check.specs.declared.fault.LogFault.{LogFault}
 use Rattle.lrat_check.specs.LogTexts.{log_of}
 use Rattle.lrat_check.specs.Failing.{Refused}
+use Rattle.lrat_check.specs.Writing.{log_bytes}
 use Rattle.lrat_check.proofs.Exact.{not_both, one_first}
+use Rattle.lrat_check.proofs.RoundTrip as logs
 use Rattle.proof_check.specs.declared.reply.CheckReply.{CheckReply}
 use Rattle.proof_check.specs.declared.reply.CheckReply.TheVariants.{Verified, BadText, BadLog}
-use Rattle.proof_check.specs.Verdicts.{Checks, ChecksLog, HasFormula, IsFaulty, IsUnsatisfiable, OneReply, log_in}
+use Rattle.proof_check.specs.Verdicts.{Checks, ChecksLog, HasFormula, IsFaulty, IsUnsatisfiable, OneReply, PrintedIsVerified, log_in}
 
 same_ok : {A B : Type 0} (r : Result A B) (a b : A) → r ≡ Ok a → r ≡ Ok b → a ≡ b
 same_ok r a b x y = (cc)
@@ -126,3 +130,18 @@ verified_sound bytes (BadLog fault) h is other formula = absurd (log_not_verifie
 pub sound_reply : (bytes : List ℕ) (result : Result CheckReply NoMemory) → IfOk result (Checks bytes) → IfOk result (λ reply. reply ≡ Verified → IsUnsatisfiable bytes)
 sound_reply bytes (Ok reply) h = verified_sound bytes reply h
 sound_reply bytes (Err e) h = h
+
+in_range : (n : ℕ) → n ≤ MOST_VARIABLES → n < 2 ^ 64
+in_range n l = omega arith
+
+pub printed_is_verified : PrintedIsVerified
+printed_is_verified cnf steps w wl refutes =
+    let s = formulas.says_written cnf (log_bytes steps) w in (
+      cnf,
+      steps,
+      record {
+        formula = s.0;
+        log = ap (log_of cnf.vars 1) s.1 ∙ logs.says_written cnf.vars steps (log_bytes steps) (in_range cnf.vars w.vars) wl refl;
+      },
+      refutes,
+    )

@@ -10,11 +10,13 @@ use Rattle.cnf_form.specs.Literals.{literals, SatisfiesAll}
 use Rattle.cnf_form.specs.Lines.{lines}
 use Rattle.cnf_form.specs.Formulas.{after_lrat, formula_in}
 use Rattle.cnf_form.specs.Logs.{Refutes}
+use Rattle.cnf_form.specs.Writing.{IsWritable, proof_bytes}
 use Rattle.lrat_check.specs.declared.fault.LogFault.{LogFault}
 use Rattle.lrat_check.specs.declared.fault.LogCause.{LogCause}
 use Rattle.lrat_check.specs.declared.fault.LogCause.TheVariants.{UnknownId, IdNotRising, HintNotUnit, NoConflict, RatHint, NoEmptyClause}
 use Rattle.lrat_check.specs.LogTexts.{log_of}
 use Rattle.lrat_check.specs.Failing.{Refused}
+use Rattle.lrat_check.specs.Writing.{IsWritableLog, log_bytes}
 use Rattle.proof_check.specs.declared.reply.CheckReply.{CheckReply}
 use Rattle.proof_check.specs.declared.reply.CheckReply.TheVariants.{Verified, BadText, BadLog}
 
@@ -58,6 +60,12 @@ ChecksLog cnf (Err line) reply = reply ≡ BadText (record { line = line; part =
 -- The law: an input has at most one reply.
 abbrev pub OneReply : Type 0
 OneReply = (bytes : List ℕ) (a b : CheckReply) → Checks bytes a → Checks bytes b → a ≡ b
+
+-- The law: what is written of a formula, the line `lrat` and a log of additions that refutes it is verified, where all
+-- numbers are in the ranges of the formats.
+abbrev pub PrintedIsVerified : Type 0
+PrintedIsVerified =
+    (cnf : Cnf) (steps : List Step) → IsWritable cnf → IsWritableLog cnf.vars steps → Refutes cnf steps → Checks (proof_bytes cnf (log_bytes steps)) Verified
 
 -- ---- the line
 

@@ -5,7 +5,7 @@ ghost use Rattle.lrat_check.specs.LogTexts.{log_of};
 ghost use Rattle.cnf_form.specs.Lines.{lines};
 ghost use Rattle.proof_check.specs.declared.reply.CheckReply.{CheckReply as Reply};
 ghost use Rattle.proof_check.specs.declared.reply.CheckReply.TheVariants.{Verified};
-ghost use Rattle.proof_check.specs.Verdicts.{Checks, ChecksLog, IsUnsatisfiable, OneReply};
+ghost use Rattle.proof_check.specs.Verdicts.{Checks, ChecksLog, IsUnsatisfiable, OneReply, PrintedIsVerified};
 
 use crate::CheckReply;
 use cnf_form::{Cnf, read_formula};
@@ -55,4 +55,9 @@ pub fn check_bytes(alloc: Global, bytes: &[u8]) -> Result<CheckReply, NoMemory>
 /// An input has at most one reply.
 pub fn input_has_one_reply()
     ensures { OneReply }
+{}
+
+/// What is written of a formula and of a refutation of it is verified.
+pub fn printed_is_verified()
+    ensures { PrintedIsVerified }
 {}

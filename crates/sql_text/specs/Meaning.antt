@@ -22,11 +22,11 @@ HasRow tables before (Table F) row = Contains (tables F) row
 HasRow tables before (Earlier m) row = before m row
 
 -- one row from each source
-abbrev pub IsChoice : (ℕ → List (List Value)) → (ℕ → List Value → Type 0) → List Listed → List (List Value) → Type 0
-IsChoice tables before [] [] = Unit {0}
-IsChoice tables before [] (x ∷ w) = ⊥
-IsChoice tables before (s ∷ ss) [] = ⊥
-IsChoice tables before (s ∷ ss) (x ∷ w) = HasRow tables before s.source x × IsChoice tables before ss w
+abbrev pub IsRowOfEach : (ℕ → List (List Value)) → (ℕ → List Value → Type 0) → List Listed → List (List Value) → Type 0
+IsRowOfEach tables before [] [] = Unit {0}
+IsRowOfEach tables before [] (x ∷ w) = ⊥
+IsRowOfEach tables before (s ∷ ss) [] = ⊥
+IsRowOfEach tables before (s ∷ ss) (x ∷ w) = HasRow tables before s.source x × IsRowOfEach tables before ss w
 
 -- the value of a cell
 abbrev pub cell_value : List (List Value) → Cell → Value
@@ -50,7 +50,7 @@ pub record IsPicked (select : Select) (w : List (List Value)) : Type 0 where
 -- and its text shows the constant 1 for it
 abbrev pub Selects : (ℕ → List (List Value)) → (ℕ → List Value → Type 0) → Select → List Value → Type 0
 Selects tables before select row =
-    (w : List (List Value)) × IsChoice tables before select.sources w × IsPicked select w × (map (cell_value w) select.cells ≡ row)
+    (w : List (List Value)) × IsRowOfEach tables before select.sources w × IsPicked select w × (map (cell_value w) select.cells ≡ row)
 
 -- a step has a row
 abbrev pub Gives : (ℕ → List (List Value)) → (ℕ → List Value → Type 0) → Body → List Value → Type 0

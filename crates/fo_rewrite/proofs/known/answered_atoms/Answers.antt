@@ -1,4 +1,4 @@
-use Rattle.fo_rewrite.proofs.Columns.{answers-small}
+use Rattle.cqa_model.proofs.ClassSteps.{answers-small}
 use Rattle.fo_rewrite.proofs.known.answered_atoms.Goals as goal
 
 pub insert_if-requires : goal.insert_if-requires

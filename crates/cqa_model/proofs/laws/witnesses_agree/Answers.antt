@@ -1,0 +1,5 @@
+use Rattle.cqa_model.proofs.PartialLaws
+use Rattle.cqa_model.proofs.laws.witnesses_agree.Goals as goal
+
+pub returns : goal.returns
+returns c = PartialLaws.witnesses_agree

@@ -1,5 +1,0 @@
-use Rattle.cqa_model.proofs.Databases.{elimination_is_exact}
-use Rattle.fo_rewrite.proofs.passes.elimination_of.Goals as goal
-
-pub returns-in-Some-clause-exact : goal.returns-in-Some-clause-exact
-returns-in-Some-clause-exact c = λ db row fits long. elimination_is_exact db c.args.query.now row c.cheapest.result.order fits long c.cheapest.ensures
