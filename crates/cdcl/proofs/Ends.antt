@@ -7,8 +7,8 @@ use Rattle.std.proofs.lemmas.List.{map-append}
 use Rattle.cqa_value.proofs.Words.{mem-tail, mem-cases, mem-head}
 use Rattle.cnf_form.specs.declared.formula.Lit.{Lit}
 use Rattle.cnf_form.specs.Literals.{opposite, Denied, AllDenied, literals}
-use Rattle.search_trail.specs.Trail.{IsConsistent, IsOpen, At, held}
-use Rattle.cdcl.specs.Settled.{IsSettled, AllSettled}
+use Rattle.search_trail.specs.Trail.{IsConsistent, IsUnassigned, At, held}
+use Rattle.cdcl.specs.Settled.{IsSettledClause, AllSettled}
 use Rattle.cdcl.proofs.SettledLemmas.{not_reached, stays_open}
 use Rattle.cnf_form.proofs.Lits.{lit_cases}
 use Rattle.cnf_form.specs.declared.log.Step.{Step}
@@ -64,7 +64,7 @@ some_held t (l ∷ c) f = elim (held_or_denied t l (f l (mem-head l c))) [
 ]
 
 -- where every variable has a value, a settled clause has a literal that is held
-complete_held : (t c : List Lit) → IsConsistent t → IsSettled t c → ((l : Lit) → Contains c l → HasVar t l.var) → (l : Lit) × Contains c l × Contains t l
+complete_held : (t c : List Lit) → IsConsistent t → IsSettledClause t c → ((l : Lit) → Contains c l → HasVar t l.var) → (l : Lit) × Contains c l × Contains t l
 complete_held t c k s f = elim (some_held t c f) [
   | inl r ↦ r
   | inr d ↦
@@ -93,7 +93,7 @@ refuted_end permanent db n budget log0 log d last lines e count = record {
 }
 
 pub spent_end : (permanent : ℕ) (db : List (List Lit)) (n budget v : ℕ) (log : List Step) (s : Solver)
-    → s.permanent ≡ permanent → AreLines permanent db n log → length log ≡ budget → literals s.clauses.items ≡ db ++ learnt log → IsStill s → 1 ≤ v → v < n → IsOpen (held s.trail.items) v
+    → s.permanent ≡ permanent → AreLines permanent db n log → length log ≡ budget → literals s.clauses.items ≡ db ++ learnt log → IsStill s → 1 ≤ v → v < n → IsUnassigned (held s.trail.items) v
     → length s.clauses.items ≤ permanent → EndsSpent permanent db n budget log
 spent_end permanent db n budget v log s is lines count e still low range free whole =
     let count_of = literals_count s.clauses.items in

@@ -1,17 +1,17 @@
 -- What holds of a learnt clause after the jump back.
-use Rattle.search_trail.specs.Trail.{At, IsConsistent, IsOpen, held, AllInRange, AllLow, IsApart}
+use Rattle.search_trail.specs.Trail.{At, IsConsistent, IsUnassigned, held, AllInRange, AllLow, IsApart}
 use Rattle.std.proofs.Common.{take, ◌≡◌, ℕ, zero, suc, ◌<◌, ◌≤◌, ◌-◌, ℤ, List, [], ◌∷◌, ◌++◌, ◌⊎◌, inl, inr, refl, sym, ◌∙◌, ap, subst, arith, length, get_or, Option, ◌+◌}
 use Rattle.std.specs.Prelude.{Contains}
 use Rattle.std.proofs.lemmas.List.Elements.{Contains-push_cases, Contains-append_left, Contains-push}
 use Rattle.std.proofs.lemmas.List.{take-take}
 use Rattle.cnf_form.specs.declared.formula.Lit.{Lit}
 use Rattle.cnf_form.specs.Literals.{literals, opposite}
-use Rattle.cdcl.specs.Settled.{IsSettled, AllSettledTo}
+use Rattle.cdcl.specs.Settled.{IsSettledClause, AllSettledTo}
 use Rattle.cdcl.proofs.SettledLemmas.{new_by_settled}
 use Rattle.search_trail.specs.declared.trail.Entry.{Entry}
 use Rattle.cdcl.specs.Looks.{IsForced}
 use Rattle.search_trail.specs.Analysis.{IsLearntClause}
-use Rattle.cdcl.specs.State.{IsState, IsSound}
+use Rattle.cdcl.specs.State.{IsSearchState, IsSound}
 use Rattle.cdcl.specs.declared.solver.Solver.{Solver}
 use Rattle.search_trail.specs.declared.analysis.LearntClause.{LearntClause}
 use Rattle.cdcl.specs.Visits.{IsPrefix, IsLearnt, LeavesLevel}
@@ -82,7 +82,7 @@ pub record IsLeft (t u : List Lit) (start end : ℕ) : Type 0 where
   pub kept : take end u ≡ take end t
 
 free_after : (db : List (List Lit)) (t u : List Lit) (start : ℕ) (lits : List Lit) (hints : List ℤ) (a : Lit) (end : ℕ)
-    → IsApart t → IsLeft t u start end → IsLearntClause db t start lits hints a end → IsOpen u a.var
+    → IsApart t → IsLeft t u start end → IsLearntClause db t start lits hints a end → IsUnassigned u a.var
 free_after db t u start lits hints a end apart left w h =
     let b = left.within h.1.0 h.0 (h.1.1, h.1.2) in
     let v : h.0.var ≡ w.uip.var = h.2 ∙ ap (λ (x : Lit). x.var) w.asserts in
@@ -100,11 +100,11 @@ forced_after db t u start lits hints a end apart left w = record {
   ];
 }
 
-open_taken : (s : ℕ) (u : List Lit) (v : ℕ) → IsOpen u v → IsOpen (take s u) v
+open_taken : (s : ℕ) (u : List Lit) (v : ℕ) → IsUnassigned u v → IsUnassigned (take s u) v
 open_taken s u v o h = o (h.0, contains_taken s u h.0 h.1, h.2)
 
 pub settled_after : (db : List (List Lit)) (t u : List Lit) (start : ℕ) (lits : List Lit) (hints : List ℤ) (a : Lit) (end s : ℕ)
-    → IsApart t → IsLeft t u start end → IsLearntClause db t start lits hints a end → s < end → IsSettled (take s u) lits
+    → IsApart t → IsLeft t u start end → IsLearntClause db t start lits hints a end → s < end → IsSettledClause (take s u) lits
 settled_after db t u start lits hints a zero s apart left w h = absurd (omega arith)
 settled_after db t u start lits hints a (suc k) s apart left w h =
     let m = w.ends.last k (omega arith) in
@@ -139,12 +139,12 @@ left_by trail0 trail1 trail2 start s end same e p kept h =
 -- all that is known of a learnt clause after the jump back
 pub record Facts (permanent : ℕ) (db : List (List Lit)) (n : ℕ) (t : List Lit) (end : ℕ) (lits : List Lit) (hints : List ℤ) (a : Lit) : Type 0 where
   pub forced : IsForced t lits a
-  pub settled : (s : ℕ) → s < end → IsSettled (take s t) lits
+  pub settled : (s : ℕ) → s < end → IsSettledClause (take s t) lits
   pub line : IsLine permanent db n lits hints
 
 pub facts : (permanent : ℕ) (db : List (List Lit)) (trail0 trail1 trail2 : List Entry) (places : List (Option ℕ)) (starts0 starts1 : List ℕ) (start s end n : ℕ)
     (lits : List Lit) (hints : List ℤ) (a : Lit)
-    → IsState db trail0 places starts0 → ((x : ℕ) → Contains starts0 x → AllSettledTo permanent (take x (held trail0)) db) → starts0 ≡ starts1 ++ s ∷ [] → n ≡ length starts0 → start ≡ get_or starts0 (n - 1) start
+    → IsSearchState db trail0 places starts0 → ((x : ℕ) → Contains starts0 x → AllSettledTo permanent (take x (held trail0)) db) → starts0 ≡ starts1 ++ s ∷ [] → n ≡ length starts0 → start ≡ get_or starts0 (n - 1) start
     → trail1 ≡ take s trail0 → IsPrefix trail2 trail1 → take end (held trail2) ≡ take end (held trail1)
     → IsLearntClause db (held trail0) start lits hints a end → Facts permanent db (length places) (held trail2) end lits hints a
 facts permanent db trail0 trail1 trail2 places starts0 starts1 start s end n lits hints a st ended split len at cut p kept w =

@@ -9,10 +9,10 @@ use Rattle.cnf_form.proofs.Lits.{opposite-opposite}
 use Rattle.cdcl.specs.declared.watch.Pair.{Pair}
 use Rattle.cdcl.specs.declared.solver.Solver.{Solver}
 use Rattle.search_trail.specs.Trail.{At, held}
-use Rattle.cdcl.specs.Settled.{IsSettled}
+use Rattle.cdcl.specs.Settled.{IsSettledClause}
 use Rattle.cdcl.specs.Looks.{IsForced}
 use Rattle.cdcl.specs.State.{IsSound}
-use Rattle.cdcl.specs.Watching.{IsListed, IsWatching, IsBase, AreLists}
+use Rattle.cdcl.specs.Watching.{IsWatchListed, IsWatching, IsBase, AreLists}
 use Rattle.cdcl.specs.Looking.{IsEnqueued, IsSameBeside, IsWatchful, CanWatch, IsPairFor}
 use Rattle.search_trail.proofs.Works.{At-same, At-contains}
 use Rattle.search_trail.proofs.Places.{At-push_old, At-push_new, apart_by_places, consistent}
@@ -21,20 +21,20 @@ use Rattle.cdcl.proofs.Watches.{watch_new, watch_learnt}
 use Rattle.cdcl.proofs.WatchState.{watching_more, watching_put}
 
 pub learnt_watchful : (s s' : Solver) (v : Vec Clause Global) (lits : List Lit) (a : Lit) → IsWatchful s
-    → ((x : ℕ) → Contains s.level_starts.items x → IsSettled (take x (held s.trail.items)) lits) → literals v.items ≡ literals s.clauses.items ++ lits ∷ []
+    → ((x : ℕ) → Contains s.level_starts.items x → IsSettledClause (take x (held s.trail.items)) lits) → literals v.items ≡ literals s.clauses.items ++ lits ∷ []
     → IsSameBeside (record s { clauses = v }) s' → IsEnqueued s.trail.items a s'.trail.items → IsSound s' → IsWatchful s'
 learnt_watchful s s' v lits a w settled more same put sound =
     let db = literals s.clauses.items ++ lits ∷ [] in
-    let R = IsListed s.lists.items in
+    let R = IsWatchListed s.lists.items in
     let t : held s'.trail.items ≡ held s.trail.items ++ a ∷ [] =
     ap held put.2 ∙ held_push s.trail.items put.0 ∙ ap (λ (x : Lit). held s.trail.items ++ x ∷ []) put.1 in
     let watching : IsWatching R s.permanent db (held s.trail.items ++ a ∷ []) s.level_starts.items s.head s.pairs.items =
     watching_put R db (held s.trail.items) s.level_starts.items s.head s.pairs.items a (watching_more R (literals s.clauses.items) (held s.trail.items) s.level_starts.items s.head s.pairs.items lits settled w.watching) in
     record {
       sound = sound;
-      watching = subst (λ (n : ℕ). IsWatching (IsListed s'.lists.items) n (literals s'.clauses.items) (held s'.trail.items) s'.level_starts.items s'.head s'.pairs.items) (sym same.permanent)
-          (subst (λ (x : Vec (List ℕ) Global). IsWatching (IsListed x.items) s.permanent (literals s'.clauses.items) (held s'.trail.items) s'.level_starts.items s'.head s'.pairs.items) (sym same.lists)
-          (subst (λ (x : Vec Clause Global). IsWatching R s.permanent (literals x.items) (held s'.trail.items) s'.level_starts.items s'.head s'.pairs.items) (sym same.clauses)
+      watching = subst (λ (n : ℕ). IsWatching (IsWatchListed s'.lists.items) n (literals s'.clauses.items) (held s'.trail.items) s'.level_starts.items s'.head s'.pairs.items) (sym same.formula.permanent)
+          (subst (λ (x : Vec (List ℕ) Global). IsWatching (IsWatchListed x.items) s.permanent (literals s'.clauses.items) (held s'.trail.items) s'.level_starts.items s'.head s'.pairs.items) (sym same.lists)
+          (subst (λ (x : Vec Clause Global). IsWatching R s.permanent (literals x.items) (held s'.trail.items) s'.level_starts.items s'.head s'.pairs.items) (sym same.formula.clauses)
           (subst (λ (x : List (List Lit)). IsWatching R s.permanent x (held s'.trail.items) s'.level_starts.items s'.head s'.pairs.items) (sym more)
           (subst (λ (x : Vec ℕ Global). IsWatching R s.permanent db (held s'.trail.items) x.items s'.head s'.pairs.items) (sym same.level_starts)
           (subst (λ (h : ℕ). IsWatching R s.permanent db (held s'.trail.items) s.level_starts.items h s'.pairs.items) (sym same.head)
@@ -42,7 +42,7 @@ learnt_watchful s s' v lits a w settled more same put sound =
           (subst (λ (xs : List Lit). IsWatching R s.permanent db xs s.level_starts.items s.head s.pairs.items) (sym t) watching)))))));
       lists = subst (λ (x : Vec (List ℕ) Global). AreLists x.items (length s'.places.items) (length s'.pairs.items)) (sym same.lists)
           (subst (λ (x : Vec Pair Global). AreLists s.lists.items (length s'.places.items) (length x.items)) (sym same.pairs)
-          (subst (λ (n : ℕ). AreLists s.lists.items n (length s.pairs.items)) (sym same.len) w.lists));
+          (subst (λ (n : ℕ). AreLists s.lists.items n (length s.pairs.items)) (sym same.formula.len) w.lists));
     }
 
 -- the learnt clause is the next that has no pair
@@ -51,7 +51,7 @@ learnt_at : (s s' : Solver) (v : Vec Clause Global) (lits : List Lit) → length
 learnt_at s s' v lits all more same =
     let n = literals_count s.clauses.items in
     let k : length (literals s.clauses.items) ≡ length s'.pairs.items = n ∙ sym all ∙ ap (λ (x : Vec Pair Global). length x.items) (sym same.pairs) in
-    subst (λ (x : Vec Clause Global). At (literals x.items) (length s'.pairs.items) lits) (sym same.clauses)
+    subst (λ (x : Vec Clause Global). At (literals x.items) (length s'.pairs.items) lits) (sym same.formula.clauses)
     (subst (λ (d : List (List Lit)). At d (length s'.pairs.items) lits) (sym more)
     (subst (λ (i : ℕ). At (literals s.clauses.items ++ lits ∷ []) i lits) k (At-push_new (literals s.clauses.items) lits)))
 

@@ -14,3 +14,4 @@ pub mod Stretches
 pub mod Learning
 pub mod Attaching
 pub mod Thinning
+pub mod Conflicts

@@ -10,8 +10,8 @@ use Rattle.cnf_form.proofs.Lits.{equal_or_not}
 use Rattle.search_trail.specs.declared.trail.Entry.{Entry}
 use Rattle.cdcl.specs.declared.watch.Pair.{Pair}
 use Rattle.search_trail.specs.Trail.{At, held}
-use Rattle.cdcl.specs.State.{IsState}
-use Rattle.cdcl.specs.Watching.{code_of, IsListed, listed_at, IsListedBut, HoldsIn, IsWatching, HasWatch, IsPairOf, IsPending, AreLists}
+use Rattle.cdcl.specs.State.{IsSearchState}
+use Rattle.cdcl.specs.Watching.{code_of, IsWatchListed, listed_at, IsListedBut, HoldsIn, IsWatching, HasWatch, IsPairOf, IsPending, AreLists}
 use Rattle.cdcl.specs.Looking.{IsLooking}
 use Rattle.search_trail.proofs.Works.{At-same, At-contains}
 use Rattle.cdcl.proofs.States.{held_push}
@@ -102,7 +102,7 @@ looking_drop {permanent} db trail places level_starts head pairs lists lit kept 
 }
 
 pub looking_force : {permanent : ℕ} (db : List (List Lit)) (trail trail' : List Entry) (places places' : List (Option ℕ)) (level_starts : List ℕ) (head : ℕ) (pairs : List Pair)
-    (lists : List (List ℕ)) (lit : Lit) (kept rest : List ℕ) (k : ℕ) (e : Entry) → trail' ≡ trail ++ e ∷ [] → IsState db trail' places' level_starts
+    (lists : List (List ℕ)) (lit : Lit) (kept rest : List ℕ) (k : ℕ) (e : Entry) → trail' ≡ trail ++ e ∷ [] → IsSearchState db trail' places' level_starts
     → length places' ≡ length places → ((c : List Lit) → At db k c → Contains c e.lit)
     → IsLooking permanent db trail places level_starts head pairs lists lit kept (k ∷ rest) → IsLooking permanent db trail' places' level_starts head pairs lists lit (kept ++ k ∷ []) rest
 looking_force {permanent} db trail trail' places places' level_starts head pairs lists lit kept rest k e put sound len inside l =
@@ -150,14 +150,14 @@ looking_move {permanent} db trail places level_starts head pairs lists lit other
 
 -- the list of a literal is taken out
 pub looking_first : {permanent : ℕ} (db : List (List Lit)) (trail : List Entry) (places : List (Option ℕ)) (level_starts : List ℕ) (head : ℕ) (pairs : List Pair) (lists : List (List ℕ))
-    (lit : Lit) (list : List ℕ) → IsState db trail places level_starts → At (held trail) head (opposite lit) → list ≡ get_or lists (code_of lit) []
-    → AreLists lists (length places) (length pairs) → IsWatching (IsListed lists) permanent db (held trail) level_starts head pairs
+    (lit : Lit) (list : List ℕ) → IsSearchState db trail places level_starts → At (held trail) head (opposite lit) → list ≡ get_or lists (code_of lit) []
+    → AreLists lists (length places) (length pairs) → IsWatching (IsWatchListed lists) permanent db (held trail) level_starts head pairs
     → IsLooking permanent db trail places level_starts head pairs (set lists (code_of lit) []) lit [] list
 looking_first {permanent} db trail places level_starts head pairs lists lit list sound next own lists_are watching =
     let w : IsWatching (IsListedBut lit list (set lists (code_of lit) [])) permanent db (held trail) level_starts head pairs =
-    watching_relist (IsListed lists) (IsListedBut lit list (set lists (code_of lit) [])) db (held trail) level_starts head pairs
+    watching_relist (IsWatchListed lists) (IsListedBut lit list (set lists (code_of lit) [])) db (held trail) level_starts head pairs
     (λ l k r. (
-      λ e. subst (λ (xs : List ℕ). Contains xs k) (sym own) (subst (λ (x : Lit). IsListed lists x k) e r),
+      λ e. subst (λ (xs : List ℕ). Contains xs k) (sym own) (subst (λ (x : Lit). IsWatchListed lists x k) e r),
       λ n. subst (λ (xs : List ℕ). Contains xs k) (sym (get_or-set_other lists (code_of lit) (code_of l) [] [] (λ q. n (code_one l lit q)))) r,
     )) watching in
     record {
@@ -173,13 +173,13 @@ looking_first {permanent} db trail places level_starts head pairs lists lit list
 pub looking_last : {permanent : ℕ} (db : List (List Lit)) (trail : List Entry) (places : List (Option ℕ)) (level_starts : List ℕ) (head : ℕ) (pairs : List Pair) (lists : List (List ℕ))
     (lit : Lit) (kept rest list : List ℕ) → list ≡ kept ++ rest → code_of lit < length lists
     → IsLooking permanent db trail places level_starts head pairs lists lit kept rest
-    → AreLists (set lists (code_of lit) list) (length places) (length pairs) × IsWatching (IsListed (set lists (code_of lit) list)) permanent db (held trail) level_starts head pairs
+    → AreLists (set lists (code_of lit) list) (length places) (length pairs) × IsWatching (IsWatchListed (set lists (code_of lit) list)) permanent db (held trail) level_starts head pairs
 looking_last {permanent} db trail places level_starts head pairs lists lit kept rest list own range l = (
   lists_put lists (length places) (length pairs) (code_of lit) list (λ k i. l.entries k (subst (λ (xs : List ℕ). Contains xs k) own i)) l.lists_are,
-  watching_relist (IsListedBut lit (kept ++ rest) lists) (IsListed (set lists (code_of lit) list)) db (held trail) level_starts head pairs
+  watching_relist (IsListedBut lit (kept ++ rest) lists) (IsWatchListed (set lists (code_of lit) list)) db (held trail) level_starts head pairs
       (λ x k r. elim (equal_or_not x lit) [
         | inl e ↦
-            subst (λ (y : Lit). IsListed (set lists (code_of lit) list) y k) (sym e)
+            subst (λ (y : Lit). IsWatchListed (set lists (code_of lit) list) y k) (sym e)
             (subst (λ (xs : List ℕ). Contains xs k) (sym (get_or-set_same lists (code_of lit) list [] range)) (subst (λ (xs : List ℕ). Contains xs k) (sym own) (r.0 e)))
         | inr n ↦ subst (λ (xs : List ℕ). Contains xs k) (sym (get_or-set_other lists (code_of lit) (code_of x) list [] (λ q. n (code_one x lit q)))) (r.1 n)
       ]) l.watching,

@@ -6,24 +6,24 @@ use Rattle.cnf_form.specs.declared.formula.Lit.{Lit}
 use Rattle.cnf_form.specs.Literals.{opposite, Denied, OthersDenied}
 use Rattle.cnf_form.specs.Propagation.{IsPropagation, ReachesEmpty, StaysOpen}
 use Rattle.cnf_form.proofs.Lits.{equal_or_not}
-use Rattle.search_trail.specs.Trail.{IsConsistent, IsOpen}
-use Rattle.cdcl.specs.Settled.{IsSettled, AllSettled}
+use Rattle.search_trail.specs.Trail.{IsConsistent, IsUnassigned}
+use Rattle.cdcl.specs.Settled.{IsSettledClause, AllSettled}
 
-pub settled_by_true : (t c : List Lit) (l : Lit) → IsConsistent t → Contains c l → Contains t l → IsSettled t c
+pub settled_by_true : (t c : List Lit) (l : Lit) → IsConsistent t → Contains c l → Contains t l → IsSettledClause t c
 settled_by_true t c l k inside held m others = elim (equal_or_not l m) [
   | inl e ↦ subst (λ (x : Lit). Contains t x) e held
   | inr n ↦ absurd (k l held (others l inside n))
 ]
 
 pub settled_by_two : (t c : List Lit) (a b : Lit) → Contains c a → Contains c b → a ≢ b
-    → (Denied t a → ⊥) → (Denied t b → ⊥) → IsSettled t c
+    → (Denied t a → ⊥) → (Denied t b → ⊥) → IsSettledClause t c
 settled_by_two t c a b ia ib apart oa ob m others = elim (equal_or_not a m) [
   | inl e ↦ absurd (ob (others b ib (λ f. apart (e ∙ sym f))))
   | inr n ↦ absurd (oa (others a ia n))
 ]
 
 -- a clause that a settled list leaves room for is no subset of one that the list forces otherwise
-pub new_by_settled : (t d c : List Lit) (u : Lit) → IsSettled t d → ((m : Lit) → Contains d m → Contains c m)
+pub new_by_settled : (t d c : List Lit) (u : Lit) → IsSettledClause t d → ((m : Lit) → Contains d m → Contains c m)
     → OthersDenied t c u → (Contains t u → ⊥) → ⊥
 new_by_settled t d c u s sub others absent = absent (s u (λ m i n. others m (sub m i) n))
 
@@ -39,10 +39,10 @@ propagation_within f t (m ∷ before) s p l i = elim (mem-cases l m before i) [
   | inr r ↦ propagation_within f t before s p.1 l r
 ]
 
-pub not_reached : (f : List (List Lit)) (t : List Lit) (n : ℕ) → AllSettled t f → IsOpen t n → ReachesEmpty f → ⊥
+pub not_reached : (f : List (List Lit)) (t : List Lit) (n : ℕ) → AllSettled t f → IsUnassigned t n → ReachesEmpty f → ⊥
 not_reached f t n s o r =
     let l : Lit = record { var = n; positive = true } in
     o (l, s r.2.0 r.2.1 l (λ m i _. propagation_within f t r.0 s r.1 (opposite m) (r.2.2 m i)), refl)
 
-pub stays_open : (f : List (List Lit)) (t : List Lit) (n : ℕ) → AllSettled t f → IsOpen t n → StaysOpen f n
+pub stays_open : (f : List (List Lit)) (t : List Lit) (n : ℕ) → AllSettled t f → IsUnassigned t n → StaysOpen f n
 stays_open f t n s o p ip h = o (h.0, propagation_within f t p s ip h.0 h.1, h.2)

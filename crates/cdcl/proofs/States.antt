@@ -1,5 +1,5 @@
 -- How a solver's state changes.
-use Rattle.search_trail.specs.Trail.{At, held, ArePlaces, AllInRange, AllLow}
+use Rattle.search_trail.specs.Trail.{At, held, AreTrailPlaces, AllInRange, AllLow}
 use Rattle.std.proofs.Common.{take, ◌≡◌, ℕ, zero, suc, ◌<◌, ◌≤◌, ◌+◌, ◌-◌, List, [], ◌∷◌, ◌++◌, ◌⊎◌, inl, inr, refl, sym, ◌∙◌, ap, subst, arith, length, get_or, Option, Some, None}
 use Rattle.std.specs.Prelude.{Contains}
 use Rattle.std.proofs.lemmas.List.{length-map, map-append, take-append-le, length-take, take_all, take-take, length_push}
@@ -9,9 +9,9 @@ use Rattle.cnf_form.specs.declared.formula.Clause.{Clause}
 use Rattle.cnf_form.specs.Literals.{OthersDenied, literals}
 use Rattle.search_trail.specs.declared.trail.Entry.{Entry}
 use Rattle.search_trail.specs.Analysis.{IsForcedBy}
-use Rattle.cdcl.specs.State.{IsState}
-use Rattle.search_trail.proofs.Works.{At-same, At-take, At-contains}
-use Rattle.search_trail.proofs.Places.{At-push_cases, At-push_old, At-push_new}
+use Rattle.cdcl.specs.State.{IsSearchState, last_start}
+use Rattle.search_trail.proofs.Works.{At-get_or, At-same, At-take, At-contains}
+use Rattle.search_trail.proofs.Places.{At-push_cases, At-push_old, At-push_new, some_none}
 
 pub held_take : (s : ℕ) (trail : List Entry) → held (take s trail) ≡ take s (held trail)
 held_take zero trail = refl
@@ -55,8 +55,8 @@ below_last level_starts s x rising i = rising i.0 (length level_starts) x s i.1 
 
 -- the last level is left
 pub state_back : (db : List (List Lit)) (trail : List Entry) (places places' : List (Option ℕ)) (level_starts : List ℕ) (s : ℕ)
-    → IsState db trail places (level_starts ++ s ∷ []) → ArePlaces (held (take s trail)) places' → length places' ≡ length places
-    → IsState db (take s trail) places' level_starts
+    → IsSearchState db trail places (level_starts ++ s ∷ []) → AreTrailPlaces (held (take s trail)) places' → length places' ≡ length places
+    → IsSearchState db (take s trail) places' level_starts
 state_back db trail places places' level_starts s st are len =
     let lower : (x : ℕ) → Contains level_starts x → x < s = λ x i. below_last level_starts s x st.rising i in
     record {
@@ -69,8 +69,7 @@ state_back db trail places places' level_starts s st are len =
       under = λ x i. let r = lower x i in let q = length-take s trail in let w = st.under s (Contains-push level_starts s) in omega (arith, q);
       forced = λ p n e a.
           let b = At-take s trail p e a in
-          forced_by_same db (held trail) (held (take s trail)) p e (sym (take_cut p s trail (omega (arith, b.0))))
-          (st.forced p (λ i. elim (Contains-push_cases level_starts s p i) [ inl j ↦ n j | inr q ↦ absurd (omega (arith, q, b.0)) ]) e b.1);
+          st.forced p (λ i. elim (Contains-push_cases level_starts s p i) [ inl j ↦ n j | inr q ↦ absurd (omega (arith, q, b.0)) ]) e b.1;
       reasons = λ p e r a is.
           let b = At-take s trail p e a in
           forced_by_same db (held trail) (held (take s trail)) p e (sym (take_cut p s trail (omega (arith, b.0)))) (st.reasons p e r b.1 is);
@@ -78,8 +77,8 @@ state_back db trail places places' level_starts s st are len =
 
 -- a forced literal is put on the trail
 pub state_forced : (db : List (List Lit)) (trail : List Entry) (places places' : List (Option ℕ)) (level_starts : List ℕ) (l : Lit) (r : ℕ) (c : List Lit) (e : Entry)
-    → e.lit ≡ l → e.reason ≡ Some r → IsState db trail places level_starts → At db r c → Contains c l → OthersDenied (held trail) c l → l.var < length places
-    → ArePlaces (held (trail ++ e ∷ [])) places' → length places' ≡ length places → IsState db (trail ++ e ∷ []) places' level_starts
+    → e.lit ≡ l → e.reason ≡ Some r → IsSearchState db trail places level_starts → At db r c → Contains c l → OthersDenied (held trail) c l → l.var < length places
+    → AreTrailPlaces (held (trail ++ e ∷ [])) places' → length places' ≡ length places → IsSearchState db (trail ++ e ∷ []) places' level_starts
 state_forced db trail places places' level_starts l r c e el er st at inside others range are len = record {
   places_are = are;
   held_in = λ m i. elim (Contains-push_cases (held trail) e.lit m (subst (λ (xs : List Lit). Contains xs m) (held_push trail e) i)) [
@@ -96,8 +95,8 @@ state_forced db trail places places' level_starts l r c e el er st at inside oth
   rising = st.rising;
   under = λ s i. let q = st.under s i in let w = length_push trail e in omega (arith, q, w);
   forced = λ p n x a. elim (At-push_cases trail e p x a) [
-    | inl b ↦ forced_by_same db (held trail) (held (trail ++ e ∷ [])) p x (sym (take_put p trail e (omega (arith, b.0)))) (st.forced p n x b)
-    | inr b ↦ subst (λ (y : Entry). IsForcedBy db (held (trail ++ e ∷ [])) p y) b.1 (last p b.0)
+    | inl b ↦ st.forced p n x b
+    | inr b ↦ λ free. some_none r x.reason free (ap (λ (y : Entry). y.reason) (sym b.1) ∙ er)
   ];
   reasons = λ p x k a is. elim (At-push_cases trail e p x a) [
     | inl b ↦ forced_by_same db (held trail) (held (trail ++ e ∷ [])) p x (sym (take_put p trail e (omega (arith, b.0)))) (st.reasons p x k b is)
@@ -120,8 +119,8 @@ state_forced db trail places places' level_starts l r c e el er st at inside oth
 
 -- a decision starts a level
 pub state_decided : (db : List (List Lit)) (trail : List Entry) (places places' : List (Option ℕ)) (level_starts : List ℕ) (e : Entry)
-    → IsState db trail places level_starts → e.reason ≡ None → 1 ≤ e.lit.var → e.lit.var < length places
-    → ArePlaces (held (trail ++ e ∷ [])) places' → length places' ≡ length places → IsState db (trail ++ e ∷ []) places' (level_starts ++ length trail ∷ [])
+    → IsSearchState db trail places level_starts → e.reason ≡ None → 1 ≤ e.lit.var → e.lit.var < length places
+    → AreTrailPlaces (held (trail ++ e ∷ [])) places' → length places' ≡ length places → IsSearchState db (trail ++ e ∷ []) places' (level_starts ++ length trail ∷ [])
 state_decided db trail places places' level_starts e st free low range are len = record {
   places_are = are;
   held_in = λ m i. elim (Contains-push_cases (held trail) e.lit m (subst (λ (xs : List Lit). Contains xs m) (held_push trail e) i)) [
@@ -149,18 +148,14 @@ state_decided db trail places places' level_starts e st free low range are len =
     | inr q ↦ omega (arith, q, w)
   ];
   forced = λ p n x a. elim (At-push_cases trail e p x a) [
-    | inl b ↦ forced_by_same db (held trail) (held (trail ++ e ∷ [])) p x (sym (take_put p trail e (omega (arith, b.0))))
-        (st.forced p (λ i. n (Contains-append_left level_starts (length trail ∷ []) p i)) x b)
+    | inl b ↦ st.forced p (λ i. n (Contains-append_left level_starts (length trail ∷ []) p i)) x b
     | inr b ↦ absurd (n (subst (λ (k : ℕ). Contains (level_starts ++ length trail ∷ []) k) (sym b.0) (Contains-push level_starts (length trail))))
   ];
   reasons = λ p x r a is. elim (At-push_cases trail e p x a) [
     | inl b ↦ forced_by_same db (held trail) (held (trail ++ e ∷ [])) p x (sym (take_put p trail e (omega (arith, b.0)))) (st.reasons p x r b is)
-    | inr b ↦ absurd (none_some r (sym free ∙ ap (λ (y : Entry). y.reason) b.1 ∙ is))
+    | inr b ↦ absurd (some_none r x.reason (ap (λ (y : Entry). y.reason) (sym b.1) ∙ free) is)
   ];
 }
-  where
-    none_some : (r : ℕ) → (let o : Option ℕ = None in o) ≡ Some r → ⊥
-    none_some r h = cc
 
 more_forced : (db : List (List Lit)) (c : List Lit) (t : List Lit) (p : ℕ) (e : Entry) → IsForcedBy db t p e → IsForcedBy (db ++ c ∷ []) t p e
 more_forced db c t p e f = record {
@@ -174,8 +169,8 @@ more_forced db c t p e f = record {
 
 -- a clause is learnt
 pub state_learnt : (db : List (List Lit)) (trail : List Entry) (places : List (Option ℕ)) (level_starts : List ℕ) (c : List Lit)
-    → IsState db trail places level_starts → AllInRange c (length places) → AllLow c
-    → IsState (db ++ c ∷ []) trail places level_starts
+    → IsSearchState db trail places level_starts → AllInRange c (length places) → AllLow c
+    → IsSearchState (db ++ c ∷ []) trail places level_starts
 state_learnt db trail places level_starts c st range low = record {
   places_are = st.places_are;
   held_in = st.held_in;
@@ -184,7 +179,7 @@ state_learnt db trail places level_starts c st range low = record {
   db_in = λ d i. elim (Contains-push_cases db c d i) [ inl j ↦ st.db_in d j | inr e ↦ subst (λ (x : List Lit). AllInRange x (length places)) e range ];
   rising = st.rising;
   under = st.under;
-  forced = λ p n e a. more_forced db c (held trail) p e (st.forced p n e a);
+  forced = st.forced;
   reasons = λ p e r a is. more_forced db c (held trail) p e (st.reasons p e r a is);
 }
 
@@ -217,3 +212,33 @@ last_is xs ys s n x e len at =
     subst (λ (k : ℕ). get_or (ys ++ s ∷ []) k x ≡ x) i (subst (λ (zs : List ℕ). get_or zs (n - 1) x ≡ x) e (sym at)) in
     let new = At-push_new ys s in
     At-same (ys ++ s ∷ []) (length ys) x s (new.0, a) new
+
+pub At-last : (level_starts : List ℕ) → 0 < length level_starts → At level_starts (length level_starts - 1) (last_start level_starts)
+At-last level_starts some = At-get_or level_starts (length level_starts - 1) 0 (omega (arith, some))
+
+-- no level starts behind the last one's start
+pub past_last : (level_starts : List ℕ) (p : ℕ) → ((i j a b : ℕ) → i < j → At level_starts i a → At level_starts j b → a < b)
+    → last_start level_starts < p → Contains level_starts p → ⊥
+past_last level_starts p rising h i = elim (cases i.0 (length level_starts - 1)) [
+  | inl below ↦ let r = rising i.0 (length level_starts - 1) p (last_start level_starts) below (i.1, i.2) (At-last level_starts (omega (arith, i.1))) in omega (arith, r, h)
+  | inr above ↦
+      let k : i.0 ≡ length level_starts - 1 = omega (arith, above, i.1) in
+      let e : p ≡ last_start level_starts = At-same level_starts (length level_starts - 1) p (last_start level_starts)
+      (subst (λ (n : ℕ). At level_starts n p) k (i.1, i.2)) (At-last level_starts (omega (arith, i.1))) in
+      omega (arith, e, h)
+]
+  where
+    cases : (a b : ℕ) → (a < b) ⊎ (b ≤ a)
+    cases a b = grind arith
+
+pub last_in : (level_starts : List ℕ) (n : ℕ) → ((s : ℕ) → Contains level_starts s → s < n) → last_start level_starts ≤ n
+last_in [] n under = omega arith
+last_in (x ∷ xs) n under =
+    let a = At-last (x ∷ xs) (omega arith) in
+    let r = under (last_start (x ∷ xs)) (length (x ∷ xs) - 1, a.0, a.1) in
+    omega (arith, r)
+
+pub last_within : (db : List (List Lit)) (trail : List Entry) (places : List (Option ℕ)) (level_starts : List ℕ)
+    → IsSearchState db trail places level_starts → 0 < length level_starts → last_start level_starts < length trail
+last_within db trail places level_starts st some =
+    let a = At-last level_starts some in st.under (last_start level_starts) (length level_starts - 1, a.0, a.1)

@@ -6,7 +6,7 @@ use Rattle.std.proofs.lemmas.List.Elements.{Contains-push_cases, Contains-append
 use Rattle.std.proofs.lemmas.Bool.{cases_eq}
 use Rattle.cnf_form.specs.declared.formula.Lit.{Lit}
 use Rattle.cdcl.specs.declared.watch.Pair.{Pair}
-use Rattle.cdcl.specs.Watching.{IsListed, IsWatching, IsThinned, AreThinned, AreLists, code_of}
+use Rattle.cdcl.specs.Watching.{IsWatchListed, IsWatching, IsThinned, AreThinned, AreLists, code_of}
 
 pub thinned_first : (n : ℕ) → IsThinned n [] []
 thinned_first n = record { kept = λ k f i. i; fewer = λ k i. i }
@@ -56,7 +56,7 @@ lists_set n at first lists own range thin t = record {
 }
 
 pub watching_thinned : {permanent : ℕ} (lists lists' : List (List ℕ)) (db : List (List Lit)) (t : List Lit) (level_starts : List ℕ) (head : ℕ) (pairs : List Pair)
-    → AreThinned permanent lists lists' → IsWatching (IsListed lists) permanent db t level_starts head pairs → IsWatching (IsListed lists') permanent db t level_starts head pairs
+    → AreThinned permanent lists lists' → IsWatching (IsWatchListed lists) permanent db t level_starts head pairs → IsWatching (IsWatchListed lists') permanent db t level_starts head pairs
 watching_thinned {permanent} lists lists' db t level_starts head pairs thin w = record {
   head_in = w.head_in;
   levels = w.levels;

@@ -8,7 +8,7 @@ use Rattle.search_trail.specs.Trail.{held, ValueIs, AllLow, AreAllInRange}
 use Rattle.cdcl.specs.Watching.{IsWatching, AreLists}
 use Rattle.cnf_form.specs.Literals.{SatisfiesAll}
 use Rattle.cdcl.specs.declared.solver.Solver.{Solver}
-use Rattle.cdcl.specs.State.{IsState, IsSound}
+use Rattle.cdcl.specs.State.{IsSearchState, IsSound}
 use Rattle.cdcl.specs.Visits.{AgreesBelow, AgreesWith, IsModelled, OpenVarIs}
 use Rattle.cdcl.specs.Outcomes.{assignment}
 use Rattle.search_trail.specs.Open.{NextIs}
@@ -44,7 +44,7 @@ none_replicate (suc n) zero p e = clash p e
 none_replicate (suc n) (suc v) p e = none_replicate n v p e
 
 -- no literal is true yet
-pub state_first : (db : List (List Lit)) (n : ℕ) → AreAllInRange db n → ((c : List Lit) → Contains db c → AllLow c) → IsState db [] (replicate n None) []
+pub state_first : (db : List (List Lit)) (n : ℕ) → AreAllInRange db n → ((c : List Lit) → Contains db c → AllLow c) → IsSearchState db [] (replicate n None) []
 state_first db n range low =
     let len : length (replicate n (let o : Option ℕ = None in o)) ≡ n = count n in
     record {

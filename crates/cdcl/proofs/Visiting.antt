@@ -14,9 +14,9 @@ use Rattle.cdcl.specs.declared.solver.Solver.{Solver}
 use Rattle.cdcl.specs.declared.look.Visit.{Visit}
 use Rattle.cdcl.specs.declared.look.Visit.TheVariants.{Conflict}
 use Rattle.search_trail.specs.Trail.{At, held}
-use Rattle.cdcl.specs.State.{IsState, IsSound}
-use Rattle.cdcl.specs.Watching.{HasWatch, IsPairOf, code_of, IsPending, IsWatching, IsListed, AreLists}
-use Rattle.cdcl.specs.Looking.{IsLooking, IsLookingAt, IsEnqueued, IsSameBeside, IsReady, IsGrown, Stays, VisitIs}
+use Rattle.cdcl.specs.State.{IsSearchState, IsSound}
+use Rattle.cdcl.specs.Watching.{HasWatch, IsPairOf, code_of, IsPending, IsWatching, IsWatchListed, AreLists}
+use Rattle.cdcl.specs.Looking.{IsSameFormula, IsLooking, IsLookingAt, IsEnqueued, IsSameBeside, IsReady, IsGrown, Stays, VisitIs}
 use Rattle.cdcl.specs.Visits.{IsConflict, IsStill}
 use Rattle.search_trail.proofs.Works.{At-same}
 use Rattle.search_trail.proofs.Places.{At-push_old, consistent, trail_fits}
@@ -60,15 +60,15 @@ pub force_at : (s s' : Solver) (lit other : Lit) (kept rest : List ℕ) (k : ℕ
     → IsSameBeside s s' → IsEnqueued s.trail.items other s'.trail.items → IsSound s' → IsLookingAt s lit kept (k ∷ rest) → IsLookingAt s' lit (kept ++ k ∷ []) rest
 force_at s s' lit other kept rest k pair at of same put sound l =
     let d = clause_at s lit other kept rest k pair at of l in
-    let st : IsState (literals s.clauses.items) s'.trail.items s'.places.items s.level_starts.items =
-    subst (λ (v : Vec ℕ Global). IsState (literals s.clauses.items) s'.trail.items s'.places.items v.items) same.level_starts
-    (subst (λ (v : Vec Clause Global). IsState (literals v.items) s'.trail.items s'.places.items s'.level_starts.items) same.clauses sound) in
+    let st : IsSearchState (literals s.clauses.items) s'.trail.items s'.places.items s.level_starts.items =
+    subst (λ (v : Vec ℕ Global). IsSearchState (literals s.clauses.items) s'.trail.items s'.places.items v.items) same.level_starts
+    (subst (λ (v : Vec Clause Global). IsSearchState (literals v.items) s'.trail.items s'.places.items s'.level_starts.items) same.formula.clauses sound) in
     let r : IsLooking s.permanent (literals s.clauses.items) s'.trail.items s'.places.items s.level_starts.items s.head s.pairs.items s.lists.items lit (kept ++ k ∷ []) rest =
     looking_force (literals s.clauses.items) s.trail.items s'.trail.items s.places.items s'.places.items s.level_starts.items s.head s.pairs.items s.lists.items lit kept rest k
-    put.0 put.2 st same.len
+    put.0 put.2 st same.formula.len
     (λ c a. subst (λ (x : Lit). Contains c x) (sym put.1) (subst (λ (xs : List Lit). Contains xs other) (At-same (literals s.clauses.items) k d.0 c d.1 a) d.2)) l in
-    subst (λ (n : ℕ). IsLooking n (literals s'.clauses.items) s'.trail.items s'.places.items s'.level_starts.items s'.head s'.pairs.items s'.lists.items lit (kept ++ k ∷ []) rest) (sym same.permanent)
-    (subst (λ (v : Vec Clause Global). IsLooking s.permanent (literals v.items) s'.trail.items s'.places.items s'.level_starts.items s'.head s'.pairs.items s'.lists.items lit (kept ++ k ∷ []) rest) (sym same.clauses)
+    subst (λ (n : ℕ). IsLooking n (literals s'.clauses.items) s'.trail.items s'.places.items s'.level_starts.items s'.head s'.pairs.items s'.lists.items lit (kept ++ k ∷ []) rest) (sym same.formula.permanent)
+    (subst (λ (v : Vec Clause Global). IsLooking s.permanent (literals v.items) s'.trail.items s'.places.items s'.level_starts.items s'.head s'.pairs.items s'.lists.items lit (kept ++ k ∷ []) rest) (sym same.formula.clauses)
     (subst (λ (v : Vec ℕ Global). IsLooking s.permanent (literals s.clauses.items) s'.trail.items s'.places.items v.items s'.head s'.pairs.items s'.lists.items lit (kept ++ k ∷ []) rest) (sym same.level_starts)
     (subst (λ (h : ℕ). IsLooking s.permanent (literals s.clauses.items) s'.trail.items s'.places.items s.level_starts.items h s'.pairs.items s'.lists.items lit (kept ++ k ∷ []) rest) (sym same.head)
     (subst (λ (v : Vec Pair Global). IsLooking s.permanent (literals s.clauses.items) s'.trail.items s'.places.items s.level_starts.items s.head v.items s'.lists.items lit (kept ++ k ∷ []) rest) (sym same.pairs)
@@ -105,7 +105,7 @@ last_at s lit lists kept rest list all own put l =
     record {
       watchful = record {
         sound = l.sound;
-        watching = subst (λ (ls : List (List ℕ)). IsWatching (IsListed ls) s.permanent (literals s.clauses.items) (held s.trail.items) s.level_starts.items s.head s.pairs.items) (sym put) r.1;
+        watching = subst (λ (ls : List (List ℕ)). IsWatching (IsWatchListed ls) s.permanent (literals s.clauses.items) (held s.trail.items) s.level_starts.items s.head s.pairs.items) (sym put) r.1;
         lists = subst (λ (ls : List (List ℕ)). AreLists ls (length s.places.items) (length s.pairs.items)) (sym put) r.0;
       };
       all = all;
@@ -122,8 +122,8 @@ pub next_at : (s : Solver) (h : ℕ) (lit : Lit) → h ≡ s.head + 1 → At (he
 next_at s h lit e at pending ready = record {
   watchful = record {
     sound = ready.watchful.sound;
-    watching = subst (λ (n : ℕ). IsWatching (IsListed s.lists.items) s.permanent (literals s.clauses.items) (held s.trail.items) s.level_starts.items n s.pairs.items) (sym e)
-        (watching_next (IsListed s.lists.items) (literals s.clauses.items) (held s.trail.items) s.level_starts.items s.head s.pairs.items lit at pending ready.watchful.watching);
+    watching = subst (λ (n : ℕ). IsWatching (IsWatchListed s.lists.items) s.permanent (literals s.clauses.items) (held s.trail.items) s.level_starts.items n s.pairs.items) (sym e)
+        (watching_next (IsWatchListed s.lists.items) (literals s.clauses.items) (held s.trail.items) s.level_starts.items s.head s.pairs.items lit at pending ready.watchful.watching);
     lists = ready.watchful.lists;
   };
   all = ready.all;
@@ -139,18 +139,19 @@ grown_same t = ([], none t)
 pub grown_more : (t u v : List Lit) → IsGrown t u → IsGrown u v → IsGrown t v
 grown_more t u v a b = (a.0 ++ b.0, b.1 ∙ ap (λ (xs : List Lit). xs ++ b.0) a.1 ∙ append_assoc t a.0 b.0)
 
+pub formula_more : (s s' s'' : Solver) → IsSameFormula s s' → IsSameFormula s' s'' → IsSameFormula s s''
+formula_more s s' s'' a b = record { clauses = b.clauses ∙ a.clauses; permanent = b.permanent ∙ a.permanent; len = b.len ∙ a.len }
+
 pub stays_more : (s s' s'' : Solver) → Stays s s' → Stays s' s'' → Stays s s''
 stays_more s s' s'' a b = record {
-  clauses = b.clauses ∙ a.clauses;
-  permanent = b.permanent ∙ a.permanent;
+  formula = formula_more s s' s'' a.formula b.formula;
   level_starts = b.level_starts ∙ a.level_starts;
   head = b.head ∙ a.head;
   count = b.count ∙ a.count;
-  len = b.len ∙ a.len;
 }
 
 pub stays_all : (s s' : Solver) → Stays s s' → length s.pairs.items ≡ length s.clauses.items → length s'.pairs.items ≡ length s'.clauses.items
-stays_all s s' a all = a.count ∙ all ∙ ap (λ (v : Vec Clause Global). length v.items) (sym a.clauses)
+stays_all s s' a all = a.count ∙ all ∙ ap (λ (v : Vec Clause Global). length v.items) (sym a.formula.clauses)
 
 -- after a visit the next index is looked at: the clause is dropped, or its index is moved to the end of those kept
 pub dropped_next : (s : Solver) (lit : Lit) (kept at kept' : ℕ) (list list' : List ℕ) → kept' ≡ kept → list' ≡ list
@@ -173,7 +174,7 @@ pub still_at : (s : Solver) → IsReady s → length s.trail.items ≤ s.head �
 still_at s ready whole =
     let n = literals_count s.clauses.items in
     let h = length_held s.trail.items in
-    watching_settled (IsListed s.lists.items) (literals s.clauses.items) (held s.trail.items) s.level_starts.items s.head s.pairs.items
+    watching_settled (IsWatchListed s.lists.items) (literals s.clauses.items) (held s.trail.items) s.level_starts.items s.head s.pairs.items
     (consistent (held s.trail.items) s.places.items ready.watchful.sound.places_are) (omega (arith, whole, h)) (ready.all ∙ sym n) ready.watchful.watching
 
 pub fits_at : (s : Solver) → IsReady s → length s.trail.items ≤ length s.places.items

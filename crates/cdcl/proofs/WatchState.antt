@@ -10,8 +10,8 @@ use Rattle.cnf_form.specs.Literals.{opposite, Denied}
 use Rattle.cnf_form.proofs.Lits.{equal_or_not, opposite-opposite}
 use Rattle.cdcl.specs.declared.watch.Pair.{Pair}
 use Rattle.search_trail.specs.Trail.{At, IsConsistent}
-use Rattle.cdcl.specs.Settled.{IsSettled, AllSettledTo}
-use Rattle.cdcl.specs.Watching.{sign_code, code_of, IsListed, listed_at, IsListedBut, HoldsIn, IsBase, WatchIs, IsPaired, IsWatching, HasWatch, IsPairOf, IsPending}
+use Rattle.cdcl.specs.Settled.{IsSettledClause, AllSettledTo}
+use Rattle.cdcl.specs.Watching.{sign_code, code_of, IsWatchListed, listed_at, IsListedBut, HoldsIn, IsBase, WatchIs, IsPaired, IsWatching, HasWatch, IsPairOf, IsPending}
 use Rattle.cdcl.proofs.SettledLemmas.{settled_by_true}
 use Rattle.search_trail.proofs.Works.{At-same, At-contains, At-in_take, At-get_or}
 use Rattle.search_trail.proofs.Places.{At-push_cases, At-push_old}
@@ -75,7 +75,7 @@ watching_relist {permanent} R S db t level_starts head pairs more w = record {
 
 -- a clause without a pair is added
 pub watching_more : {permanent : ℕ} (R : Lit → ℕ → Type 0) (db : List (List Lit)) (t : List Lit) (level_starts : List ℕ) (head : ℕ) (pairs : List Pair) (c : List Lit)
-    → ((s : ℕ) → Contains level_starts s → IsSettled (take s t) c) → IsWatching R permanent db t level_starts head pairs → IsWatching R permanent (db ++ c ∷ []) t level_starts head pairs
+    → ((s : ℕ) → Contains level_starts s → IsSettledClause (take s t) c) → IsWatching R permanent db t level_starts head pairs → IsWatching R permanent (db ++ c ∷ []) t level_starts head pairs
 watching_more {permanent} R db t level_starts head pairs c settled w =
     let old : (k : ℕ) (d : List Lit) (pair : Pair) → At (db ++ c ∷ []) k d → At pairs k pair → At db k d = λ k d pair a b. elim (At-push_cases db c k d a) [
       | inl o ↦ o
@@ -88,7 +88,7 @@ watching_more {permanent} R db t level_starts head pairs c settled w =
       inside = λ k d pair a b. w.inside k d pair (old k d pair a b) b;
       ended = λ s i k d f a. elim (At-push_cases db c k d a) [
         | inl o ↦ w.ended s i k d f o
-        | inr e ↦ subst (λ (x : List Lit). IsSettled (take s t) x) e.1 (settled s i)
+        | inr e ↦ subst (λ (x : List Lit). IsSettledClause (take s t) x) e.1 (settled s i)
       ];
       each = λ k d pair f a b. w.each k d pair f (old k d pair a b) b;
     }
@@ -255,7 +255,7 @@ watching_drop {permanent} db t level_starts head pairs out kept rest lists k no_
   ];
 }
 
-pub listed_more : (lists : List (List ℕ)) (i x : ℕ) (l : Lit) (k : ℕ) → IsListed lists l k → IsListed (listed_at lists i x) l k
+pub listed_more : (lists : List (List ℕ)) (i x : ℕ) (l : Lit) (k : ℕ) → IsWatchListed lists l k → IsWatchListed (listed_at lists i x) l k
 listed_more lists i x l k h = elim (cases_eq (code_of l) i) [
   | inl e ↦
       let range : i < length lists = inside lists (code_of l) k h i e in
@@ -270,7 +270,7 @@ listed_more lists i x l k h = elim (cases_eq (code_of l) i) [
     inside (y ∷ ys) zero k h j e = omega (arith, e)
     inside (y ∷ ys) (suc n) k h j e = let r = inside ys n k h n refl in omega (arith, r, e)
 
-pub listed_new : (lists : List (List ℕ)) (l : Lit) (k : ℕ) → code_of l < length lists → IsListed (listed_at lists (code_of l) k) l k
+pub listed_new : (lists : List (List ℕ)) (l : Lit) (k : ℕ) → code_of l < length lists → IsWatchListed (listed_at lists (code_of l) k) l k
 listed_new lists l k range =
     subst (λ (xs : List ℕ). Contains xs k) (sym (get_or-set_same lists (code_of l) (get_or lists (code_of l) [] ++ k ∷ []) [] range))
     (Contains-push (get_or lists (code_of l) []) k)
@@ -320,7 +320,7 @@ watching_move {permanent} db t level_starts head pairs out other new kept rest l
                       second = watch_new t level_starts head c new free;
                       first_in = (
                         λ x. absurd (n x),
-                        λ x. listed_more lists (code_of new) k other k (subst (λ (y : Lit). IsListed lists y k) q.1 (old.second_in.1 (λ y. n (sym q.1 ∙ y)))),
+                        λ x. listed_more lists (code_of new) k other k (subst (λ (y : Lit). IsWatchListed lists y k) q.1 (old.second_in.1 (λ y. n (sym q.1 ∙ y)))),
                       );
                       second_in = (λ x. absurd (new_out x), λ x. listed_new lists new k range);
                     }
@@ -332,7 +332,7 @@ watching_move {permanent} db t level_starts head pairs out other new kept rest l
                       second = watch_new t level_starts head c new free;
                       first_in = (
                         λ x. absurd (n x),
-                        λ x. listed_more lists (code_of new) k other k (subst (λ (y : Lit). IsListed lists y k) q.1 (old.first_in.1 (λ y. n (sym q.1 ∙ y)))),
+                        λ x. listed_more lists (code_of new) k other k (subst (λ (y : Lit). IsWatchListed lists y k) q.1 (old.first_in.1 (λ y. n (sym q.1 ∙ y)))),
                       );
                       second_in = (λ x. absurd (new_out x), λ x. listed_new lists new k range);
                     }

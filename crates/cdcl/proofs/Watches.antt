@@ -3,28 +3,17 @@ use Rattle.search_trail.specs.Trail.{At, IsConsistent}
 use Rattle.std.proofs.Common.{take, ◌≡◌, ◌≢◌, ℕ, ◌<◌, ◌≤◌, ◌+◌, min, List, [], ◌∷◌, ◌++◌, ◌⊎◌, inl, inr, subst, arith, length}
 use Rattle.std.specs.Prelude.{Contains}
 use Rattle.std.proofs.lemmas.List.Elements.{Contains-push_cases, Contains-append_left, Contains-push}
-use Rattle.cqa_value.proofs.Words.{mem-tail, mem-cases, mem-head}
 use Rattle.cnf_form.specs.declared.formula.Lit.{Lit}
 use Rattle.cnf_form.specs.Literals.{opposite, Denied}
-use Rattle.cdcl.specs.Settled.{IsSettled}
+use Rattle.cdcl.specs.Settled.{IsSettledClause}
 use Rattle.cdcl.proofs.SettledLemmas.{settled_by_two, settled_by_true}
-use Rattle.cnf_form.proofs.Lits.{equal_or_not}
 use Rattle.cdcl.specs.Watching.{WatchIs}
 use Rattle.search_trail.proofs.Works.{At-take, At-contains, At-in_take, At-same}
 use Rattle.search_trail.proofs.Places.{At-push_cases, At-push_old}
-
-contains_or_not : (t : List Lit) (l : Lit) → Contains t l ⊎ (Contains t l → ⊥)
-contains_or_not [] l = inr (λ i. omega (arith, i.1))
-contains_or_not (x ∷ t) l = elim (equal_or_not x l) [
-  | inl e ↦ inl (subst (λ (y : Lit). Contains (x ∷ t) y) e (mem-head x t))
-  | inr n ↦ elim (contains_or_not t l) [
-    | inl i ↦ inl (mem-tail l x t i)
-    | inr o ↦ inr (λ i. elim (mem-cases l x t i) [ inl e ↦ n e | inr j ↦ o j ])
-  ]
-]
+use Rattle.search_trail.proofs.Reasons.{contains_or_not}
 
 pub watches_settle : (t : List Lit) (level_starts : List ℕ) (head : ℕ) (c : List Lit) (a b : Lit) → IsConsistent t → length t ≤ head → Contains c a → Contains c b → a ≢ b
-    → WatchIs t level_starts head c a → WatchIs t level_starts head c b → IsSettled t c
+    → WatchIs t level_starts head c a → WatchIs t level_starts head c b → IsSettledClause t c
 watches_settle t level_starts head c a b k h ia ib apart wa wb = elim (contains_or_not t (opposite a)) [
   | inl d ↦ let e = wa d.0 (omega (arith, d.1)) (d.1, d.2) in settled_by_true t c e.1 k e.2 (At-contains t e.0 e.1 e.3)
   | inr na ↦ elim (contains_or_not t (opposite b)) [

@@ -1,6 +1,6 @@
 -- What visits to clauses tell.
 use Rattle.cnf_form.specs.Literals.{HasVar}
-use Rattle.search_trail.specs.Trail.{At, IsOpen, held}
+use Rattle.search_trail.specs.Trail.{At, IsUnassigned, held}
 use Rattle.std.specs.Prelude.{◌≡◌, ◌<◌, ◌≤◌, ◌-◌, ℕ, Bool, false, slice_index_or, List, length, Contains, Option, None, Some, ◌++◌, ◌∷◌, [], take}
 use Rattle.cnf_form.specs.declared.formula.Lit.{Lit}
 use Rattle.cnf_form.specs.Literals.{literals}
@@ -28,7 +28,7 @@ IsComplete s = (v : ℕ) → 1 ≤ v → v < length s.places.items → HasVar (h
 
 abbrev pub OpenVarIs : Solver → Option ℕ → Type 0
 OpenVarIs s None = IsComplete s
-OpenVarIs s (Some v) = (1 ≤ v) × (v < length s.places.items) × IsOpen (held s.trail.items) v
+OpenVarIs s (Some v) = (1 ≤ v) × (v < length s.places.items) × IsUnassigned (held s.trail.items) v
 
 abbrev pub SearchIs : Solver → Option ℕ → Type 0
 SearchIs s None = IsStill s × IsComplete s

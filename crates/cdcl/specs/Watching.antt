@@ -15,8 +15,8 @@ abbrev pub code_of : Lit → ℕ
 code_of l = l.var + l.var + sign_code l.positive
 
 -- the clause of the index is in the list of the literal
-abbrev pub IsListed : List (List ℕ) → Lit → ℕ → Type 0
-IsListed lists l k = Contains (slice_index_or lists (code_of l) []) k
+abbrev pub IsWatchListed : List (List ℕ) → Lit → ℕ → Type 0
+IsWatchListed lists l k = Contains (slice_index_or lists (code_of l) []) k
 
 -- a list with an index at its end
 abbrev pub listed_at : List (List ℕ) → ℕ → ℕ → List (List ℕ)
@@ -24,7 +24,7 @@ listed_at lists i k = slice_set lists i (slice_index_or lists i [] ++ k ∷ [])
 
 -- the same where the list of one literal is taken out
 abbrev pub IsListedBut : Lit → List ℕ → List (List ℕ) → Lit → ℕ → Type 0
-IsListedBut out own lists l k = ((l ≡ out) → Contains own k) × ((l ≢ out) → IsListed lists l k)
+IsListedBut out own lists l k = ((l ≡ out) → Contains own k) × ((l ≢ out) → IsWatchListed lists l k)
 
 -- some literal of the clause is on the trail
 abbrev pub HoldsIn : List Lit → List Lit → Type 0

@@ -2,8 +2,8 @@
 
 ghost use Rattle.std.specs.Prelude.{◌≡◌, ◌<◌, ◌≤◌, ◌+◌, ◌≢◌, length, Contains, MatchOption, true, false};
 ghost use Rattle.cnf_form.specs.Literals.{Denied, OthersDenied, literals};
-ghost use Rattle.search_trail.specs.Trail.{IsConsistent, At, held, ArePlaces, AllInRange};
-ghost use Rattle.cdcl.specs.Looks.{FoundIs, IsFree, WatchesAre};
+ghost use Rattle.search_trail.specs.Trail.{IsConsistent, At, held, AreTrailPlaces, AllInRange};
+ghost use Rattle.cdcl.specs.Looks.{LookFinds, IsFreeLiteral, WatchesAre};
 
 use cnf_form::{Lit, Truth};
 use search_trail::{Entry, truth_of};
@@ -33,7 +33,7 @@ pub enum Visit {
 
 fn is_false(trail: &[Entry], places: &[Option<usize>], lit: Lit) -> bool
     requires consistent { IsConsistent (held trail.now) }
-    requires places { ArePlaces (held trail.now) places.now }
+    requires places { AreTrailPlaces (held trail.now) places.now }
     requires range { lit.var < length places.now }
     ensures yes { result ≡ true → Denied (held trail.now) lit }
     ensures no { result ≡ false → Denied (held trail.now) lit → ⊥ }
@@ -44,9 +44,9 @@ fn is_false(trail: &[Entry], places: &[Option<usize>], lit: Lit) -> bool
 /// A literal of the clause beside the other one that is not false.
 fn free_lit(trail: &[Entry], places: &[Option<usize>], clause: &[Lit], other: Lit) -> Option<Lit>
     requires consistent { IsConsistent (held trail.now) }
-    requires places { ArePlaces (held trail.now) places.now }
+    requires places { AreTrailPlaces (held trail.now) places.now }
     requires range { AllInRange clause.now (length places.now) }
-    ensures { MatchOption result (OthersDenied (held trail.now) clause.now other) (λ lit. IsFree (held trail.now) clause.now other lit) }
+    ensures { MatchOption result (OthersDenied (held trail.now) clause.now other) (λ lit. IsFreeLiteral (held trail.now) clause.now other lit) }
 {
     for lit in clause {
         if *lit != other && !is_false(trail, places, *lit) {
@@ -60,10 +60,10 @@ fn free_lit(trail: &[Entry], places: &[Option<usize>], clause: &[Lit], other: Li
 #[tactic(auto, using(crate::proofs::TrailLemmas::all_denied))]
 pub(crate) fn seek(trail: &[Entry], places: &[Option<usize>], clause: &[Lit], other: Lit) -> Found
     requires consistent { IsConsistent (held trail.now) }
-    requires places { ArePlaces (held trail.now) places.now }
+    requires places { AreTrailPlaces (held trail.now) places.now }
     requires range { AllInRange clause.now (length places.now) }
     requires inside { Contains clause.now other }
-    ensures { FoundIs (held trail.now) clause.now other result }
+    ensures { LookFinds (held trail.now) clause.now other result }
 {
     match truth_of(trail, places, other) {
         Truth::True => Found::Holds,

@@ -3,7 +3,7 @@
 ghost use Rattle.std.specs.Prelude.{◌≡◌, ◌<◌, ◌≤◌, ◌+◌, ◌^◌, Bool, List, length, IfOk};
 ghost use Rattle.cnf_form.specs.declared.formula.Cnf.{Cnf};
 ghost use Rattle.cnf_form.specs.declared.log.Log.{Log};
-ghost use Rattle.cnf_form.specs.Literals.{IsInRange, literals};
+ghost use Rattle.cnf_form.specs.Literals.{AreVarsInRange, literals};
 ghost use Rattle.cnf_form.specs.Logs.{Refutes};
 ghost use Rattle.cnf_form.specs.Spent.{IsSpentLog};
 ghost use Rattle.cdcl.specs.Looking.{IsUnattached};
@@ -49,7 +49,7 @@ fn outcome_by(alloc: Global, solver: &mut Solver, budget: u32) -> Result<Outcome
 
 /// Searches once, where learnt clauses from a place on may be forgotten.
 fn attempt(alloc: Global, cnf: &Cnf, budget: u32, permanent: usize) -> Result<Outcome, NoMemory>
-    requires range { IsInRange cnf.now }
+    requires range { AreVarsInRange cnf.now }
     requires permanent { length cnf.now.clauses ≤ permanent }
     ensures { IfOk result (λ outcome. AttemptIs permanent cnf.now budget outcome) }
 {
@@ -62,7 +62,7 @@ fn attempt(alloc: Global, cnf: &Cnf, budget: u32, permanent: usize) -> Result<Ou
 /// Searches with learnt clauses forgotten, and where that comes to no answer, anew with all of them kept: each clause of a
 /// spent log is to be new.
 fn outcome_of(alloc: Global, cnf: &Cnf, budget: u32) -> Result<Outcome, NoMemory>
-    requires range { IsInRange cnf.now }
+    requires range { AreVarsInRange cnf.now }
     ensures { IfOk result (λ outcome. OutcomeIs cnf.now budget outcome) }
 {
     let count = cnf.clauses.len();
@@ -84,7 +84,7 @@ fn outcome_of(alloc: Global, cnf: &Cnf, budget: u32) -> Result<Outcome, NoMemory
 ///
 /// `NoMemory` where memory is refused.
 pub fn solve(alloc: Global, cnf: &Cnf, budget: u32) -> Result<Outcome, NoMemory>
-    requires range { IsInRange cnf.now }
+    requires range { AreVarsInRange cnf.now }
     requires once { IsOnce cnf.now }
     ensures sat { (values : List Bool) → result ≡ Ok (Outcome.Sat values) → IsModel cnf.now values }
     ensures unsat { (log : Log) → result ≡ Ok (Outcome.Unsat log) → Refutes cnf.now log.steps }

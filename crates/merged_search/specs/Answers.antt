@@ -6,7 +6,7 @@ use Rattle.cdcl.specs.declared.outcome.Outcome.TheVariants.{Sat, Unsat, Spent}
 use Rattle.cdcl.specs.Outcomes.{OutcomeIs}
 
 -- a model of the formula, or a refutation of it within the budget; a spent log is no answer
-abbrev pub IsAnswer : Cnf → ℕ → Outcome → Type 0
-IsAnswer cnf budget (Sat values) = OutcomeIs cnf budget (Sat values)
-IsAnswer cnf budget (Unsat log) = OutcomeIs cnf budget (Unsat log)
-IsAnswer cnf budget (Spent log) = ⊥
+abbrev pub IsDecisive : Cnf → ℕ → Outcome → Type 0
+IsDecisive cnf budget (Sat values) = OutcomeIs cnf budget (Sat values)
+IsDecisive cnf budget (Unsat log) = OutcomeIs cnf budget (Unsat log)
+IsDecisive cnf budget (Spent log) = ⊥

@@ -1,7 +1,7 @@
 //! Which formulas the solver is given: the variables of each clause rise, and are of the formula.
 
 ghost use Rattle.std.specs.Prelude.{◌≡◌, ◌↔◌, true};
-ghost use Rattle.cnf_form.specs.Literals.{IsInRange};
+ghost use Rattle.cnf_form.specs.Literals.{AreVarsInRange};
 ghost use Rattle.cdcl.specs.Outcomes.{IsOnce};
 ghost use Rattle.merged_search.specs.Clauses.{AreRising, RisesFrom};
 
@@ -25,7 +25,7 @@ fn rises(vars: u32, lits: &[Lit]) -> bool
 /// takes the formula.
 pub fn is_accepted(cnf: &Cnf) -> bool
     ensures exact { result ≡ true ↔ AreRising cnf.now }
-    ensures range { result ≡ true → IsInRange cnf.now }
+    ensures range { result ≡ true → AreVarsInRange cnf.now }
     ensures once { result ≡ true → IsOnce cnf.now }
 {
     for clause in cnf.clauses.as_slice() {

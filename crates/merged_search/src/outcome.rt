@@ -1,7 +1,7 @@
 //! Whether an outcome is an answer to a formula.
 
 ghost use Rattle.std.specs.Prelude.{◌≡◌, ◌↔◌, IfOk, true};
-ghost use Rattle.merged_search.specs.Answers.{IsAnswer};
+ghost use Rattle.merged_search.specs.Answers.{IsDecisive};
 
 use crate::model::is_model;
 use crate::refutation::is_refutation;
@@ -17,7 +17,7 @@ use std::alloc::Global;
 ///
 /// `NoMemory` where memory is refused.
 pub fn is_answer(alloc: Global, cnf: &Cnf, budget: u32, outcome: &Outcome) -> Result<bool, NoMemory>
-    ensures { IfOk result (λ yes. yes ≡ true ↔ IsAnswer cnf.now budget outcome.now) }
+    ensures { IfOk result (λ yes. yes ≡ true ↔ IsDecisive cnf.now budget outcome.now) }
 {
     match outcome {
         Outcome::Sat(values) => Ok(is_model(cnf, values.as_slice())),

@@ -2,11 +2,11 @@
 
 ghost use Rattle.std.specs.Prelude.{◌≡◌, ◌<◌, ◌≤◌, ◌+◌, ◌^◌, Bool, List, length, IfOk, IfSome, true};
 ghost use Rattle.cnf_form.specs.declared.log.Log.{Log};
-ghost use Rattle.cnf_form.specs.Literals.{IsInRange};
+ghost use Rattle.cnf_form.specs.Literals.{AreVarsInRange};
 ghost use Rattle.cnf_form.specs.Logs.{Refutes};
 ghost use Rattle.cnf_form.specs.Spent.{IsSpentLog};
 ghost use Rattle.cdcl.specs.Outcomes.{AreConsecutive, IsModel, IsOnce, OutcomeIs};
-ghost use Rattle.merged_search.specs.Answers.{IsAnswer};
+ghost use Rattle.merged_search.specs.Answers.{IsDecisive};
 
 use crate::guess::guess;
 use crate::outcome::is_answer;
@@ -25,7 +25,7 @@ fn checked(
     budget: u32,
     outcome: Outcome,
 ) -> Result<Option<Outcome>, NoMemory>
-    ensures { IfOk result (λ found. IfSome found (IsAnswer cnf.now budget)) }
+    ensures { IfOk result (λ found. IfSome found (IsDecisive cnf.now budget)) }
 {
     match is_answer(alloc, cnf, budget, &outcome) {
         Ok(true) => Ok(Some(outcome)),
@@ -49,7 +49,7 @@ fn checked(
 ///
 /// `NoMemory` where memory is refused for the check.
 pub fn by_groups(alloc: Global, cnf: &Cnf, budget: u32) -> Result<Option<Outcome>, NoMemory>
-    ensures { IfOk result (λ found. IfSome found (IsAnswer cnf.now budget)) }
+    ensures { IfOk result (λ found. IfSome found (IsDecisive cnf.now budget)) }
 {
     match guess(alloc, cnf, budget) {
         Ok(Some(outcome)) => checked(alloc, cnf, budget, outcome),
@@ -59,7 +59,7 @@ pub fn by_groups(alloc: Global, cnf: &Cnf, budget: u32) -> Result<Option<Outcome
 
 /// What is found by groups, and where that is nothing, what the solver finds.
 fn grouped_or_searched(alloc: Global, cnf: &Cnf, budget: u32) -> Result<Outcome, NoMemory>
-    requires range { IsInRange cnf.now }
+    requires range { AreVarsInRange cnf.now }
     requires once { IsOnce cnf.now }
     ensures { IfOk result (λ outcome. OutcomeIs cnf.now budget outcome) }
 {
@@ -71,7 +71,7 @@ fn grouped_or_searched(alloc: Global, cnf: &Cnf, budget: u32) -> Result<Outcome,
 
 /// What the solver finds.
 fn searched(alloc: Global, cnf: &Cnf, budget: u32) -> Result<Outcome, NoMemory>
-    requires range { IsInRange cnf.now }
+    requires range { AreVarsInRange cnf.now }
     requires once { IsOnce cnf.now }
     ensures { IfOk result (λ outcome. OutcomeIs cnf.now budget outcome) }
 {
@@ -80,7 +80,7 @@ fn searched(alloc: Global, cnf: &Cnf, budget: u32) -> Result<Outcome, NoMemory>
 
 /// The outcome of a formula. Small ones, and those for which no search is asked, aren't guessed.
 fn outcome_of(alloc: Global, cnf: &Cnf, budget: u32) -> Result<Outcome, NoMemory>
-    requires range { IsInRange cnf.now }
+    requires range { AreVarsInRange cnf.now }
     requires once { IsOnce cnf.now }
     ensures { IfOk result (λ outcome. OutcomeIs cnf.now budget outcome) }
 {
@@ -101,7 +101,7 @@ fn outcome_of(alloc: Global, cnf: &Cnf, budget: u32) -> Result<Outcome, NoMemory
 ///
 /// `NoMemory` where memory is refused.
 pub fn solve(alloc: Global, cnf: &Cnf, budget: u32) -> Result<Outcome, NoMemory>
-    requires range { IsInRange cnf.now }
+    requires range { AreVarsInRange cnf.now }
     requires once { IsOnce cnf.now }
     ensures sat { (values : List Bool) → result ≡ Ok (Outcome.Sat values) → IsModel cnf.now values }
     ensures unsat { (log : Log) → result ≡ Ok (Outcome.Unsat log) → Refutes cnf.now log.steps }

@@ -3,3 +3,5 @@ pub mod Works
 pub mod Places
 pub mod Marking
 pub mod Shortening
+pub mod Reasons
+pub mod Walking

@@ -6,8 +6,8 @@ use Rattle.std.proofs.lemmas.List.Elements.{Contains-append_left, Contains-push}
 use Rattle.std.proofs.lemmas.Option.{same_Some}
 use Rattle.cqa_value.proofs.Words.{mem-tail, mem-cases, mem-head}
 use Rattle.cnf_form.specs.declared.formula.Lit.{Lit}
-use Rattle.search_trail.specs.Trail.{At, ArePlaces}
-use Rattle.search_trail.specs.Marks.{IsSeen, AllClear, AllMet}
+use Rattle.search_trail.specs.Trail.{At, AreTrailPlaces}
+use Rattle.search_trail.specs.Marks.{IsVarSeen, AllClear, AllMet}
 use Rattle.search_trail.specs.Analysis.{AtMostSeen, Grow, NoneSeen}
 use Rattle.search_trail.proofs.Works.{seen_cases, seen_more, At-same, At-get_or}
 
@@ -32,7 +32,7 @@ without (w ∷ ws) p i = elim (mem-cases p w ws i) [
 ]
 
 -- a further variable is marked, which stands on the level
-pub at_most_more : (t : List Lit) (places : List (Option ℕ)) (start end : ℕ) (seen : List Bool) (count v place : ℕ) → ArePlaces t places
+pub at_most_more : (t : List Lit) (places : List (Option ℕ)) (start end : ℕ) (seen : List Bool) (count v place : ℕ) → AreTrailPlaces t places
     → get_or places v None ≡ Some place → v < length seen → AtMostSeen t start end seen count → AtMostSeen t start end (set seen v true) (count + 1)
 at_most_more t places start end seen count v place are is range m = record {
   places = place ∷ m.places;
@@ -46,7 +46,7 @@ at_most_more t places start end seen count v place are is range m = record {
 }
 
 -- what was counted stays where the variable is open or stands below the level
-pub at_most_same : (t : List Lit) (places : List (Option ℕ)) (start end : ℕ) (seen : List Bool) (count v : ℕ) → ArePlaces t places
+pub at_most_same : (t : List Lit) (places : List (Option ℕ)) (start end : ℕ) (seen : List Bool) (count v : ℕ) → AreTrailPlaces t places
     → ((p : ℕ) → get_or places v None ≡ Some p → start ≤ p → ⊥) → v < length seen → AtMostSeen t start end seen count → AtMostSeen t start end (set seen v true) count
 at_most_same t places start end seen count v are away range m = record {
   places = m.places;
@@ -63,8 +63,16 @@ grow_none seen = record { same = refl; more = λ v s. s }
 pub grow_one : (seen : List Bool) (v : ℕ) → v < length seen → Grow seen (set seen v true)
 grow_one seen v range = record { same = length-set seen v true; more = λ w s. seen_more seen v w range s }
 
+-- nothing is marked
+pub at_most_none : (t : List Lit) (start end : ℕ) (seen : List Bool) (count : ℕ) → AllClear seen → AtMostSeen t start end seen count
+at_most_none t start end seen count clear = record { places = []; few = omega arith; all = λ p l g h a s. absurd (clear l.var s) }
+
+-- the walk goes past a literal
+pub at_most_past : (t : List Lit) (start at : ℕ) (seen : List Bool) (count : ℕ) → AtMostSeen t start (at + 1) seen count → AtMostSeen t start at seen count
+at_most_past t start at seen count m = record { places = m.places; few = m.few; all = λ p l g h a s. m.all p l g (omega (arith, h)) a s }
+
 -- the walk comes to a literal that is marked
-pub at_most_walked : (t : List Lit) (start at : ℕ) (seen : List Bool) (count : ℕ) (x : Lit) → start ≤ at → At t at x → IsSeen seen x.var
+pub at_most_walked : (t : List Lit) (start at : ℕ) (seen : List Bool) (count : ℕ) (x : Lit) → start ≤ at → At t at x → IsVarSeen seen x.var
     → AtMostSeen t start (at + 1) seen count → (1 ≤ count) × AtMostSeen t start at seen (count - 1)
 at_most_walked t start at seen count x after a s m =
     let w = without m.places at (m.all at x after (omega arith) a s) in
@@ -77,7 +85,7 @@ at_most_walked t start at seen count x after a s m =
       },
     )
 
-pub last_seen : (t : List Lit) (start at : ℕ) (seen : List Bool) (count : ℕ) (x : Lit) → start ≤ at → At t at x → IsSeen seen x.var → count ≤ 1
+pub last_seen : (t : List Lit) (start at : ℕ) (seen : List Bool) (count : ℕ) (x : Lit) → start ≤ at → At t at x → IsVarSeen seen x.var → count ≤ 1
     → AtMostSeen t start (at + 1) seen count → NoneSeen t start at seen
 last_seen t start at seen count x after a s few m p l g h b q =
     let w = at_most_walked t start at seen count x after a s m in
@@ -94,7 +102,7 @@ met_push seen met v range m w s = elim (seen_cases seen v w range s) [
 pub read_false : (seen : List Bool) (v : ℕ) (b : Bool) → b ≡ get_or seen v b → b ≡ false → get_or seen v false ≡ false
 read_false seen v b e f = subst (λ (x : Bool). get_or seen v x ≡ false) f (sym e ∙ f)
 
-pub read_true : (seen : List Bool) (v : ℕ) (b : Bool) → v < length seen → b ≡ get_or seen v b → b ≡ true → IsSeen seen v
+pub read_true : (seen : List Bool) (v : ℕ) (b : Bool) → v < length seen → b ≡ get_or seen v b → b ≡ true → IsVarSeen seen v
 read_true seen v b range e f = At-same seen v (get_or seen v false) true (At-get_or seen v false range) (range, subst (λ (x : Bool). get_or seen v x ≡ x) f (sym e))
 
 drop_cases : (met : List ℕ) (i d w : ℕ) → i < length met → Contains (drop i met) w → (get_or met i d ≡ w) ⊎ Contains (drop (suc i) met) w
@@ -103,7 +111,7 @@ drop_cases (m ∷ ms) zero d w h j = mem-cases w m ms j
 drop_cases (m ∷ ms) (suc i) d w h j = drop_cases ms i d w (omega arith) j
 
 -- the marks of a list's variables are cleared, one after the other
-pub cleared_next : (seen seen' : List Bool) (met : List ℕ) (i d : ℕ) → i < length met → ((w : ℕ) → IsSeen seen' w → IsSeen seen w × (w ≢ get_or met i d))
+pub cleared_next : (seen seen' : List Bool) (met : List ℕ) (i d : ℕ) → i < length met → ((w : ℕ) → IsVarSeen seen' w → IsVarSeen seen w × (w ≢ get_or met i d))
     → AllMet seen (drop i met) → AllMet seen' (drop (i + 1) met)
 cleared_next seen seen' met i d h clear m w s =
     let r = clear w s in

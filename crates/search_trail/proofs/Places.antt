@@ -1,6 +1,6 @@
 -- The places of variables, as literals come and go.
 use Rattle.cnf_form.specs.Literals.{HasVar}
-use Rattle.search_trail.specs.Trail.{At, IsConsistent, IsOpen, ArePlaces, AllInRange, IsApart}
+use Rattle.search_trail.specs.Trail.{At, IsConsistent, IsUnassigned, AreTrailPlaces, AllInRange, IsApart}
 use Rattle.std.proofs.Common.{set, get_or-set_other, get_or-set_same, ◌≡◌, ℕ, zero, suc, ◌<◌, ◌≤◌, ◌+◌, Bool, true, false, List, [], ◌∷◌, ◌++◌, ◌⊎◌, map, inl, inr, refl, sym, ◌∙◌, ap, subst, arith, length, get_or, Option, Some, None}
 use Rattle.std.proofs.lemmas.List.{length-map}
 use Rattle.std.proofs.lemmas.Grind.{common_steps}
@@ -37,8 +37,8 @@ At-push_new (y ∷ ys) x = let r = At-push_new ys x in (omega (arith, r.0), r.1)
 pub some_none : (n : ℕ) (o : Option ℕ) → o ≡ None → o ≡ Some n → ⊥
 some_none n o a b = cc
 
-pub places_put : (t : List Lit) (places : List (Option ℕ)) (l : Lit) → ArePlaces t places → l.var < length places → IsOpen t l.var
-    → ArePlaces (t ++ l ∷ []) (set places l.var (Some (length t)))
+pub places_put : (t : List Lit) (places : List (Option ℕ)) (l : Lit) → AreTrailPlaces t places → l.var < length places → IsUnassigned t l.var
+    → AreTrailPlaces (t ++ l ∷ []) (set places l.var (Some (length t)))
 places_put t places l are range free = record {
   right = λ v p is. elim (cases_eq v l.var) [
     | inl e ↦
@@ -61,8 +61,8 @@ places_put t places l are range free = record {
   ];
 }
 
-pub places_off : (t : List Lit) (places : List (Option ℕ)) (l : Lit) → ArePlaces (t ++ l ∷ []) places → l.var < length places
-    → ArePlaces t (set places l.var None)
+pub places_off : (t : List Lit) (places : List (Option ℕ)) (l : Lit) → AreTrailPlaces (t ++ l ∷ []) places → l.var < length places
+    → AreTrailPlaces t (set places l.var None)
 places_off t places l are range = record {
   right = λ v p is. elim (cases_eq v l.var) [
     | inl e ↦ absurd (some_none p (get_or (set places l.var None) v None)
@@ -90,7 +90,7 @@ places_off t places l are range = record {
     length_one xs x = grind (arith, common_steps)
 
 -- a literal and its opposite have one place
-pub consistent : (t : List Lit) (places : List (Option ℕ)) → ArePlaces t places → IsConsistent t
+pub consistent : (t : List Lit) (places : List (Option ℕ)) → AreTrailPlaces t places → IsConsistent t
 consistent t places are l i d =
     let p : get_or places l.var None ≡ Some i.0 = are.every i.0 l (i.1, i.2) in
     let q : get_or places l.var None ≡ Some d.0 = are.every d.0 (opposite l) (d.1, d.2) in
@@ -104,7 +104,7 @@ consistent t places are l i d =
     apart : (x : Lit) → x ≡ opposite x → ⊥
     apart x e = clash x.positive (ap (λ (y : Lit). y.positive) e)
 
-pub apart_by_places : (t : List Lit) (places : List (Option ℕ)) → ArePlaces t places → IsApart t
+pub apart_by_places : (t : List Lit) (places : List (Option ℕ)) → AreTrailPlaces t places → IsApart t
 apart_by_places t places are p q l m a b e =
     let x : get_or places l.var None ≡ Some p = are.every p l a in
     let y : get_or places m.var None ≡ Some q = are.every q m b in
@@ -122,7 +122,7 @@ distinct_vars (l ∷ t) a = (
 )
 
 -- a trail is no longer than the variables are many
-pub trail_fits : (t : List Lit) (places : List (Option ℕ)) → ArePlaces t places → AllInRange t (length places) → length t ≤ length places
+pub trail_fits : (t : List Lit) (places : List (Option ℕ)) → AreTrailPlaces t places → AllInRange t (length places) → length t ≤ length places
 trail_fits t places are range =
     let vars = map (λ (l : Lit). l.var) t in
     let n = length-map t (λ (l : Lit). l.var) in
@@ -132,7 +132,7 @@ trail_fits t places are range =
     let r = range x.0 x.1 in omega (arith, r, x.2)) in
     omega (arith, bound, n)
 
-pub has_var : (t : List Lit) (places : List (Option ℕ)) (v p : ℕ) → ArePlaces t places → get_or places v None ≡ Some p → HasVar t v
+pub has_var : (t : List Lit) (places : List (Option ℕ)) (v p : ℕ) → AreTrailPlaces t places → get_or places v None ≡ Some p → HasVar t v
 has_var t places v p are is =
     let r = are.right v p is in
     let none : Lit = record { var = 0; positive = false } in

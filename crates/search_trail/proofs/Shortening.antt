@@ -1,5 +1,5 @@
 -- Why a learnt clause still follows without the literals that the others imply.
-use Rattle.search_trail.specs.Trail.{At, ArePlaces, IsApart, EndIs}
+use Rattle.search_trail.specs.Trail.{At, AreTrailPlaces, IsApart, EndIs}
 use Rattle.std.proofs.Common.{take, ◌≡◌, ℕ, ◌<◌, ◌≤◌, ◌+◌, Bool, ℤ, List, [], ◌∷◌, ◌++◌, ◌⊎◌, map, inl, inr, refl, sym, ◌∙◌, ap, subst, arith, Option}
 use Rattle.std.specs.Prelude.{Contains}
 use Rattle.std.proofs.lemmas.List.Elements.{Contains-push_cases, Contains-append_left, Contains-push}
@@ -7,7 +7,7 @@ use Rattle.cqa_value.proofs.Words.{mem-cases, mem-head, Contains-map, Contains-f
 use Rattle.cnf_form.specs.declared.formula.Lit.{Lit}
 use Rattle.cnf_form.specs.Literals.{opposite, Denied}
 use Rattle.cnf_form.proofs.Lits.{opposite-opposite}
-use Rattle.search_trail.specs.Analysis.{AreKept, IsLearntClause, NoneSeen, Works}
+use Rattle.search_trail.specs.Analysis.{AreKeptLiterals, IsLearntClause, NoneSeen, Works}
 use Rattle.search_trail.proofs.Works.{At-in_take, At-same, At-contains, once_more}
 use Rattle.search_trail.proofs.Places.{apart_by_places}
 
@@ -40,14 +40,14 @@ works_keep db t seen lits place hints x at w = record {
       ]);
 }
 
-pub kept_none : (t : List Lit) (start : ℕ) → AreKept t start start []
+pub kept_none : (t : List Lit) (start : ℕ) → AreKeptLiterals t start start []
 kept_none t start = record { from = λ m i. absurd (omega (arith, i.1)); once = tt }
 
-pub kept_on : (t : List Lit) (start place : ℕ) (lits : List Lit) → AreKept t start (place + 1) lits → AreKept t start place lits
+pub kept_on : (t : List Lit) (start place : ℕ) (lits : List Lit) → AreKeptLiterals t start (place + 1) lits → AreKeptLiterals t start place lits
 kept_on t start place lits k = record { from = λ m i. let f = k.from m i in (f.0, omega (arith, f.1), f.2, f.3); once = k.once }
 
 pub kept_push : (t : List Lit) (start place : ℕ) (lits : List Lit) (x : Lit) → IsApart t
-    → At t place x → place < start → AreKept t start (place + 1) lits → AreKept t start place (lits ++ opposite x ∷ [])
+    → At t place x → place < start → AreKeptLiterals t start (place + 1) lits → AreKeptLiterals t start place (lits ++ opposite x ∷ [])
 kept_push t start place lits x apart at below k = record {
   from = λ m i. elim (Contains-push_cases lits (opposite x) m i) [
     | inl j ↦ let f = k.from m j in (f.0, omega (arith, f.1), f.2, f.3)
@@ -59,15 +59,15 @@ kept_push t start place lits x apart at below k = record {
       omega (arith, e, f.1));
 }
 
-pub kept_below : (t : List Lit) (start place : ℕ) (lits : List Lit) → AreKept t start place lits → (m : Lit) → Contains lits m → Denied (take start t) m
+pub kept_below : (t : List Lit) (start place : ℕ) (lits : List Lit) → AreKeptLiterals t start place lits → (m : Lit) → Contains lits m → Denied (take start t) m
 kept_below t start place lits k m i = let f = k.from m i in At-contains (take start t) f.0 (opposite m) (At-in_take start t f.0 (opposite m) f.2 f.3)
 
-pub kept_denied : (t : List Lit) (start place : ℕ) (lits : List Lit) → AreKept t start place lits → (m : Lit) → Contains lits m → Denied t m
+pub kept_denied : (t : List Lit) (start place : ℕ) (lits : List Lit) → AreKeptLiterals t start place lits → (m : Lit) → Contains lits m → Denied t m
 kept_denied t start place lits k m i = let f = k.from m i in At-contains t f.0 (opposite m) f.3
 
 -- the clause that is learnt: what is kept, and the literal of the first unique implication point
 pub shorter_clause : (db : List (List Lit)) (t : List Lit) (places : List (Option ℕ)) (start : ℕ) (seen : List Bool) (lits : List Lit) (place : ℕ) (hints : List ℤ) (u : Lit) (end : ℕ)
-    → ArePlaces t places → start ≤ place → At t place u → AreKept t start 0 lits → EndIs t lits end
+    → AreTrailPlaces t places → start ≤ place → At t place u → AreKeptLiterals t start 0 lits → EndIs t lits end
     → Works db t seen (opposite u ∷ lits) 0 hints → IsLearntClause db t start (lits ++ opposite u ∷ []) hints (opposite u) end
 shorter_clause db t places start seen lits place hints u end are after at kept ends w =
     let all = lits ++ opposite u ∷ [] in

@@ -13,7 +13,7 @@ use Rattle.cnf_form.specs.Literals.{opposite, Denied, AllDenied, OthersDenied}
 use Rattle.search_trail.specs.declared.trail.Entry.{Entry}
 use Rattle.cnf_form.specs.Spent.{NoVarTwice}
 use Rattle.search_trail.specs.Analysis.{Grow, AllSeen, Works}
-use Rattle.search_trail.specs.Marks.{IsSeen}
+use Rattle.search_trail.specs.Marks.{IsVarSeen}
 use Rattle.std.proofs.Common.{set, get_or-set_other, get_or-set_same}
 use Rattle.std.proofs.lemmas.Bool.{cases_eq}
 use Rattle.cqa_value.proofs.Words.{mem-tail, mem-cases, mem-head, cases_next}
@@ -46,8 +46,8 @@ At-contains xs k x a = (k, a.0, a.1)
 
 -- what is denied before a place, and marked, is denied by such a list
 denied_by : (t : List Lit) (seen : List Bool) (place : ℕ) (have' : List Lit)
-    → ((p : ℕ) (l : Lit) → p < place → At t p l → IsSeen seen l.var → Contains have' l)
-    → (m : Lit) → IsSeen seen m.var → Denied (take place t) m → Denied have' m
+    → ((p : ℕ) (l : Lit) → p < place → At t p l → IsVarSeen seen l.var → Contains have' l)
+    → (m : Lit) → IsVarSeen seen m.var → Denied (take place t) m → Denied have' m
 denied_by t seen place have' high m s d =
     let a : (d.0 < place) × At t d.0 (opposite m) = At-take place t d.0 (opposite m) (d.1, d.2) in
     high d.0 (opposite m) a.0 a.1 s
@@ -66,11 +66,11 @@ works_first db t seen lits h i c e a d all = record {
 }
 
 pub works_skip : (db : List (List Lit)) (t : List Lit) (seen : List Bool) (lits : List Lit) (place : ℕ) (hints : List ℤ) (x : Lit)
-    → At t place x → (IsSeen seen x.var → ⊥) → Works db t seen lits (place + 1) hints → Works db t seen lits place hints
+    → At t place x → (IsVarSeen seen x.var → ⊥) → Works db t seen lits (place + 1) hints → Works db t seen lits place hints
 works_skip db t seen lits place hints x a unseen w = record {
   chain = λ have' within low high. w.chain have' within low (λ p l h b s. elim (cases_next p place h) [
     | inl lt ↦ high p l lt b s
-    | inr e ↦ absurd (unseen (subst (λ (y : Lit). IsSeen seen y.var)
+    | inr e ↦ absurd (unseen (subst (λ (y : Lit). IsVarSeen seen y.var)
         (At-same t place l x (subst (λ (n : ℕ). At t n l) e b) a) s))
   ]);
 }
@@ -125,21 +125,21 @@ At-get_or (x ∷ xs) (suc k) d h = let r = At-get_or xs k d (omega arith) in (h,
 pub held_at : (trail : List Entry) (k : ℕ) (d : Entry) → k < length trail → At (held trail) k (get_or trail k d).lit
 held_at trail k d h = At-map (λ (e : Entry). e.lit) trail k (get_or trail k d) (At-get_or trail k d h)
 
-pub all_seen_more : (seen : List Bool) (c : List Lit) (x : Lit) → AllSeen seen c → IsSeen seen x.var → AllSeen seen (c ++ x ∷ [])
-all_seen_more seen c x a s m i = elim (Contains-push_cases c x m i) [ inl j ↦ a m j | inr e ↦ subst (λ (y : Lit). IsSeen seen y.var) e s ]
+pub all_seen_more : (seen : List Bool) (c : List Lit) (x : Lit) → AllSeen seen c → IsVarSeen seen x.var → AllSeen seen (c ++ x ∷ [])
+all_seen_more seen c x a s m i = elim (Contains-push_cases c x m i) [ inl j ↦ a m j | inr e ↦ subst (λ (y : Lit). IsVarSeen seen y.var) e s ]
 
 pub grow_on : (a b c : List Bool) → Grow a b → Grow b c → Grow a c
 grow_on a b c g h = record { same = h.same ∙ g.same; more = λ v s. h.more v (g.more v s) }
 
-pub seen_cases : (seen : List Bool) (v w : ℕ) → v < length seen → IsSeen (set seen v true) w → (w ≡ v) ⊎ IsSeen seen w
+pub seen_cases : (seen : List Bool) (v w : ℕ) → v < length seen → IsVarSeen (set seen v true) w → (w ≡ v) ⊎ IsVarSeen seen w
 seen_cases seen v w h s = elim (cases_eq w v) [
   | inl e ↦ inl e
   | inr n ↦ inr (sym (get_or-set_other seen v w true false n) ∙ s)
 ]
 
-pub seen_more : (seen : List Bool) (v w : ℕ) → v < length seen → IsSeen seen w → IsSeen (set seen v true) w
+pub seen_more : (seen : List Bool) (v w : ℕ) → v < length seen → IsVarSeen seen w → IsVarSeen (set seen v true) w
 seen_more seen v w range s = elim (cases_eq w v) [
-  | inl e ↦ subst (λ (n : ℕ). IsSeen (set seen v true) n) (sym e) (get_or-set_same seen v true false range)
+  | inl e ↦ subst (λ (n : ℕ). IsVarSeen (set seen v true) n) (sym e) (get_or-set_same seen v true false range)
   | inr n ↦ get_or-set_other seen v w true false n ∙ s
 ]
 

@@ -1,36 +1,37 @@
 -- What is learnt from a conflict: the first unique implication point (Marques-Silva and Sakallah, 1996; Moskewicz and others, 2001).
 use Rattle.search_trail.specs.Trail.{At, held, EndIs}
-use Rattle.std.specs.Prelude.{◌≡◌, ◌<◌, ◌≤◌, ◌+◌, ℕ, Bool, ℤ, pos, ◌⊎◌, List, [], ◌∷◌, ◌++◌, Some, length, map, Contains, take}
+use Rattle.std.specs.Prelude.{◌≡◌, ◌≢◌, ◌<◌, ◌≤◌, ◌+◌, ℕ, Bool, ℤ, pos, ◌⊎◌, List, [], ◌∷◌, ◌++◌, Some, None, length, map, Contains, take}
 use Rattle.cnf_form.specs.declared.formula.Lit.{Lit}
 use Rattle.cnf_form.specs.Literals.{Denied, AllDenied, OthersDenied, IsUnit, opposite}
 use Rattle.cnf_form.specs.Spent.{NoVarTwice}
 use Rattle.search_trail.specs.declared.trail.Entry.{Entry}
 use Rattle.search_trail.specs.declared.analysis.SeenMarks.{SeenMarks}
-use Rattle.search_trail.specs.Marks.{IsSeen, AllMet}
+use Rattle.search_trail.specs.Marks.{IsVarSeen, AllMet}
 
 -- the variable of each literal is marked
 abbrev pub AllSeen : List Bool → List Lit → Type 0
-AllSeen seen c = (m : Lit) → Contains c m → IsSeen seen m.var
+AllSeen seen c = (m : Lit) → Contains c m → IsVarSeen seen m.var
 
 -- no literal from the one place up to the other is marked
 abbrev pub NoneSeen : List Lit → ℕ → ℕ → List Bool → Type 0
-NoneSeen t start end seen = (p : ℕ) (l : Lit) → start ≤ p → p < end → At t p l → IsSeen seen l.var → ⊥
+NoneSeen t start end seen = (p : ℕ) (l : Lit) → start ≤ p → p < end → At t p l → IsVarSeen seen l.var → ⊥
 
 -- at most so many literals from the one place up to the other are marked
 pub record AtMostSeen (t : List Lit) (start end : ℕ) (seen : List Bool) (count : ℕ) : Type 0 where
   pub places : List ℕ
   pub few : length places ≤ count
-  pub all : (p : ℕ) (l : Lit) → start ≤ p → p < end → At t p l → IsSeen seen l.var → Contains places p
+  pub all : (p : ℕ) (l : Lit) → start ≤ p → p < end → At t p l → IsVarSeen seen l.var → Contains places p
 
--- the marks of an analysis: all that are made are among those met, and no more are left than were met
-pub record AreMarks (m : SeenMarks) : Type 0 where
+-- the marks of an analysis over so many variables: all that are made are among those met, and no more are left than were met
+pub record AreMarks (n : ℕ) (m : SeenMarks) : Type 0 where
+  pub room : length m.seen.items ≡ n
   pub met : AllMet m.seen.items m.met.items
   pub few : m.left ≤ length m.met.items
 
 -- marks are only added
 pub record Grow (seen seen' : List Bool) : Type 0 where
   pub same : length seen' ≡ length seen
-  pub more : (v : ℕ) → IsSeen seen v → IsSeen seen' v
+  pub more : (v : ℕ) → IsVarSeen seen v → IsVarSeen seen' v
 
 -- the entry's literal was forced by a clause, whose other literals were denied before it
 pub record IsForcedBy (db : List (List Lit)) (t : List Lit) (p : ℕ) (e : Entry) : Type 0 where
@@ -41,12 +42,17 @@ pub record IsForcedBy (db : List (List Lit)) (t : List Lit) (p : ℕ) (e : Entry
   pub inside : Contains clause e.lit
   pub others : OthersDenied (take p t) clause e.lit
 
--- each entry after the level's first was forced
-abbrev pub AreForcedAfter : List (List Lit) → List Entry → ℕ → Type 0
-AreForcedAfter db trail start = (p : ℕ) (e : Entry) → start < p → At trail p e → IsForcedBy db (held trail) p e
+-- the entry at the place names a reason, so it is no decision
+abbrev pub IsForcedAt : List Entry → ℕ → Type 0
+IsForcedAt trail p = (e : Entry) → At trail p e → e.reason ≢ None
 
-abbrev pub IsForcedAt : List (List Lit) → List Entry → ℕ → Type 0
-IsForcedAt db trail p = (e : Entry) → At trail p e → IsForcedBy db (held trail) p e
+-- the entry at the place names this one
+abbrev pub IsReasonAt : List Entry → ℕ → ℕ → Type 0
+IsReasonAt trail p r = (e : Entry) → At trail p e → e.reason ≡ Some r
+
+-- those from the place on name reasons
+abbrev pub AreForcedFrom : List Entry → ℕ → Type 0
+AreForcedFrom trail from = (p : ℕ) → from ≤ p → IsForcedAt trail p
 
 -- an entry that names a reason was forced by it
 abbrev pub AreReasons : List (List Lit) → List Entry → Type 0
@@ -80,13 +86,9 @@ pub record IsLearntClause (db : List (List Lit)) (t : List Lit) (start : ℕ) (l
 -- With literals of the trail that deny the kept ones and hold each marked one before `place`, the hints pass.
 pub record Works (db : List (List Lit)) (t : List Lit) (seen : List Bool) (lits : List Lit) (place : ℕ) (hints : List ℤ) : Type 0 where
   pub chain : (have' : List Lit) → ((l : Lit) → Contains have' l → Contains t l) → ((m : Lit) → Contains lits m → Denied have' m)
-      → ((p : ℕ) (l : Lit) → p < place → At t p l → IsSeen seen l.var → Contains have' l) → ChainPasses db have' hints
-
--- The clause at the place forced the literal at a place of the trail.
-abbrev pub IsReasonAt : List (List Lit) → List Lit → ℕ → ℕ → Type 0
-IsReasonAt db t at reason = (x : Lit) → At t at x → (c : List Lit) × At db reason c × Contains c x × OthersDenied (take at t) c x
+      → ((p : ℕ) (l : Lit) → p < place → At t p l → IsVarSeen seen l.var → Contains have' l) → ChainPasses db have' hints
 
 -- denied literals of the trail, kept on a walk from the one place down to the other
-pub record AreKept (t : List Lit) (start place : ℕ) (lits : List Lit) : Type 0 where
+pub record AreKeptLiterals (t : List Lit) (start place : ℕ) (lits : List Lit) : Type 0 where
   pub from : (m : Lit) → Contains lits m → (p : ℕ) × (place ≤ p) × (p < start) × At t p (opposite m)
   pub once : NoVarTwice lits

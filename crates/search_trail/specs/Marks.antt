@@ -1,13 +1,13 @@
 -- Marks of variables.
 use Rattle.std.specs.Prelude.{◌≡◌, ℕ, Bool, true, false, List, slice_index_or, Contains}
 
-abbrev pub IsSeen : List Bool → ℕ → Type 0
-IsSeen seen v = slice_index_or seen v false ≡ true
+abbrev pub IsVarSeen : List Bool → ℕ → Type 0
+IsVarSeen seen v = slice_index_or seen v false ≡ true
 
 -- no variable is marked
 abbrev pub AllClear : List Bool → Type 0
-AllClear seen = (v : ℕ) → IsSeen seen v → ⊥
+AllClear seen = (v : ℕ) → IsVarSeen seen v → ⊥
 
 -- the list has each variable that is marked
 abbrev pub AllMet : List Bool → List ℕ → Type 0
-AllMet seen met = (v : ℕ) → IsSeen seen v → Contains met v
+AllMet seen met = (v : ℕ) → IsVarSeen seen v → Contains met v

@@ -13,7 +13,7 @@ abbrev pub held : List Entry → List Lit
 held trail = map (λ e. e.lit) trail
 
 -- each variable's place on the trail, if it has one
-pub record ArePlaces (t : List Lit) (places : List (Option ℕ)) : Type 0 where
+pub record AreTrailPlaces (t : List Lit) (places : List (Option ℕ)) : Type 0 where
   pub right : (v p : ℕ) → slice_index_or places v None ≡ Some p → (p < length t) × ((l : Lit) → At t p l → l.var ≡ v)
   pub every : (p : ℕ) (l : Lit) → At t p l → slice_index_or places l.var None ≡ Some p
 
@@ -41,8 +41,8 @@ abbrev pub IsConsistent : List Lit → Type 0
 IsConsistent t = (l : Lit) → Contains t l → Denied t l → ⊥
 
 -- the variable has no literal in the list
-abbrev pub IsOpen : List Lit → ℕ → Type 0
-IsOpen t n = HasVar t n → ⊥
+abbrev pub IsUnassigned : List Lit → ℕ → Type 0
+IsUnassigned t n = HasVar t n → ⊥
 
 -- what comes before `end` denies the literals, and no less does
 pub record EndIs (t c : List Lit) (end : ℕ) : Type 0 where

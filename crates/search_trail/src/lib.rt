@@ -4,6 +4,7 @@
 #![tactic(auto)]
 
 mod analysis;
+mod implications;
 pub mod order;
 pub mod restart;
 mod seen;
@@ -11,6 +12,7 @@ mod shorten;
 mod trail;
 pub mod usage;
 
-pub use analysis::{LearntClause, analyze, refute};
+pub use analysis::LearntClause;
+pub use implications::Implications;
 pub use seen::SeenBuffer;
 pub use trail::{Entry, cut, enqueue, lit_at, literals_at, truth_of, value_at};

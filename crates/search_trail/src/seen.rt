@@ -1,7 +1,7 @@
 //! The marks of the variables that an analysis has seen; they are clear between analyses.
 
 ghost use Rattle.std.specs.Prelude.{◌≡◌, ◌≢◌, ℕ, length, IfOk};
-ghost use Rattle.search_trail.specs.Marks.{IsSeen, AllClear, AllMet};
+ghost use Rattle.search_trail.specs.Marks.{IsVarSeen, AllClear, AllMet};
 
 use cqa_value::NoMemory;
 use std::alloc::Global;
@@ -35,7 +35,7 @@ pub(crate) fn all_clear(alloc: Global, len: usize) -> Result<Vec<bool>, NoMemory
 
 /// Clears the mark of a variable.
 fn clear_mark(seen: &mut Vec<bool>, var: u32)
-    ensures { (v : ℕ) → IsSeen seen.new.items v → IsSeen seen.old.items v × (v ≢ var) }
+    ensures { (v : ℕ) → IsVarSeen seen.new.items v → IsVarSeen seen.old.items v × (v ≢ var) }
 {
     if (var as usize) < seen.len() {
         seen[var as usize] = false;

@@ -5,7 +5,7 @@ use Rattle.cnf_form.specs.declared.formula.Clause.{Clause}
 use Rattle.cnf_form.specs.Literals.{literals}
 use Rattle.search_trail.specs.declared.trail.Entry.{Entry}
 use Rattle.search_trail.specs.Trail.{At, held}
-use Rattle.cdcl.specs.State.{IsState}
+use Rattle.cdcl.specs.State.{IsSearchState}
 use Rattle.cdcl.specs.Looking.{CanWatch, IsPairFor}
 use Rattle.cdcl.proofs.States.{state_learnt, length_held}
 use Rattle.cdcl.proofs.Learning.{learnt_watchful, learnt_base, learnt_pair}
@@ -19,7 +19,7 @@ force-requires-clause-sound c =
     let clause : Clause = record { lits = c.from_vec.result } in
     let more : literals c.push.new.self.items ≡ literals old ++ lits ∷ [] =
     ap literals c.in_ok-push.ensures.items ∙ map-append (λ (x : Clause). x.lits) old (clause ∷ []) ∙ ap (λ (x : List Lit). literals old ++ x ∷ []) c.from_vec.ensures in
-    subst (λ (d : List (List Lit)). IsState d s.trail.items s.places.items s.level_starts.items) (sym more)
+    subst (λ (d : List (List Lit)). IsSearchState d s.trail.items s.places.items s.level_starts.items) (sym more)
     (state_learnt (literals old) s.trail.items s.places.items s.level_starts.items lits c.requires.ready.watchful.sound c.requires.range c.requires.low)
 
 pub attach_none-requires-clause-watchful : goal.attach_none-requires-clause-watchful

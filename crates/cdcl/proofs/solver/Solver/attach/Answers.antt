@@ -4,7 +4,7 @@ use Rattle.cnf_form.specs.declared.formula.Lit.{Lit}
 use Rattle.cnf_form.specs.Literals.{literals}
 use Rattle.cdcl.specs.declared.watch.Pair.{Pair}
 use Rattle.search_trail.specs.Trail.{held}
-use Rattle.cdcl.specs.Watching.{IsListed, IsWatching, IsPaired, AreLists, code_of, listed_at}
+use Rattle.cdcl.specs.Watching.{IsWatchListed, IsWatching, IsPaired, AreLists, code_of, listed_at}
 use Rattle.search_trail.proofs.Works.{At-contains}
 use Rattle.cdcl.proofs.WatchState.{code_small, watching_attach, watching_relist, listed_more, listed_new}
 use Rattle.cdcl.proofs.LookState.{lists_wider, lists_more}
@@ -45,12 +45,12 @@ returns-clause-watchful c =
     let two : c.push_index-2.new.lists.items ≡ both =
     c.in_ok-push_index-2.ensures ∙ ap (λ (i : ℕ). listed_at c.push_index.new.lists.items i c.len-index.result) c.code-2.ensures
     ∙ ap (λ (i : ℕ). listed_at c.push_index.new.lists.items (code_of b) i) index ∙ ap (λ (ls : List (List ℕ)). listed_at ls (code_of b) k) one in
-    let more : (l : Lit) (j : ℕ) → IsListed self.lists.items l j → IsListed both l j = λ l j r.
+    let more : (l : Lit) (j : ℕ) → IsWatchListed self.lists.items l j → IsWatchListed both l j = λ l j r.
     listed_more first (code_of b) k l j (listed_more self.lists.items (code_of a) k l j r) in
     let range_a = code_small a n (w.sound.db_in p.0 (At-contains _ _ _ p.1) a p.2) in
     let range_b = code_small b n (w.sound.db_in p.0 (At-contains _ _ _ p.1) b p.3) in
     let room : length first ≡ length self.lists.items = length-set self.lists.items (code_of a) (get_or self.lists.items (code_of a) [] ++ k ∷ []) in
-    let paired : IsPaired (IsListed both) (held self.trail.items) self.level_starts.items self.head k p.0 pair = record {
+    let paired : IsPaired (IsWatchListed both) (held self.trail.items) self.level_starts.items self.head k p.0 pair = record {
       apart = p.4.0;
       first = p.4.1;
       second = p.4.2;
@@ -59,10 +59,10 @@ returns-clause-watchful c =
     } in
     record {
       sound = w.sound;
-      watching = subst (λ (ps : List Pair). IsWatching (IsListed c.push_index-2.new.lists.items) self.permanent (literals self.clauses.items) (held self.trail.items) self.level_starts.items self.head ps) (sym new)
-          (subst (λ (ls : List (List ℕ)). IsWatching (IsListed ls) self.permanent (literals self.clauses.items) (held self.trail.items) self.level_starts.items self.head (self.pairs.items ++ pair ∷ [])) (sym two)
-          (watching_attach (IsListed both) (literals self.clauses.items) (held self.trail.items) self.level_starts.items self.head self.pairs.items p.0 pair p.1 p.2 p.3 (inr paired)
-          (watching_relist (IsListed self.lists.items) (IsListed both) (literals self.clauses.items) (held self.trail.items) self.level_starts.items self.head self.pairs.items more w.watching)));
+      watching = subst (λ (ps : List Pair). IsWatching (IsWatchListed c.push_index-2.new.lists.items) self.permanent (literals self.clauses.items) (held self.trail.items) self.level_starts.items self.head ps) (sym new)
+          (subst (λ (ls : List (List ℕ)). IsWatching (IsWatchListed ls) self.permanent (literals self.clauses.items) (held self.trail.items) self.level_starts.items self.head (self.pairs.items ++ pair ∷ [])) (sym two)
+          (watching_attach (IsWatchListed both) (literals self.clauses.items) (held self.trail.items) self.level_starts.items self.head self.pairs.items p.0 pair p.1 p.2 p.3 (inr paired)
+          (watching_relist (IsWatchListed self.lists.items) (IsWatchListed both) (literals self.clauses.items) (held self.trail.items) self.level_starts.items self.head self.pairs.items more w.watching)));
       lists = subst (λ (ps : List Pair). AreLists c.push_index-2.new.lists.items n (length ps)) (sym new)
           (subst (λ (ls : List (List ℕ)). AreLists ls n (length (self.pairs.items ++ pair ∷ []))) (sym two)
           (let l = length_push self.pairs.items pair in

@@ -4,7 +4,7 @@ use Rattle.cnf_form.specs.Literals.{literals, Denied}
 use Rattle.search_trail.specs.declared.trail.Entry.{Entry}
 use Rattle.cdcl.specs.declared.solver.Solver.{Solver}
 use Rattle.std.specs.Prelude.{Contains}
-use Rattle.search_trail.specs.Trail.{IsOpen, At, held}
+use Rattle.search_trail.specs.Trail.{IsUnassigned, At, held}
 use Rattle.cdcl.specs.Watching.{IsBase}
 use Rattle.cdcl.specs.Looking.{IsWatchful, CanWatch}
 use Rattle.search_trail.proofs.Works.{At-contains}
@@ -37,7 +37,7 @@ force-requires-clause-forced c =
     let k = c.len-index.result in
     let xs = c.literals_at.result.now in
     let at : At (literals s.clauses.items) k xs = subst (λ (cs : List Clause). At (literals cs) k xs) c.as_slice.ensures.value c.literals_at.ensures in
-    let o : IsOpen (held s.trail.items) c.in-One.lit.var = subst (λ (es : List Entry). IsOpen (held es) c.in-One.lit.var) c.as_slice-in-One.ensures.value (c.in-Open.ensures.open refl) in
+    let o : IsUnassigned (held s.trail.items) c.in-One.lit.var = subst (λ (es : List Entry). IsUnassigned (held es) c.in-One.lit.var) c.as_slice-in-One.ensures.value (c.in-Open.ensures.open refl) in
     forced_one s k xs c.in-One.lit at c.in-One.ensures.0 c.in-One.ensures.1 o
 
 pub attach_none-requires-clause-watchful : goal.attach_none-requires-clause-watchful

@@ -3,7 +3,7 @@ use Rattle.std.proofs.lemmas.List.{length_push}
 use Rattle.cnf_form.specs.Literals.{literals}
 use Rattle.cdcl.specs.declared.watch.Pair.{Pair}
 use Rattle.search_trail.specs.Trail.{held}
-use Rattle.cdcl.specs.Watching.{IsListed, IsWatching, AreLists}
+use Rattle.cdcl.specs.Watching.{IsWatchListed, IsWatching, AreLists}
 use Rattle.cdcl.proofs.WatchState.{watching_attach}
 use Rattle.cdcl.proofs.LookState.{lists_wider}
 use Rattle.cdcl.proofs.solver.Solver.attach_none.Goals as goal
@@ -17,8 +17,8 @@ returns-clause-watchful c =
     let w = c.requires.watchful in
     record {
       sound = w.sound;
-      watching = subst (λ (ps : List Pair). IsWatching (IsListed self.lists.items) self.permanent (literals self.clauses.items) (held self.trail.items) self.level_starts.items self.head ps) (sym new)
-          (watching_attach (IsListed self.lists.items) (literals self.clauses.items) (held self.trail.items) self.level_starts.items self.head self.pairs.items b.0 pair
+      watching = subst (λ (ps : List Pair). IsWatching (IsWatchListed self.lists.items) self.permanent (literals self.clauses.items) (held self.trail.items) self.level_starts.items self.head ps) (sym new)
+          (watching_attach (IsWatchListed self.lists.items) (literals self.clauses.items) (held self.trail.items) self.level_starts.items self.head self.pairs.items b.0 pair
           b.1 b.2 b.3 (inl b.4) w.watching);
       lists = subst (λ (ps : List Pair). AreLists self.lists.items (length self.places.items) (length ps)) (sym new)
           (lists_wider self.lists.items (length self.places.items) (length self.pairs.items) (length (self.pairs.items ++ pair ∷ [])) (let l = length_push self.pairs.items pair in omega (arith, l)) w.lists);

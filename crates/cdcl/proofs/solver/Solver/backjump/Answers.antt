@@ -2,6 +2,7 @@ use Rattle.std.proofs.Common.{◌≡◌, ◌-◌, ◌≤◌, ℕ, List, ◌∙�
 use Rattle.search_trail.specs.declared.trail.Entry.{Entry}
 use Rattle.search_trail.specs.Trail.{held}
 use Rattle.cdcl.proofs.States.{take_cut, prefix_more, last_is}
+use Rattle.cdcl.proofs.Visiting.{formula_more}
 use Rattle.cdcl.proofs.solver.Solver.backjump.Goals as goal
 
 pub loop-self-preserved : goal.loop-self-preserved
@@ -15,9 +16,7 @@ loop-self-preserved c =
     let h : c.args.end ≤ s = omega (arith, last, c.if-index-end.true) in
     record {
       ready = c.leave_level.ensures.ready;
-      clauses = c.leave_level.ensures.clauses ∙ c.loop-self.invariant.clauses;
-      permanent = c.leave_level.ensures.permanent ∙ c.loop-self.invariant.permanent;
-      len = c.leave_level.ensures.len ∙ c.loop-self.invariant.len;
+      same = formula_more c.args.self.now old c.leave_level.new.self c.loop-self.invariant.same c.leave_level.ensures.same;
       kept = ap (λ (es : List Entry). take c.args.end (held es)) l.2 ∙ take_cut c.args.end s old.trail.items h ∙ c.loop-self.invariant.kept;
       fewer = prefix_more c.leave_level.new.self.trail.items old.trail.items c.args.self.now.trail.items s l.2 c.loop-self.invariant.fewer;
     }

@@ -1,15 +1,13 @@
 use Rattle.std.proofs.Common.{◌≡◌, length, take}
 use Rattle.search_trail.specs.Trail.{held}
-use Rattle.cdcl.specs.Looking.{IsReady}
+use Rattle.cdcl.specs.Looking.{IsReady, IsSameFormula}
 use Rattle.cdcl.specs.Visits.{IsPrefix}
 use Rattle.cdcl.proofs.solver.Solver.backjump.Given as goal
 
 abbrev pub invariant-loop-self : goal.invariant-loop-self
 invariant-loop-self l = record {
   ready : IsReady l.self;
-  clauses : l.self.clauses ≡ l.initial.self.clauses;
-  permanent : l.self.permanent ≡ l.initial.self.permanent;
-  len : length l.self.places.items ≡ length l.initial.self.places.items;
+  same : IsSameFormula l.initial.self l.self;
   kept : take l.end (held l.self.trail.items) ≡ take l.end (held l.initial.self.trail.items);
   fewer : IsPrefix l.self.trail.items l.initial.self.trail.items;
 }

@@ -2,9 +2,9 @@ use Rattle.std.proofs.Common.{◌≡◌, ◌++◌, ◌∷◌, [], ℕ, None, ref
 use Rattle.cnf_form.specs.declared.formula.Lit.{Lit}
 use Rattle.cnf_form.specs.Literals.{literals}
 use Rattle.search_trail.specs.declared.trail.Entry.{Entry}
-use Rattle.search_trail.specs.Trail.{held, ArePlaces}
-use Rattle.cdcl.specs.State.{IsState}
-use Rattle.cdcl.specs.Watching.{IsListed, IsWatching, AreLists}
+use Rattle.search_trail.specs.Trail.{held, AreTrailPlaces}
+use Rattle.cdcl.specs.State.{IsSearchState}
+use Rattle.cdcl.specs.Watching.{IsWatchListed, IsWatching, AreLists}
 use Rattle.cdcl.proofs.States.{state_decided, held_push, length_held}
 use Rattle.cdcl.proofs.WatchState.{watching_level, watching_put}
 use Rattle.cdcl.proofs.solver.Solver.decide.Goals as goal
@@ -15,7 +15,7 @@ returns-clause-ready c =
     let entry : Entry = record { lit = record { var = c.args.var; positive = c.value.result }; reason = None } in
     let db = literals self.clauses.items in
     let trail = self.trail.items in
-    let R = IsListed self.lists.items in
+    let R = IsWatchListed self.lists.items in
     let ready = c.requires.ready in
     let e = c.in_ok-enqueue.ensures.trail in
     let start : length trail ≡ c.len-start.result = omega (arith, c.len-start.ensures, self.trail.ok) in
@@ -25,11 +25,11 @@ returns-clause-ready c =
     let len = length_held trail in
     record {
       watchful = record {
-        sound = subst (λ (ss : List ℕ). IsState db c.enqueue.new.trail.items c.enqueue.new.places.items ss) level_starts
-            (subst (λ (es : List Entry). IsState db es c.enqueue.new.places.items (self.level_starts.items ++ length trail ∷ [])) (sym e)
+        sound = subst (λ (ss : List ℕ). IsSearchState db c.enqueue.new.trail.items c.enqueue.new.places.items ss) level_starts
+            (subst (λ (es : List Entry). IsSearchState db es c.enqueue.new.places.items (self.level_starts.items ++ length trail ∷ [])) (sym e)
             (state_decided db trail self.places.items c.enqueue.new.places.items self.level_starts.items entry
             ready.watchful.sound refl c.requires.low c.requires.range
-            (subst (λ (es : List Entry). ArePlaces (held es) c.enqueue.new.places.items) e c.in_ok-enqueue.ensures.places) c.enqueue.ensures.len));
+            (subst (λ (es : List Entry). AreTrailPlaces (held es) c.enqueue.new.places.items) e c.in_ok-enqueue.ensures.places) c.enqueue.ensures.len));
         watching = subst (λ (ss : List ℕ). IsWatching R self.permanent db (held c.enqueue.new.trail.items) ss self.head self.pairs.items) level_starts
             (subst (λ (xs : List Lit). IsWatching R self.permanent db xs (self.level_starts.items ++ length trail ∷ []) self.head self.pairs.items) (sym t)
             (watching_put R db (held trail) (self.level_starts.items ++ length trail ∷ []) self.head self.pairs.items entry.lit

@@ -1,7 +1,7 @@
 use Rattle.std.proofs.Common.{◌∙◌, List, sym, subst, arith}
 use Rattle.std.specs.Prelude.{Contains, take}
 use Rattle.cnf_form.specs.declared.formula.Lit.{Lit}
-use Rattle.cdcl.specs.Settled.{IsSettled}
+use Rattle.cdcl.specs.Settled.{IsSettledClause}
 use Rattle.search_trail.specs.Trail.{held, AllLow}
 use Rattle.cdcl.specs.Looks.{IsForced}
 use Rattle.cdcl.proofs.Jump.{learn_facts, learnt_last}
@@ -11,7 +11,7 @@ pub add_learnt-requires-clause-range : goal.add_learnt-requires-clause-range
 add_learnt-requires-clause-range c x i =
     let f = learn_facts c.args.self.now c.leave_level.new.self c.backjump.new.self c.args.learnt.now c.requires.ready.watchful c.requires.learnt c.leave_level.ensures.leave c.backjump.ensures.fewer c.backjump.ensures.kept in
     let r = f.line.range x (subst (λ (xs : List Lit). Contains xs x) (c.in_ok-lits.ensures.items ∙ c.as_slice.ensures.value) i) in
-    omega (arith, r, c.leave_level.ensures.len, c.backjump.ensures.len)
+    omega (arith, r, c.leave_level.ensures.same.len, c.backjump.ensures.same.len)
 
 pub add_learnt-requires-clause-low : goal.add_learnt-requires-clause-low
 add_learnt-requires-clause-low c =
@@ -26,7 +26,7 @@ add_learnt-requires-clause-forced c =
 pub add_learnt-requires-clause-settled : goal.add_learnt-requires-clause-settled
 add_learnt-requires-clause-settled c s i =
     let f = learn_facts c.args.self.now c.leave_level.new.self c.backjump.new.self c.args.learnt.now c.requires.ready.watchful c.requires.learnt c.leave_level.ensures.leave c.backjump.ensures.fewer c.backjump.ensures.kept in
-    subst (λ (xs : List Lit). IsSettled (take s (held c.backjump.new.self.trail.items)) xs) (sym (c.in_ok-lits.ensures.items ∙ c.as_slice.ensures.value)) (f.settled s (c.backjump.ensures.below s i))
+    subst (λ (xs : List Lit). IsSettledClause (take s (held c.backjump.new.self.trail.items)) xs) (sym (c.in_ok-lits.ensures.items ∙ c.as_slice.ensures.value)) (f.settled s (c.backjump.ensures.below s i))
 
 pub add_learnt-requires-clause-last : goal.add_learnt-requires-clause-last
 add_learnt-requires-clause-last c k e =

@@ -21,7 +21,7 @@ loop-at-init c =
       order = omega arith;
       len = omega (arith, c.len-at-end.ensures, t.result.ok);
       looking = first_at s c.args.lit t.new.lists t.result.items c.requires.ready c.requires.next own left;
-      stays = record { clauses = refl; permanent = refl; level_starts = refl; head = refl; count = refl; len = refl };
+      stays = record { formula = record { clauses = refl; permanent = refl; len = refl }; level_starts = refl; head = refl; count = refl };
       grows = grown_same (held s.trail.items);
     }
 
@@ -49,7 +49,7 @@ returns-in-Conflict c =
     let stays = stays_more old c.loop-at.self s c.loop-at.invariant.stays c.visit.ensures.stays in
     record {
       ready = last_at s c.args.lit c.put_list.new.lists (take kept list) (x ∷ drop (at + 1) list) c.close_gap.new.list.items (stays_all old s stays c.requires.ready.all) own put f.0;
-      stays = record { clauses = stays.clauses; permanent = stays.permanent; level_starts = stays.level_starts; head = stays.head; count = stays.count; len = stays.len };
+      stays = record { formula = record { clauses = stays.formula.clauses; permanent = stays.formula.permanent; len = stays.formula.len }; level_starts = stays.level_starts; head = stays.head; count = stays.count };
       grows = grown_more (held old.trail.items) (held c.loop-at.self.trail.items) (held s.trail.items) c.loop-at.invariant.grows c.in_ok-visit.ensures.grows;
       conflict = f.1;
     }

@@ -5,7 +5,7 @@ use Rattle.cnf_form.specs.declared.formula.Cnf.{Cnf}
 use Rattle.cnf_form.specs.declared.formula.Lit.{Lit}
 use Rattle.cnf_form.specs.Literals.{literals}
 use Rattle.search_trail.specs.Trail.{AllLow, AreAllInRange}
-use Rattle.cdcl.specs.Watching.{IsListed, AreLists}
+use Rattle.cdcl.specs.Watching.{IsWatchListed, AreLists}
 use Rattle.cdcl.proofs.Values.{state_first, watching_first}
 use Rattle.cdcl.proofs.solver.Solver.new.Goals as goal
 
@@ -23,7 +23,7 @@ returns-clause-new c =
             (state_first db n
             (subst (λ (d : List (List Lit)). AreAllInRange d n) same c.requires.range)
             (subst (λ (d : List (List Lit)). (x : List Lit) → Contains d x → AllLow x) same c.requires.low));
-        watching = rw (c.new-2.ensures.items, c.new-3.ensures.items, c.new-4.ensures.items) (watching_first (IsListed lists) db);
+        watching = rw (c.new-2.ensures.items, c.new-3.ensures.items, c.new-4.ensures.items) (watching_first (IsWatchListed lists) db);
         lists = rw c.new-4.ensures.items (subst (λ (m : ℕ). AreLists lists m 0) len c.in_ok-lists.ensures);
       };
       first = record { level_starts = c.new-3.ensures.items; head = refl };

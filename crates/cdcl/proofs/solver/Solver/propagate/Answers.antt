@@ -5,7 +5,7 @@ use Rattle.cnf_form.proofs.Lits.{opposite-opposite}
 use Rattle.search_trail.specs.declared.trail.Entry.{Entry}
 use Rattle.search_trail.specs.Trail.{At, held}
 use Rattle.cdcl.specs.Looking.{LookedIs}
-use Rattle.cdcl.proofs.Visiting.{grown_at, grown_long, next_at, still_at, fits_at}
+use Rattle.cdcl.proofs.Visiting.{formula_more, grown_at, grown_long, next_at, still_at, fits_at}
 use Rattle.cdcl.proofs.solver.Solver.propagate.Goals as goal
 
 pub look_through-requires-clause-next : goal.look_through-requires-clause-next
@@ -30,21 +30,20 @@ loop-self-preserved c =
     let pending : LookedIs s' lit None = subst (λ (r : Option ℕ). LookedIs s' lit r) c.in-None.is done.conflict in
     let there = grown_at (held s.trail.items) (held s'.trail.items) s.head s'.head (opposite lit) grows stays.head next in
     let i = c.loop-self.invariant in
+    let same = formula_more c.args.self.now s s' i.same stays.formula in
     let longer = grown_long s.trail.items s'.trail.items grows in
     record {
       ready = next_at s' (s'.head + 1) lit refl there pending done.ready;
       grows = omega (arith, longer, i.grows);
-      clauses = stays.clauses ∙ i.clauses;
+      same = record { clauses = same.clauses; permanent = same.permanent; len = same.len };
       level_starts = stays.level_starts ∙ i.level_starts;
-      permanent = stays.permanent ∙ i.permanent;
-      len = stays.len ∙ i.len;
     }
 
 pub loop-self-smaller : goal.loop-self-smaller
 loop-self-smaller c =
     let f = fits_at c.loop-self.self c.loop-self.invariant.ready in
     let stays = c.look_through.ensures.stays in
-    omega (arith, f, c.loop-self-test.true, c.len.ensures, c.loop-self.self.trail.ok, stays.len, stays.head)
+    omega (arith, f, c.loop-self-test.true, c.len.ensures, c.loop-self.self.trail.ok, stays.formula.len, stays.head)
 
 pub returns-clause-conflict : goal.returns-clause-conflict
 returns-clause-conflict c =

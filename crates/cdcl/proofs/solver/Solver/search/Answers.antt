@@ -12,7 +12,7 @@ loop-conflict-smaller c =
     let s = c.in_ok-decide-in-Some-next.ensures.ready.watchful.sound in
     let f = trail_fits (held c.decide.new.self.trail.items) c.decide.new.self.places.items s.places_are s.held_in in
     let h = length_held c.decide.new.self.trail.items in
-    omega (arith, f, h, c.in_ok-decide-in-Some-next.ensures.trail, c.decide.ensures.len, c.propagate.ensures.len, c.in_ok-conflict.ensures.grows)
+    omega (arith, f, h, c.in_ok-decide-in-Some-next.ensures.trail, c.decide.ensures.same.len, c.propagate.ensures.same.len, c.in_ok-conflict.ensures.grows)
 
 pub returns-in-None-clause-found : goal.returns-in-None-clause-found
 returns-in-None-clause-found c =

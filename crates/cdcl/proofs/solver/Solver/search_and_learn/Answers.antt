@@ -12,10 +12,10 @@ pub returns-in-None : goal.returns-in-None
 returns-in-None c =
     let f : SearchIs c.search.new.self None = subst (λ (r : Option ℕ). SearchIs c.search.new.self r) c.in-None.is c.in_ok-search.ensures.found in (
       c.in_ok-search.ensures.ready.watchful.sound,
-      c.search.ensures.len ∙ c.loop-round.invariant.len,
+      c.search.ensures.same.len ∙ c.loop-round.invariant.len,
       modelled (literals c.args.self.now.clauses.items) (learnt c.loop-round.log.items) c.search.new.self c.in_ok-search.ensures.ready.watchful.sound f.0 f.1
-          (omega (arith, c.requires.permanent, c.search.ensures.permanent, c.loop-round.invariant.permanent))
-          (ap (λ (v : Vec Clause Global). literals v.items) c.search.ensures.clauses ∙ c.loop-round.invariant.db),
+          (omega (arith, c.requires.permanent, c.search.ensures.same.permanent, c.loop-round.invariant.permanent))
+          (ap (λ (v : Vec Clause Global). literals v.items) c.search.ensures.same.clauses ∙ c.loop-round.invariant.db),
     )
 
 pub returns-then-is_empty : goal.returns-then-is_empty
@@ -23,14 +23,14 @@ returns-then-is_empty c =
     let count : length c.loop-round.log.items ≤ c.args.budget = omega (arith, c.loop-round.invariant.count, c.loop-round-test.true) in
     refuted_end c.args.self.now.permanent (literals c.args.self.now.clauses.items) (length c.args.self.now.places.items) c.args.budget c.loop-round.log.items c.end.new.log.items
     (literals c.search.new.self.clauses.items) c.in_ok-end-in-Some.ensures c.loop-round.invariant.lines
-    (ap (λ (v : Vec Clause Global). literals v.items) c.search.ensures.clauses ∙ c.loop-round.invariant.db) count
+    (ap (λ (v : Vec Clause Global). literals v.items) c.search.ensures.same.clauses ∙ c.loop-round.invariant.db) count
 
 pub loop-round-preserved : goal.loop-round-preserved
 loop-round-preserved c =
     let before : HasLearnt c.args.self.now c.search.new.self c.loop-round.log.items = record {
-      permanent = c.search.ensures.permanent ∙ c.loop-round.invariant.permanent;
-      len = c.search.ensures.len ∙ c.loop-round.invariant.len;
-      db = ap (λ (v : Vec Clause Global). literals v.items) c.search.ensures.clauses ∙ c.loop-round.invariant.db;
+      permanent = c.search.ensures.same.permanent ∙ c.loop-round.invariant.permanent;
+      len = c.search.ensures.same.len ∙ c.loop-round.invariant.len;
+      db = ap (λ (v : Vec Clause Global). literals v.items) c.search.ensures.same.clauses ∙ c.loop-round.invariant.db;
       lines = c.loop-round.invariant.lines;
     } in
     let after = c.in_ok-add_line-in-Some.ensures.learnt c.args.self.now before in

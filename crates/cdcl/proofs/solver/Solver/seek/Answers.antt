@@ -5,7 +5,7 @@ use Rattle.cnf_form.specs.declared.formula.Clause.{Clause}
 use Rattle.cnf_form.specs.Literals.{literals}
 use Rattle.search_trail.specs.declared.trail.Entry.{Entry}
 use Rattle.search_trail.specs.Trail.{At, held}
-use Rattle.cdcl.specs.Looks.{FoundIs}
+use Rattle.cdcl.specs.Looks.{LookFinds}
 use Rattle.search_trail.proofs.Works.{At-contains, At-same}
 use Rattle.cdcl.proofs.solver.Solver.seek.Goals as goal
 
@@ -27,5 +27,5 @@ pub returns : goal.returns
 returns c d a =
     let b : At (literals c.args.self.now.clauses.items) c.args.index c.literals_at.result.now =
     subst (λ (cs : List Clause). At (literals cs) c.args.index c.literals_at.result.now) c.as_slice-3.ensures.value c.literals_at.ensures in
-    subst (λ (xs : List Lit). FoundIs (held c.args.self.now.trail.items) xs c.args.other c.seek.result) (At-same _ _ _ _ b a)
-    (subst (λ (es : List Entry). FoundIs (held es) c.literals_at.result.now c.args.other c.seek.result) c.as_slice.ensures.value c.seek.ensures)
+    subst (λ (xs : List Lit). LookFinds (held c.args.self.now.trail.items) xs c.args.other c.seek.result) (At-same _ _ _ _ b a)
+    (subst (λ (es : List Entry). LookFinds (held es) c.literals_at.result.now c.args.other c.seek.result) c.as_slice.ensures.value c.seek.ensures)
