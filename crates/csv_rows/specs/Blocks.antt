@@ -15,8 +15,8 @@ use Rattle.cqa_value.specs.declared.value.Value.{Value}
 use Rattle.cqa_value.specs.declared.value.Value.TheVariants.{Int, Text}
 use Rattle.cqa_value.specs.Literals.{int_of}
 use Rattle.cqa_value.specs.Valid.{IsValidText}
-use Rattle.cqa_model.specs.declared.refusal.Refusal.{Refusal}
-use Rattle.cqa_model.specs.declared.refusal.Refusal.TheVariants.{BadCsv}
+use Rattle.refusals.specs.declared.refusal.Refusal.{Refusal}
+use Rattle.refusals.specs.declared.refusal.Refusal.TheVariants.{BadCsv}
 use Rattle.cqa_model.specs.declared.schema.Column.{Column}
 
 -- the value that a field gives a column of the kind: the integer that it writes, or itself as a short text of UTF-8

@@ -10,9 +10,10 @@ ghost use Rattle.csv_rows.specs.Blocks.{HoldsRows, IsRefusedRecord, IsAtStart, k
 
 use crate::plain::plain_rows;
 use crate::record::row_of;
-use cqa_model::{Column, Refusal, Schema};
+use cqa_model::{Column, Schema};
 use cqa_value::{Fail, Items, NoMemory, Row};
 use csv::{ByteRecord, Reader, ReaderBuilder};
+use refusals::Refusal;
 use std::alloc::Global;
 
 /// Reads the next record, and tells whether there was one.

@@ -1,10 +1,16 @@
-//! The order of a table's rows, and how rows are put in it.
+//! Rows by their key values: the order of a table's rows and how rows are put in it, values of rows, and first key values that
+//! are looked for.
 #![tactic(auto)]
 
+mod cells;
 mod compare;
 mod flat;
+mod order;
+mod probe;
 mod settle;
 mod sort;
 
+pub use cells::{cell, passes};
 pub use compare::{block_compare, key_compare};
-pub use sort::sort_rows;
+pub use order::put_in_order;
+pub use probe::Probe;

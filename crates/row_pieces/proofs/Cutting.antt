@@ -6,14 +6,14 @@ use Rattle.std.specs.declared.result.Result.{Result}
 use Rattle.std.specs.declared.result.Result.TheVariants.{Ok, Err}
 use Rattle.std.proofs.lemmas.List.{append-nil, append_assoc, length-append, length-take-le, take-append-drop, take-take, get_or-take, take_more_set, drop-set-lt}
 use Rattle.row_pieces.specs.declared.piece.Piece.{Piece}
-use Rattle.row_pieces.specs.Joined.{joined, AreNumbered}
+use Rattle.row_pieces.specs.Joined.{joined, ArePlaced}
 use Rattle.row_pieces.proofs.Joining.{take_past, joined-append, joined_at, joined_more, numbered_at, numbered_take, numbered_push}
 
 pub at_ok : {T E P : Type 0} (r : Result T E) → is_err r ≡ false → OnOk r P → P
 at_ok (Ok x) e p = p
 at_ok (Err x) e p = cc
 
-module _ (ps : List Piece) (at middle : ℕ) (there : at < length ps) (p : Piece) (is : p ≡ get_or ps at p) (fits : middle ≤ length p.rows) (numbered : AreNumbered 0 (take (at + 1) ps)) where
+module _ (ps : List Piece) (at middle : ℕ) (there : at < length ps) (p : Piece) (is : p ≡ get_or ps at p) (fits : middle ≤ length p.rows) (numbered : ArePlaced 0 (take (at + 1) ps)) where
   pub begins : p.start ≡ length (joined (take at ps))
   begins =
       let long = length-take-le (at + 1) ps (omega (arith, there)) in
@@ -69,12 +69,12 @@ module _ (ps : List Piece) (at middle : ℕ) (there : at < length ps) (p : Piece
         ∙ ap (λ xs. joined (take at ps) ++ (xs ++ behind)) rows
         ∙ sym (joined_at ps at p there ∙ ap (λ z. joined (take at ps) ++ (z.rows ++ behind)) (sym is))
 
-    pub numbered_cut : AreNumbered 0 (take (at + 2) new)
+    pub numbered_cut : ArePlaced 0 (take (at + 2) new)
     numbered_cut =
-        let kept = subst (λ qs. AreNumbered 0 qs) (take-take at (at + 1) ps (omega arith)) (numbered_take 0 (take (at + 1) ps) at numbered) in
+        let kept = subst (λ qs. ArePlaced 0 qs) (take-take at (at + 1) ps (omega arith)) (numbered_take 0 (take (at + 1) ps) at numbered) in
         let start_is : q.start ≡ 0 + length (joined (take at ps)) = q_start ∙ omega (arith, begins) in
         let e = ap length before in
         let sum = length-append (joined (take at ps)) q.rows in
         let len = ap length q_rows in
         let half = length-take-le middle p.rows fits in
-        subst (λ qs. AreNumbered 0 qs) (sym first_two) (numbered_push 0 (take at ps ++ q ∷ []) r (numbered_push 0 (take at ps) q kept start_is) (omega (arith, r_start, e, sum, len, half, begins)))
+        subst (λ qs. ArePlaced 0 qs) (sym first_two) (numbered_push 0 (take at ps ++ q ∷ []) r (numbered_push 0 (take at ps) q kept start_is) (omega (arith, r_start, e, sum, len, half, begins)))

@@ -9,7 +9,7 @@ use Rattle.std.proofs.Math.Seq.{take-append-add, drop-append-add}
 use native.Mathlib.Decide.{dec_lt}
 use Rattle.cqa_value.specs.declared.value.Value.{Value as Cell}
 use Rattle.row_pieces.specs.declared.piece.Piece.{Piece}
-use Rattle.row_pieces.specs.Joined.{joined, AreNumbered, IsPieceOf}
+use Rattle.row_pieces.specs.Joined.{joined, ArePlaced, IsPieceOf}
 
 -- ---- parts of lists that are appended
 
@@ -67,7 +67,7 @@ some_piece (p ∷ ps) l = omega arith
 
 -- ---- the places at which pieces begin
 
-pub numbered_at : (from : ℕ) (ps : List Piece) (i : ℕ) (d : Piece) → AreNumbered from ps → i < length ps → (get_or ps i d).start ≡ from + length (joined (take i ps))
+pub numbered_at : (from : ℕ) (ps : List Piece) (i : ℕ) (d : Piece) → ArePlaced from ps → i < length ps → (get_or ps i d).start ≡ from + length (joined (take i ps))
 numbered_at from [] i d n l = absurd (omega (arith, l))
 numbered_at from (p ∷ ps) zero d n l = let e = n.0 in omega (arith, e)
 numbered_at from (p ∷ ps) (suc i) d n l =
@@ -75,36 +75,36 @@ numbered_at from (p ∷ ps) (suc i) d n l =
     let a = length-append p.rows (joined (take i ps)) in
     omega (arith, e, a)
 
-pub numbered_take : (from : ℕ) (ps : List Piece) (i : ℕ) → AreNumbered from ps → AreNumbered from (take i ps)
+pub numbered_take : (from : ℕ) (ps : List Piece) (i : ℕ) → ArePlaced from ps → ArePlaced from (take i ps)
 numbered_take from ps zero n = tt
 numbered_take from [] (suc i) n = tt
 numbered_take from (p ∷ ps) (suc i) n = (n.0, numbered_take (from + length p.rows) ps i n.1)
 
-pub numbered_drop : (from : ℕ) (ps : List Piece) (i : ℕ) → AreNumbered from ps → AreNumbered (from + length (joined (take i ps))) (drop i ps)
-numbered_drop from ps zero n = let e : from ≡ from + 0 = omega arith in subst (λ k. AreNumbered k ps) e n
+pub numbered_drop : (from : ℕ) (ps : List Piece) (i : ℕ) → ArePlaced from ps → ArePlaced (from + length (joined (take i ps))) (drop i ps)
+numbered_drop from ps zero n = let e : from ≡ from + 0 = omega arith in subst (λ k. ArePlaced k ps) e n
 numbered_drop from [] (suc i) n = tt
 numbered_drop from (p ∷ ps) (suc i) n =
     let a = length-append p.rows (joined (take i ps)) in
     let e : from + length p.rows + length (joined (take i ps)) ≡ from + length (p.rows ++ joined (take i ps)) = omega (arith, a) in
-    subst (λ k. AreNumbered k (drop i ps)) e (numbered_drop (from + length p.rows) ps i n.1)
+    subst (λ k. ArePlaced k (drop i ps)) e (numbered_drop (from + length p.rows) ps i n.1)
 
-pub numbered_push : (from : ℕ) (ps : List Piece) (q : Piece) → AreNumbered from ps → q.start ≡ from + length (joined ps) → AreNumbered from (ps ++ q ∷ [])
+pub numbered_push : (from : ℕ) (ps : List Piece) (q : Piece) → ArePlaced from ps → q.start ≡ from + length (joined ps) → ArePlaced from (ps ++ q ∷ [])
 numbered_push from [] q n e = (omega (arith, e), tt)
 numbered_push from (p ∷ ps) q n e =
     let a = length-append p.rows (joined ps) in
     (n.0, numbered_push (from + length p.rows) ps q n.1 (omega (arith, e, a)))
 
 -- the last piece may have other rows
-pub numbered_reset : (from : ℕ) (ps : List Piece) (at : ℕ) (p q : Piece) → length ps ≡ at + 1 → p ≡ get_or ps at p → q.start ≡ p.start → AreNumbered from ps → AreNumbered from (take (length ps) (set ps at q))
+pub numbered_reset : (from : ℕ) (ps : List Piece) (at : ℕ) (p q : Piece) → length ps ≡ at + 1 → p ≡ get_or ps at p → q.start ≡ p.start → ArePlaced from ps → ArePlaced from (take (length ps) (set ps at q))
 numbered_reset from ps at p q last is e numbered =
     let there : at < length ps = omega (arith, last) in
     let start = numbered_at from ps at p numbered there in
     let front : take (length ps) (set ps at q) ≡ take at ps ++ q ∷ [] = ap (λ n. take n (set ps at q)) last ∙ take_more_set ps at q there in
-    subst (λ qs. AreNumbered from qs) (sym front) (numbered_push from (take at ps) q (numbered_take from ps at numbered) (e ∙ ap (λ z. z.start) is ∙ start))
+    subst (λ qs. ArePlaced from qs) (sym front) (numbered_push from (take at ps) q (numbered_take from ps at numbered) (e ∙ ap (λ z. z.start) is ∙ start))
 
 -- ---- the piece for a place
 
-module _ (from : ℕ) (ps : List Piece) (numbered : AreNumbered from ps) (place : ℕ) where
+module _ (from : ℕ) (ps : List Piece) (numbered : ArePlaced from ps) (place : ℕ) where
   pub parted : IsPartitionedBy (λ piece. leb piece.start place) ps
   parted i j d l w t =
       let late = leb-true (get_or ps j d).start place t in
@@ -164,7 +164,7 @@ module _ (from : ℕ) (ps : List Piece) (numbered : AreNumbered from ps) (place 
       record { within = here; above = omega (arith, begins, a); below = omega (arith, before, b); inside = λ h. omega (arith, before, b) }
 
 -- the piece, its rows and what is behind it
-module _ (from : ℕ) (ps : List Piece) (numbered : AreNumbered from ps) (place i : ℕ) (found : IsPieceOf from ps place i) (piece : Piece) (is : piece ≡ get_or ps i piece) where
+module _ (from : ℕ) (ps : List Piece) (numbered : ArePlaced from ps) (place i : ℕ) (found : IsPieceOf from ps place i) (piece : Piece) (is : piece ≡ get_or ps i piece) where
   pub starts : piece.start ≡ from + length (joined (take i ps))
   starts = ap (λ p. p.start) is ∙ numbered_at from ps i piece numbered found.within
 
@@ -193,11 +193,11 @@ module _ (from : ℕ) (ps : List Piece) (numbered : AreNumbered from ps) (place 
       ∙ drop_past (joined (take i ps)) (piece.rows ++ joined (drop (i + 1) ps)) (place - piece.start) (place - from) (omega (arith, begun, starts))
       ∙ drop-append-le (place - piece.start) piece.rows (joined (drop (i + 1) ps)) reached
 
-  pub behind : AreNumbered (place + length (drop (place - piece.start) piece.rows)) (drop (i + 1) ps)
+  pub behind : ArePlaced (place + length (drop (place - piece.start) piece.rows)) (drop (i + 1) ps)
   behind =
       let long = length-drop (place - piece.start) piece.rows in
       let e : from + length (joined (take (i + 1) ps)) ≡ place + length (drop (place - piece.start) piece.rows) = omega (arith, long, ends, begun, reached) in
-      subst (λ k. AreNumbered k (drop (i + 1) ps)) e (numbered_drop from ps (i + 1) numbered)
+      subst (λ k. ArePlaced k (drop (i + 1) ps)) e (numbered_drop from ps (i + 1) numbered)
 
   -- the row at the place
   pub row_there : (row : List Cell) → place < from + length (joined ps) → row ≡ get_or piece.rows (place - piece.start) row → slice_get (joined ps) (place - from) ≡ Some row
@@ -242,7 +242,7 @@ joined_kept (p ∷ ps) = kept_one p (joined ps) (filter has_rows ps) (joined_kep
 
 -- ---- the rows of a piece
 
-pub row_placed : (from : ℕ) (ps : List Piece) (i : ℕ) (piece : Piece) (k : ℕ) (row : List Cell) → AreNumbered from ps → slice_get ps i ≡ Some piece → slice_get piece.rows k ≡ Some row
+pub row_placed : (from : ℕ) (ps : List Piece) (i : ℕ) (piece : Piece) (k : ℕ) (row : List Cell) → ArePlaced from ps → slice_get ps i ≡ Some piece → slice_get piece.rows k ≡ Some row
     → (from ≤ piece.start) × (slice_get (joined ps) (piece.start + k - from) ≡ Some row)
 row_placed from ps i piece k row numbered e f =
     let there = slice_get_within ps i piece e in

@@ -6,19 +6,19 @@ use Rattle.std.proofs.lemmas.List.Edits.{length-insert, insert-append_left, inse
 use Rattle.cqa_value.specs.declared.value.Value.{Value as Cell}
 use Rattle.row_pieces.specs.declared.piece.Piece.{Piece}
 use Rattle.row_pieces.specs.Inserted.{with_item}
-use Rattle.row_pieces.specs.Joined.{joined, AreNumbered, IsPieceOf, IsOpen}
+use Rattle.row_pieces.specs.Joined.{joined, ArePlaced, IsPieceOf, HasPlacesTo}
 use Rattle.row_pieces.proofs.Joining.{joined-append, joined_at, joined_more, joined_set, numbered_at, numbered_take, numbered_push}
 
-pub found_open : (ps xs : List Piece) (end place i : ℕ) → IsOpen ps end place → xs ≡ take end ps
-    → ((from : ℕ) → AreNumbered from xs → from ≤ place → place ≤ from + length (joined xs) → 0 < length xs → IsPieceOf from xs place i) → IsPieceOf 0 (take end ps) place i
+pub found_open : (ps xs : List Piece) (end place i : ℕ) → HasPlacesTo ps end place → xs ≡ take end ps
+    → ((from : ℕ) → ArePlaced from xs → from ≤ place → place ≤ from + length (joined xs) → 0 < length xs → IsPieceOf from xs place i) → IsPieceOf 0 (take end ps) place i
 found_open ps xs end place i opened e f =
-    let g : (from : ℕ) → AreNumbered from (take end ps) → from ≤ place → place ≤ from + length (joined (take end ps)) → 0 < length (take end ps) → IsPieceOf from (take end ps) place i = subst (λ ys. (from : ℕ) → AreNumbered from ys → from ≤ place → place ≤ from + length (joined ys) → 0 < length ys → IsPieceOf from ys place i) e f in
+    let g : (from : ℕ) → ArePlaced from (take end ps) → from ≤ place → place ≤ from + length (joined (take end ps)) → 0 < length (take end ps) → IsPieceOf from (take end ps) place i = subst (λ ys. (from : ℕ) → ArePlaced from ys → from ≤ place → place ≤ from + length (joined ys) → 0 < length ys → IsPieceOf from ys place i) e f in
     let long = length-take-le end ps opened.within in
     let some = opened.some in
     let there = opened.there in
     g 0 opened.numbered (omega arith) (omega (arith, there)) (omega (arith, long, some))
 
-module _ (ps : List Piece) (end place i : ℕ) (opened : IsOpen ps end place) (found : IsPieceOf 0 (take end ps) place i) (p : Piece) (is : p ≡ get_or ps i p) where
+module _ (ps : List Piece) (end place i : ℕ) (opened : HasPlacesTo ps end place) (found : IsPieceOf 0 (take end ps) place i) (p : Piece) (is : p ≡ get_or ps i p) where
   early : i < end
   early =
       let long = length-take-le end ps opened.within in
@@ -57,10 +57,10 @@ module _ (ps : List Piece) (end place i : ℕ) (opened : IsOpen ps end place) (f
       let sum = length-append (joined (take i ps)) p.rows in
       omega (arith, below, same, begins, e, sum)
 
-  pub numbered_here : AreNumbered 0 (take (i + 1) ps)
-  numbered_here = subst (λ qs. AreNumbered 0 qs) (front (i + 1) (omega (arith, early))) (numbered_take 0 (take end ps) (i + 1) opened.numbered)
+  pub numbered_here : ArePlaced 0 (take (i + 1) ps)
+  numbered_here = subst (λ qs. ArePlaced 0 qs) (front (i + 1) (omega (arith, early))) (numbered_take 0 (take end ps) (i + 1) opened.numbered)
 
-  pub open_here : IsOpen ps (i + 1) place
+  pub open_here : HasPlacesTo ps (i + 1) place
   open_here =
       let within = inside in
       let e = ap length more in
@@ -89,7 +89,7 @@ module _ (ps : List Piece) (end place i : ℕ) (opened : IsOpen ps end place) (f
         ∙ sym (insert-append_right before (p.rows ++ behind) (length before) place row refl (omega (arith, low, begins)))
         ∙ ap (λ xs. insert xs place row) (sym (joined_at ps i p inside ∙ ap (λ z. before ++ (z.rows ++ behind)) (sym is)))
 
-    pub open_put : length ps ≡ length (set ps i q) → IsOpen (set ps i q) (i + 1) place
+    pub open_put : length ps ≡ length (set ps i q) → HasPlacesTo (set ps i q) (i + 1) place
     open_put long =
         let front_rows : joined (take (i + 1) (set ps i q)) ≡ joined (take i ps) ++ q.rows =
         ap joined front_set
@@ -107,6 +107,6 @@ module _ (ps : List Piece) (end place i : ℕ) (opened : IsOpen ps end place) (f
         record {
           some = omega arith;
           within = omega (arith, here, long);
-          numbered = subst (λ qs. AreNumbered 0 qs) (sym front_set) (numbered_push 0 (take i ps) q (subst (λ qs. AreNumbered 0 qs) same kept) start_is);
+          numbered = subst (λ qs. ArePlaced 0 qs) (sym front_set) (numbered_push 0 (take i ps) q (subst (λ qs. ArePlaced 0 qs) same kept) start_is);
           there = omega (arith, e, sum, grown, put, high, low, begins);
         }

@@ -9,7 +9,7 @@ use Rattle.std.proofs.lemmas.List.{append-nil, append_assoc, length-drop, length
 use Rattle.std.proofs.lemmas.List.Edits.{length-insert, remove-append_left, remove-append_right}
 use Rattle.row_pieces.specs.declared.piece.Piece.{Piece}
 use Rattle.row_pieces.specs.Inserted.{with_item, with_items, AreRising}
-use Rattle.row_pieces.specs.Joined.{joined, IsOpen}
+use Rattle.row_pieces.specs.Joined.{joined, HasPlacesTo}
 use Rattle.row_pieces.proofs.Joining.{drop_past, joined_at, joined_set}
 
 -- ---- places that rise
@@ -101,7 +101,7 @@ joined_remove ps at place left there p q is e inside rows =
     ∙ ap (λ xs. remove xs place) (sym (joined_at ps at p there ∙ ap (λ z. before ++ (z.rows ++ behind)) (sym is)))
     ∙ ap (λ n. take place (joined ps) ++ drop n (joined ps)) one
 
-pub open_lower : (ps : List Piece) (end place lower : ℕ) → lower ≤ place → IsOpen ps end place → IsOpen ps end lower
+pub open_lower : (ps : List Piece) (end place lower : ℕ) → lower ≤ place → HasPlacesTo ps end place → HasPlacesTo ps end lower
 open_lower ps end place lower l o = let there = o.there in record { some = o.some; within = o.within; numbered = o.numbered; there = omega (arith, l, there) }
 
 some_item : {A : Type 0} (xs : List A) → 0 < length xs → A

@@ -6,7 +6,7 @@ use Rattle.std.proofs.lemmas.List.{append-nil, append_assoc, length-append, leng
 use Rattle.std.proofs.lemmas.List.Elements.{filter-append}
 use Rattle.cqa_value.specs.declared.value.Value.{Value as Cell}
 use Rattle.row_pieces.specs.declared.piece.Piece.{Piece}
-use Rattle.row_pieces.specs.Joined.{joined, AreNumbered, IsPieceOf}
+use Rattle.row_pieces.specs.Joined.{joined, ArePlaced, IsPieceOf}
 use Rattle.row_pieces.specs.Retained.{retained}
 use Rattle.row_pieces.proofs.Joining.{take_past, drop_past, joined-append, joined_at, joined_more, joined_parts, joined_rest, joined_set, numbered_at}
 use native.Mathlib.Decide.{dec_le}
@@ -181,7 +181,7 @@ exchanged_fits ps old at p there same is rest =
 
 -- ---- the piece in which a stretch begins
 
-pub first_begins : (ps : List Piece) (from first : ℕ) (d : Piece) → AreNumbered 0 ps → IsPieceOf 0 ps from first → ((get_or ps first d).start ≡ length (joined (take first ps))) × ((get_or ps first d).start ≤ from)
+pub first_begins : (ps : List Piece) (from first : ℕ) (d : Piece) → ArePlaced 0 ps → IsPieceOf 0 ps from first → ((get_or ps first d).start ≡ length (joined (take first ps))) × ((get_or ps first d).start ≤ from)
 first_begins ps from first d numbered found =
     let start = numbered_at 0 ps first d numbered found.within in
     let above = found.above in

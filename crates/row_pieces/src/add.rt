@@ -1,7 +1,7 @@
 //! Rows that go behind all those of pieces.
 
 ghost use Rattle.std.specs.Prelude.{◌≡◌, ◌≤◌, ◌++◌, OnOk, OnErr, [], length, reverse, take};
-ghost use Rattle.row_pieces.specs.Joined.{joined, AreNumbered};
+ghost use Rattle.row_pieces.specs.Joined.{joined, ArePlaced};
 
 use crate::marked::MarkedRows;
 use crate::piece::{MOST_IN_PIECE, Piece};
@@ -82,7 +82,7 @@ pub fn add_behind(pieces: &mut Vec<Piece>, rows: &mut Vec<Row>) -> Result<(), No
     ensures ok { OnOk result (joined pieces.new.items ≡ joined pieces.old.items ++ rows.old.items) }
     ensures err { OnErr result (joined pieces.new.items ≡ joined pieces.old.items) }
     ensures more { OnOk result (length pieces.old.items ≤ length pieces.new.items) }
-    ensures kept { OnOk result (AreNumbered 0 pieces.old.items → AreNumbered 0 (take (length pieces.old.items) pieces.new.items)) }
+    ensures kept { OnOk result (ArePlaced 0 pieces.old.items → ArePlaced 0 (take (length pieces.old.items) pieces.new.items)) }
 {
     let count = pieces.len();
     if count == 0 || pieces[count - 1].rows.len().saturating_add(rows.len()) > MOST_IN_PIECE {

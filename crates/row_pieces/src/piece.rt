@@ -1,7 +1,7 @@
 //! Pieces of the rows of a table, and the piece for a place.
 
 ghost use Rattle.std.specs.Prelude.{◌≡◌, ℕ, IsTrue, ◌≤◌, ◌<◌, ◌+◌, ◌-◌, ◌++◌, ◌^◌, Some, length, take, drop, slice_get};
-ghost use Rattle.row_pieces.specs.Joined.{joined, AreNumbered, IsPieceOf};
+ghost use Rattle.row_pieces.specs.Joined.{joined, ArePlaced, IsPieceOf};
 
 use crate::marked::MarkedRows;
 use crate::near::{piece_about, piece_from};
@@ -19,7 +19,7 @@ pub struct Piece {
 
 /// Whether a piece begins at a place or before it, and no other piece behind it does.
 fn has_place(pieces: &[Piece], at: usize, place: usize) -> bool
-    ensures { IsTrue result → (from : ℕ) → AreNumbered from pieces.now → from ≤ place → place ≤ from + length (joined pieces.now) → IsPieceOf from pieces.now place at }
+    ensures { IsTrue result → (from : ℕ) → ArePlaced from pieces.now → from ≤ place → place ≤ from + length (joined pieces.now) → IsPieceOf from pieces.now place at }
 {
     if at >= pieces.len() || pieces[at].start > place {
         return false;
@@ -29,7 +29,7 @@ fn has_place(pieces: &[Piece], at: usize, place: usize) -> bool
 
 /// The last piece that begins at a place or before it, looked for from one on that may be near it.
 pub fn piece_near(pieces: &[Piece], at: usize, place: usize) -> usize
-    ensures { (from : ℕ) → AreNumbered from pieces.now → from ≤ place → place ≤ from + length (joined pieces.now) → 0 < length pieces.now → IsPieceOf from pieces.now place result }
+    ensures { (from : ℕ) → ArePlaced from pieces.now → from ≤ place → place ≤ from + length (joined pieces.now) → 0 < length pieces.now → IsPieceOf from pieces.now place result }
 {
     let guess = piece_from(pieces, at, place);
     if has_place(pieces, guess, place) {
@@ -42,7 +42,7 @@ pub fn piece_near(pieces: &[Piece], at: usize, place: usize) -> usize
 
 /// The last piece that begins at a place or before it.
 pub fn piece_of(pieces: &[Piece], place: usize) -> usize
-    ensures { (from : ℕ) → AreNumbered from pieces.now → from ≤ place → place ≤ from + length (joined pieces.now) → 0 < length pieces.now → IsPieceOf from pieces.now place result }
+    ensures { (from : ℕ) → ArePlaced from pieces.now → from ≤ place → place ≤ from + length (joined pieces.now) → 0 < length pieces.now → IsPieceOf from pieces.now place result }
 {
     piece_near(pieces, piece_about(pieces, place), place)
 }
@@ -57,8 +57,8 @@ pub fn row_in<'a>(rows: &'a [Row], at: usize) -> &'a Row
 
 /// The row at a place.
 pub fn row_of<'a>(pieces: &'a [Piece], place: usize) -> &'a Row
-    requires { (from : ℕ) × AreNumbered from pieces.now × (from ≤ place) × (place < from + length (joined pieces.now)) }
-    ensures { (from : ℕ) → AreNumbered from pieces.now → from ≤ place → place < from + length (joined pieces.now) → slice_get (joined pieces.now) (place - from) ≡ Some result.now }
+    requires { (from : ℕ) × ArePlaced from pieces.now × (from ≤ place) × (place < from + length (joined pieces.now)) }
+    ensures { (from : ℕ) → ArePlaced from pieces.now → from ≤ place → place < from + length (joined pieces.now) → slice_get (joined pieces.now) (place - from) ≡ Some result.now }
 {
     let piece = &pieces[piece_of(pieces, place)];
     row_in(piece.rows.as_slice(), place - piece.start)
@@ -66,8 +66,8 @@ pub fn row_of<'a>(pieces: &'a [Piece], place: usize) -> &'a Row
 
 /// What stands from a place on in its piece, and the pieces behind that.
 pub fn part_at<'a>(pieces: &'a [Piece], place: usize) -> (&'a [Row], &'a [Piece])
-    requires { (from : ℕ) × AreNumbered from pieces.now × (from < place) × (place ≤ from + length (joined pieces.now)) }
-    ensures { (from : ℕ) → AreNumbered from pieces.now → from < place → place ≤ from + length (joined pieces.now) → (drop (place - from) (joined pieces.now) ≡ result.0.now ++ joined result.1.now) × AreNumbered (place + length result.0.now) result.1.now }
+    requires { (from : ℕ) × ArePlaced from pieces.now × (from < place) × (place ≤ from + length (joined pieces.now)) }
+    ensures { (from : ℕ) → ArePlaced from pieces.now → from < place → place ≤ from + length (joined pieces.now) → (drop (place - from) (joined pieces.now) ≡ result.0.now ++ joined result.1.now) × ArePlaced (place + length result.0.now) result.1.now }
 {
     let at = piece_of(pieces, place);
     let piece = &pieces[at];
@@ -79,7 +79,7 @@ pub fn part_at<'a>(pieces: &'a [Piece], place: usize) -> (&'a [Row], &'a [Piece]
 /// The number of rows of so many pieces that have their places.
 fn end_of(pieces: &[Piece], count: usize) -> usize
     requires within { count ≤ length pieces.now }
-    requires numbered { AreNumbered 0 (take count pieces.now) }
+    requires numbered { ArePlaced 0 (take count pieces.now) }
     requires fits { length (joined pieces.now) < 2 ^ 64 }
     ensures { result ≡ length (joined (take count pieces.now)) }
 {
@@ -93,11 +93,11 @@ fn end_of(pieces: &[Piece], count: usize) -> usize
 /// Sets the start of each piece behind so many that have their places, and gives the number of all rows.
 pub fn renumber(pieces: &mut [Piece], kept: usize) -> usize
     requires within { kept ≤ length pieces.old }
-    requires kept { AreNumbered 0 (take kept pieces.old) }
+    requires kept { ArePlaced 0 (take kept pieces.old) }
     requires fits { length (joined pieces.old) < 2 ^ 64 }
     ensures count { result ≡ length (joined pieces.old) }
     ensures joined { joined pieces.new ≡ joined pieces.old }
-    ensures numbered { AreNumbered 0 pieces.new }
+    ensures numbered { ArePlaced 0 pieces.new }
 {
     let mut start = end_of(pieces, kept);
     for at in kept..pieces.len() {

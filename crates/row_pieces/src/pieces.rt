@@ -26,13 +26,13 @@ pub struct Pieces {
 impl Model for Pieces {
     ghost use Rattle.std.specs.Prelude.{◌≡◌, List, length};
     ghost use Rattle.cqa_value.specs.declared.value.Value.{Value as Cell};
-    ghost use Rattle.row_pieces.specs.Joined.{joined, AreNumbered};
+    ghost use Rattle.row_pieces.specs.Joined.{joined, ArePlaced};
 
     ghost Value = { List (List Cell) };
 
     ghost view = { λ p. joined p.pieces.items };
 
-    ghost invariant = { λ p. AreNumbered 0 p.pieces.items × (p.count ≡ length (joined p.pieces.items)) };
+    ghost invariant = { λ p. ArePlaced 0 p.pieces.items × (p.count ≡ length (joined p.pieces.items)) };
 }
 
 impl Pieces {

@@ -4,7 +4,7 @@ ghost use Rattle.std.specs.Prelude.{◌≡◌, ◌≤◌, ◌<◌, ◌+◌, ◌+
 ghost use Rattle.cqa_value.specs.declared.value.Value.{Value as Cell};
 ghost use Rattle.row_pieces.specs.declared.piece.Piece.{Piece as PieceOfRows};
 ghost use Rattle.row_pieces.specs.Inserted.{with_item, with_items, AreRising};
-ghost use Rattle.row_pieces.specs.Joined.{joined, AreNumbered, IsOpen};
+ghost use Rattle.row_pieces.specs.Joined.{joined, ArePlaced, HasPlacesTo};
 
 use crate::add::add_behind;
 use crate::marked::MarkedRows;
@@ -15,13 +15,13 @@ use cqa_value::{NoMemory, Row};
 fn cut(pieces: &mut Vec<Piece>, at: usize, middle: usize) -> usize
     requires there { at < length pieces.old.items }
     requires within { (none : PieceOfRows) → middle ≤ length (slice_index_or pieces.old.items at none).rows }
-    requires numbered { AreNumbered 0 (take (at + 1) pieces.old.items) }
+    requires numbered { ArePlaced 0 (take (at + 1) pieces.old.items) }
     requires fits { length (joined pieces.old.items) < 2 ^ 64 }
     ensures some { 0 < result }
     ensures within { result ≤ length pieces.new.items }
     ensures joined { joined pieces.new.items ≡ joined pieces.old.items }
     ensures front { joined (take result pieces.new.items) ≡ joined (take (at + 1) pieces.old.items) }
-    ensures numbered { AreNumbered 0 (take result pieces.new.items) }
+    ensures numbered { ArePlaced 0 (take result pieces.new.items) }
 {
     if pieces.reserve(1).is_err() {
         return at + 1;
@@ -39,9 +39,9 @@ fn cut(pieces: &mut Vec<Piece>, at: usize, middle: usize) -> usize
 
 /// Cuts the piece for a place among the first pieces in halves where it is full, and gives the number of pieces up to its end.
 fn make_room(pieces: &mut Vec<Piece>, end: usize, place: usize) -> usize
-    requires opened { IsOpen pieces.old.items end place }
+    requires opened { HasPlacesTo pieces.old.items end place }
     requires fits { length (joined pieces.old.items) < 2 ^ 64 }
-    ensures opened { IsOpen pieces.new.items result place }
+    ensures opened { HasPlacesTo pieces.new.items result place }
     ensures joined { joined pieces.new.items ≡ joined pieces.old.items }
 {
     let (front, _) = pieces.as_slice().split_at(end);
@@ -55,8 +55,8 @@ fn make_room(pieces: &mut Vec<Piece>, end: usize, place: usize) -> usize
 
 /// Puts a row in before the one at a place among the first pieces, and gives the number of pieces up to there.
 fn put_in(pieces: &mut Vec<Piece>, end: usize, place: usize, row: Row) -> Result<usize, NoMemory>
-    requires opened { IsOpen pieces.old.items end place }
-    ensures opened { IfOk result (λ next. IsOpen pieces.new.items next place) }
+    requires opened { HasPlacesTo pieces.old.items end place }
+    ensures opened { IfOk result (λ next. HasPlacesTo pieces.new.items next place) }
     ensures put { OnOk result (joined pieces.new.items ≡ with_item place row (joined pieces.old.items)) }
     ensures err { OnErr result (joined pieces.new.items ≡ joined pieces.old.items) }
 {
@@ -106,10 +106,10 @@ fn put_each(
     requires each { length places.now ≡ length rows.old.items }
     requires rising { AreRising 0 (length (joined pieces.old.items)) places.now }
     requires some { 0 < length pieces.old.items }
-    requires numbered { AreNumbered 0 pieces.old.items }
+    requires numbered { ArePlaced 0 pieces.old.items }
     requires fits { length (joined pieces.old.items) + length rows.old.items < 2 ^ 64 }
     ensures ok { OnOk result (joined pieces.new.items ≡ with_items (joined pieces.old.items) rows.old.items places.now) }
-    ensures kept { IfOk result (λ kept. (kept ≤ length pieces.new.items) × AreNumbered 0 (take kept pieces.new.items)) }
+    ensures kept { IfOk result (λ kept. (kept ≤ length pieces.new.items) × ArePlaced 0 (take kept pieces.new.items)) }
     ensures err { OnErr result (joined pieces.new.items ≡ joined pieces.old.items) }
 {
     let mut end = pieces.len();
@@ -141,11 +141,11 @@ pub fn put(
     places: &[usize],
 ) -> Result<usize, NoMemory>
     requires count { count ≡ length (joined pieces.old.items) }
-    requires numbered { AreNumbered 0 pieces.old.items }
+    requires numbered { ArePlaced 0 pieces.old.items }
     requires each { length places.now ≡ length rows.old.items }
     requires rising { AreRising 0 (length (joined pieces.old.items)) places.now }
     ensures ok { OnOk result (joined pieces.new.items ≡ with_items (joined pieces.old.items) rows.old.items places.now) }
-    ensures kept { IfOk result (λ kept. (kept ≤ length pieces.new.items) × AreNumbered 0 (take kept pieces.new.items)) }
+    ensures kept { IfOk result (λ kept. (kept ≤ length pieces.new.items) × ArePlaced 0 (take kept pieces.new.items)) }
     ensures err { OnErr result (joined pieces.new.items ≡ joined pieces.old.items) }
     ensures fits { length (joined pieces.new.items) < 2 ^ 64 }
 {

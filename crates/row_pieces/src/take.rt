@@ -3,7 +3,7 @@
 ghost use Rattle.std.specs.Prelude.{◌≡◌, ◌≤◌, ◌+◌, ◌-◌, ◌++◌, Bool, List, length, take, drop};
 ghost use Rattle.std.specs.Fn.{ComputesKey};
 ghost use Rattle.cqa_value.specs.declared.value.Value.{Value as Cell};
-ghost use Rattle.row_pieces.specs.Joined.{joined, AreNumbered};
+ghost use Rattle.row_pieces.specs.Joined.{joined, ArePlaced};
 ghost use Rattle.row_pieces.specs.Retained.{retained};
 
 use crate::marked::MarkedRows;
@@ -36,11 +36,11 @@ pub fn retain_each<P: FnMut(&Row) -> bool>(
     requires callable { P.IsAlwaysCallable stays }
     requires order { from ≤ to }
     requires within { from ≤ length (joined pieces.old) }
-    requires numbered { AreNumbered 0 pieces.old }
+    requires numbered { ArePlaced 0 pieces.old }
     ensures kept { (p : List Cell → Bool) → ComputesKey P.FnMut p stays → joined pieces.new ≡ retained p from to (joined pieces.old) }
     ensures fewer { length (joined pieces.new) ≤ length (joined pieces.old) }
     ensures within { result.0 ≤ length pieces.new }
-    ensures numbered { AreNumbered 0 (take result.0 pieces.new) }
+    ensures numbered { ArePlaced 0 (take result.0 pieces.new) }
 {
     let mut emptied = false;
     if pieces.is_empty() {
@@ -74,10 +74,10 @@ fn drop_empty(pieces: &mut Vec<Piece>)
 /// Takes the pieces without rows away where one was emptied, and gives the number of pieces that have their places still.
 pub fn drop_emptied(pieces: &mut Vec<Piece>, kept: usize, emptied: bool) -> usize
     requires within { kept ≤ length pieces.old.items }
-    requires numbered { AreNumbered 0 (take kept pieces.old.items) }
+    requires numbered { ArePlaced 0 (take kept pieces.old.items) }
     ensures joined { joined pieces.new.items ≡ joined pieces.old.items }
     ensures within { result ≤ length pieces.new.items }
-    ensures numbered { AreNumbered 0 (take result pieces.new.items) }
+    ensures numbered { ArePlaced 0 (take result pieces.new.items) }
 {
     if !emptied {
         return kept;

@@ -12,7 +12,7 @@ use Rattle.cqa_model.specs.declared.schema.Column.{Column}
 use Rattle.cqa_model.specs.declared.schema.Schema.{Schema}
 use Rattle.cqa_model.specs.Shape.{IsSchema}
 use Rattle.cqa_model.specs.Database.{Table, IsTable, IsDatabase, names_of, row_total}
-use Rattle.table_blocks.specs.Tables.{AreValidRows, IsStored, with_rows, with_mark, rows_at}
+use Rattle.table_blocks.specs.Tables.{AreValidRows, AreValidTables, with_rows, with_mark, rows_at}
 
 pub without_rows : (schema : Schema) → IsTable (record { schema = schema; rows = [] })
 unfolding IsStrictlySortedBy
@@ -21,7 +21,7 @@ without_rows schema = record { in_order = tt; of_schema = λ row h. absurd (mem-
 no_tables : IsDatabase []
 no_tables = record { few_tables = omega arith; each = λ t h. absurd (mem-nil t h); names_differ = λ i j a b e. absurd (omega (arith, a)); few_rows = omega arith }
 
-pub none_stored : IsStored []
+pub none_stored : AreValidTables []
 none_stored = record { database = no_tables; valid = λ t h. absurd (mem-nil t h) }
 
 -- one table holds no more rows than all
@@ -76,7 +76,7 @@ database_set t w same db i e d table few =
     }
 
 -- tables stay stored where one is changed, which keeps its name and has valid values
-pub stored_set : (t w : Table) → w.schema.name ≡ t.schema.name → (db : List Table) (i : ℕ) → slice_get db i ≡ Some t → IsStored db → IsTable w → AreValidRows w.rows → row_total (slice_set db i w) ≤ 1_000_000 → IsStored (slice_set db i w)
+pub stored_set : (t w : Table) → w.schema.name ≡ t.schema.name → (db : List Table) (i : ℕ) → slice_get db i ≡ Some t → AreValidTables db → IsTable w → AreValidRows w.rows → row_total (slice_set db i w) ≤ 1_000_000 → AreValidTables (slice_set db i w)
 stored_set t w same db i e s table valid few = record {
   database = database_set t w same db i e s.database table few;
   valid = λ x h. elim (member_set w db i x h) [ inl q ↦ subst (λ z. AreValidRows z.rows) q valid | inr m ↦ s.valid x m ];
@@ -134,7 +134,7 @@ database_push db schema d room other =
       few_rows = omega (arith, total, before);
     }
 
-pub stored_push : (db : List Table) (schema : Schema) → IsStored db → length db < 64 → (Contains (names_of db) schema.name → ⊥) → IsStored (db ++ (record { schema = schema; rows = [] }) ∷ [])
+pub stored_push : (db : List Table) (schema : Schema) → AreValidTables db → length db < 64 → (Contains (names_of db) schema.name → ⊥) → AreValidTables (db ++ (record { schema = schema; rows = [] }) ∷ [])
 stored_push db schema s room other =
     let t : Table = record { schema = schema; rows = [] } in
     record {

@@ -1,5 +1,6 @@
 -- The tables of a map from names, and the list that they are.
-use Rattle.std.proofs.Common.{◌≡◌, arith, ◌≤◌, ◌<◌, ◌+◌, ℕ, zero, suc, List, [], ◌∷◌, ◌++◌, Some, None, Bool, true, false, ◌||◌, cond, length, refl, sym, ap, ◌∙◌, subst, true≢false, Contains, nat_eq, slice_set, slice_get}
+use Rattle.std.proofs.Common.{◌≡◌, arith, ◌≤◌, ◌<◌, ◌+◌, ℕ, zero, suc, List, [], ◌∷◌, ◌++◌, Option, Some, None, Bool, true, false, ◌||◌, cond, length, refl, sym, ap, ◌∙◌, subst, true≢false, Contains, nat_eq, slice_set, slice_get}
+use Rattle.std.specs.Option.{MatchOption}
 use Rattle.std.specs.List.{list_any}
 use Rattle.std.specs.Map.{keys_of, values_of, lookup}
 use Rattle.std.specs.Cmp.Lexicographic.{pointwise, same_text}
@@ -10,7 +11,7 @@ use Rattle.cqa_model.specs.declared.schema.Schema.{Schema}
 use Rattle.cqa_model.specs.Database.{Table, IsTable, names_of, row_total}
 use Rattle.cqa_model.proofs.Places.{key-at, rows-at}
 use Rattle.cqa_value.specs.declared.value.Value.{Value}
-use Rattle.table_blocks.specs.Tables.{AreValidRows, IsStored, key_at, rows_at}
+use Rattle.table_blocks.specs.Tables.{AreValidRows, AreValidTables, key_at, rows_at}
 use Rattle.table_blocks.proofs.Changing.{names_set, stored_set, stored_push, total_set}
 
 lookup_none : {K X : Type 0} (test : K → Bool) (es : List (K × X)) → list_any test (keys_of es) ≡ false → lookup test es ≡ None
@@ -42,7 +43,7 @@ values_set (e ∷ es) (suc i) w = ap (λ xs. e.1 ∷ xs) (values_set es i w)
 
 -- the tables stand under their names, as a database
 abbrev pub AreNamed : List (List ℕ × Table) → Type 0
-AreNamed es = (keys_of es ≡ names_of (values_of es)) × IsStored (values_of es)
+AreNamed es = (keys_of es ≡ names_of (values_of es)) × AreValidTables (values_of es)
 
 keys_set : {K X : Type 0} (es : List (K × X)) (i : ℕ) (w : X) → keys_of (set_value_at es i w) ≡ keys_of es
 keys_set [] i w = refl
@@ -53,7 +54,7 @@ pub named_set : (es : List (List ℕ × Table)) (i : ℕ) (t w : Table) → AreN
 named_set es i t w named here same table valid few =
     let is = values_set es i w in (
       keys_set es i w ∙ named.0 ∙ sym (ap names_of is ∙ names_set t w same (values_of es) i here),
-      subst IsStored (sym is) (stored_set t w same (values_of es) i here named.1 table valid few),
+      subst AreValidTables (sym is) (stored_set t w same (values_of es) i here named.1 table valid few),
     )
 
 -- a table without rows under a new name
@@ -65,7 +66,7 @@ named_push es after name schema t named room other called is e =
     let vs : values_of after ≡ values_of es ++ w ∷ [] = ap (λ l. values_of l) e ∙ values_last es name t ∙ ap (λ x. values_of es ++ x ∷ []) is in
     let ks : keys_of after ≡ keys_of es ++ schema.name ∷ [] = ap (λ l. keys_of l) e ∙ keys_last es name t ∙ ap (λ x. keys_of es ++ x ∷ []) called in
     let ns : names_of (values_of es ++ w ∷ []) ≡ names_of (values_of es) ++ schema.name ∷ [] = map-append (λ (x : Table). x.schema.name) (values_of es) (w ∷ []) in
-    ((ks ∙ ap (λ l. l ++ schema.name ∷ []) named.0 ∙ sym (ap names_of vs ∙ ns), subst IsStored (sym vs) (stored_push (values_of es) schema named.1 room other)), vs)
+    ((ks ∙ ap (λ l. l ++ schema.name ∷ []) named.0 ∙ sym (ap names_of vs ∙ ns), subst AreValidTables (sym vs) (stored_push (values_of es) schema named.1 room other)), vs)
 
 -- a table gets more rows, as many as there is room for
 pub named_more : (es : List (List ℕ × Table)) (i : ℕ) (t w : Table) (more : ℕ) → AreNamed es → slice_get (values_of es) i ≡ Some t → w.schema.name ≡ t.schema.name → IsTable w → AreValidRows w.rows
@@ -77,6 +78,11 @@ named_more es i t w more named here same table valid count room =
 -- what is said of the table that was found is said of the table at the place
 pub at_place : (P : List ℕ → List (List Value) → Type 0) (db : List Table) (i : ℕ) (t : Table) → slice_get db i ≡ Some t → P t.schema.key t.rows → P (key_at db i) (rows_at db i)
 at_place P db i t here p = subst (λ key. P key (rows_at db i)) (sym (key-at db i t here)) (subst (P t.schema.key) (sym (rows-at db i t here)) p)
+
+-- what a change gives where no rows clash, or else, told as something weaker
+pub match_weaker : {A : Type 0} (o : Option A) {P Q : Type 0} {R S : Type 0} → (P → Q) → (R → S) → MatchOption o P (λ _. R) → MatchOption o Q (λ _. S)
+match_weaker None f g m = f m
+match_weaker (Some a) f g m = g m
 
 -- a table gets no more rows
 pub named_less : (es : List (List ℕ × Table)) (i : ℕ) (t w : Table) → AreNamed es → slice_get (values_of es) i ≡ Some t → w.schema.name ≡ t.schema.name → IsTable w → AreValidRows w.rows → length w.rows ≤ length t.rows → AreNamed (set_value_at es i w)

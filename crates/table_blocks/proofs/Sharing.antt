@@ -1,55 +1,15 @@
--- Rows that share a key: the first of some rows that does, and rows by their key values.
-use Rattle.std.proofs.Common.{◌≡◌, inl, inr, ℕ, Bool, true, false, not, ◌&&◌, cond, List, [], ◌∷◌, ◌++◌, get_or, slice_get, Contains, Option, Some, None, refl, sym, ap, ◌∙◌, subst, true≢false}
+-- Rows that share a key, and rows of which no two do.
+use Rattle.std.proofs.Common.{◌≡◌, ◌<◌, ℕ, zero, suc, Bool, true, false, cond, inl, inr, true≢false, List, [], ◌∷◌, length, get_or, Contains, Some, None, refl, sym, ap, ◌∙◌, arith}
 use Rattle.std.specs.Bool.{Decides}
-use Rattle.std.specs.List.{filter}
-use Rattle.std.proofs.lemmas.List.Elements.{filter-append, Contains-append_cases}
-use Rattle.std.proofs.lemmas.Bool.{and_parts}
+use Rattle.std.specs.List.Sorted.{IsStrictlySortedBy}
+use Rattle.std.proofs.lemmas.Bool.{cases_order}
+use Rattle.std.proofs.lemmas.List.{get_or_default}
 use Rattle.cqa_value.specs.declared.value.Value.{Value}
-use Rattle.cqa_value.specs.Values.{row_eq, row_decides}
-use Rattle.cqa_value.proofs.Words.{mem-tail, mem-cases, mem-head, mem-nil, Contains-slice_get, Contains-filter}
-use Rattle.cqa_model.specs.Database.{SharesKey, AreConsistent, key_of, nothing}
-use Rattle.cqa_model.proofs.BlockOrder.{shares-from_key, key-from_shares}
-use Rattle.table_blocks.specs.Keys.{same_key, first_sharing, first_other}
-
-first_of_filter : {A : Type 0} (xs : List A) → slice_get xs 0 ≡ None → (x : A) → Contains xs x → ⊥
-first_of_filter [] e x m = mem-nil x m
-first_of_filter {A} (y ∷ xs) e x m = clash e
-  where
-    clash : {z : A} → Some z ≡ None → ⊥
-    clash e = (cc)
-
--- no row passes
-pub none_passes : (p : List Value → Bool) (rows : List (List Value)) → ((x : List Value) → Contains rows x → p x ≡ true → ⊥) → slice_get (filter p rows) 0 ≡ None
-none_passes p rows h = go (filter p rows) refl
-  where
-    go : (xs : List (List Value)) → filter p rows ≡ xs → slice_get (filter p rows) 0 ≡ None
-    go [] e = ap (λ l. slice_get l 0) e
-    go (x ∷ xs) e = let k = (Contains-filter p rows x).0 (subst (λ l. Contains l x) (sym e) (mem-head x xs)) in absurd (h x k.0 k.1)
-
--- tests that agree at each row
-filter_alike : (p q : List Value → Bool) (rows : List (List Value)) → ((x : List Value) → Contains rows x → p x ≡ q x) → filter p rows ≡ filter q rows
-filter_alike p q [] h = refl
-filter_alike p q (x ∷ rows) h =
-    let more = filter_alike p q rows (λ y m. h y (mem-tail y x rows m)) in
-    (λ i. cond (h x (mem-head x rows) i) (x ∷ more i) (more i))
-
--- the first that passes is there, and passes
-passing : (p : List Value → Bool) (rows : List (List Value)) (k : List Value) → slice_get (filter p rows) 0 ≡ Some k → Contains rows k × (p k ≡ true)
-passing p rows k e = (Contains-filter p rows k).0 (Contains-slice_get (filter p rows) 0 k e)
-
-first_of_two : {A : Type 0} (xs ys : List A) (x : A) → slice_get xs 0 ≡ Some x → slice_get (xs ++ ys) 0 ≡ Some x
-first_of_two [] ys x e = absurd (none e)
-  where
-    none : None ≡ Some x → ⊥
-    none e = (cc)
-first_of_two (y ∷ xs) ys x e = e
-
-pub second_of_two : {A : Type 0} (xs ys : List A) → slice_get xs 0 ≡ None → slice_get (xs ++ ys) 0 ≡ slice_get ys 0
-second_of_two [] ys e = refl
-second_of_two {A} (y ∷ xs) ys e = absurd (some e)
-  where
-    some : {z : A} → Some z ≡ None → ⊥
-    some e = (cc)
+use Rattle.cqa_value.specs.Values.{row_decides}
+use Rattle.cqa_model.specs.Database.{AreConsistent, SharesKey, key_of, block_cmp, nothing}
+use Rattle.cqa_model.proofs.BlockOrder.{shares-from_key, key-from_shares, grouped}
+use Rattle.table_blocks.specs.declared.clash.Clash.{Clash}
+use Rattle.table_blocks.specs.Keys.{same_key, first_clash}
 
 module _ (key : List ℕ) where
   pub same_decides : (x y : List Value) → Decides (same_key key x y) (SharesKey key x y)
@@ -64,92 +24,40 @@ module _ (key : List ℕ) where
       let f = row_decides (key_of key x) (key_of key z) in
       (row_decides (key_of key y) (key_of key z)).1 (sym (d.0 a) ∙ f.0 b)
 
-  -- the first in one list, else the first in the other
-  pub first_left : (rows others : List (List Value)) (row k : List Value) → first_sharing key rows row ≡ Some k → first_sharing key (rows ++ others) row ≡ Some k
-  first_left rows others row k e = ap (λ l. slice_get l 0) (filter-append (same_key key row) rows others) ∙ first_of_two (filter (same_key key row) rows) (filter (same_key key row) others) k e
+-- consistent rows stay so where some of them are left out
+pub consistent_within : (key : List ℕ) (all some : List (List Value)) → AreConsistent key all → ((row : List Value) → Contains some row → Contains all row) → AreConsistent key some
+consistent_within key all some c within x y mx my s = c x y (within x mx) (within y my) s
 
-  pub first_right : (rows others : List (List Value)) (row : List Value) → first_sharing key rows row ≡ None → first_sharing key (rows ++ others) row ≡ first_sharing key others row
-  first_right rows others row e = ap (λ l. slice_get l 0) (filter-append (same_key key row) rows others) ∙ second_of_two (filter (same_key key row) rows) (filter (same_key key row) others) e
+-- neighbours have different keys where none clash
+neighbours : (key : List ℕ) (rows : List (List Value)) → first_clash key rows ≡ None → (i : ℕ) (d : List Value) → suc i < length rows → same_key key (get_or rows i d) (get_or rows (suc i) d) ≡ false
+neighbours key [] e i d l = absurd (omega (arith, l))
+neighbours key (x ∷ []) e i d l = absurd (omega (arith, l))
+neighbours key (x ∷ y ∷ rows) e i d l = go (same_key key x y) refl (λ none i l. neighbours key (y ∷ rows) none i d l) i l
+  where
+    some_none : {clash : Clash} → Some clash ≡ None → ⊥
+    some_none e = (cc)
 
-  first_here : (row : List Value) (rows : List (List Value)) → first_sharing key (row ∷ rows) row ≡ Some row
-  first_here row rows = ap (λ b. slice_get (cond b (row ∷ filter (same_key key row) rows) (filter (same_key key row) rows)) 0) (same_self row)
+    go : (b : Bool) → same_key key x y ≡ b → (first_clash key (y ∷ rows) ≡ None → (i : ℕ) → suc i < length (y ∷ rows) → same_key key (get_or (y ∷ rows) i d) (get_or (y ∷ rows) (suc i) d) ≡ false)
+        → (i : ℕ) → suc i < length (x ∷ y ∷ rows) → same_key key (get_or (x ∷ y ∷ rows) i d) (get_or (x ∷ y ∷ rows) (suc i) d) ≡ false
+    go true q more i l = absurd (some_none (sym (ap (λ b. cond b (Some (record { first = x; second = y })) (first_clash key (y ∷ rows))) q) ∙ e))
+    go false q more zero l = q
+    go false q more (suc i) l = more (sym (ap (λ b. cond b (Some (record { first = x; second = y })) (first_clash key (y ∷ rows))) q) ∙ e) i (omega (arith, l))
 
-  -- rows before a row, of which those that share a key are one
-  module _ (before rest : List (List Value)) (row kept : List Value) (one : AreConsistent key before) (first : first_sharing key (before ++ (row ∷ rest)) row ≡ Some kept) where
-    shares_kept : first_sharing key before row ≡ Some kept → (x : List Value) → Contains before x → same_key key row x ≡ true → x ≡ kept
-    shares_kept found x m s =
-        let k = passing (same_key key row) before kept found in
-        one x kept m k.0 ((same_decides x kept).0 (same_trans row x kept s k.1))
+-- rows in block order of which no neighbours share the key are consistent
+pub consistent_unbroken : (key : List ℕ) (rows : List (List Value)) → IsStrictlySortedBy (block_cmp key) rows → first_clash key rows ≡ None → AreConsistent key rows
+consistent_unbroken key rows s e x y (i, bi, ei) (j, bj, ej) shares = elim (cases_order i j) [
+  | inl q ↦ first ∙ ap (λ n. get_or rows n []) q ∙ sym second
+  | inr h ↦ elim h [
+    | inl l ↦ absurd (apart i j l bj (λ p m. ap (λ z. get_or z p nothing) (sym first) ∙ shares p m ∙ ap (λ z. get_or z p nothing) second))
+    | inr l ↦ absurd (apart j i l bi (λ p m. ap (λ z. get_or z p nothing) (sym second) ∙ sym (shares p m) ∙ ap (λ z. get_or z p nothing) first))
+  ]
+]
+  where
+    first : x ≡ get_or rows i []
+    first = sym ei ∙ get_or_default rows i x [] bi
 
-    -- the row is kept: it is none but itself that shares its key
-    pub none_other : kept ≡ row → first_other key before row ≡ None
-    none_other e = go (first_sharing key before row) refl
-      where
-        other : List Value → Bool
-        other x = same_key key row x && not (row_eq row x)
+    second : y ≡ get_or rows j []
+    second = sym ej ∙ get_or_default rows j y [] bj
 
-        go : (o : Option (List Value)) → first_sharing key before row ≡ o → first_other key before row ≡ None
-        go None none = none_passes _ before (λ x m p. let b = and_parts _ _ p in first_of_filter (filter (same_key key row) before) none x ((Contains-filter (same_key key row) before x).1 (m, b.0)))
-        go (Some k) found = none_passes _ before (λ x m p. let b = and_parts _ _ p in
-            let same : kept ≡ k = some_same (sym first ∙ first_left before (row ∷ rest) row k found) in
-            let is : x ≡ row = shares_kept (found ∙ ap Some (sym same)) x m b.0 ∙ e in
-            true≢false (sym b.1 ∙ ap not ((row_decides row x).1 (sym is))))
-          where
-            some_same : {a b : List Value} → Some a ≡ Some b → a ≡ b
-            some_same e = (cc)
-
-    -- another row is kept, and is the first that shares its key
-    pub other_found : (kept ≡ row → ⊥) → first_other key before row ≡ Some kept
-    other_found differs = go (first_sharing key before row) refl
-      where
-        some_same : {a b : List Value} → Some a ≡ Some b → a ≡ b
-        some_same e = (cc)
-
-        is_other : (x : List Value) → x ≡ kept → not (row_eq row x) ≡ true
-        is_other x e = tells (row_eq row x) refl
-          where
-            tells : (b : Bool) → row_eq row x ≡ b → not (row_eq row x) ≡ true
-            tells true q = absurd (differs (sym e ∙ sym ((row_decides row x).0 q)))
-            tells false q = ap not q
-
-        go : (o : Option (List Value)) → first_sharing key before row ≡ o → first_other key before row ≡ Some kept
-        go None none = absurd (differs (some_same (sym first ∙ first_right before (row ∷ rest) row none ∙ first_here row rest)))
-        go (Some k) found =
-            let same : kept ≡ k = some_same (sym first ∙ first_left before (row ∷ rest) row k found) in
-            let here : first_sharing key before row ≡ Some kept = found ∙ ap Some (sym same) in
-            ap (λ l. slice_get l 0)
-            (filter_alike (λ x. same_key key row x && not (row_eq row x)) (same_key key row) before (λ x m. agree x m here (same_key key row x) refl))
-            ∙ here
-          where
-            agree : (x : List Value) → Contains before x → first_sharing key before row ≡ Some kept → (b : Bool) → same_key key row x ≡ b → same_key key row x && not (row_eq row x) ≡ same_key key row x
-            agree x m here true q = (λ i. q i && is_other x (shares_kept here x m q) i) ∙ sym q
-            agree x m here false q = ap (λ b. b && not (row_eq row x)) q ∙ sym q
-
-    -- a row that is kept itself joins those before it
-    pub joined : kept ≡ row → AreConsistent key (before ++ row ∷ [])
-    joined e x y mx my s = elim (Contains-append_cases before (row ∷ []) x mx) [
-      | inl l ↦ elim (Contains-append_cases before (row ∷ []) y my) [
-        | inl r ↦ one x y l r s
-        | inr r ↦ elim (mem-cases y row [] r) [ inl q ↦ beside x l (λ p m. sym (s p m ∙ ap (λ z. get_or z p nothing) (sym q))) ∙ q | inr n ↦ absurd (mem-nil y n) ]
-      ]
-      | inr l ↦ elim (mem-cases x row [] l) [
-        | inl q ↦ elim (Contains-append_cases before (row ∷ []) y my) [
-          | inl r ↦ sym q ∙ sym (beside y r (λ p m. ap (λ z. get_or z p nothing) q ∙ s p m))
-          | inr r ↦ elim (mem-cases y row [] r) [ inl t ↦ sym q ∙ t | inr n ↦ absurd (mem-nil y n) ]
-        ]
-        | inr n ↦ absurd (mem-nil x n)
-      ]
-    ]
-      where
-        some_same : {a b : List Value} → Some a ≡ Some b → a ≡ b
-        some_same e = (cc)
-
-        -- a row before that shares its key is the row
-        beside : (x : List Value) → Contains before x → SharesKey key row x → x ≡ row
-        beside x m s = go (first_sharing key before row) refl
-          where
-            go : (o : Option (List Value)) → first_sharing key before row ≡ o → x ≡ row
-            go None none = absurd (first_of_filter (filter (same_key key row) before) none x ((Contains-filter (same_key key row) before x).1 (m, (same_decides row x).1 s)))
-            go (Some k) found =
-                let same : kept ≡ k = some_same (sym first ∙ first_left before (row ∷ rest) row k found) in
-                shares_kept (found ∙ ap Some (sym same)) x m ((same_decides row x).1 s) ∙ e
+    apart : (i j : ℕ) → i < j → j < length rows → SharesKey key (get_or rows i []) (get_or rows j []) → ⊥
+    apart i j l b shares = true≢false (sym ((same_decides key (get_or rows i []) (get_or rows (suc i) [])).1 (grouped key rows s i (suc i) j (omega arith) (omega (arith, l)) b shares)) ∙ neighbours key rows e i [] (omega (arith, l, b)))

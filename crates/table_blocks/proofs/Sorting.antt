@@ -1,5 +1,5 @@
 -- Strictly sorted lists: where something stands in them, and how two are merged.
-use Rattle.std.proofs.Common.{◌≡◌, zero, suc, ◌≤◌, ◌<◌, ℕ, Bool, true, false, nat_lt, List, [], ◌∷◌, length, take, drop, ◌+◌, ◌-◌, slice_get, get_or, Contains, Some, refl, sym, ap, ◌∙◌, subst, arith, rules}
+use Rattle.std.proofs.Common.{◌≡◌, zero, suc, ◌≤◌, ◌<◌, ℕ, Bool, true, false, nat_lt, List, [], ◌∷◌, length, take, slice_get, get_or, Contains, Some, refl, sym, ap, ◌∙◌, subst, arith, rules}
 use Rattle.std.specs.List.{AllByRecursion}
 use Rattle.std.specs.List.Sorted.{IsStrictlySortedBy, IsPartitionedBy, IsPartitionPoint}
 use Rattle.std.specs.Cmp.{IsTotalOrder}
@@ -7,10 +7,9 @@ use Rattle.std.specs.Ordering.{is_lt}
 use Rattle.std.specs.declared.cmp.Ordering.{Ordering}
 use Rattle.std.specs.declared.cmp.Ordering.TheVariants.{Less, Equal, Greater}
 use Rattle.std.proofs.lemmas.List.Elements.{All-from_get_or, recursion_from_All}
-use Rattle.std.proofs.lemmas.List.{get_or-take, length-take-le, length-drop, take_all, get_or_default}
+use Rattle.std.proofs.lemmas.List.{get_or-take, length-take-le}
 use Rattle.std.proofs.lemmas.Option.{slice_get_within, get_or_from_slice_get, slice_get-get_or}
 use Rattle.table_blocks.specs.Tables.{IsPlace}
-use Rattle.table_blocks.proofs.Halving.{part_point}
 
 less_is : (o : Ordering) → is_lt o ≡ true → o ≡ Less
 less_is Less e = refl
@@ -60,31 +59,6 @@ module _ {A : Type 0} (cmp : A → A → Ordering) (total : IsTotalOrder cmp) (e
     stops = λ other found. let inside = slice_get_within xs at other found in
         not_less (cmp other k) (subst (λ y. is_lt (cmp y k) ≡ false) (get_or_from_slice_get xs at other k found) (point.1 at k (omega arith) inside));
   }
-
-  -- the same behind rows that are all below
-  pub place_from_part : (xs : List A) (k : A) (from at : ℕ) → from ≤ length xs → at ≤ length (drop from xs) → IsStrictlySortedBy cmp xs → AllByRecursion (λ y. cmp y k ≡ Less) (take from xs)
-      → (IsPartitionedBy (λ y. is_lt (cmp y k)) (drop from xs) → IsPartitionPoint (λ y. is_lt (cmp y k) ≡ true) (λ y. is_lt (cmp y k) ≡ false) (drop from xs) at) → IsPlace cmp xs k (from + at)
-  place_from_part xs k from at there within s below found =
-      let long = length-drop from xs in
-      let short = length-take-le from xs there in
-      let p : A → Bool = λ y. is_lt (cmp y k) in
-      let part : take (length xs - from) (drop from xs) ≡ drop from xs = take_all (length xs - from) (drop from xs) (omega (arith, long)) in
-      place_from_point xs k (from + at) (omega (arith, there, within, long))
-      (part_point p xs from (length xs) there (omega arith) at (subst (λ l. at ≤ length l) (sym part) within) (parted xs k s)
-      (λ i d a b. ap is_lt (subst (λ y. cmp y k ≡ Less) (get_or-take from xs i d b) (each_at (λ y. cmp y k ≡ Less) (take from xs) i d below (omega (arith, b, short)))))
-      (λ i d a b. absurd (omega (arith, a, b)))
-      (subst (λ l. IsPartitionedBy p l → IsPartitionPoint (λ y. p y ≡ true) (λ y. p y ≡ false) l at) (sym part) found))
-
-  all_below : (xs : List A) (y z : A) → cmp y z ≡ Less → AllByRecursion (λ x. cmp x y ≡ Less) xs → AllByRecursion (λ x. cmp x z ≡ Less) xs
-  all_below [] y z less h = tt
-  all_below (x ∷ xs) y z less h = (total.trans x y z h.0 less, all_below xs y z less h.1)
-
-  -- what stands before the place of one row is below each later row too
-  pub below_later : (xs others : List A) (i place : ℕ) (x : A) → IsStrictlySortedBy cmp xs → x ≡ get_or xs i x → IsPlace cmp others x place → (k : ℕ) (d : A) → i + 1 ≤ k → k < length xs
-      → AllByRecursion (λ y. cmp y (get_or xs k d) ≡ Less) (take place others)
-  below_later xs others i place x s is p k d a b =
-      all_below (take place others) x (get_or xs k d)
-      (subst (λ y. cmp y (get_or xs k d) ≡ Less) (get_or_default xs i d x (omega (arith, a, b)) ∙ sym is) (earlier_below xs s i k d (omega (arith, a)) b)) p.below
 
   -- what isn't at its place isn't there
   pub absent : (xs : List A) (k : A) (at : ℕ) → IsStrictlySortedBy cmp xs → IsPlace cmp xs k at → (slice_get xs at ≡ Some k → ⊥) → Contains xs k → ⊥

@@ -13,9 +13,9 @@ use Rattle.cqa_value.specs.declared.value.Value.{Value}
 use Rattle.cqa_value.specs.Values.{value_cmp, row_cmp, row_cmp_total}
 use Rattle.cqa_model.specs.Database.{nothing, key_of, block_cmp}
 use Rattle.cqa_model.proofs.BlockOrder.{row_exact}
-use Rattle.table_blocks.proofs.BlockOrder.{block_total, block_exact, block_alike, row_alike}
+use Rattle.row_order.proofs.BlockOrder.{block_total, block_exact, block_alike, row_alike}
 use Rattle.table_blocks.proofs.Merging.{sorted_back}
-use Rattle.table_blocks.specs.Spans.{first_key, probe_cmp, comes_before, IsSpan}
+use Rattle.row_order.specs.Spans.{first_key, probe_cmp, comes_before, IsSpan}
 
 -- two rows with one not above the other: nor are their first values
 abbrev IsBelow : Ordering → Type 0

@@ -4,7 +4,7 @@ use Rattle.std.specs.List.{filter, All, AllByRecursion}
 use Rattle.std.proofs.lemmas.List.Elements.{filter-append, recursion_from_All}
 use Rattle.std.proofs.Math.Seq.{take-append_seam, drop-append_seam}
 use Rattle.cqa_value.specs.declared.value.Value.{Value}
-use Rattle.table_blocks.specs.Spans.{first_key, IsSpan}
+use Rattle.row_order.specs.Spans.{first_key, IsSpan}
 
 filter_all : (stays : List Value → Bool) (rows : List (List Value)) → AllByRecursion (λ row. stays row ≡ true) rows → filter stays rows ≡ rows
 filter_all stays [] h = refl

@@ -1,25 +1,24 @@
 //! The tables of a database by their names: how they are made, looked through, filled and emptied.
 //! What always holds of them is the invariant of `Database`.
-ghost use Rattle.std.specs.Prelude.{◌≡◌, ◌≤◌, ◌<◌, ◌^◌, ◌++◌, ◌∷◌, [], Some, None, Contains, IsTrue, true, false, OnOk, OnErr, IfOk, IfErr, IfSome, MatchOption, MatchResult, length, map, slice_get, List, ◌+◌, ◌*◌, ℕ};
+ghost use Rattle.std.specs.Prelude.{◌≡◌, ◌≤◌, ◌<◌, ◌^◌, ◌++◌, ◌∷◌, [], Some, Contains, IsTrue, true, false, OnOk, OnErr, IfOk, IfSome, MatchOption, length, map, slice_get, List, ◌+◌, ◌*◌, ℕ};
 ghost use Rattle.cqa_model.specs.Database.{Table as StoredTable, AreConsistent, IsDatabase, names_of, row_total, kinds_of, block_cmp};
-ghost use Rattle.cqa_model.specs.Refusal.{Checked};
 ghost use Rattle.std.specs.List.Sorted.{IsStrictlySortedBy};
 ghost use Rattle.cqa_value.specs.declared.value.Value.{Value};
 ghost use Rattle.cqa_value.specs.Values.{kind_of};
-ghost use Rattle.table_blocks.specs.Spans.{IsSpan};
-ghost use Rattle.table_blocks.specs.Keys.{IsKey};
-ghost use Rattle.table_blocks.specs.Tables.{table_named, rows_at, key_at, mark_at, kinds_at, with_rows, with_mark, first_of, rows_fault, key_fault, insert_fault, strict_fault, rekey_fault, Inserts, Deletes, Rekeys, AreMergeable, AreValidRows, IsStored, IsMerged, IsSpared, IsRefusedAs};
+ghost use Rattle.row_order.specs.Spans.{IsSpan};
+ghost use Rattle.table_blocks.specs.Keys.{IsKey, first_clash};
+ghost use Rattle.table_blocks.specs.Tables.{table_named, rows_at, key_at, mark_at, kinds_at, with_rows, with_mark, rekey_clash, Deletes, Rekeys, AreMergeable, AreValidRows, AreValidTables, IsMerged, IsSpared};
 
-use crate::check::rows_fault_of;
-use crate::probe::Probe;
-use crate::rows::{Fresh, find_in, fresh_rows};
+use crate::clash::Clash;
+use crate::rows::{Fresh, find_in};
 use crate::span::{rows_with, span_in};
 use crate::steps::Steps;
 use crate::table::Table;
 use crate::test::ColumnTest;
-use cqa_model::{LimitKind, MOST_ROWS, MOST_TABLES, Refusal, Schema};
-use cqa_value::{Fail, Items, Name, NoMemory, Row};
+use cqa_model::{MOST_ROWS, MOST_TABLES, Schema};
+use cqa_value::{Items, Name, NoMemory, Row};
 use indexmap::IndexMap;
+use row_order::Probe;
 use row_pieces::Rows;
 use std::alloc::Global;
 use std::marker::Model;
@@ -35,20 +34,20 @@ impl Model for Database {
     ghost use Rattle.std.specs.Prelude.{List, ◌≡◌};
     ghost use Rattle.indexmap.specs.IndexMap.{keys, values};
     ghost use Rattle.cqa_model.specs.Database.{Table as StoredTable, names_of};
-    ghost use Rattle.table_blocks.specs.Tables.{IsStored};
+    ghost use Rattle.table_blocks.specs.Tables.{AreValidTables};
 
     ghost Value = { List StoredTable };
 
     ghost view = { λ d. values d.tables };
 
-    ghost invariant = { λ d. (keys d.tables ≡ names_of (values d.tables)) × IsStored (values d.tables) };
+    ghost invariant = { λ d. (keys d.tables ≡ names_of (values d.tables)) × AreValidTables (values d.tables) };
 }
 
 impl Database {
     /// A database without tables.
     pub fn new(alloc: Global) -> Database
         ensures empty { result ≡ [] }
-        ensures stored { IsStored result }
+        ensures stored { AreValidTables result }
     {
         Database {
             tables: IndexMap::new(alloc),
@@ -59,7 +58,7 @@ impl Database {
     pub fn count(&self) -> u32
         ensures count { result ≡ length self.now }
         ensures database { IsDatabase self.now }
-        ensures stored { IsStored self.now }
+        ensures stored { AreValidTables self.now }
     {
         self.tables.len() as u32
     }
@@ -91,6 +90,15 @@ impl Database {
         ensures key { result.now.key ≡ key_at self.now table }
     {
         self.table(table).schema()
+    }
+
+    /// Whether a table is strict: no two of its rows share its key then.
+    pub fn is_strict(&self, table: u32) -> bool
+        requires { table < length self.now }
+        ensures is { result ≡ mark_at self.now table }
+        ensures consistent { IsTrue result → AreConsistent (key_at self.now table) (rows_at self.now table) }
+    {
+        self.table(table).is_strict()
     }
 
     /// The rows of a table, in block order.
@@ -186,7 +194,7 @@ impl Database {
         requires other { Contains (names_of self.old) schema.name → ⊥ }
         ensures ok { OnOk result (self.new ≡ self.old ++ (record { schema = schema; rows = [] }) ∷ []) }
         ensures err { OnErr result (self.new ≡ self.old) }
-        ensures stored { IsStored self.new }
+        ensures stored { AreValidTables self.new }
     {
         let _ = &self.tables;
         let name = schema.name.copy(alloc)?;
@@ -195,7 +203,11 @@ impl Database {
     }
 
     /// Puts sorted rows that aren't there yet into a table.
-    fn add(&mut self, table: u32, fresh: Fresh) -> Result<(), NoMemory>
+    ///
+    /// # Errors
+    ///
+    /// `NoMemory` where memory is refused. Nothing has changed then.
+    pub fn add(&mut self, table: u32, fresh: Fresh) -> Result<(), NoMemory>
         requires there { table < length self.old }
         requires mergeable { AreMergeable (key_at self.old table) (rows_at self.old table) fresh.rows.items fresh.places.items }
         requires fits { (row : List Value) → Contains fresh.rows.items row → map kind_of row ≡ kinds_at self.old table }
@@ -204,7 +216,7 @@ impl Database {
         requires consistent { IsTrue (mark_at self.old table) → AreConsistent (key_at self.old table) (rows_at self.old table ++ fresh.rows.items) }
         ensures changed { OnOk result ((rows : List (List Value)) × IsMerged (key_at self.old table) (rows_at self.old table) fresh.rows.items rows × (self.new ≡ with_rows self.old table rows)) }
         ensures err { OnErr result (self.new ≡ self.old) }
-        ensures stored { IsStored self.new }
+        ensures stored { AreValidTables self.new }
     {
         match self.tables.get_index_mut(table as usize) {
             Some(found) => {
@@ -215,61 +227,10 @@ impl Database {
         }
     }
 
-    /// Refuses rows that a table can't hold since it is strict.
-    fn check_keys(&self, table: u32, rows: &[Row]) -> Result<(), Fail<Refusal>>
-        requires there { table < length self.now }
-        requires few { length rows.now < 2 ^ 32 }
-        ensures { Checked result (key_fault self.now table rows.now) (λ _. IsTrue (mark_at self.now table) → AreConsistent (key_at self.now table) (rows_at self.now table ++ rows.now)) }
-    {
-        self.table(table).check_keys(rows)
-    }
-
-    /// Refuses rows that a table can't hold: the first that doesn't fit its columns, or else since it is strict.
-    fn check_rows(&self, table: u32, rows: &[Row]) -> Result<(), Fail<Refusal>>
-        requires there { table < length self.now }
-        requires few { length rows.now < 2 ^ 32 }
-        ensures checked { Checked result (first_of (rows_fault (kinds_at self.now table) 1 rows.now) (key_fault self.now table rows.now)) (λ _. IsTrue (mark_at self.now table) → AreConsistent (key_at self.now table) (rows_at self.now table ++ rows.now)) }
-        ensures values { OnOk result (AreValidRows rows.now) }
-    {
-        match rows_fault_of(self.schema(table), rows) {
-            Some(fault) => Err(Fail::Refused(fault)),
-            None => self.check_keys(table, rows),
-        }
-    }
-
-    /// Puts the rows that aren't there yet into a table, and gives their number.
-    ///
-    /// # Errors
-    ///
-    /// `NoMemory` where memory is refused; else the first fault of a row; `KeyTaken` where the table is strict and a row
-    /// shares its key with a different one that is stored or stands before it; or `Limit` where all tables together would
-    /// have more than 1,000,000 rows. Nothing has changed then.
-    pub fn insert(&mut self, table: u32, rows: Items<Row>) -> Result<u32, Fail<Refusal>>
-        requires there { table < length self.old }
-        requires few { length rows < 2 ^ 32 }
-        ensures inserted { IfOk result (λ count. Inserts self.old table rows self.new count) }
-        ensures valid { OnOk result (insert_fault self.old table rows ≡ None) }
-        ensures refused { IfErr result (λ e. IsRefusedAs e (insert_fault self.old table rows)) }
-        ensures err { OnErr result (self.new ≡ self.old) }
-        ensures stored { IsStored self.new }
-    {
-        let _ = &self.tables;
-        self.check_rows(table, rows.as_slice())?;
-        let fresh = fresh_rows(rows.into_vec(), &self.rows(table), self.key(table))?;
-        let count = fresh.rows.len();
-        if count > MOST_ROWS - self.row_total() as usize {
-            drop(fresh);
-            let what = LimitKind::Rows;
-            return Err(Fail::Refused(Refusal::Limit { what }));
-        }
-        self.add(table, fresh)?;
-        Ok(count as u32)
-    }
-
     /// Takes the rows away from a table for which all tests hold.
     fn remove(&mut self, table: u32, tests: &[ColumnTest])
         requires { table < length self.old }
-        ensures stored { IsStored self.new }
+        ensures stored { AreValidTables self.new }
         ensures spared { (rows : List (List Value)) × IsSpared (key_at self.old table) (rows_at self.old table) tests.now rows × (self.new ≡ with_rows self.old table rows) × (length rows ≤ length (rows_at self.old table)) }
     {
         match self.tables.get_index_mut(table as usize) {
@@ -282,27 +243,28 @@ impl Database {
     pub fn delete(&mut self, table: u32, tests: &[ColumnTest]) -> u32
         requires { table < length self.old }
         ensures deleted { Deletes self.old table tests.now self.new result }
-        ensures stored { IsStored self.new }
+        ensures stored { AreValidTables self.new }
     {
         let stored = self.rows(table).len();
         self.remove(table, tests);
         (stored - self.rows(table).len()) as u32
     }
 
-    /// Makes a table strict: it holds no two rows of one key from then on.
+    /// Makes a table strict, unless two of its rows share the key: then this gives the first two rows of the first block of more
+    /// than one row, and nothing has changed.
     ///
     /// # Errors
     ///
-    /// `NoMemory` where memory is refused; else `KeyBroken` with the first two rows of the first block of more than one row.
-    /// Nothing has changed then.
-    pub fn set_strict(&mut self, table: u32) -> Result<(), Fail<Refusal>>
+    /// `NoMemory` where memory is refused. Nothing has changed then.
+    pub fn make_strict(&mut self, table: u32) -> Result<Option<Clash>, NoMemory>
         requires { table < length self.old }
-        ensures checked { Checked result (strict_fault self.old table) (λ _. self.new ≡ with_mark self.old table true) }
+        ensures clash { IfOk result (λ clash. clash ≡ first_clash (key_at self.old table) (rows_at self.old table)) }
+        ensures changed { IfOk result (λ clash. MatchOption clash (self.new ≡ with_mark self.old table true) (λ _. self.new ≡ self.old)) }
         ensures err { OnErr result (self.new ≡ self.old) }
-        ensures stored { IsStored self.new }
+        ensures stored { AreValidTables self.new }
     {
         match self.tables.get_index_mut(table as usize) {
-            Some(found) => found.set_strict(),
+            Some(found) => found.make_strict(),
             None => unreachable!(),
         }
     }
@@ -311,7 +273,7 @@ impl Database {
     pub fn drop_strict(&mut self, table: u32)
         requires { table < length self.old }
         ensures is { self.new ≡ with_mark self.old table false }
-        ensures stored { IsStored self.new }
+        ensures stored { AreValidTables self.new }
     {
         match self.tables.get_index_mut(table as usize) {
             Some(found) => found.drop_strict(),
@@ -319,21 +281,22 @@ impl Database {
         }
     }
 
-    /// Gives a table another key: its rows stay, and stand in the block order of that key.
+    /// Gives a table another key: its rows stay, and stand in the block order of that key. If the table is strict and two rows
+    /// would share the key, this gives the first two rows of the first block of more than one row, and nothing has changed.
     ///
     /// # Errors
     ///
-    /// `NoMemory` where memory is refused; else, where the table is strict, `KeyBroken` with the first two rows of the first
-    /// block of more than one row that it would have. Nothing has changed then.
-    pub fn set_key(&mut self, table: u32, key: Items<u32>) -> Result<(), Fail<Refusal>>
+    /// `NoMemory` where memory is refused. Nothing has changed then.
+    pub fn rekey(&mut self, table: u32, key: Items<u32>) -> Result<Option<Clash>, NoMemory>
         requires there { table < length self.old }
         requires key { IsKey (length (kinds_at self.old table)) key }
-        ensures checked { Checked result (rekey_fault self.old table key) (λ _. Rekeys self.old table key self.new) }
+        ensures clash { IfOk result (λ clash. clash ≡ rekey_clash self.old table key) }
+        ensures changed { IfOk result (λ clash. MatchOption clash (Rekeys self.old table key self.new) (λ _. self.new ≡ self.old)) }
         ensures err { OnErr result (self.new ≡ self.old) }
-        ensures stored { IsStored self.new }
+        ensures stored { AreValidTables self.new }
     {
         match self.tables.get_index_mut(table as usize) {
-            Some(found) => found.set_key(key),
+            Some(found) => found.rekey(key),
             None => unreachable!(),
         }
     }

@@ -1,12 +1,9 @@
 //! The tables of a database, each a list of rows in block order.
 #![tactic(auto)]
 
-mod cells;
-mod check;
+mod clash;
 mod database;
-mod keys;
 mod order;
-mod probe;
 mod rows;
 mod search;
 mod span;
@@ -14,8 +11,10 @@ mod steps;
 mod table;
 mod test;
 
-pub use cells::{cell, passes};
+pub use clash::{Clash, shares_key};
 pub use database::Database;
-pub use probe::Probe;
+pub use row_order::{Probe, cell, passes};
+pub use rows::{Fresh, place_in};
+pub use search::{first_keyed, leading, parted, second_keyed};
 pub use steps::Steps;
 pub use test::ColumnTest;

@@ -1,9 +1,9 @@
 //! Rows by some first key values: they are found by halving in this order.
 ghost use Rattle.std.specs.Prelude.{◌≡◌, ◌≤◌, length};
-ghost use Rattle.table_blocks.specs.Spans.{probe_cmp};
+ghost use Rattle.row_order.specs.Spans.{probe_cmp};
 
-use crate::probe::Probe;
 use cqa_value::{NOTHING, Row, compare};
+use row_order::Probe;
 use std::cmp::Ordering;
 
 /// Compares the first key values of a row with a probe.

@@ -1,63 +1,59 @@
-//! Rows in block order: how new ones are sorted in, and how rows are taken out.
+//! Rows in block order: how a row is found, how rows are put in another order, and how they are taken out.
 //! Nothing is compared that its place or its key tells.
-ghost use Rattle.std.specs.Prelude.{◌≡◌, ◌≤◌, ◌<◌, ◌+◌, ◌-◌, ◌↔◌, IsTrue, filter, not, MatchOption, OnErr, IfOk, Some, None, if◌then◌else◌, slice_get, List, Contains, length, take, drop};
-ghost use Rattle.std.specs.List.{AllByRecursion};
+ghost use Rattle.std.specs.Prelude.{◌≡◌, ◌≤◌, ◌+◌, ◌↔◌, IsTrue, MatchOption, OnErr, IfOk, Ok, Some, None, if◌then◌else◌, slice_get, List, Contains, length};
 ghost use Rattle.std.specs.List.Sorted.{IsStrictlySortedBy};
 ghost use Rattle.std.specs.Ordering.{is_lt};
-ghost use Rattle.std.specs.declared.cmp.Ordering.TheVariants.{Less};
 ghost use Rattle.cqa_value.specs.declared.value.Value.{Value as Cell};
 ghost use Rattle.cqa_model.specs.Database.{AreConsistent, block_cmp};
-ghost use Rattle.cqa_model.specs.Refusal.{Checked};
-ghost use Rattle.table_blocks.specs.Keys.{block_order, broken_fault};
-ghost use Rattle.table_blocks.specs.Spans.{IsSpan};
-ghost use Rattle.table_blocks.specs.Tables.{IsPlace, ArePlaces, AreMergeable, IsSpared, is_among, count_new, TestsHold};
+ghost use Rattle.row_order.specs.Ordered.{block_order};
+ghost use Rattle.table_blocks.specs.Keys.{first_clash};
+ghost use Rattle.row_order.specs.Spans.{IsSpan};
+ghost use Rattle.table_blocks.specs.Tables.{IsPlace, IsSpared, TestsHold};
 
-use crate::keys::check_consistent;
-use crate::probe::Probe;
-use crate::search::{first_keyed, leading, parted, second_keyed};
+use crate::clash::{Clash, clash_of};
+use crate::search::{first_keyed, parted, second_keyed};
 use crate::span::rows_with;
 use crate::test::{ColumnTest, known_key, passes_all};
-use cqa_model::Refusal;
-use cqa_value::{Fail, NoMemory, Row};
-use row_order::{block_compare, sort_rows};
+use cqa_value::{NoMemory, Row};
+use row_order::{Probe, block_compare, put_in_order};
 use row_pieces::{Pieces, Rows};
 use std::alloc::Global;
 
-/// Puts rows in block order, each once.
-pub fn put_in_order(rows: &mut Vec<Row>, key: &[u32])
-    ensures { rows.new.items ≡ block_order key.now rows.old.items }
+/// Whether no two rows were found that share the key.
+fn is_clear(found: &Result<Option<Clash>, NoMemory>) -> bool
+    ensures { IsTrue result ↔ (found.now ≡ Ok None) }
 {
-    sort_rows(*rows.allocator(), rows.as_mut_slice(), key);
-    rows.dedup();
+    matches!(found, Ok(None))
 }
 
-/// Puts rows in the block order of another key.
+/// Puts rows in the block order of another key, unless a strict table would have two rows of one key: then this gives the
+/// first two rows of the first block of more than one row, and the rows stand as before.
 ///
 /// # Errors
 ///
-/// `NoMemory` where memory is refused; else, where the table is strict, `KeyBroken` with the first two rows of the first
-/// block of more than one row. The rows stand as before then.
+/// `NoMemory` where memory is refused. The rows stand as before then.
 fn reorder(
     rows: &mut Vec<Row>,
     old_key: &[u32],
     key: &[u32],
     strict: bool,
-) -> Result<(), Fail<Refusal>>
+) -> Result<Option<Clash>, NoMemory>
     requires { IsStrictlySortedBy (block_cmp old_key.now) rows.old.items }
-    ensures checked { Checked result (if strict then broken_fault key.now (block_order key.now rows.old.items) else None) (λ _. (rows.new.items ≡ block_order key.now rows.old.items) × (IsTrue strict → AreConsistent key.now rows.new.items)) }
+    ensures clash { IfOk result (λ clash. clash ≡ (if strict then first_clash key.now (block_order key.now rows.old.items) else None)) }
+    ensures changed { IfOk result (λ clash. MatchOption clash ((rows.new.items ≡ block_order key.now rows.old.items) × (IsTrue strict → AreConsistent key.now rows.new.items)) (λ _. rows.new.items ≡ rows.old.items)) }
     ensures err { OnErr result (rows.new.items ≡ rows.old.items) }
     ensures as_many { length rows.new.items ≡ length rows.old.items }
 {
     put_in_order(rows, key);
     if !strict {
-        return Ok(());
+        return Ok(None);
     }
     let ordered = Rows::over(rows.as_slice());
-    let checked = check_consistent(*rows.allocator(), &ordered, key);
-    if checked.is_err() {
+    let found = clash_of(*rows.allocator(), &ordered, key);
+    if !is_clear(&found) {
         put_in_order(rows, old_key);
     }
-    checked
+    found
 }
 
 /// As many rows without values as are asked for.
@@ -69,20 +65,22 @@ fn blank_rows(alloc: Global, count: usize) -> Result<Vec<Row>, NoMemory>
     Ok(rows)
 }
 
-/// Puts a table's rows in the block order of another key: they change places with blank ones while they are sorted.
+/// Puts a table's rows in the block order of another key, unless a strict table would have two rows of one key: then this
+/// gives the first two rows of the first block of more than one row. The rows change places with blank ones while they are
+/// sorted.
 ///
 /// # Errors
 ///
-/// `NoMemory` where memory is refused; else, where the table is strict, `KeyBroken` with the first two rows of the first
-/// block of more than one row. The rows stand as before then.
+/// `NoMemory` where memory is refused. The rows stand as before then, and where two are given.
 pub fn put_in_order_of(
     rows: &mut Pieces,
     old_key: &[u32],
     key: &[u32],
     strict: bool,
-) -> Result<(), Fail<Refusal>>
+) -> Result<Option<Clash>, NoMemory>
     requires { IsStrictlySortedBy (block_cmp old_key.now) rows.old }
-    ensures checked { Checked result (if strict then broken_fault key.now (block_order key.now rows.old) else None) (λ _. (rows.new ≡ block_order key.now rows.old) × (IsTrue strict → AreConsistent key.now rows.new)) }
+    ensures clash { IfOk result (λ clash. clash ≡ (if strict then first_clash key.now (block_order key.now rows.old) else None)) }
+    ensures changed { IfOk result (λ clash. MatchOption clash ((rows.new ≡ block_order key.now rows.old) × (IsTrue strict → AreConsistent key.now rows.new)) (λ _. rows.new ≡ rows.old)) }
     ensures err { OnErr result (rows.new ≡ rows.old) }
     ensures as_many { length rows.new ≡ length rows.old }
 {
@@ -109,30 +107,6 @@ pub fn place_in(rows: &Rows<'_>, key: &[u32], row: &Row) -> usize
     )
 }
 
-/// The same, if all rows before a place are below the row, and it is expected so many rows behind that: where the key doesn't
-/// begin with the first column, it is looked for from there on.
-fn place_from(rows: &Rows<'_>, from: usize, reach: usize, key: &[u32], row: &Row) -> usize
-    requires there { from ≤ length rows.now }
-    ensures within { result ≤ length rows.now }
-    ensures place { IsStrictlySortedBy (block_cmp key.now) rows.now → AllByRecursion (λ other. block_cmp key.now other row.now ≡ Less) (take from rows.now) → IsPlace (block_cmp key.now) rows.now row.now result }
-{
-    prove!(from <= rows.len());
-    if from == rows.len() {
-        return from;
-    }
-    if key.first() == Some(&0) {
-        return place_in(rows, key, row);
-    }
-    let (_, rest) = rows.split_at(from);
-    from + leading(
-        &rest,
-        reach,
-        |other| -> bool
-            ensures { result ≡ is_lt (block_cmp key.entry.now other.now row.entry.now) }
-        { block_compare(key, other, row).is_lt() },
-    )
-}
-
 /// The place of a row, if it is there.
 pub fn find_in(rows: &Rows<'_>, key: &[u32], row: &Row) -> Option<usize>
     requires { IsStrictlySortedBy (block_cmp key.now) rows.now }
@@ -142,51 +116,11 @@ pub fn find_in(rows: &Rows<'_>, key: &[u32], row: &Row) -> Option<usize>
     if rows.stands(at, row) { Some(at) } else { None }
 }
 
-/// Moves those of sorted rows that aren't stored to the front, with their places among the stored ones, and gives their
-/// number.
-fn fresh_first(rows: &mut [Row], places: &mut [usize], stored: &Rows<'_>, key: &[u32]) -> usize
-    requires stored { IsStrictlySortedBy (block_cmp key.now) stored.now }
-    requires given { IsStrictlySortedBy (block_cmp key.now) rows.old }
-    requires room { length places.old ≡ length rows.old }
-    ensures within { result ≤ length rows.old }
-    ensures fresh { take result rows.new ≡ filter (λ row. not (is_among stored.now row)) rows.old }
-    ensures placed { ArePlaces (block_cmp key.now) stored.now (filter (λ row. not (is_among stored.now row)) rows.old) (take result places.new) }
-{
-    let reach = stored.len() / rows.len().max(1);
-    let mut fresh = 0;
-    let mut from = 0;
-    for at in 0..rows.len() {
-        let row = &rows[at];
-        from = place_from(stored, from, reach, key, row);
-        if !stored.stands(from, row) {
-            rows.swap(fresh, at);
-            places[fresh] = from;
-            fresh += 1;
-        }
-    }
-    fresh
-}
-
 /// Sorted rows that aren't stored, and the place of each among the stored ones.
 #[derive(Drop)]
 pub struct Fresh {
     pub rows: Vec<Row>,
     pub places: Vec<usize>,
-}
-
-/// Those of sorted rows that aren't stored.
-fn without(mut rows: Vec<Row>, stored: &Rows<'_>, key: &[u32]) -> Result<Fresh, NoMemory>
-    requires stored { IsStrictlySortedBy (block_cmp key.now) stored.now }
-    requires given { IsStrictlySortedBy (block_cmp key.now) rows.items }
-    ensures fresh { IfOk result (λ fresh. fresh.rows.items ≡ filter (λ row. not (is_among stored.now row)) rows.items) }
-    ensures placed { IfOk result (λ fresh. ArePlaces (block_cmp key.now) stored.now fresh.rows.items fresh.places.items) }
-{
-    let mut places = Vec::new(*rows.allocator());
-    places.resize(rows.len(), 0)?;
-    let fresh = fresh_first(rows.as_mut_slice(), places.as_mut_slice(), stored, key);
-    rows.truncate(fresh);
-    places.truncate(fresh);
-    Ok(Fresh { rows, places })
 }
 
 /// The places from which on and up to which rows stand that have some first key values.
@@ -217,19 +151,4 @@ pub fn remove(rows: &mut Pieces, key: &[u32], tests: &[ColumnTest])
             ensures { IsTrue result ↔ (TestsHold tests.entry.now row.now → ⊥) }
         { !passes_all(row, tests) },
     );
-}
-
-/// Those of some rows that aren't stored, in block order and each once.
-///
-/// # Errors
-///
-/// `NoMemory` where memory is refused.
-pub fn fresh_rows(mut rows: Vec<Row>, stored: &Rows<'_>, key: &[u32]) -> Result<Fresh, NoMemory>
-    requires { IsStrictlySortedBy (block_cmp key.now) stored.now }
-    ensures new { IfOk result (λ fresh. (row : List Cell) → Contains fresh.rows.items row ↔ (Contains rows.items row × (Contains stored.now row → ⊥))) }
-    ensures count { IfOk result (λ fresh. length fresh.rows.items ≡ count_new stored.now rows.items) }
-    ensures mergeable { IfOk result (λ fresh. AreMergeable key.now stored.now fresh.rows.items fresh.places.items) }
-{
-    put_in_order(&mut rows, key);
-    without(rows, stored, key)
 }

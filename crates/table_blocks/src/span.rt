@@ -3,13 +3,13 @@
 ghost use Rattle.std.specs.Prelude.{◌≡◌, ◌+◌, ◌*◌, ◌<◌, ◌≤◌, ◌^◌, ℕ, length, true, false, IfSome, Some, slice_get};
 ghost use Rattle.std.specs.List.Sorted.{IsStrictlySortedBy, IsPartitionedBy, IsPartitionPoint};
 ghost use Rattle.cqa_model.specs.Database.{block_cmp};
-ghost use Rattle.table_blocks.specs.Spans.{probe_cmp, comes_before, IsSpan};
+ghost use Rattle.row_order.specs.Spans.{probe_cmp, comes_before, IsSpan};
 
 use crate::order::compare_key;
-use crate::probe::Probe;
 use crate::search::{leading, parted};
 use crate::steps::Steps;
 use cqa_value::Value;
+use row_order::Probe;
 use row_pieces::Rows;
 use std::cmp::Ordering;
 use std::sync::ledger::Ledger;

@@ -1,11 +1,11 @@
 //! Comparisons of keys, counted in a ledger.
 //! A clause can bound them, and they cost no byte.
 ghost use Rattle.std.specs.Prelude.{◌≡◌, ◌+◌, ◌<◌, ◌≤◌, length};
-ghost use Rattle.table_blocks.specs.Spans.{probe_cmp};
+ghost use Rattle.row_order.specs.Spans.{probe_cmp};
 
 use crate::order::compare_key;
-use crate::probe::Probe;
 use cqa_value::Row;
+use row_order::Probe;
 use std::cmp::Ordering;
 use std::marker::Model;
 use std::sync::ledger::{Blank, Book, Ledger, Share};

@@ -1,18 +1,18 @@
 //! One table: a schema, and rows of it in block order.
 //! Only its own methods change its rows.
-ghost use Rattle.std.specs.Prelude.{◌≡◌, ◌+◌, ◌≤◌, ◌<◌, ◌^◌, ◌++◌, [], List, Contains, length, true, false, IsTrue, None, if◌then◌else◌, OnOk, OnErr};
+ghost use Rattle.std.specs.Prelude.{◌≡◌, ◌+◌, ◌≤◌, ◌++◌, [], List, Contains, length, true, false, IsTrue, None, if◌then◌else◌, OnOk, OnErr, IfOk, MatchOption};
 ghost use Rattle.std.specs.List.Sorted.{IsStrictlySortedBy};
 ghost use Rattle.cqa_value.specs.declared.value.Value.{Value};
 ghost use Rattle.cqa_model.specs.Database.{AreConsistent, IsTable, IsRowOf, block_cmp};
-ghost use Rattle.cqa_model.specs.Refusal.{Checked};
-ghost use Rattle.table_blocks.specs.Keys.{IsKey, block_order, taken_fault, broken_fault};
+ghost use Rattle.row_order.specs.Ordered.{block_order};
+ghost use Rattle.table_blocks.specs.Keys.{IsKey, first_clash};
 ghost use Rattle.table_blocks.specs.Tables.{AreMergeable, AreValidRows, IsMerged, IsSpared, IsRekeyed};
 
-use crate::keys::{check_consistent, check_taken};
+use crate::clash::{Clash, clash_of};
 use crate::rows::{Fresh, put_in_order_of, remove};
 use crate::test::ColumnTest;
-use cqa_model::{Refusal, Schema};
-use cqa_value::{Fail, Items, NoMemory, Row};
+use cqa_model::Schema;
+use cqa_value::{Items, NoMemory};
 use row_pieces::{Pieces, Rows};
 use std::alloc::Global;
 use std::marker::Model;
@@ -66,6 +66,14 @@ impl Table {
         key_places(&self.schema)
     }
 
+    /// Whether it is strict: no two of its rows share its key then.
+    pub fn is_strict(&self) -> bool
+        ensures is { result ≡ self.now.schema.strict }
+        ensures consistent { IsTrue result → AreConsistent self.now.schema.key self.now.rows }
+    {
+        self.schema.strict
+    }
+
     /// Its rows, in block order.
     pub fn rows(&self) -> Rows<'_>
         ensures is { result ≡ self.now.rows }
@@ -93,35 +101,15 @@ impl Table {
         Ok(())
     }
 
-    /// Refuses the rows of a statement that the table can't hold since it is strict.
+    /// Makes the table strict, unless two rows share its key: then this gives the first two rows of the first block of more than
+    /// one row, and nothing has changed.
     ///
     /// # Errors
     ///
-    /// `NoMemory` where memory is refused; else `KeyTaken` with the first row that shares its key with a different one that
-    /// is stored or stands before it, and that one.
-    pub fn check_keys(&self, rows: &[Row]) -> Result<(), Fail<Refusal>>
-        requires { length rows.now < 2 ^ 32 }
-        ensures { Checked result (if self.now.schema.strict then taken_fault self.now.schema.key self.now.rows 1 rows.now else None) (λ _. IsTrue self.now.schema.strict → AreConsistent self.now.schema.key (self.now.rows ++ rows.now)) }
-    {
-        if !self.schema.strict {
-            return Ok(());
-        }
-        check_taken(
-            self.rows.allocator(),
-            &self.rows.rows(),
-            rows,
-            key_places(&self.schema),
-        )
-    }
-
-    /// Makes the table strict.
-    ///
-    /// # Errors
-    ///
-    /// `NoMemory` where memory is refused; else `KeyBroken` with the first two rows of the first block of more than one row.
-    /// Nothing has changed then.
-    pub fn set_strict(&mut self) -> Result<(), Fail<Refusal>>
-        ensures checked { Checked result (broken_fault self.old.schema.key self.old.rows) (λ _. self.new ≡ record self.old { schema = record self.old.schema { strict = true } }) }
+    /// `NoMemory` where memory is refused. Nothing has changed then.
+    pub fn make_strict(&mut self) -> Result<Option<Clash>, NoMemory>
+        ensures clash { IfOk result (λ clash. clash ≡ first_clash self.old.schema.key self.old.rows) }
+        ensures changed { IfOk result (λ clash. MatchOption clash (self.new ≡ record self.old { schema = record self.old.schema { strict = true } }) (λ _. self.new ≡ self.old)) }
         ensures err { OnErr result (self.new ≡ self.old) }
         ensures table { IsTable self.new }
         ensures valid { AreValidRows self.new.rows }
@@ -129,9 +117,13 @@ impl Table {
         ensures rows { self.new.rows ≡ self.old.rows }
     {
         let key = key_places(&self.schema);
-        check_consistent(self.rows.allocator(), &self.rows.rows(), key)?;
-        self.schema.strict = true;
-        Ok(())
+        match clash_of(self.rows.allocator(), &self.rows.rows(), key)? {
+            Some(clash) => Ok(Some(clash)),
+            None => {
+                self.schema.strict = true;
+                Ok(None)
+            }
+        }
     }
 
     /// Lets the table hold rows that share a key.
@@ -143,15 +135,16 @@ impl Table {
         self.schema.strict = false;
     }
 
-    /// Gives the table another key, and puts its rows in the block order of that key.
+    /// Gives the table another key, and puts its rows in the block order of that key, unless it is strict and two rows would
+    /// share the key: then this gives the first two rows of the first block of more than one row, and nothing has changed.
     ///
     /// # Errors
     ///
-    /// `NoMemory` where memory is refused; else, where the table is strict, `KeyBroken` with the first two rows of the first
-    /// block of more than one row. Nothing has changed then.
-    pub fn set_key(&mut self, key: Items<u32>) -> Result<(), Fail<Refusal>>
+    /// `NoMemory` where memory is refused. Nothing has changed then.
+    pub fn rekey(&mut self, key: Items<u32>) -> Result<Option<Clash>, NoMemory>
         requires { IsKey (length self.old.schema.columns) key }
-        ensures checked { Checked result (if self.old.schema.strict then broken_fault key (block_order key self.old.rows) else None) (λ _. IsRekeyed self.old key self.new) }
+        ensures clash { IfOk result (λ clash. clash ≡ (if self.old.schema.strict then first_clash key (block_order key self.old.rows) else None)) }
+        ensures changed { IfOk result (λ clash. MatchOption clash (IsRekeyed self.old key self.new) (λ _. self.new ≡ self.old)) }
         ensures err { OnErr result (self.new ≡ self.old) }
         ensures table { IsTable self.new }
         ensures valid { AreValidRows self.new.rows }
@@ -159,14 +152,18 @@ impl Table {
         ensures no_more { length self.new.rows ≤ length self.old.rows }
     {
         let strict = self.schema.strict;
-        put_in_order_of(
+        match put_in_order_of(
             &mut self.rows,
             key_places(&self.schema),
             key.as_slice(),
             strict,
-        )?;
-        self.schema.key = key;
-        Ok(())
+        )? {
+            Some(clash) => Ok(Some(clash)),
+            None => {
+                self.schema.key = key;
+                Ok(None)
+            }
+        }
     }
 
     /// Takes the rows away for which all tests hold.

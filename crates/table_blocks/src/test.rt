@@ -4,13 +4,12 @@ ghost use Rattle.std.specs.Prelude.{◌≡◌, ◌≤◌, ◌↔◌, IfSome, IsT
 ghost use Rattle.cqa_value.specs.declared.value.Value.{Value as Cell};
 ghost use Rattle.cqa_model.specs.Database.{nothing};
 ghost use Rattle.cqa_model.specs.Query.{OpHolds};
-ghost use Rattle.table_blocks.specs.Spans.{first_key};
+ghost use Rattle.row_order.specs.Spans.{first_key};
 ghost use Rattle.table_blocks.specs.Tables.{TestsHold};
 
-use crate::cells::passes;
-use crate::probe::Probe;
 use cqa_model::{MOST_COLUMNS, Op};
 use cqa_value::{Row, Value};
+use row_order::{Probe, passes};
 use std::alloc::Global;
 
 /// A comparison of a table's column with a value.

@@ -1,6 +1,6 @@
 use Rattle.std.proofs.Common.{◌≡◌, ◌+◌, ◌-◌, ◌<◌, ◌++◌, length, take, sym, ap, subst, ◌∙◌, arith}
 use Rattle.std.proofs.lemmas.List.{length-append, take_all}
-use Rattle.row_pieces.specs.Joined.{joined, AreNumbered}
+use Rattle.row_pieces.specs.Joined.{joined, ArePlaced}
 use Rattle.row_pieces.proofs.Joining.{joined_more, joined_rise}
 use Rattle.row_pieces.proofs.Cutting.{begins}
 use Rattle.row_pieces.proofs.piece.end_of.Goals as goal
@@ -15,7 +15,7 @@ ends c =
     let within = c.requires.within in
     let there : at < length ps = omega (arith, some, within) in
     let same : at + 1 ≡ c.args.count = omega (arith, some) in
-    let start = begins ps at 0 there piece c.index-pieces-count.is (omega arith) (subst (λ n. AreNumbered 0 (take n ps)) (sym same) c.requires.numbered) in
+    let start = begins ps at 0 there piece c.index-pieces-count.is (omega arith) (subst (λ n. ArePlaced 0 (take n ps)) (sym same) c.requires.numbered) in
     let more = ap length (joined_more ps at piece there ∙ ap (λ p. joined (take at ps) ++ p.rows) (sym c.index-pieces-count.is)) in
     let sum = length-append (joined (take at ps)) piece.rows in
     let all = ap (λ n. length (joined (take n ps))) same in

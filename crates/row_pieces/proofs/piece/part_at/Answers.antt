@@ -1,5 +1,5 @@
 use Rattle.std.proofs.Common.{◌≡◌, ◌+◌, ◌-◌, ◌++◌, length, drop, arith, ap, sym, subst, ◌∙◌}
-use Rattle.row_pieces.specs.Joined.{joined, AreNumbered}
+use Rattle.row_pieces.specs.Joined.{joined, ArePlaced}
 use Rattle.row_pieces.proofs.Joining.{begun, reached, rest, behind, some_piece}
 use Rattle.row_pieces.proofs.piece.part_at.Goals as goal
 
@@ -32,6 +32,6 @@ returns c from n low high =
       rest from ps n place at found piece c.index-pieces-at.is
           ∙ ap (λ xs. xs ++ joined (drop (at + 1) ps)) (sym front)
           ∙ ap (λ qs. c.split_at.result.1.now ++ joined qs) (sym c.split_at-2.ensures.back),
-      subst (λ qs. AreNumbered (place + length c.split_at.result.1.now) qs) (sym c.split_at-2.ensures.back)
-          (subst (λ xs. AreNumbered (place + length xs) (drop (at + 1) ps)) (sym front) (behind from ps n place at found piece c.index-pieces-at.is)),
+      subst (λ qs. ArePlaced (place + length c.split_at.result.1.now) qs) (sym c.split_at-2.ensures.back)
+          (subst (λ xs. ArePlaced (place + length xs) (drop (at + 1) ps)) (sym front) (behind from ps n place at found piece c.index-pieces-at.is)),
     )

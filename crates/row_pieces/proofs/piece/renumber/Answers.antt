@@ -1,6 +1,6 @@
 use Rattle.std.proofs.Common.{◌≡◌, ◌+◌, ◌<◌, ◌≤◌, ◌++◌, ◌∷◌, [], length, take, set, get_or, arith, ap, sym, subst, ◌∙◌, refl}
 use Rattle.row_pieces.specs.declared.piece.Piece.{Piece}
-use Rattle.row_pieces.specs.Joined.{joined, AreNumbered}
+use Rattle.row_pieces.specs.Joined.{joined, ArePlaced}
 use Rattle.row_pieces.proofs.Joining.{joined-append, joined_more, joined_rise, joined_same, numbered_push}
 use Rattle.std.proofs.lemmas.List.{append-nil, length-append, take_all, take_more_set}
 use Rattle.row_pieces.proofs.piece.renumber.Goals as goal
@@ -49,6 +49,6 @@ loop-at-preserved c =
     in
     record {
       start = (counted c).0 ∙ sym (ap length more);
-      numbered = subst (λ qs. AreNumbered 0 qs) (sym front) (numbered_push 0 (take at ps) new c.loop-at.invariant.numbered (let start = c.loop-at.invariant.start in omega (arith, start)));
+      numbered = subst (λ qs. ArePlaced 0 qs) (sym front) (numbered_push 0 (take at ps) new c.loop-at.invariant.numbered (let start = c.loop-at.invariant.start in omega (arith, start)));
       rows = joined_same ps at c.index-pieces-at.result new inside refl ∙ c.loop-at.invariant.rows;
     }

@@ -1,7 +1,7 @@
 use Rattle.std.proofs.Common.{◌≡◌, ◌+◌, ◌<◌, ◌≤◌, [], ◌∷◌, length, take, drop, get_or, sym, ap, subst, ◌∙◌, arith}
 use Rattle.std.proofs.lemmas.List.{length-append, length-drop, drop_all, drop_more, take_all, take_at}
 use Rattle.row_pieces.specs.Inserted.{with_item, with_items, AreRising}
-use Rattle.row_pieces.specs.Joined.{joined, AreNumbered}
+use Rattle.row_pieces.specs.Joined.{joined, ArePlaced}
 use Rattle.row_pieces.proofs.Putting.{last_drop, length-with_items, open_lower, rising_drop, rising_most, rising_order}
 use Rattle.row_pieces.proofs.put.put_each.Goals as goal
 
@@ -20,11 +20,11 @@ loop-row-init c =
       taken = sym (take_all (length rows) rows (omega arith));
       put = sym (ap (λ xs. with_items (joined ps) xs (drop (length rows) places)) (drop_all (length rows) rows (omega arith)));
       within = omega (arith, end, kept);
-      numbered = subst (λ qs. AreNumbered 0 qs) (sym whole) c.requires.numbered;
+      numbered = subst (λ qs. ArePlaced 0 qs) (sym whole) c.requires.numbered;
       opened = λ k l. record {
         some = omega (arith, end, kept, some);
         within = omega (arith, end, kept);
-        numbered = subst (λ qs. AreNumbered 0 qs) (sym whole) c.requires.numbered;
+        numbered = subst (λ qs. ArePlaced 0 qs) (sym whole) c.requires.numbered;
         there = subst (λ qs. get_or places k 0 ≤ length (joined qs)) (sym whole) (rising_most 0 (length (joined ps)) places k 0 c.requires.rising (omega (arith, l, each))).1;
       };
     }

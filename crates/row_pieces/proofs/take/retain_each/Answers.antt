@@ -2,7 +2,7 @@ use Rattle.std.proofs.Common.{◌-◌, ◌+◌, ◌<◌, ◌++◌, [], length, t
 use Rattle.std.proofs.lemmas.List.{get_or_default, take-set-le}
 use Rattle.std.proofs.lemmas.Grind.{common_steps}
 use Rattle.row_pieces.specs.declared.piece.Piece.{Piece}
-use Rattle.row_pieces.specs.Joined.{joined, AreNumbered}
+use Rattle.row_pieces.specs.Joined.{joined, ArePlaced}
 use Rattle.row_pieces.proofs.Joining.{joined_parts, numbered_take}
 use Rattle.row_pieces.proofs.Retaining.{fewer_set, first_begins, retained_first, retained_next, retained_none}
 use Rattle.row_pieces.proofs.take.retain_each.Goals as goal
@@ -52,10 +52,10 @@ returns-then-high-eq0-clause-numbered g c =
     let new : Piece = record { start = old.start; rows = c.retain_some-stays.new.rows } in
     let first = c.piece_of-first.result in
     let front = take-set-le first ps at new c.loop-at.invariant.begun ∙ c.loop-at.invariant.front in
-    subst (λ qs. AreNumbered 0 qs) (sym front) (numbered_take 0 c.args.pieces.now first c.requires.numbered)
+    subst (λ qs. ArePlaced 0 qs) (sym front) (numbered_take 0 c.args.pieces.now first c.requires.numbered)
 
 pub returns-clause-numbered : goal.returns-clause-numbered
-returns-clause-numbered g c = subst (λ qs. AreNumbered 0 qs) (sym c.loop-at.invariant.front) (numbered_take 0 c.args.pieces.now c.piece_of-first.result c.requires.numbered)
+returns-clause-numbered g c = subst (λ qs. ArePlaced 0 qs) (sym c.loop-at.invariant.front) (numbered_take 0 c.args.pieces.now c.piece_of-first.result c.requires.numbered)
 
 pub loop-at-preserved : goal.loop-at-preserved
 loop-at-preserved g c =

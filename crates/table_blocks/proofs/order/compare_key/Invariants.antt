@@ -1,7 +1,7 @@
 use Rattle.std.proofs.Common.{◌≡◌, drop, take, length}
 use Rattle.cqa_value.specs.Values.{row_cmp}
 use Rattle.cqa_model.specs.Database.{key_of}
-use Rattle.table_blocks.specs.Spans.{probe_cmp}
+use Rattle.row_order.specs.Spans.{probe_cmp}
 use Rattle.table_blocks.proofs.order.compare_key.Given as goal
 
 -- what is left of the key decides

@@ -1,6 +1,6 @@
 use Rattle.std.proofs.Common.{sym, true≢false}
 use Rattle.cqa_model.specs.Database.{block_cmp}
-use Rattle.table_blocks.proofs.BlockOrder.{block_total, block_exact, block_alike}
+use Rattle.row_order.proofs.BlockOrder.{block_total, block_exact, block_alike}
 use Rattle.table_blocks.proofs.Sorting.{absent}
 use Rattle.table_blocks.proofs.rows.find_in.Goals as goal
 

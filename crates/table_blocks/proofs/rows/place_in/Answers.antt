@@ -2,7 +2,7 @@ use Rattle.std.proofs.Common.{rules}
 use Rattle.std.specs.Ordering.{is_lt}
 use Rattle.std.proofs.lemmas.Fn.{always_returns_same}
 use Rattle.cqa_model.specs.Database.{block_cmp}
-use Rattle.table_blocks.proofs.BlockOrder.{block_total, block_exact, block_alike}
+use Rattle.row_order.proofs.BlockOrder.{block_total, block_exact, block_alike}
 use Rattle.table_blocks.proofs.Following.{followed}
 use Rattle.table_blocks.proofs.Sorting.{place_from_point, parted}
 use Rattle.table_blocks.proofs.rows.place_in.Goals as goal

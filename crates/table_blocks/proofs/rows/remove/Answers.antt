@@ -6,7 +6,7 @@ use Rattle.std.proofs.lemmas.List.Filters.{length-filter_both}
 use Rattle.cqa_value.specs.declared.value.Value.{Value}
 use Rattle.cqa_value.proofs.Words.{Contains-filter}
 use Rattle.cqa_model.specs.Database.{block_cmp}
-use Rattle.table_blocks.specs.Spans.{IsSpan}
+use Rattle.row_order.specs.Spans.{IsSpan}
 use Rattle.table_blocks.specs.Tables.{TestsHold}
 use Rattle.table_blocks.proofs.Passing.{dec_tests, is_yes, is_no, turned_round}
 use Rattle.std.proofs.lemmas.Fn.{always_returns_same}

@@ -3,7 +3,7 @@ use Rattle.std.proofs.lemmas.List.Elements.{at_read}
 use Rattle.std.proofs.lemmas.Option.{get_or_from_slice_get}
 use Rattle.row_pieces.proofs.Halving.{front_passes, back_fails}
 use Rattle.cqa_value.specs.declared.value.Value.{Value}
-use Rattle.table_blocks.specs.Spans.{probe_cmp, comes_before}
+use Rattle.row_order.specs.Spans.{probe_cmp, comes_before}
 use Rattle.table_blocks.proofs.Halving.{halves}
 use Rattle.table_blocks.proofs.span.bound.Goals as goal
 

@@ -1,6 +1,6 @@
 use Rattle.std.proofs.Common.{◌≡◌, ◌+◌, ◌<◌, ◌≤◌, ◌^◌, ℕ, length, true, false}
 use Rattle.std.specs.List.{AllWithin}
-use Rattle.table_blocks.specs.Spans.{probe_cmp, comes_before}
+use Rattle.row_order.specs.Spans.{probe_cmp, comes_before}
 use Rattle.table_blocks.proofs.span.bound.Given as goal
 
 abbrev pub invariant-loop-size : goal.invariant-loop-size

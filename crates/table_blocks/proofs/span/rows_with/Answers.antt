@@ -1,7 +1,7 @@
 use Rattle.std.proofs.Common.{◌≡◌, ◌≤◌, length, sym, ap, subst, ◌∙◌, false, true, drop, take, rules}
 use Rattle.std.specs.List.Sorted.{IsPartitionedBy, IsPartitionPoint}
 use Rattle.std.proofs.lemmas.Fn.{always_returns_same}
-use Rattle.table_blocks.specs.Spans.{probe_cmp, comes_before, IsSpan}
+use Rattle.row_order.specs.Spans.{probe_cmp, comes_before, IsSpan}
 use Rattle.table_blocks.proofs.Following.{followed_probe}
 use Rattle.table_blocks.proofs.Spanning.{parted, span-is, sorted-drop}
 use Rattle.table_blocks.proofs.span.rows_with.Goals as goal

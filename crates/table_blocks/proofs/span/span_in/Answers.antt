@@ -1,6 +1,6 @@
 use Rattle.std.proofs.Common.{◌≡◌, ◌≤◌, length, sym, ap, subst, ◌∙◌, false, true, drop, take}
 use Rattle.std.specs.List.Sorted.{IsPartitionedBy, IsPartitionPoint}
-use Rattle.table_blocks.specs.Spans.{probe_cmp, comes_before, IsSpan}
+use Rattle.row_order.specs.Spans.{probe_cmp, comes_before, IsSpan}
 use Rattle.table_blocks.proofs.Spanning.{parted, span-is, sorted-drop}
 use Rattle.table_blocks.proofs.span.span_in.Goals as goal
 

@@ -7,7 +7,7 @@ use Rattle.row_pieces.specs.Inserted.{with_items, AreRising}
 use Rattle.table_blocks.proofs.Placing.{places-long}
 use Rattle.table_blocks.proofs.Merging.{with_items-long}
 use Rattle.table_blocks.proofs.Inserting.{merged_in, rising_in}
-use Rattle.table_blocks.proofs.Taking.{consistent_within}
+use Rattle.table_blocks.proofs.Sharing.{consistent_within}
 use Rattle.table_blocks.proofs.table.Table.add.Goals as goal
 
 -- the fresh rows and their places, beside the rows as they are held

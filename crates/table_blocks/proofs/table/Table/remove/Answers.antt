@@ -2,7 +2,7 @@ use Rattle.std.proofs.Common.{subst}
 use Rattle.std.specs.List.Sorted.{IsStrictlySortedBy}
 use Rattle.cqa_model.specs.Database.{block_cmp, IsTable}
 use Rattle.table_blocks.specs.Tables.{AreValidRows, IsSpared}
-use Rattle.table_blocks.proofs.Taking.{consistent_within}
+use Rattle.table_blocks.proofs.Sharing.{consistent_within}
 use Rattle.table_blocks.proofs.table.Table.remove.Goals as goal
 use Rattle.table_blocks.proofs.table.Table.remove.Goals.{After-remove}
 

@@ -1,7 +1,0 @@
-use Rattle.std.proofs.Common.{◌≡◌, take}
-use Rattle.table_blocks.specs.Lists.{shown}
-use Rattle.table_blocks.proofs.keys.by_key.Given as goal
-
--- the references so far are to the rows so far
-abbrev pub invariant-loop-row : goal.invariant-loop-row
-invariant-loop-row l = shown l.sorted.items ≡ take l.row-index l.rows

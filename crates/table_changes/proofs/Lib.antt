@@ -1,0 +1,9 @@
+pub mod Membership
+pub mod Counting
+pub mod Placing
+pub mod Following
+pub mod FirstSharing
+pub mod ByKey
+pub mod Taking
+pub mod Inserting
+pub mod Columns
