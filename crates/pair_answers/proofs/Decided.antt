@@ -15,13 +15,13 @@ use Rattle.cqa_model.proofs.Classic.{mem-head, mem-tail, mem-nil, mem-cases}
 use Rattle.cqa_model.proofs.Reification.{placed}
 use Rattle.weak_pairs.specs.declared.decide.Decision.{Decision}
 use Rattle.weak_pairs.specs.declared.decide.Decision.TheVariants.{Certain, Rejected}
-use Rattle.weak_pairs.specs.Pairs.{IsPair, IsStored}
-use Rattle.weak_pairs.specs.Peeling.{IsBlock, In, row_of}
+use Rattle.weak_pairs.specs.Pairs.{IsPair, IsStoredRow}
+use Rattle.weak_pairs.specs.Peeling.{IsBlockNumber, In, row_of}
 use Rattle.weak_pairs.specs.Numbering.{AreNumbered}
-use Rattle.weak_pairs.specs.Outcomes.{AreStarts, AreSided, IsSplit, IsDecided, IsTold, IsTaken, PairDecided}
+use Rattle.weak_pairs.specs.Outcomes.{AreStarts, AreSided, IsSplit, IsPairDecision, TellsCertainty, IsTaken, PairDecided}
 use Rattle.pair_answers.specs.Numbers.{numbered, place_of, AreRowStarts}
 use Rattle.pair_answers.specs.Lists.{AreRowLists}
-use Rattle.pair_answers.specs.Kept.{AreAscendingFrom, AreKept, IsAnswer}
+use Rattle.pair_answers.specs.Kept.{AreAscendingFrom, AreKeptNumbers, IsPairAnswer}
 use Rattle.pair_answers.proofs.Numbers as numbers
 
 abbrev pub taken_rows : List (Option ℕ) → List ℕ
@@ -80,10 +80,10 @@ module _ (db : List Table) (q : Query) (row : List Value) (pair : IsPair q) (fit
   pub sided : AreSided lists first split
   sided = law.sided db q row ls.cols place first lists split pair ls.shared starts numbering ls.lists_are parted
 
-  module _ (own : List (Option ℕ)) (ch : (v i : ℕ) → row_of own v ≡ Some i → IsBlock first v × In first v i) (size : length own + 1 ≡ length first)
+  module _ (own : List (Option ℕ)) (ch : (v i : ℕ) → row_of own v ≡ Some i → IsBlockNumber first v × In first v i) (size : length own + 1 ≡ length first)
       (chosen : ℕ → List Value → Bool) (tie : (F : ℕ) (x : List Value) → (chosen F x ≡ true) ↔ IsTaken place own F x) (kept : List (List (List Value)))
       (are : (F : ℕ) → F < length q.atoms → rows_of q kept F ≡ filter (chosen F) (rows_of q (stored db) F)) where
-    pub are-kept : AreKept q (stored db) kept (taken_rows own)
+    pub are-kept : AreKeptNumbers q (stored db) kept (taken_rows own)
     are-kept = record {
       ascending = taken-ascend own (λ v. slice_index first v) (λ v l. rise v l) (λ v i e. inside v i e) 0 (omega arith);
       within = λ i m. let t = taken-from own i m in let h = ch t.0 i t.2 in subst (λ n. i < n) ls.size (numbering.within t.0 i h.0 h.1);
@@ -106,19 +106,19 @@ module _ (db : List Table) (q : Query) (row : List Value) (pair : IsPair q) (fit
         from F l x (i, m, e) =
             let t = taken-from own i m in
             let h = ch t.0 i t.2 in
-            let s : IsStored q (stored db) (placed F x) = subst (λ z. IsStored q (stored db) z) e (numbering.stored i (numbering.within t.0 i h.0 h.1)) in
+            let s : IsStoredRow q (stored db) (placed F x) = subst (λ z. IsStoredRow q (stored db) z) e (numbering.stored i (numbering.within t.0 i h.0 h.1)) in
             subst (λ z. Contains z x) (sym (are F l)) ((Contains-filter (chosen F) (rows_of q (stored db) F) x).1 (s.1, (tie F x).1 (t.0, i, t.1, t.2, e)))
 
-  answer : (d : Decision) → IsDecided lists first d → IsAnswer q db row d
+  answer : (d : Decision) → IsPairDecision lists first d → IsPairAnswer q db row d
   answer Certain d = law.certain db q row ls.cols place first lists fits long pair ls.shared numbering ls.lists_are d
   answer (Rejected own) d =
       let r = law.rejected db q row ls.cols place first lists own fits long pair ls.shared numbering ls.lists_are d in
       (r.2.0, r.2.1, r.2.2, are-kept own.items d.found.own_in d.found.size r.0 r.1 r.2.0 r.2.3)
 
-  pub answered : {E : Type 0} (result : Result Decision E) → IfOk result (IsDecided lists first) → IfOk result (IsAnswer q db row)
+  pub answered : {E : Type 0} (result : Result Decision E) → IfOk result (IsPairDecision lists first) → IfOk result (IsPairAnswer q db row)
   answered (Ok d) h = answer d h
   answered (Err e) h = tt
 
-  pub told : {E : Type 0} (result : Result Bool E) → IfOk result (IsTold lists first) → IfOk result (λ certain. IsTrue certain ↔ IsCertain db q row)
+  pub told : {E : Type 0} (result : Result Bool E) → IfOk result (TellsCertainty lists first) → IfOk result (λ certain. IsTrue certain ↔ IsCertain db q row)
   told (Ok certain) d = law.told db q row ls.cols place first lists certain fits long pair ls.shared numbering ls.lists_are d
   told (Err e) d = tt

@@ -9,10 +9,10 @@ use Rattle.cqa_model.specs.Database.{nothing}
 use Rattle.cqa_model.specs.Query.{atom_at}
 use Rattle.cqa_model.specs.Variables.{AreLinked}
 use Rattle.cqa_model.specs.Plan.{TestHolds}
-use Rattle.pair_answers.specs.Fitting.{GivenBy, IsJoin, AreJoins, AreApart, AllFit, none_cond}
+use Rattle.pair_answers.specs.Fitting.{GivenBy, IsJoin, AreJoins, AreColumnsApart, AllRowsFit, none_cond}
 use Rattle.pair_answers.proofs.Parts.{from_parts}
 
-module _ (q : Query) (F : ℕ) (none : q.answer ≡ []) (joins : AreJoins q) (apart : AreApart q F) where
+module _ (q : Query) (F : ℕ) (none : q.answer ≡ []) (joins : AreJoins q) (apart : AreColumnsApart q F) where
   holds : (x : List Value) (c : Cond) → IsJoin c → TestHolds F x c
   holds x (Join c d) h = tt
   holds x (Test d op y) h = absurd h
@@ -21,7 +21,7 @@ module _ (q : Query) (F : ℕ) (none : q.answer ≡ []) (joins : AreJoins q) (ap
   gives x i (Join c d) h = tt
   gives x i (Test d op y) h = absurd h
 
-  pub plain : AllFit q F
+  pub plain : AllRowsFit q F
   plain row x = from_parts q row F x
       (λ i j li lj l. own i j li lj l (ℕ_discrete i j))
       (λ k lk. holds x (slice_index_or q.conds k none_cond) (joins k lk))

@@ -1,8 +1,6 @@
-pub mod Mutual
 pub mod Sharing
 pub mod Parts
 pub mod FitsAll
-pub mod Begins
 pub mod Walking
 pub mod RowStarts
 pub mod Listing

@@ -14,13 +14,13 @@ use Rattle.cqa_model.specs.Blocks.{AreBlocks}
 use Rattle.cqa_model.specs.Plan.{Placed}
 use Rattle.cqa_model.proofs.Classic.{mem-nil, mem-cases}
 use Rattle.cqa_model.proofs.Reification.{placed}
-use Rattle.weak_pairs.specs.Pairs.{IsStored, InBlock}
-use Rattle.weak_pairs.specs.Peeling.{IsBlock, In}
+use Rattle.weak_pairs.specs.Pairs.{IsStoredRow, InBlock}
+use Rattle.weak_pairs.specs.Peeling.{IsBlockNumber, In}
 use Rattle.weak_pairs.specs.Numbering.{AreNumbered}
 use Rattle.weak_pairs.specs.Outcomes.{AreStarts, IsSplit}
-use Rattle.pair_answers.specs.Starts.{ends_from, starts_from}
+use Rattle.weak_pairs.specs.Starts.{ends_from, starts_from}
 use Rattle.pair_answers.specs.Numbers.{placed_in, numbered, place_of}
-use Rattle.pair_answers.proofs.Begins.{flat, ends-length, start-next, start-within, start-rises, at-block, block-at, ends-append, ends-map, flat-append, flat-map}
+use Rattle.weak_pairs.proofs.Begins.{flat, ends-length, start-next, start-within, start-rises, at-block, block-at, ends-append, ends-map, flat-append, flat-map}
 
 some-in : (bs : List (List (List Value))) (x : List Value) (b : List (List Value)) → Contains bs b → Contains b x → Contains (flat bs) x
 some-in [] x b m n = absurd (mem-nil b m)
@@ -62,10 +62,10 @@ module _ (q : Query) (tables : List (List (List Value))) (two : length q.atoms �
       ap (λ z. z ++ ends_from (length (rows_of q tables 0)) my) (sym (ends-map (placed 0) 0 xs)) ∙
       ap (λ z. ends_from 0 mx ++ ends_from z my) (let e : length (rows_of q tables 0) ≡ 0 + length (flat mx) = omega (arith, long) in e) ∙ sym (ends-append 0 mx my))
 
-  inside : (v : ℕ) → IsBlock start v → v < length blocks
+  inside : (v : ℕ) → IsBlockNumber start v → v < length blocks
   inside v l = let e = ends-length 0 blocks in omega (arith, l, e)
 
-  next : (v : ℕ) → IsBlock start v → slice_index start (v + 1) ≡ slice_index start v + length (get_or blocks v [])
+  next : (v : ℕ) → IsBlockNumber start v → slice_index start (v + 1) ≡ slice_index start v + length (get_or blocks v [])
   next v l = let e : v + 1 ≡ suc v = omega arith in ap (λ z. slice_index start z) e ∙ start-next 0 blocks v (inside v l)
 
   left-block : (v : ℕ) → v < length xs → get_or blocks v [] ≡ map (placed 0) (get_or xs v [])
@@ -99,7 +99,7 @@ module _ (q : Query) (tables : List (List (List Value))) (two : length q.atoms �
   ]
 
   -- the row of a number is in its block
-  pub member : (v i : ℕ) → IsBlock start v → In start v i → Contains (get_or blocks v []) (place i)
+  pub member : (v i : ℕ) → IsBlockNumber start v → In start v i → Contains (get_or blocks v []) (place i)
   member v i l m =
       let n = next v l in
       let low = m.0 in
@@ -119,7 +119,7 @@ module _ (q : Query) (tables : List (List (List Value))) (two : length q.atoms �
       go (x, hx, ex) (y, hy, ey) = subst (λ z. InBlock q tables z u) ex (subst (λ z. InBlock q tables (placed F x) z) ey
           (refl, subst (λ z. Contains z y) h.joined (some-in bs y c of.0 hy), h.alike c of.0 x y hx hy))
 
-  alike : (v i j : ℕ) → IsBlock start v → In start v i → In start v j → InBlock q tables (place i) (place j)
+  alike : (v i j : ℕ) → IsBlockNumber start v → In start v i → In start v j → InBlock q tables (place i) (place j)
   alike v i j l mi mj = elim (block-of v (inside v l)) [
     | inl h ↦ together 0 xs hx (get_or xs v []) (get_or blocks v []) h.1 (place i) (place j) (member v i l mi) (member v j l mj)
     | inr h ↦ together 1 ys hy (get_or ys h.0 []) (get_or blocks v []) h.3 (place i) (place j) (member v i l mi) (member v j l mj)
@@ -157,7 +157,7 @@ module _ (q : Query) (tables : List (List (List Value))) (two : length q.atoms �
   turned : (t s : Placed) → Contains (rows_of q tables t.atom) t.row → InBlock q tables t s → InBlock q tables s t
   turned t s m b = (sym b.0, subst (λ z. Contains (rows_of q tables z) t.row) (sym b.0) m, subst (λ z. SharesKey (atom_key q z) s.row t.row) (sym b.0) (λ p k. sym (b.2 p k)))
 
-  found : (i : ℕ) → i < length (numbered q tables) → (v : ℕ) × IsBlock start v × In start v i
+  found : (i : ℕ) → i < length (numbered q tables) → (v : ℕ) × IsBlockNumber start v × In start v i
   found i l =
       let n = ap length all-is in
       let h = block-at 0 blocks i (omega (arith, n, l)) in
@@ -168,16 +168,16 @@ module _ (q : Query) (tables : List (List (List Value))) (two : length q.atoms �
       let high : 0 + i < slice_index start (h.0 + 1) = subst (λ z. 0 + i < slice_index start z) e h.3 in
       (h.0, omega (arith, w, len), (omega (arith, low), omega (arith, high)))
 
-  stored-row : (t : Placed) → Contains (numbered q tables) t → IsStored q tables t
+  stored-row : (t : Placed) → Contains (numbered q tables) t → IsStoredRow q tables t
   stored-row t m = elim (Contains-append_cases (placed_in 0 (rows_of q tables 0)) (placed_in 1 (rows_of q tables 1)) t m) [
     | inl n ↦ of 0 (omega (arith, two)) (Contains-from_map (placed 0) (rows_of q tables 0) t n)
     | inr n ↦ of 1 (omega (arith, two)) (Contains-from_map (placed 1) (rows_of q tables 1) t n)
   ]
     where
-      of : (F : ℕ) → F < length q.atoms → (x : List Value) × Contains (rows_of q tables F) x × (placed F x ≡ t) → IsStored q tables t
-      of F l (x, h, e) = subst (λ z. IsStored q tables z) e (l, h)
+      of : (F : ℕ) → F < length q.atoms → (x : List Value) × Contains (rows_of q tables F) x × (placed F x ≡ t) → IsStoredRow q tables t
+      of F l (x, h, e) = subst (λ z. IsStoredRow q tables z) e (l, h)
 
-  row-number : (t : Placed) → IsStored q tables t → Contains (numbered q tables) t
+  row-number : (t : Placed) → IsStoredRow q tables t → Contains (numbered q tables) t
   row-number t (l, m) = go t.atom t.row l m
     where
       go : (F : ℕ) (x : List Value) → F < length q.atoms → Contains (rows_of q tables F) x → Contains (numbered q tables) (placed F x)
@@ -195,14 +195,14 @@ module _ (q : Query) (tables : List (List (List Value))) (two : length q.atoms �
     one = λ v i j l mi lj b. one v i j l mi (found j lj) (stored-row (place i) (Contains-get_or (numbered q tables) i (placed 0 []) (within v i l mi))).1 b;
   }
     where
-      within : (v i : ℕ) → IsBlock start v → In start v i → i < length (numbered q tables)
+      within : (v i : ℕ) → IsBlockNumber start v → In start v i → i < length (numbered q tables)
       within v i l m =
           let w = start-within 0 blocks (v + 1) (let k = inside v l in omega (arith, k)) in
           let n = ap length all-is in
           let high = m.1 in
           omega (arith, w, n, high)
 
-      one : (v i j : ℕ) → IsBlock start v → In start v i → (w : ℕ) × IsBlock start w × In start w j → Contains (rows_of q tables (place i).atom) (place i).row → InBlock q tables (place i) (place j) → In start v j
+      one : (v i j : ℕ) → IsBlockNumber start v → In start v i → (w : ℕ) × IsBlockNumber start w × In start w j → Contains (rows_of q tables (place i).atom) (place i).row → InBlock q tables (place i) (place j) → In start v j
       one v i j l mi (w, lw, mj) st b = go (dec_lt v w) (dec_lt w v)
         where
           go : Dec (v < w) → Dec (w < v) → In start v j

@@ -6,9 +6,9 @@ use Rattle.cqa_model.specs.Database.{Table, stored}
 use Rattle.cqa_model.specs.Query.{atom_at, atom_key, rows_of, FitsDatabase}
 use Rattle.cqa_model.specs.Blocks.{AreBlocks}
 use Rattle.table_blocks.specs.Tables.{key_at, rows_at}
-use Rattle.pair_answers.specs.Starts.{ends_from}
+use Rattle.weak_pairs.specs.Starts.{ends_from}
 use Rattle.pair_answers.specs.Numbers.{AreRowStarts}
-use Rattle.pair_answers.proofs.Begins.{ends-length}
+use Rattle.weak_pairs.proofs.Begins.{ends-length}
 
 module _ (db : List Table) (q : Query) (fits : FitsDatabase q db) (two : length q.atoms ≡ 2) where
   blocks-of : (F t : ℕ) → F < length q.atoms → t ≡ (atom_at q F).table → (bs : List (List (List Value))) → AreBlocks (key_at db t) (rows_at db t) bs → AreBlocks (atom_key q F) (rows_of q (stored db) F) bs

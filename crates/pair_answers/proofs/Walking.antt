@@ -2,8 +2,8 @@
 use Rattle.std.proofs.Common.{◌≡◌, ℕ, ◌+◌, ◌≤◌, List, [], ◌∷◌, ◌++◌, length, refl, sym, ap, ◌∙◌, arith}
 use Rattle.std.proofs.lemmas.List.{append_assoc, append-nil, length-append}
 use Rattle.cqa_value.specs.declared.value.Value.{Value}
-use Rattle.pair_answers.specs.Starts.{ends_from}
-use Rattle.pair_answers.proofs.Begins.{flat, ends-length, ends-append, flat-append}
+use Rattle.weak_pairs.specs.Starts.{ends_from}
+use Rattle.weak_pairs.proofs.Begins.{flat, ends-length, ends-append, flat-append}
 
 -- the blocks are those gone over and those left, and the ends of the former were appended
 pub record AreEndsSoFar (first : ℕ) (old : List ℕ) (all left : List (List (List Value))) (ends : List ℕ) (end : ℕ) : Type 0 where

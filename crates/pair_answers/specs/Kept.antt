@@ -22,7 +22,7 @@ AreAscendingFrom least [] = Unit {0}
 AreAscendingFrom least (n ∷ ns) = (least ≤ n) × AreAscendingFrom (n + 1) ns
 
 -- the rows of these numbers are what a repair keeps of the query's tables
-pub record AreKept (q : Query) (tables kept : List (List (List Value))) (numbers : List ℕ) : Type 0 where
+pub record AreKeptNumbers (q : Query) (tables kept : List (List (List Value))) (numbers : List ℕ) : Type 0 where
   pub ascending : AreAscendingFrom 0 numbers
   pub within : (i : ℕ) → Contains numbers i → i < length (numbered q tables)
   pub exactly : (F : ℕ) → F < length q.atoms → (x : List Value) → Contains (rows_of q kept F) x ↔ ((i : ℕ) × Contains numbers i × (place_of q tables i ≡ record { atom = F; row = x }))
@@ -34,11 +34,11 @@ pub record Rejects (q : Query) (db : List Table) (row : List Value) (ids : List 
   pub numbers : List ℕ
   pub repair : IsRepair db kept
   pub none : (w : List (List Value)) → IsWitness q kept row w → ⊥
-  pub are : AreKept q (stored db) kept numbers
+  pub are : AreKeptNumbers q (stored db) kept numbers
   pub named : ids ≡ map (id_of q (stored db)) numbers
 
 -- the rows that blocks took are what some repair without a witness keeps
-abbrev pub IsAnswer : Query → List Table → List Value → Decision → Type 0
-IsAnswer q db row Certain = IsCertain db q row
-IsAnswer q db row (Rejected own) =
-    (kept : List (List (List Value))) × IsRepair db kept × ((w : List (List Value)) → IsWitness q kept row w → ⊥) × AreKept q (stored db) kept (filter_map (λ taken. taken) own.items)
+abbrev pub IsPairAnswer : Query → List Table → List Value → Decision → Type 0
+IsPairAnswer q db row Certain = IsCertain db q row
+IsPairAnswer q db row (Rejected own) =
+    (kept : List (List (List Value))) × IsRepair db kept × ((w : List (List Value)) → IsWitness q kept row w → ⊥) × AreKeptNumbers q (stored db) kept (filter_map (λ taken. taken) own.items)

@@ -5,7 +5,7 @@ use Rattle.cqa_model.specs.declared.query.Query.{Query}
 use Rattle.cqa_model.specs.Query.{atom_key, rows_of}
 use Rattle.cqa_model.specs.Blocks.{AreBlocks}
 use Rattle.cqa_model.specs.Plan.{Placed}
-use Rattle.pair_answers.specs.Starts.{ends_from}
+use Rattle.weak_pairs.specs.Starts.{ends_from}
 
 abbrev pub placed_in : ℕ → List (List Value) → List Placed
 placed_in F rows = map (λ x. record { atom = F; row = x }) rows

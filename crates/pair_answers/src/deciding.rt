@@ -6,13 +6,13 @@ ghost use Rattle.cqa_model.specs.Database.{stored};
 ghost use Rattle.cqa_model.specs.Query.{FitsDatabase};
 ghost use Rattle.cqa_model.specs.Certain.{IsCertain};
 ghost use Rattle.weak_pairs.specs.Pairs.{IsPair};
-ghost use Rattle.pair_answers.specs.Kept.{IsAnswer, Rejects, id_of};
+ghost use Rattle.pair_answers.specs.Kept.{IsPairAnswer, Rejects, id_of};
 
 use crate::lists::{both_columns, row_lists};
 use crate::starts::block_starts;
 use cqa_model::{Query, RowId};
 use cqa_value::{Items, NoMemory, Row};
-use row_cursor::table_of;
+use join_access::table_of;
 use std::alloc::Global;
 use table_blocks::Database;
 use weak_pairs::laws::pair_decided;
@@ -80,7 +80,7 @@ fn decide_numbers(
     requires pair { IsPair query.now }
     requires fits { FitsDatabase query.now db.now }
     requires size { length row.now ≡ length query.now.answer }
-    ensures { IfOk result (IsAnswer query.now db.now row.now) }
+    ensures { IfOk result (IsPairAnswer query.now db.now row.now) }
 {
     let starts = block_starts(alloc, db, query)?;
     let columns = both_columns(alloc, query)?;

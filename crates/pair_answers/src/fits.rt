@@ -12,7 +12,7 @@ ghost use Rattle.pair_answers.specs.Fitting.{AnswerFits, GivenBy, GivenFits, IsG
 
 use cqa_model::{ColRef, Cond, Op, Query, Variables};
 use cqa_value::{NOTHING, Row};
-use row_cursor::{are_linked, test_holds, width_of};
+use join_access::{are_linked, test_holds, width_of};
 
 /// Whether two columns have these values alike, if they are linked.
 fn agrees(

@@ -6,10 +6,8 @@
 mod deciding;
 mod fits;
 mod lists;
-mod pair;
 mod plain;
 mod shared;
 mod starts;
 
 pub use deciding::{Kept, decide, is_certain};
-pub use pair::is_pair;

@@ -9,7 +9,7 @@ ghost use Rattle.cqa_model.specs.Naming.{AreVariables};
 ghost use Rattle.weak_pairs.specs.Digests.{lists_in};
 ghost use Rattle.weak_pairs.specs.Packing.{list_of as listed};
 ghost use Rattle.weak_pairs.specs.Pairs.{FitsAlone};
-ghost use Rattle.pair_answers.specs.Fitting.{AllFit};
+ghost use Rattle.pair_answers.specs.Fitting.{AllRowsFit};
 ghost use Rattle.pair_answers.specs.Shared.{pairs_of};
 ghost use Rattle.pair_answers.specs.Lists.{AreColumns, AreListsAdded, AreRowLists, IsListOf, columns_in};
 
@@ -18,7 +18,7 @@ use crate::plain::all_fit;
 use crate::shared::{Shared, shared_columns};
 use cqa_model::{Query, Variables, variables};
 use cqa_value::{NoMemory, Row};
-use row_cursor::table_of;
+use join_access::table_of;
 use row_pieces::Rows;
 use std::alloc::Global;
 use table_blocks::Database;
@@ -184,7 +184,7 @@ fn code_of(
 ) -> Option<u64>
     requires names { AreVariables query.now names.now }
     requires atom { atom < length query.now.atoms }
-    requires all { IsTrue all → AllFit query.now atom }
+    requires all { IsTrue all → AllRowsFit query.now atom }
     ensures { IfSome result (λ c. IsListOf query.now row.now columns.now atom x.now (listed c)) }
 {
     if !fits(query, names, row, atom, x, all) {
@@ -251,7 +251,7 @@ fn append_lists<'a>(
 fn fits(query: &Query, names: &Variables, row: &Row, atom: u32, x: &Row, all: bool) -> bool
     requires names { AreVariables query.now names.now }
     requires atom { atom < length query.now.atoms }
-    requires all { IsTrue all → AllFit query.now atom }
+    requires all { IsTrue all → AllRowsFit query.now atom }
     ensures { IsTrue result ↔ FitsAlone query.now row.now atom x.now }
 {
     if all {
@@ -272,7 +272,7 @@ fn list_of<'a>(
 ) -> Option<Picked<'a>>
     requires names { AreVariables query.now names.now }
     requires atom { atom < length query.now.atoms }
-    requires all { IsTrue all → AllFit query.now atom }
+    requires all { IsTrue all → AllRowsFit query.now atom }
     ensures { IsListOf query.now row.now columns.now atom x.now result }
 {
     if !fits(query, names, row, atom, x, all) {

@@ -4,10 +4,10 @@ ghost use Rattle.std.specs.Prelude.{◌≢◌, ◌<◌, IsTrue, length};
 ghost use Rattle.cqa_model.specs.Naming.{AreVariables};
 ghost use Rattle.cqa_model.specs.Shape.{IsInRange};
 ghost use Rattle.cqa_model.specs.Variables.{AreLinked};
-ghost use Rattle.pair_answers.specs.Fitting.{AllFit, AreApart, AreJoins, IsJoin};
+ghost use Rattle.pair_answers.specs.Fitting.{AllRowsFit, AreColumnsApart, AreJoins, IsJoin};
 
 use cqa_model::{ColRef, Cond, Query, Variables};
-use row_cursor::{are_linked, width_of};
+use join_access::{are_linked, width_of};
 
 /// Whether a condition is a join.
 fn is_join(cond: &Cond) -> bool
@@ -51,7 +51,7 @@ fn is_apart(query: &Query, names: &Variables, atom: u32, i: u32, j: u32) -> bool
 fn are_apart(query: &Query, names: &Variables, atom: u32) -> bool
     requires names { AreVariables query.now names.now }
     requires atom { atom < length query.now.atoms }
-    ensures { IsTrue result → AreApart query.now atom }
+    ensures { IsTrue result → AreColumnsApart query.now atom }
 {
     let columns = width_of(query, atom);
     for i in 0..columns {
@@ -69,7 +69,7 @@ fn are_apart(query: &Query, names: &Variables, atom: u32) -> bool
 pub(crate) fn all_fit(query: &Query, names: &Variables, atom: u32) -> bool
     requires names { AreVariables query.now names.now }
     requires atom { atom < length query.now.atoms }
-    ensures { IsTrue result → AllFit query.now atom }
+    ensures { IsTrue result → AllRowsFit query.now atom }
 {
     if !query.answer.is_empty() {
         return false;

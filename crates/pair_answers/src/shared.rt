@@ -9,7 +9,7 @@ ghost use Rattle.pair_answers.specs.Shared.{pairs_of};
 
 use cqa_model::{ColRef, Query, Variables};
 use cqa_value::NoMemory;
-use row_cursor::{are_linked, width_of};
+use join_access::{are_linked, width_of};
 use std::alloc::Global;
 
 /// A column of the first atom and one of the second, of one variable.

@@ -14,7 +14,7 @@ use Rattle.cqa_model.proofs.Repairs.{shares-self, shares-sym, shares-trans}
 use Rattle.cqa_value.proofs.Words.{cases_le, nat_cmp_less, sorted_join}
 use Rattle.repair_clauses.specs.declared.span.Span.{Span}
 use Rattle.repair_clauses.specs.Spans.{span_cmp, AreBasedTo, Covers}
-use Rattle.repair_clauses.specs.Runs.{ArePlaces}
+use Rattle.repair_clauses.specs.Runs.{AreRowPlaces}
 use Rattle.repair_clauses.specs.Avoiding.{HasFree}
 use Rattle.repair_clauses.proofs.Numbers.{place_of}
 use Rattle.repair_clauses.proofs.Columns.{places-up}
@@ -85,7 +85,7 @@ module _ (key : List ℕ) (rows : List (List Value)) (places : List ℕ) where
         subst (λ r. ((s : Span) × Contains spans s × Covers s r) ⊎ HasFree key rows places r) e (h.every i.0 (omega (arith, il, l)));
   }
 
-  module _ (order : IsStrictlySortedBy (block_cmp key) rows) (are : ArePlaces rows places) where
+  module _ (order : IsStrictlySortedBy (block_cmp key) rows) (are : AreRowPlaces rows places) where
     module _ (atom base n vars : ℕ) (spans : List Span) (h : AreFullTo atom base n vars spans) (here : n < length places) (end : ℕ) (some : n < end) (in' : end ≤ length places)
         (run : IsInRow key rows places n end) (stops : end < length places → Follows key rows (at (end - 1)) (at end) → ⊥) where
       abbrev start : ℕ

@@ -19,9 +19,9 @@ use Rattle.cqa_model.proofs.Repairs.{shares-self, shares-sym, shares-trans}
 use Rattle.cqa_model.proofs.Databases as databases
 use Rattle.cnf_form.specs.declared.formula.Lit.{Lit}
 use Rattle.cnf_form.specs.Literals.{Satisfies, SatisfiesAll}
-use Rattle.join_witness.specs.Listing.{AreAllNames}
+use Rattle.join_access.specs.Listing.{AreAllNames}
 use Rattle.repair_clauses.specs.declared.span.Span.{Span}
-use Rattle.repair_clauses.specs.Clauses.{Variable, HasNumber, IsBlock, IsNumberOf, row_of, variable_cmp, AreAll}
+use Rattle.repair_clauses.specs.Clauses.{Variable, HasNumber, AreBlockNumbers, IsNumberOf, row_of, variable_cmp, AreAll}
 use Rattle.repair_clauses.specs.Spans.{at, IsIn, IsNamed, IsNumbering, IsSpan, IsWholeBlock, span_cmp, AreBased, variables_of, numbers_in, place_at}
 use Rattle.repair_clauses.specs.Runs.{AreColumn}
 use Rattle.cqa_value.proofs.Words.{Contains-map, Contains-from_map, Contains-range, dec_one_below, in_range, is_yes, nat_cmp_less, no_of, sorted_join, yes_of}
@@ -35,9 +35,9 @@ use Rattle.repair_clauses.proofs.Encoding.{rows-few, variables-length}
 use Rattle.repair_clauses.proofs.Naming.{of_names}
 use Rattle.repair_clauses.proofs.FreeRows as free
 use Rattle.weak_pairs.specs.Pairs.{IsPair}
-use Rattle.pair_formula.specs.declared.graph.Pair.{Pair}
-use Rattle.pair_formula.specs.Graph.{positive, negative, not_both, graph_clauses, Meet, IsGraph}
-use Rattle.pair_formula.specs.Full.{IsFullRun, AreFullOf, IsFullSpan, IsFree, AreFullSpans, IsNumber, IsPairOf, AddsPairs}
+use Rattle.pair_refutation.specs.declared.graph.Pair.{Pair}
+use Rattle.pair_refutation.specs.Graph.{positive, negative, not_both, graph_clauses, Meet, IsGraph}
+use Rattle.pair_formula.specs.Full.{IsFullRun, AreFullOf, IsFullSpan, HasFreeRow, AreFullSpans, IsNumber, IsPairOf, AddsPairs}
 use Rattle.pair_formula.proofs.Linked.{IsMet, graph-of}
 
 module _ (q : Query) (db : List Table) (all : List (List RowId)) where
@@ -65,7 +65,7 @@ module _ (q : Query) (db : List Table) (all : List (List RowId)) where
     every = every;
   }
     where
-      every : (F p : ℕ) → F < length q.atoms → IsNamed all F p → ((s : Span) × Contains (spans ++ more) s × IsIn s (at F p)) ⊎ IsFree q db all F p
+      every : (F p : ℕ) → F < length q.atoms → IsNamed all F p → ((s : Span) × Contains (spans ++ more) s × IsIn s (at F p)) ⊎ HasFreeRow q db all F p
       every zero p l (names, m, e) = elim (h.every p (subst (Contains ps) e (c.to names m))) [
         | inl s ↦ inl (s.0, Contains-append_left spans more s.0 s.1, (sym (h.each s.0 s.1).of_atom, s.2.0, s.2.1))
         | inr f ↦ inr (ps, c, f)
@@ -116,7 +116,7 @@ module _ (q : Query) (db : List Table) (row : List Value) (all : List (List RowI
   in_order : IsStrictlySortedBy variable_cmp variables
   in_order = variables-sorted q db row spans h.in_order span-is
 
-  blocks-are : AreAll (IsBlock q db variables) blocks
+  blocks-are : AreAll (AreBlockNumbers q db variables) blocks
   blocks-are = are_blocks q db row spans h.in_order based span-is
 
   number-is : (F p n : ℕ) → IsNumber spans F p (Some n) → HasNumber variables n (at F p)
@@ -312,7 +312,7 @@ module _ (q : Query) (db : List Table) (row : List Value) (all : List (List RowI
           go (l, ml, e) = let n = Contains-from_map positive (numbers_in u) l ml in at-number n.0 n.1 (subst (λ (z : Lit). v z.var ≡ z.positive) (sym n.2) e)
 
       -- so is a row that is in no witness
-      by-free : (F p : ℕ) → F < length q.atoms → (x : List Value) → SharesKey (atom_key q F) x (row_of q db (at F p)) → IsFree q db all F p → Stays F x
+      by-free : (F p : ℕ) → F < length q.atoms → (x : List Value) → SharesKey (atom_key q F) x (row_of q db (at F p)) → HasFreeRow q db all F p → Stays F x
       by-free F p lF x sh (places, col, f) = (
         row_of q db (at F f.free),
         Contains-get_or (rows_of q (stored db) F) f.free [] f.there,
@@ -346,7 +346,7 @@ module _ (q : Query) (db : List Table) (row : List Value) (all : List (List RowI
           first : (u : Span) → Contains spans u → IsIn u (at F p) → SharesKey (atom_key q u.atom) (row_of q db (at u.atom u.start)) (row_of q db (at u.atom p))
           first u m g = let f = span-is u m in let w = f.whole.within in let g2 = g.2 in (f.whole.block p (omega (arith, w, g2))).1 (g.1, g.2)
 
-          go : ((s : Span) × Contains spans s × IsIn s (at F p)) ⊎ IsFree q db all F p → Stays F x
+          go : ((s : Span) × Contains spans s × IsIn s (at F p)) ⊎ HasFreeRow q db all F p → Stays F x
           go (inl (u, m, g)) =
               let k : SharesKey (atom_key q F) (row_of q db (at F u.start)) (row_of q db (at F p)) = subst (λ G. SharesKey (atom_key q G) (row_of q db (at G u.start)) (row_of q db (at G p))) (sym g.0) (first u m g) in
               in-span F x u m g.0 (shares-trans (atom_key q F) x (row_of q db (at F p)) (row_of q db (at F u.start)) here (shares-sym (atom_key q F) (row_of q db (at F u.start)) (row_of q db (at F p)) k))

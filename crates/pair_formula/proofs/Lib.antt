@@ -1,10 +1,6 @@
-pub mod Edging
-pub mod Ending
-pub mod Rowing
-pub mod Collecting
-pub mod Assembling
 pub mod Linked
 pub mod Sieving
 pub mod FullRuns
 pub mod FullSpans
 pub mod Pairing
+mod Rejecting

@@ -21,19 +21,19 @@ use Rattle.cqa_model.specs.Repairs.{SharesKey}
 use Rattle.cqa_model.specs.Query.{atom_key, rows_of, row_at, value, IsWitness, FitsDatabase}
 use Rattle.cqa_model.proofs.Repairs.{shares-self, shares-sym, shares-trans}
 use Rattle.cqa_model.proofs.Fitting.{fits_tables}
-use Rattle.join_witness.proofs.Sorted.{one_sorted, not_less}
+use Rattle.join_access.proofs.Sorted.{one_sorted, not_less}
 use Rattle.repair_clauses.specs.declared.formula.Encoded.{Encoded}
-use Rattle.repair_clauses.specs.Clauses.{Variable, variable_cmp, AreAll, HasNumber, SharesBlock, IsBlockOf, IsBlock, IsNumberOf, IsOfWitness, Formula, IsFormula, row_of}
+use Rattle.repair_clauses.specs.Clauses.{Variable, variable_cmp, AreAll, HasNumber, SharesBlock, IsBlockOf, AreBlockNumbers, IsNumberOf, IsOfWitness, Formula, IsFormula, row_of}
 use Rattle.repair_clauses.specs.Encodings.{IsEncoded}
 use Rattle.repair_clauses.proofs.Rows.{numbered, number_below, number_of, one_variable, block_numbers}
 use Rattle.repair_clauses.proofs.Order.{numbers_rise, atom_less}
 use Rattle.weak_pairs.specs.Pairs.{IsPair, FitsAlone, Agree}
 use Rattle.weak_pairs.proofs.Structure
-use Rattle.pair_answers.specs.Starts.{starts_from}
-use Rattle.pair_answers.proofs.Begins.{block-at, at-block, start-next}
-use Rattle.pair_formula.specs.declared.graph.Pair.{Pair}
-use Rattle.pair_formula.specs.Graph.{positive, negative, not_both, graph_clauses, Meet, AreAdjacent, AreBeside, ArePaired, IsGraph, IsListed, all_of, block_at}
-use Rattle.pair_formula.specs.Formulas.{IsPairFormula, IsUnsatisfiable}
+use Rattle.weak_pairs.specs.Starts.{starts_from}
+use Rattle.weak_pairs.proofs.Begins.{block-at, at-block, start-next}
+use Rattle.pair_refutation.specs.declared.graph.Pair.{Pair}
+use Rattle.pair_refutation.specs.Graph.{positive, negative, not_both, graph_clauses, Meet, AreAdjacent, AreBeside, ArePaired, IsGraph, IsInSomeBlock, all_of, block_at}
+use Rattle.pair_refutation.specs.Formulas.{IsPairFormula, IsUnsatisfiable}
 use Rattle.cqa_model.specs.Certain.{IsCertain}
 use Rattle.cnf_form.specs.Literals.{SatisfiesAll}
 use Rattle.repair_clauses.proofs.Exact.{clauses_decide}
@@ -69,7 +69,7 @@ pub record IsMet (q : Query) (db : List Table) (row : List Value) (variables : L
 
 -- blocks of numbered rows, and pairs of numbers of which each is that of a witness
 module _ (db : List Table) (q : Query) (row : List Value) (fits : FitsDatabase q db) (pair : IsPair q) (variables : List Variable) (in_order : IsStrictlySortedBy variable_cmp variables)
-    (blocks : List (List ℕ)) (all_blocks : AreAll (IsBlock q db variables) blocks) (pairs : List Pair) (exactly : (x y : ℕ) → Meet pairs x y ↔ IsMet q db row variables x y) where
+    (blocks : List (List ℕ)) (all_blocks : AreAll (AreBlockNumbers q db variables) blocks) (pairs : List Pair) (exactly : (x y : ℕ) → Meet pairs x y ↔ IsMet q db row variables x y) where
   met : (x y : ℕ) → Meet pairs x y → IsMet q db row variables x y
   met x y = (exactly x y).0
 
@@ -141,7 +141,7 @@ module _ (db : List Table) (q : Query) (row : List Value) (fits : FitsDatabase q
 
   -- ---- blocks
 
-  block-of : (v : ℕ) → v < length blocks → IsBlock q db variables (block_at blocks v)
+  block-of : (v : ℕ) → v < length blocks → AreBlockNumbers q db variables (block_at blocks v)
   block-of v l = (all_blocks.exactly (block_at blocks v)).0 (Contains-get_or blocks v [] l)
 
   blocks-share : (a b c : Variable) → SharesBlock q db a b → SharesBlock q db b c → SharesBlock q db a c
@@ -173,16 +173,16 @@ module _ (db : List Table) (q : Query) (row : List Value) (fits : FitsDatabase q
       same-place u v lu lv (same-list bu.0 bv.0 (block_at blocks u) (block_at blocks v) bu.2 bv.2
       (blocks-share bu.0 a.0 bv.0 a.2 (blocks-share a.0 c.0 bv.0 (beside x z a.0 c.0 a.1 c.1 s) (blocks-turn bv.0 c.0 c.2))))
 
-  listed-by : (x : ℕ) (a : Variable) → HasNumber variables x a → IsListed blocks x
+  listed-by : (x : ℕ) (a : Variable) → HasNumber variables x a → IsInSomeBlock blocks x
   listed-by x a n = go (block_numbers q db variables a)
     where
-      go : (numbers : List ℕ) × IsBlockOf q db variables a numbers → IsListed blocks x
+      go : (numbers : List ℕ) × IsBlockOf q db variables a numbers → IsInSomeBlock blocks x
       go (numbers, b) =
           let m = (all_blocks.exactly numbers).1 (a, numbered variables x a n, b) in
           let k : Contains numbers x = (b.exactly x).1 (a, n, (refl, shares-self (atom_key q a.atom) (row_of q db a))) in
           (m.0, m.1, subst (λ z. Contains z x) (sym (get_or_default blocks m.0 [] numbers m.1 ∙ m.2)) k)
 
-  listed : (x y : ℕ) → AreAdjacent pairs x y → IsListed blocks x
+  listed : (x y : ℕ) → AreAdjacent pairs x y → IsInSomeBlock blocks x
   listed x y (inl m) = let a = (met x y m).left in listed-by x a.0 a.1
   listed x y (inr m) = let a = (met y x m).right in listed-by x a.0 a.1
 

@@ -5,15 +5,15 @@ use Rattle.std.proofs.lemmas.List.Elements.{Contains-push, Contains-push_cases, 
 use Rattle.cqa_model.specs.declared.query.RowId.{RowId}
 use Rattle.cqa_model.proofs.Classic.{mem-nil}
 use Rattle.cnf_form.specs.declared.formula.Lit.{Lit}
-use Rattle.join_witness.specs.declared.all_witnesses.Witness.{Witness}
-use Rattle.join_witness.specs.Listing.{names_of}
-use Rattle.join_witness.proofs.Naming.{name}
+use Rattle.join_access.specs.declared.witness.Witness.{Witness}
+use Rattle.join_access.specs.Listing.{names_of}
+use Rattle.join_access.proofs.Naming.{name}
 use Rattle.repair_clauses.specs.declared.span.Span.{Span}
 use Rattle.repair_clauses.specs.Spans.{IsAt, place_at}
 use Rattle.repair_clauses.proofs.Numbers.{place_of}
 use Rattle.repair_clauses.proofs.Encoding.{place_read}
-use Rattle.pair_formula.specs.declared.graph.Pair.{Pair}
-use Rattle.pair_formula.specs.Graph.{not_both}
+use Rattle.pair_refutation.specs.declared.graph.Pair.{Pair}
+use Rattle.pair_refutation.specs.Graph.{not_both}
 use Rattle.pair_formula.specs.Full.{IsNumber, IsPairOf, AddsPair, AddsPairs}
 
 -- a row that is in no span has no number

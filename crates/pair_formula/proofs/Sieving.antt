@@ -12,7 +12,7 @@ use Rattle.cqa_model.specs.Query.{FitsDatabase}
 use Rattle.cqa_model.specs.Certain.{IsCertain, IsCandidate, IsCertainAnswer}
 use Rattle.cqa_model.proofs.Databases.{possible_is_candidate}
 use Rattle.cqa_model.proofs.Classic.{mem-head, mem-tail, mem-nil, mem-cases}
-use Rattle.row_cursor.proofs.Extending.{sorted-nil}
+use Rattle.join_access.proofs.Extending.{sorted-nil}
 use Rattle.repair_clauses.specs.Candidates.{AreCandidates}
 use Rattle.repair_clauses.proofs.Candidates.{has_length}
 use Rattle.pair_formula.specs.Sifting.{Sifts, AreSifted}

@@ -13,8 +13,8 @@ use Rattle.repair_clauses.specs.declared.span.Span.{Span}
 use Rattle.repair_clauses.specs.Spans.{at, Covers, HasSpan, IsIn, IsNamed, IsWholeBlock, span_cmp, AreBasedTo, place_at}
 use Rattle.repair_clauses.specs.Runs.{AreColumn}
 use Rattle.repair_clauses.specs.Avoiding.{HasFree}
-use Rattle.pair_formula.specs.declared.graph.Pair.{Pair}
-use Rattle.pair_formula.specs.Graph.{not_both}
+use Rattle.pair_refutation.specs.declared.graph.Pair.{Pair}
+use Rattle.pair_refutation.specs.Graph.{not_both}
 
 -- the row at a place is the next one of the same block
 abbrev pub Follows : List ℕ → List (List Value) → ℕ → ℕ → Type 0
@@ -62,8 +62,8 @@ pub record IsFullSpan (q : Query) (db : List Table) (all : List (List RowId)) (s
   pub full : (p : ℕ) → s.start ≤ p → p < s.start + s.count → IsNamed all s.atom p
 
 -- the block of the row at a place of an atom has a row that is in no witness
-abbrev pub IsFree : Query → List Table → List (List RowId) → ℕ → ℕ → Type 0
-IsFree q db all F p = (places : List ℕ) × AreColumn all F places × HasFree (atom_key q F) (rows_of q (stored db) F) places p
+abbrev pub HasFreeRow : Query → List Table → List (List RowId) → ℕ → ℕ → Type 0
+HasFreeRow q db all F p = (places : List ℕ) × AreColumn all F places × HasFree (atom_key q F) (rows_of q (stored db) F) places p
 
 -- exactly the full blocks, and how many rows they have, at most `2 * MOST_ROWS`
 pub record AreFullSpans (q : Query) (db : List Table) (all : List (List RowId)) (vars : ℕ) (spans : List Span) : Type 0 where
@@ -71,7 +71,7 @@ pub record AreFullSpans (q : Query) (db : List Table) (all : List (List RowId)) 
   pub based : AreBasedTo 0 spans vars
   pub small : vars ≤ 2 * MOST_ROWS
   pub each : (s : Span) → Contains spans s → IsFullSpan q db all s
-  pub every : (F p : ℕ) → F < length q.atoms → IsNamed all F p → HasSpan spans F p ⊎ IsFree q db all F p
+  pub every : (F p : ℕ) → F < length q.atoms → IsNamed all F p → HasSpan spans F p ⊎ HasFreeRow q db all F p
 
 -- the number of the row at a place of an atom, if it is in one of the spans
 abbrev pub IsNumber : List Span → ℕ → ℕ → Option ℕ → Type 0

@@ -1,5 +1,4 @@
-pub mod Graph
-pub mod Edges
-pub mod Formulas
 pub mod Full
 pub mod Sifting
+pub mod Proving
+pub mod Reasons

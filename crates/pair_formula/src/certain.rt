@@ -5,18 +5,19 @@
 ghost use Rattle.std.specs.Prelude.{◌≡◌, ◌↔◌, ◌++◌, ◌∷◌, ◌⊎◌, [], IfOk, IsTrue, OnOk, length};
 ghost use Rattle.cqa_model.specs.Query.{FitsDatabase};
 ghost use Rattle.cqa_model.specs.Certain.{IsCertain, IsCertainAnswer};
-ghost use Rattle.join_witness.specs.Listing.{AreAllNames, names_of};
+ghost use Rattle.join_access.specs.Listing.{AreAllNames, names_of};
 ghost use Rattle.join_witness.specs.Lookups.{IsLookup};
 ghost use Rattle.repair_clauses.specs.Candidates.{AreCandidates};
 ghost use Rattle.weak_pairs.specs.Pairs.{IsPair};
 ghost use Rattle.pair_formula.specs.Sifting.{Sifts, AreSifted};
 
-use crate::decide::is_unsatisfiable;
 use crate::formula::full_formula;
 use cqa_model::Query;
 use cqa_value::{Fail, Items, NoMemory, Row};
-use join_witness::{Lookup, TooMany, Witness, candidates, lookup_of, witnesses_by};
+use join_access::{TooMany, Witness};
+use join_witness::{Lookup, candidates, lookup_of, witnesses_by};
 use pair_answers::is_certain;
+use pair_refutation::is_unsatisfiable;
 use repair_clauses::are_avoidable;
 use std::alloc::Global;
 use table_blocks::Database;

@@ -8,14 +8,14 @@ ghost use Rattle.cqa_value.specs.declared.value.Value.{Value};
 ghost use Rattle.cqa_model.specs.Database.{block_cmp};
 ghost use Rattle.cqa_model.specs.Query.{FitsDatabase};
 ghost use Rattle.cqa_model.specs.declared.limits.TheConstants.{MOST_ROWS};
-ghost use Rattle.join_witness.specs.Listing.{AreAllNames, names_of};
+ghost use Rattle.join_access.specs.Listing.{AreAllNames, names_of};
 ghost use Rattle.weak_pairs.specs.Pairs.{IsPair};
-ghost use Rattle.repair_clauses.specs.Runs.{ArePlaces};
+ghost use Rattle.repair_clauses.specs.Runs.{AreRowPlaces};
 ghost use Rattle.pair_formula.specs.Full.{AreFullOf, AreFullRuns, AreFullSpans, Follows, HasMore, IsInRow, IsRunAdded};
 
 use cqa_model::Query;
 use cqa_value::{Items, NoMemory};
-use join_witness::Witness;
+use join_access::Witness;
 use repair_clauses::atom_of;
 use repair_clauses::column::column;
 use repair_clauses::numbering::Numbering;
@@ -36,7 +36,7 @@ fn follows(rows: &Rows<'_>, key: &[u32], place: u32, next: u32) -> bool
 
 /// Where the run of rows ends that begins with the one at `at`: each is the next one of the block.
 fn run_end(rows: &Rows<'_>, key: &[u32], places: &[u32], at: usize) -> usize
-    requires places { ArePlaces rows.now places.now }
+    requires places { AreRowPlaces rows.now places.now }
     requires there { at < length places.now }
     ensures some { at < result }
     ensures within { result ≤ length places.now }
@@ -101,7 +101,7 @@ fn full_runs(
 ) -> Result<u32, NoMemory>
     requires few { length rows.now ≤ MOST_ROWS }
     requires small { base ≤ MOST_ROWS }
-    requires places { ArePlaces rows.now places.now }
+    requires places { AreRowPlaces rows.now places.now }
     requires order { IsStrictlySortedBy (block_cmp key.now) rows.now }
     requires none { spans.old.items ≡ [] }
     ensures { IfOk result (λ vars. AreFullRuns key.now rows.now atom base places.now vars spans.new.items) }

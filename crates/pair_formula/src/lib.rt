@@ -1,18 +1,13 @@
-//! The formula of a row of a pair, decided without a search.
-//! It is read as a graph of blocks and pairs, in a time linear in the formula. The certain rows are found by a formula over the
-//! blocks of which all rows are in witnesses.
+//! The formulas of rows of pairs: of a row one over the blocks of which all rows are in witnesses, by which the certain rows of a
+//! query are found, and of a certain row the whole one with its refutation; and why a row of a pair is certain, or isn't.
 #![tactic(auto)]
 
 mod certain;
-mod decide;
-mod edges;
-mod ends;
 mod formula;
 mod full;
-mod graph;
-mod reading;
+mod proving;
+mod reason;
 
 pub use certain::certain_by_pairs;
-pub use decide::is_unsatisfiable;
-pub use graph::{Graph, Pair};
-pub use reading::{outcome, read};
+pub use proving::{Refuted, refute_row};
+pub use reason::reason_by_pair;

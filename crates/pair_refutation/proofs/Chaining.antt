@@ -4,9 +4,9 @@ use native.Mathlib.Decide.{ℕ_discrete}
 use Rattle.std.proofs.lemmas.List.{get_or-set_same, get_or-set_other, get_or_append_left, get_or-append-add, length-set}
 use Rattle.std.proofs.lemmas.List.Elements.{Contains-append_cases, Contains-append_left, Contains-push, Contains-get_or}
 use Rattle.cqa_model.proofs.Classic.{mem-nil, mem-cases}
-use Rattle.pair_formula.specs.declared.graph.Pair.{Pair}
-use Rattle.pair_formula.specs.Graph.{Meet, ArePaired}
-use Rattle.pair_formula.specs.Edges.{pair_at, no_pair}
+use Rattle.pair_refutation.specs.declared.graph.Pair.{Pair}
+use Rattle.pair_refutation.specs.Graph.{Meet, ArePaired}
+use Rattle.pair_refutation.specs.Edges.{pair_at, no_pair}
 use Rattle.pair_refutation.specs.Refuting.{IsOf, IsLastOf, option_at, AreChained, ArePairHints}
 
 at-push : (xs : List (Option ℕ)) (o : Option ℕ) (n : ℕ) → length xs ≡ n → option_at (xs ++ o ∷ []) n ≡ o

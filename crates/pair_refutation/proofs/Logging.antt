@@ -14,9 +14,9 @@ use Rattle.cnf_form.specs.Literals.{literals, opposite}
 use Rattle.cnf_form.specs.Logs.{Live, HintsPass, StepsPass, Refutes, added, numbered, with_clause}
 use Rattle.cdcl.specs.Outcomes.{AreConsecutive}
 use Rattle.cqa_model.proofs.Classic.{mem-nil}
-use Rattle.pair_formula.specs.declared.graph.Pair.{Pair}
-use Rattle.pair_formula.specs.Graph.{positive, negative, not_both, graph_clauses, block_at}
-use Rattle.pair_formula.specs.Edges.{pair_at}
+use Rattle.pair_refutation.specs.declared.graph.Pair.{Pair}
+use Rattle.pair_refutation.specs.Graph.{positive, negative, not_both, graph_clauses, block_at}
+use Rattle.pair_refutation.specs.Edges.{pair_at}
 use Rattle.pair_refutation.specs.Refuting.{all_clauses, StepFollows, StepsFollow, IsIdOf, IsSoFar, Keeps}
 
 -- ---- clauses by their ids

@@ -11,18 +11,18 @@ use Rattle.cnf_form.specs.declared.log.Step.TheVariants.{Add}
 use Rattle.cnf_form.specs.Literals.{literals, opposite}
 use Rattle.cnf_form.specs.Logs.{Live, HintsPass, Refutes, added, numbered}
 use Rattle.cqa_model.proofs.Classic.{mem-head, mem-tail, mem-nil, mem-cases}
-use Rattle.weak_pairs.specs.Peeling.{IsBlock, In, IsForced, IsStuck}
-use Rattle.pair_formula.specs.declared.graph.Pair.{Pair}
-use Rattle.pair_formula.specs.declared.graph.Graph.{Graph}
-use Rattle.pair_formula.specs.Graph.{positive, negative, not_both, graph_clauses, Meet, AreAdjacent, block_at}
-use Rattle.pair_formula.specs.Edges.{pair_at, no_pair}
-use Rattle.pair_formula.specs.Formulas.{IsReadTo}
+use Rattle.weak_pairs.specs.Peeling.{IsBlockNumber, In, IsForced, IsStuck}
+use Rattle.pair_refutation.specs.declared.graph.Pair.{Pair}
+use Rattle.pair_refutation.specs.declared.graph.Graph.{Graph}
+use Rattle.pair_refutation.specs.Graph.{positive, negative, not_both, graph_clauses, Meet, AreAdjacent, block_at}
+use Rattle.pair_refutation.specs.Edges.{pair_at, no_pair}
+use Rattle.pair_refutation.specs.Formulas.{IsReadTo}
 use Rattle.pair_refutation.specs.Refuting.{IsOf, IsLastOf, option_at, all_clauses, IsIdOf, Keeps, IsSoFar, IsLost, StayLost, AreHintsOf, AreLostHints, AreLeft, IsLeftOf, IsMet, MeetsAlike, AreMarked, AreBlocksOf}
-use Rattle.pair_formula.proofs.Collecting.{graph-some}
-use Rattle.pair_formula.proofs.Rowing.{row-block}
+use Rattle.pair_refutation.proofs.Collecting.{graph-some}
+use Rattle.pair_refutation.proofs.Rowing.{row-block}
 use Rattle.pair_refutation.proofs.Chaining.{IsFollowed}
 use Rattle.pair_refutation.proofs.Logging.{id-more, block-id, pair-id, follow-refutes, step-keeps, step-id, step-so_far}
-use Rattle.pair_formula.proofs.Assembling.{edges-are, rows-are, count-is, row-of, var-in, row-small, listed, apart}
+use Rattle.pair_refutation.proofs.Assembling.{edges-are, rows-are, count-is, row-of, var-in, row-small, listed, apart}
 
 -- ---- hints that each say that a variable is false
 
@@ -121,24 +121,24 @@ module _ (cnf : Cnf) (g : Graph) (r : IsReadTo cnf g) where
       let b = block-of i l in
       let m = var-in cnf g r b.0 i b.1 b.2 in (r.graph.small b.0 (slice_index var i) m.0 m.1).1
     where
-      block-of : (i : ℕ) → i < length var → (v : ℕ) × IsBlock start v × In start v i
+      block-of : (i : ℕ) → i < length var → (v : ℕ) × IsBlockNumber start v × In start v i
       block-of i l =
           let h = row-block cnf.vars r.blocks pairs r.graph i (subst (λ z. i < length z) r.var l) in
-          (h.0, subst (λ z. IsBlock z h.0) (sym r.start) h.1, subst (λ z. In z h.0 i) (sym r.start) h.2)
+          (h.0, subst (λ z. IsBlockNumber z h.0) (sym r.start) h.1, subst (λ z. In z h.0 i) (sym r.start) h.2)
 
-  pub rows-within : (v : ℕ) → IsBlock start v → slice_index start (v + 1) ≤ length var
+  pub rows-within : (v : ℕ) → IsBlockNumber start v → slice_index start (v + 1) ≤ length var
   rows-within v b = let w = (rows-are cnf g r).within v b in let s = (edges-are cnf g r).size in omega (arith, w, s)
 
-  pub rows-rise : (v : ℕ) → IsBlock start v → slice_index start v ≤ slice_index start (v + 1)
+  pub rows-rise : (v : ℕ) → IsBlockNumber start v → slice_index start v ≤ slice_index start (v + 1)
   rows-rise v b = let l = (rows-are cnf g r).rising v (v + 1) (omega arith) b in omega (arith, l)
 
-  one-block : (u v i : ℕ) → IsBlock start u → IsBlock start v → In start u i → In start v i → u ≡ v
+  one-block : (u v i : ℕ) → IsBlockNumber start u → IsBlockNumber start v → In start u i → In start v i → u ≡ v
   one-block u v i bu bv iu iv = turn (cases u v)
     where
       cases : (i j : ℕ) → (i ≡ j) ⊎ ((i < j) ⊎ (j < i))
       cases i j = grind arith
 
-      next : (a b : ℕ) → a < b → IsBlock start b → slice_index start (a + 1) ≤ slice_index start b
+      next : (a b : ℕ) → a < b → IsBlockNumber start b → slice_index start (a + 1) ≤ slice_index start b
       next a b l h = step (ℕ_discrete (a + 1) b)
         where
           step : Dec (a + 1 ≡ b) → slice_index start (a + 1) ≤ slice_index start b
@@ -159,7 +159,7 @@ module _ (cnf : Cnf) (g : Graph) (r : IsReadTo cnf g) where
 
     -- ---- a block gets shorter
 
-    module _ (v : ℕ) (b : IsBlock start v) where
+    module _ (v : ℕ) (b : IsBlockNumber start v) where
       here : v < length r.blocks
       here = let c = r.count in let n = count-is cnf g r in omega (arith, b, c, n)
 
@@ -280,7 +280,7 @@ module _ (cnf : Cnf) (g : Graph) (r : IsReadTo cnf g) where
 
     module _ (order : List ℕ) (n : ℕ) (forced : (q : ℕ) → q < n → IsForced start g.edge.items order q) (marked : AreMarked g order lost n) where
       -- a row of an edge that was taken in another block is lost
-      pub taken-lost : (v i q : ℕ) → IsBlock start v → In start v i → q < n → slice_index g.edge.items (slice_index order q) ≡ slice_index g.edge.items i → (In start v (slice_index order q) → ⊥) → IsLost lost (slice_index var i)
+      pub taken-lost : (v i q : ℕ) → IsBlockNumber start v → In start v i → q < n → slice_index g.edge.items (slice_index order q) ≡ slice_index g.edge.items i → (In start v (slice_index order q) → ⊥) → IsLost lost (slice_index var i)
       taken-lost v i q b hi l e out = go (forced q l)
         where
           go : IsForced start g.edge.items order q → IsLost lost (slice_index var i)
@@ -288,7 +288,7 @@ module _ (cnf : Cnf) (g : Graph) (r : IsReadTo cnf g) where
               ((edges-are cnf g r).meets w v (slice_index order q) i bw b (λ d. out (subst (λ z. In start z (slice_index order q)) d hw)) hw hi e)
 
       -- the rows that are left to a forced row's block meet alike
-      pub left-alike : IsForced start g.edge.items order n → (v : ℕ) → IsBlock start v → In start v (slice_index order n) → (i : ℕ) → In start v i → option_at lost (slice_index var i) ≡ None →
+      pub left-alike : IsForced start g.edge.items order n → (v : ℕ) → IsBlockNumber start v → In start v (slice_index order n) → (i : ℕ) → In start v i → option_at lost (slice_index var i) ≡ None →
           (b : ℕ) → AreAdjacent pairs (slice_index var (slice_index order n)) b → AreAdjacent pairs (slice_index var i) b
       left-alike (u, bu, hu, f) v bv hv i hi none b a = go (f i (subst (λ z. In start z i) (sym same) hi))
         where
@@ -304,14 +304,14 @@ module _ (cnf : Cnf) (g : Graph) (r : IsReadTo cnf g) where
               turn (inl m) = inr m
               turn (inr m) = inl m
 
-              with-row : (w k : ℕ) × IsBlock start w × In start w k × (slice_index var k ≡ b) → AreAdjacent pairs (slice_index var i) b
+              with-row : (w k : ℕ) × IsBlockNumber start w × In start w k × (slice_index var k ≡ b) → AreAdjacent pairs (slice_index var i) b
               with-row (w, k, bw, hk, is) =
                   let a2 : AreAdjacent pairs (slice_index var (slice_index order n)) (slice_index var k) = subst (λ z. AreAdjacent pairs (slice_index var (slice_index order n)) z) (sym is) a in
                   let out : v ≢ w = (λ d. apart cnf g r v (slice_index order n) k bv hv (subst (λ z. In start z k) (sym d) hk) a2) in
                   let ek = (edges-are cnf g r).same (slice_index order n) k (row-small cnf g r v (slice_index order n) bv hv) (row-small cnf g r w k bw hk) a2 in
                   subst (λ z. AreAdjacent pairs (slice_index var i) z) is ((edges-are cnf g r).meets v w i k bv bw out hi hk (e ∙ ek))
 
-      pub alike : IsForced start g.edge.items order n → (v : ℕ) → IsBlock start v → In start v (slice_index order n) → (id : ℕ) → IsLeftOf cnf steps g lost v id →
+      pub alike : IsForced start g.edge.items order n → (v : ℕ) → IsBlockNumber start v → In start v (slice_index order n) → (id : ℕ) → IsLeftOf cnf steps g lost v id →
           MeetsAlike cnf steps pairs (slice_index var (slice_index order n)) id
       alike f v b h id (c, is, each) = (c, is, λ m k. let i = each m k in (slice_index var i.0, left-alike f v b h i.0 i.1 i.2, i.3))
 
@@ -475,20 +475,20 @@ no-steps cnf lost size none = record { follow = tt; size = size; named = λ x id
 pub blocks-none : (start : List ℕ) → slice_index start 0 ≡ 0 → (block_of : List ℕ) → block_of ≡ [] → AreBlocksOf start (slice_index start 0) block_of
 blocks-none start e block_of is = record { size = ap (λ (z : List ℕ). length z) is ∙ sym e; each = λ i l. absurd (omega (arith, l, e)) }
 
-pub blocks-more : (start : List ℕ) (v i : ℕ) (block_of : List ℕ) → AreBlocksOf start i block_of → IsBlock start v → In start v i → AreBlocksOf start (i + 1) (block_of ++ v ∷ [])
+pub blocks-more : (start : List ℕ) (v i : ℕ) (block_of : List ℕ) → AreBlocksOf start i block_of → IsBlockNumber start v → In start v i → AreBlocksOf start (i + 1) (block_of ++ v ∷ [])
 blocks-more start v i block_of h b hi = record {
   size = (let l = length-append block_of (v ∷ []) in let s = h.size in omega (arith, l, s));
   each = λ j l. go j l (ℕ_discrete j i);
 }
   where
-    go : (j : ℕ) → j < i + 1 → Dec (j ≡ i) → IsBlock start (slice_index (block_of ++ v ∷ []) j) × In start (slice_index (block_of ++ v ∷ []) j) j
+    go : (j : ℕ) → j < i + 1 → Dec (j ≡ i) → IsBlockNumber start (slice_index (block_of ++ v ∷ []) j) × In start (slice_index (block_of ++ v ∷ []) j) j
     go j l (yes e) =
         let k : j ≡ length block_of + 0 = (let s = h.size in omega (arith, e, s)) in
         let at : slice_index (block_of ++ v ∷ []) j ≡ v = ap (λ z. get_or (block_of ++ v ∷ []) z 0) k ∙ get_or-append-add block_of (v ∷ []) 0 0 in
-        subst (λ z. IsBlock start z × In start z j) (sym at) (b, subst (λ z. In start v z) (sym e) hi)
+        subst (λ z. IsBlockNumber start z × In start z j) (sym at) (b, subst (λ z. In start v z) (sym e) hi)
     go j l (no d) =
         let at : slice_index (block_of ++ v ∷ []) j ≡ slice_index block_of j = get_or_append_left block_of (v ∷ []) 0 j (let s = h.size in omega (arith, l, d, s)) in
-        subst (λ z. IsBlock start z × In start z j) (sym at) (h.each j (omega (arith, l, d)))
+        subst (λ z. IsBlockNumber start z × In start z j) (sym at) (h.each j (omega (arith, l, d)))
 
 -- ---- literals and hints of a block's rows, one row more
 
@@ -556,7 +556,7 @@ module _ (cnf : Cnf) (g : Graph) (r : IsReadTo cnf g) (steps : List Step) (lost 
         subst (λ z. Keeps cnf steps z) (sym grown) (step-keeps cnf steps lost sf id (record { lits = lits }) hints is pass),
       )
 
-  pub short-step : (v : ℕ) → IsBlock g.start.items v → AreLeft g.var.items lost (slice_index g.start.items v) (slice_index g.start.items (v + 1)) lits →
+  pub short-step : (v : ℕ) → IsBlockNumber g.start.items v → AreLeft g.var.items lost (slice_index g.start.items v) (slice_index g.start.items (v + 1)) lits →
       (hs : List ℤ) → AreLostHints g.var.items lost (slice_index g.start.items v) (slice_index g.start.items (v + 1)) hs → hints ≡ hs ++ pos (v + 1) ∷ [] → IsSoFar cnf steps_new lost × IsLeftOf cnf steps_new g lost v id
   short-step v b left hs are eh =
       let pass = subst (λ z. HintsPass (numbered (all_clauses cnf steps)) (map opposite lits) z) (sym eh) (short-pass cnf g r steps lost sf v b lits hs left are) in
@@ -581,7 +581,7 @@ both-ok (Ok x) f p q = f p q
 both-ok (Err e) f p q = tt
 
 -- the rows of blocks are those before the last start
-pub rows-below : (cnf : Cnf) (g : Graph) (r : IsReadTo cnf g) (v : ℕ) → IsBlock g.start.items v → slice_index g.start.items (v + 1) ≤ slice_index g.start.items g.blocks
+pub rows-below : (cnf : Cnf) (g : Graph) (r : IsReadTo cnf g) (v : ℕ) → IsBlockNumber g.start.items v → slice_index g.start.items (v + 1) ≤ slice_index g.start.items g.blocks
 rows-below cnf g r v b = go (ℕ_discrete (v + 1) g.blocks)
   where
     go : Dec (v + 1 ≡ g.blocks) → slice_index g.start.items (v + 1) ≤ slice_index g.start.items g.blocks

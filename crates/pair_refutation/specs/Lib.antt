@@ -1,2 +1,4 @@
 pub mod Refuting
-pub mod Proving
+pub mod Edges
+pub mod Formulas
+pub mod Graph

@@ -6,13 +6,13 @@ use Rattle.cnf_form.specs.declared.log.Step.{Step}
 use Rattle.cnf_form.specs.declared.log.Step.TheVariants.{Add, Delete}
 use Rattle.cnf_form.specs.Literals.{literals, opposite}
 use Rattle.cnf_form.specs.Logs.{HintsPass, numbered, added}
-use Rattle.weak_pairs.specs.Peeling.{IsBlock, In}
-use Rattle.pair_formula.specs.declared.graph.Pair.{Pair}
-use Rattle.pair_formula.specs.declared.graph.Graph.{Graph}
+use Rattle.weak_pairs.specs.Peeling.{IsBlockNumber, In}
+use Rattle.pair_refutation.specs.declared.graph.Pair.{Pair}
+use Rattle.pair_refutation.specs.declared.graph.Graph.{Graph}
 use Rattle.pair_refutation.specs.declared.chains.Chains.{Chains}
-use Rattle.pair_formula.specs.Graph.{positive, negative, AreAdjacent}
-use Rattle.pair_formula.specs.Edges.{pair_at}
-use Rattle.pair_formula.specs.Formulas.{IsReadTo}
+use Rattle.pair_refutation.specs.Graph.{positive, negative, AreAdjacent}
+use Rattle.pair_refutation.specs.Edges.{pair_at}
+use Rattle.pair_refutation.specs.Formulas.{IsReadTo}
 
 -- ---- the pairs of each variable
 
@@ -126,4 +126,4 @@ pub record IsChainedTo (cnf : Cnf) (g : Graph) (chains : Chains) : Type 0 where
 -- the block of each row
 pub record AreBlocksOf (start : List ℕ) (rows : ℕ) (block_of : List ℕ) : Type 0 where
   pub size : length block_of ≡ rows
-  pub each : (i : ℕ) → i < rows → IsBlock start (slice_index block_of i) × In start (slice_index block_of i) i
+  pub each : (i : ℕ) → i < rows → IsBlockNumber start (slice_index block_of i) × In start (slice_index block_of i) i

@@ -2,12 +2,12 @@
 //! Each pair leads to the one before it that has the same left variable, and to the one that has the same right one.
 
 ghost use Rattle.std.specs.Prelude.{◌≡◌, ◌⊎◌, ◌+◌, ◌++◌, ◌∷◌, ◌<◌, ◌↔◌, ℕ, [], IfOk, IsFalse, None, OnOk, Some, length, slice_set};
-ghost use Rattle.pair_formula.specs.Graph.{ArePaired};
-ghost use Rattle.pair_formula.specs.Edges.{pair_at};
+ghost use Rattle.pair_refutation.specs.Graph.{ArePaired};
+ghost use Rattle.pair_refutation.specs.Edges.{pair_at};
 ghost use Rattle.pair_refutation.specs.Refuting.{AreChained, AreChains, IsLastOf, IsOf, option_at};
 
+use crate::Pair;
 use cqa_value::NoMemory;
-use pair_formula::Pair;
 use std::alloc::Global;
 
 /// The places of the pairs of each variable.

@@ -5,9 +5,9 @@ ghost use Rattle.std.specs.Prelude.{◌≡◌, ◌+◌, ◌++◌, ◌∷◌, ◌
 ghost use Rattle.cnf_form.specs.declared.log.Step.TheVariants.{Add};
 ghost use Rattle.cnf_form.specs.Logs.{Refutes};
 ghost use Rattle.cdcl.specs.Outcomes.{AreConsecutive};
-ghost use Rattle.weak_pairs.specs.Peeling.{AreBlocked, In, IsBlock, IsForced};
-ghost use Rattle.pair_formula.specs.Graph.{AreAdjacent};
-ghost use Rattle.pair_formula.specs.Formulas.{IsPairFormula, IsReadTo, IsUnsatisfiable};
+ghost use Rattle.weak_pairs.specs.Peeling.{AreBlocked, In, IsBlockNumber, IsForced};
+ghost use Rattle.pair_refutation.specs.Graph.{AreAdjacent};
+ghost use Rattle.pair_refutation.specs.Formulas.{IsPairFormula, IsReadTo, IsUnsatisfiable};
 ghost use Rattle.pair_refutation.specs.Refuting.{
   AreBlocksOf,
   AreChains,
@@ -27,9 +27,9 @@ ghost use Rattle.pair_refutation.specs.Refuting.{
 };
 
 use crate::chains::{Chains, before, chain_pairs, has_pair, other};
+use crate::{Graph, outcome, read};
 use cnf_form::{Clause, Cnf, Lit, Log, Step};
 use cqa_value::{Items, NoMemory};
-use pair_formula::{Graph, outcome, read};
 use std::alloc::Global;
 use weak_pairs::Outcome;
 
@@ -161,7 +161,7 @@ fn shorten(
 ) -> Result<u64, NoMemory>
     requires read { IsReadTo cnf.now graph.now }
     requires so_far { IsSoFar cnf.now steps.old.items lost.now }
-    requires block { IsBlock graph.now.start.items v }
+    requires block { IsBlockNumber graph.now.start.items v }
     ensures so_far { OnOk result (IsSoFar cnf.now steps.new.items lost.now) }
     ensures left { IfOk result (IsLeftOf cnf.now steps.new.items graph.now lost.now v) }
 {
@@ -257,7 +257,7 @@ fn follow(
     requires so_far { IsSoFar cnf.now steps.old.items lost.old }
     requires place { _place < length _order.now }
     requires row_is { row ≡ slice_index _order.now _place }
-    requires block { IsBlock graph.now.start.items v }
+    requires block { IsBlockNumber graph.now.start.items v }
     requires row { In graph.now.start.items v row }
     requires forced { (q : ℕ) → q ≤ _place → IsForced graph.now.start.items graph.now.edge.items _order.now q }
     requires marked { AreMarked graph.now _order.now lost.old _place }

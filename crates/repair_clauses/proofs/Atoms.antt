@@ -14,7 +14,7 @@ use Rattle.cqa_model.specs.Formula.{IsRelevant}
 use Rattle.cqa_model.proofs.Classic.{mem-nil, choose}
 use Rattle.cqa_model.proofs.Repairs.{shares-sym, shares-trans}
 use Rattle.repair_clauses.specs.declared.span.Span.{Span}
-use Rattle.repair_clauses.specs.Clauses.{Variable, AreAll, row_of, IsStored}
+use Rattle.repair_clauses.specs.Clauses.{Variable, AreAll, row_of, IsStoredVariable}
 use Rattle.repair_clauses.specs.Spans.{at, Covers, IsIn, IsSpan, IsWholeBlock, span_cmp, AreBased, AreBasedTo, AreSpans, AreSpansTo, IsPlaced}
 use Rattle.repair_clauses.specs.Runs.{IsRun, AreRuns}
 use Rattle.repair_clauses.proofs.Numbers.{place_of}
@@ -105,7 +105,7 @@ module _ (q : Query) (db : List Table) (row : List Value) where
       every = λ x l st rel. every x (cases_next x.atom n l) st rel;
     }
       where
-        every : (x : Variable) → (x.atom < n) ⊎ (x.atom ≡ n) → IsStored q db x → IsRelevant q (stored db) row x.atom (row_of q db x) → (s : Span) × Contains (spans ++ runs) s × IsIn s x
+        every : (x : Variable) → (x.atom < n) ⊎ (x.atom ≡ n) → IsStoredVariable q db x → IsRelevant q (stored db) row x.atom (row_of q db x) → (s : Span) × Contains (spans ++ runs) s × IsIn s x
         every x (inl l) st rel = let s = h.every x l st rel in (s.0, Contains-append_left spans runs s.0 s.1, s.2)
         every x (inr e) st rel =
             let inside : x.place < length (rows_of q (stored db) n) = subst (λ F. x.place < length (rows_of q (stored db) F)) e st.1 in

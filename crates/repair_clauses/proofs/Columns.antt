@@ -8,10 +8,10 @@ use Rattle.std.proofs.lemmas.Map.Keys.{Less-from_sorted}
 use Rattle.cqa_value.specs.declared.value.Value.{Value}
 use Rattle.cqa_value.proofs.Words.{Contains-map, Contains-from_map}
 use Rattle.cqa_model.specs.declared.query.RowId.{RowId}
-use Rattle.join_witness.specs.declared.all_witnesses.Witness.{Witness}
-use Rattle.join_witness.specs.Listing.{names_of}
+use Rattle.join_access.specs.declared.witness.Witness.{Witness}
+use Rattle.join_access.specs.Listing.{names_of}
 use Rattle.repair_clauses.specs.Spans.{place_at}
-use Rattle.repair_clauses.specs.Runs.{ArePlaces, AreColumn}
+use Rattle.repair_clauses.specs.Runs.{AreRowPlaces, AreColumn}
 use Rattle.repair_clauses.proofs.Spans.{from_less}
 
 abbrev pub place_in : ℕ → Witness → ℕ
@@ -37,7 +37,7 @@ column_is ws F raw sorted is rises same = record {
 }
 
 -- a later place is not before an earlier one
-pub places-up : (rows : List (List Value)) (places : List ℕ) → ArePlaces rows places → (i j : ℕ) → i ≤ j → j < length places → get_or places i 0 ≤ get_or places j 0
+pub places-up : (rows : List (List Value)) (places : List ℕ) → AreRowPlaces rows places → (i j : ℕ) → i ≤ j → j < length places → get_or places i 0 ≤ get_or places j 0
 places-up rows places h i j le l = elim (cases_lt i j) [
   | inl lt ↦ let u = h.in_order i j lt l in omega (arith, u)
   | inr ge ↦ let e : i ≡ j = omega (arith, le, ge) in subst (λ k. get_or places i 0 ≤ get_or places k 0) e (omega arith)

@@ -18,9 +18,9 @@ use Rattle.cqa_model.proofs.Repairs.{shares-self}
 use Rattle.cnf_form.specs.declared.formula.Lit.{Lit}
 use Rattle.cnf_form.specs.Literals.{literals}
 use Rattle.table_blocks.specs.Tables.{rows_at}
-use Rattle.join_witness.specs.declared.all_witnesses.Witness.{Witness}
-use Rattle.join_witness.specs.Listing.{AreAllNames, names_of, places_of}
-use Rattle.join_witness.proofs.Naming.{name, zip-push}
+use Rattle.join_access.specs.declared.witness.Witness.{Witness}
+use Rattle.join_access.specs.Listing.{AreAllNames, names_of, places_of}
+use Rattle.join_access.proofs.Naming.{name, zip-push}
 use Rattle.repair_clauses.specs.declared.span.Span.{Span}
 use Rattle.repair_clauses.specs.declared.formula.Encoded.{Encoded}
 use Rattle.repair_clauses.specs.Clauses.{positive, negative, name_of, row_of}

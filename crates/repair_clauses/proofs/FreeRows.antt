@@ -16,8 +16,8 @@ use Rattle.cqa_model.proofs.Classic.{choose, dec_both}
 use Rattle.cqa_model.proofs.Values.{dec_not, row_discrete}
 use Rattle.cqa_model.proofs.Repairs.{shares-self}
 use Rattle.cqa_model.proofs.Databases as databases
-use Rattle.join_witness.specs.Listing.{AreAllNames, places_of}
-use Rattle.join_witness.proofs.Naming.{stand-once}
+use Rattle.join_access.specs.Listing.{AreAllNames, places_of}
+use Rattle.join_access.proofs.Naming.{stand-once}
 use Rattle.repair_clauses.specs.Clauses.{Variable, row_of}
 use Rattle.repair_clauses.specs.Spans.{at, place_at}
 use Rattle.repair_clauses.specs.Runs.{AreColumn}

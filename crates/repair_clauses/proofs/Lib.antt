@@ -4,6 +4,7 @@ pub mod Exact
 pub mod Alike
 pub mod Models
 pub mod Order
+mod Written
 pub mod Spans
 pub mod Running
 pub mod Halving

@@ -8,7 +8,7 @@ use Rattle.cqa_value.specs.declared.value.Value.{Value}
 use Rattle.cqa_value.proofs.Words.{cases_le, cases_next}
 use Rattle.cqa_model.specs.Repairs.{SharesKey}
 use Rattle.cqa_model.proofs.Repairs.{shares-trans}
-use Rattle.repair_clauses.specs.Runs.{ArePlaces}
+use Rattle.repair_clauses.specs.Runs.{AreRowPlaces}
 use Rattle.repair_clauses.specs.Avoiding.{HasFree}
 use Rattle.repair_clauses.proofs.Numbers.{place_of}
 use Rattle.repair_clauses.proofs.Columns.{places-up}
@@ -26,7 +26,7 @@ pub record IsAbove (key : List ℕ) (rows : List (List Value)) (places : List �
   pub tight : (p : ℕ) → p < length rows → ((i : ℕ) → n ≤ i → i < length places → p ≤ get_or places i 0) → p ≤ end
   pub loose : last ≡ true → HasFree key rows places end
 
-module _ (key : List ℕ) (rows : List (List Value)) (places : List ℕ) (h : ArePlaces rows places) where
+module _ (key : List ℕ) (rows : List (List Value)) (places : List ℕ) (h : AreRowPlaces rows places) where
   abbrev at : ℕ → ℕ
   at i = get_or places i 0
 

@@ -11,12 +11,12 @@ use Rattle.cqa_model.specs.declared.query.RowId.{RowId}
 use Rattle.cqa_model.specs.Shape.{nth_atom}
 use Rattle.cqa_model.specs.Database.{Table, stored}
 use Rattle.cqa_model.specs.Query.{rows_of, row_at}
-use Rattle.row_cursor.specs.Witnesses.{AreNamed}
-use Rattle.join_witness.specs.Listing.{AreNamesOf, AreAllNames, places_of}
-use Rattle.join_witness.proofs.Naming.{name}
+use Rattle.join_access.specs.Witnesses.{AreNamed}
+use Rattle.join_access.specs.Listing.{AreNamesOf, AreAllNames, places_of}
+use Rattle.join_access.proofs.Naming.{name}
 use Rattle.repair_clauses.specs.Clauses.{AreAll}
 use Rattle.repair_clauses.specs.Spans.{place_at, IsPlaced}
-use Rattle.repair_clauses.specs.Runs.{ArePlaces, AreColumn}
+use Rattle.repair_clauses.specs.Runs.{AreRowPlaces, AreColumn}
 
 module _ (db : List Table) where
   pub named-size : (atoms : List Atom) (names : List RowId) (w : List (List Value)) → AreNamed db atoms names w → length names ≡ length atoms
@@ -81,7 +81,7 @@ module _ (q : Query) (db : List Table) (row : List Value) where
       );
     }
 
-    pub are_places : (F : ℕ) → F < length q.atoms → (places : List ℕ) → AreColumn all F places → ArePlaces (rows_of q (stored db) F) places
+    pub are_places : (F : ℕ) → F < length q.atoms → (places : List ℕ) → AreColumn all F places → AreRowPlaces (rows_of q (stored db) F) places
     are_places F lF places c = record {
       in_order = c.in_order;
       there = λ i l.

@@ -14,11 +14,11 @@ use Rattle.cqa_value.proofs.Words.{Contains-from_map}
 use Rattle.cqa_model.specs.declared.query.Query.{Query}
 use Rattle.cqa_model.specs.Database.{Table}
 use Rattle.cnf_form.specs.declared.formula.Lit.{Lit}
-use Rattle.repair_clauses.specs.Clauses.{Variable, variable_cmp, HasNumber, IsBlock, IsOfWitness, AreAll, Formula, positive, negative}
+use Rattle.repair_clauses.specs.Clauses.{Variable, variable_cmp, HasNumber, AreBlockNumbers, IsOfWitness, AreAll, Formula, positive, negative}
 use Rattle.repair_clauses.specs.Laws.{OneFormula, ClausesRise, Rises}
 use Rattle.repair_clauses.proofs.Numbers.{place_of}
 use Rattle.repair_clauses.proofs.Rows.{number_below, one_variable}
-use Rattle.join_witness.proofs.Sorted.{one_sorted, sorted-from, not_less, not_both}
+use Rattle.join_access.proofs.Sorted.{one_sorted, sorted-from, not_less, not_both}
 
 pub variable_total : IsTotalOrder variable_cmp
 variable_total = then_total (on_total (λ (x : Variable). x.atom) nat_cmp_total) (on_total (λ (x : Variable). x.place) nat_cmp_total)
@@ -27,7 +27,7 @@ one_list : (P : List ℕ → Type 0) (xs ys : List (List ℕ)) → AreAll P xs �
 one_list P xs ys h k = one_sorted (slice_cmp nat_cmp) nat_list_cmp_total xs ys h.in_order k.in_order (λ z m. (k.exactly z).1 ((h.exactly z).0 m)) (λ z m. (h.exactly z).1 ((k.exactly z).0 m))
 
 pub one_formula : OneFormula
-one_formula db q row f g h k = whole variables (one_list (IsBlock q db g.variables) f.blocks g.blocks (subst (λ xs. AreAll (IsBlock q db xs) f.blocks) variables h.blocks) k.blocks)
+one_formula db q row f g h k = whole variables (one_list (AreBlockNumbers q db g.variables) f.blocks g.blocks (subst (λ xs. AreAll (AreBlockNumbers q db xs) f.blocks) variables h.blocks) k.blocks)
     (one_list (IsOfWitness q db row g.variables) f.witnesses g.witnesses (subst (λ xs. AreAll (IsOfWitness q db row xs) f.witnesses) variables h.witnesses) k.witnesses)
   where
     variables : f.variables ≡ g.variables

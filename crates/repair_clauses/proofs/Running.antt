@@ -10,7 +10,7 @@ use Rattle.cqa_model.proofs.Classic.{mem-nil, mem-cases}
 use Rattle.cqa_model.proofs.Repairs.{shares-sym, shares-trans}
 use Rattle.repair_clauses.specs.declared.span.Span.{Span}
 use Rattle.repair_clauses.specs.Spans.{span_cmp, AreBasedTo, Covers}
-use Rattle.repair_clauses.specs.Runs.{ArePlaces, IsRun, AreRuns}
+use Rattle.repair_clauses.specs.Runs.{AreRowPlaces, IsRun, AreRuns}
 use Rattle.repair_clauses.proofs.Spans.{then_less, equal_self}
 use Rattle.repair_clauses.proofs.Atoms.{none_sorted}
 
@@ -55,7 +55,7 @@ module _ (key : List ℕ) (rows : List (List Value)) (atom base : ℕ) (places :
     every = λ j lj. h.every j (omega (arith, l, lj));
   }
 
-  module _ (i end next : ℕ) (spans : List Span) (h : AreRunsTo key rows atom base places i end next spans) (here : i < length places) (p : ArePlaces rows places) where
+  module _ (i end next : ℕ) (spans : List Span) (h : AreRunsTo key rows atom base places i end next spans) (here : i < length places) (p : AreRowPlaces rows places) where
     -- the place is in the last block
     pub runs-skip : get_or places i 0 < end → AreRunsTo key rows atom base places (i + 1) end next spans
     runs-skip u = record {

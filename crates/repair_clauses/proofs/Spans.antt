@@ -18,11 +18,11 @@ use Rattle.cqa_model.specs.Formula.{IsRelevant}
 use Rattle.cqa_model.proofs.Classic.{mem-head, mem-tail, mem-nil, mem-cases, choose}
 use Rattle.cqa_model.proofs.Repairs.{shares-sym, shares-trans}
 use Rattle.repair_clauses.specs.declared.span.Span.{Span}
-use Rattle.repair_clauses.specs.Clauses.{Variable, variable_cmp, AreVariables, HasNumber, SharesBlock, IsBlockOf, IsBlock, IsNumberOf, IsOfWitness, AreAll, row_of, IsStored}
+use Rattle.repair_clauses.specs.Clauses.{Variable, variable_cmp, AreVariables, HasNumber, SharesBlock, IsBlockOf, AreBlockNumbers, IsNumberOf, IsOfWitness, AreAll, row_of, IsStoredVariable}
 use Rattle.repair_clauses.specs.Spans.{at, IsIn, IsSpan, span_cmp, AreBased, AreSpans, variables_in, variables_of, numbers_in, IsPlaced, AreNumbers}
 use Rattle.repair_clauses.specs.Laws.{SpansGiveFormula}
 use Rattle.repair_clauses.proofs.Rows.{numbered}
-use Rattle.join_witness.proofs.Sorted.{sorted-from, one_sorted, one_place}
+use Rattle.join_access.proofs.Sorted.{sorted-from, one_sorted, one_place}
 use Rattle.repair_clauses.proofs.Order.{variable_total, atom_less, numbers_rise}
 
 pub range_rises : (a n : ℕ) → IsStrictlySortedBy nat_cmp (range_with_len a n)
@@ -117,8 +117,8 @@ from_less x y e = go (cases_order x y)
   where
     go : (x ≡ y) ⊎ ((x < y) ⊎ (y < x)) → x < y
     go (inr (inl l)) = l
-    go (inl q) = absurd (Rattle.join_witness.proofs.Sorted.not_less nat_cmp nat_cmp_total x (subst (λ z. nat_cmp x z ≡ Less) (sym q) e))
-    go (inr (inr g)) = absurd (Rattle.join_witness.proofs.Sorted.not_both nat_cmp nat_cmp_total x y e (nat_cmp_less y x g))
+    go (inl q) = absurd (Rattle.join_access.proofs.Sorted.not_less nat_cmp nat_cmp_total x (subst (λ z. nat_cmp x z ≡ Less) (sym q) e))
+    go (inr (inr g)) = absurd (Rattle.join_access.proofs.Sorted.not_both nat_cmp nat_cmp_total x y e (nat_cmp_less y x g))
 
 pub from_equal : (x y : ℕ) → nat_cmp x y ≡ Equal → x ≡ y
 from_equal x y e = grind (arith, e)
@@ -186,7 +186,7 @@ module _ (q : Query) (db : List Table) (row : List Value) where
 
   -- some relevant blocks
   module _ (spans : List Span) (in_order : IsStrictlySortedBy span_cmp spans) (based : AreBased 0 spans) (each : (s : Span) → Contains spans s → IsSpan q db row s) where
-    stored_in : (s : Span) → Contains spans s → (x : Variable) → IsIn s x → IsStored q db x
+    stored_in : (s : Span) → Contains spans s → (x : Variable) → IsIn s x → IsStoredVariable q db x
     stored_in s m x i =
         let w = (each s m).whole.within in
         let u = i.2 in
@@ -263,17 +263,17 @@ module _ (q : Query) (db : List Table) (row : List Value) where
         first_less a (suc m) c zero lm lk l = absurd (omega (arith, lk))
         first_less a (suc m) c (suc k) lm lk l = Rattle.repair_clauses.proofs.Order.less_then (nat_cmp (suc a) (suc c)) (slice_cmp nat_cmp (range_with_len (suc a + 1) m) (range_with_len (suc c + 1) k)) (nat_cmp_less (suc a) (suc c) (omega (arith, l)))
 
-    pub are_blocks : AreAll (IsBlock q db (variables_of spans)) (map numbers_in spans)
+    pub are_blocks : AreAll (AreBlockNumbers q db (variables_of spans)) (map numbers_in spans)
     are_blocks = record {
       in_order = blocks-sorted 0 spans based (λ s m. (each s m).whole.some);
       exactly = λ numbers. (λ m. of_span numbers (Contains-from_map numbers_in spans numbers m), λ b. of_block numbers b.0 b.2 (in_variables spans b.0 b.1));
     }
       where
-        of_span : (numbers : List ℕ) → ((s : Span) × Contains spans s × (numbers_in s ≡ numbers)) → IsBlock q db (variables_of spans) numbers
+        of_span : (numbers : List ℕ) → ((s : Span) × Contains spans s × (numbers_in s ≡ numbers)) → AreBlockNumbers q db (variables_of spans) numbers
         of_span numbers (s, m, e) =
             let c = (each s m).whole.some in
             let i : IsIn s (at s.atom s.start) = (refl, omega arith, omega (arith, c)) in
-            subst (IsBlock q db (variables_of spans)) e (at s.atom s.start, of_variables spans s (at s.atom s.start) m i, block_at s m s.start i.1 i.2)
+            subst (AreBlockNumbers q db (variables_of spans)) e (at s.atom s.start, of_variables spans s (at s.atom s.start) m i, block_at s m s.start i.1 i.2)
 
         of_block : (numbers : List ℕ) (x : Variable) → IsBlockOf q db (variables_of spans) x numbers → ((s : Span) × Contains spans s × IsIn s x) → Contains (map numbers_in spans) numbers
         of_block numbers x b (s, m, i) =

@@ -6,7 +6,7 @@ use Rattle.cqa_model.specs.declared.query.Query.{Query}
 use Rattle.cqa_model.specs.Database.{Table}
 use Rattle.cnf_form.specs.declared.formula.Lit.{Lit}
 use Rattle.cnf_form.specs.Literals.{literals}
-use Rattle.join_witness.specs.declared.all_witnesses.Witness.{Witness}
+use Rattle.join_access.specs.declared.witness.Witness.{Witness}
 use Rattle.repair_clauses.specs.declared.span.Span.{Span}
 use Rattle.repair_clauses.specs.declared.numbering.Numbering.{Numbering}
 use Rattle.repair_clauses.specs.declared.formula.Encoded.{Encoded}

@@ -5,13 +5,17 @@ use Rattle.std.specs.List.Sorted.{IsStrictlySortedBy}
 use Rattle.std.specs.Ordering.{nat_cmp}
 use Rattle.cqa_value.specs.declared.value.Value.{Value}
 use Rattle.cqa_model.specs.declared.query.Query.{Query}
-use Rattle.cqa_model.specs.Database.{Table, stored}
+use Rattle.cqa_model.specs.Database.{Table, IsDatabase, stored}
 use Rattle.cqa_model.specs.Repairs.{IsRepair}
 use Rattle.cqa_model.specs.Query.{rows_of, IsWitness, FitsDatabase}
 use Rattle.cqa_model.specs.Certain.{IsCertain}
 use Rattle.cqa_model.specs.Formula.{Satisfies}
 use Rattle.cnf_form.specs.declared.formula.Lit.{Lit}
+use Rattle.cnf_form.specs.declared.header.TheConstants.{MOST_CLAUSES}
 use Rattle.cnf_form.specs.Literals.{SatisfiesAll}
+use Rattle.cnf_form.specs.Writing.{IsWritable}
+use Rattle.repair_clauses.specs.declared.formula.Encoded.{Encoded}
+use Rattle.repair_clauses.specs.Encodings.{IsEncoded}
 use Rattle.repair_clauses.specs.Clauses.{Formula, IsFormula, AreAll, clauses}
 use Rattle.repair_clauses.specs.Alike.{AreClasses, SatisfiesClasses}
 use Rattle.repair_clauses.specs.Models.{IsPicked}
@@ -67,3 +71,8 @@ SpansGiveFormula =
     (db : List Table) (q : Query) (row : List Value) (spans : List Span) (places numbers : List (List ℕ)) →
     AreSpans q db row spans → AreAll (IsPlaced q db row) places → AllZip (AreNumbers (variables_of spans) 0) places numbers →
     IsFormula q db row (formula_of spans numbers)
+
+-- The formula of a row over a database can be written, if it has no more clauses than a text may name.
+abbrev pub FormulaIsWritable : Type 0
+FormulaIsWritable =
+    (db : List Table) (q : Query) (row : List Value) (e : Encoded) → IsDatabase db → IsEncoded q db row e → length e.cnf.clauses ≤ MOST_CLAUSES → IsWritable e.cnf

@@ -1,21 +1,16 @@
 -- The repair that an assignment gives: of each block the first true row, or else the first row.
-use Rattle.std.specs.Prelude.{◌≡◌, ℕ, ◌<◌, List, [], length, Contains, Bool, true, slice_index_or}
+use Rattle.std.specs.Prelude.{◌≡◌, ℕ, List, [], Contains, Bool, true, slice_index_or}
 use Rattle.cqa_value.specs.declared.value.Value.{Value}
 use Rattle.cqa_model.specs.declared.query.Query.{Query}
 use Rattle.cqa_model.specs.Database.{Table, stored}
-use Rattle.cqa_model.specs.Repairs.{SharesKey, IsTableRepair}
+use Rattle.cqa_model.specs.Repairs.{IsTableRepair}
+use Rattle.cqa_model.specs.Blocks.{IsPick}
 use Rattle.cqa_model.specs.Query.{atom_key, rows_of}
 use Rattle.repair_clauses.specs.Clauses.{Variable, HasNumber}
 
 -- the variable is true under the assignment
 abbrev pub IsTrueVariable : List Variable → (ℕ → Bool) → Variable → Type 0
 IsTrueVariable variables v x = (n : ℕ) × HasNumber variables n x × (v n ≡ true)
-
--- the row at a place is the first row of its block that has the property; or no row has it, and it is the first
-pub record IsPick (key : List ℕ) (rows : List (List Value)) (P : ℕ → Type 0) (at : ℕ) : Type 0 where
-  pub there : at < length rows
-  pub best : (i : ℕ) → i < length rows → SharesKey key (slice_index_or rows at []) (slice_index_or rows i []) → P i → P at
-  pub first : (i : ℕ) → i < at → SharesKey key (slice_index_or rows at []) (slice_index_or rows i []) → P at × (P i → ⊥)
 
 -- these rows of an atom are kept: the pick of each block
 pub record IsPicked (q : Query) (db : List Table) (variables : List Variable) (v : ℕ → Bool) (F : ℕ) (kept : List (List Value)) : Type 0 where

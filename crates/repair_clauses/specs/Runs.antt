@@ -7,7 +7,7 @@ use Rattle.cqa_model.specs.declared.query.RowId.{RowId}
 use Rattle.repair_clauses.specs.Spans.{span_cmp, AreBasedTo, Covers, IsWholeBlock, place_at}
 
 -- places of rows, in order, each once
-pub record ArePlaces (rows : List (List Value)) (places : List ℕ) : Type 0 where
+pub record AreRowPlaces (rows : List (List Value)) (places : List ℕ) : Type 0 where
   pub in_order : (i j : ℕ) → i < j → j < length places → slice_index places i < slice_index places j
   pub there : (i : ℕ) → i < length places → slice_index places i < length rows
 

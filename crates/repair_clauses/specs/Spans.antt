@@ -15,8 +15,8 @@ use Rattle.cqa_model.specs.Query.{atom_key, rows_of, row_at, IsWitness}
 use Rattle.cqa_model.specs.Formula.{IsRelevant}
 use Rattle.repair_clauses.specs.declared.span.Span.{Span}
 use Rattle.cnf_form.specs.declared.formula.Lit.{Lit}
-use Rattle.join_witness.specs.Listing.{places_of}
-use Rattle.repair_clauses.specs.Clauses.{Variable, HasNumber, Formula, row_of, IsStored, negative}
+use Rattle.join_access.specs.Listing.{places_of}
+use Rattle.repair_clauses.specs.Clauses.{Variable, HasNumber, Formula, row_of, IsStoredVariable, negative}
 
 abbrev pub at : ℕ → ℕ → Variable
 at F p = record { atom = F; place = p }
@@ -65,12 +65,12 @@ abbrev pub IsBefore : Span → Span → Type 0
 IsBefore s t = (s.atom ≤ t.atom) × (s.atom ≡ t.atom → s.start + s.count ≤ t.start)
 
 -- each span is before those behind it
-abbrev pub AreApart : List Span → Type 0
-AreApart spans = (i j : ℕ) (s t : Span) → i < j → slice_get spans i ≡ Some s → slice_get spans j ≡ Some t → IsBefore s t
+abbrev pub AreSpansApart : List Span → Type 0
+AreSpansApart spans = (i j : ℕ) (s t : Span) → i < j → slice_get spans i ≡ Some s → slice_get spans j ≡ Some t → IsBefore s t
 
 -- spans that are apart from each other, of rows of a query's tables; so many rows, numbered one after the other from 1
 pub record IsNumbering (spans : List Span) (vars : ℕ) : Type 0 where
-  pub apart : AreApart spans
+  pub apart : AreSpansApart spans
   pub based : AreBasedTo 0 spans vars
   pub few : vars ≤ MOST_ATOMS * MOST_ROWS
   pub within : (s : Span) → Contains spans s → s.start + s.count ≤ MOST_ROWS
@@ -80,14 +80,14 @@ pub record AreSpans (q : Query) (db : List Table) (row : List Value) (spans : Li
   pub in_order : IsStrictlySortedBy span_cmp spans
   pub based : AreBased 0 spans
   pub each : (s : Span) → Contains spans s → IsSpan q db row s
-  pub every : (x : Variable) → IsStored q db x → IsRelevant q (stored db) row x.atom (row_of q db x) → (s : Span) × Contains spans s × IsIn s x
+  pub every : (x : Variable) → IsStoredVariable q db x → IsRelevant q (stored db) row x.atom (row_of q db x) → (s : Span) × Contains spans s × IsIn s x
 
 -- the spans of the atoms before n, and how many variables they have
 pub record AreSpansTo (q : Query) (db : List Table) (row : List Value) (n m : ℕ) (spans : List Span) : Type 0 where
   pub in_order : IsStrictlySortedBy span_cmp spans
   pub based : AreBasedTo 0 spans m
   pub each : (s : Span) → Contains spans s → (s.atom < n) × IsSpan q db row s
-  pub every : (x : Variable) → x.atom < n → IsStored q db x → IsRelevant q (stored db) row x.atom (row_of q db x) → (s : Span) × Contains spans s × IsIn s x
+  pub every : (x : Variable) → x.atom < n → IsStoredVariable q db x → IsRelevant q (stored db) row x.atom (row_of q db x) → (s : Span) × Contains spans s × IsIn s x
 
 abbrev pub variables_in : Span → List Variable
 variables_in s = map (at s.atom) (range_with_len s.start s.count)
@@ -146,5 +146,5 @@ abbrev pub IsOnlyAt : List Span → ℕ → ℕ → ℕ → Type 0
 IsOnlyAt spans F p found = (k : ℕ) (s : Span) → slice_get spans k ≡ Some s → IsIn s (at F p) → k ≡ found
 
 -- the span begins at the place of an atom, or before it
-abbrev pub Begins : Span → ℕ → ℕ → Type 0
-Begins s F p = (s.atom < F) ⊎ ((s.atom ≡ F) × (s.start ≤ p))
+abbrev pub BeginsAtOrBefore : Span → ℕ → ℕ → Type 0
+BeginsAtOrBefore s F p = (s.atom < F) ⊎ ((s.atom ≡ F) × (s.start ≤ p))

@@ -7,17 +7,17 @@ ghost use Rattle.cqa_value.specs.declared.value.Value.{Value};
 ghost use Rattle.cqa_model.specs.Certain.{IsCertain};
 ghost use Rattle.cqa_model.specs.Query.{FitsDatabase};
 ghost use Rattle.cqa_model.specs.Repairs.{SharesKey};
-ghost use Rattle.join_witness.specs.Listing.{AreAllNames, names_of};
-ghost use Rattle.join_witness.specs.declared.all_witnesses.Witness.{Witness as Named};
+ghost use Rattle.join_access.specs.Listing.{AreAllNames, names_of};
+ghost use Rattle.join_access.specs.declared.witness.Witness.{Witness as Named};
 ghost use Rattle.repair_clauses.specs.Avoiding.{AreLoose, AreMarked, IsLooseAt};
-ghost use Rattle.repair_clauses.specs.Runs.{ArePlaces};
+ghost use Rattle.repair_clauses.specs.Runs.{AreRowPlaces};
 ghost use Rattle.repair_clauses.specs.Spans.{place_at};
 
 use crate::column::{column, place_of};
 use crate::relevant::atom_of;
 use cqa_model::Query;
 use cqa_value::NoMemory;
-use join_witness::Witness;
+use join_access::Witness;
 use row_blocks::goes_on;
 use row_pieces::Rows;
 use std::alloc::Global;
@@ -59,7 +59,7 @@ fn marks_before(
     key: &[u32],
     places: &[u32],
 ) -> Result<Vec<bool>, NoMemory>
-    requires { ArePlaces rows.now places.now }
+    requires { AreRowPlaces rows.now places.now }
     ensures size { IfOk result (λ loose. length loose.items ≡ length places.now) }
     ensures loose { IfOk result (λ loose. AreLoose key.now rows.now places.now loose.items) }
 {
@@ -77,7 +77,7 @@ fn marks_before(
 
 /// Marks the places that have rows that are loose by a free row behind them.
 fn mark_behind(rows: &Rows<'_>, key: &[u32], places: &[u32], loose: &mut Vec<bool>)
-    requires places { ArePlaces rows.now places.now }
+    requires places { AreRowPlaces rows.now places.now }
     requires size { length loose.old.items ≡ length places.now }
     requires loose { AreLoose key.now rows.now places.now loose.old.items }
     ensures size { length loose.new.items ≡ length places.now }
@@ -103,7 +103,7 @@ fn loose_places(
     key: &[u32],
     places: &[u32],
 ) -> Result<Vec<bool>, NoMemory>
-    requires { ArePlaces rows.now places.now }
+    requires { AreRowPlaces rows.now places.now }
     ensures size { IfOk result (λ loose. length loose.items ≡ length places.now) }
     ensures loose { IfOk result (λ loose. AreLoose key.now rows.now places.now loose.items) }
 {

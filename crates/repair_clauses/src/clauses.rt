@@ -3,7 +3,7 @@
 
 ghost use Rattle.std.specs.Prelude.{◌≡◌, ◌+◌, ◌++◌, ◌<◌, ◌^◌, [], IfOk, map};
 ghost use Rattle.cnf_form.specs.Literals.{literals};
-ghost use Rattle.join_witness.specs.Listing.{names_of, places_of};
+ghost use Rattle.join_access.specs.Listing.{names_of, places_of};
 ghost use Rattle.repair_clauses.specs.Clauses.{positive};
 ghost use Rattle.repair_clauses.specs.Spans.{AreCovered, IsWitnessClause, numbers_in};
 ghost use Rattle.repair_clauses.specs.Encodings.{AddsWitnesses, AreTold};
@@ -13,7 +13,7 @@ use crate::span::Span;
 use cnf_form::{Clause, Lit};
 use cqa_model::RowId;
 use cqa_value::{Items, NoMemory};
-use join_witness::Witness;
+use join_access::Witness;
 use std::alloc::Global;
 
 /// Puts the literals of a block's clause into a list: one of its rows is kept.

@@ -2,14 +2,14 @@
 //! A place that several witnesses share stands there once.
 
 ghost use Rattle.std.specs.Prelude.{◌≡◌, ◌<◌, Contains, IfOk, length};
-ghost use Rattle.join_witness.specs.Listing.{names_of};
-ghost use Rattle.join_witness.specs.declared.all_witnesses.Witness.{Witness as Named};
+ghost use Rattle.join_access.specs.Listing.{names_of};
+ghost use Rattle.join_access.specs.declared.witness.Witness.{Witness as Named};
 ghost use Rattle.repair_clauses.specs.Spans.{place_at};
 ghost use Rattle.repair_clauses.specs.Runs.{AreColumn};
 
 use crate::rising::put_in_order;
 use cqa_value::NoMemory;
-use join_witness::Witness;
+use join_access::Witness;
 use std::alloc::Global;
 
 /// The place of the row of an atom in a witness.

@@ -6,7 +6,7 @@ ghost use Rattle.cqa_value.specs.declared.value.Value.{Value};
 ghost use Rattle.cqa_model.specs.Query.{FitsDatabase};
 ghost use Rattle.cqa_model.specs.declared.limits.TheConstants.{MOST_ROWS};
 ghost use Rattle.cnf_form.specs.Literals.{literals};
-ghost use Rattle.join_witness.specs.Listing.{AreAllNames, names_of, places_of};
+ghost use Rattle.join_access.specs.Listing.{AreAllNames, names_of, places_of};
 ghost use Rattle.repair_clauses.specs.Clauses.{name_of, positive};
 ghost use Rattle.repair_clauses.specs.Spans.{numbers_in, variables_in, variables_of};
 ghost use Rattle.repair_clauses.specs.Encodings.{AddsWitnesses, AreOfAtoms, AreTold, IsEncoded};
@@ -18,7 +18,7 @@ use crate::span::Span;
 use cnf_form::{Clause, Cnf};
 use cqa_model::{Query, RowId};
 use cqa_value::{Items, NoMemory};
-use join_witness::Witness;
+use join_access::Witness;
 use std::alloc::Global;
 use table_blocks::Database;
 

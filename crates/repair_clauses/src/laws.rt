@@ -1,7 +1,7 @@
 //! The laws of the formulas of rows, over the definitions alone.
 //! Each is what its function ensures.
 
-ghost use Rattle.repair_clauses.specs.Laws.{ClassesAreExact, ClausesAreExact, ClausesDecide, ClausesRise, ModelsReject, OneFormula, SpansGiveFormula};
+ghost use Rattle.repair_clauses.specs.Laws.{ClassesAreExact, ClausesAreExact, ClausesDecide, ClausesRise, FormulaIsWritable, ModelsReject, OneFormula, SpansGiveFormula};
 
 /// The clauses of a row have a satisfying assignment exactly where the rows have one.
 pub fn clauses_are_exact()
@@ -36,4 +36,9 @@ pub fn clauses_rise()
 /// The relevant blocks and the numbers of all witnesses' rows give the formula.
 pub fn spans_give_formula()
     ensures { SpansGiveFormula }
+{}
+
+/// The formula of a row over a database can be written, if it has no more clauses than a text may name.
+pub fn formula_is_writable()
+    ensures { FormulaIsWritable }
 {}

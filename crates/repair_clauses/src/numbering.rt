@@ -4,7 +4,7 @@
 ghost use Rattle.std.specs.Prelude.{◌≡◌, ◌↔◌, ◌+◌, ◌-◌, ℕ, suc, Some, IsTrue, Contains};
 ghost use Rattle.std.proofs.Props.{props};
 ghost use Rattle.repair_clauses.specs.declared.span.Span.{Span as Run};
-ghost use Rattle.repair_clauses.specs.Spans.{at, AreApart, AreBasedTo-prop, Begins, HasSpan, IsAt, IsIn, IsNumbering, IsOnlyAt};
+ghost use Rattle.repair_clauses.specs.Spans.{at, AreSpansApart, AreBasedTo-prop, BeginsAtOrBefore, HasSpan, IsAt, IsIn, IsNumbering, IsOnlyAt};
 
 use crate::span::Span;
 use cqa_value::Items;
@@ -19,7 +19,7 @@ pub struct Numbering {
 
 /// Whether a span begins at the place of an atom, or before it.
 fn begins(span: &Span, atom: u32, place: u32) -> bool
-    ensures { IsTrue result ↔ Begins span.now atom place }
+    ensures { IsTrue result ↔ BeginsAtOrBefore span.now atom place }
 {
     span.atom < atom || (span.atom == atom && span.start <= place)
 }
@@ -34,7 +34,7 @@ fn covers(span: &Span, atom: u32, place: u32) -> bool
 /// The index of the last span that begins at the place of an atom or before it, by halving, or 0 where none does. No other
 /// span can have the place.
 fn last_begun(spans: &[Span], atom: u32, place: u32) -> usize
-    requires { AreApart spans.now }
+    requires { AreSpansApart spans.now }
     ensures { IsOnlyAt spans.now atom place result }
 {
     let mut low = 0;

@@ -5,7 +5,7 @@ ghost use Rattle.std.specs.Prelude.{◌≡◌, ◌+◌, ◌*◌, ◌++◌, ◌<�
 ghost use Rattle.cqa_value.specs.declared.value.Value.{Value};
 ghost use Rattle.cqa_model.specs.Query.{atom_at, FitsDatabase};
 ghost use Rattle.cqa_model.specs.declared.limits.TheConstants.{MOST_ROWS};
-ghost use Rattle.join_witness.specs.Listing.{AreAllNames, names_of};
+ghost use Rattle.join_access.specs.Listing.{AreAllNames, names_of};
 ghost use Rattle.repair_clauses.specs.declared.span.Span.{Span as Run};
 ghost use Rattle.repair_clauses.specs.Spans.{AreSpansTo};
 ghost use Rattle.repair_clauses.specs.Encodings.{AreBlocksOf};
@@ -15,7 +15,7 @@ use crate::numbering::Numbering;
 use crate::run::{Spans, runs};
 use cqa_model::{Atom, Query};
 use cqa_value::{Items, NoMemory};
-use join_witness::Witness;
+use join_access::Witness;
 use std::alloc::Global;
 use table_blocks::Database;
 

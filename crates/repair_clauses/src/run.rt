@@ -5,7 +5,7 @@ ghost use Rattle.std.specs.Prelude.{◌*◌, ◌≤◌, IfOk, length};
 ghost use Rattle.std.specs.List.Sorted.{IsStrictlySortedBy};
 ghost use Rattle.cqa_model.specs.Database.{block_cmp};
 ghost use Rattle.cqa_model.specs.declared.limits.TheConstants.{MOST_ATOMS, MOST_ROWS};
-ghost use Rattle.repair_clauses.specs.Runs.{ArePlaces, AreRuns};
+ghost use Rattle.repair_clauses.specs.Runs.{AreRowPlaces, AreRuns};
 
 use crate::span::Span;
 use cqa_value::{Items, NoMemory};
@@ -38,7 +38,7 @@ pub fn runs(
     requires order { IsStrictlySortedBy (block_cmp key.now) rows.now }
     requires few { length rows.now ≤ MOST_ROWS }
     requires small { base ≤ MOST_ATOMS * MOST_ROWS }
-    requires places { ArePlaces rows.now places.now }
+    requires places { AreRowPlaces rows.now places.now }
     ensures { IfOk result (λ spans. AreRuns key.now rows.now atom base places.now spans.vars spans.list) }
 {
     let mut spans = Items::new(alloc);

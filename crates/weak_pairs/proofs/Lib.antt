@@ -10,3 +10,4 @@ pub mod Chaining
 pub mod RowKeys
 pub mod Laying
 pub mod Results
+pub mod Begins

@@ -7,3 +7,4 @@ pub mod Packing
 pub mod Digests
 pub mod EdgeNumbers
 pub mod Layout
+pub mod Starts

@@ -8,29 +8,29 @@ use Rattle.weak_pairs.specs.declared.peel.Left.{Left}
 use Rattle.weak_pairs.specs.declared.peel.Left.TheVariants.{Zero, One, Two}
 use Rattle.weak_pairs.specs.declared.peel.Step.{Step}
 use Rattle.weak_pairs.specs.declared.peel.Step.TheVariants.{Stuck, Done, Go}
-use Rattle.weak_pairs.specs.Peeling.{IsBlock, In, IsTaken, IsFree, row_of, IsServed, open_count, IsState, HasOne, HasTwo, IsSettled, IsSeen, IsStuck, ArePeeled}
+use Rattle.weak_pairs.specs.Peeling.{IsBlockNumber, In, IsTaken, IsFreeEdge, row_of, IsServed, open_count, IsMatchingState, HasFreeEdge, HasTwo, IsSettledBlock, AreRowsSeen, IsStuck, ArePeeled}
 
 -- blocks of the graph took rows of their own whose edges are taken and differ
 abbrev pub IsMatching : Graph → Matching → Type 0
-IsMatching g m = IsState g.start.now g.edge.now g.ends.now m.own.items m.taken.items
+IsMatching g m = IsMatchingState g.start.now g.edge.now g.ends.now m.own.items m.taken.items
 
 -- a block took no row yet
-abbrev pub IsOpen : Matching → ℕ → Type 0
-IsOpen m v = row_of m.own.items v ≡ None
+abbrev pub IsUnmatched : Matching → ℕ → Type 0
+IsUnmatched m v = row_of m.own.items v ≡ None
 
 -- a block took a row, or two free edges are left to it
 abbrev pub IsSettledIn : Graph → Matching → ℕ → Type 0
-IsSettledIn g m v = IsSettled g.start.now g.edge.now m.own.items m.taken.items v
+IsSettledIn g m v = IsSettledBlock g.start.now g.edge.now m.own.items m.taken.items v
 
 -- each block is settled
 abbrev pub AllSettled : Graph → Matching → Type 0
-AllSettled g m = (u : ℕ) → IsBlock g.start.now u → IsSettledIn g m u
+AllSettled g m = (u : ℕ) → IsBlockNumber g.start.now u → IsSettledIn g m u
 
 -- which of two rows to keep: none where both edges are free and differ, and else one such that the other's edge is taken or the same
 abbrev pub IsKept : Graph → Matching → ℕ → ℕ → Option ℕ → Type 0
 IsKept g m keep next result =
     MatchOption result
-    (IsFree m.taken.items (slice_index g.edge.now keep) × IsFree m.taken.items (slice_index g.edge.now next) × (slice_index g.edge.now keep ≢ slice_index g.edge.now next))
+    (IsFreeEdge m.taken.items (slice_index g.edge.now keep) × IsFreeEdge m.taken.items (slice_index g.edge.now next) × (slice_index g.edge.now keep ≢ slice_index g.edge.now next))
     (λ row. ((row ≡ keep) × (IsTaken m.taken.items (slice_index g.edge.now next) ⊎ (slice_index g.edge.now next ≡ slice_index g.edge.now keep))) ⊎ ((row ≡ next) × IsTaken m.taken.items (slice_index g.edge.now keep)))
 
 -- a block took a row: others keep theirs, and only the other end of its edge may be left with one edge where there were two
@@ -40,9 +40,9 @@ pub record HasTaken (g : Graph) (m n : Matching) (at row : ℕ) (other : Option 
   pub matching : IsMatching g n
   pub fewer : open_count n.own.items < open_count m.own.items
   pub served : (u : ℕ) → (u ≡ at) ⊎ IsServed m.own.items u → IsServed n.own.items u
-  pub block : (w : ℕ) → other ≡ Some w → IsBlock g.start.now w
+  pub block : (w : ℕ) → other ≡ Some w → IsBlockNumber g.start.now w
   pub settled : (u : ℕ) → other ≢ Some u → (u ≡ at) ⊎ IsSettledIn g m u → IsSettledIn g n u
-  pub ready : (u : ℕ) → (u ≡ at) ⊎ IsSettledIn g m u → IsServed n.own.items u ⊎ HasOne g.start.now g.edge.now n.taken.items u
+  pub ready : (u : ℕ) → (u ≡ at) ⊎ IsSettledIn g m u → IsServed n.own.items u ⊎ HasFreeEdge g.start.now g.edge.now n.taken.items u
 
 -- blocks took rows by a walk from a block, which has one now; all blocks are settled
 pub record HasWalked (g : Graph) (m n : Matching) (first : ℕ) : Type 0 where
@@ -57,13 +57,13 @@ IsPeeling g p = ArePeeled g.start.now g.edge.now g.ends.now p.matching.own.items
 
 -- a block was looked at so far
 abbrev pub IsSeenTo : Graph → Matching → ℕ → Watch → Type 0
-IsSeenTo g m v seen = IsSeen g.start.now g.edge.now m.taken.items v seen.keep seen.next
+IsSeenTo g m v seen = AreRowsSeen g.start.now g.edge.now m.taken.items v seen.keep seen.next
 
 -- what is left to a block
 abbrev pub IsLeft : Graph → Matching → ℕ → Left → Type 0
 IsLeft g m v Zero = (i : ℕ) → In g.start.now v i → IsTaken m.taken.items (slice_index g.edge.now i)
 IsLeft g m v (One i) =
-    In g.start.now v i × IsFree m.taken.items (slice_index g.edge.now i) ×
+    In g.start.now v i × IsFreeEdge m.taken.items (slice_index g.edge.now i) ×
     ((j : ℕ) → In g.start.now v j → IsTaken m.taken.items (slice_index g.edge.now j) ⊎ (slice_index g.edge.now j ≡ slice_index g.edge.now i))
 IsLeft g m v Two = HasTwo g.start.now g.edge.now m.taken.items v
 
@@ -72,7 +72,7 @@ abbrev pub IsStep : Graph → Peeling → Peeling → ℕ → Step → Type 0
 IsStep g p q at Stuck = IsStuck g.start.now g.edge.now q.order.items at
 IsStep g p q at Done = (u : ℕ) → (u ≡ at) ⊎ IsSettledIn g p.matching u → IsSettledIn g q.matching u
 IsStep g p q at (Go w) =
-    IsBlock g.start.now w × (open_count q.matching.own.items < open_count p.matching.own.items) ×
+    IsBlockNumber g.start.now w × (open_count q.matching.own.items < open_count p.matching.own.items) ×
     ((u : ℕ) → u ≢ w → (u ≡ at) ⊎ IsSettledIn g p.matching u → IsSettledIn g q.matching u)
 
 -- the first blocks, so many, are settled

@@ -3,7 +3,7 @@
 
 ghost use Rattle.std.specs.Prelude.{◌≡◌, ◌+◌, ◌<◌, ◌≤◌, ◌^◌, ℕ, [], IfOk, OnOk, length, replicate, slice_index};
 ghost use Rattle.weak_pairs.specs.Digests.{AreBuckets, bucket_at, bucket_count, lists_in};
-ghost use Rattle.weak_pairs.specs.EdgeNumbers.{AreChained, IsLinked, IsNext, IsSameBefore};
+ghost use Rattle.weak_pairs.specs.EdgeNumbers.{AreChained, IsLinked, IsNextNumber, IsSameBefore};
 ghost use Rattle.weak_pairs.specs.Numbering.{AreEdges};
 
 use crate::lists::Lists;
@@ -81,7 +81,7 @@ fn number(lists: &Lists<'_>, before: &[u32], edge: &[u32], at: u32, count: u32) 
     requires there { at < length (lists_in lists.now) }
     requires chained { AreChained (bucket_at lists.now) (bucket_count (length (lists_in lists.now))) (length (lists_in lists.now)) before.now }
     requires numbered { length edge.now ≡ at }
-    ensures { IsNext (lists_in lists.now) edge.now at count result }
+    ensures { IsNextNumber (lists_in lists.now) edge.now at count result }
 {
     match same_before(lists, before, at) {
         Some(place) => edge[place as usize],

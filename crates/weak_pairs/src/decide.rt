@@ -4,7 +4,7 @@
 
 ghost use Rattle.std.specs.Prelude.{◌≡◌, ◌+◌, ◌<◌, ◌^◌, IfOk, length};
 ghost use Rattle.weak_pairs.specs.Digests.{lists_in};
-ghost use Rattle.weak_pairs.specs.Outcomes.{AreSided, AreStarts, IsDecided, IsTold};
+ghost use Rattle.weak_pairs.specs.Outcomes.{AreSided, AreStarts, IsPairDecision, TellsCertainty};
 
 use crate::chains::edge_numbers;
 use crate::graph::Graph;
@@ -38,7 +38,7 @@ pub fn decide_rows(
     requires blocks { blocks + 1 ≡ length start.now }
     requires starts { AreStarts start.now (length (lists_in lists.now)) }
     requires sided { AreSided (lists_in lists.now) start.now split }
-    ensures { IfOk result (IsDecided (lists_in lists.now) start.now) }
+    ensures { IfOk result (IsPairDecision (lists_in lists.now) start.now) }
 {
     let (edge, count) = edge_numbers(alloc, lists)?;
     let ends = edge_ends(alloc, start, &edge, blocks, split, count)?;
@@ -70,7 +70,7 @@ pub fn are_certain(
     requires blocks { blocks + 1 ≡ length start.now }
     requires starts { AreStarts start.now (length (lists_in lists.now)) }
     requires sided { AreSided (lists_in lists.now) start.now split }
-    ensures { IfOk result (IsTold (lists_in lists.now) start.now) }
+    ensures { IfOk result (TellsCertainty (lists_in lists.now) start.now) }
 {
     let (edge, count) = edge_numbers(alloc, lists)?;
     let ends = edge_ends(alloc, start, &edge, blocks, split, count)?;

@@ -1,8 +1,8 @@
 //! Matchings of a graph's blocks: rows that blocks took, no two of them with one edge.
 
 ghost use Rattle.std.specs.Prelude.{◌≡◌, ◌↔◌, ◌<◌, IsTrue, length, slice_index, slice_index_or, false};
-ghost use Rattle.weak_pairs.specs.Peeling.{In, IsBlock, IsFree};
-ghost use Rattle.weak_pairs.specs.States.{HasTaken, IsKept, IsMatching, IsOpen};
+ghost use Rattle.weak_pairs.specs.Peeling.{In, IsBlockNumber, IsFreeEdge};
+ghost use Rattle.weak_pairs.specs.States.{HasTaken, IsKept, IsMatching, IsUnmatched};
 
 use crate::graph::Graph;
 
@@ -19,7 +19,7 @@ impl Matching {
     /// Whether a block took no row yet.
     pub(crate) fn is_open(&self, at: u32) -> bool
         requires { at < length self.now.own.items }
-        ensures { IsTrue result ↔ IsOpen self.now at }
+        ensures { IsTrue result ↔ IsUnmatched self.now at }
     {
         self.own[at as usize].is_none()
     }
@@ -53,10 +53,10 @@ impl Matching {
     /// Lets a block take a row with a free edge, and answers the other block with this edge.
     pub(crate) fn take(&mut self, graph: &Graph<'_>, at: u32, row: u32) -> Option<u32>
         requires matching { IsMatching graph.now self.old }
-        requires block { IsBlock graph.now.start.now at }
-        requires isopen { IsOpen self.old at }
+        requires block { IsBlockNumber graph.now.start.now at }
+        requires isopen { IsUnmatched self.old at }
         requires row { In graph.now.start.now at row }
-        requires free { IsFree self.old.taken.items (slice_index graph.now.edge.now row) }
+        requires free { IsFreeEdge self.old.taken.items (slice_index graph.now.edge.now row) }
         ensures { HasTaken graph.now self.old self.new at row result }
     {
         let its = graph.edge[row as usize];

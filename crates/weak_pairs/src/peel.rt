@@ -1,8 +1,8 @@
 //! Peeling a graph: a block with one free edge takes its row, and then the block at the edge's other end is looked at.
 
 ghost use Rattle.std.specs.Prelude.{◌≡◌, ◌+◌, IfOk, OnOk, None};
-ghost use Rattle.weak_pairs.specs.Peeling.{AreFirst, AreOpen, IsBlock};
-ghost use Rattle.weak_pairs.specs.States.{AreSettled, IsLeft, IsOpen, IsPeeledTo, IsPeeling, IsSeenTo, IsStep};
+ghost use Rattle.weak_pairs.specs.Peeling.{AreFirst, AreOpen, IsBlockNumber};
+ghost use Rattle.weak_pairs.specs.States.{AreSettled, IsLeft, IsUnmatched, IsPeeledTo, IsPeeling, IsSeenTo, IsStep};
 ghost use Rattle.weak_pairs.specs.declared.peel.Left.TheVariants.{One};
 
 use crate::graph::Graph;
@@ -84,7 +84,7 @@ impl Peeling {
     /// Looks at a block's rows until two free edges are found: what is left to it, and how far it has been looked at.
     fn look(&self, graph: &Graph<'_>, at: u32) -> (Left, Watch)
         requires peeling { IsPeeling graph.now self.now }
-        requires block { IsBlock graph.now.start.now at }
+        requires block { IsBlockNumber graph.now.start.now at }
         ensures left { IsLeft graph.now self.now.matching at result.0 }
         ensures seen { IsSeenTo graph.now self.now.matching at result.1 }
     {
@@ -108,8 +108,8 @@ impl Peeling {
     /// Lets a block take the row of the one edge that is left to it.
     fn give(&mut self, graph: &Graph<'_>, at: u32, row: u32) -> Result<Step, NoMemory>
         requires peeling { IsPeeling graph.now self.old }
-        requires block { IsBlock graph.now.start.now at }
-        requires isopen { IsOpen self.old.matching at }
+        requires block { IsBlockNumber graph.now.start.now at }
+        requires isopen { IsUnmatched self.old.matching at }
         requires left { IsLeft graph.now self.old.matching at (One row) }
         ensures peeling { OnOk result (IsPeeling graph.now self.new) }
         ensures step { IfOk result (IsStep graph.now self.old self.new at) }
@@ -124,8 +124,8 @@ impl Peeling {
     /// One step of peeling: where one edge is left to an open block, the block takes it.
     fn force(&mut self, graph: &Graph<'_>, at: u32) -> Result<Step, NoMemory>
         requires peeling { IsPeeling graph.now self.old }
-        requires block { IsBlock graph.now.start.now at }
-        requires isopen { IsOpen self.old.matching at }
+        requires block { IsBlockNumber graph.now.start.now at }
+        requires isopen { IsUnmatched self.old.matching at }
         ensures peeling { OnOk result (IsPeeling graph.now self.new) }
         ensures step { IfOk result (IsStep graph.now self.old self.new at) }
     {
@@ -144,7 +144,7 @@ impl Peeling {
     /// Peels from a block on, until the next block has two edges left or none.
     fn chase(&mut self, graph: &Graph<'_>, first: u32) -> Result<Option<u32>, NoMemory>
         requires peeling { IsPeeling graph.now self.old }
-        requires block { IsBlock graph.now.start.now first }
+        requires block { IsBlockNumber graph.now.start.now first }
         requires before { AreSettled graph.now self.old.matching first }
         ensures peeling { OnOk result (IsPeeling graph.now self.new) }
         ensures found { IfOk result (IsPeeledTo graph.now self.new (first + 1)) }

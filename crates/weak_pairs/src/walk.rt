@@ -1,7 +1,7 @@
 //! Walks from block to block: where each block has a row or two free edges, all can take rows.
 
 ghost use Rattle.std.specs.Prelude.{slice_index};
-ghost use Rattle.weak_pairs.specs.Peeling.{AreChosen, HasOne, In, IsBlock, IsFree};
+ghost use Rattle.weak_pairs.specs.Peeling.{AreChosen, HasFreeEdge, In, IsBlockNumber, IsFreeEdge};
 ghost use Rattle.weak_pairs.specs.States.{AllSettled, HasWalked, IsMatching};
 
 use crate::graph::Graph;
@@ -11,10 +11,10 @@ impl Matching {
     /// A row of a block whose edge is free.
     fn free_row(&self, graph: &Graph<'_>, at: u32) -> u32
         requires matching { IsMatching graph.now self.now }
-        requires block { IsBlock graph.now.start.now at }
-        requires one { HasOne graph.now.start.now graph.now.edge.now self.now.taken.items at }
+        requires block { IsBlockNumber graph.now.start.now at }
+        requires one { HasFreeEdge graph.now.start.now graph.now.edge.now self.now.taken.items at }
         ensures row { In graph.now.start.now at result }
-        ensures free { IsFree self.now.taken.items (slice_index graph.now.edge.now result) }
+        ensures free { IsFreeEdge self.now.taken.items (slice_index graph.now.edge.now result) }
     {
         let first = graph.start[at as usize];
         for row in first..graph.start[at as usize + 1] {
@@ -28,7 +28,7 @@ impl Matching {
     /// Lets blocks take rows, from this one on, until one is met that has a row.
     fn walk(&mut self, graph: &Graph<'_>, first: u32)
         requires matching { IsMatching graph.now self.old }
-        requires block { IsBlock graph.now.start.now first }
+        requires block { IsBlockNumber graph.now.start.now first }
         requires settled { AllSettled graph.now self.old }
         ensures { HasWalked graph.now self.old self.new first }
     {

@@ -1,6 +1,6 @@
 use Rattle.std.proofs.Common.{IfOk, sym, subst, length}
 use Rattle.weak_pairs.specs.Digests.{lists_in}
-use Rattle.weak_pairs.specs.Outcomes.{AreStarts, AreSided, IsDecided}
+use Rattle.weak_pairs.specs.Outcomes.{AreStarts, AreSided, IsPairDecision}
 use Rattle.pair_answers.proofs.Decided.{starts, sided, answered}
 use Rattle.pair_answers.proofs.deciding.decide_numbers.Goals as goal
 
@@ -23,4 +23,4 @@ returns c =
     let lists = lists_in c.in_ok-lists.lists in
     answered c.args.db.now c.args.query.now c.args.row.now c.requires.pair c.requires.fits c.requires.size c.pair_decided.ensures c.in_ok-starts.starts.first.items c.in_ok-starts.starts.split c.in_ok-starts.ensures.starts
     lists c.in_ok-lists.ensures.lists c.decide_rows.result
-    (subst (λ z. IfOk c.decide_rows.result (IsDecided lists z)) c.deref-3.ensures.value c.decide_rows.ensures)
+    (subst (λ z. IfOk c.decide_rows.result (IsPairDecision lists z)) c.deref-3.ensures.value c.decide_rows.ensures)

@@ -1,6 +1,6 @@
 use Rattle.std.proofs.Common.{IfOk, sym, subst, length}
 use Rattle.weak_pairs.specs.Digests.{lists_in}
-use Rattle.weak_pairs.specs.Outcomes.{AreStarts, AreSided, IsTold}
+use Rattle.weak_pairs.specs.Outcomes.{AreStarts, AreSided, TellsCertainty}
 use Rattle.pair_answers.proofs.Decided.{starts, sided, told}
 use Rattle.pair_answers.proofs.deciding.is_certain.Goals as goal
 
@@ -23,4 +23,4 @@ returns c =
     let lists = lists_in c.in_ok-lists.lists in
     told c.args.db.now c.args.query.now c.args.row.now c.requires.pair c.requires.fits c.requires.size c.pair_decided.ensures c.in_ok-starts.starts.first.items c.in_ok-starts.starts.split c.in_ok-starts.ensures.starts
     lists c.in_ok-lists.ensures.lists c.are_certain-certain.result
-    (subst (λ z. IfOk c.are_certain-certain.result (IsTold lists z)) c.deref-3.ensures.value c.are_certain-certain.ensures)
+    (subst (λ z. IfOk c.are_certain-certain.result (TellsCertainty lists z)) c.deref-3.ensures.value c.are_certain-certain.ensures)

@@ -1,6 +1,6 @@
 use Rattle.std.proofs.Common.{take}
 use Rattle.cnf_form.specs.Literals.{literals}
-use Rattle.join_witness.specs.Listing.{names_of}
+use Rattle.join_access.specs.Listing.{names_of}
 use Rattle.pair_formula.specs.Full.{AddsPairs}
 use Rattle.pair_formula.proofs.formula.add_pairs.Given as goal
 

@@ -1,7 +1,7 @@
 use Rattle.std.proofs.Common.{map, ◌∙◌, sym, subst}
 use Rattle.cnf_form.specs.Literals.{literals, SatisfiesAll}
-use Rattle.join_witness.specs.declared.all_witnesses.Witness.{Witness}
-use Rattle.join_witness.specs.Listing.{names_of}
+use Rattle.join_access.specs.declared.witness.Witness.{Witness}
+use Rattle.join_access.specs.Listing.{names_of}
 use Rattle.repair_clauses.specs.Clauses.{positive}
 use Rattle.repair_clauses.specs.Spans.{numbers_in}
 use Rattle.cqa_value.proofs.Words.{Contains-map}

@@ -1,5 +1,5 @@
 use Rattle.std.proofs.Common.{sym, subst, arith}
-use Rattle.join_witness.specs.Listing.{names_of}
+use Rattle.join_access.specs.Listing.{names_of}
 use Rattle.repair_clauses.specs.Spans.{IsNumbering}
 use Rattle.pair_formula.specs.Full.{AreFullSpans}
 use Rattle.pair_formula.proofs.FullSpans.{full-joined, full-numbering}

@@ -1,8 +1,8 @@
 use Rattle.std.proofs.Common.{◌∙◌, ap, sym, subst}
 use Rattle.cqa_model.specs.declared.query.Atom.{Atom}
 use Rattle.table_blocks.specs.Tables.{rows_at}
-use Rattle.join_witness.specs.Listing.{names_of}
-use Rattle.repair_clauses.specs.Runs.{ArePlaces, AreColumn}
+use Rattle.join_access.specs.Listing.{names_of}
+use Rattle.repair_clauses.specs.Runs.{AreRowPlaces, AreColumn}
 use Rattle.repair_clauses.proofs.Naming.{are_places}
 use Rattle.repair_clauses.proofs.Encoding.{rows_long}
 use Rattle.pair_formula.specs.Full.{AreFullRuns}
@@ -18,7 +18,7 @@ full_runs-vars-requires-clause-places c =
     let all = names_of c.args.witnesses.now in
     let rows = c.rows-rows.ensures.is ∙ ap (λ (a : Atom). rows_at db a.table) c.atom_of-atom.ensures in
     let places = subst (AreColumn all c.args.at) (sym c.as_slice-2.ensures.value) c.in_ok-places.ensures in
-    subst (λ x. ArePlaces x c.as_slice-2.result.now) (sym rows) (are_places q db c.requires.all.0 all c.requires.all.1 c.args.at c.requires.there c.as_slice-2.result.now places)
+    subst (λ x. AreRowPlaces x c.as_slice-2.result.now) (sym rows) (are_places q db c.requires.all.0 all c.requires.all.1 c.args.at c.requires.there c.as_slice-2.result.now places)
 
 pub returns-clause-blocks : goal.returns-clause-blocks
 returns-clause-blocks c =

@@ -1,5 +1,5 @@
 use Rattle.std.proofs.Common.{◌∙◌, ℕ, List, Option, length, arith, refl, ap}
-use Rattle.pair_formula.specs.Edges.{pair_at}
+use Rattle.pair_refutation.specs.Edges.{pair_at}
 use Rattle.pair_refutation.proofs.Chaining.{pair-small, chained-none, chained-as, next-size}
 use Rattle.pair_refutation.proofs.chains.chain_all.Goals as goal
 

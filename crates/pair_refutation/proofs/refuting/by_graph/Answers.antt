@@ -1,6 +1,6 @@
 use Rattle.std.proofs.Common.{subst}
 use Rattle.weak_pairs.specs.Peeling.{IsOutcome}
-use Rattle.pair_formula.proofs.Assembling.{chosen-not}
+use Rattle.pair_refutation.proofs.Assembling.{chosen-not}
 use Rattle.pair_refutation.proofs.refuting.by_graph.Goals as goal
 
 pub unreachable-requires : goal.unreachable-requires

@@ -1,5 +1,5 @@
 use Rattle.std.proofs.Common.{ℕ, ◌<◌, length, slice_index, subst, sym}
-use Rattle.pair_formula.proofs.Assembling.{rows-are}
+use Rattle.pair_refutation.proofs.Assembling.{rows-are}
 use Rattle.pair_refutation.proofs.refuting.by_order.Goals as goal
 
 pub blocks_of-requires-clause-rising : goal.blocks_of-requires-clause-rising

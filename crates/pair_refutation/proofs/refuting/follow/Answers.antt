@@ -1,5 +1,5 @@
 use Rattle.std.proofs.Common.{[], ◌≡◌, ◌<◌, ◌+◌, ◌∙◌, length, ap, sym, subst, arith, slice_index}
-use Rattle.pair_formula.specs.Graph.{AreAdjacent}
+use Rattle.pair_refutation.specs.Graph.{AreAdjacent}
 use Rattle.weak_pairs.specs.Peeling.{In}
 use Rattle.pair_refutation.specs.Refuting.{IsLastOf, MeetsAlike}
 use Rattle.pair_refutation.proofs.Losing.{row-var-small, rows-within, read-at, alone, alike, marked-more, both-ok}

@@ -1,5 +1,5 @@
 use Rattle.std.proofs.Common.{◌++◌, ◌∷◌, [], ◌∙◌, ap, arith}
-use Rattle.pair_formula.specs.Graph.{negative}
+use Rattle.pair_refutation.specs.Graph.{negative}
 use Rattle.pair_refutation.proofs.Losing.{lose-step}
 use Rattle.pair_refutation.proofs.refuting.lose.Goals as goal
 

@@ -1,7 +1,7 @@
 use Rattle.std.proofs.Common.{◌≡◌, true, false, length, get_or, ap, subst, arith}
 use Rattle.std.proofs.lemmas.List.{length-map}
-use Rattle.join_witness.specs.declared.all_witnesses.Witness.{Witness}
-use Rattle.join_witness.specs.Listing.{names_of}
+use Rattle.join_access.specs.declared.witness.Witness.{Witness}
+use Rattle.join_access.specs.Listing.{names_of}
 use Rattle.repair_clauses.proofs.FreeRows.{avoided}
 use Rattle.repair_clauses.proofs.avoiding.are_avoidable.Goals as goal
 

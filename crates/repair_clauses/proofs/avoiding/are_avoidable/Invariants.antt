@@ -1,5 +1,5 @@
 use Rattle.std.proofs.Common.{◌≡◌, length}
-use Rattle.join_witness.specs.Listing.{names_of}
+use Rattle.join_access.specs.Listing.{names_of}
 use Rattle.repair_clauses.specs.Avoiding.{AreMarked}
 use Rattle.repair_clauses.proofs.avoiding.are_avoidable.Given as goal
 

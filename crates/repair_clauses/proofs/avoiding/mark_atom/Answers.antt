@@ -7,10 +7,10 @@ use Rattle.cqa_model.specs.declared.query.RowId.{RowId}
 use Rattle.cqa_model.specs.Database.{Table}
 use Rattle.cqa_model.specs.Query.{atom_at}
 use Rattle.table_blocks.specs.Tables.{rows_at}
-use Rattle.join_witness.specs.declared.all_witnesses.Witness.{Witness}
-use Rattle.join_witness.specs.Listing.{names_of}
+use Rattle.join_access.specs.declared.witness.Witness.{Witness}
+use Rattle.join_access.specs.Listing.{names_of}
 use Rattle.repair_clauses.specs.Avoiding.{HasFree, AreLoose, IsLooseAt, IsAvoidable}
-use Rattle.repair_clauses.specs.Runs.{ArePlaces, AreColumn}
+use Rattle.repair_clauses.specs.Runs.{AreRowPlaces, AreColumn}
 use Rattle.repair_clauses.specs.Spans.{place_at}
 use Rattle.repair_clauses.proofs.Naming.{are_places}
 use Rattle.repair_clauses.proofs.Encoding.{rows_long}
@@ -34,7 +34,7 @@ loose_places-requires c =
     let db = c.args.db.now in
     let rows = c.rows-rows.ensures.is ∙ ap (λ (a : Atom). rows_at db a.table) c.atom_of-atom.ensures in
     let places = subst (AreColumn (names_of c.args.witnesses.now) c.args.at) (sym c.as_slice-2.ensures.value) c.in_ok-places.ensures in
-    subst (λ x. ArePlaces x c.as_slice-2.result.now) (sym rows)
+    subst (λ x. AreRowPlaces x c.as_slice-2.result.now) (sym rows)
     (are_places q db c.requires.all.0 (names_of c.args.witnesses.now) c.requires.all.1 c.args.at c.requires.there c.as_slice-2.result.now places)
 
 pub mark_witnesses-requires-clause-rows : goal.mark_witnesses-requires-clause-rows

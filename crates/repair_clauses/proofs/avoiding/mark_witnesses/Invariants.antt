@@ -1,5 +1,5 @@
 use Rattle.std.proofs.Common.{◌≡◌, ◌⊎◌, ◌<◌, ℕ, [], false, true, length, slice_index_or}
-use Rattle.join_witness.specs.Listing.{names_of}
+use Rattle.join_access.specs.Listing.{names_of}
 use Rattle.repair_clauses.specs.Avoiding.{IsLooseAt}
 use Rattle.repair_clauses.specs.Spans.{place_at}
 use Rattle.repair_clauses.proofs.avoiding.mark_witnesses.Given as goal

@@ -1,6 +1,6 @@
 use Rattle.std.proofs.Common.{take, map}
 use Rattle.cnf_form.specs.Literals.{literals}
-use Rattle.join_witness.specs.Listing.{names_of, places_of}
+use Rattle.join_access.specs.Listing.{names_of, places_of}
 use Rattle.repair_clauses.specs.Encodings.{AddsWitnesses}
 use Rattle.repair_clauses.proofs.clauses.add_witnesses.Given as goal
 

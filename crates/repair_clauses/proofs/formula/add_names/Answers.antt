@@ -3,7 +3,7 @@ use Rattle.std.specs.List.{range_with_len}
 use Rattle.std.proofs.lemmas.List.{map_push}
 use Rattle.std.proofs.lemmas.List.FromFn.{map-range_with_len_more}
 use Rattle.cqa_model.specs.declared.query.Atom.{Atom}
-use Rattle.join_witness.proofs.Naming.{name}
+use Rattle.join_access.proofs.Naming.{name}
 use Rattle.repair_clauses.specs.Clauses.{name_of}
 use Rattle.repair_clauses.specs.Spans.{at}
 use Rattle.repair_clauses.proofs.formula.add_names.Goals as goal

@@ -1,7 +1,7 @@
 use Rattle.std.proofs.Common.{◌++◌, ◌∙◌, List, map, ap, sym, subst}
 use Rattle.cnf_form.specs.declared.formula.Clause.{Clause}
 use Rattle.cnf_form.specs.Literals.{literals}
-use Rattle.join_witness.specs.Listing.{names_of, places_of}
+use Rattle.join_access.specs.Listing.{names_of, places_of}
 use Rattle.repair_clauses.specs.Clauses.{positive}
 use Rattle.repair_clauses.specs.Spans.{numbers_in}
 use Rattle.repair_clauses.specs.Encodings.{AddsWitnesses}

@@ -1,4 +1,4 @@
-use Rattle.join_witness.specs.Listing.{names_of}
+use Rattle.join_access.specs.Listing.{names_of}
 use Rattle.repair_clauses.proofs.Encoding.{of_atoms, told, encoded}
 use Rattle.repair_clauses.proofs.formula.encode.Goals as goal
 

@@ -1,7 +1,7 @@
 use Rattle.cqa_model.specs.declared.limits.TheConstants.{MOST_ROWS}
 use Rattle.std.proofs.Common.{◌≤◌, ◌*◌, List}
 use Rattle.cqa_value.specs.declared.value.Value.{Value}
-use Rattle.join_witness.specs.Listing.{AreAllNames, names_of}
+use Rattle.join_access.specs.Listing.{AreAllNames, names_of}
 use Rattle.repair_clauses.specs.Spans.{AreSpansTo}
 use Rattle.repair_clauses.proofs.relevant.relevant_blocks.Given as goal
 

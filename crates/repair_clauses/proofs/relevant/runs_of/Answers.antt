@@ -1,8 +1,8 @@
 use Rattle.std.proofs.Common.{◌∙◌, ap, sym, subst, arith}
 use Rattle.cqa_model.specs.declared.query.Atom.{Atom}
 use Rattle.table_blocks.specs.Tables.{rows_at}
-use Rattle.join_witness.specs.Listing.{names_of}
-use Rattle.repair_clauses.specs.Runs.{ArePlaces, AreColumn}
+use Rattle.join_access.specs.Listing.{names_of}
+use Rattle.repair_clauses.specs.Runs.{AreRowPlaces, AreColumn}
 use Rattle.repair_clauses.proofs.Naming.{are_places}
 use Rattle.repair_clauses.proofs.Encoding.{rows_long, blocks_more}
 use Rattle.repair_clauses.proofs.relevant.runs_of.Goals as goal
@@ -16,7 +16,7 @@ runs-more-requires-clause-places c =
     let db = c.args.db.now in
     let rows = c.rows-rows.ensures.is ∙ ap (λ (a : Atom). rows_at db a.table) c.atom_of-atom.ensures in
     let places = subst (AreColumn (names_of c.args.witnesses.now) c.args.at) (sym c.as_slice-2.ensures.value) c.in_ok-places.ensures in
-    subst (λ x. ArePlaces x c.as_slice-2.result.now) (sym rows)
+    subst (λ x. AreRowPlaces x c.as_slice-2.result.now) (sym rows)
     (are_places q db c.requires.all.0 (names_of c.args.witnesses.now) c.requires.all.1 c.args.at c.requires.there c.as_slice-2.result.now places)
 
 pub returns-clause-more : goal.returns-clause-more

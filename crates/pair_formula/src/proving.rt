@@ -1,0 +1,71 @@
+//! Why a row of a pair is certain: its formula, and a refutation of it.
+
+ghost use Rattle.std.specs.Prelude.{◌≡◌, IfErr, IfOk, length};
+ghost use Rattle.cqa_model.specs.Certain.{IsCertain};
+ghost use Rattle.cqa_model.specs.Query.{FitsDatabase};
+ghost use Rattle.cnf_form.specs.Logs.{Refutes};
+ghost use Rattle.cdcl.specs.Outcomes.{AreConsecutive};
+ghost use Rattle.join_access.specs.Listing.{HasTooMany, IsOver};
+ghost use Rattle.weak_pairs.specs.Pairs.{IsPair};
+ghost use Rattle.pair_refutation.specs.Formulas.{IsPairFormula, IsUnsatisfiable};
+ghost use Rattle.pair_formula.specs.Proving.{IsRefuted};
+
+use cnf_form::Log;
+use cqa_model::Query;
+use cqa_value::{Fail, NoMemory, Row};
+use join_access::TooMany;
+use join_witness::witnesses;
+use pair_refutation::refute;
+use repair_clauses::{Encoded, encode};
+use std::alloc::Global;
+use table_blocks::Database;
+
+/// The formula of a certain row, and a log that refutes it.
+#[derive(Drop)]
+pub struct Refuted {
+    pub formula: Encoded,
+    pub log: Log,
+}
+
+/// A formula with a refutation of it.
+fn with_log(alloc: Global, formula: Encoded) -> Result<Refuted, NoMemory>
+    requires formula { IsPairFormula formula.cnf }
+    requires none { IsUnsatisfiable formula.cnf }
+    ensures same { IfOk result (λ refuted. refuted.formula ≡ formula) }
+    ensures refutes { IfOk result (λ refuted. Refutes formula.cnf refuted.log.steps) }
+    ensures ids { IfOk result (λ refuted. AreConsecutive (length formula.cnf.clauses) refuted.log.steps) }
+{
+    match refute(alloc, &formula.cnf) {
+        Ok(log) => Ok(Refuted { formula, log }),
+        Err(fault) => {
+            drop(formula);
+            Err(fault)
+        }
+    }
+}
+
+/// The formula of a certain row of a pair, and a refutation of it.
+///
+/// # Errors
+///
+/// `TooMany` exactly where the row has more than `MOST_WITNESSES` witnesses; `NoMemory` where memory is refused.
+pub fn refute_row(
+    alloc: Global,
+    db: &Database,
+    query: &Query,
+    row: &Row,
+) -> Result<Refuted, Fail<TooMany>>
+    requires pair { IsPair query.now }
+    requires fits { FitsDatabase query.now db.now }
+    requires long { length row.now ≡ length query.now.answer }
+    requires certain { IsCertain db.now query.now row.now }
+    ensures refuted { IfOk result (IsRefuted db.now query.now row.now) }
+    ensures within { IfOk result (λ refuted. HasTooMany query.now db.now row.now → ⊥) }
+    ensures over { IfErr result (IsOver (HasTooMany query.now db.now row.now)) }
+{
+    let found = witnesses(alloc, db, query, row)?;
+    let formula = encode(alloc, db, query, found.as_slice());
+    drop(found);
+    let refuted = with_log(alloc, formula?)?;
+    Ok(refuted)
+}
