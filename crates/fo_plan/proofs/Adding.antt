@@ -6,9 +6,9 @@ use Rattle.cqa_model.specs.Repairs.{SharesKey}
 use Rattle.cqa_model.specs.OneTable.{SomeBlockFits}
 use Rattle.plan_rows.specs.Over.{query_of, rows_before}
 use Rattle.plan_rows.specs.declared.steps.Step.{Step}
-use Rattle.fo_plan.specs.Enough.{row_of, IsFirst, WholeHas, IsPassed, AreSought, AreReached, IsNextBlock}
+use Rattle.fo_plan.specs.Enough.{row_of, IsFirstOfBlock, WholeHas, IsPassed, AreSought, AreReached, IsNextBlock}
 use Rattle.fo_plan.specs.Holding.{HoldsWith}
-use Rattle.fo_plan.specs.Giving.{IsAnswer, StepGives, IsAdded}
+use Rattle.fo_plan.specs.Giving.{IsAnswerRow, StepGives, IsAdded}
 use Rattle.fo_plan.specs.declared.enough.Blocks.{Blocks}
 use Rattle.fo_plan.proofs.Passing.{some-at, at-some}
 use Rattle.fo_plan.proofs.Reached.{given-reached}
@@ -16,7 +16,7 @@ use Rattle.fo_plan.proofs.Gathered.{adds-same}
 
 -- a row has a property, and with it each row of the block that begins at a place
 abbrev pub GivesFrom : Blocks → (List Value → Type 0) → (List Value → List Value → Type 0) → ℕ → List Value → Type 0
-GivesFrom s Q R at row = (at < length s.rows) × IsFirst s.key.now s.rows at × Q row × WholeHas s.key.now s.rows (R row) at
+GivesFrom s Q R at row = (at < length s.rows) × IsFirstOfBlock s.key.now s.rows at × Q row × WholeHas s.key.now s.rows (R row) at
 
 -- what the blocks give that begin before a place has come
 pub record AddedBefore (s : Blocks) (Q : List Value → Type 0) (R : List Value → List Value → Type 0) (place : ℕ) (old new : List (List Value)) : Type 0 where
@@ -76,7 +76,7 @@ module _ (s : Blocks) (Q : List Value → Type 0) (R : List Value → List Value
       begun : Q row × SomeBlockFits s.key.now s.rows (R row) → (at : ℕ) × (at < from) × GivesFrom s Q R at row
       begun p = go (some-at s.key.now s.rows (R row) p.1)
         where
-          go : ((at : ℕ) × (at < length s.rows) × IsFirst s.key.now s.rows at × WholeHas s.key.now s.rows (R row) at) → (at : ℕ) × (at < from) × GivesFrom s Q R at row
+          go : ((at : ℕ) × (at < length s.rows) × IsFirstOfBlock s.key.now s.rows at × WholeHas s.key.now s.rows (R row) at) → (at : ℕ) × (at < from) × GivesFrom s Q R at row
           go b = early (dec_lt b.0 from)
             where
               g : GivesFrom s Q R b.0 row
@@ -87,9 +87,9 @@ module _ (s : Blocks) (Q : List Value → Type 0) (R : List Value → List Value
               early (no a) = absurd (passed from (length s.rows) b.0 row n (omega (arith, a)) b.1 g)
 
 -- what the blocks give that are gone over is what the rows taken and the plan give
-pub gives-table : (step : Step) (s : Blocks) → AreReached step None s → (old new : List (List Value)) → IsAdded (λ row. IsAnswer (query_of step) (rows_before step) row × SomeBlockFits s.key.now s.rows (HoldsWith step row)) old new →
+pub gives-table : (step : Step) (s : Blocks) → AreReached step None s → (old new : List (List Value)) → IsAdded (λ row. IsAnswerRow (query_of step) (rows_before step) row × SomeBlockFits s.key.now s.rows (HoldsWith step row)) old new →
     IsAdded (StepGives step) old new
 gives-table step s h old new =
-    adds-same (λ row. IsAnswer (query_of step) (rows_before step) row × SomeBlockFits s.key.now s.rows (HoldsWith step row)) (StepGives step)
+    adds-same (λ row. IsAnswerRow (query_of step) (rows_before step) row × SomeBlockFits s.key.now s.rows (HoldsWith step row)) (StepGives step)
     (λ row. let t = (given-reached step s row h).1 in ((λ p. (p.0, t.0 p.1)), (λ p. (p.0, t.1 p.1))))
     old new

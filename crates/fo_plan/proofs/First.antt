@@ -21,7 +21,7 @@ use Rattle.plan_rows.specs.Links.{LeadsTo}
 use Rattle.plan_rows.specs.Over.{query_of, tables_of, rows_before}
 use Rattle.plan_rows.specs.declared.steps.Step.{Step}
 use Rattle.plan_rows.proofs.Reaching.{held_rows_are_reached}
-use Rattle.fo_plan.specs.Enough.{IsEnough, row_of, IsFirst, IsFirstOf, AreReached}
+use Rattle.fo_plan.specs.Enough.{IsEnough, row_of, IsFirstOfBlock, IsFirstOf, AreReached}
 use Rattle.fo_plan.specs.FirstBlock.{IsBlockOf, IsFirstWith}
 use Rattle.fo_plan.specs.Holding.{HoldsWith}
 use Rattle.fo_plan.specs.declared.enough.Blocks.{Blocks}
@@ -118,4 +118,4 @@ module _ (step : Step) (s : Blocks) (row : List Value) (h : AreReached step (Som
       (subst (λ x. IsBlockOf (atom_key (query_of step) step.atom) (rows_of (query_of step) (tables_of step) step.atom) x block) f.is.first b)
     where
       moved : (k l : List ℕ) → k ≡ l → IsFirstOf k s.rows (HoldsWith step row) found → IsFirstOf l s.rows (HoldsWith step row) found
-      moved k l e g = record { at = g.at; is = record { there = g.is.there; leads = subst (λ j. IsFirst j s.rows g.at) e g.is.leads; some = g.is.some; first = g.is.first; exactly = subst (λ j. (y : List Value) → Contains found y ↔ (Contains s.rows y × SharesKey j (row_of s.rows g.at) y)) e g.is.exactly }; all = g.all; none = subst (λ j. (i : ℕ) → i < g.at → i < length s.rows → IsFirst j s.rows i → ((y : List Value) → Contains s.rows y → SharesKey j (row_of s.rows i) y → HoldsWith step row y) → ⊥) e g.none }
+      moved k l e g = record { at = g.at; is = record { there = g.is.there; leads = subst (λ j. IsFirstOfBlock j s.rows g.at) e g.is.leads; some = g.is.some; first = g.is.first; exactly = subst (λ j. (y : List Value) → Contains found y ↔ (Contains s.rows y × SharesKey j (row_of s.rows g.at) y)) e g.is.exactly }; all = g.all; none = subst (λ j. (i : ℕ) → i < g.at → i < length s.rows → IsFirstOfBlock j s.rows i → ((y : List Value) → Contains s.rows y → SharesKey j (row_of s.rows i) y → HoldsWith step row y) → ⊥) e g.none }

@@ -17,7 +17,7 @@ use Rattle.plan_rows.specs.Fitting.{Suits, GivesAt}
 use Rattle.plan_rows.specs.Left.{IsSettled}
 use Rattle.plan_rows.specs.Links.{RowHolds}
 use Rattle.fo_plan.specs.Holding.{AllHold}
-use Rattle.fo_plan.specs.Giving.{AreAll, IsAnswer, Gives, BlockGives, IsAdded}
+use Rattle.fo_plan.specs.Giving.{AreAll, IsAnswerRow, Gives, BlockGives, IsAdded}
 use Rattle.plan_rows.proofs.Sharing.{value-taken}
 use Rattle.plan_rows.proofs.Suiting.{of_all, fits-of, suits-from, gives-from}
 
@@ -92,7 +92,7 @@ module _ (q : Query) (taken : List Placed) (agreed : AreAgreed q taken) (of_colu
   in_range : (i : ℕ) → i < length q.answer → ((answer_at q i).atom < length q.atoms) × ((answer_at q i).col < (atom_at q (answer_at q i).atom).width)
   in_range i l = q.kept.answer_in_range (answer_at q i) (Contains-get_or q.answer i (record { atom = 0; col = 0 }) l)
 
-  pub answer-of : (row : List Value) → IsAnswer q taken row → map (taken_value taken) q.answer ≡ row
+  pub answer-of : (row : List Value) → IsAnswerRow q taken row → map (taken_value taken) q.answer ≡ row
   answer-of row g = map_is (taken_value taken) (record { atom = 0; col = 0 }) q.answer row g.0 at
     where
       at : (i : ℕ) → i < length q.answer → taken_value taken (answer_at q i) ≡ get_or row i nothing
@@ -101,7 +101,7 @@ module _ (q : Query) (taken : List Placed) (agreed : AreAgreed q taken) (of_colu
           let u = value-taken taken (answer_at q i) t.0 t.1 t.2 in
           u.3 ∙ g.1 u.0 u.1 i l (sym u.2)
 
-  pub is-answer : (row : List Value) → map (taken_value taken) q.answer ≡ row → IsAnswer q taken row
+  pub is-answer : (row : List Value) → map (taken_value taken) q.answer ≡ row → IsAnswerRow q taken row
   is-answer row e = (
     sym (ap length e) ∙ length-map q.answer (taken_value taken),
     (λ t m i l f. at t m i l f ∙ sym (get_or-map (taken_value taken) q.answer i (record { atom = 0; col = 0 }) nothing l) ∙ ap (λ z. get_or z i nothing) e),

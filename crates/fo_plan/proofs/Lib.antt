@@ -4,6 +4,7 @@ mod LinkLists
 mod Spanned
 mod Parted
 mod BlockOf
+mod Regrouped
 mod Passing
 mod Walked
 mod Reached

@@ -12,7 +12,7 @@ use Rattle.cqa_model.specs.Database.{block_cmp}
 use Rattle.cqa_model.proofs.BlockOrder.{grouped}
 use Rattle.cqa_model.proofs.Repairs.{shares-self, shares-sym, shares-trans, dec_shares}
 use Rattle.plan_rows.specs.Wanted.{IsWanted}
-use Rattle.fo_plan.specs.Enough.{IsEnough, row_of, IsFirst, WholeHas, IsFirstOf, IsPassed, AreSought, IsNextBlock}
+use Rattle.fo_plan.specs.Enough.{IsEnough, row_of, IsFirstOfBlock, WholeHas, IsFirstOf, IsPassed, AreSought, IsNextBlock}
 use Rattle.fo_plan.specs.declared.enough.Blocks.{Blocks}
 
 -- what is enough of a table has a block with a property exactly where the table has one, if rows with it fit
@@ -25,7 +25,7 @@ part-some key rows part fits h P strong = (
 
 module _ (key : List ℕ) (rows : List (List Value)) where
   -- the block of a row begins somewhere
-  pub first-place : (d n i : ℕ) → n + d ≡ i → ((j : ℕ) → j < n → SharesKey key (row_of rows j) (row_of rows i) → ⊥) → (at : ℕ) × (at ≤ i) × IsFirst key rows at × SharesKey key (row_of rows at) (row_of rows i)
+  pub first-place : (d n i : ℕ) → n + d ≡ i → ((j : ℕ) → j < n → SharesKey key (row_of rows j) (row_of rows i) → ⊥) → (at : ℕ) × (at ≤ i) × IsFirstOfBlock key rows at × SharesKey key (row_of rows at) (row_of rows i)
   first-place zero n i e none =
       let same : n ≡ i = omega (arith, e) in
       (i, omega arith, (λ j l. none j (omega (arith, l, same))), shares-self key (row_of rows i))
@@ -36,12 +36,12 @@ module _ (key : List ℕ) (rows : List (List Value)) where
       before f j l s (no other) = none j (omega (arith, l, other)) s
 
       go : Dec (SharesKey key (row_of rows n) (row_of rows i)) →
-          (((j : ℕ) → j < n + 1 → SharesKey key (row_of rows j) (row_of rows i) → ⊥) → (at : ℕ) × (at ≤ i) × IsFirst key rows at × SharesKey key (row_of rows at) (row_of rows i)) →
-          (at : ℕ) × (at ≤ i) × IsFirst key rows at × SharesKey key (row_of rows at) (row_of rows i)
+          (((j : ℕ) → j < n + 1 → SharesKey key (row_of rows j) (row_of rows i) → ⊥) → (at : ℕ) × (at ≤ i) × IsFirstOfBlock key rows at × SharesKey key (row_of rows at) (row_of rows i)) →
+          (at : ℕ) × (at ≤ i) × IsFirstOfBlock key rows at × SharesKey key (row_of rows at) (row_of rows i)
       go (yes s) further = (n, omega (arith, e), (λ j l t. none j l (shares-trans key (row_of rows j) (row_of rows n) (row_of rows i) t s)), s)
       go (no f) further = further (λ j l s. before f j l s (ℕ_discrete j n))
 
-  pub some-at : (P : List Value → Type 0) → SomeBlockFits key rows P → (at : ℕ) × (at < length rows) × IsFirst key rows at × WholeHas key rows P at
+  pub some-at : (P : List Value → Type 0) → SomeBlockFits key rows P → (at : ℕ) × (at < length rows) × IsFirstOfBlock key rows at × WholeHas key rows P at
   some-at P (x, (i, li, ei), f) =
       let is : row_of rows i ≡ x = get_or_default rows i [] x li ∙ ei in
       let b = first-place i 0 i (omega arith) (λ j l s. absurd (omega (arith, l))) in
@@ -54,11 +54,11 @@ module _ (key : List ℕ) (rows : List (List Value)) where
 module _ (s : Blocks) where
   -- no block that begins before a place has the property
   abbrev pub NoneBefore : (List Value → Type 0) → ℕ → Type 0
-  NoneBefore P place = (at : ℕ) → at < place → at < length s.rows → IsFirst s.key.now s.rows at → WholeHas s.key.now s.rows P at → ⊥
+  NoneBefore P place = (at : ℕ) → at < place → at < length s.rows → IsFirstOfBlock s.key.now s.rows at → WholeHas s.key.now s.rows P at → ⊥
 
   module _ (P : List Value → Type 0) (sought : AreSought s P) where
     -- what is passed hasn't the property
-    passed-has : (from to at : ℕ) → IsPassed s from to → from ≤ at → at < to → at < length s.rows → IsFirst s.key.now s.rows at → WholeHas s.key.now s.rows P at → ⊥
+    passed-has : (from to at : ℕ) → IsPassed s from to → from ≤ at → at < to → at < length s.rows → IsFirstOfBlock s.key.now s.rows at → WholeHas s.key.now s.rows P at → ⊥
     passed-has from to at h low high there first all = h at low high first (sought at there first all)
 
     pub none-starts : (start : ℕ) → IsPassed s 0 start → NoneBefore P start
@@ -79,27 +79,27 @@ module _ (s : Blocks) where
     pub next-first : (from on : ℕ) (block : List (List Value)) → NoneBefore P from → IsNextBlock s from block on → ((y : List Value) → Contains block y → P y) → IsFirstOf s.key.now s.rows P block
     next-first from on block h n all = record { at = n.at; is = n.is; all = all; none = λ j l there. go j l there (dec_lt j from) }
       where
-        go : (j : ℕ) → j < n.at → j < length s.rows → Dec (j < from) → IsFirst s.key.now s.rows j → WholeHas s.key.now s.rows P j → ⊥
+        go : (j : ℕ) → j < n.at → j < length s.rows → Dec (j < from) → IsFirstOfBlock s.key.now s.rows j → WholeHas s.key.now s.rows P j → ⊥
         go j l there (yes a) = h j a there
         go j l there (no a) = passed-has from n.at j n.before (omega (arith, a)) l there
 
     pub none-ends : (from : ℕ) → NoneBefore P from → IsPassed s from (length s.rows) → SomeBlockFits s.key.now s.rows P → ⊥
     none-ends from h n f = go (some-at s.key.now s.rows P f)
       where
-        go : ((at : ℕ) × (at < length s.rows) × IsFirst s.key.now s.rows at × WholeHas s.key.now s.rows P at) → ⊥
+        go : ((at : ℕ) × (at < length s.rows) × IsFirstOfBlock s.key.now s.rows at × WholeHas s.key.now s.rows P at) → ⊥
         go (at, there, first, all) = split (dec_lt at from)
           where
             split : Dec (at < from) → ⊥
             split (yes a) = h at a there first all
             split (no a) = passed-has from (length s.rows) at n (omega (arith, a)) there there first all
 
-  pub passed-on : (from at on : ℕ) → IsPassed s from at → (IsFirst s.key.now s.rows at → ⊥) → IsPassed s (at + 1) on → IsPassed s from on
+  pub passed-on : (from at on : ℕ) → IsPassed s from at → (IsFirstOfBlock s.key.now s.rows at → ⊥) → IsPassed s (at + 1) on → IsPassed s from on
   passed-on from at on before off behind k low high = go (dec_lt k at) (dec_lt at k)
     where
-      go : Dec (k < at) → Dec (at < k) → IsFirst s.key.now s.rows k → IsWanted s.wanted k → ⊥
+      go : Dec (k < at) → Dec (at < k) → IsFirstOfBlock s.key.now s.rows k → IsWanted s.wanted k → ⊥
       go (yes a) b = before k low a
       go (no a) (yes b) = behind k (omega (arith, b)) high
-      go (no a) (no b) = λ first wanted. off (subst (IsFirst s.key.now s.rows) (let e : k ≡ at = omega (arith, a, b) in e) first)
+      go (no a) (no b) = λ first wanted. off (subst (IsFirstOfBlock s.key.now s.rows) (let e : k ≡ at = omega (arith, a, b) in e) first)
 
   -- what is passed from a place on is passed from a later one on
   pub passed-later : (before from to : ℕ) → before < from → IsPassed s (before + 1) to → IsPassed s from to
@@ -110,20 +110,20 @@ module _ (s : Blocks) where
 
 -- a row begins a block where the one before it is of another
 module _ (key : List ℕ) (rows : List (List Value)) (at : ℕ) where
-  pub first-at_start : at ≡ 0 → IsFirst key rows at
+  pub first-at_start : at ≡ 0 → IsFirstOfBlock key rows at
   first-at_start e j l s = absurd (omega (arith, e, l))
 
-  pub first-begins : IsStrictlySortedBy (block_cmp key) rows → at < length rows → (SharesKey key (row_of rows (at - 1)) (row_of rows at) → ⊥) → IsFirst key rows at
+  pub first-begins : IsStrictlySortedBy (block_cmp key) rows → at < length rows → (SharesKey key (row_of rows (at - 1)) (row_of rows at) → ⊥) → IsFirstOfBlock key rows at
   first-begins sorted there off j l s =
       let near = grouped key rows sorted j (at - 1) at (omega (arith, l)) (omega (arith, l)) there s in
       off (shares-trans key (row_of rows (at - 1)) (row_of rows j) (row_of rows at) (shares-sym key (row_of rows j) (row_of rows (at - 1)) near) s)
 
-  pub begins-apart : (at ≡ 0 → ⊥) → IsFirst key rows at → SharesKey key (row_of rows (at - 1)) (row_of rows at) → ⊥
+  pub begins-apart : (at ≡ 0 → ⊥) → IsFirstOfBlock key rows at → SharesKey key (row_of rows (at - 1)) (row_of rows at) → ⊥
   begins-apart some leads s = leads (at - 1) (omega (arith, some)) s
 
   -- so it is tested
   pub begins : IsStrictlySortedBy (block_cmp key) rows → at < length rows → (at ≡ 0 → ⊥) → (a b : List Value) (same : Bool) → a ≡ row_of rows (at - 1) → b ≡ row_of rows at → IsTrue same ↔ SharesKey key a b →
-      IsTrue (not same) ↔ IsFirst key rows at
+      IsTrue (not same) ↔ IsFirstOfBlock key rows at
   begins sorted there some a b same ea eb h = go same h
     where
       shared : SharesKey key (row_of rows (at - 1)) (row_of rows at) → SharesKey key a b
@@ -132,7 +132,7 @@ module _ (key : List ℕ) (rows : List (List Value)) (at : ℕ) where
       apart : SharesKey key a b → SharesKey key (row_of rows (at - 1)) (row_of rows at)
       apart s = subst (λ x. SharesKey key x (row_of rows at)) ea (subst (λ y. SharesKey key a y) eb s)
 
-      go : (t : Bool) → IsTrue t ↔ SharesKey key a b → IsTrue (not t) ↔ IsFirst key rows at
+      go : (t : Bool) → IsTrue t ↔ SharesKey key a b → IsTrue (not t) ↔ IsFirstOfBlock key rows at
       go true k = ((λ e. absurd (false≢true e)), (λ leads. absurd (begins-apart some leads (apart (k.0 refl)))))
       go false k = ((λ e. first-begins sorted there (λ s. false≢true (k.1 (shared s)))), (λ leads. refl))
 

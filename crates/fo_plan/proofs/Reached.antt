@@ -9,8 +9,8 @@ use Rattle.cqa_model.specs.Query.{atom_key, rows_of}
 use Rattle.cqa_model.specs.OneTable.{SomeBlockFits}
 use Rattle.cqa_model.proofs.Classic.{mem-nil}
 use Rattle.cqa_model.proofs.Repairs.{shares-self}
-use Rattle.table_blocks.specs.Spans.{first_key}
-use Rattle.row_cursor.specs.Chains.{Indexed}
+use Rattle.row_order.specs.Spans.{first_key}
+use Rattle.join_access.specs.Chains.{Indexed}
 use Rattle.plan_rows.specs.Knowing.{MayFit}
 use Rattle.plan_rows.specs.Links.{LeadsTo}
 use Rattle.plan_rows.specs.Over.{query_of, tables_of, rows_before}

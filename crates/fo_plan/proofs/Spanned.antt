@@ -13,7 +13,7 @@ use Rattle.cqa_model.specs.Database.{Table, stored, key_of, block_cmp}
 use Rattle.cqa_model.specs.Query.{atom_at, atom_key, rows_of, FitsDatabase}
 use Rattle.cqa_model.specs.Repairs.{SharesKey}
 use Rattle.cqa_model.proofs.Classic.{mem-head, mem-tail}
-use Rattle.table_blocks.specs.Spans.{first_key, IsSpan}
+use Rattle.row_order.specs.Spans.{first_key, IsSpan}
 use Rattle.table_blocks.specs.Tables.{rows_at, key_at}
 use Rattle.fo_plan.specs.Enough.{IsEnough}
 

@@ -13,11 +13,11 @@ use Rattle.cqa_model.proofs.Repairs.{shares-sym, shares-trans}
 use Rattle.plan_rows.specs.Wanted.{IsWanted, NoneWanted}
 use Rattle.plan_rows.specs.declared.wanted.Wanted.{Wanted}
 use Rattle.plan_rows.specs.declared.wanted.Wanted.TheVariants.{All}
-use Rattle.fo_plan.specs.Enough.{row_of, IsFirst, IsBlockAt, IsPassed, IsNextBlock, IsSpot}
+use Rattle.fo_plan.specs.Enough.{row_of, IsFirstOfBlock, IsBlockAt, IsPassed, IsNextBlock, IsSpot}
 use Rattle.fo_plan.specs.declared.enough.Blocks.{Blocks}
 use Rattle.fo_plan.specs.declared.enough.Spot.{Spot}
 
-module _ (key : List ℕ) (rows : List (List Value)) (sorted : IsStrictlySortedBy (block_cmp key) rows) (at : ℕ) (leads : at < length rows → IsFirst key rows at) (rest : List (List Value)) (is : rest ≡ drop at rows)
+module _ (key : List ℕ) (rows : List (List Value)) (sorted : IsStrictlySortedBy (block_cmp key) rows) (at : ℕ) (leads : at < length rows → IsFirstOfBlock key rows at) (rest : List (List Value)) (is : rest ≡ drop at rows)
     (end : ℕ) (behind : 0 < end) (within : end ≤ length rest) (ends : (i : ℕ) → 0 ≤ i → i < length rest → SharesKey key (row_of rest 0) (row_of rest i) ↔ (i < end)) where
   long : length rest ≡ length rows - at
   long = ap length is ∙ length-drop at rows
@@ -80,7 +80,7 @@ module _ (key : List ℕ) (rows : List (List Value)) (sorted : IsStrictlySortedB
           let n = size in
           subst (Contains block) (cell (i - at) near ∙ (read-at i low ∙ row)) (Contains-get_or block (i - at) [] (omega (arith, near, n)))
 
-  pub walked-begins : at + end < length rows → IsFirst key rows (at + end)
+  pub walked-begins : at + end < length rows → IsFirstOfBlock key rows (at + end)
   walked-begins l j lj s = go (dec_lt j at)
     where
       go : Dec (j < at) → ⊥
@@ -96,7 +96,7 @@ module _ (key : List ℕ) (rows : List (List Value)) (sorted : IsStrictlySortedB
   walked-within = omega (arith, within, long, there)
 
 -- it is the next one
-pub walked-next : (s : Blocks) (sorted : IsStrictlySortedBy (block_cmp s.key.now) s.rows) (at : ℕ) (leads : at < length s.rows → IsFirst s.key.now s.rows at) (rest : List (List Value)) (is : rest ≡ drop at s.rows) (end : ℕ) (behind : 0 < end)
+pub walked-next : (s : Blocks) (sorted : IsStrictlySortedBy (block_cmp s.key.now) s.rows) (at : ℕ) (leads : at < length s.rows → IsFirstOfBlock s.key.now s.rows at) (rest : List (List Value)) (is : rest ≡ drop at s.rows) (end : ℕ) (behind : 0 < end)
     (within : end ≤ length rest) (ends : (i : ℕ) → 0 ≤ i → i < length rest → SharesKey s.key.now (row_of rest 0) (row_of rest i) ↔ (i < end)) (block : List (List Value)) → block ≡ take end rest → IsNextBlock s at block (at + end)
 walked-next s sorted at leads rest is end behind within ends block e = record {
   at = at;
@@ -118,13 +118,13 @@ found-next s from at on block low passed n = record {
   behind = n.behind;
 }
   where
-    go : (k : ℕ) → from ≤ k → k < n.at → Dec (k < at) → IsFirst s.key.now s.rows k → IsWanted s.wanted k → ⊥
+    go : (k : ℕ) → from ≤ k → k < n.at → Dec (k < at) → IsFirstOfBlock s.key.now s.rows k → IsWanted s.wanted k → ⊥
     go k l h (yes b) = passed k l b
     go k l h (no b) = n.before k (omega (arith, b)) h
 
 -- a place behind a block
 pub spot-behind : (s : Blocks) (from : ℕ) (spot : Spot) (block : List (List Value)) → IsNextBlock s from block spot.place → spot.place ≤ length s.rows → IfSome spot.last (λ at. at < spot.place) →
-    spot.rest ≡ drop spot.place s.rows → (spot.place < length s.rows → IsFirst s.key.now s.rows spot.place) → IsSpot s spot
+    spot.rest ≡ drop spot.place s.rows → (spot.place < length s.rows → IsFirstOfBlock s.key.now s.rows spot.place) → IsSpot s spot
 spot-behind s from spot block n within last rest begins = record {
   last = go spot.last last;
   rest = rest;

@@ -20,16 +20,16 @@ abbrev pub HasAnswers : Query → List Placed → List Value → Type 0
 HasAnswers q taken row = (t : Placed) → Contains taken t → GivesAt q t.atom t.row row
 
 -- a row of the answer's length that has them
-abbrev pub IsAnswer : Query → List Placed → List Value → Type 0
-IsAnswer q taken row = (length row ≡ length q.answer) × HasAnswers q taken row
+abbrev pub IsAnswerRow : Query → List Placed → List Value → Type 0
+IsAnswerRow q taken row = (length row ≡ length q.answer) × HasAnswers q taken row
 
 -- the rows taken and the rest of the plan give a row
 abbrev pub Gives : Query → List (List (List Value)) → List Placed → List ℕ → List Value → Type 0
-Gives q tables taken plan row = IsAnswer q taken row × PlanHolds q tables row taken plan
+Gives q tables taken plan row = IsAnswerRow q taken row × PlanHolds q tables row taken plan
 
 -- a block of F gives it
 abbrev pub BlockGives : Query → List (List (List Value)) → List Placed → ℕ → List ℕ → List (List Value) → List Value → Type 0
-BlockGives q tables taken F plan block row = IsAnswer q taken row × AllHold q tables row taken F plan block
+BlockGives q tables taken F plan block row = IsAnswerRow q taken row × AllHold q tables row taken F plan block
 
 -- the rows with the property have come
 abbrev pub IsAdded : (List Value → Type 0) → List (List Value) → List (List Value) → Type 0

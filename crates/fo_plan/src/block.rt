@@ -5,7 +5,7 @@ ghost use Rattle.cqa_model.specs.OneTable.{SomeBlockFits};
 ghost use Rattle.cqa_model.specs.Query.{atom_key, rows_of, FitsDatabase};
 ghost use Rattle.cqa_model.specs.Plan.{HoldsOver};
 ghost use Rattle.table_blocks.specs.Tables.{rows_at, key_at};
-ghost use Rattle.row_cursor.specs.Spots.{ArePaths};
+ghost use Rattle.join_access.specs.Spots.{ArePaths};
 ghost use Rattle.plan_rows.specs.Left.{AreAtoms};
 ghost use Rattle.plan_rows.specs.Links.{AreWays};
 ghost use Rattle.plan_rows.specs.Over.{query_of, tables_of};
@@ -17,9 +17,9 @@ use crate::enough::Blocks;
 use crate::holding::first_of;
 use cqa_model::{Plan, Query, variables};
 use cqa_value::{Items, Row};
-use plan_rows::{Course, Link, Memo, Setting, Step, Taken, shared_or_none};
+use join_access::{RowIndex, table_of};
+use plan_rows::{Course, Link, Memo, Setting, Step, Taken, grouped_along, shared_or_none};
 use row_blocks::{block_end, block_start};
-use row_cursor::{RowIndex, table_of};
 use row_pieces::Rows;
 use std::alloc::Global;
 use table_blocks::Database;
@@ -86,11 +86,35 @@ fn found_block<'a, 'x>(db: &'a Database, course: &'x Course<'x>, row: &'x Row) -
     }
 }
 
+/// The first block of the first atom of an order by which it holds.
+fn block_along<'a>(
+    db: &'a Database,
+    setting: Setting<'_>,
+    order: &[u32],
+    row: &Row,
+    ways: &[Items<Link<'_>>],
+) -> Option<Rows<'a>>
+    requires db { setting.db.now ≡ db.now }
+    requires order { AreAtoms setting.query.now order.now }
+    requires all { (F : ℕ) → F < length setting.query.now.atoms → Contains order.now F }
+    requires ways { AreWays setting.query.now db.now order.now ways.now }
+    ensures { MatchOption result (HoldsOver db.now setting.entry.query.now row.now order.now → ⊥) (λ block. HoldsOver db.now setting.entry.query.now row.now order.now × IsFirstBlock db.now setting.entry.query.now row.now order.now block) }
+{
+    let shared = shared_or_none(&setting, order);
+    let course = Course {
+        setting,
+        order,
+        shared: shared.as_slice(),
+        ways,
+    };
+    found_block(db, &course, row)
+}
+
 /// The first block, in block order, of the plan's first atom by which the plan holds for a row: all its rows fit the
 /// row, and for each of them the rest of the plan holds with that row taken (Koutris and Wijsen, ACM TODS 2017). `None`
 /// exactly where the plan doesn't hold. Rows are found by the given indexes, of each atom's table one or none, and by the
-/// given links of later atoms. Once many rows were looked at, what was decided of rests of the plan is remembered, as far
-/// as there is memory for it.
+/// given links of later atoms. The atoms behind the first are gone over group by group, as joins link them, and once many
+/// rows were looked at, what was decided of rests is remembered, as far as there is memory for it.
 pub fn block_of<'a>(
     alloc: Global,
     plan: &Plan,
@@ -115,12 +139,8 @@ pub fn block_of<'a>(
         variables: variables(query),
         paths,
     };
-    let shared = shared_or_none(&setting, order);
-    let course = Course {
-        setting,
-        order,
-        shared: shared.as_slice(),
-        ways,
-    };
-    found_block(db, &course, row)
+    match grouped_along(&setting, order, ways) {
+        Some(grouped) => block_along(db, setting, grouped.as_slice(), row, ways),
+        None => block_along(db, setting, order, row, ways),
+    }
 }

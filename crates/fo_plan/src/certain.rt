@@ -6,7 +6,7 @@ ghost use Rattle.cqa_value.specs.declared.value.Value.{Value as Cell};
 ghost use Rattle.cqa_value.specs.Values.{row_cmp};
 ghost use Rattle.cqa_model.specs.Query.{FitsDatabase};
 ghost use Rattle.cqa_model.specs.Plan.{HoldsOver};
-ghost use Rattle.row_cursor.specs.Spots.{ArePaths};
+ghost use Rattle.join_access.specs.Spots.{ArePaths};
 ghost use Rattle.plan_rows.specs.Left.{AreAtoms};
 ghost use Rattle.plan_rows.specs.Links.{AreWays};
 
@@ -14,9 +14,9 @@ use crate::giving::add_given;
 use crate::notes::Notes;
 use cqa_model::{Plan, Query, variables};
 use cqa_value::{Items, NoMemory, Row};
+use join_access::RowIndex;
 use plan_rows::{Course, Link, Memo, Rest, Setting, Taken, shared_columns};
 use row_answers::Answers;
-use row_cursor::RowIndex;
 use std::alloc::Global;
 use table_blocks::Database;
 

@@ -12,7 +12,7 @@ ghost use Rattle.fo_plan.specs.Enough.{AreSought};
 ghost use Rattle.fo_plan.specs.Holding.{HoldsWith, AllHoldWith};
 ghost use Rattle.plan_rows.specs.Taking.{placed};
 ghost use Rattle.fo_plan.specs.Noted.{StandsApart, AreRight};
-ghost use Rattle.fo_plan.specs.Giving.{IsAnswer, BlockGives, IsAdded, RestHasAll, StepHasAll, RestGives, StepGives};
+ghost use Rattle.fo_plan.specs.Giving.{IsAnswerRow, BlockGives, IsAdded, RestHasAll, StepHasAll, RestGives, StepGives};
 
 use crate::enough::Blocks;
 use crate::holding::{all_hold, holds_with};
@@ -226,7 +226,7 @@ fn add_all_of(
     requires all { StepHasAll step.now }
     requires sought { (row : List Cell) → AreSought blocks.now (HoldsWith step.now row) }
     requires notes { AreRight step.now.course.now notes.old }
-    ensures added { OnOk result (IsAdded (λ row. IsAnswer (query_of step.now) (rows_before step.now) row × SomeBlockFits blocks.now.key.now blocks.now.rows (HoldsWith step.now row)) found.old found.new) }
+    ensures added { OnOk result (IsAdded (λ row. IsAnswerRow (query_of step.now) (rows_before step.now) row × SomeBlockFits blocks.now.key.now blocks.now.rows (HoldsWith step.now row)) found.old found.new) }
     ensures notes { AreRight step.now.course.now notes.new }
 {
     let mut spot = blocks.start();

@@ -7,8 +7,8 @@ ghost use Rattle.fo_plan.specs.Chaining.{GoesOn};
 use crate::paths::is_known;
 use cqa_model::ColRef;
 use cqa_value::NoMemory;
+use join_access::width_of;
 use plan_rows::{Setting, is_told};
-use row_cursor::width_of;
 
 /// Whether the value of one of an atom's columns is given, or told by a row of some atoms.
 fn is_linked(setting: &Setting<'_>, taken: &[u32], given: &[ColRef], atom: u32) -> bool
@@ -37,15 +37,18 @@ fn is_key_known(setting: &Setting<'_>, taken: &[u32], given: &[ColRef], atom: u3
     true
 }
 
-/// Whether other atoms alone may link an atom to what is known once rows of some atoms are taken: something is known, but
-/// none of the atom's own columns, nor do tests tell its key.
+/// Whether other atoms may link an atom to what is known once rows of some atoms are taken: something is known, but none of the
+/// atom's own columns is told by these rows, or given at the beginning, nor is its key known.
 fn needs_links(setting: &Setting<'_>, taken: &[u32], given: &[ColRef], atom: u32) -> bool
     requires taken { AreAtoms setting.now.query.now taken.now }
     requires atom { atom < length setting.now.query.now.atoms }
 {
-    (!taken.is_empty() || !given.is_empty())
-        && !is_linked(setting, taken, given, atom)
-        && !is_key_known(setting, taken, given, atom)
+    let is_linked = if taken.is_empty() {
+        given.is_empty() || is_linked(setting, taken, given, atom)
+    } else {
+        is_linked(setting, taken, &[], atom)
+    };
+    !is_linked && !is_key_known(setting, taken, given, atom)
 }
 
 /// One of these atoms that is linked to what is known once rows of others are taken: the first whose key is known, else

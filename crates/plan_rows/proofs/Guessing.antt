@@ -9,7 +9,7 @@ use Rattle.cqa_model.specs.Database.{Table, stored}
 use Rattle.cqa_model.specs.Query.{rows_of}
 use Rattle.cqa_model.specs.Plan.{Placed}
 use Rattle.cqa_model.proofs.Classic.{mem-head, mem-tail}
-use Rattle.row_cursor.specs.Chains.{Indexed}
+use Rattle.join_access.specs.Chains.{Indexed}
 use Rattle.plan_rows.specs.Knowing.{MayFit}
 use Rattle.plan_rows.specs.Links.{LeadsTo, AreLinks, HasReached}
 use Rattle.plan_rows.specs.declared.links.Link.{Link}

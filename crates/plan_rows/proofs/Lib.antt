@@ -10,3 +10,4 @@ pub mod Looking
 pub mod Wanting
 pub mod Guessing
 pub mod Spanning
+pub mod Grouping

@@ -21,7 +21,7 @@ use Rattle.cqa_model.specs.Plan.{Placed, Fits, PlanHolds, answer_at}
 use Rattle.cqa_model.proofs.Classic.{mem-head, mem-tail, mem-nil, mem-cases, map_agree}
 use Rattle.cqa_model.proofs.BrokenKey.{same_number}
 use Rattle.plan_rows.specs.Taking.{placed, taken_value, AreOfAtoms}
-use Rattle.plan_rows.specs.Fitting.{AgreesAll, Suits}
+use Rattle.plan_rows.specs.Fitting.{Agrees, AgreesAll, Suits}
 use Rattle.plan_rows.specs.Left.{IsSettled}
 use Rattle.plan_rows.specs.Once.{value_set}
 use Rattle.plan_rows.specs.Over.{query_of, rows_before}
@@ -127,6 +127,18 @@ same-plan q tables row taken others (F ∷ plan) s (x, m, all) = (x, m, λ y my 
       | inl e ↦ a t (subst (λ v. Contains (record { atom = F; row = y } ∷ taken) v) e (mem-head (record { atom = F; row = y }) taken))
       | inr n ↦ s G (mem-tail G F plan mG) z (λ u mu. a u (mem-tail u (record { atom = F; row = y }) taken mu)) t n
     ]
+
+-- with a row more, and without it
+pub same-less : (q : Query) (plan : List ℕ) (taken : List Placed) (u : Placed) → SameFor q plan (u ∷ taken) taken
+unfolding SameFor
+same-less q plan taken u F m x all t n = all t (mem-tail t u taken n)
+
+pub same-more : (q : Query) (plan : List ℕ) (taken : List Placed) (u : Placed) → ((F : ℕ) → Contains plan F → (x : List Value) → Agrees q F x u.atom u.row (atom_at q F).width) → SameFor q plan taken (u ∷ taken)
+unfolding SameFor
+same-more q plan taken u agrees F m x all t n = elim (mem-cases t u taken n) [
+  | inl e ↦ subst (λ (z : Placed). Agrees q F x z.atom z.row (atom_at q F).width) e (agrees F m x)
+  | inr k ↦ all t k
+]
 
 -- a plan holds for any candidate with the same values in its atoms' answer columns
 pub same-answers : (q : Query) (tables : List (List (List Value))) (row other : List Value) (taken : List Placed) (plan : List ℕ) → ((F : ℕ) → Contains plan F → (i : ℕ) → i < length q.answer → (answer_at q i).atom ≡ F → get_or row i nothing ≡ get_or other i nothing) →

@@ -5,7 +5,7 @@ use Rattle.cqa_value.specs.declared.value.Value.{Value}
 use Rattle.cqa_model.specs.declared.query.Query.{Query}
 use Rattle.cqa_model.specs.Database.{Table, stored}
 use Rattle.cqa_model.specs.Query.{atom_at, atom_key, rows_of, FitsDatabase}
-use Rattle.table_blocks.specs.Spans.{first_key, IsSpan}
+use Rattle.row_order.specs.Spans.{first_key, IsSpan}
 use Rattle.table_blocks.specs.Tables.{key_at, rows_at}
 
 at-front : (xs ys : List (List Value)) (i : ℕ) → i < length xs → get_or (xs ++ ys) i [] ≡ get_or xs i []

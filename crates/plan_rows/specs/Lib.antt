@@ -6,5 +6,6 @@ pub mod Once
 pub mod Underway
 pub mod Over
 pub mod Links
+pub mod Grouping
 pub mod Wanted
 pub mod Places

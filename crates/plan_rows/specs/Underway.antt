@@ -36,9 +36,9 @@ pub record IsKey (s : Course) (taken : List Placed) (plan : List ℕ) (row key :
   pub is : key ≡ Int (pos (length plan)) ∷ map (taken_value taken) (slice_index_or s.shared.now (length taken) []) ++ (if settled then [] else row)
 
 -- what was decided under a key is so for each rest, rows taken and candidate of that key
-abbrev pub IsDecided : Course → List Value → Bool → Type 0
-IsDecided s key held = (taken : List Placed) (plan : List ℕ) (row : List Value) → IsUnderway s taken plan → IsKey s taken plan row key → IsTrue held ↔ PlanHolds s.setting.query.now (stored s.setting.db.now) row taken plan
+abbrev pub IsRemembered : Course → List Value → Bool → Type 0
+IsRemembered s key held = (taken : List Placed) (plan : List ℕ) (row : List Value) → IsUnderway s taken plan → IsKey s taken plan row key → IsTrue held ↔ PlanHolds s.setting.query.now (stored s.setting.db.now) row taken plan
 
 -- all that is remembered was decided
 abbrev pub IsRight : Course → Memo → Type 0
-IsRight s memo = (key : List Value) (held : Bool) → get row_cmp memo.known key ≡ Some held → IsDecided s key held
+IsRight s memo = (key : List Value) (held : Bool) → get row_cmp memo.known key ≡ Some held → IsRemembered s key held

@@ -7,7 +7,7 @@ ghost use Rattle.cqa_value.specs.Values.{nothing};
 ghost use Rattle.cqa_model.specs.Shape.{IsInRange};
 ghost use Rattle.cqa_model.specs.Query.{atom_at};
 ghost use Rattle.cqa_model.specs.Plan.{TestHolds};
-ghost use Rattle.table_blocks.specs.Spans.{first_key};
+ghost use Rattle.row_order.specs.Spans.{first_key};
 ghost use Rattle.plan_rows.specs.Taking.{placed, AreOfAtoms};
 ghost use Rattle.plan_rows.specs.Fitting.{ColumnAgrees, AgreesAll, GivesAt};
 ghost use Rattle.plan_rows.specs.Knowing.{MayFit};
@@ -18,8 +18,8 @@ use crate::setting::Setting;
 use crate::taken_rows::Taken;
 use cqa_model::{ColRef, Cond, MOST_COLUMNS, Op, Query};
 use cqa_value::{Row, Value};
-use row_cursor::width_of;
-use table_blocks::{Probe, cell};
+use join_access::width_of;
+use row_order::{Probe, cell};
 
 /// The value that a test tells of a column.
 fn told_by(cond: &Cond, column: ColRef) -> Option<&Value>

@@ -4,6 +4,7 @@
 
 mod course;
 mod fitting;
+mod grouped;
 mod known;
 mod links;
 mod look;
@@ -20,6 +21,7 @@ mod wanted;
 
 pub use course::Course;
 pub use fitting::{fits, may_fit, suits};
+pub use grouped::grouped_along;
 pub use known::known_values;
 pub use links::Link;
 pub use look::Look;

@@ -14,7 +14,7 @@ use crate::reached::reached_places;
 use crate::wanted::Wanted;
 use cqa_model::Query;
 use cqa_value::Row;
-use row_cursor::{RowIndex, table_of};
+use join_access::{RowIndex, table_of};
 
 /// The places from one to another, and by what rows are looked for among them.
 #[derive(Drop)]

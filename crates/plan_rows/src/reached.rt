@@ -18,7 +18,7 @@ use crate::place_set::PlaceSet;
 use crate::places::Places;
 use crate::taken_rows::Taken;
 use cqa_value::{NoMemory, Row};
-use row_cursor::{RowIndex, table_of};
+use join_access::{RowIndex, table_of};
 
 /// Adds a place of an atom's rows if the row there may fit the rows taken.
 fn add_place(

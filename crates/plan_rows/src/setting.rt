@@ -3,11 +3,11 @@
 ghost use Rattle.std.specs.Prelude.{◌≡◌, ◌<◌, IfSome, Some, None, length, slice_index_or};
 ghost use Rattle.cqa_model.specs.Query.{FitsDatabase};
 ghost use Rattle.cqa_model.specs.Naming.{AreVariables};
-ghost use Rattle.row_cursor.specs.Spots.{ArePaths};
+ghost use Rattle.join_access.specs.Spots.{ArePaths};
 ghost use Rattle.plan_rows.specs.Once.{fits_once};
 
 use cqa_model::{ColRef, Query, Variables};
-use row_cursor::{RowIndex, are_linked};
+use join_access::{RowIndex, are_linked};
 use std::alloc::Global;
 use table_blocks::Database;
 

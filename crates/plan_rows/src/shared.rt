@@ -10,10 +10,10 @@ ghost use Rattle.plan_rows.specs.Left.{AreAtoms, IsTold, HasShared, AreShared};
 use crate::setting::Setting;
 use cqa_model::ColRef;
 use cqa_value::{Items, NoMemory};
-use row_cursor::width_of;
+use join_access::width_of;
 
 /// Whether an atom has a column that is linked to this one.
-fn is_linked_to(setting: &Setting<'_>, atom: u32, column: ColRef) -> bool
+pub(crate) fn is_linked_to(setting: &Setting<'_>, atom: u32, column: ColRef) -> bool
     requires atom { atom < length setting.now.query.now.atoms }
     requires column { IsInRange setting.now.query.now.atoms column }
     ensures { IsTrue result ↔ (i : ℕ) × (i < (atom_at setting.now.query.now atom).width) × AreLinked setting.now.query.now (record { atom = atom; col = i }) column }

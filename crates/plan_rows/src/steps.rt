@@ -5,7 +5,7 @@ ghost use Rattle.plan_rows.specs.Taking.{placed};
 ghost use Rattle.plan_rows.specs.Underway.{IsUnderway, underway_once};
 
 use crate::course::Course;
-use crate::links::Link;
+use crate::links::{Link, links_on};
 use crate::look::Look;
 use crate::taken_rows::Taken;
 
@@ -53,12 +53,6 @@ impl<'a> Step<'a> {
         ensures links { AreLinks (query_of self.now) self.now.course.now.setting.db.now result.now }
         ensures behind { (F : ℕ) → Contains (atoms_on result.now) F → Contains self.now.rest.now F }
     {
-        let ways = self.course.ways;
-        let at = self.atom as usize;
-        if at < ways.len() {
-            ways[at].as_slice()
-        } else {
-            &[]
-        }
+        links_on(self.course.ways, self.atom)
     }
 }

@@ -4,8 +4,8 @@ ghost use Rattle.std.specs.Prelude.{◌<◌, ◌≤◌, ◌+◌, ℕ, Contains, 
 ghost use Rattle.std.specs.Ordering.{nat_cmp};
 ghost use Rattle.std.specs.List.Sorted.{IsStrictlySortedBy};
 
-use row_cursor::RowIndex;
-use table_blocks::Probe;
+use join_access::RowIndex;
+use row_order::Probe;
 
 /// By what rows of a table are looked for.
 #[derive(Drop)]

@@ -10,7 +10,8 @@ use Rattle.cqa_model.specs.Certain.{IsCertain}
 use Rattle.cqa_model.proofs.Classic.{mem-nil}
 use Rattle.repair_back.specs.Flags.{IsFlagged, kept_tables, flags_of, AreBlank, AreLong, AreChosen}
 use Rattle.repair_back.specs.Mending.{HasNone}
-use Rattle.repair_back.specs.Results.{names_kept, IsRepairOf, Rejects, IsPick, IsListed, ArePicks}
+use Rattle.cqa_model.specs.Blocks.{IsPick}
+use Rattle.repair_back.specs.Results.{names_kept, IsRepairOf, Rejects, IsTrueName, ArePicks}
 use Rattle.repair_back.proofs.Keeping.{shown}
 use Rattle.repair_back.proofs.Naming.{kept-named, name-flagged}
 
@@ -47,14 +48,14 @@ pick-same key rows P Q same p h = record {
 
 -- what the names of a choice are, where its flags were set by a model
 pub named-picks : (q : Query) (db : List Table) (blank marked flags : List (List Bool)) (listed : List RowId) (model : List Bool) → AreBlank q db blank →
-    ((t p : ℕ) → p < length (get_or blank t []) → IsFlagged (get_or marked t []) p ↔ (IsFlagged (get_or blank t []) p ⊎ IsListed listed model (record { table = t; place = p }))) →
+    ((t p : ℕ) → p < length (get_or blank t []) → IsFlagged (get_or marked t []) p ↔ (IsFlagged (get_or blank t []) p ⊎ IsTrueName listed model (record { table = t; place = p }))) →
     ((F : ℕ) → F < length q.atoms → (p : ℕ) → IsFlagged (flags_of q flags F) p → IsPick (atom_key q F) (rows_of q (stored db) F) (IsFlagged (flags_of q marked F)) p) →
     ArePicks q db listed model (names_kept q.atoms flags)
 named-picks q db blank marked flags listed model none is picks F l p m =
-    pick-same (atom_key q F) (rows_of q (stored db) F) (IsFlagged (flags_of q marked F)) (λ i. IsListed listed model (record { table = (atom_at q F).table; place = i })) same p
+    pick-same (atom_key q F) (rows_of q (stored db) F) (IsFlagged (flags_of q marked F)) (λ i. IsTrueName listed model (record { table = (atom_at q F).table; place = i })) same p
     (picks F l p (name-flagged q.atoms flags (record { table = (atom_at q F).table; place = p }) m))
   where
-    same : (i : ℕ) → i < length (rows_of q (stored db) F) → IsFlagged (flags_of q marked F) i ↔ IsListed listed model (record { table = (atom_at q F).table; place = i })
+    same : (i : ℕ) → i < length (rows_of q (stored db) F) → IsFlagged (flags_of q marked F) i ↔ IsTrueName listed model (record { table = (atom_at q F).table; place = i })
     same i li =
         let h = is (atom_at q F).table i (subst (λ n. i < n) (sym (none.long.each F l)) li) in (
           λ f. elim (h.0 f) [ inl g ↦ absurd (none.none F l i g) | inr g ↦ g ],

@@ -7,7 +7,7 @@ use Rattle.cqa_value.specs.declared.value.Value.{Value}
 use Rattle.cqa_model.specs.Repairs.{SharesKey, IsTableRepair, HasOne, IsSublist}
 use Rattle.cqa_model.proofs.Classic.{mem-head, mem-tail, mem-nil, mem-cases}
 use Rattle.cqa_model.proofs.Repairs.{sublist-drop, shares-sym, shares-trans}
-use Rattle.repair_back.specs.Flags.{IsFlagged, kept_of, IsChoice}
+use Rattle.repair_back.specs.Flags.{IsFlagged, kept_of, HasOneFlagEach}
 
 kept_of-sublist : (rows : List (List Value)) (flags : List Bool) → IsSublist (kept_of rows flags) rows
 kept_of-sublist [] flags = tt
@@ -41,7 +41,7 @@ kept_of-out (y ∷ xs) [] x m = absurd (mem-nil x m)
 kept_of-out (y ∷ xs) (true ∷ bs) x m = elim (mem-cases x y (kept_of xs bs) m) [ inl e ↦ (0, omega arith, refl, e) | inr n ↦ later y xs true bs x (kept_of-out xs bs x n) ]
 kept_of-out (y ∷ xs) (false ∷ bs) x m = later y xs false bs x (kept_of-out xs bs x m)
 
-pub choice-repair : (key : List ℕ) (rows : List (List Value)) (flags : List Bool) → IsChoice key rows flags → IsTableRepair key rows (kept_of rows flags)
+pub choice-repair : (key : List ℕ) (rows : List (List Value)) (flags : List Bool) → HasOneFlagEach key rows flags → IsTableRepair key rows (kept_of rows flags)
 choice-repair key rows flags h = record { stored = kept_of-sublist rows flags; one = one }
   where
     one : (x : List Value) → Contains rows x → HasOne key (kept_of rows flags) x
@@ -62,7 +62,7 @@ choice-repair key rows flags h = record { stored = kept_of-sublist rows flags; o
 
 -- the flags of a choice with one row exchanged
 module _ (key : List ℕ) (rows : List (List Value)) (old new : List Bool) (a b : ℕ) (size : length new ≡ length old) (fa : IsFlagged old a)
-    (ab : SharesKey key (get_or rows a []) (get_or rows b [])) (h : IsChoice key rows old) (is : (p : ℕ) → IsFlagged new p ↔ ((p ≡ b) ⊎ (IsFlagged old p × (p ≢ a)))) where
+    (ab : SharesKey key (get_or rows a []) (get_or rows b [])) (h : HasOneFlagEach key rows old) (is : (p : ℕ) → IsFlagged new p ↔ ((p ≡ b) ⊎ (IsFlagged old p × (p ≢ a)))) where
   some : (i : ℕ) → i < length rows → (p : ℕ) × IsFlagged new p × SharesKey key (get_or rows i []) (get_or rows p [])
   some i l = let c = h.some i l in go c.0 c.1 c.2 (ℕ_discrete c.0 a)
     where
@@ -83,7 +83,7 @@ module _ (key : List ℕ) (rows : List (List Value)) (old new : List Bool) (a b 
     ]
   ]
 
-  pub exchanged-choice : IsChoice key rows new
+  pub exchanged-choice : HasOneFlagEach key rows new
   exchanged-choice = record { size = size ∙ h.size; some = some; one = one }
 
   -- what is kept then is b's row, or was kept

@@ -12,3 +12,4 @@ mod Beside
 mod Marking
 mod Starting
 mod Outcomes
+mod Stored

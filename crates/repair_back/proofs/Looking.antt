@@ -10,12 +10,12 @@ use Rattle.plan_rows.specs.Places.{IsPassed}
 use Rattle.plan_rows.specs.declared.places.Places.{Places}
 use Rattle.plan_rows.proofs.Reaching.{witnesses_are_reached}
 use Rattle.repair_back.specs.declared.way.Way.{Way}
-use Rattle.repair_back.specs.Mending.{IsNext}
+use Rattle.repair_back.specs.Mending.{IsNextAtom}
 use Rattle.repair_back.specs.Along.{rows_on, AreLed}
 use Rattle.repair_back.proofs.Apart.{plan-has}
 use Rattle.repair_back.proofs.Mended.{IsInWitness}
 
-module _ (way : Way) (taken : List Placed) (F : ℕ) (rest : List ℕ) (next : IsNext way taken F rest) (s : Places) (h : AreLed way taken F rest s) where
+module _ (way : Way) (taken : List Placed) (F : ℕ) (rest : List ℕ) (next : IsNextAtom way taken F rest) (s : Places) (h : AreLed way taken F rest s) where
   abbrev q : Query
   q = way.course.now.setting.query.now
 

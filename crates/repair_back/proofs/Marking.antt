@@ -6,7 +6,7 @@ use Rattle.std.proofs.lemmas.Option.{slice_get_within, get_or_from_slice_get, sl
 use Rattle.cqa_value.proofs.Words.{cases_next}
 use Rattle.cqa_model.specs.declared.query.RowId.{RowId}
 use Rattle.repair_back.specs.Flags.{IsFlagged}
-use Rattle.repair_back.specs.Results.{IsListed}
+use Rattle.repair_back.specs.Results.{IsTrueName}
 
 -- one of the first names
 abbrev IsListedTo : ℕ → List RowId → List Bool → RowId → Type 0
@@ -103,7 +103,7 @@ module _ (old flags : List (List Bool)) (listed : List RowId) (model : List Bool
       marks t p lp (yes q) = subst (λ u. IsFlagged (get_or (set flags name.table f) u []) p ↔ (IsFlagged (get_or old u []) p ⊎ IsListedTo (at + 1) listed model (record { table = u; place = p }))) (sym q)
           (in_table p (subst (λ u. p < length (get_or old u [])) q lp))
 
-  pub marked-all : length listed ≤ at → (t p : ℕ) → p < length (get_or old t []) → IsFlagged (get_or flags t []) p ↔ (IsFlagged (get_or old t []) p ⊎ IsListed listed model (record { table = t; place = p }))
+  pub marked-all : length listed ≤ at → (t p : ℕ) → p < length (get_or old t []) → IsFlagged (get_or flags t []) p ↔ (IsFlagged (get_or old t []) p ⊎ IsTrueName listed model (record { table = t; place = p }))
   marked-all l t p lp = (
     (λ f. elim ((h.is t p lp).0 f) [ inl o ↦ inl o | inr (k, lk, n, m) ↦ inr (k, n, m) ]),
     (λ f. elim f [ inl o ↦ (h.is t p lp).1 (inl o) | inr (k, n, m) ↦ (h.is t p lp).1 (inr (k, (let w = slice_get_within listed k (record { table = t; place = p }) n in let z : k < at = omega (arith, w, l) in z), n, m)) ]),

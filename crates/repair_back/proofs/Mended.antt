@@ -15,9 +15,9 @@ use Rattle.cqa_model.specs.Partial.{view_of, AllFit, IsPartial}
 use Rattle.cqa_model.proofs.Repairs.{shares-sym, shares-trans, shares-eq}
 use Rattle.cqa_model.proofs.Views.{view-in_range}
 use Rattle.plan_rows.specs.Links.{RowHolds}
-use Rattle.repair_back.specs.Flags.{IsFlagged, kept_of, kept_tables, flags_of, IsChoice, AreChosen}
+use Rattle.repair_back.specs.Flags.{IsFlagged, kept_of, kept_tables, flags_of, HasOneFlagEach, AreChosen}
 use Rattle.repair_back.specs.Mending.{IsKeptWitness, HasNone, Lacks, IsStep, IsReached}
-use Rattle.repair_back.specs.Walking.{IsBlock}
+use Rattle.repair_back.specs.Walking.{IsBlockBetween}
 use Rattle.repair_back.proofs.Choosing.{flag-there, kept_of-into, kept_of-out, exchanged-choice, exchanged-here}
 use Rattle.repair_back.proofs.Keeping.{kept-atom, stored-witness}
 use Rattle.repair_back.proofs.Stepping.{reached-lacks, reached-joined, reached-self, reached-step, held-witness}
@@ -84,7 +84,7 @@ flags-read q db fits flags size F l t is f e =
 
 module _ (q : Query) (db : List Table) (flags : List (List Bool)) (chosen : AreChosen q db flags) (F : ℕ) (lF : F < length q.atoms) where
   -- a block has a row that is kept
-  pub kept-in-block : (start end : ℕ) → IsBlock (atom_key q F) (rows_of q (stored db) F) start end → (p : ℕ) × (start ≤ p) × (p < end) × IsFlagged (flags_of q flags F) p
+  pub kept-in-block : (start end : ℕ) → IsBlockBetween (atom_key q F) (rows_of q (stored db) F) start end → (p : ℕ) × (start ≤ p) × (p < end) × IsFlagged (flags_of q flags F) p
   kept-in-block start end block =
       let choice = chosen.each F lF in
       let some = block.some in
@@ -110,7 +110,7 @@ module _ (q : Query) (db : List Table) (fits : FitsDatabase q db) (row : List Va
 
   -- the block of the row at a place was mended
   pub blocks-more : IsUnattacked q (view_of q taken) F → (old flags new : List (List Bool)) (rows : List (List Value)) (start at done begin end : ℕ) →
-      BlocksSoFar q db row taken F old flags rows start at done → IsBlock (atom_key q F) rows begin end → begin ≤ at → at < end → AreChosen q db new → IsReached db q row taken flags new →
+      BlocksSoFar q db row taken F old flags rows start at done → IsBlockBetween (atom_key q F) rows begin end → begin ≤ at → at < end → AreChosen q db new → IsReached db q row taken flags new →
       Lacks db q row taken F new (get_or rows begin []) → BlocksSoFar q db row taken F old new rows start at end
   blocks-more free old flags new rows start at done begin end h block low high chosen reached lacks = record {
     chosen = chosen;
@@ -137,7 +137,7 @@ module _ (q : Query) (db : List Table) (fits : FitsDatabase q db) (row : List Va
       go i l lr f (inl b) (inr c) = absurd (passed i c b lr f)
 
   -- all rows of a block hold: so does the plan
-  pub block-holds : (plan : List ℕ) (rows : List (List Value)) (at next : ℕ) → rows ≡ rows_of q (stored db) F → IsBlock (atom_key q F) rows at next →
+  pub block-holds : (plan : List ℕ) (rows : List (List Value)) (at next : ℕ) → rows ≡ rows_of q (stored db) F → IsBlockBetween (atom_key q F) rows at next →
       ((i : ℕ) → at ≤ i → i < next → RowHolds q (stored db) row taken F plan (get_or rows i [])) → PlanHolds q (stored db) row taken (F ∷ plan)
   block-holds plan rows at next is block holds = (
     get_or rows at [],
@@ -151,7 +151,7 @@ module _ (q : Query) (db : List Table) (fits : FitsDatabase q db) (row : List Va
   lF = view-in_range q taken F hF
 
   module _ (plan : List ℕ) (is_plan : IsPlan q (Rattle.cqa_model.specs.Variables.after q (view_of q taken) F) plan) (rows : List (List Value)) (is : rows ≡ rows_of q (stored db) F)
-      (start end : ℕ) (block : IsBlock (atom_key q F) rows start end) where
+      (start end : ℕ) (block : IsBlockBetween (atom_key q F) rows start end) where
     -- one row is kept for another
     module _ (flags new : List (List Bool)) (chosen : AreChosen q db flags) (last next : ℕ) (ll : start ≤ last) (lb : last < end) (nl : start ≤ next) (nb : next < end)
         (kept : IsFlagged (flags_of q flags F) last) (holds : RowHolds q (stored db) row taken F plan (get_or rows last []))
@@ -161,8 +161,8 @@ module _ (q : Query) (db : List Table) (fits : FitsDatabase q db) (row : List Va
       stored_rows : List (List Value)
       stored_rows = rows_of q (stored db) F
 
-      block' : IsBlock (atom_key q F) (rows_of q (stored db) F) start end
-      block' = subst (λ rs. IsBlock (atom_key q F) rs start end) is block
+      block' : IsBlockBetween (atom_key q F) (rows_of q (stored db) F) start end
+      block' = subst (λ rs. IsBlockBetween (atom_key q F) rs start end) is block
 
       shares : SharesKey (atom_key q F) (get_or (rows_of q (stored db) F) last []) (get_or (rows_of q (stored db) F) next [])
       shares = let within = block'.within in shares-trans (atom_key q F) (get_or (rows_of q (stored db) F) last []) (get_or (rows_of q (stored db) F) start []) (get_or (rows_of q (stored db) F) next [])
@@ -175,10 +175,10 @@ module _ (q : Query) (db : List Table) (fits : FitsDatabase q db) (row : List Va
       pub kept-chosen : AreChosen q db new
       kept-chosen = record { size = long_new ∙ chosen.size; each = λ H l. go H l (ℕ_discrete H F) }
         where
-          go : (H : ℕ) → H < length q.atoms → Dec (H ≡ F) → IsChoice (atom_key q H) (rows_of q (stored db) H) (flags_of q new H)
-          go H l (yes e) = subst (λ G. IsChoice (atom_key q G) (rows_of q (stored db) G) (flags_of q new G)) (sym e)
+          go : (H : ℕ) → H < length q.atoms → Dec (H ≡ F) → HasOneFlagEach (atom_key q H) (rows_of q (stored db) H) (flags_of q new H)
+          go H l (yes e) = subst (λ G. HasOneFlagEach (atom_key q G) (rows_of q (stored db) G) (flags_of q new G)) (sym e)
               (exchanged-choice (atom_key q F) (rows_of q (stored db) F) (flags_of q flags F) (flags_of q new F) last next size kept shares (chosen.each F lF) is_new)
-          go H l (no ne) = subst (λ f. IsChoice (atom_key q H) (rows_of q (stored db) H) f) (sym (same H l ne)) (chosen.each H l)
+          go H l (no ne) = subst (λ f. HasOneFlagEach (atom_key q H) (rows_of q (stored db) H) f) (sym (same H l ne)) (chosen.each H l)
 
       held' : RowHolds q (stored db) row taken F plan (get_or (rows_of q (stored db) F) last [])
       held' = subst (λ (rs : List (List Value)). RowHolds q (stored db) row taken F plan (get_or rs last [])) is holds
@@ -257,7 +257,7 @@ module _ (q : Query) (db : List Table) (row : List Value) (taken : List Placed) 
   }
 
   -- a block lacks its key where one of its rows does
-  pub block-lacks : (flags : List (List Bool)) (rows : List (List Value)) (start end p : ℕ) → IsBlock (atom_key q F) rows start end → start ≤ p → p < end →
+  pub block-lacks : (flags : List (List Bool)) (rows : List (List Value)) (start end p : ℕ) → IsBlockBetween (atom_key q F) rows start end → start ≤ p → p < end →
       Lacks db q row taken F flags (get_or rows p []) → Lacks db q row taken F flags (get_or rows start [])
   block-lacks flags rows start end p block l b lacks =
       let within = block.within in

@@ -5,9 +5,9 @@ use Rattle.cqa_value.specs.declared.value.Value.{Value}
 use Rattle.cqa_value.proofs.Words.{cases_le}
 use Rattle.cqa_model.specs.Repairs.{SharesKey}
 use Rattle.cqa_model.proofs.Repairs.{shares-sym, shares-trans}
-use Rattle.repair_back.specs.Flags.{IsFlagged, IsChoice}
-use Rattle.repair_back.specs.Results.{IsPick}
-use Rattle.repair_back.specs.Walking.{Begins, IsBlock}
+use Rattle.repair_back.specs.Flags.{IsFlagged, HasOneFlagEach}
+use Rattle.cqa_model.specs.Blocks.{IsPick}
+use Rattle.repair_back.specs.Walking.{BeginsBlock, IsBlockBetween}
 use Rattle.repair_back.proofs.Choosing.{flag-there}
 
 -- two picks of one block are one
@@ -26,7 +26,7 @@ one_of_picks key rows P p r hp hr s = elim (cases_order p r) [
 pub record SettledTo (key : List ℕ) (rows : List (List Value)) (old flags : List Bool) (at : ℕ) : Type 0 where
   pub size : length flags ≡ length rows
   pub within : at ≤ length rows
-  pub begins : Begins key rows at
+  pub begins : BeginsBlock key rows at
   pub picks : (p : ℕ) → p < at → IsFlagged flags p → IsPick key rows (IsFlagged old) p
   pub some : (i : ℕ) → i < at → (p : ℕ) × (p < at) × IsFlagged flags p × SharesKey key (get_or rows i []) (get_or rows p [])
   pub later : (p : ℕ) → at ≤ p → IsFlagged flags p ↔ IsFlagged old p
@@ -45,14 +45,14 @@ module _ (key : List ℕ) (rows : List (List Value)) (old flags : List Bool) (at
   pub settled-picks : length rows ≤ at → (p : ℕ) → IsFlagged flags p → IsPick key rows (IsFlagged old) p
   settled-picks l p f = h.picks p (let t = flag-there flags p f in let size = h.size in omega (arith, t, size, l)) f
 
-  pub settled-choice : length rows ≤ at → IsChoice key rows flags
+  pub settled-choice : length rows ≤ at → HasOneFlagEach key rows flags
   settled-choice l = record {
     size = h.size;
     some = λ i li. let s = h.some i (omega (arith, li, l)) in (s.0, s.2, s.3);
     one = λ p r fp fr s. one_of_picks key rows (IsFlagged old) p r (settled-picks l p fp) (settled-picks l r fr) s;
   }
 
-  module _ (new : List Bool) (end first : ℕ) (block : IsBlock key rows at end) (begins : Begins key rows end) (after : at ≤ first) (before : first < end)
+  module _ (new : List Bool) (end first : ℕ) (block : IsBlockBetween key rows at end) (begins : BeginsBlock key rows end) (after : at ≤ first) (before : first < end)
       (best : (i : ℕ) → at ≤ i → i < end → IsFlagged flags i → IsFlagged flags first)
       (lead : (i : ℕ) → at ≤ i → i < first → IsFlagged flags first × (get_or flags i false ≡ false))
       (size : length new ≡ length flags) (is : (p : ℕ) → IsFlagged new p ↔ ((p ≡ first) ⊎ (IsFlagged flags p × ((p < at) ⊎ (end ≤ p))))) where

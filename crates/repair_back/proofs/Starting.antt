@@ -6,8 +6,8 @@ use Rattle.cqa_value.proofs.Words.{cases_next}
 use Rattle.cqa_model.specs.declared.query.Query.{Query}
 use Rattle.cqa_model.specs.Database.{Table, stored}
 use Rattle.cqa_model.specs.Query.{atom_at, atom_key, rows_of, FitsDatabase}
-use Rattle.repair_back.specs.Flags.{IsFlagged, IsChoice, flags_of, AreLong, AreBlank, AreChosen}
-use Rattle.repair_back.specs.Results.{IsPick}
+use Rattle.repair_back.specs.Flags.{IsFlagged, HasOneFlagEach, flags_of, AreLong, AreBlank, AreChosen}
+use Rattle.cqa_model.specs.Blocks.{IsPick}
 
 -- the tables before one have flags
 pub record BlankTo (q : Query) (db : List Table) (table : ℕ) (flags : List (List Bool)) : Type 0 where
@@ -66,7 +66,7 @@ blank-all q db flags table fits e h = record {
 -- the atoms before one are settled
 pub record AllSettledTo (q : Query) (db : List Table) (old flags : List (List Bool)) (at : ℕ) : Type 0 where
   pub size : length flags ≡ length db
-  pub chosen : (F : ℕ) → F < length q.atoms → F < at → IsChoice (atom_key q F) (rows_of q (stored db) F) (flags_of q flags F)
+  pub chosen : (F : ℕ) → F < length q.atoms → F < at → HasOneFlagEach (atom_key q F) (rows_of q (stored db) F) (flags_of q flags F)
   pub picks : (F : ℕ) → F < length q.atoms → F < at → (p : ℕ) → IsFlagged (flags_of q flags F) p → IsPick (atom_key q F) (rows_of q (stored db) F) (IsFlagged (flags_of q old F)) p
   pub later : (F : ℕ) → F < length q.atoms → at ≤ F → flags_of q flags F ≡ flags_of q old F
 
@@ -79,7 +79,7 @@ all-none q db old long = record {
 }
 
 pub all-more : (q : Query) (db : List Table) (old flags : List (List Bool)) (at : ℕ) → at < length q.atoms → AllSettledTo q db old flags at → (f : List Bool) →
-    (atom_at q at).table < length flags → IsChoice (atom_key q at) (rows_of q (stored db) at) f →
+    (atom_at q at).table < length flags → HasOneFlagEach (atom_key q at) (rows_of q (stored db) at) f →
     ((p : ℕ) → IsFlagged f p → IsPick (atom_key q at) (rows_of q (stored db) at) (IsFlagged (flags_of q flags at)) p) → AllSettledTo q db old (set flags (atom_at q at).table f) (at + 1)
 all-more q db old flags at la h f lt choice picks = record {
   size = length-set flags (atom_at q at).table f ∙ h.size;
@@ -94,10 +94,10 @@ all-more q db old flags at la h f lt choice picks = record {
     other : (F : ℕ) → F < length q.atoms → F ≢ at → flags_of q (set flags (atom_at q at).table f) F ≡ flags_of q flags F
     other F l ne = let apart : (atom_at q F).table ≢ (atom_at q at).table = (λ e. ne (q.kept.apart F at l la e)) in rw get_or-set_other
 
-    chosen : (F : ℕ) → F < length q.atoms → (F < at) ⊎ (F ≡ at) → IsChoice (atom_key q F) (rows_of q (stored db) F) (flags_of q (set flags (atom_at q at).table f) F)
-    chosen F l (inl b) = subst (λ g. IsChoice (atom_key q F) (rows_of q (stored db) F) g) (sym (other F l (λ e. omega (arith, b, e)))) (h.chosen F l b)
-    chosen F l (inr e) = subst (λ G. IsChoice (atom_key q G) (rows_of q (stored db) G) (flags_of q (set flags (atom_at q at).table f) G)) (sym e)
-        (subst (λ g. IsChoice (atom_key q at) (rows_of q (stored db) at) g) (sym here) choice)
+    chosen : (F : ℕ) → F < length q.atoms → (F < at) ⊎ (F ≡ at) → HasOneFlagEach (atom_key q F) (rows_of q (stored db) F) (flags_of q (set flags (atom_at q at).table f) F)
+    chosen F l (inl b) = subst (λ g. HasOneFlagEach (atom_key q F) (rows_of q (stored db) F) g) (sym (other F l (λ e. omega (arith, b, e)))) (h.chosen F l b)
+    chosen F l (inr e) = subst (λ G. HasOneFlagEach (atom_key q G) (rows_of q (stored db) G) (flags_of q (set flags (atom_at q at).table f) G)) (sym e)
+        (subst (λ g. HasOneFlagEach (atom_key q at) (rows_of q (stored db) at) g) (sym here) choice)
 
     picked : (F : ℕ) → F < length q.atoms → (F < at) ⊎ (F ≡ at) → (p : ℕ) → IsFlagged (flags_of q (set flags (atom_at q at).table f) F) p →
         IsPick (atom_key q F) (rows_of q (stored db) F) (IsFlagged (flags_of q old F)) p

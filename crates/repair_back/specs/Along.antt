@@ -33,8 +33,8 @@ abbrev pub IsExchanged : Way → List Placed → List (List Bool) → List (List
 IsExchanged way taken old new = IsReached way.course.now.setting.db.now way.course.now.setting.query.now way.row.now taken old new
 
 -- no witness with these rows is kept
-abbrev pub IsFree : Way → List Placed → List (List Bool) → Type 0
-IsFree way taken flags = HasNone way.course.now.setting.db.now way.course.now.setting.query.now way.row.now taken flags
+abbrev pub KeepsNoWitness : Way → List Placed → List (List Bool) → Type 0
+KeepsNoWitness way taken flags = HasNone way.course.now.setting.db.now way.course.now.setting.query.now way.row.now taken flags
 
 -- none with the first rows taken, where these are at least so many
 abbrev pub IsFreeFrom : Way → List Placed → List (List Bool) → ℕ → Type 0

@@ -16,7 +16,7 @@ kept_of (x ∷ xs) [] = []
 kept_of (x ∷ xs) (b ∷ bs) = cond b (x ∷ kept_of xs bs) (kept_of xs bs)
 
 -- exactly one flag is set in each block
-pub record IsChoice (key : List ℕ) (rows : List (List Value)) (flags : List Bool) : Type 0 where
+pub record HasOneFlagEach (key : List ℕ) (rows : List (List Value)) (flags : List Bool) : Type 0 where
   pub size : length flags ≡ length rows
   pub some : (i : ℕ) → i < length rows → (p : ℕ) × IsFlagged flags p × SharesKey key (slice_index_or rows i []) (slice_index_or rows p [])
   pub one : (p r : ℕ) → IsFlagged flags p → IsFlagged flags r → SharesKey key (slice_index_or rows p []) (slice_index_or rows r []) → p ≡ r
@@ -34,7 +34,7 @@ flags_of q flags F = slice_index_or flags (atom_at q F).table []
 -- one row is kept of each block of each of the query's tables
 pub record AreChosen (q : Query) (db : List Table) (flags : List (List Bool)) : Type 0 where
   pub size : length flags ≡ length db
-  pub each : (F : ℕ) → F < length q.atoms → IsChoice (atom_key q F) (rows_of q (stored db) F) (flags_of q flags F)
+  pub each : (F : ℕ) → F < length q.atoms → HasOneFlagEach (atom_key q F) (rows_of q (stored db) F) (flags_of q flags F)
 
 -- the places of the flags that are set, where the first has this number
 abbrev pub places_from : ℕ → List Bool → List ℕ

@@ -4,3 +4,4 @@ pub mod Mending
 pub mod Along
 pub mod Walking
 pub mod Results
+pub mod Rejected

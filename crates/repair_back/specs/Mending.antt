@@ -55,7 +55,7 @@ pub record IsHere (way : Way) (taken : List Placed) (left : List ℕ) : Type 0 w
   pub plan : IsPlan way.course.now.setting.query.now (view_of way.course.now.setting.query.now taken) left
 
 -- Some rows were taken along the way, and an atom that none attacks comes next, with the rest of the plan behind it.
-pub record IsNext (way : Way) (taken : List Placed) (atom : ℕ) (rest : List ℕ) : Type 0 where
+pub record IsNextAtom (way : Way) (taken : List Placed) (atom : ℕ) (rest : List ℕ) : Type 0 where
   pub underway : IsUnderway way.course.now taken (atom ∷ rest)
   pub taken_fit : AllFit way.course.now.setting.query.now way.row.now taken
   pub has : (view_of way.course.now.setting.query.now taken).has atom

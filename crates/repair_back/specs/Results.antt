@@ -9,7 +9,8 @@ use Rattle.cqa_model.specs.declared.query.Query.{Query}
 use Rattle.cqa_model.specs.declared.query.Atom.{Atom}
 use Rattle.cqa_model.specs.declared.query.RowId.{RowId}
 use Rattle.cqa_model.specs.Database.{Table, key_of, keys_of, stored}
-use Rattle.cqa_model.specs.Repairs.{SharesKey, IsRepair}
+use Rattle.cqa_model.specs.Repairs.{IsRepair}
+use Rattle.cqa_model.specs.Blocks.{IsPick}
 use Rattle.cqa_model.specs.Query.{atom_at, atom_key, rows_of, IsWitness}
 use Rattle.repair_back.specs.Flags.{places_from}
 
@@ -41,20 +42,14 @@ IsRepairOf q db names = (kept : List (List (List Value))) × IsRepair db kept ×
 abbrev pub Rejects : Query → List Table → List Value → List RowId → Type 0
 Rejects q db row names = (kept : List (List (List Value))) × IsRepair db kept × AreKept q db names kept × ((w : List (List Value)) → IsWitness q kept row w → ⊥)
 
--- the row at a place is the first row of its block that has the property; or no row has it, and it is the first
-pub record IsPick (key : List ℕ) (rows : List (List Value)) (P : ℕ → Type 0) (at : ℕ) : Type 0 where
-  pub there : at < length rows
-  pub best : (i : ℕ) → i < length rows → SharesKey key (slice_index_or rows at []) (slice_index_or rows i []) → P i → P at
-  pub first : (i : ℕ) → i < at → SharesKey key (slice_index_or rows at []) (slice_index_or rows i []) → P at × (P i → ⊥)
-
 -- a name stands in a list where a model has `true`
-abbrev pub IsListed : List RowId → List Bool → RowId → Type 0
-IsListed names model name = (k : ℕ) × (slice_get names k ≡ Some name) × (slice_get model k ≡ Some true)
+abbrev pub IsTrueName : List RowId → List Bool → RowId → Type 0
+IsTrueName names model name = (k : ℕ) × (slice_get names k ≡ Some name) × (slice_get model k ≡ Some true)
 
 -- each of these names is the pick of its block: the first row of it that is listed with `true`, or else its first row
 abbrev pub ArePicks : Query → List Table → List RowId → List Bool → List RowId → Type 0
 ArePicks q db listed model names = (F : ℕ) → F < length q.atoms → (p : ℕ) → Contains names (record { table = (atom_at q F).table; place = p }) →
-    IsPick (atom_key q F) (rows_of q (stored db) F) (λ i. IsListed listed model (record { table = (atom_at q F).table; place = i })) p
+    IsPick (atom_key q F) (rows_of q (stored db) F) (λ i. IsTrueName listed model (record { table = (atom_at q F).table; place = i })) p
 
 -- two rows are of one block
 abbrev pub is_of_block : List ℕ → List Value → List Value → Bool

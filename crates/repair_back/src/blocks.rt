@@ -4,7 +4,7 @@ ghost use Rattle.std.specs.Prelude.{◌<◌, ◌≤◌, [], length, slice_index_
 ghost use Rattle.std.specs.List.Sorted.{IsStrictlySortedBy};
 ghost use Rattle.cqa_model.specs.Database.{block_cmp};
 ghost use Rattle.cqa_model.specs.Repairs.{SharesKey};
-ghost use Rattle.repair_back.specs.Walking.{Begins, IsBlock};
+ghost use Rattle.repair_back.specs.Walking.{BeginsBlock, IsBlockBetween};
 
 use row_pieces::Rows;
 
@@ -12,9 +12,9 @@ use row_pieces::Rows;
 pub(crate) fn block_end(rows: &Rows<'_>, key: &[u32], at: usize) -> usize
     requires order { IsStrictlySortedBy (block_cmp key.now) rows.now }
     requires there { at < length rows.now }
-    requires begins { Begins key.now rows.now at }
-    ensures block { IsBlock key.now rows.now at result }
-    ensures begins { Begins key.now rows.now result }
+    requires begins { BeginsBlock key.now rows.now at }
+    ensures block { IsBlockBetween key.now rows.now at result }
+    ensures begins { BeginsBlock key.now rows.now result }
 {
     row_blocks::block_end(rows, key, at)
 }
@@ -24,7 +24,7 @@ pub(crate) fn block_start(rows: &Rows<'_>, key: &[u32], at: usize) -> usize
     requires order { IsStrictlySortedBy (block_cmp key.now) rows.now }
     requires there { at < length rows.now }
     ensures before { result ≤ at }
-    ensures begins { Begins key.now rows.now result }
+    ensures begins { BeginsBlock key.now rows.now result }
     ensures same { SharesKey key.now (slice_index_or rows.now result []) (slice_index_or rows.now at []) }
 {
     row_blocks::block_start(rows, key, at)

@@ -4,8 +4,8 @@ ghost use Rattle.std.specs.Prelude.{◌≡◌, ◌<◌, ◌≤◌, ◌≢◌, �
 ghost use Rattle.std.specs.List.Sorted.{IsStrictlySortedBy};
 ghost use Rattle.cqa_model.specs.Database.{block_cmp};
 ghost use Rattle.cqa_model.specs.Repairs.{SharesKey};
-ghost use Rattle.repair_back.specs.Flags.{IsFlagged, IsChoice};
-ghost use Rattle.repair_back.specs.Results.{IsPick};
+ghost use Rattle.repair_back.specs.Flags.{IsFlagged, HasOneFlagEach};
+ghost use Rattle.cqa_model.specs.Blocks.{IsPick};
 
 use crate::blocks::block_end;
 use cqa_value::NoMemory;
@@ -120,7 +120,7 @@ impl Choice {
     pub(crate) fn settle(&mut self, rows: &Rows<'_>, key: &[u32])
         requires order { IsStrictlySortedBy (block_cmp key.now) rows.now }
         requires size { length self.old ≡ length rows.now }
-        ensures choice { IsChoice key.now rows.now self.new }
+        ensures choice { HasOneFlagEach key.now rows.now self.new }
         ensures picks { (p : ℕ) → IsFlagged self.new p → IsPick key.now rows.now (IsFlagged self.old) p }
     {
         let mut at = 0;

@@ -4,7 +4,7 @@ ghost use Rattle.std.specs.Prelude.{◌≡◌, ◌<◌, ◌⊎◌, ◌↔◌, �
 ghost use Rattle.cqa_model.specs.declared.query.RowId.{RowId as Name};
 ghost use Rattle.cqa_model.specs.Query.{FitsDatabase};
 ghost use Rattle.repair_back.specs.Flags.{IsFlagged, AreBlank};
-ghost use Rattle.repair_back.specs.Results.{IsListed, IsRepairOf, ArePicks, AreStored};
+ghost use Rattle.repair_back.specs.Results.{IsTrueName, IsRepairOf, ArePicks, AreStored};
 
 use crate::choice::Choice;
 use crate::kept::{blank, settle_all};
@@ -21,7 +21,7 @@ fn mark(kept: &mut [Choice], listed: &[RowId], model: &[bool])
     requires there { (name : Name) → Contains listed.now name → name.table < length kept.old }
     ensures size { length kept.new ≡ length kept.old }
     ensures long { (t : ℕ) → length (slice_index_or kept.new t []) ≡ length (slice_index_or kept.old t []) }
-    ensures is { (t p : ℕ) → p < length (slice_index_or kept.old t []) → IsFlagged (slice_index_or kept.new t []) p ↔ (IsFlagged (slice_index_or kept.old t []) p ⊎ IsListed listed.now model.now (record { table = t; place = p })) }
+    ensures is { (t p : ℕ) → p < length (slice_index_or kept.old t []) → IsFlagged (slice_index_or kept.new t []) p ↔ (IsFlagged (slice_index_or kept.old t []) p ⊎ IsTrueName listed.now model.now (record { table = t; place = p })) }
 {
     for at in 0..listed.len() {
         if !model[at] {
@@ -53,7 +53,7 @@ fn picked(
 
 /// The repair that a model gives: of each block of the query's tables the first row that is listed with `true`, or else
 /// the first row. Where the list is that of a formula's variables and the model satisfies it, the repair holds no
-/// witness of the formula's row: a law, `row_reasons::model_rejects` (Dixit and Kolaitis, SAT 2019).
+/// witness of the formula's row: a law, `search_answers::model_rejects` (Dixit and Kolaitis, SAT 2019).
 ///
 /// # Errors
 ///

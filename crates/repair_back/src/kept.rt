@@ -4,13 +4,13 @@ ghost use Rattle.std.specs.Prelude.{◌≡◌, ◌≤◌, ◌<◌, ℕ, IfOk, On
 ghost use Rattle.cqa_model.specs.Database.{stored};
 ghost use Rattle.cqa_model.specs.Query.{atom_at, atom_key, rows_of};
 ghost use Rattle.repair_back.specs.Flags.{IsFlagged, flags_of, AreLong, AreBlank, AreChosen};
-ghost use Rattle.repair_back.specs.Results.{IsPick};
+ghost use Rattle.cqa_model.specs.Blocks.{IsPick};
 
 use crate::atoms::is_used;
 use crate::choice::Choice;
 use cqa_value::NoMemory;
+use join_access::table_of;
 use plan_rows::{Setting, key_columns};
-use row_cursor::table_of;
 
 /// How many rows of a table count: all where it is one of the query's, and else none.
 fn count_in(setting: &Setting<'_>, table: u32) -> usize

@@ -14,4 +14,4 @@ mod way;
 pub use from_models::from_model;
 pub use mending::mend;
 pub use repair::Repair;
-pub use rivals::contested;
+pub use rivals::{chosen, contested};

@@ -12,14 +12,14 @@ ghost use Rattle.cqa_model.specs.Query.{atom_at, atom_key, rows_of, FitsDatabase
 ghost use Rattle.cqa_model.specs.Certain.{IsCertain};
 ghost use Rattle.cqa_model.specs.Plan.{IsPlanOf};
 ghost use Rattle.plan_rows.specs.Taking.{placed};
-ghost use Rattle.row_cursor.specs.Spots.{ArePaths};
+ghost use Rattle.join_access.specs.Spots.{ArePaths};
 ghost use Rattle.plan_rows.specs.Underway.{IsKey, IsRight};
 ghost use Rattle.plan_rows.specs.Links.{AreWays};
 ghost use Rattle.repair_back.specs.Flags.{IsFlagged, flags_of, AreBlank, AreChosen};
-ghost use Rattle.repair_back.specs.Mending.{IsHere, IsNext};
-ghost use Rattle.repair_back.specs.Along.{rows_on, kept_on, AreLed, KeepsOne, IsFree, HoldsWith, RestHolds, Mends, MendsBlock};
+ghost use Rattle.repair_back.specs.Mending.{IsHere, IsNextAtom};
+ghost use Rattle.repair_back.specs.Along.{rows_on, kept_on, AreLed, KeepsOne, KeepsNoWitness, HoldsWith, RestHolds, Mends, MendsBlock};
 ghost use Rattle.repair_back.specs.Results.{Rejects, AreStored};
-ghost use Rattle.repair_back.specs.Walking.{IsBlock};
+ghost use Rattle.repair_back.specs.Walking.{IsBlockBetween};
 
 use crate::blocks::{block_end, block_start};
 use crate::choice::Choice;
@@ -28,10 +28,10 @@ use crate::repair::{Repair, named};
 use crate::way::{Way, enough_for, enough_of};
 use cqa_model::{Plan, Query, variables};
 use cqa_value::{Items, NoMemory, Row};
+use join_access::{RowIndex, table_of};
 use plan_rows::{
     Course, Link, Look, Memo, Places, Rest, Setting, Step, Taken, fits, key_columns, shared_or_none,
 };
-use row_cursor::{RowIndex, table_of};
 use row_pieces::Rows;
 use std::alloc::Global;
 use table_blocks::Database;
@@ -40,7 +40,7 @@ use table_blocks::Database;
 fn kept_of(setting: &Setting<'_>, atom: u32, start: usize, end: usize, kept: &[Choice]) -> usize
     requires atom { atom < length setting.now.query.now.atoms }
     requires chosen { AreChosen setting.now.query.now setting.now.db.now kept.now }
-    requires block { IsBlock (atom_key setting.now.query.now atom) (rows_of setting.now.query.now (stored setting.now.db.now) atom) start end }
+    requires block { IsBlockBetween (atom_key setting.now.query.now atom) (rows_of setting.now.query.now (stored setting.now.db.now) atom) start end }
     ensures after { start ≤ result }
     ensures before { result < end }
     ensures kept { IsFlagged (flags_of setting.now.query.now kept.now atom) result }
@@ -159,7 +159,7 @@ fn mend_blocks<'x>(
     kept: &mut [Choice],
     memo: &mut Memo,
 ) -> Option<usize>
-    requires next { IsNext way.now (placed taken.now) atom rest.now }
+    requires next { IsNextAtom way.now (placed taken.now) atom rest.now }
     requires chosen { KeepsOne way.now kept.old }
     requires memo { IsRight way.now.course.now memo.old }
     ensures memo { IsRight way.now.course.now memo.new }
@@ -195,7 +195,7 @@ fn mend_places<'x>(
     kept: &mut [Choice],
     memo: &mut Memo,
 ) -> Option<usize>
-    requires next { IsNext way.now (placed taken.now) atom rest.now }
+    requires next { IsNextAtom way.now (placed taken.now) atom rest.now }
     requires there { AreLed way.now (placed taken.now) atom rest.now places.now }
     requires chosen { KeepsOne way.now kept.old }
     requires memo { IsRight way.now.course.now memo.old }
@@ -237,11 +237,11 @@ fn mend_block<'x>(
     kept: &mut [Choice],
     memo: &mut Memo,
 ) -> Option<usize>
-    requires next { IsNext way.now (placed taken.now) atom rest.now }
+    requires next { IsNextAtom way.now (placed taken.now) atom rest.now }
     requires chosen { KeepsOne way.now kept.old }
     requires memo { IsRight way.now.course.now memo.old }
     requires rows { rows.now ≡ rows_on way.now atom }
-    requires block { IsBlock (atom_key way.now.course.now.setting.query.now atom) rows.now start end }
+    requires block { IsBlockBetween (atom_key way.now.course.now.setting.query.now atom) rows.now start end }
     ensures memo { IsRight way.now.course.now memo.new }
     ensures mends { MendsBlock way.now (placed taken.now) atom (slice_index_or rows.now start []) ((i : ℕ) → start ≤ i → i < end → HoldsWith way.now (placed taken.now) atom rest.now (slice_index_or rows.now i [])) kept.old kept.new result }
 {
@@ -277,7 +277,7 @@ fn row_mended<'x>(
     kept: &mut [Choice],
     memo: &mut Memo,
 ) -> Option<usize>
-    requires next { IsNext way.now (placed taken.now) atom rest.now }
+    requires next { IsNextAtom way.now (placed taken.now) atom rest.now }
     requires chosen { KeepsOne way.now kept.old }
     requires memo { IsRight way.now.course.now memo.old }
     requires kept { Contains (kept_on way.now kept.old atom) y.now }
@@ -303,7 +303,7 @@ fn mend_all(way: &Way<'_>, kept: &mut [Choice]) -> bool
     requires here { IsHere way.now [] way.now.course.now.order.now }
     requires chosen { KeepsOne way.now kept.old }
     ensures chosen { KeepsOne way.now kept.new }
-    ensures mended { IsTrue result → IsFree way.now [] kept.new }
+    ensures mended { IsTrue result → KeepsNoWitness way.now [] kept.new }
     ensures holds { result ≡ false → RestHolds way.now [] way.now.course.now.order.now }
 {
     let course = way.course;

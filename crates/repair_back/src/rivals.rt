@@ -66,3 +66,18 @@ pub fn contested(alloc: Global, db: &Database, repair: &Repair) -> Result<Items<
     }
     Ok(names)
 }
+
+/// A repair by the rows that it had to choose: the names of those in blocks of two or more rows.
+///
+/// # Errors
+///
+/// `NoMemory` where memory is refused.
+pub fn chosen(alloc: Global, db: &Database, repair: Repair) -> Result<Items<RowId>, NoMemory>
+    requires { AreStored db.now repair.kept }
+    ensures names { IfOk result (λ names. names ≡ contested_of db.now repair.kept) }
+    ensures stored { IfOk result (AreStored db.now) }
+{
+    let names = contested(alloc, db, &repair);
+    drop(repair);
+    names
+}

@@ -7,8 +7,8 @@ ghost use Rattle.repair_back.specs.Apart.{BringsNone, IsApart, AreApart, AreEnou
 
 use cqa_model::ColRef;
 use cqa_value::{NoMemory, Row};
+use join_access::width_of;
 use plan_rows::{Course, Setting, is_told};
-use row_cursor::width_of;
 
 /// A plan that is gone over, the row that no witness is to give, and for each number of first atoms how many of them are
 /// enough for the others: what those between share with these, the first ones share too.

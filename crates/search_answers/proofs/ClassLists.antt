@@ -12,11 +12,11 @@ use Rattle.std.proofs.lemmas.Option.{same_Some}
 use Rattle.cqa_value.proofs.Words.{cases_next}
 use Rattle.cqa_model.specs.declared.query.RowId.{RowId}
 use Rattle.cqa_model.proofs.Classic.{mem-nil}
-use Rattle.join_witness.proofs.Sorted.{one_place}
+use Rattle.join_access.proofs.Sorted.{one_place}
 use Rattle.repair_clauses.specs.declared.span.Span.{Span}
 use Rattle.repair_clauses.specs.Clauses.{Variable, variable_cmp}
 use Rattle.repair_clauses.specs.Spans.{at, place_at}
-use Rattle.search_answers.specs.Classing.{HasClass, AreRange, IsWhole, AreOfBlock, AreOfNames, AreBlockLists, AreNameLists}
+use Rattle.search_answers.specs.Classing.{HasClass, AreRange, HasAllClasses, AreOfBlock, AreOfNames, AreBlockLists, AreNameLists}
 use Rattle.repair_clauses.proofs.Order.{variable_total}
 
 pub some_some : (m n : ℕ) → Some (Some m) ≡ Some (Some n) → m ≡ n
@@ -97,12 +97,12 @@ module _ (vars : List Variable) (sorted : IsStrictlySortedBy variable_cmp vars) 
         ];
       })
 
-      pub lists-skip : (IsWhole vars classes s → ⊥) → AreBlockLists vars classes (take (i + 1) spans) old
+      pub lists-skip : (HasAllClasses vars classes s → ⊥) → AreBlockLists vars classes (take (i + 1) spans) old
       lists-skip b = record {
         each = λ ns m. let c = h.each ns m in (c.0, before c.0 c.1, c.2);
         every = λ t mt w. elim (taken spans i s t l is mt) [
           | inl o ↦ h.every t o w
-          | inr q ↦ absurd (b (subst (IsWhole vars classes) (sym q) w))
+          | inr q ↦ absurd (b (subst (HasAllClasses vars classes) (sym q) w))
         ];
       }
 

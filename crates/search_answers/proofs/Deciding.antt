@@ -11,7 +11,7 @@ use Rattle.cqa_model.specs.Query.{FitsDatabase}
 use Rattle.cnf_form.specs.declared.formula.Lit.{Lit}
 use Rattle.cnf_form.specs.declared.formula.Cnf.{Cnf}
 use Rattle.cnf_form.specs.declared.log.Log.{Log}
-use Rattle.cnf_form.specs.Literals.{IsInRange, SatisfiesAll}
+use Rattle.cnf_form.specs.Literals.{AreVarsInRange, SatisfiesAll}
 use Rattle.cnf_form.specs.Logs.{Refutes}
 use Rattle.cnf_form.specs.Spent.{NoVarTwice, IsSpentLog}
 use Rattle.cnf_form.proofs.Sound.{refutation_sound}
@@ -40,7 +40,7 @@ no-var-twice (l ∷ c) s = (
 )
 
 module _ (q : Query) (db : List Table) (row : List Value) (e : Encoded) (h : IsEncoded q db row e) where
-  pub in_range : IsInRange e.cnf
+  pub in_range : AreVarsInRange e.cnf
   in_range c m l ml =
       let r = (clauses_rise db q row h.formula h.is c (subst (λ cs. Contains cs c) h.are m)).in_range l ml in
       let low = r.0 in

@@ -15,8 +15,8 @@ use Rattle.flat_formula.specs.Looks.{AreAllBelow}
 use Rattle.flat_formula.specs.declared.guess.Found.{Found}
 use Rattle.flat_formula.specs.declared.guess.Found.TheVariants.{Satisfiable, Unsatisfiable, Unclear}
 use Rattle.flat_formula.specs.Findings.{FoundIs}
-use Rattle.join_witness.specs.Listing.{AreAllNames, places_of}
-use Rattle.join_witness.proofs.Naming.{zip-right}
+use Rattle.join_access.specs.Listing.{AreAllNames, places_of}
+use Rattle.join_access.proofs.Naming.{zip-right}
 use Rattle.repair_clauses.specs.declared.span.Span.{Span}
 use Rattle.repair_clauses.specs.Clauses.{Variable, HasNumber, IsFormula, positive, negative}
 use Rattle.repair_clauses.specs.Spans.{AreBasedTo, AreSpansTo, AreNumbers, numbers_in, variables_of, formula_of}

@@ -5,3 +5,4 @@ pub mod ClassLists
 pub mod Searching
 pub mod WitnessRows
 pub mod Deciding
+mod Modelled

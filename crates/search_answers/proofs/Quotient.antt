@@ -20,19 +20,19 @@ use Rattle.cqa_model.proofs.Repairs.{shares-self, shares-eq, shares-sym, shares-
 use Rattle.cqa_model.proofs.Databases as databases
 use Rattle.cnf_form.specs.declared.formula.Lit.{Lit}
 use Rattle.cnf_form.specs.declared.formula.Cnf.{Cnf}
-use Rattle.cnf_form.specs.Literals.{IsInRange, Satisfies, SatisfiesAll, literals}
+use Rattle.cnf_form.specs.Literals.{AreVarsInRange, Satisfies, SatisfiesAll, literals}
 use Rattle.cdcl.specs.Outcomes.{IsOnce}
 use Rattle.flat_formula.specs.declared.guess.Found.{Found}
 use Rattle.flat_formula.specs.declared.guess.Found.TheVariants.{Satisfiable, Unsatisfiable, Unclear}
 use Rattle.flat_formula.specs.Findings.{FoundIs}
-use Rattle.join_witness.specs.Listing.{AreAllNames, places_of}
-use Rattle.join_witness.proofs.Naming.{stand-once}
-use Rattle.join_witness.proofs.Sorted.{one_place}
+use Rattle.join_access.specs.Listing.{AreAllNames, places_of}
+use Rattle.join_access.proofs.Naming.{stand-once}
+use Rattle.join_access.proofs.Sorted.{one_place}
 use Rattle.repair_clauses.specs.declared.span.Span.{Span}
 use Rattle.repair_clauses.specs.Alike.{AreClasses, IsInWitness, IsCovered, SatisfiesClasses}
-use Rattle.repair_clauses.specs.Clauses.{Variable, HasNumber, IsStored, row_of, positive, negative, variable_cmp}
+use Rattle.repair_clauses.specs.Clauses.{Variable, HasNumber, IsStoredVariable, row_of, positive, negative, variable_cmp}
 use Rattle.repair_clauses.specs.Spans.{at, place_at, IsIn, IsNamed, AreSpansTo, variables_of}
-use Rattle.search_answers.specs.Classing.{HasClass, AreClassedTo, AreNumberedTo, IsWhole, AreOfBlock, AreOfNames, AreClassClauses, AreQuotient, FoundSays}
+use Rattle.search_answers.specs.Classing.{HasClass, AreClassedTo, AreNumberedTo, HasAllClasses, AreOfBlock, AreOfNames, AreClassClauses, AreQuotient, FoundSays}
 use Rattle.repair_clauses.proofs.Numbers.{place_of}
 use Rattle.repair_clauses.proofs.Spans.{as_at}
 use Rattle.repair_clauses.proofs.Rows.{number_below, one_variable, dec_number}
@@ -116,11 +116,11 @@ module _ (q : Query) (db : List Table) (d : IsDatabase db) (fits : FitsDatabase 
     is_class : (F p n : ℕ) → HasClass vars classes F p n → class F (row_of q db (at F p)) ≡ n
     is_class F p n (k, ek, en) = go (dec_hit F (row_of q db (at F p)))
       where
-        st : (y : Variable) (j : ℕ) → HasNumber vars (suc j) y → IsStored q db y
+        st : (y : Variable) (j : ℕ) → HasNumber vars (suc j) y → IsStoredVariable q db y
         st y j e =
             let s = span_at numbered rows.single j y e in
             let b = rows.from s.0 (Contains-slice_get numbered j s.0 s.1) in
-            subst (IsStored q db) s.2 (b.0, (in_witness s.0.atom b.0 s.0.start b.1).0)
+            subst (IsStoredVariable q db) s.2 (b.0, (in_witness s.0.atom b.0 s.0.start b.1).0)
 
         go : (dec : Dec ((j : ℕ) × (j < length vars) × IsHit F (row_of q db (at F p)) j)) → chosen F (row_of q db (at F p)) dec ≡ n
         go (yes (j, l, ((y, ey, (ya, yr)), (i, ei)))) =
@@ -203,7 +203,7 @@ module _ (q : Query) (db : List Table) (d : IsDatabase db) (fits : FitsDatabase 
           Goal : ℕ → List Value → Type 0
           Goal F x = (y : List Value) × Contains (rows_of q (stored db) F) y × SharesKey (atom_key q F) x y × (v (class F y) ≡ true)
 
-          whole : (s : Span) → Contains spans s → (p : ℕ) → IsIn s (at s.atom p) → IsCovered q (stored db) row s.atom (row_of q db (at s.atom p)) → IsWhole vars classes s
+          whole : (s : Span) → Contains spans s → (p : ℕ) → IsIn s (at s.atom p) → IsCovered q (stored db) row s.atom (row_of q db (at s.atom p)) → HasAllClasses vars classes s
           whole s ms p i cov r j =
               let l = (h.each s ms).0 in
               let b = in_rows s ms r j in
@@ -329,7 +329,7 @@ module _ (q : Query) (db : List Table) (numbered spans : List Span) (all : List 
         of_numbers negative (λ n. refl) p.0 cl p.2 o.2.rises (λ n mn. let f = (o.2.exactly n).0 mn in class_number classes c f.0 (place_at o.0 f.0) n f.2)
   ]
 
-  pub quotient_range : (cnf : Cnf) → literals cnf.clauses ≡ cs → cnf.vars ≡ length (variables_of numbered) → AreQuotient q db numbered spans all cs → IsInRange cnf
+  pub quotient_range : (cnf : Cnf) → literals cnf.clauses ≡ cs → cnf.vars ≡ length (variables_of numbered) → AreQuotient q db numbered spans all cs → AreVarsInRange cnf
   quotient_range cnf e v h cl mc l ml =
       let r = (rises_to h cl (subst (λ ds. Contains ds cl) e mc)).in_range l ml in
       let low = r.0 in

@@ -12,9 +12,9 @@ use Rattle.cqa_model.specs.Query.{FitsDatabase}
 use Rattle.cqa_model.specs.Certain.{IsCertain, IsCandidate, IsCertainAnswer}
 use Rattle.cqa_model.proofs.Classic.{mem-head, mem-nil, mem-cases}
 use Rattle.cqa_model.proofs.Databases.{possible_is_candidate}
-use Rattle.row_cursor.proofs.Extending.{sorted-nil}
-use Rattle.join_witness.specs.Listing.{HasTooMany}
-use Rattle.join_witness.proofs.Sorted.{not_less, not_both}
+use Rattle.join_access.proofs.Extending.{sorted-nil}
+use Rattle.join_access.specs.Listing.{HasTooMany}
+use Rattle.join_access.proofs.Sorted.{not_less, not_both}
 use Rattle.search_answers.specs.declared.judging.Verdict.{Verdict}
 use Rattle.search_answers.specs.declared.search.Stop.{Stop}
 use Rattle.search_answers.specs.declared.search.Stop.TheVariants as stop

@@ -11,14 +11,14 @@ use Rattle.cqa_model.specs.declared.query.Query.{Query}
 use Rattle.cqa_model.specs.declared.query.RowId.{RowId}
 use Rattle.cqa_model.specs.Database.{Table, IsDatabase, stored}
 use Rattle.cqa_model.specs.Query.{atom_at, rows_of}
-use Rattle.join_witness.specs.declared.all_witnesses.Witness.{Witness}
-use Rattle.join_witness.specs.Listing.{AreAllNames, names_of}
+use Rattle.join_access.specs.declared.witness.Witness.{Witness}
+use Rattle.join_access.specs.Listing.{AreAllNames, names_of}
 use Rattle.repair_clauses.specs.declared.span.Span.{Span}
 use Rattle.repair_clauses.specs.Clauses.{Variable, variable_cmp}
-use Rattle.repair_clauses.specs.Spans.{at, IsIn, IsAt, IsNamed, IsBefore, IsNumbering, AreApart, AreBased, AreBasedTo, variables_of}
+use Rattle.repair_clauses.specs.Spans.{at, IsIn, IsAt, IsNamed, IsBefore, IsNumbering, AreSpansApart, AreBased, AreBasedTo, variables_of}
 use Rattle.repair_clauses.specs.Runs.{AreColumn}
 use Rattle.search_answers.specs.Classing.{AreSingle, AreNumberedTo, rows_from}
-use Rattle.join_witness.proofs.Sorted.{sorted-from}
+use Rattle.join_access.proofs.Sorted.{sorted-from}
 use Rattle.repair_clauses.proofs.Numbers.{place_of}
 use Rattle.repair_clauses.proofs.Order.{atom_less}
 use Rattle.repair_clauses.proofs.Spans.{has_number, place_less}
@@ -205,7 +205,7 @@ module _ (all : List (List RowId)) (F : ℕ) (old : List Span) (h : AreNumberedT
         (ap (λ (u : Span). u.count) (sym r.2), omega (arith, b, k_is))
   ]
 
-  apart_new : AreApart new
+  apart_new : AreSpansApart new
   apart_new i j u v l eu ev = go (split old (rows_from F (length old) ps) i u eu) (split old (rows_from F (length old) ps) j v ev)
     where
       go : ((i < length old) × (slice_get old i ≡ Some u)) ⊎ ((a : ℕ) × (i ≡ length old + a) × (slice_get (rows_from F (length old) ps) a ≡ Some u)) →

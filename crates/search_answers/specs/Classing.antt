@@ -10,8 +10,8 @@ use Rattle.cqa_model.specs.declared.query.RowId.{RowId}
 use Rattle.cqa_model.specs.Database.{Table}
 use Rattle.cqa_model.specs.Certain.{IsCertain}
 use Rattle.cqa_model.specs.Repairs.{SharesKey}
-use Rattle.join_witness.specs.declared.all_witnesses.Witness.{Witness}
-use Rattle.join_witness.specs.Listing.{AreAllNames, names_of}
+use Rattle.join_access.specs.declared.witness.Witness.{Witness}
+use Rattle.join_access.specs.Listing.{AreAllNames, names_of}
 use Rattle.cnf_form.specs.declared.formula.Cnf.{Cnf}
 use Rattle.cnf_form.specs.declared.formula.Lit.{Lit}
 use Rattle.cnf_form.specs.Literals.{literals}
@@ -23,7 +23,7 @@ use Rattle.repair_clauses.specs.declared.span.Span.{Span}
 use Rattle.repair_clauses.specs.declared.numbering.Numbering.{Numbering}
 use Rattle.repair_clauses.specs.Alike.{AreAlike}
 use Rattle.repair_clauses.specs.Clauses.{Variable, HasNumber, row_of, positive, negative}
-use Rattle.repair_clauses.specs.Spans.{at, place_at, HasSpan, IsIn, IsNamed, AreApart, variables_of}
+use Rattle.repair_clauses.specs.Spans.{at, place_at, HasSpan, IsIn, IsNamed, AreSpansApart, variables_of}
 use Rattle.repair_clauses.specs.Encodings.{AreBlocksOf}
 
 -- nothing is lost from a list
@@ -61,17 +61,17 @@ AreWitnessed q db witnesses blocks = (row : List Value) × AreAllNames q db row 
 pub record AreSingle (spans : List Span) : Type 0 where
   pub few : length spans ≤ MOST_ATOMS * MOST_ROWS
   pub each : (k : ℕ) (s : Span) → slice_get spans k ≡ Some s → (s.count ≡ 1) × (s.base ≡ k)
-  pub apart : AreApart spans
+  pub apart : AreSpansApart spans
 
 -- exactly the rows with a property have a number, each by a span of its own
-pub record AreNumbered (P : ℕ → ℕ → Type 0) (spans : List Span) : Type 0 where
+pub record AreNumberedBySpans (P : ℕ → ℕ → Type 0) (spans : List Span) : Type 0 where
   pub single : AreSingle spans
   pub from : (s : Span) → Contains spans s → P s.atom s.start
   pub to : (F p : ℕ) → P F p → HasSpan spans F p
 
 -- exactly the rows of the atoms before n that are in witnesses have numbers
 abbrev pub AreNumberedTo : List (List RowId) → ℕ → List Span → Type 0
-AreNumberedTo all n spans = AreNumbered (λ F p. (F < n) × IsNamed all F p) spans
+AreNumberedTo all n spans = AreNumberedBySpans (λ F p. (F < n) × IsNamed all F p) spans
 
 -- the spans of the rows of an atom at these places, numbered from n on
 abbrev pub rows_from : ℕ → ℕ → List ℕ → List Span
@@ -92,13 +92,13 @@ abbrev pub signed : Bool → ℕ → Lit
 signed b n = record { var = n; positive = b }
 
 -- all rows of a block have a class
-abbrev pub IsWhole : List Variable → List (Option ℕ) → Span → Type 0
-IsWhole variables classes s = (p : ℕ) → IsIn s (at s.atom p) → (n : ℕ) × HasClass variables classes s.atom p n
+abbrev pub HasAllClasses : List Variable → List (Option ℕ) → Span → Type 0
+HasAllClasses variables classes s = (p : ℕ) → IsIn s (at s.atom p) → (n : ℕ) × HasClass variables classes s.atom p n
 
 -- the classes of the rows of a block, all of which have one
 pub record AreOfBlock (variables : List Variable) (classes : List (Option ℕ)) (s : Span) (numbers : List ℕ) : Type 0 where
   pub rises : IsStrictlySortedBy nat_cmp numbers
-  pub whole : IsWhole variables classes s
+  pub whole : HasAllClasses variables classes s
   pub exactly : (n : ℕ) → Contains numbers n ↔ ((p : ℕ) × IsIn s (at s.atom p) × HasClass variables classes s.atom p n)
 
 -- the classes of the rows of a witness
@@ -109,7 +109,7 @@ pub record AreOfNames (variables : List Variable) (classes : List (Option ℕ)) 
 -- the classes of exactly the blocks of which all rows have one
 pub record AreBlockLists (variables : List Variable) (classes : List (Option ℕ)) (spans : List Span) (lists : List (List ℕ)) : Type 0 where
   pub each : (numbers : List ℕ) → Contains lists numbers → (s : Span) × Contains spans s × AreOfBlock variables classes s numbers
-  pub every : (s : Span) → Contains spans s → IsWhole variables classes s → (numbers : List ℕ) × Contains lists numbers × AreOfBlock variables classes s numbers
+  pub every : (s : Span) → Contains spans s → HasAllClasses variables classes s → (numbers : List ℕ) × Contains lists numbers × AreOfBlock variables classes s numbers
 
 -- the classes of exactly these witnesses
 pub record AreNameLists (variables : List Variable) (classes : List (Option ℕ)) (all : List (List RowId)) (lists : List (List ℕ)) : Type 0 where

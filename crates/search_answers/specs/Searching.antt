@@ -13,7 +13,7 @@ use Rattle.cnf_form.specs.declared.log.Log.{Log}
 use Rattle.cnf_form.specs.Spent.{IsSpentLog}
 use Rattle.cdcl.specs.declared.outcome.Outcome.{Outcome}
 use Rattle.cdcl.specs.declared.outcome.Outcome.TheVariants as outcome
-use Rattle.join_witness.specs.Listing.{HasTooMany}
+use Rattle.join_access.specs.Listing.{HasTooMany}
 use Rattle.repair_clauses.specs.declared.formula.Encoded.{Encoded}
 use Rattle.search_answers.specs.declared.judging.Verdict.{Verdict}
 use Rattle.search_answers.specs.declared.judging.Verdict.TheVariants as verdict

@@ -5,7 +5,7 @@ ghost use Rattle.std.specs.Prelude.{◌≡◌, ◌+◌, ◌<◌, ◌↔◌, ◌�
 ghost use Rattle.cqa_value.specs.declared.value.Value.{Value};
 ghost use Rattle.cqa_model.specs.Repairs.{SharesKey};
 ghost use Rattle.cqa_model.specs.Query.{FitsDatabase};
-ghost use Rattle.join_witness.specs.Listing.{AreAllNames, names_of};
+ghost use Rattle.join_access.specs.Listing.{AreAllNames, names_of};
 ghost use Rattle.repair_clauses.specs.Spans.{HasSpan, variables_of};
 ghost use Rattle.search_answers.specs.Classing.{AreClassedTo, AreNumberedTo, AreSingle, Marks};
 
@@ -13,7 +13,7 @@ use crate::spoken::spoken_columns;
 use crate::witness_rows::witness_rows;
 use cqa_model::Query;
 use cqa_value::{NOTHING, NoMemory, Row, compare};
-use join_witness::Witness;
+use join_access::Witness;
 use repair_clauses::atom_of;
 use repair_clauses::column::column;
 use repair_clauses::numbering::{Numbering, number};

@@ -3,15 +3,16 @@
 
 ghost use Rattle.std.specs.Prelude.{◌≡◌, IfOk, IfErr, Ok, length};
 ghost use Rattle.cqa_model.specs.Query.{FitsDatabase};
-ghost use Rattle.cnf_form.specs.Literals.{IsInRange};
+ghost use Rattle.cnf_form.specs.Literals.{AreVarsInRange};
 ghost use Rattle.cdcl.specs.Outcomes.{IsOnce, OutcomeIs};
-ghost use Rattle.join_witness.specs.Listing.{HasTooMany, IsOver};
+ghost use Rattle.join_access.specs.Listing.{HasTooMany, IsOver};
 ghost use Rattle.search_answers.specs.Deciding.{IsDecided};
 
 use cdcl::Outcome;
 use cqa_model::Query;
 use cqa_value::{Fail, NoMemory, Row};
-use join_witness::{TooMany, witnesses};
+use join_access::TooMany;
+use join_witness::witnesses;
 use repair_clauses::{Encoded, encode};
 use std::alloc::Global;
 use table_blocks::Database;
@@ -43,7 +44,7 @@ fn with_outcome(formula: Encoded, found: Result<Outcome, NoMemory>) -> Result<De
 ///
 /// `NoMemory` where memory is refused.
 pub(crate) fn solved(alloc: Global, formula: Encoded, budget: u32) -> Result<Decided, NoMemory>
-    requires range { IsInRange formula.cnf }
+    requires range { AreVarsInRange formula.cnf }
     requires once { IsOnce formula.cnf }
     ensures same { IfOk result (λ decided. decided.formula ≡ formula) }
     ensures outcome { IfOk result (λ decided. OutcomeIs formula.cnf budget decided.outcome) }
@@ -54,7 +55,7 @@ pub(crate) fn solved(alloc: Global, formula: Encoded, budget: u32) -> Result<Dec
 
 /// The same for a formula that may be large: rows that exclude the same rows are searched as one.
 fn solved_by_groups(alloc: Global, formula: Encoded, budget: u32) -> Result<Decided, NoMemory>
-    requires range { IsInRange formula.cnf }
+    requires range { AreVarsInRange formula.cnf }
     requires once { IsOnce formula.cnf }
     ensures same { IfOk result (λ decided. decided.formula ≡ formula) }
     ensures outcome { IfOk result (λ decided. OutcomeIs formula.cnf budget decided.outcome) }

@@ -2,7 +2,7 @@
 //! It is made anew for each row in the same room, so that a small formula takes no memory of its own.
 
 ghost use Rattle.std.specs.Prelude.{◌≡◌, [], IfOk, map};
-ghost use Rattle.join_witness.specs.Listing.{names_of, places_of};
+ghost use Rattle.join_access.specs.Listing.{names_of, places_of};
 ghost use Rattle.repair_clauses.specs.Clauses.{positive};
 ghost use Rattle.repair_clauses.specs.Spans.{numbers_in};
 ghost use Rattle.repair_clauses.specs.Encodings.{AddsWitnesses, AreTold};
@@ -11,7 +11,7 @@ ghost use Rattle.search_answers.specs.Looking.{IsFoundOf};
 use cnf_form::{Lit, Truth};
 use cqa_value::NoMemory;
 use flat_formula::{FlatFormula, Found, glance};
-use join_witness::Witness;
+use join_access::Witness;
 use repair_clauses::numbering::Numbering;
 use repair_clauses::{fill_block, fill_witness};
 use std::alloc::Global;

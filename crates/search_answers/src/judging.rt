@@ -5,7 +5,7 @@
 ghost use Rattle.std.specs.Prelude.{◌≡◌, IfOk, List, length};
 ghost use Rattle.cqa_value.specs.declared.value.Value.{Value};
 ghost use Rattle.cqa_model.specs.Query.{FitsDatabase};
-ghost use Rattle.join_witness.specs.Listing.{AreAllNames, HasTooMany, names_of};
+ghost use Rattle.join_access.specs.Listing.{AreAllNames, HasTooMany, names_of};
 ghost use Rattle.join_witness.specs.Lookups.{IsLookup};
 ghost use Rattle.repair_clauses.specs.Encodings.{AreBlocksOf};
 ghost use Rattle.search_answers.specs.Classing.{AreWitnessed};
@@ -19,7 +19,8 @@ use cnf_form::{Cnf, Log};
 use cqa_model::Query;
 use cqa_value::{Fail, NoMemory, Row};
 use flat_formula::Found;
-use join_witness::{Lookup, TooMany, Witness, witnesses_by};
+use join_access::{TooMany, Witness};
+use join_witness::{Lookup, witnesses_by};
 use repair_clauses::numbering::Numbering;
 use repair_clauses::{are_avoidable, formula_over, relevant_blocks};
 use std::alloc::Global;

@@ -1,6 +1,6 @@
 //! The certain rows of a query that has no plan, by search: each possible row is rejected by rows in no witness, or decided by
 //! its formula. A first look decides most small formulas. What it leaves open goes to the solver: over classes of rows that are
-//! alike, and then over rows.
+//! alike, and then over rows. And why one row is certain or isn't: a refutation of its formula, or a repair.
 #![tactic(auto)]
 
 mod class_clauses;
@@ -8,10 +8,14 @@ mod classing;
 mod decision;
 mod first_look;
 mod judging;
+mod laws;
+mod reason;
 mod search;
 mod second_look;
 mod spoken;
 mod witness_rows;
 
 pub use decision::{Decided, decide};
+pub use laws::model_rejects;
+pub use reason::reason_by_search;
 pub use search::{Searched, Stop, certain_by_search};

@@ -3,10 +3,10 @@
 ghost use Rattle.std.specs.Prelude.{List, IfOk};
 ghost use Rattle.cqa_value.specs.declared.value.Value.{Value};
 ghost use Rattle.cqa_model.specs.Query.{FitsDatabase};
-ghost use Rattle.cnf_form.specs.Literals.{IsInRange, literals};
+ghost use Rattle.cnf_form.specs.Literals.{AreVarsInRange, literals};
 ghost use Rattle.cdcl.specs.Outcomes.{IsOnce};
 ghost use Rattle.flat_formula.specs.Findings.{FoundIs};
-ghost use Rattle.join_witness.specs.Listing.{AreAllNames, names_of};
+ghost use Rattle.join_access.specs.Listing.{AreAllNames, names_of};
 ghost use Rattle.repair_clauses.specs.Encodings.{AreBlocksOf};
 ghost use Rattle.search_answers.specs.Classing.{AreWitnessed, FoundOf, FoundSays, IsQuotient};
 
@@ -17,7 +17,7 @@ use cnf_form::Cnf;
 use cqa_model::Query;
 use cqa_value::NoMemory;
 use flat_formula::Found;
-use join_witness::Witness;
+use join_access::Witness;
 use repair_clauses::numbering::Numbering;
 use std::alloc::Global;
 use table_blocks::Database;
@@ -44,7 +44,7 @@ fn found_by(outcome: Outcome) -> Found
 
 /// What the solver finds out of a formula.
 fn found_in(alloc: Global, cnf: &Cnf, budget: u32) -> Result<Found, NoMemory>
-    requires range { IsInRange cnf.now }
+    requires range { AreVarsInRange cnf.now }
     requires once { IsOnce cnf.now }
     ensures { IfOk result (FoundIs (literals cnf.now.clauses)) }
 {

@@ -5,12 +5,12 @@ ghost use Rattle.std.specs.Prelude.{◌≡◌, ◌+◌, ◌*◌, ◌++◌, ◌<�
 ghost use Rattle.cqa_value.specs.declared.value.Value.{Value};
 ghost use Rattle.cqa_model.specs.Query.{FitsDatabase};
 ghost use Rattle.cqa_model.specs.declared.limits.TheConstants.{MOST_ROWS};
-ghost use Rattle.join_witness.specs.Listing.{AreAllNames, names_of};
+ghost use Rattle.join_access.specs.Listing.{AreAllNames, names_of};
 ghost use Rattle.search_answers.specs.Classing.{AreNumberedTo, rows_from};
 
 use cqa_model::Query;
 use cqa_value::{Items, NoMemory};
-use join_witness::Witness;
+use join_access::Witness;
 use repair_clauses::column::column;
 use repair_clauses::numbering::Numbering;
 use repair_clauses::span::Span;

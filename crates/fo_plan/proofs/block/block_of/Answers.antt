@@ -1,26 +1,41 @@
 use Rattle.std.proofs.Common.{subst, sym, Contains, MatchOption}
 use Rattle.cqa_model.specs.Plan.{HoldsOver}
-use Rattle.plan_rows.specs.Left.{AreAtoms, AreShared}
+use Rattle.plan_rows.specs.Left.{AreAtoms}
 use Rattle.plan_rows.specs.Links.{AreWays}
+use Rattle.plan_rows.specs.Grouping.{IsRegrouped}
 use Rattle.fo_plan.specs.FirstBlock.{IsFirstBlock}
+use Rattle.fo_plan.proofs.Regrouped.{regrouped-first, regrouped-atoms}
 use Rattle.fo_plan.proofs.block.block_of.Goals as goal
 
-pub shared_or_none-shared-requires : goal.shared_or_none-shared-requires
-shared_or_none-shared-requires c = subst (AreAtoms c.args.query.now) (sym c.as_slice-order.ensures) c.requires.plan
+pub grouped_along-requires-clause-order : goal.grouped_along-requires-clause-order
+grouped_along-requires-clause-order c = subst (AreAtoms c.args.query.now) (sym c.as_slice-order.ensures) c.requires.plan
 
-pub invariant_of-course : goal.invariant_of-course
-invariant_of-course c = record {
-  atoms = subst (AreAtoms c.args.query.now) (sym c.as_slice-order.ensures) c.requires.plan;
-  shares = ∣ subst (AreShared c.args.query.now c.as_slice-order.result.now) (sym c.as_slice.ensures.value) c.shared_or_none-shared.ensures ∣₁;
-  linked = ∣ subst (λ order. AreWays c.args.query.now c.args.db.now order c.args.ways.now) (sym c.as_slice-order.ensures) c.requires.ways ∣₁;
-}
+pub grouped_along-requires-clause-ways : goal.grouped_along-requires-clause-ways
+grouped_along-requires-clause-ways c = subst (λ order. AreWays c.args.query.now c.args.db.now order c.args.ways.now) (sym c.as_slice-order.ensures) c.requires.ways
 
-pub found_block-requires-clause-all : goal.found_block-requires-clause-all
-found_block-requires-clause-all c = λ F l. subst (λ p. Contains p F) (sym c.as_slice-order.ensures) (c.requires.all F l)
+pub block_along-requires-clause-order : goal.block_along-requires-clause-order
+block_along-requires-clause-order c = λ F m.
+    let q = c.args.query.now in
+    let same = regrouped-atoms q c.as_slice-order.result.now c.in-Some.grouped.items c.in-Some.ensures.same F in
+    c.requires.plan F (subst (λ p. Contains p F) c.as_slice-order.ensures (same.1 (subst (λ p. Contains p F) c.as_slice.ensures.value m)))
 
-pub returns : goal.returns
-returns c =
+pub block_along-requires-clause-all : goal.block_along-requires-clause-all
+block_along-requires-clause-all c = λ F l.
+    let q = c.args.query.now in
+    let same = regrouped-atoms q c.as_slice-order.result.now c.in-Some.grouped.items c.in-Some.ensures.same F in
+    subst (λ p. Contains p F) (sym c.as_slice.ensures.value) (same.0 (subst (λ p. Contains p F) (sym c.as_slice-order.ensures) (c.requires.all F l)))
+
+pub block_along-requires-in-None-clause-order : goal.block_along-requires-in-None-clause-order
+block_along-requires-in-None-clause-order c = subst (AreAtoms c.args.query.now) (sym c.as_slice-order.ensures) c.requires.plan
+
+pub block_along-requires-in-None-clause-all : goal.block_along-requires-in-None-clause-all
+block_along-requires-in-None-clause-all c = λ F l. subst (λ p. Contains p F) (sym c.as_slice-order.ensures) (c.requires.all F l)
+
+pub returns-in-Some : goal.returns-in-Some
+returns-in-Some c =
     let db = c.args.db.now in
     let q = c.args.query.now in
     let row = c.args.row.now in
-    subst (λ plan. MatchOption c.found_block.result (HoldsOver db q row plan → ⊥) (λ block. HoldsOver db q row plan × IsFirstBlock db q row plan block)) c.as_slice-order.ensures c.found_block.ensures
+    let found = c.block_along.result in
+    regrouped-first db q row c.args.plan.now.order c.in-Some.grouped.items found (subst (λ p. IsRegrouped q p c.in-Some.grouped.items) c.as_slice-order.ensures c.in-Some.ensures.same)
+    (subst (λ p. MatchOption found (HoldsOver db q row p → ⊥) (λ block. HoldsOver db q row p × IsFirstBlock db q row p block)) c.as_slice.ensures.value c.block_along.ensures)

@@ -9,7 +9,7 @@ use Rattle.plan_rows.specs.Over.{query_of, tables_of, rows_before}
 use Rattle.plan_rows.specs.Underway.{IsUnderway}
 use Rattle.fo_plan.specs.Holding.{HoldsWith, AllHoldWith}
 use Rattle.fo_plan.specs.Noted.{GivesNone}
-use Rattle.fo_plan.specs.Giving.{AreAll, IsAnswer, Gives, BlockGives, StepGives, IsAdded}
+use Rattle.fo_plan.specs.Giving.{AreAll, IsAnswerRow, Gives, BlockGives, StepGives, IsAdded}
 use Rattle.plan_rows.proofs.PlanParts.{rest-shorter, plan-split}
 use Rattle.fo_plan.proofs.Gathered.{all-more, block-fails, first-gives, block-one, block-split, some-plan, adds-none, add-block, add-one, none-given, moved-on, on-ok}
 use Rattle.plan_rows.proofs.Sharing.{first-atom, underway-more}
@@ -183,7 +183,7 @@ pub add_all_of-loop-block-init : goal.add_all_of-loop-block-init
 add_all_of-loop-block-init t c =
     let step = c.args.step.now in
     record {
-      added = added-starts c.args.blocks.now (IsAnswer (query_of step) (rows_before step)) (HoldsWith step) c.requires.sought
+      added = added-starts c.args.blocks.now (IsAnswerRow (query_of step) (rows_before step)) (HoldsWith step) c.requires.sought
           c.start-spot.result.place c.args.found.now c.start-spot.ensures.passed;
       spot = c.start-spot.ensures.spot;
       right = c.requires.notes;
@@ -196,7 +196,7 @@ pub add_all_of-loop-block-preserved : goal.add_all_of-loop-block-preserved
 add_all_of-loop-block-preserved t c =
     let step = c.args.step.now in
     record {
-      added = added-on c.args.blocks.now (IsAnswer (query_of step) (rows_before step)) (HoldsWith step) c.requires.sought
+      added = added-on c.args.blocks.now (IsAnswerRow (query_of step) (rows_before step)) (HoldsWith step) c.requires.sought
           c.loop-block.spot.place c.next.new.spot.place c.in-Some.block c.args.found.now c.loop-block.found c.add_block.new.found
           c.loop-block.invariant.added c.in-Some.ensures.next c.in_ok-add_block.ensures.added;
       spot = c.next.ensures.spot;
@@ -206,5 +206,5 @@ add_all_of-loop-block-preserved t c =
 pub add_all_of-returns-clause-added : goal.add_all_of-returns-clause-added
 add_all_of-returns-clause-added t c =
     let step = c.args.step.now in
-    added-ends c.args.blocks.now (IsAnswer (query_of step) (rows_before step)) (HoldsWith step) c.requires.sought
+    added-ends c.args.blocks.now (IsAnswerRow (query_of step) (rows_before step)) (HoldsWith step) c.requires.sought
     c.loop-block.spot.place c.args.found.now c.loop-block.found c.loop-block.invariant.added c.in_default.ensures.next

@@ -1,8 +1,8 @@
 use Rattle.std.proofs.Common.{◌≡◌, ◌<◌, ◌+◌, [], set, get_or, length, ap, sym, subst, ◌∙◌, arith}
 use Rattle.cqa_model.specs.Database.{stored}
 use Rattle.cqa_model.specs.Query.{atom_key, rows_of}
-use Rattle.repair_back.specs.Flags.{IsFlagged, IsChoice}
-use Rattle.repair_back.specs.Results.{IsPick}
+use Rattle.repair_back.specs.Flags.{IsFlagged, HasOneFlagEach}
+use Rattle.cqa_model.specs.Blocks.{IsPick}
 use Rattle.repair_back.proofs.Starting.{AllSettledTo, all-more}
 use Rattle.repair_back.proofs.Mended.{flags-read}
 use Rattle.repair_back.proofs.kept.settle_all.Goals as goal
@@ -19,7 +19,7 @@ loop-atom-preserved c =
     let size = c.loop-atom.invariant.size in
     subst (λ t. AllSettledTo q db c.args.kept.now (set c.loop-atom.kept t c.settle.new.self) (at + 1)) (sym c.table_of-table.ensures)
     (all-more q db c.args.kept.now c.loop-atom.kept at l c.loop-atom.invariant c.settle.new.self (omega (arith, there, size))
-    (subst (λ rows. IsChoice (atom_key q at) rows c.settle.new.self) is_rows (subst (λ key. IsChoice key c.rows.result c.settle.new.self) c.key_columns.ensures c.settle.ensures.choice))
+    (subst (λ rows. HasOneFlagEach (atom_key q at) rows c.settle.new.self) is_rows (subst (λ key. HasOneFlagEach key c.rows.result c.settle.new.self) c.key_columns.ensures c.settle.ensures.choice))
     (λ p f. subst (λ g. IsPick (atom_key q at) (rows_of q (stored db) at) (IsFlagged g) p) (sym c.index-kept-table.is ∙ read)
     (subst (λ rows. IsPick (atom_key q at) rows (IsFlagged (get_or c.loop-atom.kept c.table_of-table.result c.index-kept-table.result)) p) is_rows
     (subst (λ key. IsPick key c.rows.result (IsFlagged (get_or c.loop-atom.kept c.table_of-table.result c.index-kept-table.result)) p) c.key_columns.ensures (c.settle.ensures.picks p f)))))

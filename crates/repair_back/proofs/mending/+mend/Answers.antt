@@ -21,7 +21,7 @@ use Rattle.repair_back.specs.Flags.{IsFlagged}
 use Rattle.repair_back.specs.Mending.{Lacks}
 use Rattle.repair_back.specs.Along.{IsFreeFrom, Mends}
 use Rattle.repair_back.proofs.Outcomes.{block-found, few-of}
-use Rattle.repair_back.specs.Walking.{IsBlock}
+use Rattle.repair_back.specs.Walking.{IsBlockBetween}
 use Rattle.repair_back.proofs.Apart.{none-enough, none-whole, none-past, if-before, some-none}
 use Rattle.repair_back.proofs.Stepping.{reached-joined, reached-same, reached-forget, lacks-none, lacks-unfit}
 use Rattle.repair_back.proofs.Looking.{passed-led, outside-led}
@@ -129,7 +129,7 @@ mend_places-loop-at-preserved t c =
     (passed-led c.args.way.now (placed c.args.taken.now) c.args.atom c.args.rest.now c.requires.next c.args.places.now c.requires.there c.loop-at.at c.after-at.result c.after-at.ensures.passed i low high) in
     elim c.if-at-done.branch [
       | mend_places-then-at-done+in_ok-mended+else-mended-before w ↦
-          let block = subst (λ key. IsBlock key c.rows-rows.result w.block_start-start.result w.block_end-done.result) c.key_columns-key.ensures w.block_end-done.ensures.block in
+          let block = subst (λ key. IsBlockBetween key c.rows-rows.result w.block_start-start.result w.block_end-done.result) c.key_columns-key.ensures w.block_end-done.ensures.block in
           let same = subst (λ key. SharesKey key (get_or c.rows-rows.result w.block_start-start.result []) (get_or c.rows-rows.result c.loop-at.at [])) c.key_columns-key.ensures w.block_start-start.ensures.same in
           let above = in-block (atom_key c.args.way.now.course.now.setting.query.now c.args.atom) c.rows-rows.result w.block_start-start.result w.block_end-done.result c.loop-at.at block inside same in
           record {
@@ -241,7 +241,7 @@ mend_places-returns-in_err-mended-clause-mends t c =
       mended = search rules;
       holds = λ e. block-holds c.args.way.now.course.now.setting.query.now c.args.way.now.course.now.setting.db.now c.args.way.now.course.now.setting.fits c.args.way.now.row.now c.args.way.now.long (placed c.args.taken.now) c.requires.next.taken_fit c.args.atom c.requires.next.has c.args.rest.now c.rows-rows.result c.block_start-start.result c.block_end-done.result
           (c.rows-rows.ensures.is ∙ ap (λ n. get_or (stored c.args.way.now.course.now.setting.db.now) n []) c.table_of.ensures)
-          (subst (λ key. IsBlock key c.rows-rows.result c.block_start-start.result c.block_end-done.result) c.key_columns-key.ensures c.block_end-done.ensures.block)
+          (subst (λ key. IsBlockBetween key c.rows-rows.result c.block_start-start.result c.block_end-done.result) c.key_columns-key.ensures c.block_end-done.ensures.block)
           (c.mend_block.ensures.mends.holds (ap is_some c.in_err-mended.was));
     }
 

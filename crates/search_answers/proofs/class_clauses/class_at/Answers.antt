@@ -1,6 +1,6 @@
 use Rattle.std.proofs.Common.{◌≡◌, ◌<◌, ◌∙◌, ℕ, None, Some, length, sym, ap, arith, slice_get}
 use Rattle.std.proofs.lemmas.Option.{get_or_from_slice_get, slice_get_within, slice_get-get_or}
-use Rattle.join_witness.proofs.Sorted.{one_place}
+use Rattle.join_access.proofs.Sorted.{one_place}
 use Rattle.repair_clauses.specs.Clauses.{variable_cmp}
 use Rattle.repair_clauses.specs.Spans.{at, variables_of}
 use Rattle.repair_clauses.proofs.Order.{variable_total}

@@ -3,7 +3,7 @@ use Rattle.std.proofs.lemmas.Result.{IfOk-weaker}
 use Rattle.cnf_form.specs.declared.formula.Clause.{Clause}
 use Rattle.cnf_form.specs.Literals.{literals}
 use Rattle.cqa_value.specs.declared.items.Items.{Items}
-use Rattle.join_witness.specs.Listing.{names_of}
+use Rattle.join_access.specs.Listing.{names_of}
 use Rattle.repair_clauses.specs.Clauses.{negative, positive}
 use Rattle.repair_clauses.specs.Spans.{variables_of}
 use Rattle.search_answers.specs.Classing.{AreClassClauses, signed}

@@ -2,8 +2,8 @@ use Rattle.std.proofs.Common.{◌≡◌, ◌+◌, ◌++◌, ◌∷◌, ◌∙◌
 use Rattle.std.proofs.lemmas.List.{map_push, take_all}
 use Rattle.cqa_model.specs.declared.limits.TheConstants.{MOST_ATOMS}
 use Rattle.cqa_model.specs.declared.query.RowId.{RowId}
-use Rattle.join_witness.specs.declared.all_witnesses.Witness.{Witness}
-use Rattle.join_witness.specs.Listing.{names_of}
+use Rattle.join_access.specs.declared.witness.Witness.{Witness}
+use Rattle.join_access.specs.Listing.{names_of}
 use Rattle.repair_clauses.specs.Spans.{variables_of}
 use Rattle.search_answers.specs.Classing.{AreNameLists, AreOfNames}
 use Rattle.search_answers.proofs.ClassLists.{names-more, names-none, taken-next}

@@ -1,5 +1,5 @@
 use Rattle.std.proofs.Common.{take}
-use Rattle.join_witness.specs.Listing.{names_of}
+use Rattle.join_access.specs.Listing.{names_of}
 use Rattle.search_answers.specs.Classing.{AreNameLists}
 use Rattle.repair_clauses.specs.Spans.{variables_of}
 use Rattle.search_answers.proofs.class_clauses.witness_lists.Given as goal

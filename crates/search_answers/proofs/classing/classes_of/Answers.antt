@@ -1,5 +1,5 @@
 use Rattle.std.proofs.Common.{rules, ◌≡◌, length, subst, arith}
-use Rattle.join_witness.specs.Listing.{names_of}
+use Rattle.join_access.specs.Listing.{names_of}
 use Rattle.repair_clauses.specs.Spans.{variables_of}
 use Rattle.search_answers.specs.Classing.{AreClassedTo}
 use Rattle.search_answers.proofs.Marking.{classed-none}

@@ -1,4 +1,4 @@
-use Rattle.join_witness.specs.Listing.{names_of}
+use Rattle.join_access.specs.Listing.{names_of}
 use Rattle.search_answers.specs.Classing.{AreClassedTo}
 use Rattle.repair_clauses.specs.Spans.{variables_of}
 use Rattle.search_answers.proofs.classing.classes_of.Given as goal

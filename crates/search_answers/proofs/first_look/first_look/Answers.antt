@@ -1,5 +1,5 @@
 use Rattle.std.proofs.Common.{map}
-use Rattle.join_witness.specs.Listing.{names_of, places_of}
+use Rattle.join_access.specs.Listing.{names_of, places_of}
 use Rattle.search_answers.proofs.FirstLooks.{all_below}
 use Rattle.search_answers.proofs.first_look.first_look.Goals as goal
 

@@ -1,5 +1,5 @@
 use Rattle.std.proofs.Common.{take, map}
-use Rattle.join_witness.specs.Listing.{names_of, places_of}
+use Rattle.join_access.specs.Listing.{names_of, places_of}
 use Rattle.repair_clauses.specs.Encodings.{AddsWitnesses}
 use Rattle.search_answers.proofs.first_look.pool_witnesses.Given as goal
 

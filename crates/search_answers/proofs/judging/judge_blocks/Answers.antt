@@ -1,6 +1,6 @@
 use Rattle.std.proofs.Common.{◌≡◌, sym, subst}
 use Rattle.cdcl.specs.Outcomes.{OutcomeIs}
-use Rattle.join_witness.specs.Listing.{names_of}
+use Rattle.join_access.specs.Listing.{names_of}
 use Rattle.repair_clauses.specs.declared.formula.Encoded.{Encoded}
 use Rattle.repair_clauses.specs.Encodings.{IsEncoded}
 use Rattle.repair_clauses.proofs.Encoding.{of_atoms, told, encoded}

@@ -1,6 +1,6 @@
 use Rattle.std.proofs.Common.{subst, map}
 use Rattle.std.proofs.lemmas.Result.{IfOk-weaker}
-use Rattle.join_witness.specs.Listing.{names_of, places_of}
+use Rattle.join_access.specs.Listing.{names_of, places_of}
 use Rattle.search_answers.specs.Looking.{IsFoundOf}
 use Rattle.repair_clauses.proofs.Encoding.{told}
 use Rattle.search_answers.proofs.FirstLooks.{rejected, certain}

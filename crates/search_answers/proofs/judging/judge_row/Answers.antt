@@ -1,7 +1,7 @@
 use Rattle.std.proofs.Common.{List, sym, subst}
 use Rattle.std.proofs.lemmas.Result.{IfOk-weaker}
-use Rattle.join_witness.specs.Listing.{AreAllNames, HasTooMany, IsOver, names_of}
-use Rattle.join_witness.specs.declared.all_witnesses.Witness.{Witness}
+use Rattle.join_access.specs.Listing.{AreAllNames, HasTooMany, IsOver, names_of}
+use Rattle.join_access.specs.declared.witness.Witness.{Witness}
 use Rattle.search_answers.proofs.judging.judge_row.Goals as goal
 
 pub judge_witnesses-verdict-requires-clause-all : goal.judge_witnesses-verdict-requires-clause-all

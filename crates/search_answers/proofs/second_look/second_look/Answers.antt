@@ -1,7 +1,7 @@
 use Rattle.std.proofs.Common.{refl}
 use Rattle.std.proofs.lemmas.Result.{IfOk-weaker}
 use Rattle.cnf_form.specs.Literals.{literals}
-use Rattle.join_witness.specs.Listing.{names_of}
+use Rattle.join_access.specs.Listing.{names_of}
 use Rattle.search_answers.proofs.Quotient.{found_says, quotient_once, quotient_range}
 use Rattle.search_answers.proofs.second_look.second_look.Goals as goal
 

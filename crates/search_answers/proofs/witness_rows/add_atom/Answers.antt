@@ -1,6 +1,6 @@
 use Rattle.std.proofs.Common.{◌+◌, List, length, length-append, ap, sym, subst, arith}
 use Rattle.std.proofs.lemmas.Result.{IfOk-weaker}
-use Rattle.join_witness.specs.Listing.{names_of}
+use Rattle.join_access.specs.Listing.{names_of}
 use Rattle.repair_clauses.specs.declared.span.Span.{Span}
 use Rattle.repair_clauses.specs.Runs.{AreColumn}
 use Rattle.repair_clauses.proofs.Encoding.{rows_long}

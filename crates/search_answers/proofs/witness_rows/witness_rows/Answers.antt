@@ -1,5 +1,5 @@
 use Rattle.std.proofs.Common.{◌≡◌, length, sym, subst, arith}
-use Rattle.join_witness.specs.Listing.{names_of}
+use Rattle.join_access.specs.Listing.{names_of}
 use Rattle.repair_clauses.specs.Spans.{IsNumbering}
 use Rattle.search_answers.specs.Classing.{AreNumberedTo}
 use Rattle.search_answers.proofs.WitnessRows.{numbering}

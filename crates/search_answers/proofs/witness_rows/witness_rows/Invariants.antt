@@ -1,6 +1,6 @@
 use Rattle.std.proofs.Common.{◌*◌, ◌≤◌, length}
 use Rattle.cqa_model.specs.declared.limits.TheConstants.{MOST_ROWS}
-use Rattle.join_witness.specs.Listing.{names_of}
+use Rattle.join_access.specs.Listing.{names_of}
 use Rattle.search_answers.specs.Classing.{AreNumberedTo}
 use Rattle.search_answers.proofs.witness_rows.witness_rows.Given as goal
 

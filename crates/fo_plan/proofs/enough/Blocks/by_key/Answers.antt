@@ -2,7 +2,7 @@ use Rattle.std.proofs.Common.{List, [], ◌≡◌, ◌∙◌}
 use Rattle.std.specs.Option.{option_copied}
 use Rattle.cqa_value.specs.declared.value.Value.{Value}
 use Rattle.cqa_model.proofs.Classic.{mem-nil}
-use Rattle.table_blocks.specs.Spans.{first_key}
+use Rattle.row_order.specs.Spans.{first_key}
 use Rattle.plan_rows.specs.Knowing.{MayFit}
 use Rattle.plan_rows.specs.Over.{rows_before}
 use Rattle.fo_plan.proofs.Looks.{of-look}

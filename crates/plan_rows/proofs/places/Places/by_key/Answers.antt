@@ -1,5 +1,5 @@
 use Rattle.std.proofs.Common.{◌≡◌, inl, inr, [], length, get_or, subst, arith}
-use Rattle.table_blocks.specs.Spans.{first_key}
+use Rattle.row_order.specs.Spans.{first_key}
 use Rattle.cqa_model.specs.Query.{atom_key}
 use Rattle.plan_rows.specs.Over.{look_query, look_rows}
 use Rattle.plan_rows.proofs.Spanning.{span-of, outside, span-within}

@@ -3,8 +3,8 @@ use Rattle.std.specs.Borrow.{Bor}
 use Rattle.cqa_model.specs.declared.query.Query.{Query}
 use Rattle.cqa_model.specs.Database.{Table, stored}
 use Rattle.cqa_model.specs.Query.{rows_of}
-use Rattle.row_cursor.specs.Chains.{Indexed}
-use Rattle.row_cursor.specs.Spots.{ArePaths}
+use Rattle.join_access.specs.Chains.{Indexed}
+use Rattle.join_access.specs.Spots.{ArePaths}
 use Rattle.plan_rows.proofs.setting.Setting.index_of.Goals as goal
 
 found : (q : Query) (db : List Table) (paths : List (Option Indexed)) (atom : ℕ) (r : Option (Bor Indexed)) → ArePaths q db paths → IfSome r (λ x. (atom < length paths) × (get_or paths atom None ≡ Some x.now)) →

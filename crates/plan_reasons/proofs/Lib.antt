@@ -1,0 +1,2 @@
+pub mod Keys
+mod Blocks

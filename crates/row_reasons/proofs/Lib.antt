@@ -1,4 +1,0 @@
-pub mod Keys
-mod Blocks
-mod Modelled
-mod Pairing
