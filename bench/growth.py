@@ -3,7 +3,8 @@
 
     bench/growth.py [--program FILE] [--scale X] [--only WORD] [--repeat N]
 
-It makes the loads, runs them, and prints a table in Markdown. Times are processor seconds of the whole process, reading
+It makes the loads, runs them, and prints a table in Markdown. A load with statements that an older program doesn't know is
+skipped for it, and standard error says so. Times are processor seconds of the whole process, reading
 the script included, the least of N runs; memory is the greatest that a run held. A program that has to end with status 0
 and doesn't is an error. `--scale 0.1` is a quick look. sqlite3 is optional. Python 3.9 and its library alone are needed.
 """
@@ -255,6 +256,46 @@ def pairs_through_a_wide_block(n):
     return ours + ["ask select r.a from r, s where r.x = s.x and r.y = s.y;"], None
 
 
+TOTAL = ("select sum(low), sum(high) from (select min(case when y > 0 then {0} else 0 end) as low, "
+         "max(case when y > 0 then {0} else 0 end) as high from r group by k);")
+SURE = "case when min(case when y > 0 then 1 else 0 end) = 1 then {0}(y) end as low, "
+HIGH = "max(case when y > 0 then y end) as high from r group by k);"
+RANGES = {
+    "count": TOTAL.format(1),
+    "sum y": TOTAL.format("y"),
+    "min y": "select case when count(low) > 0 then min(least) end, coalesce(min(low), max(high)) from (select "
+             + SURE.format("max") + "min(case when y > 0 then y end) as least, " + HIGH,
+    "max y": "select max(low), max(high) from (select " + SURE.format("min") + HIGH,
+}
+"""The two ends of ranges over the rows with y > 0, found by the peer from what it finds of each key."""
+
+
+def ranges(rows, goals):
+    """Ranges over one table of rows whose first value is their key."""
+    made = join(tables(["r"], ["k", "y"], "k"), inserts("r", rows))
+    return made[0] + ["range %s from r where y > 0;" % goal for goal in goals], made[1] + [RANGES[goal] for goal in goals]
+
+
+def ranges_of_ones(n):
+    """n blocks of one row, of which half meet the test: no row is printed."""
+    return ranges([(k, k % 9 + 1 if k % 2 else -k) for k in range(n)], ["sum y"] * 10)
+
+
+def ranges_of_twos(n):
+    """n / 2 blocks of two rows, of which one meets the test: each range prints n rows."""
+    return ranges([(k, y) for k in range(n // 2) for y in (-k - 1, k % 9 + 1)], ["sum y"])
+
+
+def ranges_of_one_block(n):
+    """One block of n rows."""
+    return ranges([(1, y) for y in range(-(n // 2), n - n // 2)], ["sum y"] * 10)
+
+
+def ranges_of_ends(n):
+    """Counts, least and greatest values of n / 2 blocks of two rows, of which some meet the test in whole, some in part."""
+    return ranges([(k, y) for k in range(n // 2) for y in (k % 3 - 1, k % 11 + 2)], ["count", "min y", "max y"])
+
+
 LOADS = [
     ("inserts and asks by key in turn, ascending", ascending_turns, 50000),
     ("inserts and asks by key in turn, random", random_turns, 50000),
@@ -279,10 +320,23 @@ LOADS = [
     ("a weak pair of two wide blocks", wide_weak_blocks, 25000),
     ("a strong cycle through one wide block, by formulas", through_a_wide_block, 8000),
     ("weak pairs through one wide block", pairs_through_a_wide_block, 8000),
+    ("ten ranges of a sum, blocks of one row", ranges_of_ones, 250000),
+    ("a range of a sum, blocks of two rows, all printed", ranges_of_twos, 250000),
+    ("ten ranges of a sum, one block", ranges_of_one_block, 250000),
+    ("ranges of a count, a least and a greatest value, blocks of two rows", ranges_of_ends, 250000),
 ]
+
+NEWER = {"range": (ranges_of_ones, ranges_of_twos, ranges_of_one_block, ranges_of_ends)}
+"""Loads with statements that an older program doesn't know, by their first words."""
 
 
 # Runs
+
+def knows(program, word):
+    """Whether a program's grammar has a statement that begins so."""
+    ran = subprocess.run([program, "run"], input=(word + ";").encode(), stdout=subprocess.PIPE, check=False)
+    return ran.stdout != b"error 2 Syntax at 0\n"
+
 
 def write_scripts(make, n, script, other):
     """Writes both scripts of a load, and says whether the peer has one. A process of its own makes them: what a process held
@@ -355,9 +409,13 @@ def main():
     peer = shutil.which("sqlite3")
     print("| Load | n | the program | sqlite3 | ratio | 4n: the program | sqlite3 | ratio |")
     print("|---|---|---|---|---|---|---|---|")
+    unknown = [make for word, makes in NEWER.items() if not knows(words.program, word) for make in makes]
     with tempfile.TemporaryDirectory() as room:
         for name, make, size in LOADS:
             if words.only not in name:
+                continue
+            if make in unknown:
+                print("%s: skipped, since the program doesn't know its statements" % name, file=sys.stderr)
                 continue
             cells = [name, "{:,}".format(int(size * words.scale))]
             for factor in (1, 4):

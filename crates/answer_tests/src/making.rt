@@ -42,7 +42,7 @@ fn insert(db: &mut Database, name: &Name, rows: Items<Row>) -> bool
     requires { length rows < 2 ^ 32 }
 {
     match db.find(name) {
-        Some(table) if table < db.count() => match db.insert(table, rows) {
+        Some(table) if table < db.count() => match table_changes::insert(db, table, rows) {
             Ok(_) => true,
             Err(refused) => {
                 drop(refused);

@@ -2,7 +2,7 @@
 
 use crate::making::{Wanted, is_answered};
 use cqa_model::Query;
-use fo_rewrite::elimination_of;
+use query_strategy::{Strategy, strategy_by_sizes};
 use std::alloc::Global;
 use table_blocks::Database;
 
@@ -16,8 +16,8 @@ struct Case {
 
 impl Wanted for Case {
     fn comes(&self, alloc: Global, _db: &Database, query: &Query) -> bool {
-        match elimination_of(alloc, query, self.sizes) {
-            Ok(Some(plan)) => {
+        match strategy_by_sizes(alloc, query, self.sizes) {
+            Ok(Strategy::Plan(plan)) => {
                 let right = plan.order.as_slice() == self.order;
                 drop(plan);
                 right

@@ -2,11 +2,13 @@
 //! Each is decided, with its repair and without, and what comes of it is compared.
 
 ghost use Rattle.cqa_model.specs.Query.{FitsDatabase};
+ghost use Rattle.weak_pairs.specs.Pairs.{IsPair};
 
 use crate::making::{Wanted, is_answered};
 use cqa_model::{Query, RowId};
 use cqa_value::Row;
-use pair_answers::{decide, is_certain, is_pair};
+use pair_answers::{decide, is_certain};
+use query_strategy::{Strategy, strategy_of};
 use std::alloc::Global;
 use table_blocks::Database;
 
@@ -33,9 +35,19 @@ fn last_place(rows: &[RowId]) -> u32 {
 fn decided(alloc: Global, db: &Database, query: &Query, row: &Row) -> Shown
     requires { FitsDatabase query.now db.now }
 {
-    if !is_pair(query) {
-        return Shown::NoPair;
+    match strategy_of(alloc, query) {
+        Ok(Strategy::Pair) => as_pair(alloc, db, query, row),
+        other => {
+            drop(other);
+            Shown::NoPair
+        }
     }
+}
+
+fn as_pair(alloc: Global, db: &Database, query: &Query, row: &Row) -> Shown
+    requires fits { FitsDatabase query.now db.now }
+    requires pair { IsPair query.now }
+{
     if query.answer.len() != row.len() as usize {
         return Shown::Nothing;
     }

@@ -9,7 +9,7 @@ use Rattle.script_lex.specs.declared.cutting.Cut.TheVariants as cuts
 use Rattle.script_lex.specs.declared.modes.Mode.TheVariants.{Outside}
 use Rattle.script_lex.specs.Scripts.{Statement, statement_at, Begins, IsCut, IsSpace, HasNoStatement}
 use Rattle.script_lex.proofs.Statements.{Begins-push, Cuts-end, Cuts-part, first_statement, space_over}
-use Rattle.cqa_model.specs.declared.refusal.Refusal.TheVariants.{Unfinished}
+use Rattle.refusals.specs.declared.refusal.Refusal.TheVariants.{Unfinished}
 use Rattle.reply_text.specs.declared.reply.Reply.{Reply}
 use Rattle.reply_text.specs.declared.reply.Reply.TheVariants.{Refused}
 use Rattle.reply_text.specs.Texts.{reply_text, is_refusal}

@@ -5,7 +5,7 @@ use Rattle.script_lex.specs.Scripts.{Statement}
 use Rattle.reply_text.specs.declared.reply.Reply.{Reply}
 use Rattle.reply_text.specs.declared.reply.Reply.TheVariants.{Refused}
 use Rattle.reply_text.specs.Texts.{reply_text, is_refusal}
-use Rattle.cqa_model.specs.declared.refusal.Refusal.TheVariants.{Unfinished}
+use Rattle.refusals.specs.declared.refusal.Refusal.TheVariants.{Unfinished}
 use Rattle.command_shell.specs.declared.ending.ReadEnd.{ReadEnd}
 use Rattle.command_shell.specs.declared.ending.ReadEnd.TheVariants as reading
 use Rattle.command_shell.specs.declared.ending.Stop.{Stop}

@@ -10,8 +10,8 @@ ghost use Rattle.cqa_model.specs.declared.limits.TheConstants.{LONGEST_INPUT};
 
 use crate::ending::Stop;
 use crate::taker::Taker;
-use cqa_model::Refusal;
 use cqa_session::Session;
+use refusals::Refusal;
 use reply_text::Reply;
 use script_lex::{Cut, Cutter, Span};
 use std::alloc::Global;

@@ -2,12 +2,13 @@
 use Rattle.std.proofs.Common.{◌≡◌, ℕ, List, [], ◌∷◌, None, Result, Ok, Err, refl, sym, ap, ◌∙◌, subst}
 use Rattle.cqa_value.specs.declared.memory.Fail.{Fail}
 use Rattle.cqa_value.specs.declared.memory.Fail.TheVariants as fails
-use Rattle.cqa_model.specs.declared.refusal.Refusal.{Refusal}
+use Rattle.refusals.specs.declared.refusal.Refusal.{Refusal}
 use Rattle.cqa_model.specs.declared.schema.Column.{Column}
 use Rattle.cqa_model.specs.Database.{Table}
-use Rattle.cqa_model.specs.Refusal.{first_of, IsRefusedAs, Checked}
+use Rattle.refusals.specs.Refusal.{first_of, IsRefusedAs, Checked}
 use Rattle.spj_syntax.specs.declared.tree.Change.TheVariants.{SetKey}
-use Rattle.table_blocks.specs.Tables.{rekey_fault, Rekeys}
+use Rattle.table_changes.specs.Changes.{rekey_fault}
+use Rattle.table_blocks.specs.Tables.{Rekeys}
 use Rattle.query_resolve.specs.Names.{columns_at, places_of}
 use Rattle.query_resolve.specs.Checks.{new_key_fault}
 use Rattle.query_resolve.specs.Resolved.{ArePlacesOf, IsKeyOf}

@@ -3,7 +3,7 @@ use Rattle.std.proofs.Common.{◌≡◌, inr, Option, None, Result, Ok, Err}
 use Rattle.cqa_value.specs.declared.memory.Fail.{Fail}
 use Rattle.cqa_value.specs.declared.memory.Fail.TheVariants as fails
 use Rattle.cqa_model.specs.declared.query.Query.{Query}
-use Rattle.cqa_model.specs.declared.refusal.Refusal.{Refusal}
+use Rattle.refusals.specs.declared.refusal.Refusal.{Refusal}
 use Rattle.spj_syntax.specs.declared.tree.Select.{Select}
 use Rattle.query_resolve.specs.Resolved.{IsQueryOf}
 use Rattle.reply_text.specs.declared.reply.Reply.{Reply}

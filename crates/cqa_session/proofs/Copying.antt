@@ -3,9 +3,10 @@ use Rattle.std.proofs.Common.{◌≡◌, inl, inr, ℕ, List, Option, Some, None
 use Rattle.cqa_value.specs.declared.memory.Fail.{Fail}
 use Rattle.cqa_value.specs.declared.memory.Fail.TheVariants as fails
 use Rattle.cqa_value.specs.declared.value.Value.{Value}
-use Rattle.cqa_model.specs.declared.refusal.Refusal.{Refusal}
-use Rattle.cqa_model.specs.Refusal.{IsRefusedAs}
-use Rattle.table_blocks.specs.Tables.{table_named, kinds_at, insert_fault}
+use Rattle.refusals.specs.declared.refusal.Refusal.{Refusal}
+use Rattle.refusals.specs.Refusal.{IsRefusedAs}
+use Rattle.table_blocks.specs.Tables.{table_named, kinds_at}
+use Rattle.table_changes.specs.Changes.{insert_fault}
 use Rattle.csv_rows.specs.Blocks.{HoldsRows, IsRefusedRecord}
 use Rattle.reply_text.specs.declared.reply.Reply.{Reply}
 use Rattle.cqa_session.specs.State.{State}

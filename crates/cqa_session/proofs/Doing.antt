@@ -3,10 +3,10 @@ use Rattle.std.proofs.Common.{◌≡◌, inl, ℕ, List, Option, Some, None, IsN
 use Rattle.std.specs.Option.{option_map_or}
 use Rattle.cqa_value.specs.declared.memory.Fail.{Fail}
 use Rattle.cqa_value.specs.declared.memory.Fail.TheVariants as fails
-use Rattle.cqa_model.specs.declared.refusal.Refusal.{Refusal}
-use Rattle.cqa_model.specs.declared.refusal.Refusal.TheVariants.{UnknownTable}
+use Rattle.refusals.specs.declared.refusal.Refusal.{Refusal}
+use Rattle.refusals.specs.declared.refusal.Refusal.TheVariants.{UnknownTable}
 use Rattle.cqa_model.specs.Database.{Table}
-use Rattle.cqa_model.specs.Refusal.{IsRefusedAs}
+use Rattle.refusals.specs.Refusal.{IsRefusedAs}
 use Rattle.table_blocks.specs.Tables.{table_named}
 use Rattle.reply_text.specs.declared.reply.Reply.{Reply}
 use Rattle.cqa_session.specs.State.{State}

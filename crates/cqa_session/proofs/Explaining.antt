@@ -6,10 +6,10 @@ use Rattle.cqa_value.specs.declared.value.Value.{Value}
 use Rattle.cqa_model.specs.declared.query.Query.{Query}
 use Rattle.cqa_model.specs.declared.query.RowId.{RowId}
 use Rattle.cqa_model.specs.declared.schema.Schema.{Schema}
-use Rattle.cqa_model.specs.declared.refusal.Refusal.{Refusal}
+use Rattle.refusals.specs.declared.refusal.Refusal.{Refusal}
 use Rattle.cqa_model.specs.Database.{Table}
-use Rattle.row_reasons.specs.declared.reason.Reason.TheVariants as reasons
-use Rattle.row_reasons.specs.Reasons.{IsReason}
+use Rattle.query_strategy.specs.declared.reason.Reason.TheVariants as reasons
+use Rattle.cqa_session.specs.Reasons.{IsReason}
 use Rattle.query_resolve.specs.Checks.{answer_fault, query_fault}
 use Rattle.query_resolve.specs.Resolved.{IsQueryOf}
 use Rattle.spj_syntax.specs.declared.tree.Select.{Select}
@@ -18,7 +18,8 @@ use Rattle.reply_text.specs.declared.reply.Reply.{Reply}
 use Rattle.reply_text.specs.declared.reply.Reply.TheVariants as replies
 use Rattle.cqa_session.specs.State.{State}
 use Rattle.cqa_session.specs.Replying.{Replies, IsOutcome}
-use Rattle.cqa_session.specs.Statements.Explain.{name_at, kept_line, MayTell, Explains}
+use Rattle.cqa_session.specs.Statements.Kept.{name_at, kept_line}
+use Rattle.cqa_session.specs.Statements.Explain.{MayTell, Explains}
 
 -- the name of a table is that of its schema
 pub named : (db : List Table) (table : ℕ) (schema : Schema) → table < length db → IfSome (slice_get db table) (λ t. schema ≡ t.schema) → schema.name ≡ name_at db table

@@ -5,10 +5,10 @@ use Rattle.cqa_value.specs.declared.memory.Fail.TheVariants as fails
 use Rattle.script_lex.proofs.Spelling.{spells_same, fault_same, spelled_no_fault}
 use Rattle.spj_syntax.specs.declared.fault.SyntaxFault.{SyntaxFault}
 use Rattle.spj_syntax.specs.declared.tree.Statement.{Statement}
-use Rattle.spj_syntax.specs.Parsed.{lexemes, Refuses}
+use Rattle.spj_syntax.specs.Parsed.{lexemes, RefusesTokens}
 use Rattle.spj_syntax.specs.Written.{IsWrittenAs}
 use Rattle.spj_syntax.proofs.Answered.{only_statement, only_fault}
-use Rattle.cqa_model.specs.declared.refusal.Refusal.{Refusal}
+use Rattle.refusals.specs.declared.refusal.Refusal.{Refusal}
 use Rattle.reply_text.specs.declared.reply.Reply.{Reply}
 use Rattle.cqa_session.specs.State.{State}
 use Rattle.cqa_session.specs.Saying.{of_lexing, of_parsing, HasNoStatement, HasStatement, Says, IsReadAs, SaysOneThing}
@@ -22,7 +22,7 @@ same_statement text s t a b =
 
 no_refusal : (text : List ℕ) (s : Statement) (refusal : Refusal) → HasStatement text s → HasNoStatement text refusal → ⊥
 no_refusal text s refusal a b =
-    only_fault text a.tokens (Ok s) (a.allowed, a.fit, a.written) b.fault (subst (λ tokens. Refuses text tokens b.fault) (spells_same b.spelled a.spelled) b.cause)
+    only_fault text a.tokens (Ok s) (a.allowed, a.fit, a.written) b.fault (subst (λ tokens. RefusesTokens text tokens b.fault) (spells_same b.spelled a.spelled) b.cause)
 
 refused_once : (f g : SyntaxFault) → ((fails.Refused f ≡ fails.Refused g) ⊎ (fails.Refused f ≡ fails.NoMemory)) → f ≡ g
 refused_once f g (inl e) = (cc)
@@ -39,7 +39,7 @@ says_same text (Err r) (Err q) (inl a) (inl b) = ap Err (a.is ∙ ap of_lexing (
 says_same text (Err r) (Err q) (inl a) (inr b) = absurd (spelled_no_fault text b.tokens a.fault b.short b.spelled a.cause)
 says_same text (Err r) (Err q) (inr a) (inl b) = absurd (spelled_no_fault text a.tokens b.fault a.short a.spelled b.cause)
 says_same text (Err r) (Err q) (inr a) (inr b) =
-    let other = subst (λ tokens. Refuses text tokens b.fault) (spells_same b.spelled a.spelled) b.cause in
+    let other = subst (λ tokens. RefusesTokens text tokens b.fault) (spells_same b.spelled a.spelled) b.cause in
     ap Err (a.is ∙ ap of_parsing (refused_once a.fault b.fault (only_fault text a.tokens (Err (fails.Refused a.fault)) a.cause b.fault other)) ∙ sym b.is)
 
 -- what a text says decides the reply, whatever else it may say

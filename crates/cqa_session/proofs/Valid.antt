@@ -10,7 +10,7 @@ use Rattle.cqa_model.proofs.Classic.{mem-head, mem-tail, mem-nil, mem-cases}
 use Rattle.spj_syntax.specs.declared.tree.RawSchema.{RawSchema}
 use Rattle.spj_syntax.specs.declared.tree.Change.{Change}
 use Rattle.spj_syntax.specs.declared.tree.Change.TheVariants.{SetStrict, DropStrict, SetKey}
-use Rattle.table_blocks.specs.Tables.{with_rows, with_mark, IsStored, IsRekeyed}
+use Rattle.table_blocks.specs.Tables.{with_rows, with_mark, AreValidTables, IsRekeyed}
 use Rattle.query_resolve.specs.Resolved.{IsSchemaOf}
 use Rattle.reply_text.specs.declared.reply.Proof.{Proof}
 use Rattle.cqa_session.specs.State.{IsState}
@@ -20,7 +20,7 @@ use Rattle.cqa_session.specs.Statements.Alter.{Changes}
 abbrev pub AreNamed : List Table → Type 0
 AreNamed db = (table : Table) → Contains db table → HasNames table.schema
 
-pub state_of : (tables : List Table) (budget : ℕ) (log : Option Proof) → IsStored tables → AreNamed tables → budget ≤ 4_294_967_295 → IsState (record { tables = tables; budget = budget; last_log = log })
+pub state_of : (tables : List Table) (budget : ℕ) (log : Option Proof) → AreValidTables tables → AreNamed tables → budget ≤ 4_294_967_295 → IsState (record { tables = tables; budget = budget; last_log = log })
 state_of tables budget log stored named few = record { database = stored.database; valid = λ table m. record { names = named table m; values = stored.valid table m }; budget = few }
 
 pub named_in : (db : List Table) → AreValid db → AreNamed db

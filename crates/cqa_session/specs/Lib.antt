@@ -2,6 +2,7 @@ pub mod State
 pub mod Saying
 pub mod Replying
 pub mod AttackLines
+pub mod Reasons
 pub mod Statements
 pub mod Machine
 pub mod Runs

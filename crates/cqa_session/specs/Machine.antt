@@ -6,7 +6,7 @@ use Rattle.spj_syntax.specs.declared.tree.Select.{Select}
 use Rattle.spj_syntax.specs.declared.tree.Verb.{Verb}
 use Rattle.spj_syntax.specs.declared.tree.Verb.TheVariants as verbs
 use Rattle.query_resolve.specs.Checks.{schema_fault, query_fault}
-use Rattle.cqa_model.specs.declared.refusal.Refusal.{Refusal}
+use Rattle.refusals.specs.declared.refusal.Refusal.{Refusal}
 use Rattle.reply_text.specs.declared.reply.Reply.{Reply}
 use Rattle.reply_text.specs.declared.reply.Reply.TheVariants.{Refused}
 use Rattle.cqa_session.specs.State.{State}
@@ -17,6 +17,7 @@ use Rattle.cqa_session.specs.Statements.Alter.{alter_fault, Alters}
 use Rattle.cqa_session.specs.Statements.Insert.{insert_into_fault, InsertsInto}
 use Rattle.cqa_session.specs.Statements.Delete.{delete_from_fault, DeletesFrom}
 use Rattle.cqa_session.specs.Statements.Copy.{copy_into_fault, CopiesInto}
+use Rattle.cqa_session.specs.Statements.Range.{range_fault, TellsRange}
 use Rattle.cqa_session.specs.Statements.Ask.{AnswersCertain}
 use Rattle.cqa_session.specs.Statements.Possible.{AnswersPossible}
 use Rattle.cqa_session.specs.Statements.Classify.{Classifies}
@@ -46,6 +47,7 @@ fault_in old (statements.Alter name change) block = alter_fault old.tables name 
 fault_in old (statements.Insert name rows) block = insert_into_fault old.tables name rows
 fault_in old (statements.Delete name tests) block = delete_from_fault old.tables name tests
 fault_in old (statements.Copy name) block = copy_into_fault old.tables name
+fault_in old (statements.Range goal name tests) block = range_fault old.tables name goal tests
 fault_in old (statements.Asking verb select) block = query_fault old.tables select
 fault_in old (statements.SetConflicts conflicts) block = None
 fault_in old statements.ShowTables block = None
@@ -58,6 +60,7 @@ Executes old (statements.Alter name change) block reply new = Alters old name ch
 Executes old (statements.Insert name rows) block reply new = InsertsInto old name rows reply new
 Executes old (statements.Delete name tests) block reply new = DeletesFrom old name tests reply new
 Executes old (statements.Copy name) block reply new = CopiesInto old name block reply new
+Executes old (statements.Range goal name tests) block reply new = TellsRange old name goal tests reply new
 Executes old (statements.Asking verb select) block reply new = Asks old verb select reply new
 Executes old (statements.SetConflicts conflicts) block reply new = SetsConflicts old conflicts reply new
 Executes old statements.ShowTables block reply new = ShowsTables old reply new

@@ -4,8 +4,8 @@ use Rattle.std.specs.Option.{option_map_or}
 use Rattle.cqa_value.specs.declared.memory.Fail.{Fail}
 use Rattle.cqa_value.specs.declared.memory.Fail.TheVariants as fails
 use Rattle.cqa_model.specs.Database.{Table}
-use Rattle.cqa_model.specs.declared.refusal.Refusal.{Refusal}
-use Rattle.cqa_model.specs.declared.refusal.Refusal.TheVariants.{UnknownTable}
+use Rattle.refusals.specs.declared.refusal.Refusal.{Refusal}
+use Rattle.refusals.specs.declared.refusal.Refusal.TheVariants.{UnknownTable}
 use Rattle.table_blocks.specs.Tables.{table_named}
 use Rattle.reply_text.specs.declared.reply.Reply.{Reply}
 use Rattle.reply_text.specs.declared.reply.Reply.TheVariants.{Refused}

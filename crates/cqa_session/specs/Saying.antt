@@ -9,11 +9,11 @@ use Rattle.script_lex.specs.Tokens.{Spells, IsFault, longest_text}
 use Rattle.spj_syntax.specs.declared.fault.SyntaxFault.{SyntaxFault}
 use Rattle.spj_syntax.specs.declared.fault.SyntaxFault.TheVariants as parsing
 use Rattle.spj_syntax.specs.declared.tree.Statement.{Statement}
-use Rattle.spj_syntax.specs.Parsed.{lexemes, IsStatement, AllFit, Refuses}
+use Rattle.spj_syntax.specs.Parsed.{lexemes, IsStatement, AllLexemesFit, RefusesTokens}
 use Rattle.spj_syntax.specs.Written.{IsWrittenAs}
-use Rattle.cqa_model.specs.declared.refusal.Refusal.{Refusal}
-use Rattle.cqa_model.specs.declared.refusal.Refusal.TheVariants.{BadByte, Syntax, StatementTooLong, OutOfRange, TextTooLong, Limit}
-use Rattle.cqa_model.specs.declared.refusal.LimitKind.TheVariants.{Name}
+use Rattle.refusals.specs.declared.refusal.Refusal.{Refusal}
+use Rattle.refusals.specs.declared.refusal.Refusal.TheVariants.{BadByte, Syntax, StatementTooLong, OutOfRange, TextTooLong, Limit}
+use Rattle.refusals.specs.declared.refusal.LimitKind.TheVariants.{Name}
 
 -- the refusal that a fault of the tokens, or of the parser, becomes
 abbrev pub of_lexing : LexFault → Refusal
@@ -38,7 +38,7 @@ pub record HasNoStatement (text : List ℕ) (refusal : Refusal) : Type 0 where
   pub short : length text ≤ longest_text
   pub spelled : Spells text tokens
   pub fault : SyntaxFault
-  pub cause : Refuses text tokens fault
+  pub cause : RefusesTokens text tokens fault
   pub is : refusal ≡ of_parsing fault
 
 -- its tokens are this statement
@@ -47,7 +47,7 @@ pub record HasStatement (text : List ℕ) (statement : Statement) : Type 0 where
   pub short : length text ≤ longest_text
   pub spelled : Spells text tokens
   pub allowed : IsStatement (lexemes text tokens)
-  pub fit : AllFit (lexemes text tokens)
+  pub fit : AllLexemesFit (lexemes text tokens)
   pub written : IsWrittenAs statement (lexemes text tokens)
 
 -- the statement that a text is, or the first of the checks on its form that fails

@@ -5,12 +5,14 @@ pub mod Insert
 pub mod Delete
 pub mod Copy
 pub mod Spent
+pub mod Kept
 pub mod Ask
 pub mod Possible
 pub mod Classify
 pub mod Plan
 pub mod Sql
 pub mod Explain
+pub mod Range
 pub mod SetConflicts
 pub mod ShowTables
 pub mod Dump

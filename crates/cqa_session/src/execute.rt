@@ -19,12 +19,13 @@ use crate::statements::explain::explain;
 use crate::statements::insert::insert;
 use crate::statements::plan::plan;
 use crate::statements::possible::possible;
+use crate::statements::range::range;
 use crate::statements::set_conflicts::set_conflicts;
 use crate::statements::show_log::show_log;
 use crate::statements::show_tables::show_tables;
 use crate::statements::sql::sql;
-use cqa_model::Refusal;
 use cqa_value::Fail;
+use refusals::Refusal;
 use reply_text::Reply;
 use spj_syntax::{Select, Statement, Verb};
 use std::alloc::Global;
@@ -88,6 +89,13 @@ pub fn execute(
         Statement::Copy { table } => {
             let reply = copy(alloc, session, &table, block);
             drop(table);
+            reply
+        }
+        Statement::Range { goal, table, tests } => {
+            let reply = range(alloc, session, &table, &goal, tests.as_slice());
+            drop(goal);
+            drop(table);
+            drop(tests);
             reply
         }
         Statement::Asking { verb, select } => {

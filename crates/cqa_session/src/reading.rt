@@ -7,8 +7,8 @@ ghost use Rattle.spj_syntax.specs.Written.{IsSmall};
 ghost use Rattle.cqa_model.specs.declared.limits.TheConstants.{LONGEST_INPUT};
 ghost use Rattle.cqa_session.specs.Saying.{of_lexing, of_parsing, IsReadAs};
 
-use cqa_model::{LimitKind, Refusal};
 use cqa_value::Fail;
+use refusals::{LimitKind, Refusal};
 use script_lex::{LexFault, Token, tokens};
 use spj_syntax::{Statement, SyntaxFault, parse};
 use std::alloc::Global;

@@ -3,7 +3,7 @@
 ghost use Rattle.std.specs.Prelude.{◌≡◌, ◌≤◌, IfOk, OnErr, Option, Some, Result, length};
 ghost use Rattle.std.specs.Option.{option_copied};
 ghost use Rattle.spj_syntax.specs.declared.tree.Statement.{Statement};
-ghost use Rattle.cqa_model.specs.declared.refusal.Refusal.{Refusal as RefusalValue};
+ghost use Rattle.refusals.specs.declared.refusal.Refusal.{Refusal as RefusalValue};
 ghost use Rattle.cqa_model.specs.declared.limits.TheConstants.{LONGEST_INPUT};
 ghost use Rattle.cqa_session.specs.State.{opening_with, IsState};
 ghost use Rattle.cqa_session.specs.Saying.{Says, SaysOneThing};
@@ -12,8 +12,8 @@ ghost use Rattle.cqa_session.specs.Machine.{Does, Step};
 
 use crate::execute::execute;
 use crate::reading::read;
-use cqa_model::Refusal;
 use cqa_value::{Fail, NoMemory};
+use refusals::Refusal;
 use reply_text::{Proof, Reply};
 use std::alloc::Global;
 use std::marker::Model;

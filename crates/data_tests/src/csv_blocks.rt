@@ -1,9 +1,10 @@
 //! Blocks of one column, read and written again.
 
 use crate::making::one_column;
-use cqa_model::{Refusal, Schema};
+use cqa_model::Schema;
 use cqa_value::{Fail as Fault, Kind};
 use csv_rows::{read_rows, write_rows};
+use refusals::Refusal;
 use std::alloc::Global;
 use std::test::Fail;
 

@@ -14,6 +14,8 @@ mod many;
 #[cfg(test)]
 mod pieces;
 #[cfg(test)]
+mod ranges;
+#[cfg(test)]
 mod replies;
 #[cfg(test)]
 mod scripts;

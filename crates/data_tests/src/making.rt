@@ -4,8 +4,9 @@ ghost use Rattle.std.specs.Prelude.{◌≡◌, ◌≤◌, ◌∷◌, [], IfOk, l
 ghost use Rattle.cqa_value.specs.declared.value.Value.TheVariants.{Int, Text};
 ghost use Rattle.cqa_model.specs.Shape.{IsSchema};
 
-use cqa_model::{Column, Refusal, Schema};
+use cqa_model::{Column, Schema};
 use cqa_value::{Fail, Items, Kind, Name, NameFault, NoMemory, Row, Value};
+use refusals::Refusal;
 use std::alloc::Global;
 use table_blocks::Database;
 
@@ -120,7 +121,7 @@ pub fn database(alloc: Global, schema: Schema) -> Result<Database, Fail<NameFaul
 /// Puts rows into the table of such a database, and gives how many were new.
 pub fn insert(db: &mut Database, rows: Items<Row>) -> Result<u32, Fail<Refusal>> {
     if db.count() == 1 && rows.len() <= 1_000_000 {
-        return db.insert(0, rows);
+        return table_changes::insert(db, 0, rows);
     }
     drop(rows);
     Err(Fail::NoMemory)

@@ -5,10 +5,11 @@ ghost use Rattle.table_blocks.specs.Tables.{key_at};
 
 use crate::making::{database, insert, numbers, one_column};
 use cqa_value::{Fail, Items, Kind, NameFault, Value};
+use row_order::Probe;
 use std::alloc::Global;
 use std::marker::Brand;
 use std::sync::ledger::{Blank, Ledger};
-use table_blocks::{Database, Probe, Steps};
+use table_blocks::{Database, Steps};
 
 /// How many rows the table has, which are the most of a database.
 const MANY: i64 = 1_000_000;

@@ -1,7 +1,7 @@
 //! Replies that no statement of today gets, or none of few bytes.
 
-use cqa_model::{LimitKind, Refusal};
 use cqa_value::{NoMemory, Row};
+use refusals::{LimitKind, Refusal};
 use reply_text::{Reply, reply_bytes};
 use std::alloc::Global;
 use std::test::Fail as TestFail;

@@ -4,8 +4,8 @@ ghost use Rattle.std.specs.Prelude.{◌<◌, IfOk};
 ghost use Rattle.table_blocks.specs.Keys.{IsKey};
 
 use crate::making::{column, insert, rows_of, schema, stand_so, two};
-use cqa_model::Refusal;
 use cqa_value::{Fail, Items, Kind, NameFault, NoMemory, Row, Value};
+use refusals::Refusal;
 use std::alloc::Global;
 use table_blocks::Database;
 
@@ -68,7 +68,7 @@ fn set_strict(db: &mut Database) -> Answer {
     if db.count() != 1 {
         return Answer::Other;
     }
-    match db.set_strict(0) {
+    match table_changes::set_strict(db, 0) {
         Ok(()) => Answer::Done(db.row_total()),
         Err(fail) => refused(&fail),
     }
@@ -92,7 +92,7 @@ fn set_key(db: &mut Database, key: Items<u32>) -> Answer
     if db.count() != 1 || db.schema(0).columns.as_slice().len() != 2 {
         return Answer::Other;
     }
-    match db.set_key(0, key) {
+    match table_changes::set_key(db, 0, key) {
         Ok(()) => Answer::Done(db.row_total()),
         Err(fail) => refused(&fail),
     }

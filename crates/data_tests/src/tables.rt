@@ -5,10 +5,11 @@ ghost use Rattle.table_blocks.specs.Tables.{key_at, rows_at};
 
 use crate::making::{column, insert, place_of_given, rows_of, schema, stand_so, text, two};
 use cqa_value::{Fail, Kind, NameFault, Value};
+use row_order::Probe;
 use std::alloc::Global;
 use std::marker::Brand;
 use std::sync::ledger::{Blank, Ledger};
-use table_blocks::{Database, Probe, Steps};
+use table_blocks::{Database, Steps};
 
 /// A number and a text, as the tables of cases write a row.
 type Pair = (i64, &'static str);

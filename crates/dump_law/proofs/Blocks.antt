@@ -10,7 +10,7 @@ use Rattle.cqa_value.specs.Valid.{IsValidValue}
 use Rattle.cqa_value.proofs.Words.{mem-tail, mem-head, clash, Contains-filter}
 use Rattle.cqa_value.proofs.Integers.{fits_to}
 use Rattle.script_lex.specs.Bytes.{is_not_line_feed, is_digit, AllPass}
-use Rattle.script_lex.specs.Scripts.{IsEndingLine, IsBlockLine, lines_text, IsBlock}
+use Rattle.script_lex.specs.Scripts.{IsEndingLine, IsBlockLine, lines_text, IsCopyBlock}
 use Rattle.script_lex.proofs.Runs.{AllPass-push}
 use Rattle.csv_rows.specs.Ends.{begins_with_end, has_end, value_has_end, row_has_end, plain_rows}
 use Rattle.csv_rows.specs.Texts.{doubled, field_bytes, record_bytes, rows_bytes, value_bytes}
@@ -165,7 +165,7 @@ records_lines [] a = no_lines
 records_lines (fields ∷ records) a = record_lines fields (flat_map record_bytes records) a.0 (records_lines records a.1)
 
 -- lines, an ending line and a rest
-pub block_is : (ended : Bool) (block rest : List ℕ) → AreLines block → IsBlock ended (block ++ (codes "\\.\n" ++ rest)) block rest
+pub block_is : (ended : Bool) (block rest : List ℕ) → AreLines block → IsCopyBlock ended (block ++ (codes "\\.\n" ++ rest)) block rest
 block_is ended block rest h = record {
   lines = h.lines;
   each = h.each;

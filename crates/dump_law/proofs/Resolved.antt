@@ -9,13 +9,13 @@ use Rattle.std.specs.Cmp.Lexicographic.{pointwise}
 use Rattle.std.specs.List.{AllByRecursion, position}
 use Rattle.std.proofs.lemmas.Option.{same_Some}
 use Rattle.cqa_value.specs.declared.value.Kind.TheVariants.{Int}
-use Rattle.cqa_model.specs.declared.refusal.Refusal.{Refusal}
-use Rattle.cqa_model.specs.declared.refusal.Refusal.TheVariants.{TableExists, DuplicateColumn, BadKey, Limit}
-use Rattle.cqa_model.specs.declared.refusal.LimitKind.TheVariants.{Tables, Columns}
+use Rattle.refusals.specs.declared.refusal.Refusal.{Refusal}
+use Rattle.refusals.specs.declared.refusal.Refusal.TheVariants.{TableExists, DuplicateColumn, BadKey, Limit}
+use Rattle.refusals.specs.declared.refusal.LimitKind.TheVariants.{Tables, Columns}
 use Rattle.cqa_model.specs.declared.schema.Column.{Column}
 use Rattle.cqa_model.specs.declared.schema.Schema.{Schema}
 use Rattle.cqa_model.specs.Database.{Table, names_of}
-use Rattle.cqa_model.specs.Refusal.{first_of}
+use Rattle.refusals.specs.Refusal.{first_of}
 use Rattle.cqa_model.specs.Shape.{column_at, IsSchema}
 use Rattle.cqa_model.specs.Valid.{HasNames}
 use Rattle.table_blocks.specs.Tables.{table_named}

@@ -13,14 +13,18 @@ use Rattle.cqa_value.specs.Values.{kind_of, row_eq, row_decides}
 use Rattle.cqa_value.proofs.Words.{mem-tail, mem-cases, mem-head, mem-nil, clash_not, Contains-filter}
 use Rattle.cqa_model.specs.declared.schema.Schema.{Schema}
 use Rattle.cqa_model.specs.Database.{Table, IsRowOf, AreConsistent, block_cmp, kinds_of, row_total}
-use Rattle.cqa_model.specs.Refusal.{first_of}
-use Rattle.table_blocks.specs.Keys.{same_key, first_other, taken_by, taken_fault}
-use Rattle.table_blocks.specs.Tables.{rows_at, key_at, mark_at, kinds_at, with_rows, is_among, count_new, same_kind, kind_fault, row_fault, rows_fault, key_fault, insert_fault, IsMerged, Inserts}
-use Rattle.table_blocks.proofs.Counting.{counted}
-use Rattle.table_blocks.proofs.Inserting.{valid_insert}
-use Rattle.table_blocks.proofs.Membership.{among}
-use Rattle.table_blocks.proofs.Reordering.{ordered_once}
-use Rattle.table_blocks.proofs.Sharing.{none_passes, same_decides}
+use Rattle.refusals.specs.Refusal.{first_of}
+use Rattle.table_blocks.specs.Keys.{same_key}
+use Rattle.table_changes.specs.Taken.{first_other, taken_by, taken_fault}
+use Rattle.table_blocks.specs.Tables.{rows_at, key_at, mark_at, kinds_at, with_rows, IsMerged}
+use Rattle.table_changes.specs.Changes.{is_among, count_new, key_fault, insert_fault, Inserts}
+use Rattle.refusals.specs.Kinds.{same_kind, kind_fault, row_fault, rows_fault}
+use Rattle.table_changes.proofs.Counting.{counted}
+use Rattle.table_changes.proofs.Inserting.{valid_insert}
+use Rattle.table_changes.proofs.Membership.{among}
+use Rattle.row_order.proofs.Reordering.{ordered_once}
+use Rattle.table_changes.proofs.FirstSharing.{none_passes}
+use Rattle.table_blocks.proofs.Sharing.{same_decides}
 use Rattle.table_blocks.proofs.Changing.{total_push}
 use Rattle.script_lex.proofs.FirstBytes.{eq_true}
 

@@ -10,8 +10,8 @@ use Rattle.cqa_value.specs.declared.value.Value.{Value}
 use Rattle.cqa_value.specs.Values.{kind_of}
 use Rattle.cqa_value.specs.Valid.{IsValidValue, IsValidRow}
 use Rattle.cqa_value.proofs.Words.{mem-cases, mem-nil}
-use Rattle.cqa_model.specs.declared.refusal.Refusal.{Refusal}
-use Rattle.cqa_model.specs.declared.refusal.Refusal.TheVariants.{UnknownTable}
+use Rattle.refusals.specs.declared.refusal.Refusal.{Refusal}
+use Rattle.refusals.specs.declared.refusal.Refusal.TheVariants.{UnknownTable}
 use Rattle.cqa_model.specs.declared.schema.Schema.{Schema}
 use Rattle.cqa_model.specs.Database.{Table, IsRowOf, AreConsistent, block_cmp, kinds_of, row_total}
 use Rattle.cqa_model.specs.Text.{schema_bytes}
@@ -24,7 +24,8 @@ use Rattle.spj_syntax.specs.Grammar.{statement}
 use Rattle.spj_syntax.specs.Parsed.{Fits, is_set}
 use Rattle.spj_syntax.specs.Written.{statement_tokens}
 use Rattle.script_lex.specs.Tokens.{tokens_of}
-use Rattle.table_blocks.specs.Tables.{table_named, kinds_at, rows_at, count_new, insert_fault, Inserts}
+use Rattle.table_blocks.specs.Tables.{table_named, kinds_at, rows_at}
+use Rattle.table_changes.specs.Changes.{count_new, insert_fault, Inserts}
 use Rattle.csv_rows.specs.Blocks.{HoldsRows}
 use Rattle.csv_rows.specs.Texts.{rows_bytes}
 use Rattle.csv_rows.proofs.Again.{rows_again}

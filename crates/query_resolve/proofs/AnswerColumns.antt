@@ -9,13 +9,13 @@ use Rattle.cqa_value.specs.Values.{kind_of}
 use Rattle.cqa_model.specs.declared.query.Atom.{Atom}
 use Rattle.cqa_model.specs.declared.query.ColRef.{ColRef}
 use Rattle.cqa_model.specs.declared.query.Query.{Query}
-use Rattle.cqa_model.specs.declared.refusal.Refusal.{Refusal}
-use Rattle.cqa_model.specs.declared.refusal.Refusal.TheVariants.{TypeMismatch}
-use Rattle.cqa_model.specs.declared.refusal.Place.TheVariants.{Cell}
+use Rattle.refusals.specs.declared.refusal.Refusal.{Refusal}
+use Rattle.refusals.specs.declared.refusal.Refusal.TheVariants.{TypeMismatch}
+use Rattle.refusals.specs.declared.refusal.Place.TheVariants.{Cell}
 use Rattle.cqa_model.specs.Database.{Table}
 use Rattle.cqa_model.specs.Shape.{IsInRange, column_at, nth_atom}
 use Rattle.cqa_model.specs.Query.{kind_at, FitsDatabase}
-use Rattle.table_blocks.specs.Tables.{same_kind, cell_fault}
+use Rattle.refusals.specs.Kinds.{same_kind, cell_fault}
 use Rattle.query_resolve.specs.Names.{columns_at}
 use Rattle.query_resolve.specs.Checks.{fault_unless}
 use Rattle.query_resolve.proofs.Queries.{kinds_stored, wide}

@@ -9,10 +9,10 @@ use Rattle.std.proofs.lemmas.List.{get_or-take, length-take-le, append-nil}
 use Rattle.std.proofs.lemmas.List.Sums.{fails_before_first}
 use Rattle.std.proofs.lemmas.List.Quantifiers.{position-Some}
 use Rattle.std.proofs.lemmas.Option.{none-some}
-use Rattle.table_blocks.proofs.Faults.{both_none}
+use Rattle.refusals.proofs.Faults.{both_none}
 use Rattle.cqa_value.specs.declared.value.Kind.TheVariants.{Int}
 use Rattle.cqa_model.specs.declared.schema.Column.{Column}
-use Rattle.cqa_model.specs.declared.refusal.Refusal.{Refusal}
+use Rattle.refusals.specs.declared.refusal.Refusal.{Refusal}
 use Rattle.query_resolve.specs.Names.{column_named}
 use Rattle.query_resolve.specs.Checks.{fault_unless, first_fault}
 

@@ -8,8 +8,8 @@ use Rattle.std.proofs.Math.Seq.{drop-cons, take-suc}
 use Rattle.cqa_value.specs.declared.memory.Fail.{Fail}
 use Rattle.cqa_value.specs.declared.memory.Fail.TheVariants.{NoMemory, Refused}
 use Rattle.cqa_value.proofs.Words.{all_zip_push}
-use Rattle.cqa_model.specs.declared.refusal.Refusal.{Refusal}
-use Rattle.cqa_model.specs.Refusal.{first_of, IsRefusedAs, Checked}
+use Rattle.refusals.specs.declared.refusal.Refusal.{Refusal}
+use Rattle.refusals.specs.Refusal.{first_of, IsRefusedAs, Checked}
 use Rattle.query_resolve.specs.Checks.{first_fault, by_number}
 
 -- a refusal by the first of two checks, or by the second where the first passes

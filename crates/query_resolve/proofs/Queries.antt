@@ -12,9 +12,9 @@ use Rattle.cqa_model.specs.declared.query.ColRef.{ColRef}
 use Rattle.cqa_model.specs.declared.query.Cond.{Cond}
 use Rattle.cqa_model.specs.declared.query.Cond.TheVariants.{Join, Test}
 use Rattle.cqa_model.specs.declared.query.Query.{Query}
-use Rattle.cqa_model.specs.declared.refusal.Refusal.TheVariants.{UnknownTable, SelfJoin, TypeMismatch, Limit}
-use Rattle.cqa_model.specs.declared.refusal.Place.TheVariants.{Condition}
-use Rattle.cqa_model.specs.declared.refusal.LimitKind.TheVariants.{Atoms, Answer}
+use Rattle.refusals.specs.declared.refusal.Refusal.TheVariants.{UnknownTable, SelfJoin, TypeMismatch, Limit}
+use Rattle.refusals.specs.declared.refusal.Place.TheVariants.{Condition}
+use Rattle.refusals.specs.declared.refusal.LimitKind.TheVariants.{Atoms, Answer}
 use Rattle.cqa_model.specs.Database.{Table, IsDatabase, kinds_of, column_kinds, keys_of}
 use Rattle.cqa_model.specs.Shape.{IsAtom, IsQuery, IsInRange, columns_of, column_at, nth_atom}
 use Rattle.cqa_model.specs.Query.{KindsAgree, kind_at}
@@ -24,9 +24,9 @@ use Rattle.spj_syntax.specs.declared.tree.RawCol.{RawCol}
 use Rattle.spj_syntax.specs.declared.tree.RawCond.{RawCond}
 use Rattle.spj_syntax.specs.declared.tree.RawCond.TheVariants.{Join as WrittenJoin, Test as WrittenTest}
 use Rattle.spj_syntax.specs.declared.tree.Select.{Select}
-use Rattle.cqa_model.specs.Refusal.{first_of}
+use Rattle.refusals.specs.Refusal.{first_of}
 use Rattle.table_blocks.specs.Tables.{table_named}
-use Rattle.table_blocks.proofs.Faults.{both_none}
+use Rattle.refusals.proofs.Faults.{both_none}
 use Rattle.query_resolve.specs.Names.{name_place, columns_at}
 use Rattle.query_resolve.specs.Checks.{fault_unless, first_fault, by_number, kinds_fault, from_fault, column_fault, column_kind, cond_fault, size_fault, where_fault}
 use Rattle.query_resolve.specs.Resolved.{IsAtomOf, IsColumnOf, IsCondOf, IsQueryOf}

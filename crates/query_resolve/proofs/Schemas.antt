@@ -5,17 +5,17 @@ use Rattle.std.specs.List.{AllZip}
 use Rattle.std.proofs.lemmas.Bool.{and_parts}
 use Rattle.cqa_value.specs.declared.value.Kind.TheVariants.{Int}
 use Rattle.cqa_model.specs.declared.schema.Column.{Column}
-use Rattle.cqa_model.specs.declared.refusal.Refusal.TheVariants.{TableExists, DuplicateColumn, BadKey, Limit}
-use Rattle.cqa_model.specs.declared.refusal.LimitKind.TheVariants.{Tables, Columns}
+use Rattle.refusals.specs.declared.refusal.Refusal.TheVariants.{TableExists, DuplicateColumn, BadKey, Limit}
+use Rattle.refusals.specs.declared.refusal.LimitKind.TheVariants.{Tables, Columns}
 use Rattle.cqa_model.specs.Database.{Table, names_of}
 use Rattle.cqa_model.specs.Shape.{AreDistinct, IsSchema, column_at}
 use Rattle.spj_syntax.specs.declared.tree.RawSchema.{RawSchema}
 use Rattle.cqa_value.specs.declared.memory.Fail.{Fail}
-use Rattle.cqa_model.specs.declared.refusal.Refusal.{Refusal}
-use Rattle.cqa_model.specs.Refusal.{first_of, Checked}
+use Rattle.refusals.specs.declared.refusal.Refusal.{Refusal}
+use Rattle.refusals.specs.Refusal.{first_of, Checked}
 use Rattle.table_blocks.specs.Keys.{IsKey}
 use Rattle.table_blocks.specs.Tables.{table_named, kinds_at}
-use Rattle.table_blocks.proofs.Faults.{both_none}
+use Rattle.refusals.proofs.Faults.{both_none}
 use Rattle.query_resolve.specs.Names.{name_place, column_named, has_column, columns_at}
 use Rattle.query_resolve.specs.Checks.{fault_unless, first_fault, table_fault, duplicate_fault, key_fault, names_fault, new_key_fault}
 use Rattle.query_resolve.specs.Resolved.{ArePlacesOf, IsKeyOf}

@@ -8,11 +8,11 @@ use Rattle.cqa_value.proofs.Words.{same_head, same_tail}
 use Rattle.cqa_model.specs.declared.schema.Column.{Column}
 use Rattle.cqa_model.specs.declared.query.Atom.{Atom}
 use Rattle.cqa_model.specs.declared.query.ColRef.{ColRef}
-use Rattle.cqa_model.specs.declared.refusal.Refusal.TheVariants.{UnknownTable, UnknownColumn, AmbiguousColumn}
+use Rattle.refusals.specs.declared.refusal.Refusal.TheVariants.{UnknownTable, UnknownColumn, AmbiguousColumn}
 use Rattle.cqa_model.specs.Database.{Table, names_of}
 use Rattle.cqa_model.specs.Shape.{column_at, nth_atom}
 use Rattle.spj_syntax.specs.declared.tree.RawCol.{RawCol}
-use Rattle.cqa_model.specs.Refusal.{first_of}
+use Rattle.refusals.specs.Refusal.{first_of}
 use Rattle.table_blocks.specs.Tables.{table_named}
 use Rattle.query_resolve.specs.Names.{name_place, column_named, has_column, kind_named, columns_at, columns_in, scope, atom_columns, having, owners, atom_scope, IsNextOwner}
 use Rattle.query_resolve.specs.Checks.{fault_unless, owner_fault, column_fault, column_kind, table_of}

@@ -1,25 +1,29 @@
--- The first failing check of a schema, of the key of an `alter`, of the tests of a `delete`, and of a query.
+-- The first failing check of a schema, of the key of an `alter`, of the tests of rows, of the goal of a `range`, and of a query.
 use Rattle.std.specs.Prelude.{ℕ, ◌+◌, Bool, nat_lt, nat_le, not, ◌&&◌, if◌then◌else◌, List, [], ◌∷◌, ◌++◌, length, map, Option, Some, None, is_some, is_none, slice_index_or}
 use Rattle.cqa_value.specs.declared.value.Kind.{Kind}
+use Rattle.cqa_value.specs.declared.value.Kind.TheVariants as kinds
 use Rattle.cqa_value.specs.declared.value.Value.{Value}
 use Rattle.cqa_value.specs.Values.{kind_of}
 use Rattle.cqa_model.specs.declared.schema.Column.{Column}
-use Rattle.cqa_model.specs.declared.refusal.Refusal.{Refusal}
-use Rattle.cqa_model.specs.declared.refusal.Refusal.TheVariants.{UnknownTable, TableExists, UnknownColumn, AmbiguousColumn, SelfJoin, TypeMismatch, DuplicateColumn, BadKey, Limit}
-use Rattle.cqa_model.specs.declared.refusal.Place.TheVariants.{Condition}
-use Rattle.cqa_model.specs.declared.refusal.LimitKind.TheVariants.{Tables, Columns, Atoms, Answer}
+use Rattle.refusals.specs.declared.refusal.Refusal.{Refusal}
+use Rattle.refusals.specs.declared.refusal.Refusal.TheVariants.{UnknownTable, TableExists, UnknownColumn, AmbiguousColumn, SelfJoin, TypeMismatch, DuplicateColumn, BadKey, Limit}
+use Rattle.refusals.specs.declared.refusal.Place.TheVariants.{Condition}
+use Rattle.refusals.specs.declared.refusal.LimitKind.TheVariants.{Tables, Columns, Atoms, Answer}
 use Rattle.cqa_model.specs.declared.limits.TheConstants.{MOST_TABLES, MOST_COLUMNS, MOST_ATOMS, MOST_ANSWER_COLUMNS}
 use Rattle.cqa_model.specs.Database.{Table}
 use Rattle.spj_syntax.specs.declared.tree.RawSchema.{RawSchema}
 use Rattle.spj_syntax.specs.declared.tree.RawTest.{RawTest}
+use Rattle.spj_syntax.specs.declared.tree.RawGoal.{RawGoal}
+use Rattle.spj_syntax.specs.declared.tree.RawGoal.TheVariants as goals
 use Rattle.spj_syntax.specs.declared.tree.RawCol.{RawCol}
 use Rattle.spj_syntax.specs.declared.tree.RawCond.{RawCond}
 use Rattle.spj_syntax.specs.declared.tree.RawCond.TheVariants.{Join, Test}
 use Rattle.spj_syntax.specs.declared.tree.Select.{Select}
 use Rattle.cqa_model.specs.declared.query.Query.{Query}
 use Rattle.cqa_model.specs.Query.{kind_at}
-use Rattle.cqa_model.specs.Refusal.{first_of}
-use Rattle.table_blocks.specs.Tables.{table_named, same_kind, row_fault}
+use Rattle.refusals.specs.Refusal.{first_of}
+use Rattle.table_blocks.specs.Tables.{table_named}
+use Rattle.refusals.specs.Kinds.{same_kind, row_fault}
 use Rattle.query_resolve.specs.Names.{name_place, has_column, kind_named, columns_at, columns_in, owners}
 
 -- the refusal of a check that fails
@@ -64,12 +68,24 @@ schema_fault db raw = first_of (table_fault db raw) (first_of (first_fault dupli
 abbrev pub new_key_fault : List Table → ℕ → List (List ℕ) → Option Refusal
 new_key_fault db table names = names_fault (columns_at db table) names
 
+-- a column of the name is there
+abbrev pub known_fault : List Column → List ℕ → Option Refusal
+known_fault columns name = fault_unless (has_column columns name) (UnknownColumn None name)
+
 -- the column of the test of a number is there and has the literal's kind
 abbrev pub test_fault : List Column → ℕ → RawTest → Option Refusal
-test_fault columns number test = first_of (fault_unless (has_column columns test.col) (UnknownColumn None test.col)) (kinds_fault number (kind_named columns test.col) (kind_of test.value))
+test_fault columns number test = first_of (known_fault columns test.col) (kinds_fault number (kind_named columns test.col) (kind_of test.value))
 
 abbrev pub tests_fault : List Table → ℕ → List RawTest → Option Refusal
 tests_fault db table tests = first_fault (by_number (test_fault (columns_at db table))) [] tests
+
+-- the column of a goal is there, and that of a sum is one of integers: else it is refused with the number 0, since tests have
+-- those from 1
+abbrev pub goal_fault : List Column → RawGoal → Option Refusal
+goal_fault columns goals.Count = None
+goal_fault columns (goals.Sum name) = first_of (known_fault columns name) (kinds_fault 0 (kind_named columns name) kinds.Int)
+goal_fault columns (goals.Min name) = known_fault columns name
+goal_fault columns (goals.Max name) = known_fault columns name
 
 -- a query's table is there, and the query hasn't named it before
 abbrev pub from_fault : List Table → List (List ℕ) → List ℕ → Option Refusal

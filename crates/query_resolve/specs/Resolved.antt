@@ -1,4 +1,4 @@
--- What schemas, tests and queries are once each name is resolved.
+-- What schemas, tests, goals and queries are once each name is resolved.
 use Rattle.std.specs.Prelude.{◌≡◌, ℕ, IsTrue, List, length, Option, Some, None}
 use Rattle.std.specs.List.{AllZip}
 use Rattle.cqa_model.specs.declared.schema.Schema.{Schema}
@@ -8,10 +8,14 @@ use Rattle.cqa_model.specs.declared.query.Atom.{Atom}
 use Rattle.cqa_model.specs.declared.query.ColRef.{ColRef}
 use Rattle.cqa_model.specs.declared.query.Cond.{Cond}
 use Rattle.cqa_model.specs.declared.query.Cond.TheVariants.{Join, Test}
+use Rattle.cqa_model.specs.declared.aggregate.Goal.{Goal}
+use Rattle.cqa_model.specs.declared.aggregate.Goal.TheVariants as goals
 use Rattle.cqa_model.specs.Database.{Table}
 use Rattle.cqa_model.specs.Query.{FitsDatabase}
 use Rattle.spj_syntax.specs.declared.tree.RawSchema.{RawSchema}
 use Rattle.spj_syntax.specs.declared.tree.RawTest.{RawTest}
+use Rattle.spj_syntax.specs.declared.tree.RawGoal.{RawGoal}
+use Rattle.spj_syntax.specs.declared.tree.RawGoal.TheVariants as written
 use Rattle.spj_syntax.specs.declared.tree.RawCol.{RawCol}
 use Rattle.spj_syntax.specs.declared.tree.RawCond.{RawCond}
 use Rattle.spj_syntax.specs.declared.tree.RawCond.TheVariants.{Join as WrittenJoin, Test as WrittenTest}
@@ -44,6 +48,14 @@ pub record IsTestOf (columns : List Column) (raw : RawTest) (test : ColumnTest) 
 -- one test for each, in order
 abbrev pub AreTestsOf : List Table → ℕ → List RawTest → List ColumnTest → Type 0
 AreTestsOf db table raw tests = AllZip (IsTestOf (columns_at db table)) raw tests
+
+-- the goal's column has its place among these; what is asked of it is kept
+abbrev pub IsGoalOf : List Column → RawGoal → Goal → Type 0
+IsGoalOf columns written.Count goals.Count = Unit {0}
+IsGoalOf columns (written.Sum name) (goals.Sum col) = column_named columns name ≡ Some col
+IsGoalOf columns (written.Min name) (goals.Min col) = column_named columns name ≡ Some col
+IsGoalOf columns (written.Max name) (goals.Max col) = column_named columns name ≡ Some col
+IsGoalOf columns raw goal = ⊥
 
 -- the atom of a name: the place, the width, the key and the mark of the table so named
 pub record IsAtomOf (db : List Table) (name : List ℕ) (atom : Atom) : Type 0 where

@@ -2,13 +2,14 @@
 
 ghost use Rattle.std.specs.Prelude.{◌≡◌, ◌<◌, Some, None, MatchResult, length, slice_get};
 ghost use Rattle.cqa_model.specs.Query.{FitsDatabase};
-ghost use Rattle.table_blocks.specs.Tables.{kind_fault};
+ghost use Rattle.refusals.specs.Kinds.{kind_fault};
 ghost use Rattle.query_resolve.specs.Checks.{answer_fault, answer_kinds};
 
 use crate::column::kind_of_column;
 use crate::faults::kind_mismatch;
-use cqa_model::{Place, Query, Refusal};
+use cqa_model::Query;
 use cqa_value::{Kind, Row};
+use refusals::{Place, Refusal};
 use table_blocks::Database;
 
 /// Whether a row has a value for each answer column, of the column's kind.

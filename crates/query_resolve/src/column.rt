@@ -4,15 +4,16 @@ ghost use Rattle.std.specs.Prelude.{◌≡◌, ◌<◌, ◌≤◌, [], Some, Non
 ghost use Rattle.std.specs.List.{AllZip};
 ghost use Rattle.cqa_model.specs.declared.limits.TheConstants.{MOST_ATOMS};
 ghost use Rattle.cqa_model.specs.Shape.{column_at, nth_atom};
-ghost use Rattle.cqa_model.specs.Refusal.{Checked};
+ghost use Rattle.refusals.specs.Refusal.{Checked};
 ghost use Rattle.query_resolve.specs.Names.{columns_at, atom_scope, having, IsNextOwner};
 ghost use Rattle.query_resolve.specs.Checks.{column_fault, column_kind, select_fault};
 ghost use Rattle.query_resolve.specs.Resolved.{IsAtomOf, IsColumnOf};
 
 use crate::faults::{unknown_column, unknown_table};
 use crate::names::{place_of_column, place_of_name, table_columns};
-use cqa_model::{Atom, ColRef, Refusal};
+use cqa_model::{Atom, ColRef};
 use cqa_value::{Fail, Items, Kind, Name};
+use refusals::Refusal;
 use spj_syntax::RawCol;
 use std::alloc::Global;
 use table_blocks::Database;

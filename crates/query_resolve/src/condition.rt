@@ -3,14 +3,15 @@
 ghost use Rattle.std.specs.Prelude.{◌<◌, ◌≤◌, ◌^◌, ⊤, length};
 ghost use Rattle.std.specs.List.{AllZip};
 ghost use Rattle.cqa_model.specs.declared.limits.TheConstants.{MOST_ATOMS};
-ghost use Rattle.cqa_model.specs.Refusal.{Checked};
+ghost use Rattle.refusals.specs.Refusal.{Checked};
 ghost use Rattle.query_resolve.specs.Checks.{kinds_fault, cond_fault, where_fault};
 ghost use Rattle.query_resolve.specs.Resolved.{IsAtomOf, IsCondOf};
 
 use crate::column::typed_column;
 use crate::faults::kind_mismatch;
-use cqa_model::{Atom, Cond, Place, Refusal};
+use cqa_model::{Atom, Cond};
 use cqa_value::{Fail, Items, Kind, Name};
+use refusals::{Place, Refusal};
 use spj_syntax::RawCond;
 use std::alloc::Global;
 use table_blocks::Database;

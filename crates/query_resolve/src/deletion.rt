@@ -1,22 +1,23 @@
-//! The tests of a `delete`: their columns are there, with the kinds of the literals.
+//! The tests of the rows of one table, as of a `delete` or a `range`: their columns are there, with the kinds of the literals.
 
 ghost use Rattle.std.specs.Prelude.{◌<◌, ◌≤◌, ◌^◌, [], length};
 ghost use Rattle.std.specs.List.{AllZip};
 ghost use Rattle.cqa_model.specs.declared.limits.TheConstants.{MOST_COLUMNS};
-ghost use Rattle.cqa_model.specs.Refusal.{Checked};
+ghost use Rattle.refusals.specs.Refusal.{Checked};
 ghost use Rattle.query_resolve.specs.Checks.{first_fault, by_number, test_fault, tests_fault};
 ghost use Rattle.query_resolve.specs.Resolved.{IsTestOf, AreTestsOf};
 
 use crate::condition::check_kinds;
 use crate::faults::unknown_column;
 use crate::names::{place_of_column, table_columns};
-use cqa_model::{Column, Refusal};
+use cqa_model::Column;
 use cqa_value::{Fail, Items};
+use refusals::Refusal;
 use spj_syntax::RawTest;
 use std::alloc::Global;
 use table_blocks::{ColumnTest, Database};
 
-/// The tests of a `delete` from a table, whose columns are known and have the kinds of the literals.
+/// The tests of the rows of a table, whose columns are known and have the kinds of the literals.
 ///
 /// # Errors
 ///

@@ -2,13 +2,13 @@
 
 ghost use Rattle.std.specs.Prelude.{◌≡◌, Some};
 ghost use Rattle.cqa_value.specs.declared.memory.Fail.TheVariants.{Refused};
-ghost use Rattle.cqa_model.specs.declared.refusal.Refusal.TheVariants.{Limit, TypeMismatch, UnknownTable, UnknownColumn};
-ghost use Rattle.cqa_model.specs.Refusal.{IsRefusedAs};
-ghost use Rattle.table_blocks.specs.Tables.{same_kind};
+ghost use Rattle.refusals.specs.declared.refusal.Refusal.TheVariants.{Limit, TypeMismatch, UnknownTable, UnknownColumn};
+ghost use Rattle.refusals.specs.Refusal.{IsRefusedAs};
+ghost use Rattle.refusals.specs.Kinds.{same_kind};
 ghost use Rattle.query_resolve.specs.Checks.{fault_unless};
 
-use cqa_model::{LimitKind, Place, Refusal};
 use cqa_value::{Fail, Kind, Name, NoMemory};
+use refusals::{LimitKind, Place, Refusal};
 use std::alloc::Global;
 
 /// More than the greatest number of something.

@@ -3,15 +3,16 @@
 ghost use Rattle.std.specs.Prelude.{◌≡◌, ◌<◌, ℕ, List, [], Some, IfOk, length};
 ghost use Rattle.std.specs.List.{AllZip};
 ghost use Rattle.cqa_model.specs.Database.{IsDatabase};
-ghost use Rattle.cqa_model.specs.Refusal.{Checked};
+ghost use Rattle.refusals.specs.Refusal.{Checked};
 ghost use Rattle.table_blocks.specs.Tables.{table_named};
 ghost use Rattle.query_resolve.specs.Checks.{first_fault, from_fault};
 ghost use Rattle.query_resolve.specs.Resolved.{IsAtomOf};
 
 use crate::faults::unknown_table;
 use crate::names::place_of_name;
-use cqa_model::{Atom, Refusal};
+use cqa_model::Atom;
 use cqa_value::{Fail, Items, Name, NoMemory};
+use refusals::Refusal;
 use std::alloc::Global;
 use table_blocks::Database;
 

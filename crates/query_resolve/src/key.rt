@@ -2,7 +2,7 @@
 
 ghost use Rattle.std.specs.Prelude.{◌≡◌, ◌<◌, ◌≤◌, Some, IfOk, length};
 ghost use Rattle.cqa_model.specs.declared.limits.TheConstants.{MOST_COLUMNS};
-ghost use Rattle.cqa_model.specs.Refusal.{Checked};
+ghost use Rattle.refusals.specs.Refusal.{Checked};
 ghost use Rattle.table_blocks.specs.Keys.{IsKey};
 ghost use Rattle.table_blocks.specs.Tables.{kinds_at};
 ghost use Rattle.query_resolve.specs.Names.{column_named};
@@ -10,8 +10,9 @@ ghost use Rattle.query_resolve.specs.Checks.{key_fault, names_fault, new_key_fau
 ghost use Rattle.query_resolve.specs.Resolved.{ArePlacesOf, IsKeyOf};
 
 use crate::names::{place_of_column, place_of_name, table_columns};
-use cqa_model::{Column, Refusal};
+use cqa_model::Column;
 use cqa_value::{Fail, Items, Name};
+use refusals::Refusal;
 use std::alloc::Global;
 use table_blocks::Database;
 

@@ -1,4 +1,4 @@
-//! The names of schemas, of the tests of a `delete` and of queries, resolved over a database's tables.
+//! The names of schemas, of the tests of rows, of the goals of ranges and of queries, resolved over a database's tables.
 #![tactic(auto)]
 
 mod answer;
@@ -7,6 +7,7 @@ mod condition;
 mod deletion;
 mod faults;
 mod from;
+mod goal;
 mod key;
 mod names;
 mod query;
@@ -15,6 +16,7 @@ mod schema;
 pub use answer::check_row;
 pub use deletion::resolve_tests;
 pub use faults::unknown_table;
+pub use goal::resolve_goal;
 pub use key::resolve_key;
 pub use query::resolve;
 pub use schema::resolve_schema;

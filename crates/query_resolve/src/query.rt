@@ -1,7 +1,7 @@
 //! A query as it is written against a database, check by check.
 
 ghost use Rattle.std.specs.Prelude.{⊤};
-ghost use Rattle.cqa_model.specs.Refusal.{Checked};
+ghost use Rattle.refusals.specs.Refusal.{Checked};
 ghost use Rattle.query_resolve.specs.Checks.{size_fault, query_fault};
 ghost use Rattle.query_resolve.specs.Resolved.{IsQueryOf};
 
@@ -9,8 +9,9 @@ use crate::column::columns_of;
 use crate::condition::conds_of;
 use crate::faults::limit;
 use crate::from::atoms_of;
-use cqa_model::{LimitKind, MOST_ANSWER_COLUMNS, MOST_ATOMS, Query, Refusal};
+use cqa_model::{MOST_ANSWER_COLUMNS, MOST_ATOMS, Query};
 use cqa_value::Fail;
+use refusals::{LimitKind, Refusal};
 use spj_syntax::Select;
 use std::alloc::Global;
 use table_blocks::Database;

@@ -3,15 +3,16 @@
 ghost use Rattle.std.specs.Prelude.{◌≡◌, ◌<◌, ⊤, [], OnOk, Contains, length};
 ghost use Rattle.cqa_model.specs.declared.limits.TheConstants.{MOST_TABLES};
 ghost use Rattle.cqa_model.specs.Database.{names_of};
-ghost use Rattle.cqa_model.specs.Refusal.{Checked};
+ghost use Rattle.refusals.specs.Refusal.{Checked};
 ghost use Rattle.query_resolve.specs.Checks.{first_fault, table_fault, duplicate_fault, schema_fault};
 ghost use Rattle.query_resolve.specs.Resolved.{IsSchemaOf};
 
 use crate::faults::limit;
 use crate::key::key_places;
 use crate::names::place_of_column;
-use cqa_model::{Column, LimitKind, MOST_COLUMNS, MOST_TABLES, Refusal, Schema};
+use cqa_model::{Column, MOST_COLUMNS, MOST_TABLES, Schema};
 use cqa_value::{Fail, Items};
+use refusals::{LimitKind, Refusal};
 use spj_syntax::RawSchema;
 use std::alloc::Global;
 use table_blocks::Database;

@@ -1,27 +1,29 @@
 -- The bytes of each reply.
 use Rattle.std.specs.Prelude.{ℕ, zero, suc, ◌+◌, Bool, true, false, List, [], ◌∷◌, ◌++◌, length, Option, Some, None, codes}
-use Rattle.std.specs.Fmt.{decimal}
+use Rattle.std.specs.Fmt.{decimal, signed_decimal}
 use Rattle.std.specs.List.{flat_map}
-use Rattle.cqa_value.specs.Literals.{row_bytes}
+use Rattle.cqa_value.specs.Literals.{literal_bytes, row_bytes}
 use Rattle.cqa_value.specs.declared.value.Value.{Value}
 use Rattle.cnf_form.specs.Writing.{proof_bytes}
 use Rattle.lrat_check.specs.Writing.{log_bytes}
 use Rattle.cqa_model.specs.Text.{schema_bytes}
-use Rattle.cqa_model.specs.declared.refusal.Refusal.{Refusal}
-use Rattle.cqa_model.specs.declared.refusal.Refusal.TheVariants.{BadByte, Syntax, StatementTooLong, UnknownTable, TableExists, UnknownColumn, AmbiguousColumn, SelfJoin, TypeMismatch, WrongArity, DuplicateColumn, BadKey, OutOfRange, TextTooLong, Unfinished, Limit, WitnessLimit, Spent, BadCsv, KeyTaken, KeyBroken}
-use Rattle.cqa_model.specs.declared.refusal.Place.{Place}
-use Rattle.cqa_model.specs.declared.refusal.Place.TheVariants.{Cell, Condition}
-use Rattle.cqa_model.specs.declared.refusal.LimitKind.{LimitKind}
-use Rattle.cqa_model.specs.declared.refusal.LimitKind.TheVariants.{Name as NameLimit, Tables as TablesLimit, Columns as ColumnsLimit, Atoms as AtomsLimit, Answer as AnswerLimit, Rows as RowsLimit}
+use Rattle.refusals.specs.declared.refusal.Refusal.{Refusal}
+use Rattle.refusals.specs.declared.refusal.Refusal.TheVariants.{BadByte, Syntax, StatementTooLong, UnknownTable, TableExists, UnknownColumn, AmbiguousColumn, SelfJoin, TypeMismatch, WrongArity, DuplicateColumn, BadKey, OutOfRange, TextTooLong, Unfinished, Limit, WitnessLimit, Spent, BadCsv, KeyTaken, KeyBroken}
+use Rattle.refusals.specs.declared.refusal.Place.{Place}
+use Rattle.refusals.specs.declared.refusal.Place.TheVariants.{Cell, Condition}
+use Rattle.refusals.specs.declared.refusal.LimitKind.{LimitKind}
+use Rattle.refusals.specs.declared.refusal.LimitKind.TheVariants.{Name as NameLimit, Tables as TablesLimit, Columns as ColumnsLimit, Atoms as AtomsLimit, Answer as AnswerLimit, Rows as RowsLimit}
 use Rattle.cqa_model.specs.declared.limits.TheConstants.{LONGEST_NAME, MOST_TABLES, MOST_COLUMNS, MOST_ATOMS, MOST_ANSWER_COLUMNS, MOST_ROWS}
 use Rattle.cqa_model.specs.declared.class.Class.{Class}
 use Rattle.cqa_model.specs.declared.class.Class.TheVariants.{FirstOrder, Polynomial, CoNp}
+use Rattle.cqa_model.specs.declared.aggregate.End.{End}
+use Rattle.cqa_model.specs.declared.aggregate.End.TheVariants.{Empty, Number, Held}
 use Rattle.reply_text.specs.declared.reply.AttackLine.{AttackLine}
 use Rattle.reply_text.specs.declared.reply.KeptRow.{KeptRow}
 use Rattle.reply_text.specs.declared.reply.TableLine.{TableLine}
 use Rattle.reply_text.specs.declared.reply.Proof.{Proof}
 use Rattle.reply_text.specs.declared.reply.Reply.{Reply}
-use Rattle.reply_text.specs.declared.reply.Reply.TheVariants.{Created, Altered, Inserted, Deleted, Copied, Rows, Classified, Steps, Sql, NoPlan, Rejected, ByBlock, ByRefutation, Tables, Conflicts, KeptLog, NoLog, Dumped, Refused}
+use Rattle.reply_text.specs.declared.reply.Reply.TheVariants.{Created, Altered, Inserted, Deleted, Copied, Rows, Classified, Steps, Sql, NoPlan, Rejected, ByBlock, ByRefutation, Range, Tables, Conflicts, KeptLog, NoLog, Dumped, Refused}
 
 -- row R column C, or condition K
 abbrev pub place_text : Place → List ℕ
@@ -138,9 +140,23 @@ proof_text proof = proof_bytes proof.cnf (log_bytes proof.log.steps)
 abbrev pub kept_text : KeptRow → List ℕ
 kept_text line = codes "keep " ++ line.table ++ codes " " ++ row_bytes line.row
 
--- rejected, then each row that is kept on a line of its own
+-- each row that a repair keeps, on a new line
+abbrev pub kept_lines : List KeptRow → List ℕ
+kept_lines lines = flat_map (λ line. codes "\n" ++ kept_text line) lines
+
+-- rejected, then the rows that a repair keeps
 abbrev pub rejected_text : List KeptRow → List ℕ
-rejected_text lines = codes "rejected" ++ flat_map (λ line. codes "\n" ++ kept_text line) lines
+rejected_text lines = codes "rejected" ++ kept_lines lines
+
+-- an end of a range: none, a number, or a value as a literal
+abbrev pub end_text : End → List ℕ
+end_text Empty = codes "none"
+end_text (Number number) = signed_decimal number
+end_text (Held value) = literal_bytes value
+
+-- least V, then the rows that a repair with this value keeps; greatest V, then those of a repair with that
+abbrev pub range_text : End → List KeptRow → End → List KeptRow → List ℕ
+range_text least low greatest high = codes "least " ++ end_text least ++ kept_lines low ++ codes "\ngreatest " ++ end_text greatest ++ kept_lines high
 
 -- certain by block NAME KEY
 abbrev pub block_text : List ℕ → List Value → List ℕ
@@ -165,6 +181,7 @@ reply_parts NoPlan = (codes "no plan", [])
 reply_parts (Rejected lines) = ([], rejected_text lines)
 reply_parts (ByBlock table key) = ([], block_text table key)
 reply_parts (ByRefutation proof) = ([], refutation_text proof)
+reply_parts (Range least low greatest high) = ([], range_text least low greatest high)
 reply_parts (Conflicts budget) = (codes "conflicts " ++ decimal budget, [])
 reply_parts (Tables lines) = ([], tables_text lines)
 reply_parts (Dumped script) = ([], script)

@@ -1,7 +1,7 @@
 //! Appends what the lines of replies are made of.
 
 ghost use Rattle.std.specs.Prelude.{◌≡◌, ◌++◌, OnOk};
-ghost use Rattle.std.specs.Fmt.{decimal};
+ghost use Rattle.std.specs.Fmt.{decimal, signed_decimal};
 ghost use Rattle.cqa_value.specs.Literals.{row_bytes};
 
 use cqa_value::{Name, NoMemory, Row, row_text};
@@ -25,6 +25,14 @@ pub fn append_words(words: &str, out: &mut Vec<u8>) -> Result<(), NoMemory>
 /// Appends a number in decimal.
 pub fn append_number(number: usize, out: &mut Vec<u8>) -> Result<(), NoMemory>
     ensures { OnOk result (out.new.items ≡ out.old.items ++ decimal number) }
+{
+    let mut buffer = Buffer::new();
+    append_words(buffer.format(number), out)
+}
+
+/// Appends a number in decimal, with its sign where it is negative.
+pub fn append_signed(number: i128, out: &mut Vec<u8>) -> Result<(), NoMemory>
+    ensures { OnOk result (out.new.items ≡ out.old.items ++ signed_decimal number) }
 {
     let mut buffer = Buffer::new();
     append_words(buffer.format(number), out)

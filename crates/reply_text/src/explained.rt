@@ -1,8 +1,7 @@
 //! Appends why a row is certain, or why it isn't.
 
 ghost use Rattle.std.specs.Prelude.{◌≡◌, ◌++◌, OnOk, codes};
-ghost use Rattle.std.specs.List.{flat_map};
-ghost use Rattle.reply_text.specs.Texts.{kept_text, rejected_text, block_text, refutation_text};
+ghost use Rattle.reply_text.specs.Texts.{kept_text, kept_lines, rejected_text, block_text, refutation_text};
 
 use crate::append::{append_named, append_row, append_words};
 use crate::logged::append_proof;
@@ -19,8 +18,8 @@ pub fn append_rejected(lines: &[KeptRow], out: &mut Vec<u8>) -> Result<(), NoMem
 }
 
 /// Appends each row that is kept on a new line.
-fn append_kept_rows(lines: &[KeptRow], out: &mut Vec<u8>) -> Result<(), NoMemory>
-    ensures { OnOk result (out.new.items ≡ out.old.items ++ flat_map (λ line. codes "\n" ++ kept_text line) lines.now) }
+pub fn append_kept_rows(lines: &[KeptRow], out: &mut Vec<u8>) -> Result<(), NoMemory>
+    ensures { OnOk result (out.new.items ≡ out.old.items ++ kept_lines lines.now) }
 {
     for line in lines {
         append_kept(line, out)?;

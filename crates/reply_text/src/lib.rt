@@ -6,6 +6,7 @@ mod classified;
 mod explained;
 mod logged;
 mod planned;
+mod ranged;
 mod refused;
 mod reply;
 mod text;

@@ -9,10 +9,10 @@ use crate::append::{
     append_name, append_named, append_number, append_numbered, append_row, append_u32, append_words,
 };
 use cqa_model::{
-    LONGEST_NAME, LimitKind, MOST_ANSWER_COLUMNS, MOST_ATOMS, MOST_COLUMNS, MOST_ROWS, MOST_TABLES,
-    Place, Refusal,
+    LONGEST_NAME, MOST_ANSWER_COLUMNS, MOST_ATOMS, MOST_COLUMNS, MOST_ROWS, MOST_TABLES,
 };
 use cqa_value::{Name, NoMemory, Row, row_text};
+use refusals::{LimitKind, Place, Refusal};
 
 /// Appends the line of a refusal without its line feed.
 pub fn append_refusal(refusal: &Refusal, out: &mut Vec<u8>) -> Result<(), NoMemory>

@@ -3,8 +3,9 @@
 ghost use Rattle.std.specs.Prelude.{◌≡◌, IfOk};
 
 use cnf_form::{Cnf, Log};
-use cqa_model::{Class, Refusal, Schema};
+use cqa_model::{Class, End, Schema};
 use cqa_value::{Items, Name, NoMemory, Row};
+use refusals::Refusal;
 use std::alloc::Global;
 
 /// What a statement is answered by.
@@ -43,6 +44,14 @@ pub enum Reply {
     },
     /// The row is certain by its formula, which a log refutes.
     ByRefutation(Proof),
+    /// The least and the greatest value that an aggregate has in a repair of a table, each with the rows that a repair which
+    /// has it keeps of the blocks that have a choice.
+    Range {
+        least: End,
+        low: Items<KeptRow>,
+        greatest: End,
+        high: Items<KeptRow>,
+    },
     /// A search may take so many conflicts from now on.
     Conflicts(u32),
     /// The tables in the order in which they were made.

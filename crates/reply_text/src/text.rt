@@ -8,6 +8,7 @@ use crate::classified::append_classified;
 use crate::explained::{append_by_block, append_by_refutation, append_rejected};
 use crate::logged::append_proof;
 use crate::planned::append_steps;
+use crate::ranged::append_range;
 use crate::refused::append_refusal;
 use crate::{Reply, TableLine};
 use cqa_model::schema_text;
@@ -73,6 +74,7 @@ fn append_short(reply: &Reply, out: &mut Vec<u8>) -> Result<(), NoMemory>
         | Reply::Rejected(_)
         | Reply::ByBlock { .. }
         | Reply::ByRefutation(_)
+        | Reply::Range { .. }
         | Reply::Tables(_)
         | Reply::Dumped(_)
         | Reply::KeptLog(_)
@@ -92,6 +94,12 @@ fn append_long(alloc: Global, reply: &Reply, out: &mut Vec<u8>) -> Result<(), No
         Reply::Rejected(lines) => append_rejected(lines.as_slice(), out),
         Reply::ByBlock { table, key } => append_by_block(table, key, out),
         Reply::ByRefutation(proof) => append_by_refutation(alloc, proof, out),
+        Reply::Range {
+            least,
+            low,
+            greatest,
+            high,
+        } => append_range(least, low.as_slice(), greatest, high.as_slice(), out),
         Reply::Tables(lines) => append_tables(lines.as_slice(), out),
         Reply::KeptLog(proof) => append_proof(alloc, proof, out),
         Reply::Refused(refusal) => append_refusal(refusal, out),

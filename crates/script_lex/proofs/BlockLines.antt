@@ -8,7 +8,7 @@ use Rattle.std.proofs.lemmas.Bool.Decides.{nat_tests}
 use Rattle.std.specs.List.{AllByRecursion}
 use Rattle.script_lex.specs.Bytes.{is_line_blank, is_not_line_feed, AllPass}
 use Rattle.script_lex.specs.ScriptParts.{LinesSoFar, HasNoBlock}
-use Rattle.script_lex.specs.Scripts.{IsLineEnd, Skips, IsEndingLine, IsBlockLine, lines_text, EndsBlock, IsBlock}
+use Rattle.script_lex.specs.Scripts.{IsLineEnd, Skips, IsEndingLine, IsBlockLine, lines_text, EndsBlock, IsCopyBlock}
 use Rattle.script_lex.proofs.Runs.{AllPass-push, run_same, run_none}
 
 ending_one : (line : List ℕ) → IsEndingLine line → AllPass is_not_line_feed line
@@ -54,14 +54,14 @@ lines_same ended (l ∷ ls) (m ∷ ms) x y r q h e k f same =
     (ap (λ z. z ∷ ls) heads.0 ∙ ap (λ z. m ∷ z) rest.0, rest.1)
 
 -- a block is one alone
-pub block_same : (ended : Bool) (bytes b c r q : List ℕ) → IsBlock ended bytes b r → IsBlock ended bytes c q → (b ≡ c) × (r ≡ q)
+pub block_same : (ended : Bool) (bytes b c r q : List ℕ) → IsCopyBlock ended bytes b r → IsCopyBlock ended bytes c q → (b ≡ c) × (r ≡ q)
 block_same ended bytes b c r q h k =
     let same : lines_text h.lines ++ h.tail ≡ lines_text k.lines ++ k.tail = ap (λ z. z ++ h.tail) (sym h.is) ∙ sym h.whole ∙ k.whole ∙ ap (λ z. z ++ k.tail) k.is in
     let parts = lines_same ended h.lines k.lines h.tail k.tail r q h.each h.ends k.each k.ends same in
     (h.is ∙ ap lines_text parts.0 ∙ sym k.is, ends_same ended k.tail r q (subst (λ z. EndsBlock ended z r) parts.1 h.ends) k.ends)
 
 -- a block whose ending line is whole stands, whatever follows
-pub IsBlock-append : (ended : Bool) (bytes more block rest : List ℕ) → IsBlock false bytes block rest → IsBlock ended (bytes ++ more) block (rest ++ more)
+pub IsBlock-append : (ended : Bool) (bytes more block rest : List ℕ) → IsCopyBlock false bytes block rest → IsCopyBlock ended (bytes ++ more) block (rest ++ more)
 IsBlock-append ended bytes more block rest h = record {
   lines = h.lines;
   each = h.each;
@@ -75,7 +75,7 @@ IsBlock-append ended bytes more block rest h = record {
 }
 
 -- the first line of a block or its ending line, whole
-first_line : (bytes block rest : List ℕ) → IsBlock false bytes block rest → (line more : List ℕ) × AllPass is_not_line_feed line × (bytes ≡ line ++ 10 ∷ more)
+first_line : (bytes block rest : List ℕ) → IsCopyBlock false bytes block rest → (line more : List ℕ) × AllPass is_not_line_feed line × (bytes ≡ line ++ 10 ∷ more)
 first_line bytes block rest h = go h.lines h.each (h.whole ∙ ap (λ z. z ++ h.tail) h.is)
   where
     go : (lines : List (List ℕ)) → AllByRecursion IsBlockLine lines → bytes ≡ lines_text lines ++ h.tail → (line more : List ℕ) × AllPass is_not_line_feed line × (bytes ≡ line ++ 10 ∷ more)
@@ -97,7 +97,7 @@ end_then : (line more : List ℕ) (h : IsLineEnd line) → line ++ more ≡ h.bl
 end_then line more h = ap (λ z. z ++ more) h.is ∙ append_assoc h.blanks (10 ∷ []) more
 
 -- what is skipped stays so, whatever follows a whole line
-pub Skips-append : (bytes skipped body more block rest : List ℕ) → Skips bytes skipped body → IsBlock false body block rest → Skips (bytes ++ more) skipped (body ++ more)
+pub Skips-append : (bytes skipped body more block rest : List ℕ) → Skips bytes skipped body → IsCopyBlock false body block rest → Skips (bytes ++ more) skipped (body ++ more)
 Skips-append bytes skipped body more block rest h b = record {
   whole = ap (λ z. z ++ more) h.whole ∙ append_assoc skipped body more;
   is = elim h.is [
@@ -197,7 +197,7 @@ parted_at bytes line i le lt feed =
     headed : (bytes : List ℕ) (i : ℕ) → i < length bytes → drop i bytes ≡ get_or bytes i 0 ∷ drop (i + 1) bytes
     headed bytes i lt = rw (add-one, drop-cons bytes i 0) refl
 
-pub block_found : (ended : Bool) (bytes : List ℕ) (line i : ℕ) → LinesSoFar bytes line i → i < length bytes → get_or bytes i 0 ≡ 10 → IsEndingLine (slice_range bytes line i) → IsBlock ended bytes (take line bytes) (drop (i + 1) bytes)
+pub block_found : (ended : Bool) (bytes : List ℕ) (line i : ℕ) → LinesSoFar bytes line i → i < length bytes → get_or bytes i 0 ≡ 10 → IsEndingLine (slice_range bytes line i) → IsCopyBlock ended bytes (take line bytes) (drop (i + 1) bytes)
 block_found ended bytes line i h lt feed ends = record {
   lines = h.lines;
   each = h.each;
@@ -211,7 +211,7 @@ block_found ended bytes line i h lt feed ends = record {
 last_line : (bytes : List ℕ) (line : ℕ) → slice_range bytes line (length bytes) ≡ drop line bytes
 last_line bytes line = take_all (length bytes - line) (drop line bytes) (omega (arith, length-drop line bytes))
 
-pub block_at_end : (bytes : List ℕ) (line : ℕ) → LinesSoFar bytes line (length bytes) → IsEndingLine (slice_range bytes line (length bytes)) → IsBlock true bytes (take line bytes) (drop (length bytes) bytes)
+pub block_at_end : (bytes : List ℕ) (line : ℕ) → LinesSoFar bytes line (length bytes) → IsEndingLine (slice_range bytes line (length bytes)) → IsCopyBlock true bytes (take line bytes) (drop (length bytes) bytes)
 block_at_end bytes line h ends = record {
   lines = h.lines;
   each = h.each;

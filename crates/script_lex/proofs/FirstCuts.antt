@@ -12,7 +12,7 @@ use Rattle.script_lex.specs.declared.modes.Region.TheVariants as regions
 use Rattle.script_lex.specs.declared.modes.Stop.{Stop}
 use Rattle.script_lex.specs.Bytes.{is_blank}
 use Rattle.script_lex.specs.ScriptParts.{Stands, BeginsAt, EndsAt, HasNoEnd, SkipsAt, BlockEndsAt, HasNoBlock}
-use Rattle.script_lex.specs.Scripts.{after, is_gap_byte, is_text_byte, Leads, IsGap, IsSpace, BeginsOutright, IsText, IsCopy, Skips, IsBlock, Follows, First, IsCut}
+use Rattle.script_lex.specs.Scripts.{after, is_gap_byte, is_text_byte, Leads, IsGap, IsSpace, BeginsOutright, IsText, IsCopy, Skips, IsCopyBlock, Follows, First, IsCut}
 use Rattle.script_lex.proofs.Leading.{Leads-rest, stop_same, stop_none, semicolon_ends, outright_stays, gap_same, outright-semicolon, outright-take, last_dash}
 use Rattle.script_lex.proofs.BlockLines.{skips_same}
 
@@ -171,9 +171,9 @@ cut_block ended bytes from to skipped end h copy s b =
     let body : drop skipped (drop (to + 1) bytes) ≡ drop ((to + 1) + skipped) bytes = drop_on bytes (to + 1) skipped ((to + 1) + skipped) refl in
     let skips : Skips (drop (to + 1) bytes) (slice_range bytes (to + 1) ((to + 1) + skipped)) (drop ((to + 1) + skipped) bytes) =
     subst (λ z. Skips (drop (to + 1) bytes) z (drop ((to + 1) + skipped) bytes)) (sym (text_range bytes (to + 1) skipped)) (subst (λ z. Skips (drop (to + 1) bytes) (take skipped (drop (to + 1) bytes)) z) body s.skips) in
-    let block : IsBlock ended (drop ((to + 1) + skipped) bytes) (slice_range bytes ((to + 1) + skipped) (((to + 1) + skipped) + end.at)) (drop (((to + 1) + skipped) + end.rest) bytes) =
-    subst (λ z. IsBlock ended (drop ((to + 1) + skipped) bytes) z (drop (((to + 1) + skipped) + end.rest) bytes)) (sym (text_range bytes ((to + 1) + skipped) end.at))
-    (subst (λ z. IsBlock ended (drop ((to + 1) + skipped) bytes) (take end.at (drop ((to + 1) + skipped) bytes)) z) (drop_on bytes ((to + 1) + skipped) end.rest (((to + 1) + skipped) + end.rest) refl) b.block) in (
+    let block : IsCopyBlock ended (drop ((to + 1) + skipped) bytes) (slice_range bytes ((to + 1) + skipped) (((to + 1) + skipped) + end.at)) (drop (((to + 1) + skipped) + end.rest) bytes) =
+    subst (λ z. IsCopyBlock ended (drop ((to + 1) + skipped) bytes) z (drop (((to + 1) + skipped) + end.rest) bytes)) (sym (text_range bytes ((to + 1) + skipped) end.at))
+    (subst (λ z. IsCopyBlock ended (drop ((to + 1) + skipped) bytes) (take end.at (drop ((to + 1) + skipped) bytes)) z) (drop_on bytes ((to + 1) + skipped) end.rest (((to + 1) + skipped) + end.rest) refl) b.block) in (
       record {
         begins = omega arith;
         ends = omega arith;
@@ -204,4 +204,4 @@ cut_no_block ended bytes from to skipped begun h copy s n = (begun_no_space byte
         go None f = f.0 (subst IsCopy tails.0 copy)
         go (Some p) f =
             let same = skips_same k.more p.0 (take skipped (drop (to + 1) bytes)) f.1 (drop skipped (drop (to + 1) bytes)) f.2 (subst (λ z. Skips z (take skipped (drop (to + 1) bytes)) (drop skipped (drop (to + 1) bytes))) more s.skips) in
-            n.none p.1 rest (subst (λ z. IsBlock ended z p.1 rest) (same.1 ∙ drop_on bytes (to + 1) skipped ((to + 1) + skipped) refl) f.3)
+            n.none p.1 rest (subst (λ z. IsCopyBlock ended z p.1 rest) (same.1 ∙ drop_on bytes (to + 1) skipped ((to + 1) + skipped) refl) f.3)

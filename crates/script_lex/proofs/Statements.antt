@@ -6,7 +6,7 @@ use Rattle.script_lex.specs.declared.kinds.Span.{Span}
 use Rattle.script_lex.specs.declared.cutting.Cut.{Cut}
 use Rattle.script_lex.specs.declared.cutting.Cut.TheVariants as cuts
 use Rattle.script_lex.specs.declared.modes.Mode.TheVariants.{Outside}
-use Rattle.script_lex.specs.Scripts.{IsSpace, is_text_byte, IsBlock, Follows, First, Statement, statement_at, StartsWith, HasNoStatement, Begins, Cuts, AtMostOneCut, CutsGoOn, block_at, IsCut}
+use Rattle.script_lex.specs.Scripts.{IsSpace, is_text_byte, IsCopyBlock, Follows, First, Statement, statement_at, StartsWith, HasNoStatement, Begins, Cuts, AtMostOneCut, CutsGoOn, block_at, IsCut}
 use Rattle.script_lex.proofs.Leading.{stop_same, semicolon_ends, gap_same, outright-semicolon, space_none}
 use Rattle.script_lex.proofs.BlockLines.{block_same, IsBlock-append, skips_same, Skips-append}
 
@@ -16,7 +16,7 @@ follows_same ended text None (Some l) more r q h g = absurd (h.0 g.0)
 follows_same ended text (Some k) None more r q h g = absurd (g.0 h.0)
 follows_same ended text (Some k) (Some l) more r q h g =
     let skipped = skips_same more k.0 l.0 h.1 g.1 h.2 g.2 in
-    let blocks = block_same ended g.1 k.1 l.1 r q (subst (λ z. IsBlock ended z k.1 r) skipped.1 h.3) g.3 in
+    let blocks = block_same ended g.1 k.1 l.1 r q (subst (λ z. IsCopyBlock ended z k.1 r) skipped.1 h.3) g.3 in
     (λ i. Some (skipped.0 i, blocks.0 i), blocks.1)
 
 -- the parts of two first statements are the same

@@ -9,7 +9,7 @@ use Rattle.script_lex.specs.declared.modes.Region.TheVariants as regions
 use Rattle.script_lex.specs.declared.modes.Stop.{Stop}
 use Rattle.script_lex.specs.declared.blocks.Lines.{Lines}
 use Rattle.script_lex.specs.Bytes.{semicolon, line_feed, is_not_line_feed, AllPass}
-use Rattle.script_lex.specs.Scripts.{is_outside, Leads, is_gap_byte, is_text_byte, IsGap, BeginsOutright, Skips, IsBlockLine, IsEndingLine, lines_text, IsBlock}
+use Rattle.script_lex.specs.Scripts.{is_outside, Leads, is_gap_byte, is_text_byte, IsGap, BeginsOutright, Skips, IsBlockLine, IsEndingLine, lines_text, IsCopyBlock}
 
 -- the bytes of a region
 abbrev pub passes_in : Region → Mode → ℕ → Bool
@@ -75,8 +75,8 @@ pub record StandAt (bytes : List ℕ) (lines : Lines) : Type 0 where
 pub record BlockEndsAt (ended : Bool) (bytes : List ℕ) (end : BlockEnd) : Type 0 where
   pub order : end.at ≤ end.rest
   pub within : end.rest ≤ length bytes
-  pub block : IsBlock ended bytes (take end.at bytes) (drop end.rest bytes)
+  pub block : IsCopyBlock ended bytes (take end.at bytes) (drop end.rest bytes)
 
 -- no block is whole
 pub record HasNoBlock (ended : Bool) (bytes : List ℕ) : Type 0 where
-  pub none : (block rest : List ℕ) → IsBlock ended bytes block rest → ⊥
+  pub none : (block rest : List ℕ) → IsCopyBlock ended bytes block rest → ⊥

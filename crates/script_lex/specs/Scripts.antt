@@ -103,7 +103,7 @@ abbrev pub EndsBlock : Bool → List ℕ → List ℕ → Type 0
 EndsBlock ended bytes rest = (line : List ℕ) × IsEndingLine line × ((bytes ≡ line ++ line_feed ∷ rest) ⊎ ((ended ≡ true) × (bytes ≡ line) × (rest ≡ [])))
 
 -- The bytes are a block, up to the first ending line, that line and a rest.
-pub record IsBlock (ended : Bool) (bytes block rest : List ℕ) : Type 0 where
+pub record IsCopyBlock (ended : Bool) (bytes block rest : List ℕ) : Type 0 where
   pub lines : List (List ℕ)
   pub each : AllByRecursion IsBlockLine lines
   pub is : block ≡ lines_text lines
@@ -114,7 +114,7 @@ pub record IsBlock (ended : Bool) (bytes block rest : List ℕ) : Type 0 where
 -- What follows the `;` of a statement: the rest, or for a copy what is skipped, its block and the rest.
 abbrev pub Follows : Bool → List ℕ → Option (List ℕ × List ℕ) → List ℕ → List ℕ → Type 0
 Follows ended text None bytes rest = (IsCopy text → ⊥) × (bytes ≡ rest)
-Follows ended text (Some (skipped, block)) bytes rest = IsCopy text × (body : List ℕ) × Skips bytes skipped body × IsBlock ended body block rest
+Follows ended text (Some (skipped, block)) bytes rest = IsCopy text × (body : List ℕ) × Skips bytes skipped body × IsCopyBlock ended body block rest
 
 -- The bytes begin with a complete statement: a gap, its text, a `;`, what is skipped and its block where it has one. A rest follows.
 pub record First (ended : Bool) (bytes gap text : List ℕ) (block : Option (List ℕ × List ℕ)) (rest : List ℕ) : Type 0 where

@@ -148,6 +148,6 @@ IsFault text (TooLong size) = (size ≡ length text) × (longest_text < length t
 IsFault text (BadByte at) = (length text ≤ longest_text) × IsBadByte text at
 
 -- a fault of the text, or want of memory, which is free
-abbrev pub Refuses : List ℕ → Fail LexFault → Type 0
-Refuses text NoMemory = Unit {0}
-Refuses text (Refused fault) = IsFault text fault
+abbrev pub RefusesText : List ℕ → Fail LexFault → Type 0
+RefusesText text NoMemory = Unit {0}
+RefusesText text (Refused fault) = IsFault text fault

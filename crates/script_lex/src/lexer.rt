@@ -8,7 +8,7 @@ ghost use Rattle.script_lex.specs.declared.kinds.Token.{Token};
 ghost use Rattle.script_lex.specs.declared.kinds.LexFault.{LexFault};
 ghost use Rattle.script_lex.specs.declared.kinds.LexFault.TheVariants.{BadByte};
 ghost use Rattle.script_lex.specs.TokenParts.{RefusesByte};
-ghost use Rattle.script_lex.specs.Tokens.{longest_text, Spells, LiesIn, IsSpelled, Rise, IsFault, Refuses, IsClean, IsUnclean};
+ghost use Rattle.script_lex.specs.Tokens.{longest_text, Spells, LiesIn, IsSpelled, Rise, IsFault, RefusesText, IsClean, IsUnclean};
 
 use crate::pieces::{Piece, PieceKind, first_piece};
 use crate::{LexFault, Span, Token, TokenKind};
@@ -84,7 +84,7 @@ fn tokens_of_short(alloc: Global, text: &[u8]) -> Result<Items<Token>, Fail<LexF
 /// `NoMemory` where memory is refused.
 pub fn tokens(alloc: Global, text: &[u8]) -> Result<Items<Token>, Fail<LexFault>>
     // The tokens spell a text that isn't too long, and a refusal has its cause.
-    ensures exact { MatchResult result (λ tokens. (length text.now ≤ longest_text) × Spells text.now tokens) (Refuses text.now) }
+    ensures exact { MatchResult result (λ tokens. (length text.now ≤ longest_text) × Spells text.now tokens) (RefusesText text.now) }
     // A text that tokens spell gives these tokens, unless memory runs out.
     ensures only_tokens { (tokens : List Token) → length text.now ≤ longest_text → Spells text.now tokens → MatchResult result (λ v. v ≡ tokens) (λ e. e ≡ FailNoMemory) }
     // A fault of the text is the answer, unless memory runs out.

@@ -10,9 +10,9 @@ use Rattle.spj_syntax.specs.declared.tree.Statement.{Statement}
 use Rattle.spj_syntax.specs.declared.fault.SyntaxFault.{SyntaxFault}
 use Rattle.spj_syntax.specs.declared.fault.SyntaxFault.TheVariants.{At, OutOfRange, TextTooLong, LongName}
 use Rattle.spj_syntax.specs.Lexemes.{Lexeme, lexeme}
-use Rattle.spj_syntax.specs.Shapes.{Shape, FirstFault, Generates, Begins, Stuck}
+use Rattle.spj_syntax.specs.Shapes.{Shape, FirstFault, Generates, BeginsShape, Stuck}
 use Rattle.spj_syntax.specs.Grammar as grammar
-use Rattle.spj_syntax.specs.Parsed.{IsStatement, IsSyntaxFault, Fits, AllFit, IsFirstUnfit, Refuses, fault_of, is_set, lexemes, place_of}
+use Rattle.spj_syntax.specs.Parsed.{IsStatement, IsSyntaxFault, Fits, AllLexemesFit, IsFirstUnfit, RefusesTokens, fault_of, is_set, lexemes, place_of}
 use Rattle.spj_syntax.specs.Reading.{Parses}
 use Rattle.spj_syntax.specs.Written.{IsWrittenAs}
 use Rattle.spj_syntax.proofs.Trees.{statement_same}
@@ -32,7 +32,7 @@ unfit_absurd set text tokens fault f a = f.unfit (fit_there set text f.front f.t
 abbrev Cause : List ℕ → List Token → SyntaxFault → Type 0
 Cause text tokens fault = ((at : ℕ) × (fault ≡ At at) × IsSyntaxFault text tokens at) ⊎ (IsStatement (lexemes text tokens) × IsFirstUnfit (is_set (lexemes text tokens)) text tokens fault)
 
-cause : (text : List ℕ) (tokens : List Token) (fault : SyntaxFault) → Refuses text tokens fault → Cause text tokens fault
+cause : (text : List ℕ) (tokens : List Token) (fault : SyntaxFault) → RefusesTokens text tokens fault → Cause text tokens fault
 cause text tokens (At at) h = inl (at, refl, h)
 cause text tokens (OutOfRange at) h = inr h
 cause text tokens (TextTooLong at) h = inr h
@@ -41,7 +41,7 @@ cause text tokens (LongName at) h = inr h
 at_not : (text : List ℕ) (tokens : List Token) (at : ℕ) → IsSyntaxFault text tokens at → IsStatement (lexemes text tokens) → ⊥
 at_not text tokens at h s = fault_not (lexemes text tokens) (drop h.count (lexemes text tokens)) h.first s
 
-not_refused : (text : List ℕ) (tokens : List Token) (fault : SyntaxFault) → Refuses text tokens fault → IsStatement (lexemes text tokens) → AllFit (lexemes text tokens) → ⊥
+not_refused : (text : List ℕ) (tokens : List Token) (fault : SyntaxFault) → RefusesTokens text tokens fault → IsStatement (lexemes text tokens) → AllLexemesFit (lexemes text tokens) → ⊥
 not_refused text tokens fault h s a = elim (cause text tokens fault h) [
   | inl k ↦ at_not text tokens k.0 k.2 s
   | inr k ↦ unfit_absurd (is_set (lexemes text tokens)) text tokens fault k.1 a
@@ -51,7 +51,7 @@ pub ok_statement : (text : List ℕ) (tokens : List Token) (r : Result Statement
 ok_statement text tokens (Ok v) h = h.0
 ok_statement text tokens (Err e) h = tt
 
-pub ok_fit : (text : List ℕ) (tokens : List Token) (r : Result Statement (Fail SyntaxFault)) → Parses text tokens r → OnOk r (AllFit (lexemes text tokens))
+pub ok_fit : (text : List ℕ) (tokens : List Token) (r : Result Statement (Fail SyntaxFault)) → Parses text tokens r → OnOk r (AllLexemesFit (lexemes text tokens))
 ok_fit text tokens (Ok v) h = h.1
 ok_fit text tokens (Err e) h = tt
 
@@ -59,12 +59,12 @@ pub ok_written : (text : List ℕ) (tokens : List Token) (r : Result Statement (
 ok_written text tokens (Ok v) h = h.2
 ok_written text tokens (Err e) h = tt
 
-pub err_refuses : (text : List ℕ) (tokens : List Token) (r : Result Statement (Fail SyntaxFault)) → Parses text tokens r → (fault : SyntaxFault) → r ≡ Err (Refused fault) → Refuses text tokens fault
+pub err_refuses : (text : List ℕ) (tokens : List Token) (r : Result Statement (Fail SyntaxFault)) → Parses text tokens r → (fault : SyntaxFault) → r ≡ Err (Refused fault) → RefusesTokens text tokens fault
 err_refuses text tokens (Ok v) h fault e = absurd (cc)
 err_refuses text tokens (Err FailNoMemory) h fault e = absurd (cc)
-err_refuses text tokens (Err (Refused f)) h fault e = let g : f ≡ fault = cc in subst (λ z. Refuses text tokens z) g h
+err_refuses text tokens (Err (Refused f)) h fault e = let g : f ≡ fault = cc in subst (λ z. RefusesTokens text tokens z) g h
 
-pub statement_read : (text : List ℕ) (tokens : List Token) (r : Result Statement (Fail SyntaxFault)) → Parses text tokens r → IsStatement (lexemes text tokens) → AllFit (lexemes text tokens)
+pub statement_read : (text : List ℕ) (tokens : List Token) (r : Result Statement (Fail SyntaxFault)) → Parses text tokens r → IsStatement (lexemes text tokens) → AllLexemesFit (lexemes text tokens)
     → MatchResult r (λ _. Unit {0}) (λ e. e ≡ FailNoMemory)
 statement_read text tokens (Ok v) h s a = tt
 statement_read text tokens (Err FailNoMemory) h s a = refl
@@ -96,7 +96,7 @@ compared (x ∷ f) r (y ∷ g) s e =
     ]
 
 -- no further than where it is stuck
-past_fault : (p : Shape) (f r g s : List Lexeme) → Stuck p f r → Begins p g → Longer f r g s → ⊥
+past_fault : (p : Shape) (f r g s : List Lexeme) → Stuck p f r → BeginsShape p g → Longer f r g s → ⊥
 past_fault p f [] g s k b l = absurd (let e : [] ≡ l.0 ∷ (l.1 ++ s) = l.2 in cc)
 past_fault p f (t ∷ r) g s k b l =
     let e : t ≡ l.0 = let h : t ∷ r ≡ l.0 ∷ (l.1 ++ s) = l.2 in cc in
@@ -139,7 +139,7 @@ unfit_same set text tokens a b f g = elim (compared f.front (f.token ∷ f.rest)
   ]
 ]
 
-fault_same : (text : List ℕ) (tokens : List Token) (a b : SyntaxFault) → Refuses text tokens a → Refuses text tokens b → a ≡ b
+fault_same : (text : List ℕ) (tokens : List Token) (a b : SyntaxFault) → RefusesTokens text tokens a → RefusesTokens text tokens b → a ≡ b
 fault_same text tokens a b f g = elim (cause text tokens a f) [
   | inl h ↦ elim (cause text tokens b g) [
     | inl k ↦ h.1 ∙ ap At (at_same text tokens h.0 k.0 h.2 k.2) ∙ sym k.1
@@ -151,7 +151,7 @@ fault_same text tokens a b f g = elim (cause text tokens a f) [
   ]
 ]
 
-pub only_fault : (text : List ℕ) (tokens : List Token) (r : Result Statement (Fail SyntaxFault)) → Parses text tokens r → (fault : SyntaxFault) → Refuses text tokens fault
+pub only_fault : (text : List ℕ) (tokens : List Token) (r : Result Statement (Fail SyntaxFault)) → Parses text tokens r → (fault : SyntaxFault) → RefusesTokens text tokens fault
     → MatchResult r (λ _. ⊥) (λ e. (e ≡ Refused fault) ⊎ (e ≡ FailNoMemory))
 only_fault text tokens (Ok v) h fault f = not_refused text tokens fault f h.0 h.1
 only_fault text tokens (Err FailNoMemory) h fault f = inr refl

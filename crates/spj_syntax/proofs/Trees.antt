@@ -23,12 +23,14 @@ use Rattle.spj_syntax.specs.declared.tree.RawCol.{RawCol}
 use Rattle.spj_syntax.specs.declared.tree.RawCond.{RawCond}
 use Rattle.spj_syntax.specs.declared.tree.RawCond.TheVariants.{Join, Test}
 use Rattle.spj_syntax.specs.Lexemes.{Lexeme, Word, Number, Quoted, Mark}
-use Rattle.spj_syntax.specs.Written.{name_tokens, literal_tokens, column_tokens, listed_tokens, row_tokens, schema_tokens, op_symbol, test_tokens, col_tokens_of, col_tokens, cond_tokens, each_after, between, filtered_tokens, head_tokens, select_tokens, verb_tokens, strict_tokens, change_tokens, statement_tokens}
+use Rattle.spj_syntax.specs.Written.{name_tokens, literal_tokens, column_tokens, listed_tokens, row_tokens, schema_tokens, op_symbol, test_tokens, col_tokens_of, col_tokens, cond_tokens, each_after, between, filtered_tokens, head_tokens, select_tokens, verb_tokens, strict_tokens, change_tokens, goal_tokens, statement_tokens}
 use Rattle.spj_syntax.specs.declared.tree.Change.{Change}
 use Rattle.spj_syntax.specs.declared.tree.Change.TheVariants as changes
 use Rattle.spj_syntax.specs.declared.tree.Select.{Select}
 use Rattle.spj_syntax.specs.declared.tree.Verb.{Verb}
 use Rattle.spj_syntax.specs.declared.tree.Verb.TheVariants as verbs
+use Rattle.spj_syntax.specs.declared.tree.RawGoal.{RawGoal}
+use Rattle.spj_syntax.specs.declared.tree.RawGoal.TheVariants as goals
 use Rattle.spj_syntax.specs.declared.tree.Statement.{Statement}
 use Rattle.spj_syntax.specs.declared.tree.Statement.TheVariants as statements
 
@@ -385,6 +387,15 @@ change_same changes.SetStrict (changes.SetKey ys) e = absurd (omega (arith, ap s
 change_same (changes.SetKey xs) changes.SetStrict e = absurd (omega (arith, ap second_mark e))
 change_same _ _ e = absurd (omega (arith, ap mark_of e))
 
+-- the goals differ in their first word
+goal_decodes : (a b : RawGoal) (r z : List Lexeme) → goal_tokens a ++ r ≡ goal_tokens b ++ z → (a ≡ b) × (r ≡ z)
+unfolding mark_of
+goal_decodes goals.Count goals.Count r z e = (refl, (cc))
+goal_decodes (goals.Sum c) (goals.Sum d) r z e = let h : c ≡ d = cc in (ap goals.Sum h, (cc))
+goal_decodes (goals.Min c) (goals.Min d) r z e = let h : c ≡ d = cc in (ap goals.Min h, (cc))
+goal_decodes (goals.Max c) (goals.Max d) r z e = let h : c ≡ d = cc in (ap goals.Max h, (cc))
+goal_decodes _ _ r z e = absurd (omega (arith, ap mark_of e))
+
 -- no tokens are written by two statements
 pub statement_same : (a b : Statement) → statement_tokens a ≡ statement_tokens b → a ≡ b
 unfolding mark_of second_mark is_verb verb_marks
@@ -414,6 +425,14 @@ statement_same (statements.Asking v c) (statements.Asking w d) e =
     λ l. statements.Asking (h l) (g l)
 statement_same (statements.SetConflicts n) (statements.SetConflicts m) e = ap statements.SetConflicts (cc)
 statement_same (statements.Copy t) (statements.Copy u) e = ap statements.Copy (cc)
+statement_same (statements.Range f t xs) (statements.Range g u ys) e =
+    let rest : goal_tokens f ++ (Word (codes "from") ∷ (name_tokens t ++ filtered_tokens test_tokens xs)) ≡ goal_tokens g ++ (Word (codes "from") ∷ (name_tokens u ++ filtered_tokens test_tokens ys)) = cc in
+    let goals = goal_decodes f g _ _ rest in
+    let table : t ≡ u = cc (goals.1) in
+    let tests : filtered_tokens test_tokens xs ≡ filtered_tokens test_tokens ys = cc (goals.1) in
+    let c = filtered_decodes Never test_tokens (λ x. x) (λ x y r z f g e. test_decodes x y r z e) xs ys tests in
+    let d = goals.0 in
+    λ i. statements.Range (d i) (table i) (c i)
 statement_same statements.Dump statements.Dump e = refl
 statement_same statements.ShowTables statements.ShowTables e = refl
 statement_same statements.ShowLog statements.ShowLog e = refl

@@ -17,7 +17,7 @@ use Rattle.spj_syntax.specs.Shapes.{one, word, FirstFault}
 use Rattle.spj_syntax.specs.Grammar as grammar
 use Rattle.spj_syntax.specs.Factored.{statement, plain}
 use Rattle.spj_syntax.specs.Walk.{Past, read, Opens, opens, has, only_if}
-use Rattle.spj_syntax.specs.Parsed.{IsStatement, IsSyntaxFault, IsInRange, Fits, AllFit, IsFirstUnfit, Refuses, fault_of, is_set, lexemes, place_of}
+use Rattle.spj_syntax.specs.Parsed.{IsStatement, IsSyntaxFault, IsIntInRange, Fits, AllLexemesFit, IsFirstUnfit, RefusesTokens, fault_of, is_set, lexemes, place_of}
 use Rattle.spj_syntax.specs.Reading.{PlainFit, Took, Failed, IsUnfit, Parses, failure_of}
 use Rattle.spj_syntax.specs.Written.{statement_tokens}
 use Rattle.spj_syntax.proofs.Steps.{opens_then, took_left, took_right, fails_left, fails_right}
@@ -104,13 +104,13 @@ unfit_not set (Number z) at k n e = (cc)
 unfit_not set (Quoted t) at k n e = (cc)
 unfit_not set (Mark s) at k n e = n tt
 
-pub refused : {set : Bool} (text : List ℕ) (tokens : List Token) (fault : SyntaxFault) → is_set (lexemes text tokens) ≡ set → IsFirstUnfit set text tokens fault → IsStatement (lexemes text tokens) → Refuses text tokens fault
+pub refused : {set : Bool} (text : List ℕ) (tokens : List Token) (fault : SyntaxFault) → is_set (lexemes text tokens) ≡ set → IsFirstUnfit set text tokens fault → IsStatement (lexemes text tokens) → RefusesTokens text tokens fault
 refused {set = set} text tokens (At k) e f s = absurd (unfit_not set (lexeme text f.token) f.token.span.from k f.unfit f.fault_is)
 refused text tokens (OutOfRange k) e f s = (s, subst (λ b. IsFirstUnfit b text tokens (OutOfRange k)) (sym e) f)
 refused text tokens (TextTooLong k) e f s = (s, subst (λ b. IsFirstUnfit b text tokens (TextTooLong k)) (sym e) f)
 refused text tokens (LongName k) e f s = (s, subst (λ b. IsFirstUnfit b text tokens (LongName k)) (sym e) f)
 
-pub all_fit : {set : Bool} (ls : List Lexeme) → is_set ls ≡ set → AllByRecursion (Fits set) ls → AllFit ls
+pub all_fit : {set : Bool} (ls : List Lexeme) → is_set ls ≡ set → AllByRecursion (Fits set) ls → AllLexemesFit ls
 all_fit ls e a = subst (λ b. AllByRecursion (Fits b) ls) (sym e) a
 
 pub accepted : (text : List ℕ) (tokens : List Token) (v : Statement) → is_set (lexemes text tokens) ≡ false → PlainFit (lexemes text tokens)
@@ -142,7 +142,7 @@ set_tokens z = Word (codes "set") ∷ Word (codes "conflicts") ∷ Number z ∷ 
 pub set_ended : (ls rest : List Lexeme) (z : ℤ) → ls ≡ Word (codes "set") ∷ Word (codes "conflicts") ∷ Number z ∷ rest → length rest ≡ 0 → ls ≡ set_tokens z
 set_ended ls rest z e n = e ∙ ap (λ r. Word (codes "set") ∷ Word (codes "conflicts") ∷ Number z ∷ r) (empty rest n)
 
-in_range : (n : ℕ) → n < 2 ^ 32 → IsInRange true (pos n)
+in_range : (n : ℕ) → n < 2 ^ 32 → IsIntInRange true (pos n)
 in_range n h = (omega (arith, ints), omega (arith, ints))
 
 pub set_accepted : (text : List ℕ) (tokens : List Token) (z : ℤ) (n : ℕ) → is_set (lexemes text tokens) ≡ true → lexemes text tokens ≡ set_tokens z → z ≡ pos n → n < 2 ^ 32 → IsStatement (lexemes text tokens)
@@ -160,7 +160,7 @@ fault_there (Word w) z at e = (cc)
 fault_there (Quoted w) z at e = (cc)
 fault_there (Mark w) z at e = (cc)
 
-pub set_refused : (text : List ℕ) (tokens : List Token) (z : ℤ) (d : Token) → lexemes text tokens ≡ set_tokens z → ¬ IsInRange true z → IsFirstUnfit true text tokens (OutOfRange (get_or tokens 2 d).span.from)
+pub set_refused : (text : List ℕ) (tokens : List Token) (z : ℤ) (d : Token) → lexemes text tokens ≡ set_tokens z → ¬ IsIntInRange true z → IsFirstUnfit true text tokens (OutOfRange (get_or tokens 2 d).span.from)
 set_refused text [] z d h n = absurd (cc)
 set_refused text (a ∷ []) z d h n = absurd (cc)
 set_refused text (a ∷ b ∷ []) z d h n = absurd (cc)

@@ -2,7 +2,7 @@
 use Rattle.std.specs.Prelude.{codes}
 use Rattle.script_lex.specs.declared.kinds.Symbol.TheVariants.{Open, Close, Comma, Eq}
 use Rattle.spj_syntax.specs.Shapes.{word, mark, Shape, one, ◌⨾◌, ◌∣◌, many}
-use Rattle.spj_syntax.specs.Grammar.{a_name, listed, filtered, literal, strict, column, key, col, op_but_equal, head, verb, set, one_of, direct}
+use Rattle.spj_syntax.specs.Grammar.{a_name, listed, filtered, literal, strict, column, key, col, op_but_equal, head, verb, range, set, one_of, direct}
 
 -- Each column has its comma behind it.
 abbrev pub columns : Shape
@@ -40,7 +40,7 @@ show = one (word (codes "show")) ⨾ (one (word (codes "tables")) ∣ one (word 
 
 -- statements that change nothing
 abbrev pub telling : Shape
-telling = one (word (codes "dump")) ∣ show ∣ asking
+telling = range ∣ one (word (codes "dump")) ∣ show ∣ asking
 
 -- all statements but `set`
 abbrev pub plain : Shape

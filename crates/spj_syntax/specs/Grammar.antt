@@ -103,6 +103,13 @@ copy = one (word (codes "copy")) ⨾ a_name
 abbrev pub set : Shape
 set = one (word (codes "set")) ⨾ one (word (codes "conflicts")) ⨾ one int
 
+-- what is asked of the rows of a table: their number, or the sum, the least or the greatest value of a column
+abbrev pub goal : Shape
+goal = one (word (codes "count")) ∣ one (word (codes "sum")) ⨾ a_name ∣ one (word (codes "min")) ⨾ a_name ∣ one (word (codes "max")) ⨾ a_name
+
+abbrev pub range : Shape
+range = one (word (codes "range")) ⨾ goal ⨾ one (word (codes "from")) ⨾ a_name ⨾ filtered test
+
 abbrev pub show : Shape
 show = one (word (codes "show")) ⨾ one (word (codes "tables")) ∣ one (word (codes "show")) ⨾ one (word (codes "log"))
 
@@ -113,7 +120,7 @@ one_of (p ∷ ps) rest = p ∣ one_of ps rest
 
 -- the statements that begin as no other does, and are read as they are written here
 abbrev pub direct : List Shape
-direct = insert ∷ delete ∷ copy ∷ one (word (codes "dump")) ∷ []
+direct = insert ∷ delete ∷ copy ∷ range ∷ one (word (codes "dump")) ∷ []
 
 abbrev pub statement : Shape
 statement = set ∣ create ∣ alter ∣ one_of direct (show ∣ asking)

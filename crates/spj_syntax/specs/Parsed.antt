@@ -38,19 +38,19 @@ is_set (Word w ∷ ls) = pointwise nat_eq (codes "set") w
 is_set _ = false
 
 -- The int of a `set` is a number of conflicts, any other is one of 64 bits.
-abbrev pub IsInRange : Bool → ℤ → Type 0
-IsInRange true z = (pos 0 ≤ℤ z) × (z ≤ℤ pos most_conflicts)
-IsInRange false z = IsTrue (is_in_range z)
+abbrev pub IsIntInRange : Bool → ℤ → Type 0
+IsIntInRange true z = (pos 0 ≤ℤ z) × (z ≤ℤ pos most_conflicts)
+IsIntInRange false z = IsTrue (is_in_range z)
 
 -- Neither a name nor a text is too long.
 abbrev pub Fits : Bool → Lexeme → Type 0
 Fits set (Word w) = length w ≤ LONGEST_NAME
-Fits set (Number z) = IsInRange set z
+Fits set (Number z) = IsIntInRange set z
 Fits set (Quoted t) = length t ≤ LONGEST_TEXT_VALUE
 Fits set (Mark s) = Unit {0}
 
-abbrev pub AllFit : List Lexeme → Type 0
-AllFit ls = AllByRecursion (Fits (is_set ls)) ls
+abbrev pub AllLexemesFit : List Lexeme → Type 0
+AllLexemesFit ls = AllByRecursion (Fits (is_set ls)) ls
 
 -- what a token that doesn't fit is refused by
 abbrev pub fault_of : Lexeme → ℕ → SyntaxFault
@@ -70,6 +70,6 @@ pub record IsFirstUnfit (set : Bool) (text : List ℕ) (tokens : List Token) (fa
   pub fault_is : fault ≡ fault_of (lexeme text token) token.span.from
 
 -- why the tokens of a text are refused: the first fault of syntax, else the first token that doesn't fit
-abbrev pub Refuses : List ℕ → List Token → SyntaxFault → Type 0
-Refuses text tokens (At at) = IsSyntaxFault text tokens at
-Refuses text tokens fault = IsStatement (lexemes text tokens) × IsFirstUnfit (is_set (lexemes text tokens)) text tokens fault
+abbrev pub RefusesTokens : List ℕ → List Token → SyntaxFault → Type 0
+RefusesTokens text tokens (At at) = IsSyntaxFault text tokens at
+RefusesTokens text tokens fault = IsStatement (lexemes text tokens) × IsFirstUnfit (is_set (lexemes text tokens)) text tokens fault

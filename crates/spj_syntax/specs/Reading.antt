@@ -16,7 +16,7 @@ use Rattle.spj_syntax.specs.declared.lists.Between.{Between}
 use Rattle.spj_syntax.specs.declared.lists.Between.TheVariants.{Comma, And}
 use Rattle.script_lex.specs.declared.kinds.Symbol.TheVariants as s
 use Rattle.spj_syntax.specs.Shapes.{Terminal, word, mark, Shape}
-use Rattle.spj_syntax.specs.Parsed.{Fits, AllFit, IsStatement, Refuses, fault_of, lexemes, place_of}
+use Rattle.spj_syntax.specs.Parsed.{Fits, AllLexemesFit, IsStatement, RefusesTokens, fault_of, lexemes, place_of}
 use Rattle.cqa_model.specs.declared.schema.Column.{Column}
 use Rattle.spj_syntax.specs.Written.{IsWrittenAs, column_tokens, key_tokens}
 use Rattle.spj_syntax.specs.declared.tree.Statement.{Statement}
@@ -124,6 +124,6 @@ failure_of NoMemory text rest = FailNoMemory
 
 -- the answer of the parser
 abbrev pub Parses : List ℕ → List Token → Result Statement (Fail SyntaxFault) → Type 0
-Parses text tokens (Ok statement) = IsStatement (lexemes text tokens) × AllFit (lexemes text tokens) × IsWrittenAs statement (lexemes text tokens)
+Parses text tokens (Ok statement) = IsStatement (lexemes text tokens) × AllLexemesFit (lexemes text tokens) × IsWrittenAs statement (lexemes text tokens)
 Parses text tokens (Err FailNoMemory) = Unit {0}
-Parses text tokens (Err (Refused fault)) = Refuses text tokens fault
+Parses text tokens (Err (Refused fault)) = RefusesTokens text tokens fault

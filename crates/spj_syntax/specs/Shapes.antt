@@ -63,17 +63,17 @@ Generates (many p) ls = (parts : List (List Lexeme)) × AllByRecursion (Generate
 Generates nothing ls = ls ≡ []
 
 -- They begin what the shape generates.
-abbrev pub Begins : Shape → List Lexeme → Type 0
-Begins p front = (more : List Lexeme) × Generates p (front ++ more)
+abbrev pub BeginsShape : Shape → List Lexeme → Type 0
+BeginsShape p front = (more : List Lexeme) × Generates p (front ++ more)
 
 -- With the next token they begin nothing, or they end too early.
 abbrev pub Stuck : Shape → List Lexeme → List Lexeme → Type 0
 Stuck p front [] = ¬ Generates p front
-Stuck p front (t ∷ rest) = ¬ Begins p (front ++ t ∷ [])
+Stuck p front (t ∷ rest) = ¬ BeginsShape p (front ++ t ∷ [])
 
 -- The first fault stands before the rest: the tokens before it begin what the shape generates, and with it they begin nothing.
 pub record FirstFault (p : Shape) (ls rest : List Lexeme) : Type 0 where
   pub front : List Lexeme
   pub split : ls ≡ front ++ rest
-  pub begins : Begins p front
+  pub begins : BeginsShape p front
   pub stuck : Stuck p front rest

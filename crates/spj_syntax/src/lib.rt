@@ -12,4 +12,4 @@ mod tree;
 
 pub use fault::SyntaxFault;
 pub use parser::parse;
-pub use tree::{Change, RawCol, RawCond, RawSchema, RawTest, Select, Statement, Verb};
+pub use tree::{Change, RawCol, RawCond, RawGoal, RawSchema, RawTest, Select, Statement, Verb};

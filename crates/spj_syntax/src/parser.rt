@@ -7,7 +7,7 @@ ghost use Rattle.cqa_value.specs.declared.memory.Fail.TheVariants.{NoMemory, Ref
 ghost use Rattle.script_lex.specs.Tokens.{Spells, longest_text};
 ghost use Rattle.spj_syntax.specs.Lexemes.{Word, Number, lexeme, undoubled};
 ghost use Rattle.spj_syntax.specs.Limits.{most_tokens};
-ghost use Rattle.spj_syntax.specs.Parsed.{AllFit, Fits, IsStatement, IsFirstUnfit, IsInRange, Refuses, is_set, lexemes, place_of};
+ghost use Rattle.spj_syntax.specs.Parsed.{AllLexemesFit, Fits, IsStatement, IsFirstUnfit, IsIntInRange, RefusesTokens, is_set, lexemes, place_of};
 ghost use Rattle.spj_syntax.specs.Reading.{IsReadable, IsUnfit, Parses, PlainFit, failure_of};
 ghost use Rattle.spj_syntax.specs.Written.{IsWrittenAs, IsSmall};
 ghost use Rattle.spj_syntax.specs.declared.tree.Statement.{Statement};
@@ -147,7 +147,7 @@ fn parse_plain(alloc: Global, text: &[u8], tokens: &[Token]) -> Result<Statement
 /// The number that digits write where it is one of conflicts.
 fn conflicts(digits: &[u8]) -> Option<u32>
     requires { IsTrue (are_digits (without_minus digits.now)) }
-    ensures { MatchOption result (¬ IsInRange true (integer_of digits.now)) (λ number. integer_of digits.now ≡ pos number) }
+    ensures { MatchOption result (¬ IsIntInRange true (integer_of digits.now)) (λ number. integer_of digits.now ≡ pos number) }
 {
     let number = read_int(digits)?;
     u32::try_from(number).ok()
@@ -219,19 +219,19 @@ pub fn parse(alloc: Global, text: &[u8], tokens: &[Token]) -> Result<Statement, 
     requires short { length text.now ≤ longest_text }
     // The tokens are a statement of the grammar, they fit, and the statement is written as them.
     ensures statement { OnOk result (IsStatement (lexemes text.now tokens.now)) }
-    ensures fit { OnOk result (AllFit (lexemes text.now tokens.now)) }
+    ensures fit { OnOk result (AllLexemesFit (lexemes text.now tokens.now)) }
     ensures written { IfOk result (λ statement. IsWrittenAs statement (lexemes text.now tokens.now)) }
 
     // Its rows or its tests can be counted.
     ensures small { IfOk result (λ statement. IsSmall statement) }
 
     // A statement that fits is read, unless memory runs out; and no other statement is written so.
-    ensures complete { IsStatement (lexemes text.now tokens.now) → AllFit (lexemes text.now tokens.now) → MatchResult result (λ _. Unit {0}) (λ e. e ≡ NoMemory) }
+    ensures complete { IsStatement (lexemes text.now tokens.now) → AllLexemesFit (lexemes text.now tokens.now) → MatchResult result (λ _. Unit {0}) (λ e. e ≡ NoMemory) }
     ensures only { (statement : Statement) → IsWrittenAs statement (lexemes text.now tokens.now) → IfOk result (λ found. found ≡ statement) }
 
     // A refusal names the first fault of syntax, else the first token that doesn't fit; and where there is one, it is the answer, unless memory runs out.
-    ensures refused { (fault : SyntaxFault) → result ≡ Err (Refused fault) → Refuses text.now tokens.now fault }
-    ensures only_fault { (fault : SyntaxFault) → Refuses text.now tokens.now fault → MatchResult result (λ _. ⊥) (λ e. (e ≡ Refused fault) ⊎ (e ≡ NoMemory)) }
+    ensures refused { (fault : SyntaxFault) → result ≡ Err (Refused fault) → RefusesTokens text.now tokens.now fault }
+    ensures only_fault { (fault : SyntaxFault) → RefusesTokens text.now tokens.now fault → MatchResult result (λ _. ⊥) (λ e. (e ≡ Refused fault) ⊎ (e ≡ NoMemory)) }
 {
     parse_readable(alloc, text, tokens)
 }

@@ -5,14 +5,14 @@ ghost use Rattle.cqa_value.specs.Literals.{integer_of, are_digits, without_minus
 ghost use Rattle.spj_syntax.specs.Lexemes.{Word, Number, Mark};
 ghost use Rattle.spj_syntax.specs.Reading.{Reads, Took, body_tokens};
 ghost use Rattle.spj_syntax.specs.Shapes.{◌⨾◌};
-ghost use Rattle.spj_syntax.specs.Written.{strict_tokens, key_tokens, change_tokens, HasKey, head_tokens, select_tokens, verb_tokens, statement_tokens, listed_tokens, literal_tokens, name_tokens, row_tokens, IsSmall};
+ghost use Rattle.spj_syntax.specs.Written.{strict_tokens, key_tokens, change_tokens, HasKey, head_tokens, select_tokens, verb_tokens, goal_tokens, statement_tokens, listed_tokens, literal_tokens, name_tokens, row_tokens, IsSmall};
 ghost use Rattle.cqa_model.specs.Valid.{IsName};
 ghost use Rattle.spj_syntax.specs.Grammar as grammar;
 ghost use Rattle.spj_syntax.specs.Factored as factored;
 
 use crate::lists::{columns, filtered, listed, literals};
 use crate::reader::{Reader, Stop};
-use crate::{Change, RawCol, RawSchema, Select, Statement, Verb};
+use crate::{Change, RawCol, RawGoal, RawSchema, Select, Statement, Verb};
 use cqa_model::Column;
 use cqa_value::{Items, Name, Row};
 use script_lex::Symbol;
@@ -236,6 +236,42 @@ fn copy(alloc: Global, reader: &mut Reader<'_>) -> Result<Statement, Stop>
     Ok(Statement::Copy { table })
 }
 
+/// `count`, or `sum NAME`, `min NAME` or `max NAME`.
+fn goal(alloc: Global, reader: &mut Reader<'_>) -> Result<RawGoal, Stop>
+    ensures { Reads grammar.goal goal_tokens result reader.old reader.new }
+{
+    if reader.sees_word(b"count") {
+        reader.advance();
+        return Ok(RawGoal::Count);
+    }
+    if reader.sees_word(b"sum") {
+        reader.advance();
+        let summed = reader.name(alloc)?;
+        return Ok(RawGoal::Sum(summed));
+    }
+    if reader.sees_word(b"min") {
+        reader.advance();
+        let least = reader.name(alloc)?;
+        return Ok(RawGoal::Min(least));
+    }
+    reader.word(b"max")?;
+    let greatest = reader.name(alloc)?;
+    Ok(RawGoal::Max(greatest))
+}
+
+/// `range GOAL from NAME [where TEST and ..]`.
+fn range(alloc: Global, reader: &mut Reader<'_>) -> Result<Statement, Stop>
+    ensures reads { Reads grammar.range statement_tokens result reader.old reader.new }
+    ensures small { IfOk result (λ s. IsSmall s) }
+{
+    reader.word(b"range")?;
+    let goal = goal(alloc, reader)?;
+    reader.word(b"from")?;
+    let table = reader.name(alloc)?;
+    let tests = filtered(alloc, reader)?;
+    Ok(Statement::Range { goal, table, tests })
+}
+
 /// `show tables` or `show log`.
 fn show(reader: &mut Reader<'_>) -> Result<Statement, Stop>
     ensures reads { Reads factored.show statement_tokens result reader.old reader.new }
@@ -266,6 +302,9 @@ fn telling(alloc: Global, reader: &mut Reader<'_>) -> Result<Statement, Stop>
     ensures reads { Reads factored.telling statement_tokens result reader.old reader.new }
     ensures small { IfOk result (λ s. IsSmall s) }
 {
+    if reader.sees_word(b"range") {
+        return range(alloc, reader);
+    }
     if reader.sees_word(b"dump") {
         reader.advance();
         return Ok(Statement::Dump);

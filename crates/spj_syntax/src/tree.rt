@@ -28,7 +28,7 @@ pub enum Change {
     SetKey(Items<Name>),
 }
 
-/// A test of a `delete`.
+/// A test of a row of one table: a column of it and a literal, compared.
 #[derive(Drop)]
 pub struct RawTest {
     pub col: Name,
@@ -72,16 +72,46 @@ pub enum Verb {
     Explain { row: Row },
 }
 
+/// What a `range` asks of the rows of a table: their number, or the sum, the least or the greatest value of a column.
+#[derive(Drop)]
+pub enum RawGoal {
+    Count,
+    Sum(Name),
+    Min(Name),
+    Max(Name),
+}
+
 /// A statement of the script language.
 #[derive(Drop)]
 pub enum Statement {
-    Create { schema: RawSchema },
-    Alter { table: Name, change: Change },
-    Insert { table: Name, rows: Items<Row> },
-    Delete { table: Name, tests: Items<RawTest> },
-    Asking { verb: Verb, select: Select },
+    Create {
+        schema: RawSchema,
+    },
+    Alter {
+        table: Name,
+        change: Change,
+    },
+    Insert {
+        table: Name,
+        rows: Items<Row>,
+    },
+    Delete {
+        table: Name,
+        tests: Items<RawTest>,
+    },
+    Asking {
+        verb: Verb,
+        select: Select,
+    },
     SetConflicts(u32),
-    Copy { table: Name },
+    Copy {
+        table: Name,
+    },
+    Range {
+        goal: RawGoal,
+        table: Name,
+        tests: Items<RawTest>,
+    },
     Dump,
     ShowTables,
     ShowLog,

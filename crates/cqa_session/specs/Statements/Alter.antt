@@ -1,11 +1,12 @@
 -- `alter`
 use Rattle.std.specs.Prelude.{◌≡◌, ℕ, List, Option, Some, None, true, false}
-use Rattle.cqa_model.specs.declared.refusal.Refusal.{Refusal}
+use Rattle.refusals.specs.declared.refusal.Refusal.{Refusal}
 use Rattle.cqa_model.specs.Database.{Table}
-use Rattle.cqa_model.specs.Refusal.{first_of}
+use Rattle.refusals.specs.Refusal.{first_of}
 use Rattle.spj_syntax.specs.declared.tree.Change.{Change}
 use Rattle.spj_syntax.specs.declared.tree.Change.TheVariants.{SetStrict, DropStrict, SetKey}
-use Rattle.table_blocks.specs.Tables.{table_named, with_mark, strict_fault, rekey_fault, Rekeys}
+use Rattle.table_blocks.specs.Tables.{table_named, with_mark, Rekeys}
+use Rattle.table_changes.specs.Changes.{strict_fault, rekey_fault}
 use Rattle.query_resolve.specs.Names.{columns_at, places_of}
 use Rattle.query_resolve.specs.Checks.{new_key_fault}
 use Rattle.query_resolve.specs.Resolved.{IsKeyOf}

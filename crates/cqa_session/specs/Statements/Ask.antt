@@ -2,13 +2,13 @@
 use Rattle.std.specs.Prelude.{◌≡◌, List}
 use Rattle.cqa_value.specs.declared.value.Value.{Value}
 use Rattle.cqa_model.specs.declared.query.Query.{Query}
-use Rattle.cqa_model.specs.declared.refusal.Refusal.{Refusal}
-use Rattle.cqa_model.specs.declared.refusal.Refusal.TheVariants.{WitnessLimit, Spent}
+use Rattle.refusals.specs.declared.refusal.Refusal.{Refusal}
+use Rattle.refusals.specs.declared.refusal.Refusal.TheVariants.{WitnessLimit, Spent}
 use Rattle.cqa_model.specs.Database.{Table}
 use Rattle.cqa_model.specs.Certain.{IsCandidate, IsCertainAnswer}
-use Rattle.join_witness.specs.Listing.{HasTooMany}
+use Rattle.join_access.specs.Listing.{HasTooMany}
 use Rattle.search_answers.specs.Searching.{NoneBefore}
-use Rattle.row_reasons.specs.Reasons.{NeedsSearch}
+use Rattle.query_strategy.specs.Strategies.{NeedsSearch}
 use Rattle.spj_syntax.specs.declared.tree.Select.{Select}
 use Rattle.query_resolve.specs.Resolved.{IsQueryOf}
 use Rattle.reply_text.specs.declared.reply.Reply.{Reply}

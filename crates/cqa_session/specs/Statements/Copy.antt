@@ -1,10 +1,11 @@
 -- `copy`
 use Rattle.std.specs.Prelude.{◌≡◌, ◌⊎◌, ℕ, List, [], Option, Some, None}
 use Rattle.cqa_value.specs.declared.value.Value.{Value}
-use Rattle.cqa_model.specs.declared.refusal.Refusal.{Refusal}
-use Rattle.cqa_model.specs.declared.refusal.Refusal.TheVariants.{BadCsv}
+use Rattle.refusals.specs.declared.refusal.Refusal.{Refusal}
+use Rattle.refusals.specs.declared.refusal.Refusal.TheVariants.{BadCsv}
 use Rattle.cqa_model.specs.Database.{Table}
-use Rattle.table_blocks.specs.Tables.{table_named, kinds_at, insert_fault, Inserts}
+use Rattle.table_blocks.specs.Tables.{table_named, kinds_at}
+use Rattle.table_changes.specs.Changes.{insert_fault, Inserts}
 use Rattle.csv_rows.specs.Blocks.{HoldsRows, IsFirstBad}
 use Rattle.reply_text.specs.declared.reply.Reply.{Reply}
 use Rattle.reply_text.specs.declared.reply.Reply.TheVariants.{Copied, Refused}

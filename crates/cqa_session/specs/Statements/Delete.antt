@@ -1,6 +1,6 @@
 -- `delete`
 use Rattle.std.specs.Prelude.{◌≡◌, ℕ, List, Option, Some}
-use Rattle.cqa_model.specs.declared.refusal.Refusal.{Refusal}
+use Rattle.refusals.specs.declared.refusal.Refusal.{Refusal}
 use Rattle.cqa_model.specs.Database.{Table}
 use Rattle.spj_syntax.specs.declared.tree.RawTest.{RawTest}
 use Rattle.table_blocks.specs.declared.test.ColumnTest.{ColumnTest}

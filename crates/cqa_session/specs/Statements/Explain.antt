@@ -1,31 +1,23 @@
 -- `explain`
-use Rattle.std.specs.Prelude.{◌≡◌, ℕ, List, [], map, Some, slice_index_or}
+use Rattle.std.specs.Prelude.{◌≡◌, ℕ, List, map, Some}
 use Rattle.cqa_value.specs.declared.value.Value.{Value}
 use Rattle.cqa_model.specs.declared.query.RowId.{RowId}
 use Rattle.cqa_model.specs.declared.query.Query.{Query}
-use Rattle.cqa_model.specs.declared.refusal.Refusal.{Refusal}
-use Rattle.cqa_model.specs.declared.refusal.Refusal.TheVariants.{WitnessLimit, Spent}
-use Rattle.cqa_model.specs.Database.{Table, stored, names_of}
-use Rattle.join_witness.specs.Listing.{HasTooMany}
-use Rattle.row_reasons.specs.declared.reason.Reason.TheVariants as reasons
-use Rattle.row_reasons.specs.Reasons.{NeedsSearch, IsReason, IsOverLimit}
+use Rattle.refusals.specs.declared.refusal.Refusal.{Refusal}
+use Rattle.refusals.specs.declared.refusal.Refusal.TheVariants.{WitnessLimit, Spent}
+use Rattle.join_access.specs.Listing.{HasTooMany}
+use Rattle.query_strategy.specs.declared.reason.Reason.TheVariants as reasons
+use Rattle.query_strategy.specs.Strategies.{NeedsSearch}
 use Rattle.spj_syntax.specs.declared.tree.Select.{Select}
 use Rattle.query_resolve.specs.Checks.{answer_fault}
 use Rattle.query_resolve.specs.Resolved.{IsQueryOf}
-use Rattle.reply_text.specs.declared.reply.KeptRow.{KeptRow}
 use Rattle.reply_text.specs.declared.reply.Reply.{Reply}
 use Rattle.reply_text.specs.declared.reply.Reply.TheVariants.{ByBlock, ByRefutation, Rejected, Refused}
 use Rattle.cqa_session.specs.State.{State}
+use Rattle.cqa_session.specs.Reasons.{IsReason, IsOverLimit}
 use Rattle.cqa_session.specs.Replying.{Replies}
 use Rattle.cqa_session.specs.Statements.Spent.{SpendsAt}
-
--- the name of the table at a place
-abbrev pub name_at : List Table → ℕ → List ℕ
-name_at db table = slice_index_or (names_of db) table []
-
--- the line of a row that a repair keeps
-abbrev pub kept_line : List Table → RowId → KeptRow
-kept_line db name = record { table = name_at db name.table; row = slice_index_or (slice_index_or (stored db) name.table []) name.place [] }
+use Rattle.cqa_session.specs.Statements.Kept.{name_at, kept_line}
 
 -- What is refused: the row has too many witnesses to be told by its formula; or there is a search, and the budget is used up
 -- for it.

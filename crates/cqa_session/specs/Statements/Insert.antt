@@ -1,9 +1,10 @@
 -- `insert`
 use Rattle.std.specs.Prelude.{◌≡◌, ℕ, List, Option, Some}
 use Rattle.cqa_value.specs.declared.value.Value.{Value}
-use Rattle.cqa_model.specs.declared.refusal.Refusal.{Refusal}
+use Rattle.refusals.specs.declared.refusal.Refusal.{Refusal}
 use Rattle.cqa_model.specs.Database.{Table}
-use Rattle.table_blocks.specs.Tables.{table_named, insert_fault, Inserts}
+use Rattle.table_blocks.specs.Tables.{table_named}
+use Rattle.table_changes.specs.Changes.{insert_fault, Inserts}
 use Rattle.reply_text.specs.declared.reply.Reply.{Reply}
 use Rattle.reply_text.specs.declared.reply.Reply.TheVariants.{Inserted}
 use Rattle.cqa_session.specs.State.{State, ChangesOnlyTables}

@@ -11,6 +11,7 @@ use Rattle.spj_syntax.specs.declared.tree.Select.{Select}
 use Rattle.query_resolve.specs.Names.{columns_at}
 use Rattle.query_resolve.specs.Resolved.{IsQueryOf}
 use Rattle.sql_text.specs.declared.names.Names.{Names}
+use Rattle.plan_sql.specs.Laws.{IsExactSql}
 use Rattle.plan_sql.specs.Statement.{sql_of}
 use Rattle.sql_text.specs.Texts.{sql_bytes}
 use Rattle.reply_text.specs.declared.reply.Reply.{Reply}
@@ -25,9 +26,10 @@ column_names db table = map (λ (column : Column). column.name) (columns_at db t
 abbrev pub names_in : List Table → List (List ℕ) → Query → Names
 names_in db tables q = record { tables = tables; columns = map (λ (atom : Atom). column_names db atom.table) q.atoms }
 
--- what is told of a query: the text of its plan in SQL, or that there is none, since the attacks have a cycle
+-- what is told of a query: the text of its plan in SQL, which means exactly its certain rows; or that there is none, since the
+-- attacks have a cycle
 abbrev pub TellsSql : Query → Names → Reply → Type 0
-TellsSql q names (Sql text) = (plan : List ℕ) × IsPlanOf q plan × (text ≡ sql_bytes q names (sql_of q plan))
+TellsSql q names (Sql text) = (plan : List ℕ) × IsPlanOf q plan × IsExactSql q (sql_of q plan) × (text ≡ sql_bytes q names (sql_of q plan))
 TellsSql q names NoPlan = HasCycle q (whole q)
 TellsSql q names _ = ⊥
 

@@ -1,21 +1,22 @@
 //! `alter`: a table gets another mark or another key.
 
 ghost use Rattle.std.specs.Prelude.{◌≡◌, ◌<◌, OnOk, OnErr, length};
-ghost use Rattle.cqa_model.specs.Refusal.{Checked};
+ghost use Rattle.refusals.specs.Refusal.{Checked};
 ghost use Rattle.spj_syntax.specs.Written.{HasKey};
-ghost use Rattle.table_blocks.specs.Tables.{IsStored};
+ghost use Rattle.table_blocks.specs.Tables.{AreValidTables};
 ghost use Rattle.cqa_session.specs.Replying.{Replies, IsOutcome};
 ghost use Rattle.cqa_session.specs.Statements.Alter.{change_fault, alter_fault, Changes, Alters};
 
 use crate::Session;
 use crate::statements::table_place::table_place;
-use cqa_model::Refusal;
 use cqa_value::{Fail, Name};
 use query_resolve::resolve_key;
+use refusals::Refusal;
 use reply_text::Reply;
 use spj_syntax::Change;
 use std::alloc::Global;
 use table_blocks::Database;
+use table_changes::{set_key, set_strict};
 
 /// Changes the mark or the key of a table.
 ///
@@ -48,17 +49,17 @@ fn apply(
     requires key { HasKey change.now }
     ensures checked { Checked result (change_fault database.old change.now table) (λ _. Changes database.old table change.now database.new) }
     ensures err { OnErr result (database.new ≡ database.old) }
-    ensures stored { OnOk result (IsStored database.new) }
+    ensures stored { OnOk result (AreValidTables database.new) }
 {
     match change {
-        Change::SetStrict => database.set_strict(table),
+        Change::SetStrict => set_strict(database, table),
         Change::DropStrict => {
             database.drop_strict(table);
             Ok(())
         }
         Change::SetKey(names) => {
             let key = resolve_key(alloc, database, table, names.as_slice())?;
-            database.set_key(table, key)
+            set_key(database, table, key)
         }
     }
 }

@@ -1,25 +1,50 @@
 //! `ask`: the certain rows of a query, by an elimination order, or over pairs of rows, or by search.
 //! A search that used up its budget keeps its log.
 
+ghost use Rattle.std.specs.Prelude.{IfOk};
+ghost use Rattle.cqa_model.specs.Plan.{IsEliminationOf};
 ghost use Rattle.cqa_model.specs.Query.{FitsDatabase};
 ghost use Rattle.query_resolve.specs.Checks.{query_fault};
 ghost use Rattle.search_answers.specs.Searching.{IsSearched, IsStop};
 ghost use Rattle.weak_pairs.specs.Pairs.{IsPair};
-ghost use Rattle.row_reasons.specs.Reasons.{HasNoPlan, NeedsSearch};
+ghost use Rattle.fo_rewrite.specs.Planning.{IsExact};
+ghost use Rattle.query_strategy.specs.Strategies.{HasNoPlan, IsStrategyOf, NeedsSearch};
 ghost use Rattle.cqa_session.specs.Replying.{Replies, IsOutcome};
 ghost use Rattle.cqa_session.specs.Statements.Ask.{AnswersCertain, StopsAt, TellsCertain};
 
 use crate::Session;
-use cqa_model::{Query, Refusal};
-use cqa_value::Fail;
+use cqa_model::{Plan, Query};
+use cqa_value::{Fail, NoMemory};
 use fo_plan::certain_by_plan;
-use pair_answers::is_pair;
 use pair_formula::certain_by_pairs;
 use query_resolve::resolve;
+use query_strategy::{Strategy, strategy_by_sizes};
+use refusals::Refusal;
 use reply_text::{Proof, Reply};
 use search_answers::{Searched, Stop, certain_by_search};
 use spj_syntax::Select;
 use std::alloc::Global;
+use table_blocks::Database;
+
+/// The number of rows of each atom's table.
+fn sizes_of(alloc: Global, db: &Database, query: &Query) -> Result<Vec<u32>, NoMemory>
+    requires { FitsDatabase query.now db.now }
+{
+    let mut sizes = Vec::new(alloc);
+    for atom in query.atoms.as_slice() {
+        sizes.push(db.rows(atom.table).len() as u32)?;
+    }
+    Ok(sizes)
+}
+
+/// The method of a query, whose order is good for evaluation over these tables.
+fn strategy_over(alloc: Global, db: &Database, query: &Query) -> Result<Strategy, NoMemory>
+    requires { FitsDatabase query.now db.now }
+    ensures { IfOk result (IsStrategyOf query.now) }
+{
+    let sizes = sizes_of(alloc, db, query)?;
+    strategy_by_sizes(alloc, query, sizes.as_slice())
+}
 
 /// Says why a search stopped. Where its budget is used up, the row's formula is kept with the spent log.
 fn stopped(session: &mut Session, query: &Query, stop: Stop) -> Refusal
@@ -69,27 +94,36 @@ fn by_pairs(alloc: Global, session: &mut Session, query: &Query) -> Result<Reply
     Ok(Reply::Rows(rows))
 }
 
-/// Answers a query whose attacks have a cycle.
-fn by_cycle(alloc: Global, session: &mut Session, query: &Query) -> Result<Reply, Fail<Refusal>>
+/// Answers a query by an order of its atoms.
+fn by_plan(
+    alloc: Global,
+    session: &mut Session,
+    query: &Query,
+    plan: &Plan,
+) -> Result<Reply, Fail<Refusal>>
     requires fits { FitsDatabase query.now session.old.tables }
-    requires cycle { HasNoPlan query.now }
+    requires acyclic { HasNoPlan query.now → ⊥ }
+    requires order { IsEliminationOf query.now plan.now.order }
+    requires exact { IsExact query.now plan.now.order }
     ensures { IsOutcome result session.old (TellsCertain session.old query.now) session.new }
 {
-    if is_pair(query) {
-        by_pairs(alloc, session, query)
-    } else {
-        by_search(alloc, session, query)
-    }
+    let rows = certain_by_plan(alloc, session.database(), query, plan)?;
+    Ok(Reply::Rows(rows))
 }
 
-/// Answers a query that fits the tables.
+/// Answers a query that fits the tables, by its method.
 fn ask_query(alloc: Global, session: &mut Session, query: &Query) -> Result<Reply, Fail<Refusal>>
     requires { FitsDatabase query.now session.old.tables }
     ensures { IsOutcome result session.old (TellsCertain session.old query.now) session.new }
 {
-    match certain_by_plan(alloc, session.database(), query)? {
-        Some(rows) => Ok(Reply::Rows(rows)),
-        None => by_cycle(alloc, session, query),
+    match strategy_over(alloc, session.database(), query)? {
+        Strategy::Plan(plan) => {
+            let reply = by_plan(alloc, session, query, &plan);
+            drop(plan);
+            reply
+        }
+        Strategy::Pair => by_pairs(alloc, session, query),
+        Strategy::Search => by_search(alloc, session, query),
     }
 }
 

@@ -12,11 +12,12 @@ ghost use Rattle.cqa_session.specs.Statements.Classify.{Classifies};
 
 use crate::Session;
 use attack_graph::{Attacks, attacks};
-use cqa_model::{MOST_ATOMS, Refusal};
+use cqa_model::MOST_ATOMS;
 use cqa_value::{Fail, Items, Name, NoMemory};
 use key_closure::View;
 use query_class::class_of;
 use query_resolve::resolve;
+use refusals::Refusal;
 use reply_text::{AttackLine, Reply};
 use spj_syntax::Select;
 use std::alloc::Global;

@@ -7,9 +7,9 @@ ghost use Rattle.cqa_session.specs.Statements.Copy.{block_bytes, copy_into_fault
 
 use crate::Session;
 use crate::statements::table_place::table_place;
-use cqa_model::Refusal;
 use cqa_value::{Fail, Name};
 use csv_rows::read_rows;
+use refusals::Refusal;
 use reply_text::Reply;
 use std::alloc::Global;
 
@@ -38,6 +38,6 @@ pub fn copy(
 {
     let table = table_place(alloc, &session.database, name)?;
     let rows = read_rows(alloc, session.database.schema(table), bytes_of(block))?;
-    let count = session.database.insert(table, rows)?;
+    let count = table_changes::insert(&mut session.database, table, rows)?;
     Ok(Reply::Copied(count))
 }

@@ -5,9 +5,9 @@ ghost use Rattle.cqa_session.specs.Replying.{Replies, IsOutcome};
 ghost use Rattle.cqa_session.specs.Statements.Create.{Creates};
 
 use crate::Session;
-use cqa_model::Refusal;
 use cqa_value::Fail;
 use query_resolve::resolve_schema;
+use refusals::Refusal;
 use reply_text::Reply;
 use spj_syntax::RawSchema;
 use std::alloc::Global;

@@ -7,9 +7,9 @@ ghost use Rattle.cqa_session.specs.Statements.Delete.{delete_from_fault, Deletes
 
 use crate::Session;
 use crate::statements::table_place::table_place;
-use cqa_model::Refusal;
 use cqa_value::{Fail, Name};
 use query_resolve::resolve_tests;
+use refusals::Refusal;
 use reply_text::Reply;
 use spj_syntax::RawTest;
 use std::alloc::Global;

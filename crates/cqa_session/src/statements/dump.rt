@@ -5,9 +5,9 @@ ghost use Rattle.cqa_session.specs.Replying.{Replies, IsOutcome};
 ghost use Rattle.cqa_session.specs.Statements.Dump.{Dumps};
 
 use crate::Session;
-use cqa_model::Refusal;
 use cqa_value::{Fail, Items};
 use csv_rows::append_table;
+use refusals::Refusal;
 use reply_text::Reply;
 use std::alloc::Global;
 

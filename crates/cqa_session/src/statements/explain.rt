@@ -1,55 +1,70 @@
 //! `explain`: why a row is certain for a query, or why it isn't.
 
-ghost use Rattle.std.specs.Prelude.{◌≡◌, ◌<◌, IfOk, OnErr, Some, [], length, map, slice_index_or};
-ghost use Rattle.cqa_model.specs.Database.{stored};
+ghost use Rattle.std.specs.Prelude.{◌≡◌, ◌<◌, ℕ, IfErr, IfOk, OnErr, Some, length, map};
 ghost use Rattle.cqa_model.specs.Query.{FitsDatabase};
 ghost use Rattle.repair_back.specs.Results.{AreStored};
-ghost use Rattle.row_reasons.specs.Reasons.{IsReason, IsStop};
+ghost use Rattle.weak_pairs.specs.Pairs.{IsPair};
+ghost use Rattle.query_strategy.specs.Strategies.{HasNoPlan};
 ghost use Rattle.query_resolve.specs.Checks.{query_fault, answer_fault};
+ghost use Rattle.cqa_session.specs.Reasons.{IsReason, IsStop, IsStopped};
 ghost use Rattle.cqa_session.specs.Replying.{Replies, IsOutcome};
-ghost use Rattle.cqa_session.specs.Statements.Explain.{name_at, kept_line, MayTell, Explains};
+ghost use Rattle.cqa_session.specs.Statements.Kept.{name_at, kept_line};
+ghost use Rattle.cqa_session.specs.Statements.Explain.{MayTell, Explains};
 
 use crate::Session;
-use cqa_model::{Query, Refusal, RowId};
-use cqa_value::{Fail, Items, Name, NoMemory, Row};
+use crate::statements::kept::{kept_rows, name_of};
+use cqa_model::{Query, RowId};
+use cqa_value::{Fail, Items, NoMemory, Row};
+use join_access::TooMany;
+use pair_formula::reason_by_pair;
+use plan_reasons::reason_by_plan;
 use query_resolve::{check_row, resolve};
-use reply_text::{KeptRow, Proof, Reply};
-use row_reasons::{Reason, Stop, explain_row};
+use query_strategy::{Reason, Strategy, Untold, strategy_of};
+use refusals::Refusal;
+use reply_text::{Proof, Reply};
+use search_answers::reason_by_search;
 use spj_syntax::Select;
 use std::alloc::Global;
 use table_blocks::Database;
 
-/// The name of a table.
-fn name_of(alloc: Global, db: &Database, table: u32) -> Result<Name, NoMemory>
-    requires { table < length db.now }
-    ensures { IfOk result (λ name. name ≡ name_at db.now table) }
+/// The reason of a row of a pair.
+fn of_pair(alloc: Global, db: &Database, query: &Query, row: &Row) -> Result<Reason, Fail<Untold>>
+    requires fits { FitsDatabase query.now db.now }
+    requires long { length row.now ≡ length query.now.answer }
+    requires cycle { HasNoPlan query.now }
+    requires pair { IsPair query.now }
+    ensures told { IfOk result (IsReason db.now query.now row.now) }
+    ensures stopped { (budget : ℕ) → IfErr result (IsStopped db.now query.now row.now budget) }
 {
-    db.schema(table).name.copy(alloc)
-}
-
-/// The line of a row that a repair keeps.
-fn kept_row(alloc: Global, db: &Database, name: RowId) -> Result<KeptRow, NoMemory>
-    requires table { name.table < length db.now }
-    requires place { name.place < length (slice_index_or (stored db.now) name.table []) }
-    ensures { IfOk result (λ line. line ≡ kept_line db.now name) }
-{
-    let row = db.rows(name.table).get(name.place as usize);
-    Ok(KeptRow {
-        table: name_of(alloc, db, name.table)?,
-        row: row.copy(alloc)?,
-    })
-}
-
-/// The lines of rows that a repair keeps.
-fn kept_rows(alloc: Global, db: &Database, names: &[RowId]) -> Result<Items<KeptRow>, NoMemory>
-    requires { AreStored db.now names.now }
-    ensures { IfOk result (λ lines. lines ≡ map (kept_line db.now) names.now) }
-{
-    let mut lines = Items::new(alloc);
-    for name in names {
-        lines.push(kept_row(alloc, db, *name)?)?;
+    match reason_by_pair(alloc, db, query, row) {
+        Ok(reason) => Ok(reason),
+        Err(Fail::Refused(TooMany)) => Err(Fail::Refused(Untold::Over)),
+        Err(Fail::NoMemory) => Err(Fail::NoMemory),
     }
-    Ok(lines)
+}
+
+/// The reason of a row, by the query's method.
+fn reason_of(
+    alloc: Global,
+    db: &Database,
+    query: &Query,
+    row: &Row,
+    budget: u32,
+) -> Result<Reason, Fail<Untold>>
+    requires fits { FitsDatabase query.now db.now }
+    requires long { length row.now ≡ length query.now.answer }
+    ensures told { IfOk result (IsReason db.now query.now row.now) }
+    ensures stopped { IfErr result (IsStopped db.now query.now row.now budget) }
+{
+    match strategy_of(alloc, query)? {
+        Strategy::Plan(plan) => {
+            let reason = reason_by_plan(alloc, db, query, &plan, row);
+            drop(plan);
+            Ok(reason?)
+        }
+        Strategy::Pair => of_pair(alloc, db, query, row),
+        Strategy::Search => reason_by_search(alloc, db, query, row, budget),
+    }
 }
 
 /// The reply that tells the block by which a row is certain.
@@ -113,13 +128,13 @@ fn reply_to(
 }
 
 /// The refusal of a row whose reason isn't told. Where the budget is used up, its formula is kept with the spent log.
-fn stopped(session: &mut Session, _query: &Query, row: Row, stop: Stop) -> Refusal
+fn stopped(session: &mut Session, _query: &Query, row: Row, stop: Untold) -> Refusal
     requires { IsStop session.old.tables _query.now row session.old.budget stop }
     ensures { MayTell session.old _query.now row (Reply.Refused result) session.new }
 {
     match stop {
-        Stop::Over => Refusal::WitnessLimit { row },
-        Stop::Spent { cnf, log } => {
+        Untold::Over => Refusal::WitnessLimit { row },
+        Untold::Spent { cnf, log } => {
             let conflicts = session.budget();
             session.keep_log(Proof { cnf, log });
             Refusal::Spent { row, conflicts }
@@ -133,7 +148,7 @@ fn refused(
     session: &mut Session,
     query: &Query,
     row: &Row,
-    stop: Stop,
+    stop: Untold,
 ) -> Result<Reply, Fail<Refusal>>
     requires { IsStop session.old.tables query.now row.now session.old.budget stop }
     ensures { IsOutcome result session.old (MayTell session.old query.now row.now) session.new }
@@ -158,7 +173,7 @@ fn tell(
     requires long { length row.now ≡ length query.now.answer }
     ensures { IsOutcome result session.old (MayTell session.old query.now row.now) session.new }
 {
-    match explain_row(alloc, session.database(), query, row, session.budget()) {
+    match reason_of(alloc, session.database(), query, row, session.budget()) {
         Ok(reason) => reply_to(alloc, session, query, row, reason),
         Err(Fail::Refused(stop)) => refused(alloc, session, query, row, stop),
         Err(Fail::NoMemory) => Err(Fail::NoMemory),

@@ -7,8 +7,8 @@ ghost use Rattle.cqa_session.specs.Statements.Insert.{insert_into_fault, Inserts
 
 use crate::Session;
 use crate::statements::table_place::table_place;
-use cqa_model::Refusal;
 use cqa_value::{Fail, Items, Name, Row};
+use refusals::Refusal;
 use reply_text::Reply;
 use std::alloc::Global;
 
@@ -27,6 +27,6 @@ pub fn insert(
     ensures { IsOutcome result session.old (Replies (insert_into_fault session.old.tables name.now rows) session.old (InsertsInto session.old name.now rows)) session.new }
 {
     let table = table_place(alloc, &session.database, name)?;
-    let count = session.database.insert(table, rows)?;
+    let count = table_changes::insert(&mut session.database, table, rows)?;
     Ok(Reply::Inserted(count))
 }

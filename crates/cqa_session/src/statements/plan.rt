@@ -6,10 +6,10 @@ ghost use Rattle.cqa_session.specs.Replying.{Replies, IsOutcome};
 ghost use Rattle.cqa_session.specs.Statements.Plan.{names_at, ShowsPlan};
 
 use crate::Session;
-use cqa_model::Refusal;
 use cqa_value::{Fail, Items, Name, NoMemory};
 use fo_rewrite::plan_of;
 use query_resolve::resolve;
+use refusals::Refusal;
 use reply_text::Reply;
 use spj_syntax::Select;
 use std::alloc::Global;

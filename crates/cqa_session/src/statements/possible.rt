@@ -5,10 +5,10 @@ ghost use Rattle.cqa_session.specs.Replying.{Replies, IsOutcome};
 ghost use Rattle.cqa_session.specs.Statements.Possible.{AnswersPossible};
 
 use crate::Session;
-use cqa_model::Refusal;
 use cqa_value::Fail;
 use join_witness::candidates;
 use query_resolve::resolve;
+use refusals::Refusal;
 use reply_text::Reply;
 use spj_syntax::Select;
 use std::alloc::Global;

@@ -5,8 +5,8 @@ ghost use Rattle.cqa_session.specs.Replying.{Replies, IsOutcome};
 ghost use Rattle.cqa_session.specs.Statements.ShowLog.{ShowsLog};
 
 use crate::Session;
-use cqa_model::Refusal;
 use cqa_value::Fail;
+use refusals::Refusal;
 use reply_text::Reply;
 use std::alloc::Global;
 

@@ -5,8 +5,8 @@ ghost use Rattle.cqa_session.specs.Replying.{Replies, IsOutcome};
 ghost use Rattle.cqa_session.specs.Statements.ShowTables.{IsTableLine, ShowsTables};
 
 use crate::Session;
-use cqa_model::Refusal;
 use cqa_value::{Fail, Items, NoMemory};
+use refusals::Refusal;
 use reply_text::{Reply, TableLine};
 use row_cursor::block_count;
 use std::alloc::Global;

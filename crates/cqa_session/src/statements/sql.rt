@@ -12,11 +12,12 @@ ghost use Rattle.cqa_session.specs.Replying.{Replies, IsOutcome};
 ghost use Rattle.cqa_session.specs.Statements.Sql.{column_names, names_in, TellsSql, WritesSql};
 
 use crate::Session;
-use cqa_model::{Atom, Column, Plan, Query, Refusal};
+use cqa_model::{Atom, Column, Plan, Query};
 use cqa_value::{Fail, Items, Name, NoMemory};
 use fo_rewrite::plan_of;
 use plan_sql::sql_of;
 use query_resolve::resolve;
+use refusals::Refusal;
 use reply_text::Reply;
 use spj_syntax::Select;
 use sql_text::{Names, append_sql};

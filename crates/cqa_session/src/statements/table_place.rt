@@ -1,14 +1,14 @@
 //! The table that a statement names.
 
 ghost use Rattle.std.specs.Prelude.{◌≡◌, ℕ, Some, Option, IfOk, IfErr};
-ghost use Rattle.cqa_model.specs.declared.refusal.Refusal.{Refusal as RefusalValue};
-ghost use Rattle.cqa_model.specs.Refusal.{IsRefusedAs};
+ghost use Rattle.refusals.specs.declared.refusal.Refusal.{Refusal as RefusalValue};
+ghost use Rattle.refusals.specs.Refusal.{IsRefusedAs};
 ghost use Rattle.table_blocks.specs.Tables.{table_named};
 ghost use Rattle.cqa_session.specs.Replying.{on_table};
 
-use cqa_model::Refusal;
 use cqa_value::{Fail, Name};
 use query_resolve::unknown_table;
+use refusals::Refusal;
 use std::alloc::Global;
 use table_blocks::Database;
 

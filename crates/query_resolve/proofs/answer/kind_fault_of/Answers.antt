@@ -1,5 +1,5 @@
 use Rattle.std.proofs.Common.{◌+◌, refl, sym, ap, arith, length}
-use Rattle.table_blocks.proofs.Faults.{kind_more, kind_found, value_read}
+use Rattle.refusals.proofs.Faults.{kind_more, kind_found, value_read}
 use Rattle.query_resolve.specs.Checks.{answer_kinds}
 use Rattle.query_resolve.proofs.AnswerColumns.{mismatch}
 use Rattle.query_resolve.proofs.answer.kind_fault_of.Goals as goal

@@ -1,5 +1,5 @@
 use Rattle.std.proofs.Common.{◌≡◌, ◌+◌, drop}
-use Rattle.table_blocks.specs.Tables.{kind_fault}
+use Rattle.refusals.specs.Kinds.{kind_fault}
 use Rattle.query_resolve.specs.Checks.{answer_kinds}
 use Rattle.query_resolve.proofs.answer.kind_fault_of.Given as goal
 

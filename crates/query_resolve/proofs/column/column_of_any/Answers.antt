@@ -1,5 +1,5 @@
 use Rattle.std.proofs.Common.{◌∙◌, sym, ap, arith, Some}
-use Rattle.cqa_model.specs.declared.refusal.Refusal.TheVariants.{AmbiguousColumn}
+use Rattle.refusals.specs.declared.refusal.Refusal.TheVariants.{AmbiguousColumn}
 use Rattle.query_resolve.specs.Names.{atom_scope}
 use Rattle.query_resolve.proofs.Members.{refused_at}
 use Rattle.query_resolve.proofs.Scopes.{tables_there, as_many, scope_is, nowhere, twice, once, place_of, only_owner}

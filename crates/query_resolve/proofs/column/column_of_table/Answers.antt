@@ -1,5 +1,5 @@
 use Rattle.std.proofs.Common.{◌∙◌, Some, sym, ap}
-use Rattle.cqa_model.specs.declared.refusal.Refusal.TheVariants.{UnknownColumn}
+use Rattle.refusals.specs.declared.refusal.Refusal.TheVariants.{UnknownColumn}
 use Rattle.query_resolve.specs.Names.{column_named}
 use Rattle.query_resolve.proofs.Members.{refused_at}
 use Rattle.query_resolve.proofs.Scopes.{tables_there, atom_inside, columns_seen, column_passes, column_fails}

@@ -1,5 +1,5 @@
 use Rattle.std.proofs.Common.{refl, subst}
-use Rattle.cqa_model.specs.Refusal.{IsRefusedAs}
+use Rattle.refusals.specs.Refusal.{IsRefusedAs}
 use Rattle.cqa_session.specs.State.{State}
 use Rattle.cqa_session.specs.Statements.Alter.{change_fault, alter_fault, Alters}
 use Rattle.cqa_session.proofs.Doing.{refused_out}

@@ -1,5 +1,5 @@
 use Rattle.std.proofs.Common.{sym, ap, ◌∙◌, subst}
-use Rattle.cqa_model.specs.Refusal.{Checked}
+use Rattle.refusals.specs.Refusal.{Checked}
 use Rattle.spj_syntax.specs.declared.tree.Change.TheVariants.{SetKey}
 use Rattle.cqa_session.specs.Statements.Alter.{change_fault, Changes}
 use Rattle.cqa_session.proofs.Altering.{set_checked}
@@ -9,5 +9,5 @@ pub returns-in_ok-key-in-SetKey-clause-checked : goal.returns-in_ok-key-in-SetKe
 returns-in_ok-key-in-SetKey-clause-checked c =
     let db = c.args.database.now in
     let key = c.in_ok-key-in-SetKey in
-    let set = set_checked db c.args.table c.as_slice.result.now key.key c.set_key.new.self c.set_key.result key.ensures.checked.valid key.ensures.checked.is c.set_key.ensures.checked in
-    subst (λ change. Checked c.set_key.result (change_fault db change c.args.table) (λ _. Changes db c.args.table change c.set_key.new.self)) (ap SetKey c.as_slice.ensures ∙ sym c.in-SetKey.is) set
+    let set = set_checked db c.args.table c.as_slice.result.now key.key c.set_key.new.db c.set_key.result key.ensures.checked.valid key.ensures.checked.is c.set_key.ensures.checked in
+    subst (λ change. Checked c.set_key.result (change_fault db change c.args.table) (λ _. Changes db c.args.table change c.set_key.new.db)) (ap SetKey c.as_slice.ensures ∙ sym c.in-SetKey.is) set

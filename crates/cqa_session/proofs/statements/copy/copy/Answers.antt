@@ -1,6 +1,6 @@
 use Rattle.std.proofs.Common.{◌≡◌, inr, None, refl, sym, ap, subst}
 use Rattle.std.specs.Option.{option_copied}
-use Rattle.cqa_model.specs.Refusal.{IsRefusedAs}
+use Rattle.refusals.specs.Refusal.{IsRefusedAs}
 use Rattle.reply_text.specs.declared.reply.Reply.TheVariants.{Copied}
 use Rattle.cqa_session.specs.State.{State}
 use Rattle.cqa_session.specs.Replying.{Replies, IsOutcome}
@@ -13,14 +13,14 @@ use Rattle.cqa_session.proofs.statements.copy.copy.Goals as goal
 pub invariant_of-session : goal.invariant_of-session
 invariant_of-session c =
     let kept = c.session.inside in
-    state_of c.insert.new.self kept.budget kept.last_log c.insert.ensures.stored (subst AreNamed (sym c.in_err-count.ensures.err) (named_in kept.database c.session.invariant.valid)) c.session.invariant.budget
+    state_of c.insert.new.db kept.budget kept.last_log c.insert.ensures.stored (subst AreNamed (sym c.in_err-count.ensures.err) (named_in kept.database c.session.invariant.valid)) c.session.invariant.budget
 
 pub invariant_of-session-2 : goal.invariant_of-session-2
 invariant_of-session-2 c =
     let kept = c.session.inside in
     let inserted = c.in_ok-count.ensures.inserted in
     let named = named_with_rows kept.database c.in_ok-table.table inserted.rows (named_in kept.database c.session.invariant.valid) in
-    state_of c.insert.new.self kept.budget kept.last_log c.insert.ensures.stored (subst AreNamed (sym inserted.changed) named) c.session.invariant.budget
+    state_of c.insert.new.db kept.budget kept.last_log c.insert.ensures.stored (subst AreNamed (sym inserted.changed) named) c.session.invariant.budget
 
 pub returns-in_err-table : goal.returns-in_err-table
 returns-in_err-table c =
@@ -48,7 +48,7 @@ returns-in_err-count c =
     let block = option_copied c.args.block in
     let kept = c.session.inside in
     let inside : State = record { tables = kept.database; budget = kept.budget; last_log = kept.last_log } in
-    let new : State = record { tables = c.insert.new.self; budget = kept.budget; last_log = kept.last_log } in
+    let new : State = record { tables = c.insert.new.db; budget = kept.budget; last_log = kept.last_log } in
     let fail = c.in_err-count.field-0.0 in
     let held = rw (c.schema.ensures.kinds, c.bytes_of.ensures) at c.in_ok-rows.ensures.rows in
     let keeps : new ≡ inside = ap (λ tables. record { tables = tables; budget = kept.budget; last_log = kept.last_log }) c.in_err-count.ensures.err in
@@ -63,7 +63,7 @@ returns c =
     let table = c.in_ok-table in
     let count = c.in_ok-count.count in
     let held = rw (c.schema.ensures.kinds, c.bytes_of.ensures) at c.in_ok-rows.ensures.rows in
-    subst (λ (s : State). Replies (copy_into_fault s.tables name) s (CopiesInto s name block) (Copied count) (record { tables = c.insert.new.self; budget = kept.budget; last_log = kept.last_log })) c.session.view_is
+    subst (λ (s : State). Replies (copy_into_fault s.tables name) s (CopiesInto s name block) (Copied count) (record { tables = c.insert.new.db; budget = kept.budget; last_log = kept.last_log })) c.session.view_is
     (inr (
       on_table-there kept.database name (λ at. None) table.table table.ensures.found,
       record {

@@ -1,5 +1,5 @@
 use Rattle.std.proofs.Common.{inr, refl, sym, subst, ◌∙◌}
-use Rattle.cqa_model.specs.Refusal.{IsRefusedAs}
+use Rattle.refusals.specs.Refusal.{IsRefusedAs}
 use Rattle.table_blocks.specs.Tables.{Deletes}
 use Rattle.query_resolve.specs.Checks.{tests_fault}
 use Rattle.reply_text.specs.declared.reply.Reply.TheVariants.{Deleted}

@@ -1,7 +1,7 @@
 use Rattle.std.proofs.Common.{◌<◌, length, sym, subst}
 use Rattle.reply_text.specs.declared.reply.Proof.{Proof}
 use Rattle.repair_back.specs.Results.{AreStored}
-use Rattle.row_reasons.specs.Reasons.{IsReason}
+use Rattle.cqa_session.specs.Reasons.{IsReason}
 use Rattle.cqa_session.proofs.Explaining.{block_told, repair_told, refutation_told}
 use Rattle.cqa_session.proofs.statements.explain.reply_to.Goals as goal
 

@@ -1,6 +1,6 @@
 use Rattle.std.proofs.Common.{refl, subst}
 use Rattle.reply_text.specs.declared.reply.Proof.{Proof}
-use Rattle.row_reasons.specs.Reasons.{IsStop}
+use Rattle.cqa_session.specs.Reasons.{IsStop}
 use Rattle.cqa_session.proofs.Spending.{spent_for, spends}
 use Rattle.cqa_session.proofs.statements.explain.stopped.Goals as goal
 

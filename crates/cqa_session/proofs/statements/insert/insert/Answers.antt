@@ -1,6 +1,6 @@
 use Rattle.std.proofs.Common.{refl, sym, subst}
-use Rattle.cqa_model.specs.Refusal.{IsRefusedAs}
-use Rattle.table_blocks.specs.Tables.{insert_fault}
+use Rattle.refusals.specs.Refusal.{IsRefusedAs}
+use Rattle.table_changes.specs.Changes.{insert_fault}
 use Rattle.cqa_session.specs.State.{State}
 use Rattle.cqa_session.specs.Statements.Insert.{insert_into_fault, InsertsInto}
 use Rattle.cqa_session.proofs.Doing.{refused_out}
@@ -10,14 +10,14 @@ use Rattle.cqa_session.proofs.statements.insert.insert.Goals as goal
 pub invariant_of-session : goal.invariant_of-session
 invariant_of-session c =
     let kept = c.session.inside in
-    state_of c.insert.new.self kept.budget kept.last_log c.insert.ensures.stored (subst AreNamed (sym c.in_err-count.ensures.err) (named_in kept.database c.session.invariant.valid)) c.session.invariant.budget
+    state_of c.insert.new.db kept.budget kept.last_log c.insert.ensures.stored (subst AreNamed (sym c.in_err-count.ensures.err) (named_in kept.database c.session.invariant.valid)) c.session.invariant.budget
 
 pub invariant_of-session-2 : goal.invariant_of-session-2
 invariant_of-session-2 c =
     let kept = c.session.inside in
     let inserted = c.in_ok-count.ensures.inserted in
     let named = named_with_rows kept.database c.in_ok-table.table inserted.rows (named_in kept.database c.session.invariant.valid) in
-    state_of c.insert.new.self kept.budget kept.last_log c.insert.ensures.stored (subst AreNamed (sym inserted.changed) named) c.session.invariant.budget
+    state_of c.insert.new.db kept.budget kept.last_log c.insert.ensures.stored (subst AreNamed (sym inserted.changed) named) c.session.invariant.budget
 
 pub returns-in_err-table : goal.returns-in_err-table
 returns-in_err-table c =

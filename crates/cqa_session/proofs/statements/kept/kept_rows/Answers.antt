@@ -1,6 +1,6 @@
 use Rattle.std.proofs.Common.{get_or}
 use Rattle.std.proofs.lemmas.List.Elements.{Contains-get_or}
-use Rattle.cqa_session.proofs.statements.explain.kept_rows.Goals as goal
+use Rattle.cqa_session.proofs.statements.kept.kept_rows.Goals as goal
 
 pub kept_row-requires-clause-table : goal.kept_row-requires-clause-table
 kept_row-requires-clause-table c =

@@ -1,6 +1,6 @@
 use Rattle.std.proofs.Common.{◌≡◌, map, take}
-use Rattle.cqa_session.specs.Statements.Explain.{kept_line}
-use Rattle.cqa_session.proofs.statements.explain.kept_rows.Given as goal
+use Rattle.cqa_session.specs.Statements.Kept.{kept_line}
+use Rattle.cqa_session.proofs.statements.kept.kept_rows.Given as goal
 
 -- the lines so far
 abbrev pub invariant-loop-name : goal.invariant-loop-name

@@ -1,0 +1,97 @@
+-- The rows that a range names are stored, and so their lines can be told; and how a range is refused or told.
+use Rattle.std.proofs.Common.{◌≡◌, ◌<◌, ◌≤◌, inl, inr, ℕ, zero, suc, List, [], ◌∷◌, length, map, get_or, Contains, Option, Some, refl, sym, ap, ◌∙◌, subst, arith}
+use Rattle.std.proofs.lemmas.Bool.{cases_lt}
+use Rattle.std.proofs.lemmas.List.{get_or_past, length-map}
+use Rattle.cqa_value.specs.declared.value.Value.{Value}
+use Rattle.cqa_value.proofs.Words.{Contains-map}
+use Rattle.cqa_value.specs.declared.memory.Fail.{Fail}
+use Rattle.cqa_model.specs.declared.aggregate.End.{End}
+use Rattle.cqa_model.specs.declared.aggregate.Goal.{Goal}
+use Rattle.cqa_model.specs.declared.query.RowId.{RowId}
+use Rattle.cqa_model.specs.Database.{Table, IsDatabase, IsTable, IsRowOf, stored}
+use Rattle.cqa_model.specs.Repairs.{IsTableRepair}
+use Rattle.cqa_model.proofs.Classic.{mem-head, mem-tail, mem-nil, mem-cases}
+use Rattle.cqa_model.proofs.Repairs.{sublist-stored}
+use Rattle.refusals.specs.declared.refusal.Refusal.{Refusal}
+use Rattle.refusals.specs.Refusal.{first_of, IsRefusedAs}
+use Rattle.spj_syntax.specs.declared.tree.RawGoal.{RawGoal}
+use Rattle.spj_syntax.specs.declared.tree.RawTest.{RawTest}
+use Rattle.table_blocks.specs.Tables.{table_named, rows_at, key_at}
+use Rattle.table_blocks.specs.declared.test.ColumnTest.{ColumnTest}
+use Rattle.query_resolve.specs.Names.{columns_at}
+use Rattle.query_resolve.specs.Checks.{goal_fault, tests_fault}
+use Rattle.query_resolve.specs.Resolved.{IsGoalOf, AreTestsOf}
+use Rattle.range_ask.specs.Ranges.{names_in, rows_in, IsAttained}
+use Rattle.repair_back.specs.Results.{AreStored}
+use Rattle.reply_text.specs.declared.reply.Reply.{Reply}
+use Rattle.cqa_session.specs.State.{State}
+use Rattle.cqa_session.specs.Replying.{on_table}
+use Rattle.cqa_session.specs.Statements.Range.{range_fault, TellsEnds, TellsRange}
+use Rattle.cqa_session.proofs.Doing.{on_table-there}
+
+-- a name among those of some places is of one of them
+placed : (table : ℕ) (places : List ℕ) (name : RowId) → Contains (names_in table places) name → (p : ℕ) × Contains places p × (name ≡ record { table = table; place = p })
+placed table [] name m = absurd (mem-nil name m)
+placed table (p ∷ places) name m = elim (mem-cases name (record { table = table; place = p }) (names_in table places) m) [
+  | inl is ↦ (p, mem-head p places, sym is)
+  | inr later ↦ let found = placed table places name later in (found.0, mem-tail found.0 p places found.1, found.2)
+]
+
+-- a row of a table has a value
+some_value : (table : Table) → IsTable table → Contains table.rows [] → ⊥
+some_value table is m =
+    let same = length-map table.schema.columns (λ column. column.kind) in
+    let size = table.schema.kept.size.0 in
+    let none = ap length (is.of_schema [] m) in
+    omega (arith, same, size, none)
+
+none_empty : (db : List Table) (table : ℕ) → ((t : Table) → Contains db t → IsTable t) → Contains (rows_at db table) [] → ⊥
+none_empty [] table each m = absurd (mem-nil [] m)
+none_empty (first ∷ db) zero each m = some_value first (each first (mem-head first db)) m
+none_empty (first ∷ db) (suc table) each m = none_empty db table (λ t n. each t (mem-tail t first db n)) m
+
+-- a place whose row is stored is one of the table's
+inside : (rows : List (List Value)) (p : ℕ) → (Contains rows [] → ⊥) → Contains rows (get_or rows p []) → p < length rows
+inside rows p none m = elim (cases_lt p (length rows)) [
+  | inl below ↦ below
+  | inr past ↦ absurd (none (subst (Contains rows) (get_or_past rows p [] past) m))
+]
+
+-- the names of the rows of a repair of a table are those of stored rows
+repair-stored : (db : List Table) (table : ℕ) (places : List ℕ) → IsDatabase db → table < length db → IsTableRepair (key_at db table) (rows_at db table) (rows_in (rows_at db table) places) → AreStored db (names_in table places)
+repair-stored db table places database there repair name m =
+    let found = placed table places name m in
+    let rows = rows_at db table in
+    let row = get_or rows found.0 [] in
+    let kept : Contains (rows_in rows places) row = Contains-map (λ p. get_or rows p []) places found.0 found.1 in
+    let is : Contains rows row = sublist-stored (rows_in rows places) rows repair.stored row kept in
+    let place = inside rows found.0 (none_empty db table database.each) is in
+    subst (λ (n : RowId). (n.table < length db) × (n.place < length (get_or (stored db) n.table []))) (sym found.2) (there, place)
+
+-- so are those of a repair that has the value of an end
+pub attained-stored : (db : List Table) (table : ℕ) (goal : Goal) (tests : List ColumnTest) (names : List RowId) (end : End) → IsDatabase db → table < length db → IsAttained db table goal tests names end → AreStored db names
+attained-stored db table goal tests names end database there is = subst (AreStored db) (sym is.named) (repair-stored db table is.places database there is.repair)
+
+module _ (old : State) (name : List ℕ) (goal : RawGoal) (tests : List RawTest) (db : List Table) (tables : db ≡ old.tables) where
+  -- a refusal where no table has the name
+  pub no_table : (fail : Fail Refusal) → ((check : ℕ → Option Refusal) → IsRefusedAs fail (on_table db name check)) → IsRefusedAs fail (range_fault old.tables name goal tests)
+  no_table fail missing = subst (λ z. IsRefusedAs fail (range_fault z name goal tests)) tables (missing (λ table. first_of (goal_fault (columns_at db table) goal) (tests_fault db table tests)))
+
+  module _ (table : ℕ) (found : table_named db name ≡ Some table) where
+    -- the fault where one has it
+    pub fault_there : range_fault old.tables name goal tests ≡ first_of (goal_fault (columns_at db table) goal) (tests_fault db table tests)
+    fault_there = ap (λ z. range_fault z name goal tests) (sym tables) ∙ on_table-there db name (λ at. first_of (goal_fault (columns_at db at) goal) (tests_fault db at tests)) table found
+
+    -- what is told of the table is told by the statement
+    pub told_of : (resolved : Goal) → IsGoalOf (columns_at db table) goal resolved → (resolved_tests : List ColumnTest) → AreTestsOf db table tests resolved_tests → (reply : Reply) →
+        TellsEnds db table resolved resolved_tests reply → TellsRange old name goal tests reply old
+    told_of resolved goal_is resolved_tests tests_are reply tells = record {
+      table = table;
+      found = subst (λ z. table_named z name ≡ Some table) tables found;
+      goal = resolved;
+      goal_is = subst (λ z. IsGoalOf (columns_at z table) goal resolved) tables goal_is;
+      tests = resolved_tests;
+      tests_are = subst (λ z. AreTestsOf z table tests resolved_tests) tables tests_are;
+      tells = subst (λ z. TellsEnds z table resolved resolved_tests reply) tables tells;
+      keeps = refl;
+    }

@@ -1,0 +1,14 @@
+pub mod Lists
+pub mod Picked
+pub mod Totals
+pub mod Testing
+pub mod Ordered
+pub mod Chosen
+pub mod Further
+pub mod Claims
+pub mod Read
+pub mod Walked
+pub mod Topped
+pub mod Closed
+pub mod Ended
+pub mod Blocked
