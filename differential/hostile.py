@@ -3,7 +3,8 @@
 
     differential/hostile.py [--program FILE] [--count N] [--seed N]
 
-Random bytes, random splices of the tests' scripts and proofs, and each of these cut off at each byte: the program has to end
+Random bytes, random splices of the tests' scripts and proofs, each of these cut off at each byte, and ranges of aggregates with
+words that stand wrong, over great numbers, and with 100,000 tests: the program has to end
 by itself within a minute, with status 0 or 1, and with 1 exactly where a line of what it wrote is a refusal. The last line
 says whether all did; the status is 0 then. Python 3.9 and its library alone are needed.
 """
@@ -26,6 +27,10 @@ SECONDS = 60
 
 BYTES = b"\0\t\n\r '\"();,.=<>-_\\aeiou09\x7f\x80\xc3\xff"
 """Bytes that mean something to the program, and some that don't."""
+
+RANGE_WORDS = ("range count sum min max from where and r x y t primary = <> < <= > >= 0 -7 9223372036854775807 -9223372036854775808 "
+               "9223372036854775808 'a' '' ' , ( ) . -- ; none group by").split()
+"""Words of ranges, and some that they don't have."""
 
 
 def fault_of(program, word, data):
@@ -82,8 +87,35 @@ def changed(random_source, text):
     return bytes(data)
 
 
+def ranges(random_source):
+    """A table with great numbers, and ranges over it, in most of which a word or two are wrong."""
+    pick = random_source
+    rows = ", ".join("(%d, %d, '%s')" % (pick.randint(0, 3), pick.choice([-2 ** 63, -1, 0, 2 ** 63 - 1]), pick.choice(["", "none", "it''s"]))
+                     for _ in range(pick.randint(1, 12)))
+    lines = ["create table r (x int, y int, t text, primary key (%s));" % pick.choice(["x", "y", "t", "t, x", "y, t, x"]),
+             "insert into r values %s;" % rows]
+    for _ in range(6):
+        words = ["range", *pick.choice([["count"], ["sum", "y"], ["min", "t"], ["max", "y"]]), "from", "r"]
+        for joint in ["where", "and", "and"][:pick.randint(0, 3)]:
+            words += [joint, *pick.choice([("x", "1"), ("y", "-1"), ("t", "'none'")])]
+            words[-1:-1] = [pick.choice(["=", "<>", "<", "<=", ">", ">="])]
+        for _ in range(pick.choice([0, 1, 1, 2])):
+            place = pick.randrange(len(words))
+            words[place:place + pick.randint(0, 1)] = pick.choices(RANGE_WORDS, k=pick.randint(0, 2))
+        lines.append(pick.choice([" ", "\n", " -- a word\n"]).join(words) + ";")
+    return "\n".join(lines).encode() + b"\n"
+
+
+def range_of_many_tests():
+    """A range with 100,000 tests over some hundred rows."""
+    rows = ", ".join("(%d, %d, 'a')" % (k // 2, k % 2) for k in range(400))
+    return ("create table r (x int, y int, t text, primary key (x));\ninsert into r values %s;\nrange sum y from r where %s;\n"
+            % (rows, " and ".join(["y<3"] * 100_000))).encode()
+
+
 def inputs(random_source, count, truncated):
     """Pairs of a word and an input."""
+    yield "run", range_of_many_tests()
     scripts, proofs = read_all("cqa"), read_all("lrat")
     for word, texts in (("run", scripts), ("check", proofs)):
         for _ in range(count):
@@ -95,6 +127,7 @@ def inputs(random_source, count, truncated):
                 for end in range(len(text)):
                     yield word, text[:end]
     for _ in range(count):
+        yield "run", ranges(random_source)
         yield "check", random_source.choice(scripts)
         yield "run", random_source.choice(proofs)
 

@@ -7,8 +7,8 @@ Half of the scripts ask joins of four to six tables that have a plan; the others
 
 Where a reply is free, it is judged by what it has to be: the repair of an explanation must hold no witness of its row, a
 refutation must be one of the row's formula and `check` must verify it, and a search may be refused as spent only where its
-budget can be too small for the row's formula. Each step of a log must follow by its hints, in an order in which each of
-them is of use. A spent log must add as many clauses as its budget has, each new over all before it, and leave a variable
+budget can be too small for the row's formula. The rows that a `range` keeps must be those of a repair that has the end before
+them. Each step of a log must follow by its hints, in an order in which each of them is of use. A spent log must add as many clauses as its budget has, each new over all before it, and leave a variable
 open. `--pieces` feeds each script in random pieces with pauses. A difference prints the script, the reply and what was
 expected, and ends with status 1. Python 3.9 and its library alone are needed.
 """
@@ -22,12 +22,16 @@ import subprocess
 import sys
 import time
 
-from model import OPS, Query, Table, literal, order, row_text
+from model import OPS, Query, Table, literal, row_text
 
 TOP = os.path.dirname(os.path.dirname(os.path.abspath(__file__)))
 PROGRAM = os.path.join(TOP, "crates", "cqa_cli", "out", "cqa_cli")
 TEXTS = ["", "a", "b", "o'b", "\u00e9", "zz"]
 NUMBERS = [0, 1, 2, 3]
+LEAST = -9223372036854775808
+AMOUNTS = [LEAST, -7, -1, 0, 2, 2, 5, 9223372036854775807]
+MOST_RANGED = 300
+"""The most repairs that are gone over for a range."""
 
 
 class Differs(Exception):
@@ -116,8 +120,7 @@ class Script:
         tests = []
         for place in self.random.sample(range(len(table.columns)), self.random.randint(1, len(table.columns))):
             tests.append((place, self.random.choice(sorted(OPS)), self.kind_of_value(table.columns[place][1])))
-        gone = {row for row in table.rows
-                if all(OPS[op](order((row[place],)), order((value,))) for place, op, value in tests)}
+        gone = {row for row in table.rows if table.meets(row, tests)}
         table.rows -= gone
         wheres = " and ".join("%s %s %s" % (table.columns[place][0], op, literal(value)) for place, op, value in tests)
         self.replied("delete from %s where %s;" % (table.name, wheres), "deleted %d" % len(gone))
@@ -148,6 +151,69 @@ class Script:
 
     def show_log(self):
         self.say("show log;", shows_log)
+
+    # Ranges.
+
+    def ranged(self):
+        """A range over any table."""
+        self.range_of(self.random.choice(self.tables), NUMBERS)
+
+    def amounts(self):
+        """A range over a table with small and great numbers, which is made if it isn't there, and filled anew."""
+        pick = self.random
+        table = next((table for table in self.tables if table.name == "amount"), None)
+        if table is None:
+            columns = [("from", "int"), ("sum", pick.choice(["int", "text"])), ("count", "int"), ("range", "text")]
+            table = Table("amount", columns, pick.sample(range(4), pick.randint(1, 2)), pick.random() < 0.2)
+            self.tables.append(table)
+            self.replied("create %stable %s;" % ("strict " if table.strict else "", table.schema()), "created amount")
+        rows = {tuple(pick.choice(AMOUNTS if kind == "int" else TEXTS) for _, kind in table.columns) for _ in range(pick.randint(0, 12))}
+        self.fill(table, {block[0] for block in table.with_rows(rows).blocks()} if table.strict else rows)
+        for _ in range(3):
+            self.range_of(table, AMOUNTS)
+
+    def range_of(self, table, numbers):
+        pick, table = self.random, table.copy()
+        if table.number_of_repairs() > MOST_RANGED:
+            return
+        word = pick.choice(["count", "sum", "min", "max"])
+        place = pick.randrange(len(table.columns)) if word != "count" else None
+        tests = []
+        for _ in range(pick.choice([0, 1, 1, 2, 3])):
+            column = pick.randrange(len(table.columns))
+            value = pick.choice(numbers if table.columns[column][1] == "int" else TEXTS)
+            tests.append((column, pick.choice(sorted(OPS)), value))
+        if pick.random() < 0.1:
+            return self.refused_range(table, word, place, tests)
+        text = "range %s;" % aggregate_text(table, word, place, tests)
+        if word == "sum" and table.columns[place][1] == "text":
+            return self.replied(text, "error 9 TypeMismatch condition 0")
+        return self.say(text, lambda out: is_range(out, table, (word, place), tests))
+
+    def refused_range(self, table, word, place, tests):
+        """A range with a fault or two, of which the first one in the order of checks is told: the table, the aggregate, the tests."""
+        pick = self.random
+        of_text = word == "sum" and table.columns[place][1] == "text"
+        wrong = pick.sample(["table", "column", "test", "kind"], pick.randint(1, 3))
+        text = aggregate_text(table, word, place, tests)
+        if tests and "kind" in wrong:
+            column, op, value = tests[-1]
+            tests = tests[:-1] + [(column, op, "a" if table.columns[column][1] == "int" else 1)]
+            text = aggregate_text(table, word, place, tests)
+        if tests and "test" in wrong:
+            text += " and other = 1"
+        if word != "count" and "column" in wrong:
+            text = text.replace(" %s from " % table.columns[place][0], " nothing from ", 1)
+        if "table" in wrong:
+            text = re.sub(r" from %s\b(?! from)" % table.name, " from nowhere", text, count=1)
+        first = [("table", "error 4 UnknownTable nowhere", True),
+                 ("column", "error 6 UnknownColumn nothing", word != "count"),
+                 ("sum", "error 9 TypeMismatch condition 0", of_text),
+                 ("kind", "error 9 TypeMismatch condition %d" % len(tests), bool(tests)),
+                 ("test", "error 6 UnknownColumn other", bool(tests))]
+        told = next((line for what, line, can in first if can and (what == "sum" or what in wrong)), None)
+        if told:
+            self.replied("range %s;" % text, told)
 
     # Queries.
 
@@ -199,7 +265,7 @@ class Script:
     def fill(self, table, rows):
         """Rows of a table in place of those that it has."""
         column, kind = table.columns[0]
-        least = literal(0 if kind == "int" else "")
+        least = literal(LEAST if kind == "int" else "")
         self.replied("delete from %s where %s >= %s;" % (table.name, column, least), "deleted %d" % len(table.rows))
         table.rows = rows
         if rows:
@@ -299,7 +365,7 @@ class Script:
         self.create_linked(kind)
         for table in self.tables:
             self.fill_linked(table, values)
-        rare = [self.delete, self.show, lambda: self.fill_linked(self.random.choice(self.tables), values)]
+        rare = [self.delete, self.show, self.ranged, lambda: self.fill_linked(self.random.choice(self.tables), values)]
         length += len(self.statements)
         while len(self.statements) < length:
             if self.random.random() < 0.1:
@@ -364,6 +430,7 @@ class Script:
     def make(self, length):
         steps = [self.insert] * 8 + [lambda: self.insert(copy=True)] * 2 + [self.asked] * 6
         steps += [self.delete, self.alter, self.show, self.set_conflicts, self.show_log, self.crossed, self.turned]
+        steps += [self.ranged, self.ranged, self.amounts]
         for _ in range(self.random.randint(1, 4)):
             self.create()
         while len(self.statements) < length:
@@ -375,12 +442,11 @@ class Script:
         return self
 
 
-def is_rejection(out, query, row):
-    """`rejected`, with the kept rows of a repair that holds no witness of a row."""
-    out.expect("rejected")
+def kept_rows(out, tables):
+    """The rows of a repair of some tables, as lists. Its rows of blocks of several rows are written, in the order of blocks."""
     keeps = out.while_like(r"keep .*")
     kept = []
-    for table in query.tables:
+    for table in tables:
         rows = []
         for block in table.blocks():
             if len(block) == 1:
@@ -396,6 +462,29 @@ def is_rejection(out, query, row):
         kept.append(rows)
     if keeps:
         raise Differs("too many kept rows: %s" % keeps[0])
+    return kept
+
+
+def aggregate_text(table, word, place, tests):
+    """What stands behind `range`."""
+    what = word if place is None else "%s %s" % (word, table.columns[place][0])
+    wheres = ["%s %s %s" % (table.columns[column][0], op, literal(value)) for column, op, value in tests]
+    return "%s from %s%s" % (what, table.name, " where " + " and ".join(wheres) if wheres else "")
+
+
+def is_range(out, table, goal, tests):
+    """Both ends, each with the kept rows of a repair that has it."""
+    for word, end in zip(("least", "greatest"), table.range(goal, tests)):
+        out.expect("%s %s" % (word, "none" if end is None else literal(end)))
+        value = table.aggregate(goal, tests, kept_rows(out, [table])[0])
+        if value != end:
+            raise Differs("the repair behind %s has %s" % (word, value))
+
+
+def is_rejection(out, query, row):
+    """`rejected`, with the kept rows of a repair that holds no witness of a row."""
+    out.expect("rejected")
+    kept = kept_rows(out, query.tables)
     if any(answer == row for answer, _ in query.witnesses(kept)):
         raise Differs("the repair holds a witness")
 

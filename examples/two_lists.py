@@ -34,9 +34,14 @@ def literal(value):
     return str(value) if isinstance(value, int) else "'" + value.replace("'", "''") + "'"
 
 
+def row_order(row):
+    """Rows ascend column by column, texts by their bytes."""
+    return [value if isinstance(value, int) else value.encode() for value in row]
+
+
 def lines(rows):
     """The lines of a reply with these rows."""
-    found = sorted(set(rows), key=lambda row: [value if isinstance(value, int) else value.encode() for value in row])
+    found = sorted(set(rows), key=row_order)
     return ["(" + ", ".join(map(literal, row)) + ")" for row in found] + ["%d rows" % len(found)]
 
 
@@ -79,6 +84,12 @@ def main():
     ask("select id, name, town", "", lambda row: True, lambda row: row)
     script.append("possible select id, name, town from customer;")
     output += lines(stored)
+    script.append("-- How many customers are in Oslo, at least and at most?")
+    script.append("range count from customer where town = 'Oslo';")
+    for word, best in (("least", min), ("greatest", max)):
+        kept = [best(sorted(rows, key=row_order), key=lambda row: row[2] == "Oslo") for _, rows in sorted(blocks.items())]
+        output.append("%s %d" % (word, sum(row[2] == "Oslo" for row in kept)))
+        output += ["keep customer (%s)" % ", ".join(map(literal, row)) for row in kept if len(blocks[row[0]]) > 1]
     script.append("-- Which towns may customer 17 be in?")
     script.append("possible select town from customer where id = 17;")
     output += lines([row[2:] for row in blocks.get(17, ())])

@@ -5,7 +5,7 @@
 
 For each script the number of allocations of a run is counted. Then the script is run again for each of them, with this one
 allocation refused, and once more with this one and all after it refused. Such a run has to end with status 5 after a front
-of the output, or with the output and the status of a run that isn't refused any. Without scripts, five of the tests are run.
+of the output, or with the output and the status of a run that isn't refused any. Without scripts, seven of the tests are run.
 The last line says whether all runs ended so; the status is 0 then. A C compiler is needed, for a library of a few lines that
 is put before the program's allocator, and a program that is linked to the C library when it starts.
 """
@@ -22,8 +22,9 @@ DATA = os.path.join(TOP, "crates", "script_tests", "data")
 
 OUT_OF_MEMORY = 5
 
-SCRIPTS = ["certain_answers.cqa", "searches.cqa", "dumps.cqa", "explains_by_search.cqa", "explains_by_plans.cqa"]
-"""Rows through one block and through different ones, dumps, refutations, and plans with mended repairs."""
+SCRIPTS = ["certain_answers.cqa", "searches.cqa", "dumps.cqa", "explains_by_search.cqa", "explains_by_plans.cqa", "ranges.cqa",
+           "ranges_of_values.cqa"]
+"""Rows through one block and through different ones, dumps, refutations, plans with mended repairs, and ranges."""
 
 SHIM = r"""
 #define _GNU_SOURCE

@@ -49,9 +49,19 @@ def _record_line(name: str, content: bytes) -> str:
 def build_wheel(wheel_directory: str, config_settings: Optional[object] = None,
                 metadata_directory: Optional[str] = None) -> str:
     """Writes the wheel into a folder and gives its file's name."""
+    return _written(wheel_directory, _modules())
+
+
+def build_editable(wheel_directory: str, config_settings: Optional[object] = None,
+                   metadata_directory: Optional[str] = None) -> str:
+    """Writes a wheel that leads to this folder, for `pip install -e`, and gives its file's name (PEP 660)."""
+    return _written(wheel_directory, {"__editable__.%s.pth" % _field("name"): (HERE + "\n").encode()})
+
+
+def _written(wheel_directory: str, files: Dict[str, bytes]) -> str:
+    """Writes a wheel of some files into a folder and gives its file's name."""
     stem = "%s-%s" % (_field("name"), _field("version"))
     info = stem + ".dist-info/"
-    files = _modules()
     files[info + "METADATA"] = _metadata().encode()
     files[info + "WHEEL"] = b"Wheel-Version: 1.0\nGenerator: cqa\nRoot-Is-Purelib: true\nTag: py3-none-any\n"
     record = "".join(_record_line(name, content) for name, content in files.items()) + info + "RECORD,,\n"

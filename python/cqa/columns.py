@@ -70,6 +70,9 @@ class Column:
         self._too_great: List[Tuple[str, int, str]] = []
         self._unseen = Unseen()
 
+    def begin(self, mark: str) -> None:
+        """Begins a list. mark: what stands before the places of its numbers."""
+
     def take(self, fields: Sequence[str], where: Sequence[int], path: str, say: Say) -> Sequence[str]:
         """Looks at the fields of a piece of a list and gives what is written for them.
 
@@ -136,11 +139,14 @@ class TextColumn(Column):
 class DecimalColumn(Column):
     """A column of numbers with a fixed number of places, stored as ints: 900.5 with two places is 90050."""
 
-    def __init__(self, name: str, places: int, mark: str = ".") -> None:
+    def __init__(self, name: str, places: int) -> None:
         super().__init__(name)
         self._places = places
-        self._mark = mark
+        self._mark = "."
         self._zeros = ["0" * (places - count) for count in range(places + 1)]
+
+    def begin(self, mark: str) -> None:
+        self._mark = mark
 
     def take(self, fields: Sequence[str], where: Sequence[int], path: str, say: Say) -> Sequence[str]:
         return [self._scaled(at, field, say) for at, field in enumerate(fields)]

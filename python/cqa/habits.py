@@ -14,7 +14,8 @@ from .statements import VERBS, WORDS
 
 class Habit(NamedTuple):
     """written: a statement over `staff (id int, name text, room int, primary key (id))`. reply: what the program replies.
-    write: what to write. at: a pattern that is looked for at the place of the refusal. before: one that has to stand before it."""
+    write: what to write. at: a pattern that is looked for at the place of the refusal. before: one that has to stand before it. What
+    a group of either pattern finds in `written` is in `write` replaced by what it finds in the reader's statement."""
 
     written: str
     reply: str
@@ -55,8 +56,16 @@ HABITS: Tuple[Habit, ...] = (
           r"from\b|\(", r"^copy\s+\w+\s*$"),
     Habit("select id from staff;", "error 2 Syntax at 0", "`ask select id from staff;` for what is certain, `possible select ..` for what is possible", r"select\b", r"^$"),
     Habit("ask select * from staff;", "error 1 BadByte at 11", "name the columns, as `select id, name`", r"\*", r"\bselect\s*$"),
-    Habit("ask select count(*) from staff;", "error 1 BadByte at 17", "`show tables;` counts rows and blocks; an `ask` ends with its number of rows", r"\*", r"\bcount\s*\(\s*$"),
-    Habit("ask select max(room) from staff;", "error 2 Syntax at 14", "the column alone: there are no functions in a query", r"\(", r"\bselect\b.*\w\s*$"),
+    Habit("ask select count(*) from staff;", "error 1 BadByte at 17", "`range count from staff;`: how many rows there are at least and at most; an `ask` ends with its number of rows",
+          r"\*", r"\bcount\s*\(\s*$"),
+    Habit("ask select max(room) from staff;", "error 2 Syntax at 14", "`range max room from staff;`: between which values it lies",
+          r"\(\s*(\w+)", r"\b(?:select|range)\s+(sum|min|max)\s*$"),
+    Habit("ask select avg(room) from staff;", "error 2 Syntax at 14", "`range sum room from staff;` and `range count from staff;`: there is no average",
+          r"\(\s*(\w+)", r"\b(?:select|range)\s+(?:avg|mean|average)\s*$"),
+    Habit("ask select upper(name) from staff;", "error 2 Syntax at 16", "the column alone: there are no functions in a query", r"\(", r"\bselect\b.*\w\s*$"),
+    Habit("range avg room from staff;", "error 2 Syntax at 6", "`range sum room from staff;` and `range count from staff;`: there is no average", r"(?:avg|mean|average)\s+(\w+)", r"^range\s+$"),
+    Habit("range count room from staff;", "error 2 Syntax at 12", "`range count from staff;`: rows are counted, and no column is named", r"(?!from\b)\w+", r"^range\s+count\s+$"),
+    Habit("range count from staff, door;", "error 2 Syntax at 22", "one table: a range is over the rows of one", r",", r"^range\b.*\bfrom\s+\w+\s*$"),
     Habit("ask select distinct id from staff;", "error 2 Syntax at 20", "`ask select id from staff;`: rows come once", r"\w", r"\bselect\s+distinct\s+$"),
     Habit("ask select id as number from staff;", "error 2 Syntax at 14", "`ask select id from staff;`: columns have no other names", r"as\b", r"\bselect\b"),
     Habit("ask select id from staff order by id;", "error 2 Syntax at 25", "leave it out: rows ascend in the order of the columns", r"order\s+by\b"),
@@ -100,13 +109,13 @@ def advice_for(text: str, at: int, refusal: str) -> str:
     before = text[:at]
     for habit in HABITS:
         if re.compile(habit.at, re.I).match(text, at) and (not habit.before or re.search(habit.before, before, re.I | re.S)):
-            return ("write " if habit.write.startswith("`") else "") + _in_readers_words(habit, text, before)
+            return ("write " if habit.write.startswith("`") else "") + _in_readers_words(habit, text, at)
     return _near_word(text, at, VERBS if not before.strip() else WORDS) if " Syntax " in refusal else ""
 
 
-def _in_readers_words(habit: Habit, text: str, before: str) -> str:
+def _in_readers_words(habit: Habit, text: str, at: int) -> str:
     """What a habit says to write, with the reader's table, list and column in the place of those of the example."""
-    write = habit.write
+    write, before = habit.write, text[:at]
     table = _TABLE.search(text)
     path = re.search(r"\bfrom\s+'([^']+)'", text)
     if path:
@@ -114,7 +123,13 @@ def _in_readers_words(habit: Habit, text: str, before: str) -> str:
     if table:
         write = re.sub(r"\bstaff\b(?!\.csv)", table[1], write)
     offset = re.search(r" at (\d+)$", habit.reply)
-    example, own = (_LAST_WORD.search(begin) for begin in (habit.written[:int(offset[1]) if offset else 0], before))
+    place = int(offset[1]) if offset else 0
+    for pattern, of_example, of_reader in ((habit.at, habit.written[place:], text[at:]), (habit.before, habit.written[:place], before)):
+        found, theirs = (re.search(pattern, one, re.I | re.S) for one in (of_example, of_reader))
+        if found and theirs:
+            for word, their_word in zip(found.groups(), theirs.groups()):
+                write = re.sub(r"\b%s\b" % word, their_word.lower() if word in WORDS else their_word, write)
+    example, own = (_LAST_WORD.search(begin) for begin in (habit.written[:place], before))
     if example and own and example[1] not in (*WORDS, "staff") and own[1] not in WORDS:
         write = re.sub(r"\b%s\b" % example[1], own[1], write)
     return write

@@ -14,7 +14,7 @@ from typing import IO, Callable, Dict, Iterator, List, Optional, Protocol, Seque
 
 from .blocks import BlockWriter
 from .columns import Column, DecimalColumn, TextColumn, TimeColumn, csv_fault
-from .options import MOST_NAME, ListOptions, word_of
+from .options import MOST_NAME, Form, ListOptions, word_of
 from .scripts import Schema, row_text
 
 MOST_COLUMNS = 16
@@ -49,6 +49,7 @@ class Lists:
     def __init__(self, options: ListOptions, blocks: IO[bytes], fault: Callable[[str], None], there: Optional[Schema] = None) -> None:
         """blocks: a file for the blocks, which stand behind the schema. fault: told of each fault. there: the table, if it is there."""
         self.options = options
+        self._form = Form()
         self.records = 0
         self.counts: List[Tuple[str, int]] = []  # the lists, by their sources or paths, with their numbers of records
         self.dropped = 0
@@ -97,6 +98,7 @@ class Lists:
     def add(self, path: str, source: Optional[str]) -> None:
         """Reads a list. source: what the rows have in the column of sources; None where there is no such column. Raises OSError where
         the file of blocks can't be written."""
+        self._form = self.options.form_of(path, source)
         try:
             raw = open(path, "rb")
         except OSError as fault:
@@ -111,9 +113,9 @@ class Lists:
 
     def _add(self, path: str, source: Optional[str], raw: io.BufferedReader) -> None:
         try:
-            codecs.lookup(self.options.encoding)
+            codecs.lookup(self._form.encoding)
         except LookupError:
-            raise _ReadFault("no encoding is called %s" % self.options.encoding) from None
+            raise _ReadFault("no encoding is called %s" % self._form.encoding) from None
         before, records = os.fstat(raw.fileno()), self.records
         text = self._decoded(path, raw)
         self._read(path, source, text)
@@ -125,7 +127,7 @@ class Lists:
 
     def _decoded(self, path: str, raw: io.BufferedReader) -> io.TextIOWrapper:
         """A list as text. One that is UTF-8 with a letter beyond ASCII is read so, whatever encoding was told."""
-        encoding = self.options.encoding
+        encoding = self._form.encoding
         is_told = codecs.lookup(encoding).name == "utf-8" or raw.peek(3)[:3] == codecs.BOM_UTF8
         if not is_told and _is_utf_8(raw):
             self._notes.append("%s is UTF-8, and is read so, not as %s" % (path, encoding))
@@ -143,6 +145,8 @@ class Lists:
         places = self._places(path, header, source is not None) if header else []
         if header is None or self.faults > faults:
             return
+        for column in self._columns:
+            column.begin(self._form.decimal_mark)
         writer = BlockWriter(self._blocks, self.options.table, path, self._apart, self._source_place())
         for lines, rows, end in self._pieces(path, reader):
             self._is_in_piece = True
@@ -160,19 +164,19 @@ class Lists:
         except OSError as fault:
             raise _ReadFault((fault.strerror or str(fault)).lower()) from None
         except UnicodeError as fault:
-            raise _ReadFault("it isn't written in %s: %s" % (self.options.encoding, fault)) from None
+            raise _ReadFault("it isn't written in %s: %s" % (self._form.encoding, fault)) from None
 
     def _first(self, lines: Iterator[str]) -> Tuple[str, str, int]:
         """The header line, what stands between the fields of a list, and how many lines stand above: those that are told, and a line
         `sep=;` as spreadsheets write it."""
-        above = self.options.skip
+        above = self._form.skip
         for _ in range(above):
             next(lines, "")
         first = next(lines, "")
         separator = _SEPARATOR.fullmatch(first)
         if separator:
             first, above = next(lines, ""), above + 1
-        return first, self.options.delimiter or (separator[1] if separator else self._delimiter_of(first)), above
+        return first, self._form.delimiter or (separator[1] if separator else self._delimiter_of(first)), above
 
     def _delimiter_of(self, header: str) -> str:
         """What stands between the fields of a header line: of four marks one by which the key is found, and else the commonest."""
@@ -219,7 +223,7 @@ class Lists:
         return words
 
     def _skip_hint(self, path: str) -> str:
-        return "" if self.options.skip else "; is line %d no header? --skip 1" % self._header_line
+        return "" if self._form.skip else "; is line %d no header? --skip 1" % self._header_line
 
     def _places(self, path: str, header: List[str], has_source: bool) -> List[int]:
         """Where in a record the taken columns stand; the columns themselves are made with the first list."""
@@ -263,7 +267,7 @@ class Lists:
     def _column(self, name: str) -> Column:
         decimals = {word_of(key): places for key, places in self.options.decimals.items()}
         if name in decimals:
-            return DecimalColumn(name, decimals[name], self.options.decimal_mark)
+            return DecimalColumn(name, decimals[name])
         if name in map(word_of, self.options.times):
             return TimeColumn(name)
         if name in map(word_of, self.options.texts):

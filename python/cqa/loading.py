@@ -6,15 +6,17 @@ import argparse
 import shutil
 import sys
 import tempfile
-from typing import IO, Callable, List, Optional, Sequence, Tuple
+from dataclasses import replace
+from typing import IO, Callable, Dict, List, Optional, Sequence, Tuple
 
 from .blocks import create_text
 from .errors import LoadFault
 from .files import standard_output, written
 from .lists import Lists
-from .options import ListOptions, word_of
+from .options import Form, ListOptions, word_of
 from .scaling import stored_note
 from .scripts import Schema, remark_text
+from .words import told
 
 #: A list and what its rows have in the column of sources; None where there is no such column.
 Source = Tuple[str, Optional[str]]
@@ -57,7 +59,9 @@ def parser() -> argparse.ArgumentParser:
     """The words of `load`."""
     words = argparse.ArgumentParser(
         prog="cqa load", description="CSV lists with header lines as one script of cqa. With a fault in a list nothing is written.",
-        epilog="example: cqa load --table customer --key id --source shop=shop.csv --source crm=crm.csv -o load.cqa")
+        epilog="Where one list is written otherwise than the others, NAME= says which: its source, or the list itself where it has none, as "
+               "in --skip shop=2. "
+               "Example: cqa load --table customer --key id --source shop=shop.csv --source crm=crm.csv -o load.cqa")
     words.add_argument("files", nargs="*", metavar="LIST", help="a list without a source")
     words.add_argument("--table", required=True, help="the table's name")
     words.add_argument("--key", required=True, help="the columns of its key: id or id,day")
@@ -66,13 +70,13 @@ def parser() -> argparse.ArgumentParser:
     words.add_argument("--source-column", default="source", metavar="NAME", help="what the column of sources is called (source)")
     words.add_argument("--columns", help="the columns that are taken: id,name,city")
     words.add_argument("--rename", action="append", default=[], metavar="OLD=NEW", help="a column that a list calls otherwise")
-    words.add_argument("--delimiter", default="",
+    words.add_argument("--delimiter", action="append", default=[], metavar="[NAME=]MARK",
                        help="what stands between two fields: else a comma, or what the header has in its place; tab is written \\t")
-    words.add_argument("--encoding", default="utf-8",
+    words.add_argument("--encoding", action="append", default=[], metavar="[NAME=]ENCODING",
                        help="the lists' encoding, such as latin-1 (utf-8 where it isn't told); a list that is UTF-8 is read so")
     words.add_argument("--decimal", action="append", default=[], metavar="COLUMN:PLACES",
                        help="a column of numbers with so many places, stored as ints, as which statements speak of them")
-    words.add_argument("--decimal-mark", choices=[".", ","], default=".", metavar="MARK", help="the mark before the places: . or , (.)")
+    words.add_argument("--decimal-mark", action="append", default=[], metavar="[NAME=]MARK", help="the mark before the places: . or , (.)")
     words.add_argument("--time", action="append", default=[], metavar="COLUMN",
                        help="a column of dates, or of times in UTC, all in one form")
     words.add_argument("--text", action="append", default=[], metavar="COLUMN",
@@ -80,7 +84,7 @@ def parser() -> argparse.ArgumentParser:
     words.add_argument("--missing", choices=["refuse", "keep", "drop"], default="refuse",
                        help="an empty field outside the key is a fault (refuse), the text '' (keep), or its record is left out (drop)")
     words.add_argument("--strip", action="store_true", help="blanks at the ends of fields are left out")
-    words.add_argument("--skip", type=int, default=0, metavar="N", help="how many lines stand above the header (0)")
+    words.add_argument("--skip", action="append", default=[], metavar="[NAME=]N", help="how many lines stand above the header (0)")
     words.add_argument("--strict", action="store_true", help="the table takes no two rows of one key")
     words.add_argument("-o", "--output", metavar="FILE", help="the script's file, in place of standard output")
     return words
@@ -88,7 +92,6 @@ def parser() -> argparse.ArgumentParser:
 
 def options_of(words: argparse.Namespace) -> ListOptions:
     """The options that the words tell. Raises ValueError where they tell none."""
-    delimiter = "\t" if words.delimiter in ("\\t", "tab") else words.delimiter
     decimals = {}
     for decimal in words.decimal:
         name, _, places = decimal.rpartition(":")
@@ -96,9 +99,41 @@ def options_of(words: argparse.Namespace) -> ListOptions:
             raise ValueError("--decimal wants COLUMN:PLACES, with at most 18 places, and not %s" % decimal)
         decimals[name] = int(places)
     renamed = dict(pair.partition("=")[::2] for pair in words.rename)
+    form, forms = _forms_of(words)
     return ListOptions(words.table, words.key.split(","), words.columns.split(",") if words.columns else None, decimals, words.time,
-                       words.text, delimiter, words.encoding, renamed, words.decimal_mark, words.missing, words.strict, words.source_column,
-                       words.strip, words.skip)
+                       words.text, form.delimiter, form.encoding, renamed, form.decimal_mark, words.missing, words.strict,
+                       words.source_column, words.strip, form.skip, forms)
+
+
+def _forms_of(words: argparse.Namespace) -> Tuple[Form, Dict[str, Form]]:
+    """How lists are written, and how those are of which NAME=.. tells it apart."""
+    names = [pair.partition("=")[0] for pair in words.source] + words.files
+    whole = Form()
+    apart: List[Tuple[str, str, str]] = []
+    for option in ("delimiter", "encoding", "decimal_mark", "skip"):
+        for word in getattr(words, option):
+            name = next((name for name in names if word.startswith(name + "=")), None)
+            if name is None:
+                whole = _with(whole, option, word)
+            else:
+                apart.append((name, option, word[len(name) + 1:]))
+    forms: Dict[str, Form] = {}
+    for name, option, value in apart:
+        forms[name] = _with(forms.get(name, whole), option, value)
+    return whole, forms
+
+
+def _with(form: Form, option: str, value: str) -> Form:
+    """A form of which a word tells one part."""
+    if option == "delimiter":
+        return replace(form, delimiter="\t" if value in ("\\t", "tab") else value)
+    if option == "encoding":
+        return replace(form, encoding=value)
+    if option == "decimal_mark":
+        return replace(form, decimal_mark=value)
+    if not value.isdigit():
+        raise ValueError("--skip wants a number of lines, as 1, or NAME=1 for the list of one source, and not %s" % value)
+    return replace(form, skip=int(value))
 
 
 def sources_of(words: argparse.Namespace) -> List[Source]:
@@ -118,7 +153,7 @@ def sources_of(words: argparse.Namespace) -> List[Source]:
 
 def main(arguments: Sequence[str]) -> int:
     """The command `load`: 0, or 1 with the faults on standard error and nothing written, or 2 for wrong words."""
-    words = parser().parse_args(arguments)
+    words = told(parser(), arguments)
     try:
         options, sources = options_of(words), sources_of(words)
     except ValueError as fault:

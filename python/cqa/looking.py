@@ -9,31 +9,36 @@ from typing import List, Optional, Sequence
 
 from .files import standard_output, written
 from .running import Answer, loaded
+from .words import told as words_told
 
 _NAME = re.compile(r"[A-Za-z_][A-Za-z0-9_]*")
 
 #: The statements whose answer is rows.
 QUESTIONS = ("ask", "possible", "disputed")
 
+#: And those whose answer is ends.
+ENDS = ("range",)
+
 
 def csv_main(arguments: Sequence[str]) -> int:
     """The command `csv FILE ..`: the rows of the last question as CSV. Where a statement is refused nothing is written."""
-    words = argparse.ArgumentParser(prog="cqa csv", description="The rows of the last question of script files as CSV with a header. "
-                                    "Where a statement is refused, nothing is written.")
+    words = argparse.ArgumentParser(prog="cqa csv", description="The rows of the last question of script files as CSV with a header, or "
+                                    "the two ends, where it is a range; an end that is none is empty. Where a statement is refused, nothing is written.")
     words.add_argument("files", nargs="+", metavar="FILE")
     words.add_argument("-o", "--output", metavar="FILE", help="the file to write, in place of standard output")
-    told = words.parse_args(arguments)
+    told = words_told(words, arguments)
     answers: List[Answer] = []
     session = loaded(told.files, answers)
     if session is None:
         print("cqa csv: nothing is written", file=sys.stderr)
         return 1
     with session:
-        last = next((answer for answer in reversed(answers) if answer.verb in QUESTIONS), None)
+        last = next((answer for answer in reversed(answers) if answer.verb in QUESTIONS + ENDS), None)
         if last is None:
-            print("cqa csv: no statement of %s is an ask or a possible" % ", ".join(told.files), file=sys.stderr)
+            print("cqa csv: no statement of %s is an ask, a possible or a range" % ", ".join(told.files), file=sys.stderr)
             return 1
-        text = session.rows_of(last.text, [line.decode("utf-8") for line in last.lines]).csv_text()
+        lines = [line.decode("utf-8") for line in last.lines]
+        text = (session.ends_of(last.text, lines) if last.verb in ENDS else session.rows_of(last.text, lines)).csv_text()
     _write(text, told.output)
     return 0
 
@@ -48,7 +53,7 @@ def conflicts_main(arguments: Sequence[str]) -> int:
     words.add_argument("--source", metavar="COLUMN", help="the column of sources, which is no conflict (source)")
     words.add_argument("--csv", action="store_true", help="the values in conflict of one table as CSV, for a spreadsheet")
     words.add_argument("-o", "--output", metavar="FILE", help="the file to write, in place of standard output")
-    told = words.parse_args(arguments)
+    told = words_told(words, arguments)
     tables = [word for word in told.others if _NAME.fullmatch(word)]
     files = [told.first] + [word for word in told.others if not _NAME.fullmatch(word)]
     session = loaded(files)

@@ -14,6 +14,27 @@ _PLAIN_LETTERS = str.maketrans(
 
 
 @dataclass(frozen=True)
+class Form:
+    """How a list is written.
+
+    delimiter: what stands between two fields; where it isn't told, that of the header line. encoding: one with a byte order mark of
+    UTF-8 is UTF-8. decimal_mark: "." or ",". skip: the number of lines above the header.
+    """
+
+    delimiter: str = ""
+    encoding: str = "utf-8"
+    decimal_mark: str = "."
+    skip: int = 0
+
+    def __post_init__(self) -> None:
+        """Raises ValueError where a part tells nothing."""
+        if len(self.delimiter) > 1 or self.delimiter and self.delimiter in '"\r\n':
+            raise ValueError("the delimiter is one letter, and not %r" % self.delimiter)
+        if self.decimal_mark not in (".", ","):
+            raise ValueError("the decimal mark is . or , and not %r" % self.decimal_mark)
+
+
+@dataclass(frozen=True)
 class ListOptions:
     """How lists become a table.
 
@@ -23,7 +44,8 @@ class ListOptions:
     those that lists have. decimal_mark: "." or ",".
     missing: what becomes of a record with an empty field outside the key: "refuse", "keep" (the empty text is a value) or "drop".
     source_column: the name of the column that says from which list a row is. strip: whether blanks at the ends of fields are left out.
-    skip: the number of lines above the header.
+    skip: the number of lines above the header. forms: how lists are written that aren't written so, by their sources, or else by their
+    paths.
     """
 
     table: str
@@ -41,20 +63,22 @@ class ListOptions:
     source_column: str = "source"
     strip: bool = False
     skip: int = 0
+    forms: Mapping[str, Form] = field(default_factory=dict)
+
+    def form_of(self, path: str, source: Optional[str]) -> Form:
+        """How a list is written."""
+        return self.forms.get(path if source is None else source) or Form(self.delimiter, self.encoding, self.decimal_mark, self.skip)
 
     def __post_init__(self) -> None:
         """Raises ValueError where an option tells nothing."""
+        Form(self.delimiter, self.encoding, self.decimal_mark, self.skip)
         names = [("table", self.table), ("source column", self.source_column), *(("new name", new) for new in self.renamed.values())]
         for what, name in names:
             if not _NAME.fullmatch(name) or len(name) > MOST_NAME:
                 raise ValueError("the %s %r is no name: letters, digits and _ are wanted" % (what, name))
-        if len(self.delimiter) > 1 or self.delimiter and self.delimiter in '"\r\n':
-            raise ValueError("the delimiter is one letter, and not %r" % self.delimiter)
         for name, places in self.decimals.items():
             if not isinstance(places, int) or not 0 <= places <= 18:
                 raise ValueError("%s: a number of places from 0 to 18 is wanted, and not %r" % (name, places))
-        if self.decimal_mark not in (".", ","):
-            raise ValueError("the decimal mark is . or , and not %r" % self.decimal_mark)
         if self.missing not in ("refuse", "keep", "drop"):
             raise ValueError("missing is refuse, keep or drop, and not %r" % self.missing)
 

@@ -34,6 +34,8 @@ table { border-collapse: collapse; font-size: .9rem; }
 th, td { padding: .3rem .6rem; border-bottom: 1px solid var(--line); text-align: left; vertical-align: top; }
 th { color: var(--quiet); font-weight: 600; }
 td { white-space: pre-wrap; min-width: 3rem; max-width: 22rem; }
+@media (max-width: 40rem) { table { width: 100%; font-size: .85rem; } th, td { padding: .25rem .3rem; min-width: 0; overflow-wrap: anywhere; }
+  td.number { white-space: pre-wrap; } .bars { grid-template-columns: fit-content(8rem) minmax(2rem, 24rem) 1fr; } }
 .long { overflow-wrap: anywhere; }
 td.number { text-align: right; white-space: nowrap; font-variant-numeric: tabular-nums; }
 ul.facts { display: flex; flex-wrap: wrap; gap: .5rem; list-style: none; padding: 0; margin: 1rem 0; }

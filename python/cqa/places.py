@@ -71,7 +71,9 @@ def place_of(script: bytes, statement: Statement, refusal: str, schemas: Dict[st
 
 
 def _meant(refusal: str, schemas: Dict[str, Schema]) -> str:
-    """The name that is like one that isn't there."""
+    """The name that is like one that isn't there, or why there is no sum."""
+    if refusal.endswith(" TypeMismatch condition 0"):
+        return "a sum is of an int column; min and max are of texts too"
     found = re.match(r"error \d+ Unknown(Table|Column) (?:\w+\.)?(\w+)$", refusal)
     if found is None:
         return ""
@@ -147,8 +149,10 @@ def _in_row(tokens: List[Token], row: int, column: int) -> int:
 
 
 def _condition(tokens: List[Token], number: int) -> int:
-    """The offset of a condition, counted from 1."""
+    """The offset of a condition, counted from 1; 0 is the column of a `range`."""
     words = [word for word, _ in tokens]
+    if number == 0 and len(tokens) > 2:
+        return tokens[2][1]
     if b"where" not in words:
         return 0
     begins = [words.index(b"where") + 1]

@@ -7,23 +7,25 @@ import html
 import os
 import re
 import sys
+import warnings
 from decimal import Decimal
 from typing import Dict, List, NamedTuple, Optional, Sequence
 
 from . import page
-from .answers import Classification, Explanation, Kept, against, explanation
+from .answers import Classification, Explanation, Kept, Range, against, explanation
 from .conflicts import Conflicts, Disputed
 from .drawing import HEADS, attack_graph
-from .errors import Refused, UnknownStatement
+from .errors import Refused, ScaleWarning, UnknownStatement
 from .files import standard_output, written
 from .replies import row_of
 from .rows import Cell, Rows
 from .running import QUERY_VERBS, Answer, loaded
-from .scripts import Schema, query_parts, quoted, selected, tokens, without_comments
+from .scripts import Schema, aggregate_of, query_parts, quoted, selected, tokens, without_comments
 from .session import Session
+from .words import told as words_told
 
 #: Statements that change no table and no setting.
-_QUIET = (*QUERY_VERBS, "show", "dump", "range", "")
+_QUIET = (*QUERY_VERBS, "show", "dump", "")
 _EXPLAINS = re.compile(r"\s*(?:explain|against|prove)\s+row\s*(\((?:[^')]|'[^']*')*\))\s*for\b(.*)", re.S)
 _WORST = 20
 _MOST_KEPT = 20
@@ -36,11 +38,13 @@ _CLASSES = {
 
 
 class Question(NamedTuple):
-    """A query of the scripts, a row of which they ask why, if they do, and where it is asked first."""
+    """A query of the scripts, a row of which they ask why, if they do, and where it is asked first. is_range: whether it is what stands
+    behind `range`."""
 
     query: str
     row: Optional[str]
     place: str
+    is_range: bool = False
 
 
 def questions_of(answers: Sequence[Answer]) -> List[Question]:
@@ -53,6 +57,9 @@ def questions_of(answers: Sequence[Answer]) -> List[Question]:
         explained = _EXPLAINS.match(text)
         query = explained[2] if explained else re.sub(r"^\s*\w+\s", "", text)
         name = " ".join(tokens(query))
+        if answer.verb == "range":
+            found.setdefault("range " + name, Question(query.strip(), None, "%s:%d" % (os.path.basename(answer.path), answer.line), True))
+            continue
         row = explained[1] if explained else None
         known = found.get(name)
         place = "%s:%d" % (os.path.basename(answer.path), answer.line)
@@ -88,7 +95,13 @@ def main(arguments: Sequence[str]) -> int:
     words.add_argument("files", nargs="+", metavar="FILE")
     words.add_argument("--source", metavar="COLUMN", help="the column of sources, which is no conflict (source)")
     words.add_argument("-o", "--output", metavar="FILE", help="the page's file, in place of standard output")
-    told = words.parse_args(arguments)
+    told = words_told(words, arguments)
+    with warnings.catch_warnings():
+        warnings.simplefilter("ignore", ScaleWarning)  # what statements name is told where they are run
+        return _main(told)
+
+
+def _main(told: argparse.Namespace) -> int:
     questions = Questions()
     session = loaded(told.files, questions.answers, before=questions.before)
     if session is None:
@@ -155,8 +168,10 @@ def _sources_part(sources: Sequence[Cell]) -> str:
 
 
 def _question_part(session: Session, schemas: Sequence[Schema], number: int, question: Question) -> str:
-    """A question: its certain and its disputed rows, its class and attacks, and why a row isn't certain."""
+    """A question: its certain and its disputed rows, its class and attacks, and why a row isn't certain; or the ends of a range."""
     head = '<h2>Question %d <span class="quiet">%s</span></h2><pre>%s</pre>' % (number, page.text(question.place), page.text(question.query))
+    if question.is_range:
+        return head + _range_part(session, question.query)
     try:
         certain, possible = session.certain(question.query), session.possible(question.query)
         classified = session.classify(question.query)
@@ -166,6 +181,26 @@ def _question_part(session: Session, schemas: Sequence[Schema], number: int, que
     disputed = Rows(possible.columns, (row for row in possible if row not in known))
     return "".join([head, _answer_part(certain, disputed), _class_part(question.query, classified),
                     _why_part(session, schemas, question, disputed)])
+
+
+def _range_part(session: Session, aggregate: str) -> str:
+    """The ends of a range, and the rows of which one end takes another than the other end."""
+    if aggregate_of(aggregate).group:
+        groups = session.ranges(aggregate)
+        return page.table((aggregate_of(aggregate).group, "least", "greatest"), [tuple(map(_end_shown, group)) for group in groups])
+    found: Range = session.range(aggregate)
+    ends = "<p>It lies between <b>%s</b> and <b>%s</b>, whichever rows are right.</p>" % (
+        page.text(_end_shown(found.least)), page.text(_end_shown(found.greatest)))
+    pairs = [(low[0], _row_shown(low[1]), _row_shown(high[1])) for low, high in zip(found.low, found.high) if low != high]
+    if found.least == found.greatest or not pairs:
+        return ends
+    more = '<p class="quiet">and %s more</p>' % page.number(len(pairs) - _MOST_KEPT) if len(pairs) > _MOST_KEPT else ""
+    return ends + "<p>It has these values where these rows are the right ones of their keys:</p>" + page.table(
+        ("table", "the least", "the greatest"), pairs[:_MOST_KEPT]) + more
+
+
+def _end_shown(end: Optional[Cell]) -> Cell:
+    return "none" if end is None else end
 
 
 def _answer_part(certain: Rows, disputed: Rows) -> str:

@@ -19,6 +19,7 @@ from .replies import END_STATEMENT, IS_REFUSAL
 from .scaling import shown_notes, statement_notes
 from .scripts import Schema, Statement, fault_of, remarks, schema_of, statements, verb_of
 from .session import Session
+from .words import told as words_told
 
 _PIECE = 1 << 20
 _MOST_INPUT = 268_435_456
@@ -26,7 +27,7 @@ _MOST_NOTES = 20
 
 
 #: The statements that ask of a query, and change nothing.
-QUERY_VERBS = ("ask", "possible", "disputed", "classify", "plan", "sql", "explain", "against", "prove")
+QUERY_VERBS = ("ask", "possible", "disputed", "classify", "plan", "sql", "explain", "against", "prove", "range")
 
 
 class Answer(NamedTuple):
@@ -312,7 +313,7 @@ def main(arguments: Sequence[str]) -> int:
                                     "replies on standard output, refusals on standard error. Without a file it reads standard input.")
     words.add_argument("files", nargs="+", metavar="FILE")
     words.add_argument("--stop", action="store_true", help="end at the first refusal")
-    told = words.parse_args(arguments)
+    told = words_told(words, arguments)
     files = [ScriptFile(path) for path in told.files]
     child = Child()
     try:

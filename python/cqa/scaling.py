@@ -6,7 +6,7 @@ import re
 from decimal import Decimal
 from typing import Iterator, List, Mapping, NamedTuple, Sequence, Tuple, Union
 
-from .scripts import names_from, query_parts, tokens
+from .scripts import aggregate_of, names_from, query_parts, tokens
 
 #: The number of places by table and column.
 Places = Mapping[Tuple[str, str], int]
@@ -46,6 +46,8 @@ def tables_of(text: str) -> List[str]:
         return words[2:3]
     if words[:1] == ["prefer"]:
         return words[1:2]
+    if words[:1] == ["range"]:
+        return aggregate_of(text).tables
     return names_from(words)
 
 
@@ -110,11 +112,16 @@ def stored_note(column: str, places: int) -> str:
 
 
 def shown_notes(text: str, places: Places) -> List[str]:
-    """What to say of a reply whose rows are shown as they are stored."""
-    if tokens(text)[:1] and tokens(text)[0] not in _SHOWS:
+    """What to say of a reply whose rows, or ends, are shown as they are stored."""
+    verb = "".join(tokens(text)[:1])
+    if verb == "range":
+        aggregate = aggregate_of(text)
+        columns, tables = [name for name in (aggregate.column, aggregate.group) if name], aggregate.tables
+    elif verb in _SHOWS or not verb:
+        columns, tables, _ = query_parts(text)
+    else:
         return []
-    parts = query_parts(text)
-    counts = [(column, places_of(column, parts.tables, places)) for column in parts.columns]
+    counts = [(column, places_of(column, tables, places)) for column in columns]
     return ["%s is shown as it is stored, times %s" % (column, _factor(count))
             for column, count in counts if count]
 

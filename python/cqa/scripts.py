@@ -228,6 +228,26 @@ def query_parts(text: str) -> QueryParts:
     return QueryParts(columns, tables, " ".join(words[at + 1:]))
 
 
+class Aggregate(NamedTuple):
+    """What a `range` asks for: its word ("count", "sum", "min" or "max"), its column, its tables, and the column of its groups. What
+    isn't there is empty."""
+
+    word: str
+    column: str
+    tables: List[str]
+    group: str
+
+
+def aggregate_of(text: str) -> Aggregate:
+    """The parts of a `range`, or of what stands behind this word: any word may be a name in it."""
+    words = tokens(text)
+    words = words[1:] if words[:1] == ["range"] else words
+    columns, at = _names(words, 1) if words[:1] != ["count"] else ([], 1)
+    tables, at = _names(words, at + 1) if words[at:at + 1] == ["from"] else ([], at)
+    group = next((place for place in range(at, len(words)) if words[place:place + 2] == ["group", "by"]), len(words))
+    return Aggregate("".join(words[:1]), "".join(columns[:1]), tables, "".join(_names(words, group + 2)[0][:1]))
+
+
 def names_from(words: List[str]) -> List[str]:
     """The names behind the first `from` of a statement's tokens."""
     return _names(words, words.index("from") + 1)[0] if "from" in words else []

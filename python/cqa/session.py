@@ -25,7 +25,7 @@ from .program import Child
 from .replies import IS_REFUSAL, row_of
 from .rows import Cell, Rows
 from .scaling import places_of, query_notes, scaled_tests, shown_notes, statement_notes, stored, tables_of
-from .scripts import (Schema, Statement, fault_of, names_from, quoted, remark_text, remarks, row_text, selected, shown_schema, statements,
+from .scripts import (Schema, Statement, aggregate_of, fault_of, quoted, remark_text, remarks, row_text, selected, shown_schema, statements,
                       tokens, verb_of)
 
 #: Statements that not every program knows: how each begins, and the reply of a program that doesn't know it.
@@ -355,17 +355,31 @@ class Session:
     def range(self, aggregate: str) -> Range:
         """The ends of `sum credit from customer where ..`, of `count from ..`, `min ..` or `max ..` over all repairs.
         Raises Refused; UnknownStatement where the program is too old."""
-        told = answers.ranges(self._lines("range %s;" % self._query(aggregate)))
+        told = answers.ranges(self._range_lines(aggregate))
         places = self._aggregated(aggregate)[0]
         ends = _shown_end(told.least, places), _shown_end(told.greatest, places)
         return Range(*ends, self._shown_kept(told.low), self._shown_kept(told.high))
 
     def ranges(self, aggregate: str) -> List[Group]:
         """As `range`, for `sum credit from customer group by city`: one for each value. Raises as `range`."""
+        return self._groups(aggregate, self._range_lines(aggregate))
+
+    def _range_lines(self, aggregate: str) -> List[str]:
+        return self._lines("range %s;" % self._query(aggregate, aggregate_of(aggregate).tables))
+
+    def _groups(self, aggregate: str, lines: List[str]) -> List[Group]:
         of_what, of_groups = self._aggregated(aggregate)
-        told = answers.groups(self._lines("range %s;" % self._query(aggregate)))
         return [Group(_shown_value(value, of_groups), _shown_end(least, of_what), _shown_end(greatest, of_what))
-                for value, least, greatest in told]
+                for value, least, greatest in answers.groups(lines)]
+
+    def ends_of(self, aggregate: str, lines: List[str]) -> Rows:
+        """The ends of a `range` by its reply, as rows: one, or one for each group. An end `none` is an empty text."""
+        group, places = aggregate_of(aggregate).group, self._aggregated(aggregate)[0]
+        if group:
+            return Rows((group, "least", "greatest"), [(one.value, _or_empty(one.least), _or_empty(one.greatest))
+                                                        for one in self._groups(aggregate, lines)])
+        told = answers.ranges(lines)
+        return Rows(("least", "greatest"), [(_or_empty(_shown_end(told.least, places)), _or_empty(_shown_end(told.greatest, places)))])
 
     def classify(self, query: str) -> Classification:
         """How hard the query is, by its attacks. Raises Refused."""
@@ -431,10 +445,8 @@ class Session:
 
     def _aggregated(self, aggregate: str) -> Tuple[int, int]:
         """The places of the column of an aggregate, and of that of its groups; -1 where there are none."""
-        words = tokens(aggregate)
-        tables = names_from(words)
-        of_what = places_of(words[1], tables, self._places) if words[:1] and words[0] != "count" and len(words) > 1 else 0
-        of_groups = places_of(words[-1], tables, self._places) if words[-3:-1] == ["group", "by"] else 0
+        parts = aggregate_of(aggregate)
+        of_what, of_groups = (places_of(name, parts.tables, self._places) if name else 0 for name in (parts.column, parts.group))
         return of_what or -1, of_groups or -1
 
     # -- change and keep ----------------------------------------------------------------------------------------------------
@@ -515,6 +527,10 @@ def _shown_value(value: Cell, places: int) -> Cell:
 
 def _shown_end(value: Optional[Cell], places: int) -> Optional[Cell]:
     return None if value is None else _shown_value(value, places)
+
+
+def _or_empty(end: Optional[Cell]) -> Cell:
+    return "" if end is None else end
 
 
 def _converted(name: str, value: Union[int, str], kind: str, places: Optional[int], faults: List[str]) -> Union[int, str]:

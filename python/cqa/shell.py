@@ -22,6 +22,7 @@ from .running import loaded
 from .scripts import Schema, Statement, open_part, statements, verb_of, without_comments
 from .session import Session
 from .statements import VERBS, WORDS, about, all_statements
+from .words import told as words_told
 
 PROMPTS = {"": "cqa> ", "statement": "  ..> ", "text": "'..> ", "block": "copy> "}
 
@@ -187,7 +188,7 @@ class Shell:
 
     def _load(self, words: Sequence[str]) -> None:
         try:
-            told = parser().parse_args(words)
+            told = words_told(parser(), words)
         except SystemExit:
             return
         if told.output:
@@ -320,7 +321,7 @@ def main(arguments: Sequence[str]) -> int:
     """The command `shell [FILE ..]`: 1 where a statement was refused and the input is no terminal."""
     words = argparse.ArgumentParser(prog="cqa shell", description="Statements by hand. The files, scripts or kept states, are run first.")
     words.add_argument("files", nargs="*", metavar="FILE")
-    session = loaded(words.parse_args(arguments).files, is_apart=True)
+    session = loaded(words_told(words, arguments).files, is_apart=True)
     if session is None:
         return 1
     with session:

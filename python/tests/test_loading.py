@@ -41,6 +41,27 @@ class Taken(Case):
         self.assertIn('"1","11","35050"', out)
         self.assertIn('"2","Märta","50"', out)
 
+    def test_options_of_one_list(self) -> None:
+        self.file("a.csv", "id,sum\n1,350.50\n")
+        self.file("b.csv", "Report of May\nid|sum|name\n2|0,5|Märta\n".encode("latin-1"))
+        words = ["--key", "id", "--decimal", "sum:2", "--columns", "id,sum"]
+        apart = ["--skip", "B=1", "--delimiter", "B=|", "--encoding", "B=latin-1", "--decimal-mark", "B=,"]
+        for lists in (["--source", "A=a.csv", "--source", "B=b.csv"], ["--source", "B=b.csv", "--source", "A=a.csv"]):
+            out = self.load(*words, *lists, *apart)
+            self.assertEqual(sorted(line for line in lines(out) if line.startswith('"')), ['"1","35050","A"', '"2","50","B"'])
+            self.assertIn("-- b.csv:3\n", out)
+        self.assertIn('"2","50"', self.load(*words, "a.csv", "b.csv", *(word.replace("B=", "b.csv=") for word in apart)))
+        self.file("c.csv", "id=sum\n3=4\n")
+        self.assertIn('"3","400"', self.load(*words, "--delimiter", "=", "c.csv"))
+
+    def test_options_of_lists_that_arent_there(self) -> None:
+        self.file("a.csv", "id\n1\n")
+        for words, told in ((("--skip", "shpo=2"), "--skip wants a number of lines, as 1, or NAME=1 for the list of one source, and not shpo=2"),
+                            (("--decimal-mark", "shpo=,"), "the decimal mark is . or , and not 'shpo=,'"), (("--skip", "-1"), None)):
+            status, out, said = self.command("load", "--table", "t", "--key", "id", "a.csv", *words)
+            self.assertEqual((status, out), (2, ""))
+            self.assertIn(told or "", said)
+
     def test_kinds_are_found(self) -> None:
         self.file("a.csv", "id,zip,phone,minus,plus,zero,greatest,real\n1,0150,+4722,-5,+5,-0,9223372036854775807,1.0\n"
                            "2,5003,11,0,6,0,-9223372036854775808,2\n")

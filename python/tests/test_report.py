@@ -92,6 +92,25 @@ class Pages(ProgramCase):
         words = " ".join(read.text.split())
         self.assertIn("Why (120.50) isn't certain", words)
 
+    def test_a_tested_column_with_places_is_told_once(self) -> None:
+        self.file("s.cqa", "-- cqa: column c.credit has 2 places\ncreate table c (id int, credit int, primary key (id));\nask select id from c where credit > 1000;\n")
+        self.assertEqual(self.command("report", "s.cqa", "-o", "out.html")[::2],
+                         (0, "s.cqa:3: note: credit is stored times 100: 1000 stands for 10.00 here; 1000.00 is written 100000\n"))
+
+    def test_ranges(self) -> None:
+        read = self.page("-- cqa: column c.credit has 2 places\ncreate table c (id int, credit int, primary key (id));\ncopy c;\n1,90000\n1,12050\n2,100\n2,100\n\\.\n"
+                         "range sum credit from c;\nrange sum credit from c;\nrange max credit from c where credit < 0;\nask select id from c;\n")
+        words = " ".join(read.text.split())
+        for wanted in ("3 questions", "Question 1 s.cqa:9 sum credit from c It lies between 121.50 and 901.00 , whichever rows are right.",
+                       "table the least the greatest c (1, 120.50) (1, 900.00) Question 2 s.cqa:11", "between none and none", "Question 3 s.cqa:12"):
+            self.assertIn(wanted, words)
+
+    def test_nothing_is_cut_on_a_narrow_page(self) -> None:
+        self.file("s.cqa", SCRIPT)
+        style = self.command("report", "s.cqa")[1].split("</style>")[0]
+        narrow = style.split("@media (max-width: 40rem)")[1]
+        self.assertIn("th, td { padding: .25rem .3rem; min-width: 0; overflow-wrap: anywhere; }", narrow)
+
     def test_weak_and_strong_attacks_are_told_apart(self) -> None:
         read = self.page(SCRIPT + "create table head (person text, region text, primary key (person));\n"
                          "ask exists from customer, branch, head where customer.city = branch.city and branch.region = head.region;\n")

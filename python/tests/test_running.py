@@ -7,6 +7,7 @@ import stat
 import subprocess
 import sys
 import unittest
+import zipfile
 from unittest import mock
 
 from support import PROGRAM, TOP, Case, ProgramCase, lines
@@ -15,7 +16,7 @@ from cqa.habits import HABITS, advice_for
 from cqa.places import place_of
 from cqa.program import Child
 from cqa.running import ScriptFile, run_files
-from cqa.scripts import remarks, schema_of, selected, statements
+from cqa.scripts import aggregate_of, remarks, schema_of, selected, statements
 
 STAFF = "create table staff (id int, name text, room int, primary key (id));\n"
 
@@ -48,6 +49,9 @@ class Scripts(unittest.TestCase):
         self.assertEqual((schema.columns, schema.key, schema.strict), ({"a": "int", "b": "text"}, ["b", "a"], True))
         self.assertEqual(selected("ask select from, t.select from from, t where a = 'from x'"), (["from", "t.select"], ["from", "t"]))
         self.assertEqual(selected("exists from a, b"), ([], ["a", "b"]))
+        self.assertEqual(aggregate_of("range sum from from from where sum = 1 and t = 'group by x'"), ("sum", "from", ["from"], ""))
+        self.assertEqual(aggregate_of("count from t"), ("count", "", ["t"], ""))
+        self.assertEqual(aggregate_of("min r.y from r, s where r.p = s.id group by s.z"), ("min", "r.y", ["r", "s"], "s.z"))
         self.assertEqual(remarks(b"-- cqa: column t.a has 2 places\n-- cqa: column t.b has the sources\ncreate"), ({("t", "a"): 2}, {"t": "b"}))
         self.assertEqual(remarks(b"dump;\n-- cqa: column t.a has 2 places\n"), ({("t", "a"): 2}, {}))
         self.assertEqual(remarks(b"copy t;\n-- cqa: column t.a has 2 places\n\\.\n"), ({}, {}))
@@ -105,6 +109,7 @@ class Places(ProgramCase):
         self.assertEqual(advice_for("SELECT id FROM c", 0, "error 2 Syntax at 0"),
                          "words in lower case, and `ask select` for what is certain, `possible select` for what is possible")
         self.assertEqual(advice_for("frobnicate", 0, "error 2 Syntax at 0"), "")
+        self.assertEqual(advice_for("ask select sum( pay ), id from c", 14, "error 2 Syntax at 14"), "write `range sum pay from c;`: between which values it lies")
 
     def test_texts_lead_no_place_astray(self) -> None:
         hostile = "a\n3 rows\nerror 2 Syntax at 0\nx"
@@ -174,6 +179,17 @@ class Runs(ProgramCase):
         self.assertEqual(len(lines(self.command("run", "--stop", "s.cqa")[2])), 1)
         self.assertEqual(len(lines(self.command("run", "s.cqa")[2])), 2)
 
+    def test_options_may_stand_between_files(self) -> None:
+        self.file("a.cqa", STAFF)
+        self.file("b.cqa", "ask select;\nshow tables;\n")
+        for words in (("a.cqa", "--stop", "b.cqa"), ("--stop", "a.cqa", "b.cqa"), ("a.cqa", "b.cqa", "--stop"), ("--stop", "--", "a.cqa", "b.cqa")):
+            self.assertEqual(self.command("run", *words), (1, "created staff\n", "b.cqa:1: error 2 Syntax at 10\n"))
+        self.file("c.cqa", "ask select id from staff;\n")
+        self.assertEqual(self.command("csv", "a.cqa", "-o", "out.csv", "c.cqa"), (0, "", ""))
+        self.assertEqual(self.read("out.csv"), "id\n")
+        self.assertEqual(self.command("conflicts", "a.cqa", "--csv", "c.cqa", "staff"), (0, "id,column,value,sources\n", ""))
+        self.assertEqual(self.command("run", "a.cqa", "--stpo", "c.cqa")[0], 2)
+
     def test_the_output_is_that_of_standard_input(self) -> None:
         for name in ("first", "two_lists", "literature"):
             with self.subTest(name), open(os.path.join(TOP, "examples", name + ".out"), encoding="utf-8") as file:
@@ -219,6 +235,18 @@ class Runs(ProgramCase):
         self.file("s.cqa", STAFF + "insert into staff values (1, 'a, \"b\"', 2), (2, 'x\n(99, 100)\ny', 3);\nask select room from staff;\nask select id, name from staff;\n")
         self.assertEqual(self.command("csv", "s.cqa"), (0, 'id,name\n1,"a, ""b"""\n2,"x\n(99, 100)\ny"\n', ""))
         self.assertEqual(self.command("csv", self.file("t.cqa", STAFF))[:2], (1, ""))
+
+    def test_ranges(self) -> None:
+        pay = "-- cqa: column pay.cents has 2 places\ncreate table pay (id int, cents int, name text, primary key (id));\n"
+        self.file("s.cqa", pay + "insert into pay values (1, 500, 'a'), (1, -200, 'b'), (2, 50, 'c');\nrange sum cents from pay;\n")
+        self.file("none.cqa", "ask select id from pay;\nrange max name from pay where id = 3;\n")
+        self.file("bad.cqa", "range sum name from pay\n where id = 1;\n")
+        self.assertEqual(self.command("csv", "s.cqa")[:2], (0, "least,greatest\n-1.50,5.50\n"))
+        self.assertEqual(self.command("csv", "s.cqa", "none.cqa")[:2], (0, "least,greatest\n,\n"))
+        status, out, told = self.command("run", "s.cqa", "bad.cqa")
+        self.assertEqual((status, lines(out)[2:]), (1, ["least -150", "keep pay (1, -200, 'b')", "greatest 550", "keep pay (1, 500, 'a')"]))
+        self.assertIn("s.cqa:4: note: cents is shown as it is stored, times 100\n", told)
+        self.assertIn("bad.cqa:1: error 9 TypeMismatch condition 0: a sum is of an int column; min and max are of texts too\n", told)
 
     def test_conflicts_by_command(self) -> None:
         self.file("a.csv", "id,name,credit\n1,Ada,9.00\n2,Bo,1\n")
@@ -286,6 +314,17 @@ class Wrapper(ProgramCase):
         ran = subprocess.run([self.path("cqa"), "build"], env=environment, stdin=subprocess.DEVNULL, stdout=subprocess.PIPE, stderr=subprocess.PIPE, timeout=60, check=False)
         self.assertEqual(ran.returncode, 126)
         self.assertIn(b"NOT PROVED", ran.stderr)
+
+
+class Packages(Case):
+    def test_an_editable_wheel_leads_to_the_sources(self) -> None:
+        sys.path.insert(0, os.path.join(TOP, "python", "build_backend"))
+        import wheel_builder
+        sys.path.pop(0)
+        with zipfile.ZipFile(self.path(wheel_builder.build_editable(self.folder))) as wheel:
+            paths = [wheel.read(name).decode() for name in wheel.namelist() if name.endswith(".pth")]
+            self.assertEqual((paths, sorted(name.split("/")[-1] for name in wheel.namelist())),
+                             ([os.path.join(TOP, "python") + "\n"], ["METADATA", "RECORD", "WHEEL", "__editable__.cqa.pth"]))
 
 
 class Versions(Case):

@@ -105,6 +105,21 @@ class Questions(ProgramCase):
                 except cqa.UnknownStatement as unknown:
                     self.assertIn("doesn't know `%s`" % word, str(unknown))
 
+    def test_ranges(self) -> None:
+        self.db.run("create table r (x int, y int, primary key (x)); insert into r values (1, 5), (1, -2), (2, 7), (3, 1), (3, 9);")
+        self.assertEqual(self.db.range("sum y from r where y > 0"),
+                         cqa.Range(8, 21, (("r", (1, -2)), ("r", (3, 1))), (("r", (1, 5)), ("r", (3, 9)))))
+        told = self.db.range("max y from r where y > 100;")
+        self.assertEqual((told.least, told.greatest, len(told.low), len(told.high)), (None, None, 2, 2))
+        with self.assertRaises(cqa.Refused) as caught:
+            self.db.range("sum name from staff")
+        self.assertEqual((caught.exception.number, caught.exception.fields), (9, "condition 0"))
+        self.db.heed(b"-- cqa: column pay.cents has 2 places\ndump;")
+        self.db.run("create table pay (id int, cents int, primary key (id)); copy pay;\n1,90000\n1,12050\n2,5000\n\\.\n")
+        told = self.db.range("sum cents from pay where cents >= 100.00")
+        least, greatest = decimal.Decimal("120.50"), decimal.Decimal("900.00")
+        self.assertEqual(told, cqa.Range(least, greatest, (("pay", (1, least)),), (("pay", (1, greatest)),)))
+
     def test_one_statement_is_one(self) -> None:
         for text in ("", "dump; dump;", "copy staff;\n1,a,1\n", "insert into staff values (1, 'open"):
             with self.subTest(text), self.assertRaises(ValueError):

@@ -88,6 +88,7 @@ class ByLines(ProgramCase):
                 self.assertTrue(shell.take(line))
                 self.assertEqual(shell.prompt, prompt, line)
             self.assertEqual(shell.complete("na"), ["name"])
+            self.assertEqual(shell.complete("ra"), ["range"])
             self.assertIn("staff", shell.complete("st"))
             self.assertIn("\\load", shell.complete("\\l"))
             self.assertTrue(shell.take("ask exists"))
