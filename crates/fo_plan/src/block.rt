@@ -18,7 +18,9 @@ use crate::holding::first_of;
 use cqa_model::{Plan, Query, variables};
 use cqa_value::{Items, Row};
 use join_access::{RowIndex, table_of};
-use plan_rows::{Course, Link, Memo, Setting, Step, Taken, grouped_along, shared_or_none};
+use plan_rows::{
+    Candidates, Course, Link, Memo, Setting, Step, Taken, grouped_along, shared_or_none,
+};
 use row_blocks::{block_end, block_start};
 use row_pieces::Rows;
 use std::alloc::Global;
@@ -78,7 +80,7 @@ fn found_block<'a, 'x>(db: &'a Database, course: &'x Course<'x>, row: &'x Row) -
                 atom: *atom,
                 rest,
             };
-            let mut memo = Memo::over(&course.setting);
+            let mut memo = Memo::over(&course.setting, Candidates::One);
             let found = first_block(db, &step, &*row, &mut memo);
             drop(memo);
             found

@@ -15,7 +15,7 @@ use crate::notes::Notes;
 use cqa_model::{Plan, Query, variables};
 use cqa_value::{Items, NoMemory, Row};
 use join_access::RowIndex;
-use plan_rows::{Course, Link, Memo, Rest, Setting, Taken, shared_columns};
+use plan_rows::{Candidates, Course, Link, Memo, Rest, Setting, Taken, shared_columns};
 use row_answers::Answers;
 use std::alloc::Global;
 use table_blocks::Database;
@@ -64,7 +64,7 @@ pub fn answers(
         plan: order,
     };
     let mut notes = Notes {
-        memo: Memo::over(&course.setting),
+        memo: Memo::over(&course.setting, Candidates::Many),
         barren: None,
         bears: 0,
     };

@@ -13,7 +13,7 @@ ghost use Rattle.fo_plan.specs.Holding.{RestHolds, HoldsWith, AllHoldWith};
 use crate::enough::Blocks;
 use cqa_model::{Plan, Query, variables};
 use cqa_value::Row;
-use plan_rows::{Course, Memo, Rest, Setting, Step, Taken, fits};
+use plan_rows::{Candidates, Course, Memo, Rest, Setting, Step, Taken, fits};
 use row_pieces::Rows;
 use std::alloc::Global;
 use table_blocks::Database;
@@ -158,7 +158,7 @@ pub fn holds(alloc: Global, plan: &Plan, db: &Database, query: &Query, row: &Row
         taken: &none,
         plan: order,
     };
-    let mut memo = Memo::over(&course.setting);
+    let mut memo = Memo::over(&course.setting, Candidates::One);
     let held = holds_with(&rest, row, &mut memo);
     drop(memo);
     held

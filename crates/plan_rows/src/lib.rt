@@ -25,7 +25,7 @@ pub use grouped::grouped_along;
 pub use known::known_values;
 pub use links::Link;
 pub use look::Look;
-pub use memo::Memo;
+pub use memo::{Candidates, Memo};
 pub use places::{Places, key_columns};
 pub use reached::reached_places;
 pub use setting::Setting;

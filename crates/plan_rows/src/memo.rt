@@ -19,12 +19,20 @@ use cqa_value::{MOST_VALUES, Row, Value};
 use std::alloc::Global;
 use std::collections::BTreeMap;
 
+/// For how many candidates a plan is decided with one memo.
+#[derive(Clone, Copy, PartialEq, Eq)]
+pub enum Candidates {
+    One,
+    Many,
+}
+
 /// Whether rests of a plan hold, by their keys; nothing is kept before `turns` rows were looked at, and no more than `most`
 /// rests at a time.
 #[derive(Drop)]
 pub struct Memo {
     turns: u64,
     most: usize,
+    candidates: Candidates,
     known: BTreeMap<Row, bool>,
 }
 
@@ -90,12 +98,13 @@ fn memo_key(
 impl Memo {
     /// An empty memo for a plan over a database: nothing is kept before four times as many rows were tried as the query's
     /// tables have, and no more rests at a time than these have rows, or 1,024.
-    pub fn over(setting: &Setting<'_>) -> Memo
+    pub fn over(setting: &Setting<'_>, candidates: Candidates) -> Memo
         ensures { (key : List Cell) → get row_cmp result.known key ≡ None }
     {
         Memo {
             turns: turns_before_memo(setting),
             most: rests_to_keep(setting),
+            candidates,
             known: BTreeMap::new(setting.alloc),
         }
     }
@@ -108,7 +117,7 @@ impl Memo {
     }
 
     /// By what it is remembered whether a rest of a plan holds; `None` where there is no key, and before the turns are used
-    /// up, unless the rest depends neither on the rows taken nor on a candidate.
+    /// up, unless the rest depends neither on the rows taken nor on a candidate, if there are many.
     pub fn key(&self, rest: &Rest<'_>, row: &Row) -> Option<Row>
         ensures { IfSome result (IsKey rest.now.course.now (placed rest.now.taken.now) rest.now.plan.now row.now) }
     {
@@ -123,7 +132,7 @@ impl Memo {
             return None;
         }
         let settled = are_settled(course.setting.query, plan);
-        if self.turns > 0 && !settled {
+        if self.turns > 0 && !settled && self.candidates == Candidates::Many {
             return None;
         }
         memo_key(

@@ -30,7 +30,8 @@ use cqa_model::{Plan, Query, variables};
 use cqa_value::{Items, NoMemory, Row};
 use join_access::{RowIndex, table_of};
 use plan_rows::{
-    Course, Link, Look, Memo, Places, Rest, Setting, Step, Taken, fits, key_columns, shared_or_none,
+    Candidates, Course, Link, Look, Memo, Places, Rest, Setting, Step, Taken, fits, key_columns,
+    shared_or_none,
 };
 use row_pieces::Rows;
 use std::alloc::Global;
@@ -307,7 +308,7 @@ fn mend_all(way: &Way<'_>, kept: &mut [Choice]) -> bool
     ensures holds { result ≡ false → RestHolds way.now [] way.now.course.now.order.now }
 {
     let course = way.course;
-    let mut memo = Memo::over(&course.setting);
+    let mut memo = Memo::over(&course.setting, Candidates::One);
     let mended = mend_rest(way, &Taken::Nothing, course.order, kept, &mut memo);
     drop(memo);
     mended.is_some()
