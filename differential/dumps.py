@@ -1,12 +1,13 @@
 #!/usr/bin/env python3
-"""Random databases, dumped, and made again from their dumps; and files of CSV that other programs wrote or read.
+"""Random databases, dumped, and made again from their dumps; and CSV that other programs wrote or read.
 
-    differential/dumps.py [PROGRAM] [--seed S] [--count N] [--records R]
+    differential/dumps.py [PROGRAM] [--seed S] [--count N] [--records R] [--blocks B]
 
 A dump has to be refused nowhere when it is run, and to give the same dump again. Its blocks have to be read by Python's
 `csv` as the rows that were stored. R records that Python's `csv` wrote, and, where sqlite3 is there, that its CSV mode
-wrote, have to be copied as they are. A difference prints the script and ends with status 1. Python 3.9 and its library
-alone are needed.
+wrote, have to be copied as they are. B blocks whose quotes and lines' ends stand anywhere have to be read as Python's `csv`
+reads them, or refused with the first record of another number of fields. A difference prints the script and ends with
+status 1. Python 3.9 and its library alone are needed.
 """
 
 import argparse
@@ -22,6 +23,7 @@ TOP = os.path.dirname(os.path.dirname(os.path.abspath(__file__)))
 PROGRAM = os.path.join(TOP, "crates", "cqa_cli", "out", "cqa_cli")
 PIECES = ["", "a", "b", "'", '"', ",", "\n", "\\.", "\n\\.\n", "\n\\.\r\n", "\r", "\r\n", ";", "--", " ", "\t", "ä", "\u20ac",
           "\U0001f600", "\ufeff", "\x00", "copy t;", "\\"]
+BLOCK_PIECES = ['"', '"', ",", "\n", "\r\n", "\r", "a", "b ", "ä"]
 NUMBERS = [0, 1, -1, 2, 9223372036854775807, -9223372036854775808]
 
 
@@ -167,17 +169,46 @@ def try_files(program, rng, count):
     return [name for name, _ in writers]
 
 
+def replies_to_block(width, block):
+    """The replies to a `copy` of a block into a table of texts and to an `ask` of its rows, by what Python's `csv` reads."""
+    records = [record for record in csv.reader(io.StringIO(block, newline="")) if record]
+    bad = next((number for number, record in enumerate(records, 1) if len(record) != width), None)
+    rows = set() if bad else set(map(tuple, records))
+    shown = sorted(rows, key=lambda row: [word.encode("utf-8") for word in row])
+    return "%s\n%s%d rows\n" % (
+        "error 19 BadCsv record %d" % bad if bad else "copied %d" % len(rows),
+        "".join("(%s)\n" % ", ".join(map(literal, row)) for row in shown), len(rows))
+
+
+def try_blocks(program, rng, count):
+    script, replies = "", ""
+    for number in range(count):
+        width = rng.randrange(1, 3)
+        block = "".join(rng.choice(BLOCK_PIECES) for _ in range(rng.randrange(30))) + "\n"
+        columns = ["c%d" % at for at in range(width)]
+        script += "create table f%d (%s, primary key (%s));\ncopy f%d;\n%s\\.\nask select %s from f%d;\n" % (
+            number, ", ".join("%s text" % column for column in columns), ", ".join(columns), number, block, ", ".join(columns), number)
+        replies += "created f%d\n%s" % (number, replies_to_block(width, block))
+    script, replies = script.encode("utf-8"), replies.encode("utf-8")
+    if run(program, script) != replies:
+        sys.stdout.buffer.write(script)
+        sys.exit("a block is read otherwise than Python reads it")
+
+
 def main():
     parser = argparse.ArgumentParser()
     parser.add_argument("program", nargs="?", default=PROGRAM)
     parser.add_argument("--seed", type=int, default=1)
     parser.add_argument("--count", type=int, default=300)
     parser.add_argument("--records", type=int, default=100000)
+    parser.add_argument("--blocks", type=int, default=3000)
     options = parser.parse_args()
     rng = random.Random(options.seed)
     try_dumps(options.program, rng, options.count)
     names = try_files(options.program, rng, options.records)
-    print("%d dumps give themselves again; files of %d records by %s are copied" % (options.count, options.records, " and ".join(names)))
+    try_blocks(options.program, rng, options.blocks)
+    print("%d dumps give themselves again; files of %d records by %s are copied; %d blocks are read as Python reads them"
+          % (options.count, options.records, " and ".join(names), options.blocks))
 
 
 if __name__ == "__main__":

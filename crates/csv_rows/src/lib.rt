@@ -5,7 +5,6 @@
 mod ends;
 mod field;
 mod laws;
-mod plain;
 mod reading;
 mod record;
 mod table;

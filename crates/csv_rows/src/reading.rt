@@ -8,13 +8,16 @@ ghost use Rattle.csv.specs.Records.{fields_of};
 ghost use Rattle.csv.specs.declared.reader.Trim.TheVariants.{None as NoTrim};
 ghost use Rattle.csv_rows.specs.Blocks.{HoldsRows, IsRefusedRecord, IsAtStart, kinds};
 
-use crate::plain::plain_rows;
 use crate::record::row_of;
 use cqa_model::{Column, Schema};
 use cqa_value::{Fail, Items, NoMemory, Row};
 use csv::{ByteRecord, Reader, ReaderBuilder};
 use refusals::Refusal;
 use std::alloc::Global;
+
+/// The bytes that there is room for in a record at first: all that a reader looks at in one go, so that it seldom stops within
+/// a record.
+const RECORD_ROOM: usize = 8_192;
 
 /// Reads the next record, and tells whether there was one.
 fn next_record(reader: &mut Reader<&[u8]>, fields: &mut ByteRecord) -> Result<bool, NoMemory>
@@ -56,31 +59,6 @@ fn read_into(
     Err(Fail::NoMemory)
 }
 
-/// The rows that the records of a block are, read as any CSV.
-fn read_quoted(alloc: Global, columns: &[Column], block: &[u8]) -> Result<Items<Row>, Fail<Refusal>>
-    requires few { length columns.now ≤ MOST_COLUMNS }
-    ensures rows { IfOk result (λ rows. HoldsRows (kinds columns.now) block.now rows) }
-    ensures refused { IfErr result (λ fault. IsRefusedRecord (kinds columns.now) block.now fault) }
-    ensures few { IfOk result (λ rows. length rows < 2 ^ 32) }
-{
-    let mut reader = ReaderBuilder::new()
-        .has_headers(false)
-        .flexible(true)
-        .from_reader(alloc, block);
-    let mut record = ByteRecord::new(alloc);
-    let mut rows = Items::new(alloc);
-    let read = read_into(alloc, columns, &mut reader, &mut record, &mut rows);
-    drop(record);
-    drop(reader);
-    match read {
-        Ok(()) => Ok(rows),
-        Err(fault) => {
-            drop(rows);
-            Err(fault)
-        }
-    }
-}
-
 /// The rows that the records of a block are, for a table of this schema: a field for each column, an int column's an
 /// integer in range, a text column's a UTF-8 text of at most 1,024 bytes. The records are those that the crate `csv` reads:
 /// commas between fields, quotes around fields that hold commas, quotes or line feeds, and no header.
@@ -94,8 +72,20 @@ pub fn read_rows(alloc: Global, schema: &Schema, block: &[u8]) -> Result<Items<R
     ensures few { IfOk result (λ rows. length rows < 2 ^ 32) }
 {
     let columns = schema.columns.as_slice();
-    match plain_rows(alloc, columns, block)? {
-        Some(rows) => Ok(rows),
-        None => read_quoted(alloc, columns, block),
+    let mut record = ByteRecord::with_capacity(alloc, RECORD_ROOM, columns.len())?;
+    let mut reader = ReaderBuilder::new()
+        .has_headers(false)
+        .flexible(true)
+        .from_reader(alloc, block);
+    let mut rows = Items::new(alloc);
+    let read = read_into(alloc, columns, &mut reader, &mut record, &mut rows);
+    drop(record);
+    drop(reader);
+    match read {
+        Ok(()) => Ok(rows),
+        Err(fault) => {
+            drop(rows);
+            Err(fault)
+        }
     }
 }

@@ -39,7 +39,7 @@ pub fn row_of(
         let Some(value) = value_of(alloc, column.kind, field)? else {
             return Ok(None);
         };
-        values.push(value)?;
+        values.push_reserved(value);
     }
     Ok(Some(Row::from_items(Items::from_vec(values))))
 }

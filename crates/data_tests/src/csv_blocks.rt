@@ -46,7 +46,7 @@ fn is_written(
 fn texts(rt: HostRuntime) -> Result<(), Fail> {
     let alloc = rt.alloc();
     let schema = one_column(alloc, Kind::Text)?;
-    let cases: [(&[u8], Result<&[u8], u32>); 7] = [
+    let cases: [(&[u8], Result<&[u8], u32>); 10] = [
         (b"", Ok(b"")),
         (b"a\n\"b\"\"c\n,\"\n", Ok(b"\"a\"\n\"b\"\"c\n,\"\n")),
         (b"x\r\ny", Ok(b"\"x\"\n\"y\"\n")),
@@ -54,6 +54,9 @@ fn texts(rt: HostRuntime) -> Result<(), Fail> {
         (b"one\n\none,two\n", Err(2)),
         (b"ok\n\xff\n", Err(2)),
         (b"a\"b\n\"c\"d\n", Ok(b"\"a\"\"b\"\n\"cd\"\n")),
+        (b"\"a\nb\"c\"\nd\n", Ok(b"\"a\nbc\"\"\"\n\"d\"\n")),
+        (b"a\n\"b,c\nd", Ok(b"\"a\"\n\"b,c\nd\"\n")),
+        (b"\xef\xbb\xbfa\rb\n", Ok(b"\"a\"\n\"b\"\n")),
     ];
     for (block, wanted) in cases {
         if !is_written(alloc, &schema, block, wanted)? {
