@@ -12,3 +12,5 @@ mod questions;
 mod repairs;
 #[cfg(test)]
 mod searches;
+#[cfg(test)]
+mod witnesses;

@@ -4,6 +4,7 @@ ghost use Rattle.std.specs.Prelude.{◌<◌, ◌≤◌, ◌^◌, All, IfSome, Is
 ghost use Rattle.cqa_model.specs.Query.{FitsDatabase};
 ghost use Rattle.spj_syntax.specs.Written.{IsSmall};
 
+use bound_query::Bound;
 use cqa_model::Query;
 use cqa_value::{Items, Name, Row};
 use query_resolve::{resolve, resolve_schema};
@@ -136,15 +137,14 @@ pub fn query_of(alloc: Global, db: &Database, text: &str) -> Option<Query>
 /// What is wanted of a question.
 pub trait Wanted {
     /// Whether it comes of the question's query, over the tables.
-    fn comes(&self, alloc: Global, db: &Database, query: &Query) -> bool
-        requires { FitsDatabase query.now db.now };
+    fn comes(&self, alloc: Global, bound: &Bound<'_>) -> bool;
 }
 
 /// Whether what is wanted comes of a question, over the tables.
 fn comes_of<W: Wanted>(alloc: Global, db: &Database, question: &str, wanted: &W) -> bool {
     match query_of(alloc, db, question) {
         Some(query) => {
-            let right = wanted.comes(alloc, db, &query);
+            let right = wanted.comes(alloc, &Bound::new(db, &query));
             drop(query);
             right
         }

@@ -1,10 +1,9 @@
 //! The elimination orders by which asks go.
 
 use crate::making::{Wanted, is_answered};
-use cqa_model::Query;
+use bound_query::Bound;
 use query_strategy::{Strategy, strategy_by_sizes};
 use std::alloc::Global;
-use table_blocks::Database;
 
 /// A query, the rows of each atom's table, none where they are missing, and the places of its atoms in the order in which
 /// they are taken.
@@ -15,8 +14,8 @@ struct Case {
 }
 
 impl Wanted for Case {
-    fn comes(&self, alloc: Global, _db: &Database, query: &Query) -> bool {
-        match strategy_by_sizes(alloc, query, self.sizes) {
+    fn comes(&self, alloc: Global, bound: &Bound<'_>) -> bool {
+        match strategy_by_sizes(alloc, bound.query, &bound.variables, self.sizes) {
             Ok(Strategy::Plan(plan)) => {
                 let right = plan.order.as_slice() == self.order;
                 drop(plan);

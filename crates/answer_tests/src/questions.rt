@@ -1,16 +1,13 @@
 //! Questions over two tables that attack each other weakly, and over others, with tables that are made of statements.
 //! Each is decided, with its repair and without, and what comes of it is compared.
 
-ghost use Rattle.cqa_model.specs.Query.{FitsDatabase};
-ghost use Rattle.weak_pairs.specs.Pairs.{IsPair};
-
 use crate::making::{Wanted, is_answered};
-use cqa_model::{Query, RowId};
+use bound_query::Bound;
+use cqa_model::RowId;
 use cqa_value::Row;
-use pair_answers::{decide, is_certain};
+use pair_answers::{PairQuery, decide, is_certain};
 use query_strategy::{Strategy, strategy_of};
 use std::alloc::Global;
-use table_blocks::Database;
 
 /// What comes of a question.
 #[derive(Clone, Copy, PartialEq, Eq)]
@@ -32,11 +29,9 @@ fn last_place(rows: &[RowId]) -> u32 {
     0
 }
 
-fn decided(alloc: Global, db: &Database, query: &Query, row: &Row) -> Shown
-    requires { FitsDatabase query.now db.now }
-{
-    match strategy_of(alloc, query) {
-        Ok(Strategy::Pair) => as_pair(alloc, db, query, row),
+fn decided(alloc: Global, bound: &Bound<'_>, row: &Row) -> Shown {
+    match strategy_of(alloc, bound.query, &bound.variables) {
+        Ok(Strategy::Pair) => as_pair(alloc, &PairQuery::new(bound), row),
         other => {
             drop(other);
             Shown::NoPair
@@ -44,14 +39,11 @@ fn decided(alloc: Global, db: &Database, query: &Query, row: &Row) -> Shown
     }
 }
 
-fn as_pair(alloc: Global, db: &Database, query: &Query, row: &Row) -> Shown
-    requires fits { FitsDatabase query.now db.now }
-    requires pair { IsPair query.now }
-{
-    if query.answer.len() != row.len() as usize {
+fn as_pair(alloc: Global, pair: &PairQuery<'_>, row: &Row) -> Shown {
+    if pair.bound.query.answer.len() != row.len() as usize {
         return Shown::Nothing;
     }
-    let shown = match decide(alloc, db, query, row) {
+    let shown = match decide(alloc, pair, row) {
         Ok(Some(kept)) => {
             let shown = Shown::Rejected(kept.rows.len(), last_place(kept.rows.as_slice()));
             drop(kept);
@@ -60,7 +52,7 @@ fn as_pair(alloc: Global, db: &Database, query: &Query, row: &Row) -> Shown
         Ok(None) => Shown::Certain,
         Err(_) => Shown::Nothing,
     };
-    match is_certain(alloc, db, query, row) {
+    match is_certain(alloc, pair, row) {
         Ok(certain) if certain == (shown == Shown::Certain) => shown,
         _ => Shown::Nothing,
     }
@@ -119,9 +111,9 @@ const CASES: [Case; 4] = [
 
 /// What comes of the query's empty row.
 impl Wanted for Case {
-    fn comes(&self, alloc: Global, db: &Database, query: &Query) -> bool {
+    fn comes(&self, alloc: Global, bound: &Bound<'_>) -> bool {
         let row = Row::new(alloc);
-        let shown = decided(alloc, db, query, &row);
+        let shown = decided(alloc, bound, &row);
         drop(row);
         shown == self.wanted
     }

@@ -1,11 +1,11 @@
 //! Repairs of two tables that are made of statements: mended for a row, and from a model that sets nothing.
 
 ghost use Rattle.std.specs.Prelude.{◌≡◌, length};
-ghost use Rattle.cqa_model.specs.Query.{FitsDatabase};
 ghost use Rattle.repair_back.specs.Results.{AreStored};
 
 use crate::making::{Wanted, is_answered};
-use cqa_model::{Query, RowId};
+use bound_query::Bound;
+use cqa_model::RowId;
 use cqa_value::{Row, Value};
 use fo_plan::holds;
 use fo_rewrite::plan_of;
@@ -43,19 +43,18 @@ fn chooses(alloc: Global, db: &Database, repair: &Repair, places: Places) -> boo
 }
 
 /// Whether a row is mended so, or is certain where nothing is wanted; and whether the plan says the same of it.
-fn is_mended(alloc: Global, db: &Database, query: &Query, row: &Row, wanted: Option<Places>) -> bool
-    requires fits { FitsDatabase query.now db.now }
-    requires long { length row.now ≡ length query.now.answer }
+fn is_mended(alloc: Global, bound: &Bound<'_>, row: &Row, wanted: Option<Places>) -> bool
+    requires { length row.now ≡ length bound.now.query.now.answer }
 {
-    match plan_of(alloc, query) {
+    match plan_of(alloc, bound.query) {
         Ok(Some(plan)) => {
-            let held = holds(alloc, &plan, db, query, row);
-            let found = mend(alloc, db, query, &plan, row, &[], &[]);
+            let held = holds(alloc, &*bound, &plan, &*row);
+            let found = mend(alloc, bound, &plan, row, &[], &[]);
             drop(plan);
             match (found, wanted) {
                 (Ok(None), None) => held,
                 (Ok(Some(repair)), Some(places)) => {
-                    let right = !held && chooses(alloc, db, &repair, places);
+                    let right = !held && chooses(alloc, bound.db, &repair, places);
                     drop(repair);
                     right
                 }
@@ -73,10 +72,8 @@ fn is_mended(alloc: Global, db: &Database, query: &Query, row: &Row, wanted: Opt
 }
 
 /// Whether a model that sets nothing keeps the first row of each block.
-fn keeps_first_rows(alloc: Global, db: &Database, query: &Query, places: Places) -> bool
-    requires { FitsDatabase query.now db.now }
-{
-    match from_model(alloc, db, query, &[], &[]) {
+fn keeps_first_rows(alloc: Global, bound: &Bound<'_>, places: Places) -> bool {
+    match from_model(alloc, bound, &[], &[]) {
         Ok(repair) => {
             let right = are_at(repair.kept.as_slice(), places);
             drop(repair);
@@ -107,12 +104,12 @@ struct Case {
 }
 
 impl Wanted for Case {
-    fn comes(&self, alloc: Global, db: &Database, query: &Query) -> bool {
+    fn comes(&self, alloc: Global, bound: &Bound<'_>) -> bool {
         match row_of(alloc, self.row) {
             Some(row) => {
-                let right = row.as_slice().len() == query.answer.len()
-                    && is_mended(alloc, db, query, &row, self.wanted)
-                    && keeps_first_rows(alloc, db, query, self.first);
+                let right = row.as_slice().len() == bound.query.answer.len()
+                    && is_mended(alloc, bound, &row, self.wanted)
+                    && keeps_first_rows(alloc, bound, self.first);
                 drop(row);
                 right
             }

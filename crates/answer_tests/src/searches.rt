@@ -1,13 +1,10 @@
 //! Queries whose attacks have a cycle, over tables that are made of statements.
 //! Each is searched with a budget, and what comes of it is compared.
 
-ghost use Rattle.cqa_model.specs.Query.{FitsDatabase};
-
 use crate::making::{Wanted, is_answered};
-use cqa_model::Query;
+use bound_query::Bound;
 use search_answers::{Searched, Stop, certain_by_search};
 use std::alloc::Global;
-use table_blocks::Database;
 
 /// What comes of a search.
 #[derive(Clone, Copy, PartialEq, Eq)]
@@ -31,10 +28,8 @@ fn outcome_of(found: &Searched) -> Shown {
 }
 
 /// What comes of a search for the certain rows of a query.
-fn search(alloc: Global, db: &Database, query: &Query, budget: u32) -> Shown
-    requires { FitsDatabase query.now db.now }
-{
-    match certain_by_search(alloc, db, query, budget) {
+fn search(alloc: Global, bound: &Bound<'_>, budget: u32) -> Shown {
+    match certain_by_search(alloc, bound, budget) {
         Ok(found) => {
             let shown = outcome_of(&found);
             drop(found);
@@ -122,8 +117,8 @@ const CASES: [Case; 6] = [
 ];
 
 impl Wanted for Case {
-    fn comes(&self, alloc: Global, db: &Database, query: &Query) -> bool {
-        search(alloc, db, query, self.budget) == self.wanted
+    fn comes(&self, alloc: Global, bound: &Bound<'_>) -> bool {
+        search(alloc, bound, self.budget) == self.wanted
     }
 }
 

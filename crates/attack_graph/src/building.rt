@@ -20,9 +20,10 @@ pub fn attacks(query: &Query, view: &View) -> Attacks
     ensures seen { AreAttacks query.now (seen query.now view.now) result }
     ensures whole { AreSame (whole query.now) (seen query.now view.now) → AreAttacks query.now (whole query.now) result }
 {
+    let variables = variables(query);
     let named = Named {
         query,
-        variables: variables(query),
+        variables: &variables,
         view: *view,
     };
     let by = attack_rows(&named);

@@ -59,43 +59,43 @@ dec_atom atoms F = dec_by (λ p. subst (λ G. Contains atoms G) p.2 p.1) (λ m. 
 module _ (s : Course) (taken others : List Placed) (plan : List ℕ) (u : IsUnderway s taken plan) (v : IsUnderway s others plan) (atoms : atoms_of taken ≡ atoms_of others) (there : length taken < length s.shared.now)
     (none : get_or s.shared.now (length taken) [] ≡ []) where
   -- no atom that is left was taken: its own columns would be shared
-  off : (F : ℕ) → Contains (atoms_of taken) F → Contains plan F → (i : ℕ) → i < (atom_at s.setting.query.now F).width → ⊥
+  off : (F : ℕ) → Contains (atoms_of taken) F → Contains plan F → (i : ℕ) → i < (atom_at s.setting.bound.now.query.now F).width → ⊥
   off F m n i l = ∥∥₁_elim s.shares (λ a b. absurd a) (λ shared.
       mem-nil (record { atom = F; col = i }) (subst (λ columns. Contains columns (record { atom = F; col = i })) none
       (subst (λ k. Contains (get_or s.shared.now k []) (record { atom = F; col = i })) (length-atoms taken)
-      (shared (atoms_of taken) plan u.place (subst (λ k. k < length s.shared.now) (sym (length-atoms taken)) there) F i m l (F, i, n, l, linked-self s.setting.query.now (record { atom = F; col = i }))))))
+      (shared (atoms_of taken) plan u.place (subst (λ k. k < length s.shared.now) (sym (length-atoms taken)) there) F i m l (F, i, n, l, linked-self s.setting.bound.now.query.now (record { atom = F; col = i }))))))
 
   -- the values of a row in the answer columns of the atoms that are left, and those of the rows taken in the others
   abbrev value_at : List Value → ℕ → Value
-  value_at row i = pick (dec_atom plan (answer_at s.setting.query.now i).atom) (get_or row i nothing) (taken_value taken (answer_at s.setting.query.now i))
+  value_at row i = pick (dec_atom plan (answer_at s.setting.bound.now.query.now i).atom) (get_or row i nothing) (taken_value taken (answer_at s.setting.bound.now.query.now i))
 
   abbrev mixed : List Value → List Value
-  mixed row = map (value_at row) (range_with_len 0 (length s.setting.query.now.answer))
+  mixed row = map (value_at row) (range_with_len 0 (length s.setting.bound.now.query.now.answer))
 
-  reads : (row : List Value) (i : ℕ) → i < length s.setting.query.now.answer → get_or (mixed row) i nothing ≡ value_at row i
+  reads : (row : List Value) (i : ℕ) → i < length s.setting.bound.now.query.now.answer → get_or (mixed row) i nothing ≡ value_at row i
   reads row i l =
-      let n = length-range_with_len 0 (length s.setting.query.now.answer) in
+      let n = length-range_with_len 0 (length s.setting.bound.now.query.now.answer) in
       let zero-more : 0 + i ≡ i = omega arith in
-      get_or-map (value_at row) (range_with_len 0 (length s.setting.query.now.answer)) i 0 nothing (omega (arith, n, l)) ∙ ap (value_at row) (get_or-range_with_len 0 (length s.setting.query.now.answer) i 0 l ∙ zero-more)
+      get_or-map (value_at row) (range_with_len 0 (length s.setting.bound.now.query.now.answer)) i 0 nothing (omega (arith, n, l)) ∙ ap (value_at row) (get_or-range_with_len 0 (length s.setting.bound.now.query.now.answer) i 0 l ∙ zero-more)
 
-  in-range : (i : ℕ) → i < length s.setting.query.now.answer → (answer_at s.setting.query.now i).col < (atom_at s.setting.query.now (answer_at s.setting.query.now i).atom).width
-  in-range i l = (s.setting.query.now.kept.answer_in_range (answer_at s.setting.query.now i) (Contains-get_or s.setting.query.now.answer i (record { atom = 0; col = 0 }) l)).1
+  in-range : (i : ℕ) → i < length s.setting.bound.now.query.now.answer → (answer_at s.setting.bound.now.query.now i).col < (atom_at s.setting.bound.now.query.now (answer_at s.setting.bound.now.query.now i).atom).width
+  in-range i l = (s.setting.bound.now.query.now.kept.answer_in_range (answer_at s.setting.bound.now.query.now i) (Contains-get_or s.setting.bound.now.query.now.answer i (record { atom = 0; col = 0 }) l)).1
 
   -- so it has the answers of the rows taken
-  has-answers : (row : List Value) (t : Placed) → Contains taken t → GivesAt s.setting.query.now t.atom t.row (mixed row)
+  has-answers : (row : List Value) (t : Placed) → Contains taken t → GivesAt s.setting.bound.now.query.now t.atom t.row (mixed row)
   has-answers row t m i l e =
-      let c = answer_at s.setting.query.now i in
+      let c = answer_at s.setting.bound.now.query.now i in
       let w = value-taken taken c t m (sym e) in
-      u.agreed t w.0 m w.1 (sym e ∙ sym w.2) c.col (subst (λ z. c.col < (atom_at s.setting.query.now z).width) e (in-range i l)) ∙
+      u.agreed t w.0 m w.1 (sym e ∙ sym w.2) c.col (subst (λ z. c.col < (atom_at s.setting.bound.now.query.now z).width) e (in-range i l)) ∙
       (sym w.3 ∙ (sym (pick-second (dec_atom plan c.atom) (get_or row i nothing) (taken_value taken c) (λ n. off c.atom (subst (λ F. Contains (atoms_of taken) F) (sym e) (in-atoms taken t m)) n c.col (in-range i l))) ∙ sym (reads row i l)))
 
   -- what others give, the rows taken give with their own answers
-  pub gives-too : (row : List Value) → Gives s.setting.query.now (stored s.setting.db.now) others plan row → Gives s.setting.query.now (stored s.setting.db.now) taken plan (mixed row)
+  pub gives-too : (row : List Value) → Gives s.setting.bound.now.query.now (stored s.setting.bound.now.db.now) others plan row → Gives s.setting.bound.now.query.now (stored s.setting.bound.now.db.now) taken plan (mixed row)
   gives-too row g = (
-    (length-map (range_with_len 0 (length s.setting.query.now.answer)) (value_at row) ∙ length-range_with_len 0 (length s.setting.query.now.answer), has-answers row),
-    same-answers s.setting.query.now (stored s.setting.db.now) row (mixed row) taken plan
-        (λ F m i l e. sym (pick-first (dec_atom plan (answer_at s.setting.query.now i).atom) (get_or row i nothing) (taken_value taken (answer_at s.setting.query.now i)) (subst (λ G. Contains plan G) (sym e) m)) ∙ sym (reads row i l))
-        (same-plan s.setting.query.now (stored s.setting.db.now) row others taken plan (same-shared s others taken plan v u (sym atoms) (subst (λ n. n < length s.shared.now) count there) same) g.1),
+    (length-map (range_with_len 0 (length s.setting.bound.now.query.now.answer)) (value_at row) ∙ length-range_with_len 0 (length s.setting.bound.now.query.now.answer), has-answers row),
+    same-answers s.setting.bound.now.query.now (stored s.setting.bound.now.db.now) row (mixed row) taken plan
+        (λ F m i l e. sym (pick-first (dec_atom plan (answer_at s.setting.bound.now.query.now i).atom) (get_or row i nothing) (taken_value taken (answer_at s.setting.bound.now.query.now i)) (subst (λ G. Contains plan G) (sym e) m)) ∙ sym (reads row i l))
+        (same-plan s.setting.bound.now.query.now (stored s.setting.bound.now.db.now) row others taken plan (same-shared s others taken plan v u (sym atoms) (subst (λ n. n < length s.shared.now) count there) same) g.1),
   )
     where
       count : length taken ≡ length others
@@ -118,21 +118,21 @@ apart-at s taken plan columns item place none u e l is c says t = (subst (λ n. 
 
 -- where it gives no row, nothing is given from its atoms on, nor from more
 pub gives-none : (s : Course) (taken : List Placed) (plan : List ℕ) → IsUnderway s taken plan → StandsApart s taken →
-    ((row : List Value) → Gives s.setting.query.now (stored s.setting.db.now) taken plan row → ⊥) → GivesNone s (length plan)
+    ((row : List Value) → Gives s.setting.bound.now.query.now (stored s.setting.bound.now.db.now) taken plan row → ⊥) → GivesNone s (length plan)
 gives-none s taken plan u apart empty others left row v long g = go (length left - length plan) others left v (omega (arith, long)) g
   where
-    go : (d : ℕ) (others : List Placed) (left : List ℕ) → IsUnderway s others left → length left ≡ d + length plan → Gives s.setting.query.now (stored s.setting.db.now) others left row → ⊥
+    go : (d : ℕ) (others : List Placed) (left : List ℕ) → IsUnderway s others left → length left ≡ d + length plan → Gives s.setting.bound.now.query.now (stored s.setting.bound.now.db.now) others left row → ⊥
     go zero others left v e g =
         let p = same-place s taken others plan left u v (omega (arith, e)) in
-        empty (mixed s taken others plan u (subst (IsUnderway s others) (sym p.1) v) p.0 apart.0 apart.1 row) (gives-too s taken others plan u (subst (IsUnderway s others) (sym p.1) v) p.0 apart.0 apart.1 row (subst (λ l. Gives s.setting.query.now (stored s.setting.db.now) others l row) (sym p.1) g))
+        empty (mixed s taken others plan u (subst (IsUnderway s others) (sym p.1) v) p.0 apart.0 apart.1 row) (gives-too s taken others plan u (subst (IsUnderway s others) (sym p.1) v) p.0 apart.0 apart.1 row (subst (λ l. Gives s.setting.bound.now.query.now (stored s.setting.bound.now.db.now) others l row) (sym p.1) g))
     go (suc d) others [] v e g = absurd (omega (arith, e))
     go (suc d) others (F ∷ left) v e (answer, (x, m, all)) =
-        let own = all x m (shares-self (atom_key s.setting.query.now F) x) in
-        go d (record { atom = F; row = x } ∷ others) left (underway-more s others F left x v (suits-from s.setting.query.now others F x row own.0)) (omega (arith, e)) (
+        let own = all x m (shares-self (atom_key s.setting.bound.now.query.now F) x) in
+        go d (record { atom = F; row = x } ∷ others) left (underway-more s others F left x v (suits-from s.setting.bound.now.query.now others F x row own.0)) (omega (arith, e)) (
           (
             answer.0,
             (λ t n. elim (mem-cases t (record { atom = F; row = x }) others n) [
-              | inl h ↦ subst (λ (z : Placed). GivesAt s.setting.query.now z.atom z.row row) h (gives-from s.setting.query.now others F x row own.0)
+              | inl h ↦ subst (λ (z : Placed). GivesAt s.setting.bound.now.query.now z.atom z.row row) h (gives-from s.setting.bound.now.query.now others F x row own.0)
               | inr k ↦ answer.1 t k
             ]),
           ),
@@ -141,6 +141,6 @@ gives-none s taken plan u apart empty others left row v long g = go (length left
 
 -- so it is where it was noted
 pub noted-none : (s : Course) (barren : Option ℕ) (taken : List Placed) (plan : List ℕ) (row : List Value) → IfSome barren (GivesNone s) → MatchOption barren ⊥ (λ least. least ≤ length plan) → IsUnderway s taken plan →
-    Gives s.setting.query.now (stored s.setting.db.now) taken plan row → ⊥
+    Gives s.setting.bound.now.query.now (stored s.setting.bound.now.db.now) taken plan row → ⊥
 noted-none s None taken plan row h m u g = m
 noted-none s (Some least) taken plan row h m u g = h taken plan row u m g

@@ -37,7 +37,7 @@ IsAdded P old new = (row : List Value) → Contains new row ↔ (Contains old ro
 
 -- each atom is in a rest of a plan, or a row of it was taken
 abbrev pub RestHasAll : Rest → Type 0
-RestHasAll r = AreAll r.course.now.setting.query.now (placed r.taken.now) r.plan.now
+RestHasAll r = AreAll r.course.now.setting.bound.now.query.now (placed r.taken.now) r.plan.now
 
 -- each atom comes next or is in the rest behind, or a row of it was taken
 abbrev pub StepHasAll : Step → Type 0
@@ -45,7 +45,7 @@ StepHasAll s = AreAll (query_of s) (rows_before s) (s.atom ∷ s.rest.now)
 
 -- a rest of a plan gives a row, with the rows taken
 abbrev pub RestGives : Rest → List Value → Type 0
-RestGives r row = Gives r.course.now.setting.query.now (stored r.course.now.setting.db.now) (placed r.taken.now) r.plan.now row
+RestGives r row = Gives r.course.now.setting.bound.now.query.now (stored r.course.now.setting.bound.now.db.now) (placed r.taken.now) r.plan.now row
 
 -- the next atom and the rest behind it give a row, with the rows taken
 abbrev pub StepGives : Step → List Value → Type 0

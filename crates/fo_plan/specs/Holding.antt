@@ -16,7 +16,7 @@ AllHold q tables row taken F plan block = (y : List Value) → Contains block y 
 
 -- a rest of a plan holds for a candidate
 abbrev pub RestHolds : Rest → List Value → Type 0
-RestHolds r row = PlanHolds r.course.now.setting.query.now (stored r.course.now.setting.db.now) row (placed r.taken.now) r.plan.now
+RestHolds r row = PlanHolds r.course.now.setting.bound.now.query.now (stored r.course.now.setting.bound.now.db.now) row (placed r.taken.now) r.plan.now
 
 -- a row of the next atom fits, and the rest of the plan holds once it is taken
 abbrev pub HoldsWith : Step → List Value → List Value → Type 0

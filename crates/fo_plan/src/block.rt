@@ -2,7 +2,7 @@
 
 ghost use Rattle.std.specs.Prelude.{◌≡◌, ℕ, ◌<◌, MatchOption, Contains, length};
 ghost use Rattle.cqa_model.specs.OneTable.{SomeBlockFits};
-ghost use Rattle.cqa_model.specs.Query.{atom_key, rows_of, FitsDatabase};
+ghost use Rattle.cqa_model.specs.Query.{atom_key, rows_of};
 ghost use Rattle.cqa_model.specs.Plan.{HoldsOver};
 ghost use Rattle.table_blocks.specs.Tables.{rows_at, key_at};
 ghost use Rattle.join_access.specs.Spots.{ArePaths};
@@ -15,7 +15,8 @@ ghost use Rattle.fo_plan.specs.FirstBlock.{IsBlockOf, IsFirstBlock, IsFirstWith}
 
 use crate::enough::Blocks;
 use crate::holding::first_of;
-use cqa_model::{Plan, Query, variables};
+use bound_query::Bound;
+use cqa_model::Plan;
 use cqa_value::{Items, Row};
 use join_access::{RowIndex, table_of};
 use plan_rows::{
@@ -49,7 +50,7 @@ fn first_block<'a, 'x>(
     row: &'x Row,
     memo: &mut Memo,
 ) -> Option<Rows<'a>>
-    requires db { step.now.course.now.setting.db.now ≡ db.now }
+    requires db { step.now.course.now.setting.bound.now.db.now ≡ db.now }
     requires memo { IsRight step.now.course.now memo.old }
     ensures { MatchOption result (SomeBlockFits (atom_key (query_of step.now) step.now.atom) (rows_of (query_of step.now) (tables_of step.now) step.now.atom) (HoldsWith step.now row.now) → ⊥) (λ block. SomeBlockFits (atom_key (query_of step.now) step.now.atom) (rows_of (query_of step.now) (tables_of step.now) step.now.atom) (HoldsWith step.now row.now) × IsFirstWith (atom_key (query_of step.now) step.now.atom) (rows_of (query_of step.now) (tables_of step.now) step.now.atom) (HoldsWith step.now row.now) block) }
 {
@@ -58,16 +59,16 @@ fn first_block<'a, 'x>(
     drop(blocks);
     let block = found?;
     let course = step.course;
-    let table = table_of(course.setting.query, step.atom);
+    let table = table_of(course.setting.bound.query, step.atom);
     // `block` is borrowed as long as the step only, so it is looked up in the database.
     Some(block_with(db, table, block.get(0)))
 }
 
 /// The first block of the first atom of a plan by which it holds.
 fn found_block<'a, 'x>(db: &'a Database, course: &'x Course<'x>, row: &'x Row) -> Option<Rows<'a>>
-    requires db { course.now.setting.db.now ≡ db.now }
-    requires all { (F : ℕ) → F < length course.now.setting.query.now.atoms → Contains course.now.order.now F }
-    ensures { MatchOption result (HoldsOver course.now.setting.db.now course.now.setting.query.now row.now course.now.order.now → ⊥) (λ block. HoldsOver course.now.setting.db.now course.now.setting.query.now row.now course.now.order.now × IsFirstBlock course.now.setting.db.now course.now.setting.query.now row.now course.now.order.now block) }
+    requires db { course.now.setting.bound.now.db.now ≡ db.now }
+    requires all { (F : ℕ) → F < length course.now.setting.bound.now.query.now.atoms → Contains course.now.order.now F }
+    ensures { MatchOption result (HoldsOver course.now.setting.bound.now.db.now course.now.setting.bound.now.query.now row.now course.now.order.now → ⊥) (λ block. HoldsOver course.now.setting.bound.now.db.now course.now.setting.bound.now.query.now row.now course.now.order.now × IsFirstBlock course.now.setting.bound.now.db.now course.now.setting.bound.now.query.now row.now course.now.order.now block) }
 {
     let plan = course.order;
     match plan {
@@ -96,11 +97,11 @@ fn block_along<'a>(
     row: &Row,
     ways: &[Items<Link<'_>>],
 ) -> Option<Rows<'a>>
-    requires db { setting.db.now ≡ db.now }
-    requires order { AreAtoms setting.query.now order.now }
-    requires all { (F : ℕ) → F < length setting.query.now.atoms → Contains order.now F }
-    requires ways { AreWays setting.query.now db.now order.now ways.now }
-    ensures { MatchOption result (HoldsOver db.now setting.entry.query.now row.now order.now → ⊥) (λ block. HoldsOver db.now setting.entry.query.now row.now order.now × IsFirstBlock db.now setting.entry.query.now row.now order.now block) }
+    requires db { setting.bound.now.db.now ≡ db.now }
+    requires order { AreAtoms setting.bound.now.query.now order.now }
+    requires all { (F : ℕ) → F < length setting.bound.now.query.now.atoms → Contains order.now F }
+    requires ways { AreWays setting.bound.now.query.now db.now order.now ways.now }
+    ensures { MatchOption result (HoldsOver db.now setting.entry.bound.now.query.now row.now order.now → ⊥) (λ block. HoldsOver db.now setting.entry.bound.now.query.now row.now order.now × IsFirstBlock db.now setting.entry.bound.now.query.now row.now order.now block) }
 {
     let shared = shared_or_none(&setting, order);
     let course = Course {
@@ -119,30 +120,26 @@ fn block_along<'a>(
 /// rows were looked at, what was decided of rests is remembered, as far as there is memory for it.
 pub fn block_of<'a>(
     alloc: Global,
+    bound: &Bound<'a>,
     plan: &Plan,
-    db: &'a Database,
-    query: &Query,
     row: &Row,
     paths: &[Option<RowIndex<'_>>],
     ways: &[Items<Link<'_>>],
 ) -> Option<Rows<'a>>
-    requires fits { FitsDatabase query.now db.now }
-    requires plan { AreAtoms query.now plan.now.order }
-    requires all { (F : ℕ) → F < length query.now.atoms → Contains plan.now.order F }
-    requires paths { ArePaths query.now db.now paths.now }
-    requires ways { AreWays query.now db.now plan.now.order ways.now }
-    ensures { MatchOption result (HoldsOver db.now query.now row.now plan.now.order → ⊥) (λ block. HoldsOver db.now query.now row.now plan.now.order × IsFirstBlock db.now query.now row.now plan.now.order block) }
+    requires plan { AreAtoms bound.now.query.now plan.now.order }
+    requires all { (F : ℕ) → F < length bound.now.query.now.atoms → Contains plan.now.order F }
+    requires paths { ArePaths bound.now.query.now bound.now.db.now paths.now }
+    requires ways { AreWays bound.now.query.now bound.now.db.now plan.now.order ways.now }
+    ensures { MatchOption result (HoldsOver bound.now.db.now bound.now.query.now row.now plan.now.order → ⊥) (λ block. HoldsOver bound.now.db.now bound.now.query.now row.now plan.now.order × IsFirstBlock bound.now.db.now bound.now.query.now row.now plan.now.order block) }
 {
     let order = plan.order.as_slice();
     let setting = Setting {
         alloc,
-        db,
-        query,
-        variables: variables(query),
-        paths,
+        bound: &*bound,
+        paths: &*paths,
     };
     match grouped_along(&setting, order, ways) {
-        Some(grouped) => block_along(db, setting, grouped.as_slice(), row, ways),
-        None => block_along(db, setting, order, row, ways),
+        Some(grouped) => block_along(bound.db, setting, grouped.as_slice(), row, ways),
+        None => block_along(bound.db, setting, order, row, ways),
     }
 }

@@ -4,7 +4,6 @@ ghost use Rattle.std.specs.Prelude.{◌≡◌, ℕ, ◌<◌, ◌↔◌, Contains
 ghost use Rattle.std.specs.List.Sorted.{IsStrictlySortedBy};
 ghost use Rattle.cqa_value.specs.declared.value.Value.{Value as Cell};
 ghost use Rattle.cqa_value.specs.Values.{row_cmp};
-ghost use Rattle.cqa_model.specs.Query.{FitsDatabase};
 ghost use Rattle.cqa_model.specs.Plan.{HoldsOver};
 ghost use Rattle.join_access.specs.Spots.{ArePaths};
 ghost use Rattle.plan_rows.specs.Left.{AreAtoms};
@@ -12,13 +11,13 @@ ghost use Rattle.plan_rows.specs.Links.{AreWays};
 
 use crate::giving::add_given;
 use crate::notes::Notes;
-use cqa_model::{Plan, Query, variables};
+use bound_query::Bound;
+use cqa_model::Plan;
 use cqa_value::{Items, NoMemory, Row};
 use join_access::RowIndex;
 use plan_rows::{Candidates, Course, Link, Memo, Rest, Setting, Taken, shared_columns};
 use row_answers::Answers;
 use std::alloc::Global;
-use table_blocks::Database;
 
 /// The rows of the answer's length for which a plan of all atoms holds, ascending and each once. Rows are found by the
 /// given indexes, of each atom's table one or none, and by the given links of later atoms.
@@ -28,26 +27,22 @@ use table_blocks::Database;
 /// `NoMemory` where memory is refused.
 pub fn answers(
     alloc: Global,
+    bound: &Bound<'_>,
     plan: &Plan,
-    db: &Database,
-    query: &Query,
     paths: &[Option<RowIndex<'_>>],
     ways: &[Items<Link<'_>>],
 ) -> Result<Items<Row>, NoMemory>
-    requires fits { FitsDatabase query.now db.now }
-    requires plan { AreAtoms query.now plan.now.order }
-    requires all { (F : ℕ) → F < length query.now.atoms → Contains plan.now.order F }
-    requires paths { ArePaths query.now db.now paths.now }
-    requires ways { AreWays query.now db.now plan.now.order ways.now }
+    requires plan { AreAtoms bound.now.query.now plan.now.order }
+    requires all { (F : ℕ) → F < length bound.now.query.now.atoms → Contains plan.now.order F }
+    requires paths { ArePaths bound.now.query.now bound.now.db.now paths.now }
+    requires ways { AreWays bound.now.query.now bound.now.db.now plan.now.order ways.now }
     ensures ascending { IfOk result (IsStrictlySortedBy row_cmp) }
-    ensures exactly { IfOk result (λ answers. (row : List Cell) → Contains answers row ↔ ((length row ≡ length query.now.answer) × HoldsOver db.now query.now row plan.now.order)) }
+    ensures exactly { IfOk result (λ answers. (row : List Cell) → Contains answers row ↔ ((length row ≡ length bound.now.query.now.answer) × HoldsOver bound.now.db.now bound.now.query.now row plan.now.order)) }
 {
     let order = plan.order.as_slice();
     let setting = Setting {
         alloc,
-        db,
-        query,
-        variables: variables(query),
+        bound,
         paths,
     };
     let shared = shared_columns(&setting, order)?;

@@ -76,7 +76,7 @@ fn keep_all(
 /// Adds the answer of the rows taken if a rest of a plan holds that doesn't change it.
 fn add_settled(rest: &Rest<'_>, found: &mut Answers, memo: &mut Memo) -> Result<(), NoMemory>
     requires all { RestHasAll rest.now }
-    requires settled { IsSettled rest.now.course.now.setting.query.now rest.now.plan.now }
+    requires settled { IsSettled rest.now.course.now.setting.bound.now.query.now rest.now.plan.now }
     requires memo { IsRight rest.now.course.now memo.old }
     ensures added { OnOk result (IsAdded (RestGives rest.now) found.old found.new) }
     ensures memo { IsRight rest.now.course.now memo.new }
@@ -87,7 +87,11 @@ fn add_settled(rest: &Rest<'_>, found: &mut Answers, memo: &mut Memo) -> Result<
     let held = holds_with(&*rest, &none, memo);
     drop(none);
     if held {
-        found.put(answer_of(setting.alloc, rest.taken, setting.query.answer.as_slice())?)?;
+        found.put(answer_of(
+            setting.alloc,
+            rest.taken,
+            setting.bound.query.answer.as_slice(),
+        )?)?;
     }
     Ok(())
 }
@@ -139,7 +143,7 @@ pub(crate) fn add_given(
     if notes.give_none(plan.len()) {
         return Ok(());
     }
-    if are_settled(course.setting.query, plan) {
+    if are_settled(course.setting.bound.query, plan) {
         return add_settled(rest, found, &mut notes.memo);
     }
     match plan {

@@ -1,7 +1,7 @@
 //! Whether a plan holds, atom by atom: some block all of whose rows fit, and for each of them the rest.
 
 ghost use Rattle.std.specs.Prelude.{◌↔◌, ◌∷◌, IsTrue, MatchOption};
-ghost use Rattle.cqa_model.specs.Query.{atom_key, rows_of, FitsDatabase};
+ghost use Rattle.cqa_model.specs.Query.{atom_key, rows_of};
 ghost use Rattle.cqa_model.specs.OneTable.{SomeBlockFits};
 ghost use Rattle.cqa_model.specs.Plan.{HoldsOver, PlanHolds};
 ghost use Rattle.plan_rows.specs.Left.{AreAtoms};
@@ -11,12 +11,12 @@ ghost use Rattle.fo_plan.specs.Enough.{AreSought, IsFirstOf};
 ghost use Rattle.fo_plan.specs.Holding.{RestHolds, HoldsWith, AllHoldWith};
 
 use crate::enough::Blocks;
-use cqa_model::{Plan, Query, variables};
+use bound_query::Bound;
+use cqa_model::Plan;
 use cqa_value::Row;
 use plan_rows::{Candidates, Course, Memo, Rest, Setting, Step, Taken, fits};
 use row_pieces::Rows;
 use std::alloc::Global;
-use table_blocks::Database;
 
 /// Whether the rest of a plan holds, by what is remembered of it where deciding has taken long.
 #[cycle(holds)]
@@ -133,17 +133,14 @@ fn row_holds<'x>(step: &Step<'x>, row: &'x Row, y: &Row, memo: &mut Memo) -> boo
 /// Whether a plan holds for a row: the plan's first atom has a block all of whose rows fit the row, and for each of them
 /// the rest of the plan holds with that row taken (Koutris and Wijsen, ACM TODS 2017). It takes no memory: rows are found
 /// by the first key values that are known, and nothing is remembered.
-pub fn holds(alloc: Global, plan: &Plan, db: &Database, query: &Query, row: &Row) -> bool
-    requires fits { FitsDatabase query.now db.now }
-    requires plan { AreAtoms query.now plan.now.order }
-    ensures { IsTrue result ↔ HoldsOver db.now query.now row.now plan.now.order }
+pub fn holds<'x>(alloc: Global, bound: &'x Bound<'x>, plan: &'x Plan, row: &'x Row) -> bool
+    requires { AreAtoms bound.now.query.now plan.now.order }
+    ensures { IsTrue result ↔ HoldsOver bound.now.db.now bound.now.query.now row.now plan.now.order }
 {
     let order = plan.order.as_slice();
     let setting = Setting {
         alloc,
-        db,
-        query,
-        variables: variables(query),
+        bound,
         paths: &[],
     };
     let course = Course {

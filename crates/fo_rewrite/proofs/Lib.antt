@@ -1,4 +1,5 @@
 pub mod Sameness
 pub mod Distinct
 pub mod PlanSteps
+mod OneAtom
 mod Columns

@@ -5,13 +5,14 @@ use Rattle.cqa_model.specs.declared.query.Query.{Query}
 use Rattle.cqa_model.specs.Variables.{whole, after}
 use Rattle.cqa_model.specs.Graph.{HasCycle}
 use Rattle.cqa_model.specs.Plan.{IsElimination, IsEliminationOf, IsPlan, IsPlanOf}
+use Rattle.cqa_model.proofs.Attacks.{rest}
 use Rattle.cqa_model.proofs.Cycles.{stuck, has_cycle-before, below, below-all}
 use Rattle.key_closure.specs.declared.atom_set.AtomSet.{AtomSet}
 use Rattle.key_closure.specs.declared.view.View.{View}
 use Rattle.key_closure.specs.Sets.{HasAtom}
 use Rattle.key_closure.specs.Members.{seen, IsLeft, AreSame}
 use Rattle.key_closure.proofs.Members.{is_in-linked}
-use Rattle.attack_graph.proofs.Sameness.{same-sym}
+use Rattle.attack_graph.proofs.Sameness.{same-sym, same-attacks}
 use Rattle.fo_rewrite.specs.Planning.{IsAttacked, IsStuck, IsNext, IsFirstUnattacked}
 use Rattle.fo_rewrite.proofs.Sameness.{same-cycle, same-elimination, same-plan}
 
@@ -31,6 +32,11 @@ attacked-more R old row new i h r n G = (
 pub next-from : (q : Query) (view : View) (left attacked : AtomSet) → ((K : ℕ) → HasAtom left K ↔ IsLeft q view K) → ((G : ℕ) → HasAtom attacked G ↔ IsAttacked q (seen q view) G) →
     (G : ℕ) → HasAtom left G → (HasAtom attacked G → ⊥) → IsNext q (seen q view) G
 next-from q view left attacked hl ha G has free = record { has = (hl G).0 has; free = λ F a. free ((ha G).1 (F, a)) }
+
+-- an atom that is attacked once another is taken out was attacked before
+pub attacked-before : (q : Query) (view new : View) (K : ℕ) → AreSame (after q (seen q view) K) (seen q new) → (G : ℕ) → IsAttacked q (seen q new) G → IsAttacked q (seen q view) G
+attacked-before q view new K s G (F, a) =
+    (F, rest q (seen q view) (λ u v l f. is_in-linked q view.fixed u v l f) K F G (same-attacks q (seen q new) (after q (seen q view) K) (same-sym (after q (seen q view) K) (seen q new) s) F G a))
 
 -- so far: an elimination order of what is left continues the order to one of the query, so does the plan where each atom
 -- was the first, and a cycle of what is left is one of the query

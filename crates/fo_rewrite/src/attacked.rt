@@ -49,6 +49,17 @@ pub(crate) fn attacked_atoms(named: &Named<'_>) -> AtomSet
     attacked
 }
 
+/// The same, where no atom is attacked but these: where there are none, nothing is computed.
+pub(crate) fn attacked_after(named: &Named<'_>, before: &AtomSet) -> AtomSet
+    requires { (G : ℕ) → IsAttacked named.now.query.now (seen named.now.query.now named.now.view) G → HasAtom before.now G }
+    ensures { (G : ℕ) → HasAtom result G ↔ IsAttacked named.now.query.now (seen named.now.query.now named.now.view) G }
+{
+    if before.is_empty() {
+        return *before;
+    }
+    attacked_atoms(named)
+}
+
 /// The first atom of a set that is outside another.
 pub(crate) fn first_outside(set: &AtomSet, other: &AtomSet) -> Option<u32>
     ensures { MatchOption result ((G : ℕ) → G < MOST_ATOMS → HasAtom set.now G → HasAtom other.now G)

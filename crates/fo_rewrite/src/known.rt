@@ -69,7 +69,7 @@ impl<'a> Known<'a> {
         ensures { result.query.now ≡ named.now.query.now }
     {
         let query = named.query;
-        let variables = &named.variables;
+        let variables = named.variables;
         Known {
             query,
             variables,

@@ -11,7 +11,7 @@ ghost use Rattle.fo_rewrite.specs.Starting.{StartsWhole};
 use crate::attacked::{attacked_atoms, first_outside};
 use crate::known::{Facts, Known};
 use crate::linking::Joined;
-use crate::planning::{Outset, eliminated};
+use crate::planning::{Outset, eliminated, only_atom};
 use crate::preference::Choice;
 use cqa_model::Plan;
 use cqa_value::NoMemory;
@@ -41,9 +41,9 @@ struct Pass {
     cost: Cost,
 }
 
-/// An elimination order of a query, whose variables have their names, that is good for evaluation: again and again an atom that no atom attacks once those
-/// before it are taken, `None` exactly where the attacks have a cycle. Over each database that the query fits, the order
-/// holds for a row exactly where the row is certain (Koutris and Wijsen, ACM TODS 2017).
+/// An elimination order of a query, whose variables have their names, that is good for evaluation: again and again an atom
+/// that no atom attacks once those before it are taken, `None` exactly where the attacks have a cycle. Over each database
+/// that the query fits, the order holds for a row exactly where the row is certain (Koutris and Wijsen, ACM TODS 2017).
 ///
 /// `sizes` are the rows of each atom's table, none where it is missing. Atoms that joins link to those taken come before
 /// others, those that joins link to an answer column before the rest, and then those with the fewest rows that agree with
@@ -63,10 +63,13 @@ pub fn elimination_in<'a>(
     ensures cycle { IfOk result (λ found. IsNone found ↔ HasCycle named.now.query.now (whole named.now.query.now)) }
     ensures exact { IfOk result (λ found. IfSome found (λ plan. IsExact named.now.query.now plan.order)) }
 {
+    if named.query.atoms.len() == 1 {
+        return only_atom(alloc, named.query);
+    }
     let outset = Outset {
         named,
         attacked: attacked_atoms(named),
-        facts: Facts::new(named.query, &named.variables, sizes),
+        facts: Facts::new(named.query, named.variables, sizes),
     };
     match eliminated(alloc, &outset, Choice::Preferred { first: None })? {
         Some(plan) => Ok(Some(cheapest(alloc, &outset, plan))),
@@ -81,6 +84,10 @@ fn cheapest(alloc: Global, outset: &Outset<'_>, plan: Plan) -> Plan
     requires order { IsEliminationOf outset.now.named.now.query.now plan.order }
     ensures { IsEliminationOf outset.now.named.now.query.now result.order }
 {
+    // Only a third atom can link two others.
+    if plan.order.len() < 3 {
+        return plan;
+    }
     let begun = plan.order.as_slice().first().copied();
     let facts = &outset.facts;
     let begins_inside = first_outside(&facts.inside, &outset.attacked).is_some();

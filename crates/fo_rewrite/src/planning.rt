@@ -1,6 +1,6 @@
 //! The order in which the atoms of a query are taken.
 
-ghost use Rattle.std.specs.Prelude.{◌≡◌, ◌↔◌, IfOk, IfSome, IsNone};
+ghost use Rattle.std.specs.Prelude.{◌≡◌, ◌↔◌, IfOk, IfSome, IsNone, length};
 ghost use Rattle.cqa_model.specs.Variables.{whole};
 ghost use Rattle.cqa_model.specs.Graph.{HasCycle};
 ghost use Rattle.cqa_model.specs.Plan.{IsEliminationOf, IsPlanOf};
@@ -9,7 +9,7 @@ ghost use Rattle.fo_rewrite.specs.Planning.{IsExact};
 ghost use Rattle.fo_rewrite.specs.Starting.{StartsWhole};
 ghost use Rattle.fo_rewrite.specs.declared.preference.Choice.TheVariants.{First};
 
-use crate::attacked::{attacked_atoms, next_atom};
+use crate::attacked::{attacked_after, attacked_atoms, next_atom};
 use crate::known::Facts;
 use crate::preference::Choice;
 use cqa_model::{Plan, Query, variables};
@@ -37,9 +37,10 @@ pub fn plan_of(alloc: Global, query: &Query) -> Result<Option<Plan>, NoMemory>
     ensures cycle { IfOk result (λ found. IsNone found ↔ HasCycle query.now (whole query.now)) }
     ensures exact { IfOk result (λ found. IfSome found (λ plan. IsExact query.now plan.order)) }
 {
+    let variables = variables(query);
     let named = Named {
         query,
-        variables: variables(query),
+        variables: &variables,
         view: View::whole(query),
     };
     plan_in(alloc, &named)
@@ -56,12 +57,28 @@ pub fn plan_in<'a>(alloc: Global, named: &'a Named<'a>) -> Result<Option<Plan>, 
     ensures cycle { IfOk result (λ found. IsNone found ↔ HasCycle named.now.query.now (whole named.now.query.now)) }
     ensures exact { IfOk result (λ found. IfSome found (λ plan. IsExact named.now.query.now plan.order)) }
 {
+    if named.query.atoms.len() == 1 {
+        return only_atom(alloc, named.query);
+    }
     let outset = Outset {
         named,
         attacked: attacked_atoms(named),
-        facts: Facts::new(named.query, &named.variables, &[]),
+        facts: Facts::new(named.query, named.variables, &[]),
     };
     eliminated(alloc, &outset, Choice::First)
+}
+
+/// The plan of a query of one atom: that atom, which no other attacks.
+pub(crate) fn only_atom(alloc: Global, query: &Query) -> Result<Option<Plan>, NoMemory>
+    requires { length query.now.atoms ≡ 1 }
+    ensures plan { IfOk result (λ found. IfSome found (λ plan. IsPlanOf query.now plan.order)) }
+    ensures order { IfOk result (λ found. IfSome found (λ plan. IsEliminationOf query.now plan.order)) }
+    ensures cycle { IfOk result (λ found. IsNone found ↔ HasCycle query.now (whole query.now)) }
+    ensures exact { IfOk result (λ found. IfSome found (λ plan. IsExact query.now plan.order)) }
+{
+    let mut order = Items::new(alloc);
+    order.push(0)?;
+    Ok(Some(Plan { order }))
 }
 
 /// The elimination order of a query that the choice of each next atom makes.
@@ -102,11 +119,12 @@ pub(crate) fn eliminated(
             view,
         }
         .after(atom);
-        attacked = attacked_atoms(&Named {
+        let rest = Named {
             query,
             variables,
             view,
-        });
+        };
+        attacked = attacked_after(&rest, &attacked);
     }
     match left.first_shared(&AtomSet::full()) {
         None => Ok(Some(Plan { order })),

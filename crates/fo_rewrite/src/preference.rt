@@ -77,6 +77,9 @@ pub(crate) fn preferred<'x>(
     requires free { (start < MOST_ATOMS) × HasAtom left.now start × (HasAtom attacked.now start → ⊥) }
     ensures { (result < MOST_ATOMS) × HasAtom left.now result × (HasAtom attacked.now result → ⊥) }
 {
+    if is_alone(left, attacked, start) {
+        return start;
+    }
     let ranking = Ranking {
         known: Known::new(named, facts, &outside(left)),
         facts,
@@ -95,6 +98,16 @@ pub(crate) fn preferred<'x>(
         }
     }
     best
+}
+
+/// Whether no atom of a set but one is outside another set.
+fn is_alone(set: &AtomSet, other: &AtomSet, atom: u32) -> bool {
+    for place in 0..MOST_ATOMS {
+        if place != atom && set.has(place) && !other.has(place) {
+            return false;
+        }
+    }
+    true
 }
 
 /// The places of atoms that are outside a set.

@@ -73,6 +73,18 @@ impl AtomSet {
         None
     }
 
+    /// Is no atom in the set?
+    pub fn is_empty(&self) -> bool
+        ensures { IsTrue result ↔ ((k : ℕ) → HasAtom self.now k → ⊥) }
+    {
+        for atom in 0..MOST_ATOMS {
+            if self.has(atom) {
+                return false;
+            }
+        }
+        true
+    }
+
     /// Takes an atom out.
     pub fn remove(&mut self, atom: u32)
         requires within { atom < MOST_ATOMS }

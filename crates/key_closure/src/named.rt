@@ -9,9 +9,9 @@ use cqa_model::{ColRef, Query, Variables};
 #[derive(Clone, Copy)]
 pub struct Named<'q> {
     pub query: &'q Query,
-    pub variables: Variables,
+    pub variables: &'q Variables,
     pub view: View,
-    pub ghost are: { ∥ AreVariables query.now variables ∥₁ },
+    pub ghost are: { ∥ AreVariables query.now variables.now ∥₁ },
 }
 
 impl Named<'_> {
@@ -119,7 +119,7 @@ impl Named<'_> {
     /// The classes of an atom's columns that are neither constants nor fixed.
     fn var_classes(&self, atom: u32) -> VarSet
         requires { atom < length self.now.query.now.atoms }
-        ensures { (k : ℕ) → Has result k ↔ IsVarClass self.now.variables self.now.view atom (atom_at self.now.query.now atom).width k }
+        ensures { (k : ℕ) → Has result k ↔ IsVarClass self.now.variables.now self.now.view atom (atom_at self.now.query.now atom).width k }
     {
         let mut set = VarSet::new();
         for col in 0..self.query.atoms.as_slice()[atom as usize].width {
@@ -132,7 +132,7 @@ impl Named<'_> {
     /// The classes of an atom's key columns that are neither constants nor fixed.
     fn key_classes(&self, atom: u32) -> VarSet
         requires { atom < length self.now.query.now.atoms }
-        ensures { (k : ℕ) → Has result k ↔ IsKeyClass self.now.variables self.now.view atom (atom_key self.now.query.now atom) (length (atom_key self.now.query.now atom)) k }
+        ensures { (k : ℕ) → Has result k ↔ IsKeyClass self.now.variables.now self.now.view atom (atom_key self.now.query.now atom) (length (atom_key self.now.query.now atom)) k }
     {
         let mut set = VarSet::new();
         let key = self.query.atoms.as_slice()[atom as usize].key.as_slice();
@@ -146,7 +146,7 @@ impl Named<'_> {
     /// Is the class neither a constant's nor fixed?
     fn is_free(&self, class: u8) -> bool
         requires { class < COLUMN_NUMBERS }
-        ensures { IsTrue result ↔ IsFreeClass self.now.variables self.now.view class }
+        ensures { IsTrue result ↔ IsFreeClass self.now.variables.now self.now.view class }
     {
         !self.variables.is_constant(class) && !self.view.fixed.has(class)
     }

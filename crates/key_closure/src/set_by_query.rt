@@ -14,9 +14,10 @@ pub fn key_set(query: &Query, view: &View, atom: u32) -> VarSet
     ensures is { IsSetOf query.now result (IsKeyVar query.now (seen query.now view.now) atom) }
     ensures proper { IsProper query.now result }
 {
+    let variables = variables(query);
     let named = Named {
         query,
-        variables: variables(query),
+        variables: &variables,
         view: *view,
     };
     named.key_set(atom)
@@ -28,9 +29,10 @@ pub fn var_set(query: &Query, view: &View, atom: u32) -> VarSet
     ensures is { IsSetOf query.now result (IsVar query.now (seen query.now view.now) atom) }
     ensures proper { IsProper query.now result }
 {
+    let variables = variables(query);
     let named = Named {
         query,
-        variables: variables(query),
+        variables: &variables,
         view: *view,
     };
     named.var_set(atom)
@@ -41,9 +43,10 @@ pub fn closure(query: &Query, view: &View, start: &VarSet, without: Option<u32>)
     ensures is { IsSetOf query.now result (InClosure query.now (seen query.now view.now) (IsUsed query.now view.now without) (IsIn query.now start.now)) }
     ensures proper { IsProper query.now start.now → IsProper query.now result }
 {
+    let variables = variables(query);
     let named = Named {
         query,
-        variables: variables(query),
+        variables: &variables,
         view: *view,
     };
     let atoms = used(&named, without);

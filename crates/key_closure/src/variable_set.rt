@@ -35,9 +35,7 @@ impl VarSet {
         requires { class < COLUMN_NUMBERS }
         ensures { (k : ℕ) → Has self.new k ↔ (Has self.old k ⊎ (IsTrue wanted × (k ≡ class))) }
     {
-        if wanted {
-            self.bits[class as usize] = true;
-        }
+        self.bits[class as usize] = self.bits[class as usize] || wanted;
     }
 
     /// The classes in either set.

@@ -32,9 +32,10 @@ impl View {
         ensures is { AreSame (after query.now (seen query.now self.now) atom) (seen query.now result) }
         ensures proper { IsProper query.now self.now.fixed → IsProper query.now result.fixed }
     {
+        let variables = variables(query);
         let named = Named {
             query,
-            variables: variables(query),
+            variables: &variables,
             view: *self,
         };
         named.after(atom)

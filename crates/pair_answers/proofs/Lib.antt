@@ -1,3 +1,4 @@
+pub mod Told
 pub mod Sharing
 pub mod Parts
 pub mod FitsAll

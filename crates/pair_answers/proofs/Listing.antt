@@ -4,6 +4,7 @@ use native.Mathlib.Decide.{ℕ_discrete, dec_lt}
 use Rattle.std.proofs.Math.ListN.{get_or-map}
 use Rattle.std.proofs.lemmas.List.{length_push, append-nil, length-append, length-map, get_or_push, get_or_append_left, get_or-append-add, get_or_default}
 use Rattle.cqa_value.specs.declared.value.Value.{Value}
+use Rattle.bound_query.specs.declared.Bound.{Bound}
 use Rattle.cqa_model.specs.declared.query.Query.{Query}
 use Rattle.cqa_model.specs.Database.{key_of, nothing}
 use Rattle.cqa_model.specs.Query.{rows_of}
@@ -11,6 +12,7 @@ use Rattle.cqa_model.specs.Plan.{Placed}
 use Rattle.cqa_model.proofs.Reification.{placed}
 use Rattle.weak_pairs.specs.Pairs.{FitsAlone}
 use Rattle.weak_pairs.specs.Numbering.{AreShared, values_in}
+use Rattle.pair_answers.specs.declared.side.Side.{Side}
 use Rattle.pair_answers.specs.Numbers.{placed_in, numbered, place_of}
 use Rattle.pair_answers.specs.Lists.{columns_in, AreColumns, IsListOf, AreListsAdded, AreRowLists}
 
@@ -113,3 +115,12 @@ row-lists-of q tables row left_columns right_columns left right none one all c f
     (subst (λ z. AreListsAdded q row (columns_in 0 c.cols) 0 (rows_of q tables 0) (length (rows_of q tables 0)) z one) en
     (subst (λ z. AreListsAdded q row (columns_in 0 c.cols) 0 z (length z) none one) fl (subst (λ z. AreListsAdded q row z 0 left (length left) none one) c.left_are a)))
     (subst (λ z. AreListsAdded q row (columns_in 1 c.cols) 1 z (length z) one all) fr (subst (λ z. AreListsAdded q row z 1 right (length right) one all) c.right_are b))
+
+-- the lists of an atom, made by its side
+pub of-side : (s : Side) (bound : Bound) (row : List Value) (F : ℕ) (columns : List ℕ) → s.bound.now ≡ bound → s.row.now ≡ row → s.atom ≡ F → s.columns.now ≡ columns →
+    (rows : List (List Value)) (n : ℕ) (old new : List (Option (List Value))) → AreListsAdded s.bound.now.query.now s.row.now s.columns.now s.atom rows n old new → AreListsAdded bound.query.now row columns F rows n old new
+of-side s bound row F columns eb er ef ec rows n old new h =
+    subst (λ (b : Bound). AreListsAdded b.query.now row columns F rows n old new) eb
+    (subst (λ r. AreListsAdded s.bound.now.query.now r columns F rows n old new) er
+    (subst (λ c. AreListsAdded s.bound.now.query.now s.row.now c F rows n old new) ec
+    (subst (λ G. AreListsAdded s.bound.now.query.now s.row.now s.columns.now G rows n old new) ef h)))

@@ -1,5 +1,5 @@
 -- A row fits by itself where its parts do.
-use Rattle.std.proofs.Common.{◌≡◌, ℕ, ◌<◌, inl, inr, List, [], length, refl, sym, ◌∙◌, subst, Contains, slice_index_or}
+use Rattle.std.proofs.Common.{◌≡◌, ℕ, ◌<◌, inl, inr, List, [], length, refl, ◌∙◌, subst, Contains, slice_index_or}
 use Rattle.std.proofs.lemmas.List.{get_or_default}
 use Rattle.std.proofs.lemmas.List.Elements.{Contains-get_or}
 use Rattle.cqa_value.specs.declared.value.Value.{Value}
@@ -24,16 +24,16 @@ module _ (q : Query) (row : List Value) (F : ℕ) (x : List Value) where
   abbrev at : ℕ → ColRef
   at i = record { atom = F; col = i }
 
-  given-of : (f : FitsAlone q row F x) (i : ℕ) → i < (atom_at q F).width → (k : Cond) → Contains q.conds k → GivenBy q F x i k
-  given-of f i li (Join c d) m = tt
-  given-of f i li (Test d op y) m = λ e l. f.given i li y (inr (d, l, subst (λ z. Contains q.conds (Test d z y)) e m))
+  given-of : FitsAlone q row F x → (k : Cond) → Contains q.conds k → GivenBy q F x k
+  given-of f (Join c d) m = tt
+  given-of f (Test d op y) m = λ e i li l. f.given i li y (inr (d, l, subst (λ z. Contains q.conds (Test d z y)) e m))
 
   pub to_parts : FitsAlone q row F x → OwnFits q F x × TestsFit q F x × AnswerFits q row F x × GivenFits q F x
   to_parts f = (
-    λ i j li lj l. f.fits.agrees self (mem-head self []) i li j lj l,
+    λ j lj i li l. f.fits.agrees self (mem-head self []) i li j lj l,
     λ k lk. f.fits.tests (slice_index_or q.conds k none_cond) (Contains-get_or q.conds k none_cond lk),
-    λ i k li lk l. sym (f.given i li (slice_index_or row k nothing) (inl (k, lk, l, refl))),
-    λ i k li lk. record { by = given-of f i li (slice_index_or q.conds k none_cond) (Contains-get_or q.conds k none_cond lk) },
+    λ k lk i li l. f.given i li (slice_index_or row k nothing) (inl (k, lk, l, refl)),
+    λ k lk. given-of f (slice_index_or q.conds k none_cond) (Contains-get_or q.conds k none_cond lk),
   )
 
   cond-at : (k : Cond) (m : Contains q.conds k) → slice_index_or q.conds m.0 none_cond ≡ k
@@ -44,11 +44,11 @@ module _ (q : Query) (row : List Value) (F : ℕ) (x : List Value) where
     fits = record {
       agrees = λ u m. elim (mem-cases u self [] m) [
         | inl e ↦ subst (λ z. (i : ℕ) → i < (atom_at q F).width → (j : ℕ) → j < (atom_at q z.atom).width → AreLinked q (at i) (record { atom = z.atom; col = j }) → slice_index_or x i nothing ≡ slice_index_or z.row j nothing) e
-            (λ i li j lj l. o i j li lj l)
+            (λ i li j lj l. o j lj i li l)
         | inr n ↦ absurd (mem-nil u n)
       ];
       tests = λ k m. subst (λ z. TestHolds F x z) (cond-at k m) (t m.0 m.1);
-      answers = λ i l e. sym (a (answer_at q i).col i (width i l e) l (link i e));
+      answers = λ i l e. a i l (answer_at q i).col (width i l e) (link i e);
     };
     given = λ i li y h. of i li y h;
   }
@@ -60,5 +60,5 @@ module _ (q : Query) (row : List Value) (F : ℕ) (x : List Value) where
       link i e = subst (λ z. AreLinked q (record { atom = z; col = (answer_at q i).col }) (answer_at q i)) e (linked-self q (answer_at q i))
 
       of : (i : ℕ) → i < (atom_at q F).width → (y : Value) → IsGiven q row (at i) y → slice_index_or x i nothing ≡ y
-      of i li y (inl (k, lk, l, e)) = sym (a i k li lk l) ∙ e
-      of i li y (inr (d, l, m)) = (subst (λ z. GivenBy q F x i z) (cond-at (Test d Eq y) m) (g i m.0 li m.1).by) refl l
+      of i li y (inl (k, lk, l, e)) = a k lk i li l ∙ e
+      of i li y (inr (d, l, m)) = (subst (λ z. GivenBy q F x z) (cond-at (Test d Eq y) m) (g m.0 m.1)) refl i li l

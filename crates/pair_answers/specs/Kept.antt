@@ -29,7 +29,7 @@ pub record AreKeptNumbers (q : Query) (tables kept : List (List (List Value))) (
 
 -- the names are those of the rows that a repair keeps of the query's tables, in `from` order and block order, and it holds
 -- no witness of the row
-pub record Rejects (q : Query) (db : List Table) (row : List Value) (ids : List RowId) : Type 0 where
+pub record RejectsByNumbers (q : Query) (db : List Table) (row : List Value) (ids : List RowId) : Type 0 where
   pub kept : List (List (List Value))
   pub numbers : List ℕ
   pub repair : IsRepair db kept

@@ -1,20 +1,18 @@
 //! Deciding a row of a pair: it is certain, or some repair holds no witness of it.
 //! The rows of both tables are numbered atom by atom in block order, and the numbers are decided.
 
-ghost use Rattle.std.specs.Prelude.{◌≡◌, ◌↔◌, ◌<◌, IfOk, IsTrue, MatchOption, length, map, filter_map};
+ghost use Rattle.std.specs.Prelude.{◌≡◌, ◌↔◌, IfOk, IsTrue, MatchOption, length, map, filter_map};
 ghost use Rattle.cqa_model.specs.Database.{stored};
-ghost use Rattle.cqa_model.specs.Query.{FitsDatabase};
 ghost use Rattle.cqa_model.specs.Certain.{IsCertain};
-ghost use Rattle.weak_pairs.specs.Pairs.{IsPair};
-ghost use Rattle.pair_answers.specs.Kept.{IsPairAnswer, Rejects, id_of};
+ghost use Rattle.pair_answers.specs.Kept.{IsPairAnswer, RejectsByNumbers, id_of};
 
 use crate::lists::{both_columns, row_lists};
+use crate::pair::PairQuery;
 use crate::starts::block_starts;
-use cqa_model::{Query, RowId};
+use cqa_model::RowId;
 use cqa_value::{Items, NoMemory, Row};
 use join_access::table_of;
 use std::alloc::Global;
-use table_blocks::Database;
 use weak_pairs::laws::pair_decided;
 use weak_pairs::{Decision, are_certain, decide_rows};
 
@@ -29,21 +27,18 @@ pub struct Kept {
 /// # Errors
 ///
 /// `NoMemory` where memory is refused.
-pub fn decide(
+pub fn decide<'a>(
     alloc: Global,
-    db: &Database,
-    query: &Query,
+    pair: &'a PairQuery<'a>,
     row: &Row,
 ) -> Result<Option<Kept>, NoMemory>
-    requires pair { IsPair query.now }
-    requires fits { FitsDatabase query.now db.now }
-    requires size { length row.now ≡ length query.now.answer }
-    ensures { IfOk result (λ found. MatchOption found (IsCertain db.now query.now row.now) (λ kept. Rejects query.now db.now row.now kept.rows)) }
+    requires { length row.now ≡ length pair.now.bound.now.query.now.answer }
+    ensures { IfOk result (λ found. MatchOption found (IsCertain pair.now.bound.now.db.now pair.now.bound.now.query.now row.now) (λ kept. RejectsByNumbers pair.now.bound.now.query.now pair.now.bound.now.db.now row.now kept.rows)) }
 {
-    match decide_numbers(alloc, db, query, row)? {
+    match decide_numbers(alloc, pair, row)? {
         Decision::Certain => Ok(None),
         Decision::Rejected(own) => {
-            let rows = ids(alloc, db, query, &own)?;
+            let rows = ids(alloc, pair, &own)?;
             Ok(Some(Kept { rows }))
         }
     }
@@ -54,15 +49,13 @@ pub fn decide(
 /// # Errors
 ///
 /// `NoMemory` where memory is refused.
-pub fn is_certain(alloc: Global, db: &Database, query: &Query, row: &Row) -> Result<bool, NoMemory>
-    requires pair { IsPair query.now }
-    requires fits { FitsDatabase query.now db.now }
-    requires size { length row.now ≡ length query.now.answer }
-    ensures { IfOk result (λ certain. IsTrue certain ↔ IsCertain db.now query.now row.now) }
+pub fn is_certain<'a>(alloc: Global, pair: &'a PairQuery<'a>, row: &Row) -> Result<bool, NoMemory>
+    requires { length row.now ≡ length pair.now.bound.now.query.now.answer }
+    ensures { IfOk result (λ certain. IsTrue certain ↔ IsCertain pair.now.bound.now.db.now pair.now.bound.now.query.now row.now) }
 {
-    let starts = block_starts(alloc, db, query)?;
-    let columns = both_columns(alloc, query)?;
-    let lists = row_lists(alloc, db, query, row, &columns.left, &columns.right)?;
+    let starts = block_starts(alloc, pair)?;
+    let columns = both_columns(alloc, pair)?;
+    let lists = row_lists(alloc, pair, row, &columns)?;
     pair_decided();
     let blocks = starts.first.len() as u32 - 1;
     let certain = are_certain(alloc, &lists, &starts.first, blocks, starts.split);
@@ -71,60 +64,49 @@ pub fn is_certain(alloc: Global, db: &Database, query: &Query, row: &Row) -> Res
 }
 
 /// Decides the numbered rows.
-fn decide_numbers(
+fn decide_numbers<'a>(
     alloc: Global,
-    db: &Database,
-    query: &Query,
+    pair: &'a PairQuery<'a>,
     row: &Row,
 ) -> Result<Decision, NoMemory>
-    requires pair { IsPair query.now }
-    requires fits { FitsDatabase query.now db.now }
-    requires size { length row.now ≡ length query.now.answer }
-    ensures { IfOk result (IsPairAnswer query.now db.now row.now) }
+    requires { length row.now ≡ length pair.now.bound.now.query.now.answer }
+    ensures { IfOk result (IsPairAnswer pair.now.bound.now.query.now pair.now.bound.now.db.now row.now) }
 {
-    let starts = block_starts(alloc, db, query)?;
-    let columns = both_columns(alloc, query)?;
-    let lists = row_lists(alloc, db, query, row, &columns.left, &columns.right)?;
+    let starts = block_starts(alloc, pair)?;
+    let columns = both_columns(alloc, pair)?;
+    let lists = row_lists(alloc, pair, row, &columns)?;
     pair_decided();
     let blocks = starts.first.len() as u32 - 1;
     decide_rows(alloc, &lists, &starts.first, blocks, starts.split)
 }
 
 /// The names of the rows that blocks took.
-fn ids(
-    alloc: Global,
-    db: &Database,
-    query: &Query,
-    own: &[Option<u32>],
-) -> Result<Items<RowId>, NoMemory>
-    requires two { length query.now.atoms ≡ 2 }
-    requires fits { FitsDatabase query.now db.now }
-    ensures { IfOk result (λ ids. ids ≡ map (id_of query.now (stored db.now)) (filter_map (λ row. row) own.now)) }
+fn ids(alloc: Global, pair: &PairQuery<'_>, own: &[Option<u32>]) -> Result<Items<RowId>, NoMemory>
+    ensures { IfOk result (λ ids. ids ≡ map (id_of pair.now.bound.now.query.now (stored pair.now.bound.now.db.now)) (filter_map (λ row. row) own.now)) }
 {
     let mut ids = Items::new(alloc);
     for row in own {
         if let Some(number) = row {
-            ids.push(id(db, query, *number))?;
+            ids.push(id(pair, *number))?;
         }
     }
     Ok(ids)
 }
 
 /// The name of a row by its number.
-fn id(db: &Database, query: &Query, number: u32) -> RowId
-    requires two { length query.now.atoms ≡ 2 }
-    requires fits { FitsDatabase query.now db.now }
-    ensures { result ≡ id_of query.now (stored db.now) number }
+fn id(pair: &PairQuery<'_>, number: u32) -> RowId
+    ensures { result ≡ id_of pair.now.bound.now.query.now (stored pair.now.bound.now.db.now) number }
 {
-    let left = db.rows(table_of(query, 0)).len() as u32;
+    let bound = pair.bound;
+    let left = bound.db.rows(table_of(bound.query, 0)).len() as u32;
     if number < left {
         RowId {
-            table: table_of(query, 0),
+            table: table_of(bound.query, 0),
             place: number,
         }
     } else {
         RowId {
-            table: table_of(query, 1),
+            table: table_of(bound.query, 1),
             place: number - left,
         }
     }

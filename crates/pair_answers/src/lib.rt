@@ -6,8 +6,11 @@
 mod deciding;
 mod fits;
 mod lists;
+mod pair;
 mod plain;
 mod shared;
+mod side;
 mod starts;
 
 pub use deciding::{Kept, decide, is_certain};
+pub use pair::PairQuery;

@@ -1,12 +1,12 @@
 //! Whether the query alone tells that each row of an atom fits by itself, so that no row has to be looked at.
 
 ghost use Rattle.std.specs.Prelude.{◌≢◌, ◌<◌, IsTrue, length};
-ghost use Rattle.cqa_model.specs.Naming.{AreVariables};
 ghost use Rattle.cqa_model.specs.Shape.{IsInRange};
 ghost use Rattle.cqa_model.specs.Variables.{AreLinked};
-ghost use Rattle.pair_answers.specs.Fitting.{AllRowsFit, AreColumnsApart, AreJoins, IsJoin};
+ghost use Rattle.pair_answers.specs.Plain.{AreColumnsApart, AreJoins, IsJoin, IsPlain};
 
-use cqa_model::{ColRef, Cond, Query, Variables};
+use bound_query::Bound;
+use cqa_model::{ColRef, Cond, Query};
 use join_access::{are_linked, width_of};
 
 /// Whether a condition is a join.
@@ -32,31 +32,29 @@ fn are_joins(query: &Query) -> bool
 }
 
 /// Whether two columns of an atom are one, or of different variables.
-fn is_apart(query: &Query, names: &Variables, atom: u32, i: u32, j: u32) -> bool
-    requires names { AreVariables query.now names.now }
-    requires first { IsInRange query.now.atoms (record { atom = atom; col = i }) }
-    requires second { IsInRange query.now.atoms (record { atom = atom; col = j }) }
-    ensures { IsTrue result → i ≢ j → AreLinked query.now (record { atom = atom; col = i }) (record { atom = atom; col = j }) → ⊥ }
+fn is_apart(bound: &Bound<'_>, atom: u32, i: u32, j: u32) -> bool
+    requires first { IsInRange bound.now.query.now.atoms (record { atom = atom; col = i }) }
+    requires second { IsInRange bound.now.query.now.atoms (record { atom = atom; col = j }) }
+    ensures { IsTrue result → i ≢ j → AreLinked bound.now.query.now (record { atom = atom; col = i }) (record { atom = atom; col = j }) → ⊥ }
 {
     i == j
         || !are_linked(
-            query,
-            names,
+            bound.query,
+            &bound.variables,
             ColRef { atom, col: i },
             ColRef { atom, col: j },
         )
 }
 
 /// Whether different columns of an atom are of different variables.
-fn are_apart(query: &Query, names: &Variables, atom: u32) -> bool
-    requires names { AreVariables query.now names.now }
-    requires atom { atom < length query.now.atoms }
-    ensures { IsTrue result → AreColumnsApart query.now atom }
+fn are_apart(bound: &Bound<'_>, atom: u32) -> bool
+    requires { atom < length bound.now.query.now.atoms }
+    ensures { IsTrue result → AreColumnsApart bound.now.query.now atom }
 {
-    let columns = width_of(query, atom);
+    let columns = width_of(bound.query, atom);
     for i in 0..columns {
         for j in 0..columns {
-            if !is_apart(query, names, atom, i, j) {
+            if !is_apart(bound, atom, i, j) {
                 return false;
             }
         }
@@ -66,16 +64,15 @@ fn are_apart(query: &Query, names: &Variables, atom: u32) -> bool
 
 /// Whether each row of an atom fits by itself, as the query tells: it has no answer columns and no tests, and no two
 /// columns of the atom are of one variable.
-pub(crate) fn all_fit(query: &Query, names: &Variables, atom: u32) -> bool
-    requires names { AreVariables query.now names.now }
-    requires atom { atom < length query.now.atoms }
-    ensures { IsTrue result → AllRowsFit query.now atom }
+pub(crate) fn all_fit(bound: &Bound<'_>, atom: u32) -> bool
+    requires { atom < length bound.now.query.now.atoms }
+    ensures { IsTrue result → IsPlain bound.now.query.now atom }
 {
-    if !query.answer.is_empty() {
+    if !bound.query.answer.is_empty() {
         return false;
     }
-    if !are_joins(query) {
+    if !are_joins(bound.query) {
         return false;
     }
-    are_apart(query, names, atom)
+    are_apart(bound, atom)
 }

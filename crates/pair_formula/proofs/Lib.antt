@@ -3,4 +3,5 @@ pub mod Sieving
 pub mod FullRuns
 pub mod FullSpans
 pub mod Pairing
+pub mod Carrying
 mod Rejecting

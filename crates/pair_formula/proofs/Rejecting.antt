@@ -204,7 +204,7 @@ sorted-at (table ∷ tables) k (suc t) = sorted-at tables (λ z m. k z (mem-tail
 
 -- ---- the repair
 
-module _ (q : Query) (db : List Table) (row : List Value) (ids : List RowId) (base : IsDatabase db) (fits : FitsDatabase q db) (two : length q.atoms ≡ 2) (h : pairs.Rejects q db row ids) where
+module _ (q : Query) (db : List Table) (row : List Value) (ids : List RowId) (base : IsDatabase db) (fits : FitsDatabase q db) (two : length q.atoms ≡ 2) (h : pairs.RejectsByNumbers q db row ids) where
   abbrev xs : List (List Value)
   xs = rows_of q (stored db) 0
 

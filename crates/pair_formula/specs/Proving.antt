@@ -9,7 +9,7 @@ use Rattle.repair_clauses.specs.Encodings.{IsEncoded}
 use Rattle.pair_formula.specs.declared.proving.Refuted.{Refuted}
 
 -- the formula is the row's, and the log refutes it by additions under the ids that follow its clauses
-pub record IsRefuted (db : List Table) (q : Query) (row : List Value) (r : Refuted) : Type 0 where
+pub record IsRefutedInOrder (db : List Table) (q : Query) (row : List Value) (r : Refuted) : Type 0 where
   pub formula : IsEncoded q db row r.formula
   pub refutes : Refutes r.formula.cnf r.log.steps
   pub ids : AreConsecutive (length r.formula.cnf.clauses) r.log.steps

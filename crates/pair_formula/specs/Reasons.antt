@@ -8,11 +8,11 @@ use Rattle.join_access.specs.Listing.{HasTooMany}
 use Rattle.query_strategy.specs.declared.reason.Reason.{Reason}
 use Rattle.query_strategy.specs.declared.reason.Reason.TheVariants.{ByBlock, Rejected, Refuted}
 use Rattle.repair_back.specs.Results.{AreStored}
-use Rattle.repair_back.specs.Rejected.{IsRejected}
-use Rattle.pair_formula.specs.Proving.{IsRefuted}
+use Rattle.repair_back.specs.Rejected.{AreRejectingRows}
+use Rattle.pair_formula.specs.Proving.{IsRefutedInOrder}
 
 -- a repair without a witness, or the row's formula with a refutation, where it is within the limit of witnesses
 abbrev pub IsPairReason : List Table → Query → List Value → Reason → Type 0
 IsPairReason db q row (ByBlock table key) = ⊥
-IsPairReason db q row (Rejected names) = IsRejected db q row names × AreStored db names
-IsPairReason db q row (Refuted cnf log) = (HasTooMany q db row → ⊥) × ((rows : List RowId) × IsRefuted db q row (record { formula = record { cnf = cnf; rows = rows }; log = log }))
+IsPairReason db q row (Rejected names) = AreRejectingRows db q row names × AreStored db names
+IsPairReason db q row (Refuted cnf log) = (HasTooMany q db row → ⊥) × ((rows : List RowId) × IsRefutedInOrder db q row (record { formula = record { cnf = cnf; rows = rows }; log = log }))

@@ -2,11 +2,9 @@
 //! are in full blocks. A repair keeps out of each other witness by a row that is in none, so the formula decides the row.
 
 ghost use Rattle.std.specs.Prelude.{◌≡◌, ◌+◌, ◌-◌, ◌<◌, ◌≤◌, ◌↔◌, ◌^◌, suc, List, Contains, IfOk, length, map};
-ghost use Rattle.cqa_value.specs.declared.value.Value.{Value};
-ghost use Rattle.cqa_model.specs.Query.{FitsDatabase};
 ghost use Rattle.cqa_model.specs.Certain.{IsCertain};
 ghost use Rattle.cnf_form.specs.Literals.{literals};
-ghost use Rattle.join_access.specs.Listing.{AreAllNames, names_of};
+ghost use Rattle.join_access.specs.Listing.{names_of};
 ghost use Rattle.join_access.specs.declared.witness.Witness.{Witness as Named};
 ghost use Rattle.weak_pairs.specs.Pairs.{IsPair};
 ghost use Rattle.repair_clauses.specs.Clauses.{positive};
@@ -17,14 +15,13 @@ ghost use Rattle.pair_refutation.specs.Formulas.{IsPairFormula, IsUnsatisfiable}
 
 use crate::full::full_blocks;
 use cnf_form::{Clause, Cnf, Lit};
-use cqa_model::Query;
 use cqa_value::{Items, NoMemory};
 use join_access::Witness;
 use repair_clauses::add_blocks;
 use repair_clauses::numbering::{Numbering, find_span};
 use repair_clauses::span::Span;
+use row_witnesses::RowWitnesses;
 use std::alloc::Global;
-use table_blocks::Database;
 
 /// The number of the row at a place of the span's atom.
 fn number_in(span: &Span, place: u32) -> u32
@@ -117,21 +114,13 @@ fn clauses_of(
 
 /// The formula over full blocks of the row whose witnesses these are. No assignment satisfies it exactly where the row is
 /// certain.
-pub(crate) fn full_formula(
-    alloc: Global,
-    db: &Database,
-    query: &Query,
-    witnesses: &[Witness],
-) -> Result<Cnf, NoMemory>
-    requires pair { IsPair query.now }
-    requires fits { FitsDatabase query.now db.now }
-    requires all { (row : List Value) × AreAllNames query.now db.now row (names_of witnesses.now) }
+pub(crate) fn full_formula(alloc: Global, witnesses: &RowWitnesses<'_>) -> Result<Cnf, NoMemory>
+    requires { IsPair witnesses.now.bound.now.query.now }
     ensures graph { IfOk result IsPairFormula }
-    ensures certain { IfOk result (λ cnf. (row : List Value) → AreAllNames query.now db.now row (names_of witnesses.now) → IsUnsatisfiable cnf ↔ IsCertain db.now query.now row) }
+    ensures certain { IfOk result (λ cnf. IsUnsatisfiable cnf ↔ IsCertain witnesses.now.bound.now.db.now witnesses.now.bound.now.query.now witnesses.now.row.now) }
 {
-    let _tables = db.count();
-    let blocks = full_blocks(alloc, db, query, witnesses)?;
-    let clauses = clauses_of(alloc, &blocks, witnesses)?;
+    let blocks = full_blocks(alloc, witnesses)?;
+    let clauses = clauses_of(alloc, &blocks, witnesses.list.as_slice())?;
     Ok(Cnf {
         vars: blocks.vars,
         clauses,

@@ -4,26 +4,20 @@
 
 ghost use Rattle.std.specs.Prelude.{◌≡◌, ◌+◌, ◌-◌, ◌*◌, ◌<◌, ◌≤◌, ◌↔◌, List, [], IfOk, IsTrue, length, slice_index};
 ghost use Rattle.std.specs.List.Sorted.{IsStrictlySortedBy};
-ghost use Rattle.cqa_value.specs.declared.value.Value.{Value};
 ghost use Rattle.cqa_model.specs.Database.{block_cmp};
-ghost use Rattle.cqa_model.specs.Query.{FitsDatabase};
 ghost use Rattle.cqa_model.specs.declared.limits.TheConstants.{MOST_ROWS};
-ghost use Rattle.join_access.specs.Listing.{AreAllNames, names_of};
-ghost use Rattle.weak_pairs.specs.Pairs.{IsPair};
+ghost use Rattle.join_access.specs.Listing.{names_of};
 ghost use Rattle.repair_clauses.specs.Runs.{AreRowPlaces};
 ghost use Rattle.pair_formula.specs.Full.{AreFullOf, AreFullRuns, AreFullSpans, Follows, HasMore, IsInRow, IsRunAdded};
 
-use cqa_model::Query;
 use cqa_value::{Items, NoMemory};
-use join_access::Witness;
 use repair_clauses::atom_of;
-use repair_clauses::column::column;
 use repair_clauses::numbering::Numbering;
 use repair_clauses::span::Span;
 use row_blocks::goes_on;
 use row_pieces::Rows;
+use row_witnesses::RowWitnesses;
 use std::alloc::Global;
-use table_blocks::Database;
 
 /// Whether the row at a place is the next one of the same block.
 fn follows(rows: &Rows<'_>, key: &[u32], place: u32, next: u32) -> bool
@@ -119,55 +113,37 @@ fn full_runs(
 
 /// The full blocks of one atom; their rows are numbered from `base` on.
 fn full_of_atom(
-    alloc: Global,
-    db: &Database,
-    query: &Query,
-    witnesses: &[Witness],
+    witnesses: &RowWitnesses<'_>,
     at: usize,
     base: u32,
     spans: &mut Vec<Span>,
 ) -> Result<u32, NoMemory>
-    requires fits { FitsDatabase query.now db.now }
-    requires all { (row : List Value) × AreAllNames query.now db.now row (names_of witnesses.now) }
-    requires there { at < length query.now.atoms }
+    requires there { at < length witnesses.now.bound.now.query.now.atoms }
     requires small { base ≤ MOST_ROWS }
     requires none { spans.old.items ≡ [] }
-    ensures blocks { IfOk result (λ vars. AreFullOf query.now db.now (names_of witnesses.now) at base vars spans.new.items) }
+    ensures blocks { IfOk result (λ vars. AreFullOf witnesses.now.bound.now.query.now witnesses.now.bound.now.db.now (names_of witnesses.now.list) at base vars spans.new.items) }
     ensures small { IfOk result (λ vars. vars ≤ base + MOST_ROWS) }
 {
-    let atom = atom_of(query, at);
-    let places = column(alloc, witnesses, at)?;
-    let rows = db.rows(atom.table);
-    let vars = full_runs(
-        &rows,
-        atom.key.as_slice(),
-        at as u32,
-        base,
-        places.as_slice(),
-        spans,
-    );
-    drop(places);
-    let vars = vars?;
+    let bound = witnesses.bound;
+    let atom = atom_of(bound.query, at);
+    let rows = bound.db.rows(atom.table);
+    let places = witnesses.column(at);
+    let vars = full_runs(&rows, atom.key.as_slice(), at as u32, base, places, spans)?;
     Ok(vars)
 }
 
-/// The full blocks of the row of a pair, from all its witnesses.
+/// The full blocks of the row of a pair.
 pub(crate) fn full_blocks(
     alloc: Global,
-    db: &Database,
-    query: &Query,
-    witnesses: &[Witness],
+    witnesses: &RowWitnesses<'_>,
 ) -> Result<Numbering, NoMemory>
-    requires pair { IsPair query.now }
-    requires fits { FitsDatabase query.now db.now }
-    requires all { (row : List Value) × AreAllNames query.now db.now row (names_of witnesses.now) }
-    ensures { IfOk result (λ blocks. AreFullSpans query.now db.now (names_of witnesses.now) blocks.vars blocks.spans) }
+    requires { length witnesses.now.bound.now.query.now.atoms ≡ 2 }
+    ensures { IfOk result (λ blocks. AreFullSpans witnesses.now.bound.now.query.now witnesses.now.bound.now.db.now (names_of witnesses.now.list) blocks.vars blocks.spans) }
 {
-    let _tables = db.count();
     let mut spans = Vec::new(alloc);
-    let first = full_of_atom(alloc, db, query, witnesses, 0, 0, &mut spans)?;
+    let first = full_of_atom(witnesses, 0, 0, &mut spans)?;
     let mut more = Vec::new(alloc);
-    let vars = full_of_atom(alloc, db, query, witnesses, 1, first, &mut more)?;
+    let vars = full_of_atom(witnesses, 1, first, &mut more)?;
     spans.append(&mut more)?;
     Ok(Numbering {
         spans: Items::from_vec(spans),

@@ -9,5 +9,6 @@ mod proving;
 mod reason;
 
 pub use certain::certain_by_pairs;
+pub use pair_answers::PairQuery;
 pub use proving::{Refuted, refute_row};
 pub use reason::reason_by_pair;

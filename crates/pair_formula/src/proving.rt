@@ -2,23 +2,20 @@
 
 ghost use Rattle.std.specs.Prelude.{◌≡◌, IfErr, IfOk, length};
 ghost use Rattle.cqa_model.specs.Certain.{IsCertain};
-ghost use Rattle.cqa_model.specs.Query.{FitsDatabase};
 ghost use Rattle.cnf_form.specs.Logs.{Refutes};
 ghost use Rattle.cdcl.specs.Outcomes.{AreConsecutive};
 ghost use Rattle.join_access.specs.Listing.{HasTooMany, IsOver};
-ghost use Rattle.weak_pairs.specs.Pairs.{IsPair};
 ghost use Rattle.pair_refutation.specs.Formulas.{IsPairFormula, IsUnsatisfiable};
-ghost use Rattle.pair_formula.specs.Proving.{IsRefuted};
+ghost use Rattle.pair_formula.specs.Proving.{IsRefutedInOrder};
 
 use cnf_form::Log;
-use cqa_model::Query;
 use cqa_value::{Fail, NoMemory, Row};
 use join_access::TooMany;
 use join_witness::witnesses;
+use pair_answers::PairQuery;
 use pair_refutation::refute;
 use repair_clauses::{Encoded, encode};
 use std::alloc::Global;
-use table_blocks::Database;
 
 /// The formula of a certain row, and a log that refutes it.
 #[derive(Drop)]
@@ -49,22 +46,19 @@ fn with_log(alloc: Global, formula: Encoded) -> Result<Refuted, NoMemory>
 /// # Errors
 ///
 /// `TooMany` exactly where the row has more than `MOST_WITNESSES` witnesses; `NoMemory` where memory is refused.
-pub fn refute_row(
+pub fn refute_row<'a>(
     alloc: Global,
-    db: &Database,
-    query: &Query,
-    row: &Row,
+    pair: &'a PairQuery<'a>,
+    row: &'a Row,
 ) -> Result<Refuted, Fail<TooMany>>
-    requires pair { IsPair query.now }
-    requires fits { FitsDatabase query.now db.now }
-    requires long { length row.now ≡ length query.now.answer }
-    requires certain { IsCertain db.now query.now row.now }
-    ensures refuted { IfOk result (IsRefuted db.now query.now row.now) }
-    ensures within { IfOk result (λ refuted. HasTooMany query.now db.now row.now → ⊥) }
-    ensures over { IfErr result (IsOver (HasTooMany query.now db.now row.now)) }
+    requires long { length row.now ≡ length pair.now.bound.now.query.now.answer }
+    requires certain { IsCertain pair.now.bound.now.db.now pair.now.bound.now.query.now row.now }
+    ensures refuted { IfOk result (IsRefutedInOrder pair.now.bound.now.db.now pair.now.bound.now.query.now row.now) }
+    ensures within { IfOk result (λ refuted. HasTooMany pair.now.bound.now.query.now pair.now.bound.now.db.now row.now → ⊥) }
+    ensures over { IfErr result (IsOver (HasTooMany pair.now.bound.now.query.now pair.now.bound.now.db.now row.now)) }
 {
-    let found = witnesses(alloc, db, query, row)?;
-    let formula = encode(alloc, db, query, found.as_slice());
+    let found = witnesses(alloc, pair.bound, row)?;
+    let formula = encode(alloc, &found);
     drop(found);
     let refuted = with_log(alloc, formula?)?;
     Ok(refuted)

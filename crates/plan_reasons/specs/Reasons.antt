@@ -8,7 +8,7 @@ use Rattle.cqa_model.specs.Certain.{IsCertain}
 use Rattle.cqa_model.specs.Plan.{IsPlanOf}
 use Rattle.fo_plan.specs.FirstBlock.{IsFirstBlock}
 use Rattle.repair_back.specs.Results.{AreStored}
-use Rattle.repair_back.specs.Rejected.{IsRejected}
+use Rattle.repair_back.specs.Rejected.{AreRejectingRows}
 use Rattle.query_strategy.specs.declared.reason.Reason.{Reason}
 use Rattle.query_strategy.specs.declared.reason.Reason.TheVariants.{ByBlock, Rejected, Refuted}
 
@@ -30,5 +30,5 @@ pub record IsByBlock (db : List Table) (q : Query) (row : List Value) (table : �
 -- what a plan tells of a row: a block, or a repair
 abbrev pub IsPlanReason : List Table → Query → List Value → Reason → Type 0
 IsPlanReason db q row (ByBlock table key) = IsByBlock db q row table key × (table < length db)
-IsPlanReason db q row (Rejected names) = IsRejected db q row names × AreStored db names
+IsPlanReason db q row (Rejected names) = AreRejectingRows db q row names × AreStored db names
 IsPlanReason db q row (Refuted cnf log) = ⊥

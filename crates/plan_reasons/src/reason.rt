@@ -2,7 +2,6 @@
 
 ghost use Rattle.std.specs.Prelude.{◌≡◌, ◌≤◌, IfOk, IfSome, IsNone, length};
 ghost use Rattle.cqa_model.specs.Database.{key_of};
-ghost use Rattle.cqa_model.specs.Query.{FitsDatabase};
 ghost use Rattle.cqa_model.specs.Certain.{IsCertain};
 ghost use Rattle.cqa_model.specs.declared.limits.TheConstants.{MOST_COLUMNS};
 ghost use Rattle.cqa_model.specs.Plan.{IsPlanOf};
@@ -11,7 +10,8 @@ ghost use Rattle.plan_rows.specs.Links.{AreWays};
 ghost use Rattle.fo_rewrite.specs.Planning.{IsExact};
 ghost use Rattle.plan_reasons.specs.Reasons.{IsPlanReason};
 
-use cqa_model::{Plan, Query};
+use bound_query::Bound;
+use cqa_model::Plan;
 use cqa_value::{Items, NOTHING, NoMemory, Row};
 use fo_plan::{block_of, paths_of, ways_of};
 use join_access::RowIndex;
@@ -19,7 +19,6 @@ use plan_rows::Link;
 use query_strategy::Reason;
 use repair_back::{chosen, mend};
 use std::alloc::Global;
-use table_blocks::Database;
 
 /// The values of a row in some columns.
 fn values_of(alloc: Global, key: &[u32], row: &Row) -> Result<Row, NoMemory>
@@ -36,27 +35,25 @@ fn values_of(alloc: Global, key: &[u32], row: &Row) -> Result<Row, NoMemory>
 /// The block by which a row is certain, if it is.
 fn by_block(
     alloc: Global,
-    db: &Database,
-    query: &Query,
+    bound: &Bound<'_>,
     plan: &Plan,
     row: &Row,
     paths: &[Option<RowIndex<'_>>],
     ways: &[Items<Link<'_>>],
 ) -> Result<Option<Reason>, NoMemory>
-    requires fits { FitsDatabase query.now db.now }
-    requires plan { IsPlanOf query.now plan.now.order }
-    requires exact { IsExact query.now plan.now.order }
-    requires long { length row.now ≡ length query.now.answer }
-    requires paths { ArePaths query.now db.now paths.now }
-    requires ways { AreWays query.now db.now plan.now.order ways.now }
-    ensures found { IfOk result (λ found. IfSome found (IsPlanReason db.now query.now row.now)) }
-    ensures none { IfOk result (λ found. IsNone found → IsCertain db.now query.now row.now → ⊥) }
+    requires plan { IsPlanOf bound.now.query.now plan.now.order }
+    requires exact { IsExact bound.now.query.now plan.now.order }
+    requires long { length row.now ≡ length bound.now.query.now.answer }
+    requires paths { ArePaths bound.now.query.now bound.now.db.now paths.now }
+    requires ways { AreWays bound.now.query.now bound.now.db.now plan.now.order ways.now }
+    ensures found { IfOk result (λ found. IfSome found (IsPlanReason bound.now.db.now bound.now.query.now row.now)) }
+    ensures none { IfOk result (λ found. IsNone found → IsCertain bound.now.db.now bound.now.query.now row.now → ⊥) }
 {
-    let Some(block) = block_of(alloc, plan, db, query, row, paths, ways) else {
+    let Some(block) = block_of(alloc, bound, plan, row, paths, ways) else {
         return Ok(None);
     };
     let first = plan.order.as_slice()[0];
-    let atom = &query.atoms.as_slice()[first as usize];
+    let atom = &bound.query.atoms.as_slice()[first as usize];
     let table = atom.table;
     let key = values_of(alloc, atom.key.as_slice(), block.get(0))?;
     Ok(Some(Reason::ByBlock { table, key }))
@@ -65,70 +62,64 @@ fn by_block(
 /// A repair that shows that a row isn't certain.
 fn rejected(
     alloc: Global,
-    db: &Database,
-    query: &Query,
+    bound: &Bound<'_>,
     plan: &Plan,
     row: &Row,
     paths: &[Option<RowIndex<'_>>],
     ways: &[Items<Link<'_>>],
 ) -> Result<Reason, NoMemory>
-    requires fits { FitsDatabase query.now db.now }
-    requires plan { IsPlanOf query.now plan.now.order }
-    requires long { length row.now ≡ length query.now.answer }
-    requires paths { ArePaths query.now db.now paths.now }
-    requires ways { AreWays query.now db.now plan.now.order ways.now }
-    requires uncertain { IsCertain db.now query.now row.now → ⊥ }
-    ensures { IfOk result (IsPlanReason db.now query.now row.now) }
+    requires plan { IsPlanOf bound.now.query.now plan.now.order }
+    requires long { length row.now ≡ length bound.now.query.now.answer }
+    requires paths { ArePaths bound.now.query.now bound.now.db.now paths.now }
+    requires ways { AreWays bound.now.query.now bound.now.db.now plan.now.order ways.now }
+    requires uncertain { IsCertain bound.now.db.now bound.now.query.now row.now → ⊥ }
+    ensures { IfOk result (IsPlanReason bound.now.db.now bound.now.query.now row.now) }
 {
-    let Some(repair) = mend(alloc, db, query, plan, row, paths, ways)? else {
+    let Some(repair) = mend(alloc, bound, plan, row, paths, ways)? else {
         unreachable!()
     };
-    let names = chosen(alloc, db, repair)?;
+    let names = chosen(alloc, bound.db, repair)?;
     Ok(Reason::Rejected(names))
 }
 
 /// The reason of a row, by indexes of the query's tables and by links of its atoms.
 fn by_ways(
     alloc: Global,
-    db: &Database,
-    query: &Query,
+    bound: &Bound<'_>,
     plan: &Plan,
     row: &Row,
     paths: &[Option<RowIndex<'_>>],
     ways: &[Items<Link<'_>>],
 ) -> Result<Reason, NoMemory>
-    requires fits { FitsDatabase query.now db.now }
-    requires plan { IsPlanOf query.now plan.now.order }
-    requires exact { IsExact query.now plan.now.order }
-    requires long { length row.now ≡ length query.now.answer }
-    requires paths { ArePaths query.now db.now paths.now }
-    requires ways { AreWays query.now db.now plan.now.order ways.now }
-    ensures { IfOk result (IsPlanReason db.now query.now row.now) }
+    requires plan { IsPlanOf bound.now.query.now plan.now.order }
+    requires exact { IsExact bound.now.query.now plan.now.order }
+    requires long { length row.now ≡ length bound.now.query.now.answer }
+    requires paths { ArePaths bound.now.query.now bound.now.db.now paths.now }
+    requires ways { AreWays bound.now.query.now bound.now.db.now plan.now.order ways.now }
+    ensures { IfOk result (IsPlanReason bound.now.db.now bound.now.query.now row.now) }
 {
-    match by_block(alloc, db, query, plan, row, paths, ways)? {
+    match by_block(alloc, bound, plan, row, paths, ways)? {
         Some(reason) => Ok(reason),
-        None => rejected(alloc, db, query, plan, row, paths, ways),
+        None => rejected(alloc, bound, plan, row, paths, ways),
     }
 }
 
 /// The reason of a row, by indexes of the query's tables.
 fn by_paths(
     alloc: Global,
-    db: &Database,
-    query: &Query,
+    bound: &Bound<'_>,
     plan: &Plan,
     row: &Row,
     paths: &[Option<RowIndex<'_>>],
 ) -> Result<Reason, NoMemory>
-    requires fits { FitsDatabase query.now db.now }
-    requires plan { IsPlanOf query.now plan.now.order }
-    requires exact { IsExact query.now plan.now.order }
-    requires long { length row.now ≡ length query.now.answer }
-    requires paths { ArePaths query.now db.now paths.now }
-    ensures { IfOk result (IsPlanReason db.now query.now row.now) }
+    requires plan { IsPlanOf bound.now.query.now plan.now.order }
+    requires exact { IsExact bound.now.query.now plan.now.order }
+    requires long { length row.now ≡ length bound.now.query.now.answer }
+    requires paths { ArePaths bound.now.query.now bound.now.db.now paths.now }
+    ensures { IfOk result (IsPlanReason bound.now.db.now bound.now.query.now row.now) }
 {
-    let ways = ways_of(alloc, plan, db, query, query.answer.as_slice())?;
-    let reason = by_ways(alloc, db, query, plan, row, paths, ways.as_slice());
+    let ways = ways_of(alloc, bound, plan, bound.query.answer.as_slice())?;
+    let reason = by_ways(alloc, bound, plan, row, paths, ways.as_slice());
     drop(ways);
     reason
 }
@@ -140,19 +131,17 @@ fn by_paths(
 /// `NoMemory` where memory is refused.
 pub fn reason_by_plan(
     alloc: Global,
-    db: &Database,
-    query: &Query,
+    bound: &Bound<'_>,
     plan: &Plan,
     row: &Row,
 ) -> Result<Reason, NoMemory>
-    requires fits { FitsDatabase query.now db.now }
-    requires plan { IsPlanOf query.now plan.now.order }
-    requires exact { IsExact query.now plan.now.order }
-    requires long { length row.now ≡ length query.now.answer }
-    ensures { IfOk result (IsPlanReason db.now query.now row.now) }
+    requires plan { IsPlanOf bound.now.query.now plan.now.order }
+    requires exact { IsExact bound.now.query.now plan.now.order }
+    requires long { length row.now ≡ length bound.now.query.now.answer }
+    ensures { IfOk result (IsPlanReason bound.now.db.now bound.now.query.now row.now) }
 {
-    let paths = paths_of(alloc, plan, db, query, query.answer.as_slice())?;
-    let reason = by_paths(alloc, db, query, plan, row, paths.as_slice());
+    let paths = paths_of(alloc, bound, plan, bound.query.answer.as_slice())?;
+    let reason = by_paths(alloc, bound, plan, row, paths.as_slice());
     drop(paths);
     reason
 }

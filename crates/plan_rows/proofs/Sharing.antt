@@ -23,7 +23,7 @@ use Rattle.cqa_model.proofs.BrokenKey.{same_number}
 use Rattle.plan_rows.specs.Taking.{placed, taken_value, AreOfAtoms}
 use Rattle.plan_rows.specs.Fitting.{Agrees, AgreesAll, Suits}
 use Rattle.plan_rows.specs.Left.{IsSettled}
-use Rattle.plan_rows.specs.Once.{value_set}
+use Rattle.bound_query.specs.Once.{value_set}
 use Rattle.plan_rows.specs.Over.{query_of, rows_before}
 use Rattle.plan_rows.specs.Underway.{atoms_of, IsUnderway, IsKey, IsRight}
 use Rattle.plan_rows.specs.declared.course.Course.{Course}
@@ -75,19 +75,19 @@ length-atoms (s ∷ ss) =
     omega (arith, l, h)
 
 -- the atoms of the rows taken and those that are left are of the order, and so of the query
-pub underway-taken : (s : Course) (taken : List Placed) (plan : List ℕ) → IsUnderway s taken plan → AreOfAtoms s.setting.query.now taken
+pub underway-taken : (s : Course) (taken : List Placed) (plan : List ℕ) → IsUnderway s taken plan → AreOfAtoms s.setting.bound.now.query.now taken
 underway-taken s taken plan u t m = s.atoms t.atom (subst (λ order. Contains order t.atom) (sym u.place) (Contains-append_left (atoms_of taken) plan t.atom (in-atoms taken t m)))
 
-pub first-atom : (s : Course) (taken : List Placed) (F : ℕ) (rest : List ℕ) → IsUnderway s taken (F ∷ rest) → F < length s.setting.query.now.atoms
+pub first-atom : (s : Course) (taken : List Placed) (F : ℕ) (rest : List ℕ) → IsUnderway s taken (F ∷ rest) → F < length s.setting.bound.now.query.now.atoms
 first-atom s taken F rest u = s.atoms F (subst (λ order. Contains order F) (sym u.place) (Contains-append_right (atoms_of taken) (F ∷ rest) F (mem-head F rest)))
 
 pub step-taken : (s : Step) → AreOfAtoms (query_of s) (rows_before s)
 step-taken s = underway-taken s.course.now (placed s.taken.now) (s.atom ∷ s.rest.now) s.underway
 
 -- with one row more
-pub underway-more : (s : Course) (taken : List Placed) (F : ℕ) (rest : List ℕ) (x : List Value) → IsUnderway s taken (F ∷ rest) → Suits s.setting.query.now taken F x → IsUnderway s (record { atom = F; row = x } ∷ taken) rest
+pub underway-more : (s : Course) (taken : List Placed) (F : ℕ) (rest : List ℕ) (x : List Value) → IsUnderway s taken (F ∷ rest) → Suits s.setting.bound.now.query.now taken F x → IsUnderway s (record { atom = F; row = x } ∷ taken) rest
 underway-more s taken F rest x u suits = record {
-  agreed = agreed-more s.setting.query.now taken F x u.agreed suits;
+  agreed = agreed-more s.setting.bound.now.query.now taken F x u.agreed suits;
   place = u.place ∙ sym (append_assoc (atoms_of taken) (F ∷ []) rest);
 }
 
@@ -161,10 +161,10 @@ settled-plan q tables row other taken plan settled =
 
 -- rows taken of the same atoms, with the same values in the columns that the rest shares with them
 pub same-shared : (s : Course) (taken others : List Placed) (plan : List ℕ) → IsUnderway s taken plan → IsUnderway s others plan → atoms_of taken ≡ atoms_of others → length taken < length s.shared.now →
-    map (taken_value taken) (get_or s.shared.now (length taken) []) ≡ map (taken_value others) (get_or s.shared.now (length taken) []) → SameFor s.setting.query.now plan taken others
+    map (taken_value taken) (get_or s.shared.now (length taken) []) ≡ map (taken_value others) (get_or s.shared.now (length taken) []) → SameFor s.setting.bound.now.query.now plan taken others
 unfolding SameFor
 same-shared s taken others plan u v atoms there e F mF x a t m i li j lj linked =
-    let q = s.setting.query.now in
+    let q = s.setting.bound.now.query.now in
     let front : Contains (atoms_of taken) t.atom = subst (λ z. Contains z t.atom) (sym atoms) (in-atoms others t m) in
     let count : length (atoms_of taken) ≡ length taken = length-atoms taken in
     let same = ∥∥₁_elim s.shares (value_set (taken_value taken (record { atom = t.atom; col = j })) (taken_value others (record { atom = t.atom; col = j }))) (λ shared.
@@ -185,7 +185,7 @@ tail-cases false false row other e = inr (inr e)
 -- what holds under a key holds wherever the key is the same
 same-rest : (s : Course) (taken others : List Placed) (plan : List ℕ) (row other key : List Value) → IsUnderway s taken plan → IsUnderway s others plan → atoms_of taken ≡ atoms_of others →
     IsKey s taken plan row key → IsKey s others plan other key →
-    PlanHolds s.setting.query.now (stored s.setting.db.now) row taken plan → PlanHolds s.setting.query.now (stored s.setting.db.now) other others plan
+    PlanHolds s.setting.bound.now.query.now (stored s.setting.bound.now.db.now) row taken plan → PlanHolds s.setting.bound.now.query.now (stored s.setting.bound.now.db.now) other others plan
 same-rest s taken others plan row other key u v atoms k l h =
     elim (tail-cases k.settled l.settled row other split.1) [
       | inl a ↦ settled-plan q tables row other others plan (k.says.0 a) moved
@@ -194,10 +194,10 @@ same-rest s taken others plan row other key u v atoms k l h =
     ]
   where
     q : Query
-    q = s.setting.query.now
+    q = s.setting.bound.now.query.now
 
     tables : List (List (List Value))
-    tables = stored s.setting.db.now
+    tables = stored s.setting.bound.now.db.now
 
     columns : List ColRef
     columns = get_or s.shared.now (length taken) []
@@ -213,14 +213,14 @@ same-rest s taken others plan row other key u v atoms k l h =
         (length-map (get_or s.shared.now (length taken) []) (taken_value taken) ∙ sym (length-map (get_or s.shared.now (length taken) []) (taken_value others)))
         (same_tail (Int (pos (length plan))) (Int (pos (length plan))) _ _ keys)
 
-    moved : PlanHolds s.setting.query.now (stored s.setting.db.now) row others plan
-    moved = same-plan s.setting.query.now (stored s.setting.db.now) row taken others plan (same-shared s taken others plan u v atoms k.there split.0) h
+    moved : PlanHolds s.setting.bound.now.query.now (stored s.setting.bound.now.db.now) row others plan
+    moved = same-plan s.setting.bound.now.query.now (stored s.setting.bound.now.db.now) row taken others plan (same-shared s taken others plan u v atoms k.there split.0) h
 
 same-key : (s : Course) (taken others : List Placed) (plan left : List ℕ) (row other key : List Value) → IsUnderway s taken plan → IsUnderway s others left →
     IsKey s taken plan row key → IsKey s others left other key →
-    PlanHolds s.setting.query.now (stored s.setting.db.now) row taken plan → PlanHolds s.setting.query.now (stored s.setting.db.now) other others left
+    PlanHolds s.setting.bound.now.query.now (stored s.setting.bound.now.db.now) row taken plan → PlanHolds s.setting.bound.now.query.now (stored s.setting.bound.now.db.now) other others left
 same-key s taken others plan left row other key u v k l h =
-    subst (λ p. PlanHolds s.setting.query.now (stored s.setting.db.now) other others p) split.1
+    subst (λ p. PlanHolds s.setting.bound.now.query.now (stored s.setting.bound.now.db.now) other others p) split.1
     (same-rest s taken others plan row other key u (subst (IsUnderway s others) (sym split.1) v) split.0 k (subst (λ p. IsKey s others p other key) (sym split.1) l) h)
   where
     count : length plan ≡ length left
@@ -246,7 +246,7 @@ underway-starts s = record { agreed = λ t u m. absurd (mem-nil t m); place = re
 
 -- the key that was made
 pub key-made : (s : Course) (taken : List Placed) (plan : List ℕ) (row : List Value) (columns item : List ColRef) (place : ℕ) (settled : Bool) (r : Option (List Value)) → IsUnderway s taken plan → place ≡ length s.order.now - length plan → place < length s.shared.now →
-    item ≡ get_or s.shared.now place item → columns ≡ item → IsTrue settled ↔ IsSettled s.setting.query.now plan → IfSome r (λ key. key ≡ Int (pos (length plan)) ∷ map (taken_value taken) columns ++ (if settled then [] else row)) →
+    item ≡ get_or s.shared.now place item → columns ≡ item → IsTrue settled ↔ IsSettled s.setting.bound.now.query.now plan → IfSome r (λ key. key ≡ Int (pos (length plan)) ∷ map (taken_value taken) columns ++ (if settled then [] else row)) →
     IfSome r (λ key. IsKey s taken plan row key)
 key-made s taken plan row columns item place settled None u e l i c says made = tt
 key-made s taken plan row columns item place settled (Some key) u e l i c says made = record {
@@ -264,7 +264,7 @@ none-right s memo n k b g = absurd (none-some b (sym (n k) ∙ g))
 
 -- one decision more is remembered, or not
 pub keeps-right : (s : Course) (old new : Memo) (taken : List Placed) (plan : List ℕ) (row key : List Value) (held : Bool) → IsRight s old → IsUnderway s taken plan → IsKey s taken plan row key →
-    IsTrue held ↔ PlanHolds s.setting.query.now (stored s.setting.db.now) row taken plan →
+    IsTrue held ↔ PlanHolds s.setting.bound.now.query.now (stored s.setting.bound.now.db.now) row taken plan →
     ((k : List Value) (b : Bool) → get row_cmp new.known k ≡ Some b → (get row_cmp old.known k ≡ Some b) ⊎ ((k ≡ key) × (b ≡ held))) → IsRight s new
 keeps-right s old new taken plan row key held right u is decided kept k b g = elim (kept k b g) [
   | inl o ↦ right k b o

@@ -2,7 +2,6 @@ pub mod Taking
 pub mod Fitting
 pub mod Knowing
 pub mod Left
-pub mod Once
 pub mod Underway
 pub mod Over
 pub mod Links

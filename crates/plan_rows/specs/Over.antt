@@ -11,11 +11,11 @@ use Rattle.plan_rows.specs.declared.steps.Step.{Step}
 
 -- the query whose plan it is of
 abbrev pub query_of : Step → Query
-query_of s = s.course.now.setting.query.now
+query_of s = s.course.now.setting.bound.now.query.now
 
 -- the stored rows of all tables
 abbrev pub tables_of : Step → List (List (List Value))
-tables_of s = stored s.course.now.setting.db.now
+tables_of s = stored s.course.now.setting.bound.now.db.now
 
 -- the rows taken, the last first
 abbrev pub rows_before : Step → List Placed
@@ -23,11 +23,11 @@ rows_before s = placed s.taken.now
 
 -- the query of whose atom a row is looked for
 abbrev pub look_query : Look → Query
-look_query l = l.setting.now.query.now
+look_query l = l.setting.now.bound.now.query.now
 
 -- the stored rows of all tables
 abbrev pub look_tables : Look → List (List (List Value))
-look_tables l = stored l.setting.now.db.now
+look_tables l = stored l.setting.now.bound.now.db.now
 
 -- the rows taken, the last first
 abbrev pub look_taken : Look → List Placed

@@ -7,7 +7,7 @@ use Rattle.cqa_value.specs.declared.value.Value.TheVariants.{Int}
 use Rattle.cqa_value.specs.Values.{row_cmp}
 use Rattle.cqa_model.specs.Database.{stored}
 use Rattle.cqa_model.specs.Plan.{Placed, PlanHolds}
-use Rattle.plan_rows.specs.Once.{value_set}
+use Rattle.bound_query.specs.Once.{value_set}
 use Rattle.plan_rows.specs.Taking.{taken_value, AreAgreed}
 use Rattle.plan_rows.specs.Left.{IsSettled}
 use Rattle.plan_rows.specs.declared.course.Course.{Course}
@@ -20,7 +20,7 @@ atoms_of (t ∷ ts) = atoms_of ts ++ t.atom ∷ []
 
 -- rows of the first atoms of an order were taken, and a rest of it is left
 pub record IsUnderway (s : Course) (rows : List Placed) (left : List ℕ) : Type 0 where
-  pub agreed : AreAgreed s.setting.query.now rows
+  pub agreed : AreAgreed s.setting.bound.now.query.now rows
   pub place : s.order.now ≡ atoms_of rows ++ left
 
 -- they were in one way at most
@@ -31,13 +31,13 @@ underway_once s rows left = hlevel (value_set, props)
 -- the candidate unless no answer column is of its atoms
 pub record IsKey (s : Course) (taken : List Placed) (plan : List ℕ) (row key : List Value) : Type 0 where
   pub settled : Bool
-  pub says : IsTrue settled ↔ IsSettled s.setting.query.now plan
+  pub says : IsTrue settled ↔ IsSettled s.setting.bound.now.query.now plan
   pub there : length taken < length s.shared.now
   pub is : key ≡ Int (pos (length plan)) ∷ map (taken_value taken) (slice_index_or s.shared.now (length taken) []) ++ (if settled then [] else row)
 
 -- what was decided under a key is so for each rest, rows taken and candidate of that key
 abbrev pub IsRemembered : Course → List Value → Bool → Type 0
-IsRemembered s key held = (taken : List Placed) (plan : List ℕ) (row : List Value) → IsUnderway s taken plan → IsKey s taken plan row key → IsTrue held ↔ PlanHolds s.setting.query.now (stored s.setting.db.now) row taken plan
+IsRemembered s key held = (taken : List Placed) (plan : List ℕ) (row : List Value) → IsUnderway s taken plan → IsKey s taken plan row key → IsTrue held ↔ PlanHolds s.setting.bound.now.query.now (stored s.setting.bound.now.db.now) row taken plan
 
 -- all that is remembered was decided
 abbrev pub IsRight : Course → Memo → Type 0

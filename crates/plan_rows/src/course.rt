@@ -22,18 +22,18 @@ pub struct Course<'a> {
     pub order: &'a [u32],
     pub shared: &'a [Items<ColRef>],
     pub ways: &'a [Items<Link<'a>>],
-    pub ghost atoms: { AreAtoms setting.query.now order.now },
-    pub ghost shares: { ∥ AreShared setting.query.now order.now shared.now ∥₁ },
-    pub ghost linked: { ∥ AreWays setting.query.now setting.db.now order.now ways.now ∥₁ },
+    pub ghost atoms: { AreAtoms setting.bound.now.query.now order.now },
+    pub ghost shares: { ∥ AreShared setting.bound.now.query.now order.now shared.now ∥₁ },
+    pub ghost linked: { ∥ AreWays setting.bound.now.query.now setting.bound.now.db.now order.now ways.now ∥₁ },
 }
 
 /// How many rows the tables of a query's atoms have, a table counted once for each of its atoms.
 fn row_total(setting: &Setting<'_>) -> u64
-    ensures { result ≤ length setting.now.query.now.atoms * MOST_ROWS }
+    ensures { result ≤ length setting.now.bound.now.query.now.atoms * MOST_ROWS }
 {
     let mut rows = 0;
-    for atom in setting.query.atoms.as_slice() {
-        rows += setting.db.rows(atom.table).len() as u64;
+    for atom in setting.bound.query.atoms.as_slice() {
+        rows += setting.bound.db.rows(atom.table).len() as u64;
     }
     rows
 }

@@ -18,11 +18,11 @@ use key_closure::AtomSet;
 
 /// Whether two atoms have columns that are linked.
 fn are_joined(setting: &Setting<'_>, atom: u32, other: u32) -> bool
-    requires atom { atom < length setting.now.query.now.atoms }
-    requires other { other < length setting.now.query.now.atoms }
-    ensures { IsFalse result → AreUnlinked setting.now.query.now atom other }
+    requires atom { atom < length setting.now.bound.now.query.now.atoms }
+    requires other { other < length setting.now.bound.now.query.now.atoms }
+    ensures { IsFalse result → AreUnlinked setting.now.bound.now.query.now atom other }
 {
-    for col in 0..width_of(setting.query, other) {
+    for col in 0..width_of(setting.bound.query, other) {
         if is_linked_to(setting, atom, ColRef { atom: other, col }) {
             return true;
         }
@@ -32,10 +32,10 @@ fn are_joined(setting: &Setting<'_>, atom: u32, other: u32) -> bool
 
 /// Whether an atom is joined to one of a group.
 fn is_joined(setting: &Setting<'_>, group: &AtomSet, atom: u32) -> bool
-    requires { atom < length setting.now.query.now.atoms }
-    ensures { IsFalse result → (F : ℕ) → F < length setting.now.query.now.atoms → HasAtom group.now F → AreUnlinked setting.now.query.now F atom }
+    requires { atom < length setting.now.bound.now.query.now.atoms }
+    ensures { IsFalse result → (F : ℕ) → F < length setting.now.bound.now.query.now.atoms → HasAtom group.now F → AreUnlinked setting.now.bound.now.query.now F atom }
 {
-    for other in 0..setting.query.atoms.len() as u32 {
+    for other in 0..setting.bound.query.atoms.len() as u32 {
         if group.has(other) && are_joined(setting, other, atom) {
             return true;
         }
@@ -45,8 +45,8 @@ fn is_joined(setting: &Setting<'_>, group: &AtomSet, atom: u32) -> bool
 
 /// The first of some atoms that is outside of a group and joined to one of it.
 fn next_joined(setting: &Setting<'_>, group: &AtomSet, atoms: &[u32]) -> Option<u32>
-    requires { AreAtoms setting.now.query.now atoms.now }
-    ensures { MatchOption result (IsClosed setting.now.query.now group.now atoms.now) (λ F. F < length setting.now.query.now.atoms) }
+    requires { AreAtoms setting.now.bound.now.query.now atoms.now }
+    ensures { MatchOption result (IsClosed setting.now.bound.now.query.now group.now atoms.now) (λ F. F < length setting.now.bound.now.query.now.atoms) }
 {
     for atom in atoms {
         if !group.has(*atom) && is_joined(setting, group, *atom) {
@@ -58,9 +58,9 @@ fn next_joined(setting: &Setting<'_>, group: &AtomSet, atoms: &[u32]) -> Option<
 
 /// An atom with those of others that chains of joins link to it.
 fn group_of(setting: &Setting<'_>, atom: u32, atoms: &[u32]) -> AtomSet
-    requires atom { atom < length setting.now.query.now.atoms }
-    requires atoms { AreAtoms setting.now.query.now atoms.now }
-    ensures { IsClosed setting.now.query.now result atoms.now }
+    requires atom { atom < length setting.now.bound.now.query.now.atoms }
+    requires atoms { AreAtoms setting.now.bound.now.query.now atoms.now }
+    ensures { IsClosed setting.now.bound.now.query.now result atoms.now }
 {
     let mut group = AtomSet::new();
     group.insert_if(atom, true);
@@ -102,9 +102,9 @@ fn add_group(
     atoms: &[u32],
     order: &mut Vec<u32>,
 ) -> Result<Vec<u32>, NoMemory>
-    requires atom { atom < length setting.now.query.now.atoms }
-    requires atoms { AreAtoms setting.now.query.now atoms.now }
-    ensures { IfOk result (λ others. IsSplit setting.now.query.now atoms.now order.old.items order.new.items others.items) }
+    requires atom { atom < length setting.now.bound.now.query.now.atoms }
+    requires atoms { AreAtoms setting.now.bound.now.query.now atoms.now }
+    ensures { IfOk result (λ others. IsSplit setting.now.bound.now.query.now atoms.now order.old.items order.new.items others.items) }
 {
     let group = group_of(setting, atom, atoms);
     let mut others = Vec::new(setting.alloc);
@@ -119,9 +119,9 @@ fn add_groups(
     atoms: &[u32],
     order: &mut Vec<u32>,
 ) -> Result<(), NoMemory>
-    requires first { first < length setting.now.query.now.atoms }
-    requires atoms { AreAtoms setting.now.query.now atoms.now }
-    ensures { OnOk result (GoesOnAlike setting.now.query.now atoms.now order.old.items order.new.items) }
+    requires first { first < length setting.now.bound.now.query.now.atoms }
+    requires atoms { AreAtoms setting.now.bound.now.query.now atoms.now }
+    ensures { OnOk result (GoesOnAlike setting.now.bound.now.query.now atoms.now order.old.items order.new.items) }
 {
     let mut left = Vec::from_slice(setting.alloc, atoms)?;
     let mut atom = first;
@@ -140,8 +140,8 @@ fn add_groups(
 
 /// An order of the same atoms that begins with the same one, and in which those that chains of joins link stand together.
 fn grouped(setting: &Setting<'_>, order: &[u32]) -> Result<Vec<u32>, NoMemory>
-    requires { AreAtoms setting.now.query.now order.now }
-    ensures { IfOk result (λ other. IsRegrouped setting.now.query.now order.now other.items) }
+    requires { AreAtoms setting.now.bound.now.query.now order.now }
+    ensures { IfOk result (λ other. IsRegrouped setting.now.bound.now.query.now order.now other.items) }
 {
     let mut other = Vec::new(setting.alloc);
     match order {
@@ -160,10 +160,10 @@ pub fn grouped_along(
     order: &[u32],
     ways: &[Items<Link<'_>>],
 ) -> Option<Vec<u32>>
-    requires order { AreAtoms setting.now.query.now order.now }
-    requires ways { AreWays setting.now.query.now setting.now.db.now order.now ways.now }
-    ensures same { IfSome result (λ other. IsRegrouped setting.now.query.now order.now other.items) }
-    ensures ways { IfSome result (λ other. AreWays setting.now.query.now setting.now.db.now other.items ways.now) }
+    requires order { AreAtoms setting.now.bound.now.query.now order.now }
+    requires ways { AreWays setting.now.bound.now.query.now setting.now.bound.now.db.now order.now ways.now }
+    ensures same { IfSome result (λ other. IsRegrouped setting.now.bound.now.query.now order.now other.items) }
+    ensures ways { IfSome result (λ other. AreWays setting.now.bound.now.query.now setting.now.bound.now.db.now other.items ways.now) }
 {
     match grouped(setting, order) {
         Ok(other) => {

@@ -54,11 +54,11 @@ fn told_by_row<'b>(
     row: &'b Row,
     column: ColRef,
 ) -> Option<&'b Value>
-    requires column { IsInRange setting.now.query.now.atoms column }
-    requires other { other < length setting.now.query.now.atoms }
-    ensures { IfSome result (λ value. (y : List Cell) → ColumnAgrees setting.now.query.now y column row.now other (atom_at setting.now.query.now other).width → slice_index_or y column.col nothing ≡ value.now) }
+    requires column { IsInRange setting.now.bound.now.query.now.atoms column }
+    requires other { other < length setting.now.bound.now.query.now.atoms }
+    ensures { IfSome result (λ value. (y : List Cell) → ColumnAgrees setting.now.bound.now.query.now y column row.now other (atom_at setting.now.bound.now.query.now other).width → slice_index_or y column.col nothing ≡ value.now) }
 {
-    for j in 0..width_of(setting.query, other) {
+    for j in 0..width_of(setting.bound.query, other) {
         let linked_column = ColRef {
             atom: other,
             col: j,
@@ -72,9 +72,9 @@ fn told_by_row<'b>(
 
 /// The value that some row taken tells of a column.
 fn told_by_taken<'b>(setting: &Setting<'_>, taken: &Taken<'b>, column: ColRef) -> Option<&'b Value>
-    requires column { IsInRange setting.now.query.now.atoms column }
-    requires taken { AreOfAtoms setting.now.query.now (placed taken.now) }
-    ensures { IfSome result (λ value. (y : List Cell) → AgreesAll setting.now.query.now column.atom y (placed taken.now) → slice_index_or y column.col nothing ≡ value.now) }
+    requires column { IsInRange setting.now.bound.now.query.now.atoms column }
+    requires taken { AreOfAtoms setting.now.bound.now.query.now (placed taken.now) }
+    ensures { IfSome result (λ value. (y : List Cell) → AgreesAll setting.now.bound.now.query.now column.atom y (placed taken.now) → slice_index_or y column.col nothing ≡ value.now) }
 {
     match taken {
         Taken::Nothing => None,
@@ -108,14 +108,14 @@ fn known<'b>(look: &Look<'b>, row: Option<&'b Row>, col: u32) -> Option<&'b Valu
         atom: look.atom,
         col,
     };
-    if let Some(value) = told(setting.query.conds.as_slice(), column) {
+    if let Some(value) = told(setting.bound.query.conds.as_slice(), column) {
         return Some(value);
     }
     if let Some(value) = told_by_taken(setting, look.taken, column) {
         return Some(value);
     }
     match row {
-        Some(row) => told_by_answer(setting.query, row, column),
+        Some(row) => told_by_answer(setting.bound.query, row, column),
         None => None,
     }
 }
@@ -126,7 +126,7 @@ pub fn known_values<'b>(look: &Look<'b>, row: Option<&'b Row>, columns: &[u32]) 
     ensures known { (y : List Cell) → MayFit (look_query look.now) (option_copied row.entry) (look_taken look.now) look.now.atom y → first_key columns.now result y ≡ result }
 {
     let setting = look.setting;
-    let width = width_of(setting.query, look.atom);
+    let width = width_of(setting.bound.query, look.atom);
     let mut probe = Probe::new(setting.alloc);
     for col in columns {
         if *col >= width || probe.len() == MOST_COLUMNS {

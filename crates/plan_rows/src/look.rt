@@ -12,6 +12,6 @@ pub struct Look<'a> {
     pub setting: &'a Setting<'a>,
     pub taken: &'a Taken<'a>,
     pub atom: u32,
-    pub ghost of_atoms: { AreOfAtoms setting.now.query.now (placed taken.now) },
-    pub ghost there: { atom < length setting.now.query.now.atoms },
+    pub ghost of_atoms: { AreOfAtoms setting.now.bound.now.query.now (placed taken.now) },
+    pub ghost there: { atom < length setting.now.bound.now.query.now.atoms },
 }

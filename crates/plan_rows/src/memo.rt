@@ -131,7 +131,7 @@ impl Memo {
         if self.turns > 0 && !columns.is_empty() {
             return None;
         }
-        let settled = are_settled(course.setting.query, plan);
+        let settled = are_settled(course.setting.bound.query, plan);
         if self.turns > 0 && !settled && self.candidates == Candidates::Many {
             return None;
         }

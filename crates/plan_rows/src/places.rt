@@ -42,9 +42,9 @@ impl<'x> Places<'x> {
         ensures { AreThere (look_query look.now) (look_tables look.now) (option_copied row.entry) (look_taken look.now) [] look.now.atom (look_rows look.now) result }
     {
         let setting = look.setting;
-        let values = known_values(look, row, key_columns(setting.query, look.atom));
-        let table = table_of(setting.query, look.atom);
-        let (start, rows) = setting.db.rows_with(table, &values);
+        let values = known_values(look, row, key_columns(setting.bound.query, look.atom));
+        let table = table_of(setting.bound.query, look.atom);
+        let (start, rows) = setting.bound.db.rows_with(table, &values);
         Places {
             start: start as usize,
             end: start as usize + rows.len(),
@@ -92,7 +92,7 @@ impl<'x> Places<'x> {
         links: &'x [Link<'x>],
     ) -> Option<Places<'x>>
         requires path { IfSome path (λ x. x.now.rows ≡ look_rows look.now) }
-        requires links { AreLinks (look_query look.now) look.now.setting.now.db.now links.now }
+        requires links { AreLinks (look_query look.now) look.now.setting.now.bound.now.db.now links.now }
         ensures { IfSome result (AreThere (look_query look.now) (look_tables look.now) (option_copied row.entry) (look_taken look.now) (atoms_on links.now) look.now.atom (look_rows look.now)) }
     {
         if links.is_empty() {
@@ -101,7 +101,11 @@ impl<'x> Places<'x> {
         let setting = look.setting;
         let places = reached_places(look, row, path, links)?;
         let wanted = Wanted::Listed(places);
-        let end = setting.db.rows(table_of(setting.query, look.atom)).len();
+        let end = setting
+            .bound
+            .db
+            .rows(table_of(setting.bound.query, look.atom))
+            .len();
         Some(Places {
             start: wanted.first(end),
             end,
@@ -117,7 +121,7 @@ impl<'x> Places<'x> {
         links: &'x [Link<'x>],
     ) -> Places<'x>
         requires path { IfSome path (λ x. x.now.rows ≡ look_rows look.now) }
-        requires links { AreLinks (look_query look.now) look.now.setting.now.db.now links.now }
+        requires links { AreLinks (look_query look.now) look.now.setting.now.bound.now.db.now links.now }
         ensures { AreThere (look_query look.now) (look_tables look.now) (option_copied row.entry) (look_taken look.now) (atoms_on links.now) look.now.atom (look_rows look.now) result }
     {
         if let Some(places) = Places::by_index(look, row, path) {

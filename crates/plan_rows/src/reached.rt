@@ -49,7 +49,10 @@ fn add_places(
     ensures added { OnOk result (HasReached (look_query look.now) (look_tables look.now) (option_copied row.entry) (look_taken look.now) [] look.now.atom found.new) }
 {
     let setting = look.setting;
-    let rows = setting.db.rows(table_of(setting.query, look.atom));
+    let rows = setting
+        .bound
+        .db
+        .rows(table_of(setting.bound.query, look.atom));
     let mut at = places.start;
     while at < places.end {
         add_place(look, row, at as u32, rows.get(at), found)?;
@@ -85,7 +88,7 @@ fn add_reached<'x>(
     found: &mut PlaceSet,
 ) -> Result<(), NoMemory>
     requires path { IfSome path (λ x. x.now.rows ≡ look_rows look.now) }
-    requires links { AreLinks (look_query look.now) look.now.setting.now.db.now links.now }
+    requires links { AreLinks (look_query look.now) look.now.setting.now.bound.now.db.now links.now }
     ensures kept { OnOk result ((p : ℕ) → Contains found.old p → Contains found.new p) }
     ensures added { OnOk result (HasReached (look_query look.now) (look_tables look.now) (option_copied row.entry) (look_taken look.now) (atoms_on links.now) look.now.atom found.new) }
 {
@@ -117,12 +120,12 @@ fn add_guesses<'x>(
     requires path { IfSome path (λ x. x.now.rows ≡ look_rows look.now) }
     requires atom { atom < length (look_query look.now).atoms }
     requires places { AreThere (look_query look.now) (look_tables look.now) (option_copied row) (look_taken look.now) [] atom (rows_of (look_query look.now) (look_tables look.now) atom) places.now }
-    requires later { AreLinks (look_query look.now) look.now.setting.now.db.now later.now }
+    requires later { AreLinks (look_query look.now) look.now.setting.now.bound.now.db.now later.now }
     ensures kept { OnOk result ((p : ℕ) → Contains found.old p → Contains found.new p) }
     ensures added { OnOk result (HasReached (look_query look.now) (look_tables look.now) (option_copied row.entry) (look_taken look.now) (atom ∷ atoms_on later.now) look.now.atom found.new) }
 {
     let setting = look.setting;
-    let rows = setting.db.rows(table_of(setting.query, atom));
+    let rows = setting.bound.db.rows(table_of(setting.bound.query, atom));
     let mut place = places.start;
     while place < places.end {
         add_guess(look, row, path, atom, rows.get(place), later, found)?;
@@ -144,7 +147,7 @@ fn add_guess<'x>(
 ) -> Result<(), NoMemory>
     requires path { IfSome path (λ x. x.now.rows ≡ look_rows look.now) }
     requires atom { atom < length (look_query look.now).atoms }
-    requires later { AreLinks (look_query look.now) look.now.setting.now.db.now later.now }
+    requires later { AreLinks (look_query look.now) look.now.setting.now.bound.now.db.now later.now }
     ensures kept { OnOk result ((p : ℕ) → Contains found.old p → Contains found.new p) }
     ensures added { OnOk result (MayFit (look_query look.now) (option_copied row.entry) (look_taken look.now) atom z.now →
         HasReached (look_query look.now) (look_tables look.now) (option_copied row.entry) (record { atom = atom; row = z.now } ∷ look_taken look.now) (atoms_on later.now) look.now.atom found.new) }
@@ -174,7 +177,7 @@ pub fn reached_places<'x>(
     links: &'x [Link<'x>],
 ) -> Option<Vec<u32>>
     requires path { IfSome path (λ x. x.now.rows ≡ look_rows look.now) }
-    requires links { AreLinks (look_query look.now) look.now.setting.now.db.now links.now }
+    requires links { AreLinks (look_query look.now) look.now.setting.now.bound.now.db.now links.now }
     ensures ascending { IfSome result (λ places. IsStrictlySortedBy nat_cmp places.items) }
     ensures all { IfSome result (λ places. HasReached (look_query look.now) (look_tables look.now) (option_copied row.entry) (look_taken look.now) (atoms_on links.now) look.now.atom places.items) }
 {

@@ -1,28 +1,20 @@
-//! What a plan is evaluated over: a database, a query that fits it, and what was prepared for the two.
+//! What a plan is evaluated over: a query that fits a database, and what was prepared for the two.
 
 ghost use Rattle.std.specs.Prelude.{◌≡◌, ◌<◌, IfSome, Some, None, length, slice_index_or};
-ghost use Rattle.cqa_model.specs.Query.{FitsDatabase};
-ghost use Rattle.cqa_model.specs.Naming.{AreVariables};
 ghost use Rattle.join_access.specs.Spots.{ArePaths};
-ghost use Rattle.plan_rows.specs.Once.{fits_once};
 
-use cqa_model::{ColRef, Query, Variables};
+use bound_query::Bound;
+use cqa_model::ColRef;
 use join_access::{RowIndex, are_linked};
 use std::alloc::Global;
-use table_blocks::Database;
 
-/// A database and a query that fits it, with the query's variables and with indexes of the tables of its atoms, where
-/// there are some.
+/// A query that fits a database, with indexes of the tables of its atoms, where there are some.
 #[derive(Drop)]
 pub struct Setting<'a> {
     pub alloc: Global,
-    pub db: &'a Database,
-    pub query: &'a Query,
-    pub variables: Variables,
+    pub bound: &'a Bound<'a>,
     pub paths: &'a [Option<RowIndex<'a>>],
-    pub ghost fits: { FitsDatabase query.now db.now } by { fits_once query.now db.now },
-    pub ghost named: { ∥ AreVariables query.now variables ∥₁ },
-    pub ghost indexed: { ArePaths query.now db.now paths.now },
+    pub ghost indexed: { ArePaths bound.now.query.now bound.now.db.now paths.now },
 }
 
 /// The index at a place, if there is one.
@@ -46,16 +38,16 @@ impl<'a> Setting<'a> {
 
     /// Whether two columns of the query are of one variable.
     pub fn are_linked(&self, a: ColRef, b: ColRef) -> bool
-        requires a { IsInRange self.now.query.now.atoms a }
-        requires b { IsInRange self.now.query.now.atoms b }
-        ensures { IsTrue result ↔ AreLinked self.now.query.now a b }
+        requires a { IsInRange self.now.bound.now.query.now.atoms a }
+        requires b { IsInRange self.now.bound.now.query.now.atoms b }
+        ensures { IsTrue result ↔ AreLinked self.now.bound.now.query.now a b }
     {
-        are_linked(self.query, &self.variables, a, b)
+        are_linked(self.bound.query, &self.bound.variables, a, b)
     }
 
     /// The index of an atom's table, if there is one.
     pub fn index_of(&self, atom: u32) -> Option<&'a RowIndex<'a>>
-        ensures { IfSome result (λ x. x.now.rows ≡ rows_of self.now.query.now (stored self.now.db.now) atom) }
+        ensures { IfSome result (λ x. x.now.rows ≡ rows_of self.now.bound.now.query.now (stored self.now.bound.now.db.now) atom) }
     {
         path_of(self.paths, atom as usize)
     }

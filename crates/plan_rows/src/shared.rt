@@ -14,11 +14,11 @@ use join_access::width_of;
 
 /// Whether an atom has a column that is linked to this one.
 pub(crate) fn is_linked_to(setting: &Setting<'_>, atom: u32, column: ColRef) -> bool
-    requires atom { atom < length setting.now.query.now.atoms }
-    requires column { IsInRange setting.now.query.now.atoms column }
-    ensures { IsTrue result ↔ (i : ℕ) × (i < (atom_at setting.now.query.now atom).width) × AreLinked setting.now.query.now (record { atom = atom; col = i }) column }
+    requires atom { atom < length setting.now.bound.now.query.now.atoms }
+    requires column { IsInRange setting.now.bound.now.query.now.atoms column }
+    ensures { IsTrue result ↔ (i : ℕ) × (i < (atom_at setting.now.bound.now.query.now atom).width) × AreLinked setting.now.bound.now.query.now (record { atom = atom; col = i }) column }
 {
-    for col in 0..width_of(setting.query, atom) {
+    for col in 0..width_of(setting.bound.query, atom) {
         if setting.are_linked(ColRef { atom, col }, column) {
             return true;
         }
@@ -28,9 +28,9 @@ pub(crate) fn is_linked_to(setting: &Setting<'_>, atom: u32, column: ColRef) -> 
 
 /// Whether one of these atoms has a column that is linked to this one.
 pub fn is_told(setting: &Setting<'_>, atoms: &[u32], column: ColRef) -> bool
-    requires atoms { AreAtoms setting.now.query.now atoms.now }
-    requires column { IsInRange setting.now.query.now.atoms column }
-    ensures { IsTrue result ↔ IsTold setting.now.query.now atoms.now column }
+    requires atoms { AreAtoms setting.now.bound.now.query.now atoms.now }
+    requires column { IsInRange setting.now.bound.now.query.now.atoms column }
+    ensures { IsTrue result ↔ IsTold setting.now.bound.now.query.now atoms.now column }
 {
     for atom in atoms {
         if is_linked_to(setting, *atom, column) {
@@ -47,10 +47,10 @@ fn add_column(
     others: &[u32],
     columns: &mut Vec<ColRef>,
 ) -> Result<(), NoMemory>
-    requires column { IsInRange setting.now.query.now.atoms column }
-    requires others { AreAtoms setting.now.query.now others.now }
+    requires column { IsInRange setting.now.bound.now.query.now.atoms column }
+    requires others { AreAtoms setting.now.bound.now.query.now others.now }
     ensures kept { OnOk result ((c : Column) → Contains columns.old.items c → Contains columns.new.items c) }
-    ensures added { OnOk result (IsTold setting.now.query.now others.now column → Contains columns.new.items column) }
+    ensures added { OnOk result (IsTold setting.now.bound.now.query.now others.now column → Contains columns.new.items column) }
 {
     if !is_told(setting, others, column) {
         return Ok(());
@@ -66,12 +66,12 @@ fn add_shared(
     others: &[u32],
     columns: &mut Vec<ColRef>,
 ) -> Result<(), NoMemory>
-    requires atom { atom < length setting.now.query.now.atoms }
-    requires others { AreAtoms setting.now.query.now others.now }
+    requires atom { atom < length setting.now.bound.now.query.now.atoms }
+    requires others { AreAtoms setting.now.bound.now.query.now others.now }
     ensures kept { OnOk result ((c : Column) → Contains columns.old.items c → Contains columns.new.items c) }
-    ensures added { OnOk result ((j : ℕ) → j < (atom_at setting.now.query.now atom).width → IsTold setting.now.query.now others.now (record { atom = atom; col = j }) → Contains columns.new.items (record { atom = atom; col = j })) }
+    ensures added { OnOk result ((j : ℕ) → j < (atom_at setting.now.bound.now.query.now atom).width → IsTold setting.now.bound.now.query.now others.now (record { atom = atom; col = j }) → Contains columns.new.items (record { atom = atom; col = j })) }
 {
-    for col in 0..width_of(setting.query, atom) {
+    for col in 0..width_of(setting.bound.query, atom) {
         add_column(setting, ColRef { atom, col }, others, columns)?;
     }
     Ok(())
@@ -79,9 +79,9 @@ fn add_shared(
 
 /// The columns of atoms that are linked to columns of others.
 fn shared_of(setting: &Setting<'_>, front: &[u32], rest: &[u32]) -> Result<Items<ColRef>, NoMemory>
-    requires front { AreAtoms setting.now.query.now front.now }
-    requires rest { AreAtoms setting.now.query.now rest.now }
-    ensures { IfOk result (HasShared setting.now.query.now front.now rest.now) }
+    requires front { AreAtoms setting.now.bound.now.query.now front.now }
+    requires rest { AreAtoms setting.now.bound.now.query.now rest.now }
+    ensures { IfOk result (HasShared setting.now.bound.now.query.now front.now rest.now) }
 {
     let mut columns = Vec::new(setting.alloc);
     for atom in front {
@@ -96,8 +96,8 @@ fn shared_of(setting: &Setting<'_>, front: &[u32], rest: &[u32]) -> Result<Items
 ///
 /// `NoMemory` where memory is refused.
 pub fn shared_columns(setting: &Setting<'_>, order: &[u32]) -> Result<Vec<Items<ColRef>>, NoMemory>
-    requires { AreAtoms setting.now.query.now order.now }
-    ensures { IfOk result (λ shared. AreShared setting.now.query.now order.now shared.items) }
+    requires { AreAtoms setting.now.bound.now.query.now order.now }
+    ensures { IfOk result (λ shared. AreShared setting.now.bound.now.query.now order.now shared.items) }
 {
     let mut shared = Vec::new(setting.alloc);
     for count in 0..order.len() {
@@ -109,8 +109,8 @@ pub fn shared_columns(setting: &Setting<'_>, order: &[u32]) -> Result<Vec<Items<
 
 /// The same lists, or none where memory is refused.
 pub fn shared_or_none(setting: &Setting<'_>, order: &[u32]) -> Vec<Items<ColRef>>
-    requires { AreAtoms setting.now.query.now order.now }
-    ensures { AreShared setting.now.query.now order.now result.items }
+    requires { AreAtoms setting.now.bound.now.query.now order.now }
+    ensures { AreShared setting.now.bound.now.query.now order.now result.items }
 {
     match shared_columns(setting, order) {
         Ok(shared) => shared,

@@ -26,7 +26,7 @@ pub struct Step<'a> {
     pub atom: u32,
     pub rest: &'a [u32],
     pub ghost underway: { IsUnderway course.now (placed taken.now) (atom ∷ rest.now) } by { underway_once course.now (placed taken.now) (atom ∷ rest.now) },
-    pub ghost there: { atom < length course.now.setting.query.now.atoms },
+    pub ghost there: { atom < length course.now.setting.bound.now.query.now.atoms },
 }
 
 impl<'a> Step<'a> {
@@ -50,7 +50,7 @@ impl<'a> Step<'a> {
     /// The later atoms by which the next one is linked to the rows taken; none where it is linked to them itself, or no links
     /// were made.
     pub fn links(&self) -> &'a [Link<'a>]
-        ensures links { AreLinks (query_of self.now) self.now.course.now.setting.db.now result.now }
+        ensures links { AreLinks (query_of self.now) self.now.course.now.setting.bound.now.db.now result.now }
         ensures behind { (F : ℕ) → Contains (atoms_on result.now) F → Contains self.now.rest.now F }
     {
         links_on(self.course.ways, self.atom)

@@ -2,11 +2,12 @@
 
 ghost use Rattle.std.specs.Prelude.{IfOk};
 ghost use Rattle.cqa_model.specs.Variables.{whole};
+ghost use Rattle.cqa_model.specs.Naming.{AreVariables};
 ghost use Rattle.key_closure.specs.Members.{AreSame, seen};
 ghost use Rattle.query_strategy.specs.Strategies.{HasNoPlan, IsStrategyOf, TakesPlan};
 
 use crate::pair::is_pair;
-use cqa_model::{Plan, Query, variables};
+use cqa_model::{Plan, Query, Variables};
 use cqa_value::NoMemory;
 use fo_rewrite::{elimination_in, plan_in};
 use key_closure::{Named, View};
@@ -37,19 +38,24 @@ fn without_plan(named: &Named<'_>) -> Strategy
     }
 }
 
-/// The method of a query, whose order is its plan: by a plan exactly where its attacks have no cycle, as a pair exactly where its
-/// two atoms attack each other weakly, and else by search. The attacks are computed once.
+/// The method of a query with these variables, whose order is its plan: by a plan exactly where its attacks have no cycle, as a
+/// pair exactly where its two atoms attack each other weakly, and else by search. The attacks are computed once.
 ///
 /// # Errors
 ///
 /// `NoMemory` where memory is refused.
-pub fn strategy_of(alloc: Global, query: &Query) -> Result<Strategy, NoMemory>
+pub fn strategy_of(
+    alloc: Global,
+    query: &Query,
+    variables: &Variables,
+) -> Result<Strategy, NoMemory>
+    requires { ∥ AreVariables query.now variables.now ∥₁ }
     ensures is { IfOk result (IsStrategyOf query.now) }
     ensures plan { IfOk result (TakesPlan query.now) }
 {
     let named = Named {
         query,
-        variables: variables(query),
+        variables,
         view: View::whole(query),
     };
     match plan_in(alloc, &named)? {
@@ -58,18 +64,24 @@ pub fn strategy_of(alloc: Global, query: &Query) -> Result<Strategy, NoMemory>
     }
 }
 
-/// The method of a query, whose order is good for evaluation over tables of these sizes: the rows of each atom's table, none
-/// where it is missing.
+/// The method of a query with these variables, whose order is good for evaluation over tables of these sizes: the rows of each
+/// atom's table, none where it is missing.
 ///
 /// # Errors
 ///
 /// `NoMemory` where memory is refused.
-pub fn strategy_by_sizes(alloc: Global, query: &Query, sizes: &[u32]) -> Result<Strategy, NoMemory>
+pub fn strategy_by_sizes(
+    alloc: Global,
+    query: &Query,
+    variables: &Variables,
+    sizes: &[u32],
+) -> Result<Strategy, NoMemory>
+    requires { ∥ AreVariables query.now variables.now ∥₁ }
     ensures { IfOk result (IsStrategyOf query.now) }
 {
     let named = Named {
         query,
-        variables: variables(query),
+        variables,
         view: View::whole(query),
     };
     match elimination_in(alloc, &named, sizes)? {

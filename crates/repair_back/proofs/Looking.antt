@@ -17,17 +17,17 @@ use Rattle.repair_back.proofs.Mended.{IsInWitness}
 
 module _ (way : Way) (taken : List Placed) (F : ℕ) (rest : List ℕ) (next : IsNextAtom way taken F rest) (s : Places) (h : AreLed way taken F rest s) where
   abbrev q : Query
-  q = way.course.now.setting.query.now
+  q = way.course.now.setting.bound.now.query.now
 
   abbrev db : List Table
-  db = way.course.now.setting.db.now
+  db = way.course.now.setting.bound.now.db.now
 
   abbrev pub IsHeld : ℕ → Type 0
   IsHeld i = IsInWitness q db way.row.now taken F (get_or (rows_on way F) i [])
 
   led : (i : ℕ) → IsHeld i → LeadsTo q (stored db) (Some way.row.now) taken h.0 F (get_or (rows_on way F) i [])
   led i (w, p, e) = subst (λ y. LeadsTo q (stored db) (Some way.row.now) taken h.0 F y) e
-      (witnesses_are_reached db q (stored db) way.row.now taken F h.0 w way.course.now.setting.fits way.long (λ G x has m. m)
+      (witnesses_are_reached db q (stored db) way.row.now taken F h.0 w way.course.now.setting.bound.now.fits way.long (λ G x has m. m)
       (λ G m. (plan-has q (after q (view_of q taken) F) rest next.plan G (h.1 G m)).0) p)
 
   -- no row outside of the places is in a witness

@@ -13,44 +13,44 @@ use Rattle.repair_back.specs.Mending.{HasNone, HasNoneFrom, Lacks, IsReached}
 
 -- the stored rows of an atom
 abbrev pub rows_on : Way → ℕ → List (List Value)
-rows_on way F = rows_of way.course.now.setting.query.now (stored way.course.now.setting.db.now) F
+rows_on way F = rows_of way.course.now.setting.bound.now.query.now (stored way.course.now.setting.bound.now.db.now) F
 
 -- and those that are kept
 abbrev pub kept_on : Way → List (List Bool) → ℕ → List (List Value)
-kept_on way flags F = rows_of way.course.now.setting.query.now (kept_tables (stored way.course.now.setting.db.now) flags) F
+kept_on way flags F = rows_of way.course.now.setting.bound.now.query.now (kept_tables (stored way.course.now.setting.bound.now.db.now) flags) F
 
 -- the places have each row of F to which rows of some links among the rest lead
 abbrev pub AreLed : Way → List Placed → ℕ → List ℕ → Places → Type 0
 AreLed way taken F rest s = (links : List ℕ) × ((G : ℕ) → Contains links G → Contains rest G) ×
-    AreThere way.course.now.setting.query.now (stored way.course.now.setting.db.now) (Some way.row.now) taken links F (rows_on way F) s
+    AreThere way.course.now.setting.bound.now.query.now (stored way.course.now.setting.bound.now.db.now) (Some way.row.now) taken links F (rows_on way F) s
 
 -- one row is kept of each block
 abbrev pub KeepsOne : Way → List (List Bool) → Type 0
-KeepsOne way flags = AreChosen way.course.now.setting.query.now way.course.now.setting.db.now flags
+KeepsOne way flags = AreChosen way.course.now.setting.bound.now.query.now way.course.now.setting.bound.now.db.now flags
 
 -- exchanges along witnesses with these rows lead from one choice to another
 abbrev pub IsExchanged : Way → List Placed → List (List Bool) → List (List Bool) → Type 0
-IsExchanged way taken old new = IsReached way.course.now.setting.db.now way.course.now.setting.query.now way.row.now taken old new
+IsExchanged way taken old new = IsReached way.course.now.setting.bound.now.db.now way.course.now.setting.bound.now.query.now way.row.now taken old new
 
 -- no witness with these rows is kept
 abbrev pub KeepsNoWitness : Way → List Placed → List (List Bool) → Type 0
-KeepsNoWitness way taken flags = HasNone way.course.now.setting.db.now way.course.now.setting.query.now way.row.now taken flags
+KeepsNoWitness way taken flags = HasNone way.course.now.setting.bound.now.db.now way.course.now.setting.bound.now.query.now way.row.now taken flags
 
 -- none with the first rows taken, where these are at least so many
 abbrev pub IsFreeFrom : Way → List Placed → List (List Bool) → ℕ → Type 0
-IsFreeFrom way taken flags count = HasNoneFrom way.course.now.setting.db.now way.course.now.setting.query.now way.row.now taken flags count
+IsFreeFrom way taken flags count = HasNoneFrom way.course.now.setting.bound.now.db.now way.course.now.setting.bound.now.query.now way.row.now taken flags count
 
 -- none with these rows whose row of F is in x's block
 abbrev pub LacksBlock : Way → List Placed → ℕ → List (List Bool) → List Value → Type 0
-LacksBlock way taken F flags x = Lacks way.course.now.setting.db.now way.course.now.setting.query.now way.row.now taken F flags x
+LacksBlock way taken F flags x = Lacks way.course.now.setting.bound.now.db.now way.course.now.setting.bound.now.query.now way.row.now taken F flags x
 
 -- a row of F fits, and the rest of the plan holds with it
 abbrev pub HoldsWith : Way → List Placed → ℕ → List ℕ → List Value → Type 0
-HoldsWith way taken F plan y = RowHolds way.course.now.setting.query.now (stored way.course.now.setting.db.now) way.row.now taken F plan y
+HoldsWith way taken F plan y = RowHolds way.course.now.setting.bound.now.query.now (stored way.course.now.setting.bound.now.db.now) way.row.now taken F plan y
 
 -- the rest of the plan holds
 abbrev pub RestHolds : Way → List Placed → List ℕ → Type 0
-RestHolds way taken plan = PlanHolds way.course.now.setting.query.now (stored way.course.now.setting.db.now) way.row.now taken plan
+RestHolds way taken plan = PlanHolds way.course.now.setting.bound.now.query.now (stored way.course.now.setting.bound.now.db.now) way.row.now taken plan
 
 -- What mending leaves where a rest of a plan is left: one row of each block, come to by exchanges; and so many of the first
 -- rows taken as no kept witness has, or else the rest holds.

@@ -51,14 +51,14 @@ HasNoneFrom db q row taken flags count = (later first : List Placed) → taken �
 -- Some rows were taken along the way, and a rest of the plan is left.
 pub record IsHere (way : Way) (taken : List Placed) (left : List ℕ) : Type 0 where
   pub underway : IsUnderway way.course.now taken left
-  pub taken_fit : AllFit way.course.now.setting.query.now way.row.now taken
-  pub plan : IsPlan way.course.now.setting.query.now (view_of way.course.now.setting.query.now taken) left
+  pub taken_fit : AllFit way.course.now.setting.bound.now.query.now way.row.now taken
+  pub plan : IsPlan way.course.now.setting.bound.now.query.now (view_of way.course.now.setting.bound.now.query.now taken) left
 
 -- Some rows were taken along the way, and an atom that none attacks comes next, with the rest of the plan behind it.
 pub record IsNextAtom (way : Way) (taken : List Placed) (atom : ℕ) (rest : List ℕ) : Type 0 where
   pub underway : IsUnderway way.course.now taken (atom ∷ rest)
-  pub taken_fit : AllFit way.course.now.setting.query.now way.row.now taken
-  pub has : (view_of way.course.now.setting.query.now taken).has atom
-  pub free : IsUnattacked way.course.now.setting.query.now (view_of way.course.now.setting.query.now taken) atom
-  pub plan : IsPlan way.course.now.setting.query.now (after way.course.now.setting.query.now (view_of way.course.now.setting.query.now taken) atom) rest
-  pub there : atom < length way.course.now.setting.query.now.atoms
+  pub taken_fit : AllFit way.course.now.setting.bound.now.query.now way.row.now taken
+  pub has : (view_of way.course.now.setting.bound.now.query.now taken).has atom
+  pub free : IsUnattacked way.course.now.setting.bound.now.query.now (view_of way.course.now.setting.bound.now.query.now taken) atom
+  pub plan : IsPlan way.course.now.setting.bound.now.query.now (after way.course.now.setting.bound.now.query.now (view_of way.course.now.setting.bound.now.query.now taken) atom) rest
+  pub there : atom < length way.course.now.setting.bound.now.query.now.atoms

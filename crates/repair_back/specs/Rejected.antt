@@ -8,5 +8,5 @@ use Rattle.repair_back.specs.Results.{Rejects, contested_of}
 
 -- The row isn't certain: a repair holds no witness of it. Its rows in the blocks of two or more rows tell the repair, by
 -- the query's tables and then in block order; of each other block it keeps the only row.
-abbrev pub IsRejected : List Table → Query → List Value → List RowId → Type 0
-IsRejected db q row names = (kept : List RowId) × Rejects q db row kept × (names ≡ contested_of db kept)
+abbrev pub AreRejectingRows : List Table → Query → List Value → List RowId → Type 0
+AreRejectingRows db q row names = (kept : List RowId) × Rejects q db row kept × (names ≡ contested_of db kept)

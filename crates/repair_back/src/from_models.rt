@@ -2,18 +2,17 @@
 
 ghost use Rattle.std.specs.Prelude.{◌≡◌, ◌<◌, ◌⊎◌, ◌↔◌, ℕ, [], IfOk, length, slice_index_or, Contains};
 ghost use Rattle.cqa_model.specs.declared.query.RowId.{RowId as Name};
-ghost use Rattle.cqa_model.specs.Query.{FitsDatabase};
 ghost use Rattle.repair_back.specs.Flags.{IsFlagged, AreBlank};
 ghost use Rattle.repair_back.specs.Results.{IsTrueName, IsRepairOf, ArePicks, AreStored};
 
 use crate::choice::Choice;
 use crate::kept::{blank, settle_all};
 use crate::repair::{Repair, named};
-use cqa_model::{Query, RowId, variables};
+use bound_query::Bound;
+use cqa_model::RowId;
 use cqa_value::NoMemory;
 use plan_rows::Setting;
 use std::alloc::Global;
-use table_blocks::Database;
 
 /// Sets the flags of the rows that are listed with `true`.
 fn mark(kept: &mut [Choice], listed: &[RowId], model: &[bool])
@@ -40,11 +39,11 @@ fn picked(
     kept: &mut [Choice],
 ) -> Result<Repair, NoMemory>
     requires long { length listed.now ≡ length model.now }
-    requires there { AreStored setting.now.db.now listed.now }
-    requires blank { AreBlank setting.now.query.now setting.now.db.now kept.old }
-    ensures repair { IfOk result (λ repair. IsRepairOf setting.now.query.now setting.now.db.now repair.kept) }
-    ensures picks { IfOk result (λ repair. ArePicks setting.now.query.now setting.now.db.now listed.now model.now repair.kept) }
-    ensures stored { IfOk result (λ repair. AreStored setting.now.db.now repair.kept) }
+    requires there { AreStored setting.now.bound.now.db.now listed.now }
+    requires blank { AreBlank setting.now.bound.now.query.now setting.now.bound.now.db.now kept.old }
+    ensures repair { IfOk result (λ repair. IsRepairOf setting.now.bound.now.query.now setting.now.bound.now.db.now repair.kept) }
+    ensures picks { IfOk result (λ repair. ArePicks setting.now.bound.now.query.now setting.now.bound.now.db.now listed.now model.now repair.kept) }
+    ensures stored { IfOk result (λ repair. AreStored setting.now.bound.now.db.now repair.kept) }
 {
     mark(kept, listed, model);
     settle_all(setting, kept);
@@ -60,23 +59,19 @@ fn picked(
 /// `NoMemory` where memory is refused.
 pub fn from_model(
     alloc: Global,
-    db: &Database,
-    query: &Query,
+    bound: &Bound<'_>,
     listed: &[RowId],
     model: &[bool],
 ) -> Result<Repair, NoMemory>
-    requires fits { FitsDatabase query.now db.now }
     requires long { length listed.now ≡ length model.now }
-    requires there { AreStored db.now listed.now }
-    ensures repair { IfOk result (λ repair. IsRepairOf query.now db.now repair.kept) }
-    ensures picks { IfOk result (λ repair. ArePicks query.now db.now listed.now model.now repair.kept) }
-    ensures stored { IfOk result (λ repair. AreStored db.now repair.kept) }
+    requires there { AreStored bound.now.db.now listed.now }
+    ensures repair { IfOk result (λ repair. IsRepairOf bound.now.query.now bound.now.db.now repair.kept) }
+    ensures picks { IfOk result (λ repair. ArePicks bound.now.query.now bound.now.db.now listed.now model.now repair.kept) }
+    ensures stored { IfOk result (λ repair. AreStored bound.now.db.now repair.kept) }
 {
     let setting = Setting {
         alloc,
-        db,
-        query,
-        variables: variables(query),
+        bound,
         paths: &[],
     };
     let mut kept = blank(&setting)?;

@@ -8,7 +8,7 @@
 
 ghost use Rattle.std.specs.Prelude.{◌≡◌, ◌≢◌, ◌⊎◌, ℕ, ◌<◌, ◌≤◌, ◌↔◌, ◌∷◌, [], false, IfOk, IfSome, IsNone, IsSome, IsTrue, length, slice_index_or, Contains};
 ghost use Rattle.cqa_model.specs.Database.{stored};
-ghost use Rattle.cqa_model.specs.Query.{atom_at, atom_key, rows_of, FitsDatabase};
+ghost use Rattle.cqa_model.specs.Query.{atom_at, atom_key, rows_of};
 ghost use Rattle.cqa_model.specs.Certain.{IsCertain};
 ghost use Rattle.cqa_model.specs.Plan.{IsPlanOf};
 ghost use Rattle.plan_rows.specs.Taking.{placed};
@@ -26,7 +26,8 @@ use crate::choice::Choice;
 use crate::kept::{blank, settle_all};
 use crate::repair::{Repair, named};
 use crate::way::{Way, enough_for, enough_of};
-use cqa_model::{Plan, Query, variables};
+use bound_query::Bound;
+use cqa_model::Plan;
 use cqa_value::{Items, NoMemory, Row};
 use join_access::{RowIndex, table_of};
 use plan_rows::{
@@ -35,31 +36,30 @@ use plan_rows::{
 };
 use row_pieces::Rows;
 use std::alloc::Global;
-use table_blocks::Database;
 
 /// The place that is kept of a block.
 fn kept_of(setting: &Setting<'_>, atom: u32, start: usize, end: usize, kept: &[Choice]) -> usize
-    requires atom { atom < length setting.now.query.now.atoms }
-    requires chosen { AreChosen setting.now.query.now setting.now.db.now kept.now }
-    requires block { IsBlockBetween (atom_key setting.now.query.now atom) (rows_of setting.now.query.now (stored setting.now.db.now) atom) start end }
+    requires atom { atom < length setting.now.bound.now.query.now.atoms }
+    requires chosen { AreChosen setting.now.bound.now.query.now setting.now.bound.now.db.now kept.now }
+    requires block { IsBlockBetween (atom_key setting.now.bound.now.query.now atom) (rows_of setting.now.bound.now.query.now (stored setting.now.bound.now.db.now) atom) start end }
     ensures after { start ≤ result }
     ensures before { result < end }
-    ensures kept { IsFlagged (flags_of setting.now.query.now kept.now atom) result }
+    ensures kept { IsFlagged (flags_of setting.now.bound.now.query.now kept.now atom) result }
 {
-    kept[table_of(setting.query, atom) as usize].kept_in(start, end)
+    kept[table_of(setting.bound.query, atom) as usize].kept_in(start, end)
 }
 
 /// Keeps another row of an atom's table.
 fn keep(setting: &Setting<'_>, atom: u32, kept: &mut [Choice], out: usize, into: usize)
-    requires atom { atom < length setting.now.query.now.atoms }
-    requires tables { length kept.old ≡ length setting.now.db.now }
-    requires out { out < length (flags_of setting.now.query.now kept.old atom) }
-    requires into { into < length (flags_of setting.now.query.now kept.old atom) }
-    ensures size { length (flags_of setting.now.query.now kept.new atom) ≡ length (flags_of setting.now.query.now kept.old atom) }
-    ensures is { (p : ℕ) → IsFlagged (flags_of setting.now.query.now kept.new atom) p ↔ ((p ≡ into) ⊎ (IsFlagged (flags_of setting.now.query.now kept.old atom) p × (p ≢ out))) }
-    ensures others { (t : ℕ) → t ≢ (atom_at setting.now.query.now atom).table → slice_index_or kept.new t [] ≡ slice_index_or kept.old t [] }
+    requires atom { atom < length setting.now.bound.now.query.now.atoms }
+    requires tables { length kept.old ≡ length setting.now.bound.now.db.now }
+    requires out { out < length (flags_of setting.now.bound.now.query.now kept.old atom) }
+    requires into { into < length (flags_of setting.now.bound.now.query.now kept.old atom) }
+    ensures size { length (flags_of setting.now.bound.now.query.now kept.new atom) ≡ length (flags_of setting.now.bound.now.query.now kept.old atom) }
+    ensures is { (p : ℕ) → IsFlagged (flags_of setting.now.bound.now.query.now kept.new atom) p ↔ ((p ≡ into) ⊎ (IsFlagged (flags_of setting.now.bound.now.query.now kept.old atom) p × (p ≢ out))) }
+    ensures others { (t : ℕ) → t ≢ (atom_at setting.now.bound.now.query.now atom).table → slice_index_or kept.new t [] ≡ slice_index_or kept.old t [] }
 {
-    kept[table_of(setting.query, atom) as usize].exchange(out, into);
+    kept[table_of(setting.bound.query, atom) as usize].exchange(out, into);
 }
 
 /// Mends what is kept until no witness has the rows taken: how many of the first ones are enough for that; `None` where
@@ -205,8 +205,8 @@ fn mend_places<'x>(
 {
     let course = way.course;
     let setting = &course.setting;
-    let rows = setting.db.rows(table_of(setting.query, atom));
-    let key = key_columns(setting.query, atom);
+    let rows = setting.bound.db.rows(table_of(setting.bound.query, atom));
+    let key = key_columns(setting.bound.query, atom);
     let before = course.order.len() - rest.len() - 1;
     let mut at = places.start;
     let mut done = 0;
@@ -242,7 +242,7 @@ fn mend_block<'x>(
     requires chosen { KeepsOne way.now kept.old }
     requires memo { IsRight way.now.course.now memo.old }
     requires rows { rows.now ≡ rows_on way.now atom }
-    requires block { IsBlockBetween (atom_key way.now.course.now.setting.query.now atom) rows.now start end }
+    requires block { IsBlockBetween (atom_key way.now.course.now.setting.bound.now.query.now atom) rows.now start end }
     ensures memo { IsRight way.now.course.now memo.new }
     ensures mends { MendsBlock way.now (placed taken.now) atom (slice_index_or rows.now start []) ((i : ℕ) → start ≤ i → i < end → HoldsWith way.now (placed taken.now) atom rest.now (slice_index_or rows.now i [])) kept.old kept.new result }
 {
@@ -283,7 +283,7 @@ fn row_mended<'x>(
     requires memo { IsRight way.now.course.now memo.old }
     requires kept { Contains (kept_on way.now kept.old atom) y.now }
     ensures memo { IsRight way.now.course.now memo.new }
-    ensures same { flags_of way.now.course.now.setting.query.now kept.new atom ≡ flags_of way.now.course.now.setting.query.now kept.old atom }
+    ensures same { flags_of way.now.course.now.setting.bound.now.query.now kept.new atom ≡ flags_of way.now.course.now.setting.bound.now.query.now kept.old atom }
     ensures mends { MendsBlock way.now (placed taken.now) atom y.now (HoldsWith way.now (placed taken.now) atom rest.now y.now) kept.old kept.new result }
 {
     memo.turn();
@@ -316,11 +316,11 @@ fn mend_all(way: &Way<'_>, kept: &mut [Choice]) -> bool
 
 /// A repair that holds no witness of the row, from flags of which none is set yet; `None` where the row is certain.
 fn mended(way: &Way<'_>, kept: &mut [Choice]) -> Result<Option<Repair>, NoMemory>
-    requires plan { IsPlanOf way.now.course.now.setting.query.now way.now.course.now.order.now }
-    requires blank { AreBlank way.now.course.now.setting.query.now way.now.course.now.setting.db.now kept.old }
-    ensures certain { IfOk result (λ found. IsNone found ↔ IsCertain way.now.course.now.setting.db.now way.now.course.now.setting.query.now way.now.row.now) }
-    ensures rejects { IfOk result (λ found. IfSome found (λ repair. Rejects way.now.course.now.setting.query.now way.now.course.now.setting.db.now way.now.row.now repair.kept)) }
-    ensures stored { IfOk result (λ found. IfSome found (λ repair. AreStored way.now.course.now.setting.db.now repair.kept)) }
+    requires plan { IsPlanOf way.now.course.now.setting.bound.now.query.now way.now.course.now.order.now }
+    requires blank { AreBlank way.now.course.now.setting.bound.now.query.now way.now.course.now.setting.bound.now.db.now kept.old }
+    ensures certain { IfOk result (λ found. IsNone found ↔ IsCertain way.now.course.now.setting.bound.now.db.now way.now.course.now.setting.bound.now.query.now way.now.row.now) }
+    ensures rejects { IfOk result (λ found. IfSome found (λ repair. Rejects way.now.course.now.setting.bound.now.query.now way.now.course.now.setting.bound.now.db.now way.now.row.now repair.kept)) }
+    ensures stored { IfOk result (λ found. IfSome found (λ repair. AreStored way.now.course.now.setting.bound.now.db.now repair.kept)) }
 {
     let course = way.course;
     let setting = &course.setting;
@@ -341,28 +341,24 @@ fn mended(way: &Way<'_>, kept: &mut [Choice]) -> Result<Option<Repair>, NoMemory
 /// `NoMemory` where memory is refused.
 pub fn mend(
     alloc: Global,
-    db: &Database,
-    query: &Query,
+    bound: &Bound<'_>,
     plan: &Plan,
     row: &Row,
     paths: &[Option<RowIndex<'_>>],
     ways: &[Items<Link<'_>>],
 ) -> Result<Option<Repair>, NoMemory>
-    requires fits { FitsDatabase query.now db.now }
-    requires plan { IsPlanOf query.now plan.now.order }
-    requires long { length row.now ≡ length query.now.answer }
-    requires paths { ArePaths query.now db.now paths.now }
-    requires ways { AreWays query.now db.now plan.now.order ways.now }
-    ensures certain { IfOk result (λ found. IsNone found ↔ IsCertain db.now query.now row.now) }
-    ensures rejects { IfOk result (λ found. IfSome found (λ repair. Rejects query.now db.now row.now repair.kept)) }
-    ensures stored { IfOk result (λ found. IfSome found (λ repair. AreStored db.now repair.kept)) }
+    requires plan { IsPlanOf bound.now.query.now plan.now.order }
+    requires long { length row.now ≡ length bound.now.query.now.answer }
+    requires paths { ArePaths bound.now.query.now bound.now.db.now paths.now }
+    requires ways { AreWays bound.now.query.now bound.now.db.now plan.now.order ways.now }
+    ensures certain { IfOk result (λ found. IsNone found ↔ IsCertain bound.now.db.now bound.now.query.now row.now) }
+    ensures rejects { IfOk result (λ found. IfSome found (λ repair. Rejects bound.now.query.now bound.now.db.now row.now repair.kept)) }
+    ensures stored { IfOk result (λ found. IfSome found (λ repair. AreStored bound.now.db.now repair.kept)) }
 {
     let order = plan.order.as_slice();
     let setting = Setting {
         alloc,
-        db: &*db,
-        query: &*query,
-        variables: variables(query),
+        bound: &*bound,
         paths: &*paths,
     };
     let enough = enough_of(&setting, order)?;

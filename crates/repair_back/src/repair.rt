@@ -40,11 +40,11 @@ fn add_names(
 
 /// Adds the names of the rows that are kept of the query's tables.
 fn add_all(setting: &Setting<'_>, kept: &[Choice], names: &mut Vec<RowId>) -> Result<(), NoMemory>
-    requires { AreChosen setting.now.query.now setting.now.db.now kept.now }
-    ensures { OnOk result (names.new.items ≡ names.old.items ++ names_kept setting.now.query.now.atoms kept.now) }
+    requires { AreChosen setting.now.bound.now.query.now setting.now.bound.now.db.now kept.now }
+    ensures { OnOk result (names.new.items ≡ names.old.items ++ names_kept setting.now.bound.now.query.now.atoms kept.now) }
 {
-    for atom in setting.query.atoms.as_slice() {
-        let count = setting.db.rows(atom.table).len();
+    for atom in setting.bound.query.atoms.as_slice() {
+        let count = setting.bound.db.rows(atom.table).len();
         add_names(atom.table, count, &kept[atom.table as usize], names)?;
     }
     Ok(())
@@ -56,8 +56,8 @@ fn add_all(setting: &Setting<'_>, kept: &[Choice], names: &mut Vec<RowId>) -> Re
 ///
 /// `NoMemory` where memory is refused.
 pub(crate) fn named(setting: &Setting<'_>, kept: &[Choice]) -> Result<Repair, NoMemory>
-    requires { AreChosen setting.now.query.now setting.now.db.now kept.now }
-    ensures { IfOk result (λ repair. repair.kept ≡ names_kept setting.now.query.now.atoms kept.now) }
+    requires { AreChosen setting.now.bound.now.query.now setting.now.bound.now.db.now kept.now }
+    ensures { IfOk result (λ repair. repair.kept ≡ names_kept setting.now.bound.now.query.now.atoms kept.now) }
 {
     let mut names = Vec::new(setting.alloc);
     add_all(setting, kept, &mut names)?;

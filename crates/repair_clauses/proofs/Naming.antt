@@ -14,20 +14,12 @@ use Rattle.cqa_model.specs.Query.{rows_of, row_at}
 use Rattle.join_access.specs.Witnesses.{AreNamed}
 use Rattle.join_access.specs.Listing.{AreNamesOf, AreAllNames, places_of}
 use Rattle.join_access.proofs.Naming.{name}
+pub use Rattle.row_witnesses.proofs.Columns.{named-size}
 use Rattle.repair_clauses.specs.Clauses.{AreAll}
 use Rattle.repair_clauses.specs.Spans.{place_at, IsPlaced}
 use Rattle.repair_clauses.specs.Runs.{AreRowPlaces, AreColumn}
 
 module _ (db : List Table) where
-  pub named-size : (atoms : List Atom) (names : List RowId) (w : List (List Value)) → AreNamed db atoms names w → length names ≡ length atoms
-  named-size [] [] w h = refl
-  named-size [] (x ∷ names) [] h = absurd h
-  named-size [] (x ∷ names) (r ∷ w) h = absurd h
-  named-size (a ∷ atoms) [] [] h = absurd h
-  named-size (a ∷ atoms) [] (r ∷ w) h = absurd h
-  named-size (a ∷ atoms) (x ∷ names) [] h = absurd h
-  named-size (a ∷ atoms) (x ∷ names) (r ∷ w) h = ap suc (named-size atoms names w h.2)
-
   pub named-each : (atoms : List Atom) (names : List RowId) (w : List (List Value)) → AreNamed db atoms names w → (F : ℕ) → F < length atoms →
       slice_get (slice_index_or (stored db) (nth_atom atoms F).table []) (get_or (places_of names) F 0) ≡ Some (get_or w F [])
   named-each [] names w h F l = absurd (omega (arith, l))

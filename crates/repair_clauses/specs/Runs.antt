@@ -2,9 +2,9 @@
 use Rattle.std.specs.Prelude.{◌≡◌, ℕ, ◌+◌, ◌<◌, ◌≤◌, List, length, Contains, slice_index}
 use Rattle.std.specs.List.Sorted.{IsStrictlySortedBy}
 use Rattle.cqa_value.specs.declared.value.Value.{Value}
+pub use Rattle.row_witnesses.specs.Columns.{AreColumn}
 use Rattle.repair_clauses.specs.declared.span.Span.{Span}
-use Rattle.cqa_model.specs.declared.query.RowId.{RowId}
-use Rattle.repair_clauses.specs.Spans.{span_cmp, AreBasedTo, Covers, IsWholeBlock, place_at}
+use Rattle.repair_clauses.specs.Spans.{span_cmp, AreBasedTo, Covers, IsWholeBlock}
 
 -- places of rows, in order, each once
 pub record AreRowPlaces (rows : List (List Value)) (places : List ℕ) : Type 0 where
@@ -24,9 +24,3 @@ pub record AreRuns (key : List ℕ) (rows : List (List Value)) (atom base : ℕ)
   pub small : vars ≤ base + length rows
   pub each : (s : Span) → Contains spans s → IsRun key rows atom places s
   pub every : (i : ℕ) → i < length places → (s : Span) × Contains spans s × Covers s (slice_index places i)
-
--- exactly the places that the rows of an atom have in witnesses, in order, each once
-pub record AreColumn (all : List (List RowId)) (atom : ℕ) (places : List ℕ) : Type 0 where
-  pub in_order : (i j : ℕ) → i < j → j < length places → slice_index places i < slice_index places j
-  pub from : (p : ℕ) → Contains places p → (names : List RowId) × Contains all names × (place_at names atom ≡ p)
-  pub to : (names : List RowId) → Contains all names → Contains places (place_at names atom)

@@ -13,6 +13,7 @@ use Rattle.cqa_model.specs.Database.{Table, stored}
 use Rattle.cqa_model.specs.Repairs.{SharesKey}
 use Rattle.cqa_model.specs.Query.{atom_key, rows_of, row_at, IsWitness}
 use Rattle.cqa_model.specs.Formula.{IsRelevant}
+pub use Rattle.row_witnesses.specs.Columns.{place_at}
 use Rattle.repair_clauses.specs.declared.span.Span.{Span}
 use Rattle.cnf_form.specs.declared.formula.Lit.{Lit}
 use Rattle.join_access.specs.Listing.{places_of}
@@ -115,10 +116,6 @@ AreNumbers variables F (p ∷ ps) (n ∷ ns) = HasNumber variables n (at F p) ×
 -- the formula of spans, and of the numbers of the witnesses' rows
 abbrev pub formula_of : List Span → List (List ℕ) → Formula
 formula_of spans witnesses = record { variables = variables_of spans; blocks = map numbers_in spans; witnesses = witnesses }
-
--- the place of the row of an atom, among named rows
-abbrev pub place_at : List RowId → ℕ → ℕ
-place_at names F = slice_index (places_of names) F
 
 -- one of the witnesses has the row at a place of an atom
 abbrev pub IsNamed : List (List RowId) → ℕ → ℕ → Type 0

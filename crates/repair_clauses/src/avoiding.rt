@@ -2,26 +2,22 @@
 //! A row of a witness whose block has a free row is loose, since a repair can keep the free row in its place.
 //! Rows of one block stand side by side, so a free row is looked for next to rows of witnesses that stand together.
 
-ghost use Rattle.std.specs.Prelude.{◌≡◌, ◌+◌, ◌-◌, ◌⊎◌, ◌<◌, ◌≤◌, ℕ, List, [], false, true, Contains, IfOk, IsTrue, length, slice_index_or};
-ghost use Rattle.cqa_value.specs.declared.value.Value.{Value};
+ghost use Rattle.std.specs.Prelude.{◌≡◌, ◌+◌, ◌-◌, ◌⊎◌, ◌<◌, ◌≤◌, ℕ, [], false, true, Contains, IfOk, IsTrue, length, slice_index_or};
 ghost use Rattle.cqa_model.specs.Certain.{IsCertain};
-ghost use Rattle.cqa_model.specs.Query.{FitsDatabase};
 ghost use Rattle.cqa_model.specs.Repairs.{SharesKey};
-ghost use Rattle.join_access.specs.Listing.{AreAllNames, names_of};
+ghost use Rattle.join_access.specs.Listing.{names_of};
 ghost use Rattle.join_access.specs.declared.witness.Witness.{Witness as Named};
 ghost use Rattle.repair_clauses.specs.Avoiding.{AreLoose, AreMarked, IsLooseAt};
 ghost use Rattle.repair_clauses.specs.Runs.{AreRowPlaces};
 ghost use Rattle.repair_clauses.specs.Spans.{place_at};
 
-use crate::column::{column, place_of};
 use crate::relevant::atom_of;
-use cqa_model::Query;
 use cqa_value::NoMemory;
 use join_access::Witness;
 use row_blocks::goes_on;
 use row_pieces::Rows;
+use row_witnesses::{RowWitnesses, place_of};
 use std::alloc::Global;
-use table_blocks::Database;
 
 /// Whether the row at a place is loose by a free row before it. `next` is the place behind the last one that was looked at,
 /// and `last` is what was found there.
@@ -147,25 +143,27 @@ fn mark_witnesses(
 /// Marks the witnesses whose row of the atom at a place is loose.
 fn mark_atom(
     alloc: Global,
-    db: &Database,
-    query: &Query,
-    witnesses: &[Witness],
+    witnesses: &RowWitnesses<'_>,
     at: usize,
     marks: &mut Vec<bool>,
 ) -> Result<(), NoMemory>
-    requires fits { FitsDatabase query.now db.now }
-    requires all { (row : List Value) × AreAllNames query.now db.now row (names_of witnesses.now) }
-    requires there { at < length query.now.atoms }
-    requires size { length marks.old.items ≡ length witnesses.now }
-    requires marks { AreMarked query.now db.now (names_of witnesses.now) marks.old.items }
-    ensures size { IfOk result (λ done. length marks.new.items ≡ length witnesses.now) }
-    ensures marks { IfOk result (λ done. AreMarked query.now db.now (names_of witnesses.now) marks.new.items) }
+    requires there { at < length witnesses.now.bound.now.query.now.atoms }
+    requires size { length marks.old.items ≡ length witnesses.now.list }
+    requires marks { AreMarked witnesses.now.bound.now.query.now witnesses.now.bound.now.db.now (names_of witnesses.now.list) marks.old.items }
+    ensures size { IfOk result (λ done. length marks.new.items ≡ length witnesses.now.list) }
+    ensures marks { IfOk result (λ done. AreMarked witnesses.now.bound.now.query.now witnesses.now.bound.now.db.now (names_of witnesses.now.list) marks.new.items) }
 {
-    let atom = atom_of(query, at);
-    let places = column(alloc, witnesses, at)?;
-    let rows = db.rows(atom.table);
-    let loose = loose_places(alloc, &rows, atom.key.as_slice(), places.as_slice())?;
-    mark_witnesses(witnesses, at, places.as_slice(), loose.as_slice(), marks);
+    let atom = atom_of(witnesses.bound.query, at);
+    let places = witnesses.column(at);
+    let rows = witnesses.bound.db.rows(atom.table);
+    let loose = loose_places(alloc, &rows, atom.key.as_slice(), places)?;
+    mark_witnesses(
+        witnesses.list.as_slice(),
+        at,
+        places,
+        loose.as_slice(),
+        marks,
+    );
     Ok(())
 }
 
@@ -185,20 +183,12 @@ fn are_all_set(marks: &[bool]) -> bool
 /// # Errors
 ///
 /// `NoMemory` where memory is refused.
-pub fn are_avoidable(
-    alloc: Global,
-    db: &Database,
-    query: &Query,
-    witnesses: &[Witness],
-) -> Result<bool, NoMemory>
-    requires fits { FitsDatabase query.now db.now }
-    requires all { (row : List Value) × AreAllNames query.now db.now row (names_of witnesses.now) }
-    ensures { IfOk result (λ avoidable. IsTrue avoidable → (row : List Value) → AreAllNames query.now db.now row (names_of witnesses.now) → IsCertain db.now query.now row → ⊥) }
+pub fn are_avoidable(alloc: Global, witnesses: &RowWitnesses<'_>) -> Result<bool, NoMemory>
+    ensures { IfOk result (λ avoidable. IsTrue avoidable → IsCertain witnesses.now.bound.now.db.now witnesses.now.bound.now.query.now witnesses.now.row.now → ⊥) }
 {
-    let _tables = db.count();
-    let mut marks = vec![in alloc; false; witnesses.len()]?;
-    for at in 0..query.atoms.len() {
-        mark_atom(alloc, db, query, witnesses, at, &mut marks)?;
+    let mut marks = vec![in alloc; false; witnesses.list.len()]?;
+    for at in 0..witnesses.bound.query.atoms.len() {
+        mark_atom(alloc, witnesses, at, &mut marks)?;
     }
     Ok(are_all_set(marks.as_slice()))
 }

@@ -1,15 +1,13 @@
 //! The formula of a row, with its variables numbered from 1: one clause for each relevant block, and one for each witness.
 //! Beside it stand the names of the rows that are the variables.
 
-ghost use Rattle.std.specs.Prelude.{◌≡◌, ◌+◌, ◌++◌, ◌<◌, ◌≤◌, List, IfOk, length, map};
-ghost use Rattle.cqa_value.specs.declared.value.Value.{Value};
-ghost use Rattle.cqa_model.specs.Query.{FitsDatabase};
+ghost use Rattle.std.specs.Prelude.{◌≡◌, ◌+◌, ◌++◌, ◌<◌, ◌≤◌, IfOk, length, map};
 ghost use Rattle.cqa_model.specs.declared.limits.TheConstants.{MOST_ROWS};
 ghost use Rattle.cnf_form.specs.Literals.{literals};
-ghost use Rattle.join_access.specs.Listing.{AreAllNames, names_of, places_of};
+ghost use Rattle.join_access.specs.Listing.{names_of, places_of};
 ghost use Rattle.repair_clauses.specs.Clauses.{name_of, positive};
 ghost use Rattle.repair_clauses.specs.Spans.{numbers_in, variables_in, variables_of};
-ghost use Rattle.repair_clauses.specs.Encodings.{AddsWitnesses, AreOfAtoms, AreTold, IsEncoded};
+ghost use Rattle.repair_clauses.specs.Encodings.{AddsWitnesses, AreBlocksOf, AreOfAtoms, AreTold, IsEncoded};
 
 use crate::clauses::{add_blocks, add_witnesses};
 use crate::numbering::Numbering;
@@ -19,8 +17,8 @@ use cnf_form::{Clause, Cnf};
 use cqa_model::{Query, RowId};
 use cqa_value::{Items, NoMemory};
 use join_access::Witness;
+use row_witnesses::RowWitnesses;
 use std::alloc::Global;
-use table_blocks::Database;
 
 /// The formula of a row, and the row of each variable: that of variable i + 1 is `rows[i]`.
 #[derive(Debug, Drop)]
@@ -72,25 +70,21 @@ fn all_clauses(
     Ok(Items::from_vec(clauses))
 }
 
-/// The formula over blocks that are numbered.
+/// The formula of the row whose witnesses these are, where its relevant blocks are numbered already.
 ///
 /// # Errors
 ///
 /// `NoMemory` where memory is refused.
 pub fn formula_over(
     alloc: Global,
-    query: &Query,
     blocks: &Numbering,
-    witnesses: &[Witness],
+    witnesses: &RowWitnesses<'_>,
 ) -> Result<Encoded, NoMemory>
-    requires atoms { AreOfAtoms query.now blocks.now.spans }
-    requires told { AreTold blocks.now.spans witnesses.now }
-    ensures vars { IfOk result (λ e. e.cnf.vars ≡ blocks.now.vars) }
-    ensures rows { IfOk result (λ e. e.rows ≡ map (name_of query.now) (variables_of blocks.now.spans)) }
-    ensures clauses { IfOk result (λ e. AddsWitnesses blocks.now.spans (map places_of (names_of witnesses.now)) (map (map positive) (map numbers_in blocks.now.spans)) (literals e.cnf.clauses)) }
+    requires { AreBlocksOf witnesses.now.bound.now.query.now witnesses.now.bound.now.db.now witnesses.now.row.now blocks.now }
+    ensures { IfOk result (IsEncoded witnesses.now.bound.now.query.now witnesses.now.bound.now.db.now witnesses.now.row.now) }
 {
-    let rows = names(alloc, query, blocks)?;
-    let clauses = all_clauses(alloc, blocks, witnesses)?;
+    let rows = names(alloc, witnesses.bound.query, blocks)?;
+    let clauses = all_clauses(alloc, blocks, witnesses.list.as_slice())?;
     let cnf = Cnf {
         vars: blocks.vars,
         clauses,
@@ -98,22 +92,15 @@ pub fn formula_over(
     Ok(Encoded { cnf, rows })
 }
 
-/// The formula of the row whose witnesses these are, all of them and in order.
+/// The formula of the row whose witnesses these are.
 ///
 /// # Errors
 ///
 /// `NoMemory` where memory is refused.
-pub fn encode(
-    alloc: Global,
-    db: &Database,
-    query: &Query,
-    witnesses: &[Witness],
-) -> Result<Encoded, NoMemory>
-    requires fits { FitsDatabase query.now db.now }
-    requires all { (row : List Value) × AreAllNames query.now db.now row (names_of witnesses.now) }
-    ensures { IfOk result (λ encoded. (row : List Value) → AreAllNames query.now db.now row (names_of witnesses.now) → IsEncoded query.now db.now row encoded) }
+pub fn encode(alloc: Global, witnesses: &RowWitnesses<'_>) -> Result<Encoded, NoMemory>
+    ensures { IfOk result (IsEncoded witnesses.now.bound.now.query.now witnesses.now.bound.now.db.now witnesses.now.row.now) }
 {
-    let blocks = relevant_blocks(alloc, db, query, witnesses)?;
-    let encoded = formula_over(alloc, query, &blocks, witnesses)?;
+    let blocks = relevant_blocks(alloc, witnesses)?;
+    let encoded = formula_over(alloc, &blocks, witnesses)?;
     Ok(encoded)
 }

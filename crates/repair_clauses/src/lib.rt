@@ -5,12 +5,10 @@
 
 mod avoiding;
 mod clauses;
-pub mod column;
 mod formula;
 pub mod laws;
 pub mod numbering;
 mod relevant;
-pub mod rising;
 mod run;
 pub mod span;
 

@@ -18,6 +18,9 @@ use Rattle.cnf_form.proofs.Sound.{refutation_sound}
 use Rattle.cdcl.specs.declared.outcome.Outcome.{Outcome}
 use Rattle.cdcl.specs.declared.outcome.Outcome.TheVariants.{Sat, Unsat, Spent}
 use Rattle.cdcl.specs.Outcomes.{AreConsecutive, IsModel, IsOnce, OutcomeIs, assignment}
+use Rattle.bound_query.specs.declared.Bound.{Bound}
+use Rattle.join_access.specs.Listing.{HasTooMany}
+use Rattle.row_witnesses.specs.declared.found.RowWitnesses.{RowWitnesses}
 use Rattle.search_answers.specs.declared.decision.Decided.{Decided}
 use Rattle.repair_clauses.specs.declared.formula.Encoded.{Encoded}
 use Rattle.repair_clauses.specs.Encodings.{IsEncoded}
@@ -63,6 +66,14 @@ module _ (q : Query) (db : List Table) (row : List Value) (e : Encoded) (h : IsE
       let x = get_or h.formula.variables 0 (at 0 0) in
       let relevant = ((h.is.variables.exactly x).0 (0, some, Rattle.std.proofs.lemmas.List.get_or_default h.formula.variables 0 x (at 0 0) some)).1 in
       (relevant.0, relevant.1)
+
+-- what is made of a row's witnesses, and told of them, is of the row over what they are of
+module _ (w : RowWitnesses) (b : Bound) (row : List Value) (same : w.bound.now ≡ b) (same_row : w.row.now ≡ row) where
+  pub encoded_of : (e : Encoded) → IsEncoded w.bound.now.query.now w.bound.now.db.now w.row.now e → IsEncoded b.query.now b.db.now row e
+  encoded_of e h = subst (λ (x : Bound). IsEncoded x.query.now x.db.now row e) same (subst (λ r. IsEncoded w.bound.now.query.now w.bound.now.db.now r e) same_row h)
+
+  pub within_of : HasTooMany b.query.now b.db.now row → ⊥
+  within_of = subst (λ (x : Bound). HasTooMany x.query.now x.db.now row → ⊥) same (subst (λ r. HasTooMany w.bound.now.query.now w.bound.now.db.now r → ⊥) same_row w.within)
 
 -- what the solver's clauses say of an outcome
 outcome_is : (cnf : Cnf) (budget : ℕ) (r : Result Outcome NoMemory) (o : Outcome) → r ≡ Ok o → ((values : List Bool) → r ≡ Ok (Sat values) → IsModel cnf values) →

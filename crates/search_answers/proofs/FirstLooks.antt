@@ -20,7 +20,8 @@ use Rattle.join_access.proofs.Naming.{zip-right}
 use Rattle.repair_clauses.specs.declared.span.Span.{Span}
 use Rattle.repair_clauses.specs.Clauses.{Variable, HasNumber, IsFormula, positive, negative}
 use Rattle.repair_clauses.specs.Spans.{AreBasedTo, AreSpansTo, AreNumbers, numbers_in, variables_of, formula_of}
-use Rattle.search_answers.specs.Looking.{AreClausesOf, IsFoundOf}
+use Rattle.search_answers.specs.Classing.{FoundSays}
+use Rattle.search_answers.specs.Looking.{AreClausesOf}
 use Rattle.repair_clauses.proofs.Rows.{number_below}
 use Rattle.repair_clauses.proofs.Exact.{clauses_decide}
 use Rattle.repair_clauses.proofs.Spans.{spans_give_formula}
@@ -65,12 +66,6 @@ all_below spans m places cs based h c mc l ml = elim (Contains-append_cases (map
         let v : l.var ≡ n.0 = ap (λ (k : Lit). k.var) (sym n.2) in
         omega (arith, high, long, v)
 
--- what is found of them
-pub found_of : (spans : List Span) (places : List (List ℕ)) (cs : List (List Lit)) → AreClausesOf spans places cs → (f : Found) → FoundIs cs f → IsFoundOf spans places f
-found_of spans places cs h Satisfiable s = (cs, h, s)
-found_of spans places cs h Unsatisfiable s = (cs, h, s)
-found_of spans places cs h Unclear s = tt
-
 -- ---- the row
 
 module _ (q : Query) (db : List Table) (row : List Value) (m : ℕ) (spans : List Span) (h : AreSpansTo q db row (length q.atoms) m spans) (all : List (List RowId)) (a : AreAllNames q db row all) (fits : FitsDatabase q db)
@@ -78,8 +73,14 @@ module _ (q : Query) (db : List Table) (row : List Value) (m : ℕ) (spans : Lis
   pub of_row : IsFormula q db row (formula_of spans c.numbers)
   of_row = spans_give_formula db q row spans (map places_of all) c.numbers (spans-all q db row m spans h) (placed q db row all a) c.numbered
 
-  pub rejected : ((v : ℕ → Bool) × SatisfiesAll v cs) → IsCertain db q row → ⊥
+  rejected : ((v : ℕ → Bool) × SatisfiesAll v cs) → IsCertain db q row → ⊥
   rejected s certain = (clauses_decide db q row (formula_of spans c.numbers) fits of_row).0 certain s.0 (subst (SatisfiesAll s.0) c.is s.1)
 
-  pub certain : ((v : ℕ → Bool) → SatisfiesAll v cs → ⊥) → IsCertain db q row
+  certain : ((v : ℕ → Bool) → SatisfiesAll v cs → ⊥) → IsCertain db q row
   certain none = (clauses_decide db q row (formula_of spans c.numbers) fits of_row).1 (λ v sat. none v (subst (SatisfiesAll v) (sym c.is) sat))
+
+  -- what is found of them says it
+  pub found_says : (f : Found) → FoundIs cs f → FoundSays q db row f
+  found_says Satisfiable s = rejected s
+  found_says Unsatisfiable s = certain s
+  found_says Unclear s = tt

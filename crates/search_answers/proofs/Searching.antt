@@ -15,6 +15,8 @@ use Rattle.cqa_model.proofs.Databases.{possible_is_candidate}
 use Rattle.join_access.proofs.Extending.{sorted-nil}
 use Rattle.join_access.specs.Listing.{HasTooMany}
 use Rattle.join_access.proofs.Sorted.{not_less, not_both}
+use Rattle.bound_query.specs.declared.Bound.{Bound}
+use Rattle.row_witnesses.specs.declared.found.RowWitnesses.{RowWitnesses}
 use Rattle.search_answers.specs.declared.judging.Verdict.{Verdict}
 use Rattle.search_answers.specs.declared.search.Stop.{Stop}
 use Rattle.search_answers.specs.declared.search.Stop.TheVariants as stop
@@ -25,15 +27,21 @@ use Rattle.cdcl.specs.Outcomes.{OutcomeIs}
 use Rattle.repair_clauses.specs.Encodings.{IsEncoded}
 use Rattle.repair_clauses.specs.declared.formula.Encoded.{Encoded}
 use Rattle.repair_clauses.specs.Candidates.{AreCandidates}
-use Rattle.search_answers.specs.Searching.{IsSpentFor, IsVerdict, Judges, IsStopAt, IsStop, NoneBefore, Sifts, SiftsAll}
+use Rattle.search_answers.specs.Searching.{IsSpentFor, IsJudged, Judges, IsStopAt, IsStop, NoneBefore, Sifts, SiftsAll}
+
+-- the verdict of a row's witnesses is that of the row over what they are of
+pub verdict_of : (w : RowWitnesses) (b : Bound) (row : List Value) → w.bound.now ≡ b → w.row.now ≡ row → (budget : ℕ) (v : Verdict) →
+    IsJudged w.bound.now.query.now w.bound.now.db.now w.row.now budget v → IsJudged b.query.now b.db.now row budget v
+verdict_of w b row same same_row budget v h =
+    subst (λ (x : Bound). IsJudged x.query.now x.db.now row budget v) same (subst (λ r. IsJudged w.bound.now.query.now w.bound.now.db.now r budget v) same_row h)
 
 module _ (q : Query) (db : List Table) where
   -- the verdict of a decided row
   pub verdict_is : (row : List Value) (budget : ℕ) (formula : Encoded) (o : Outcome) (v : Verdict) → (HasTooMany q db row → ⊥) → IsEncoded q db row formula → OutcomeIs formula.cnf budget o → SaysOf q db row o → Judges formula o v →
-      IsVerdict q db row budget v
-  verdict_is row budget formula (outcome.Sat values) v few e o s j = subst (IsVerdict q db row budget) (sym j) (s, few)
-  verdict_is row budget formula (outcome.Unsat log) v few e o s j = subst (IsVerdict q db row budget) (sym j) (s, few)
-  verdict_is row budget formula (outcome.Spent log) v few e o s j = subst (IsVerdict q db row budget) (sym j) (record { candidate = s; rows = formula.rows; formula = e; spent = o }, few)
+      IsJudged q db row budget v
+  verdict_is row budget formula (outcome.Sat values) v few e o s j = subst (IsJudged q db row budget) (sym j) (s, few)
+  verdict_is row budget formula (outcome.Unsat log) v few e o s j = subst (IsJudged q db row budget) (sym j) (s, few)
+  verdict_is row budget formula (outcome.Spent log) v few e o s j = subst (IsJudged q db row budget) (sym j) (record { candidate = s; rows = formula.rows; formula = e; spent = o }, few)
 
   -- the rows so far are decided, and these are left
   pub record AreSifted (rows answers left : List (List Value)) : Type 0 where

@@ -10,8 +10,6 @@ use Rattle.cqa_model.specs.declared.query.RowId.{RowId}
 use Rattle.cqa_model.specs.Database.{Table}
 use Rattle.cqa_model.specs.Certain.{IsCertain}
 use Rattle.cqa_model.specs.Repairs.{SharesKey}
-use Rattle.join_access.specs.declared.witness.Witness.{Witness}
-use Rattle.join_access.specs.Listing.{AreAllNames, names_of}
 use Rattle.cnf_form.specs.declared.formula.Cnf.{Cnf}
 use Rattle.cnf_form.specs.declared.formula.Lit.{Lit}
 use Rattle.cnf_form.specs.Literals.{literals}
@@ -20,11 +18,9 @@ use Rattle.cdcl.specs.declared.outcome.Outcome.TheVariants as outcome
 use Rattle.flat_formula.specs.declared.guess.Found.{Found}
 use Rattle.flat_formula.specs.declared.guess.Found.TheVariants.{Satisfiable, Unsatisfiable, Unclear}
 use Rattle.repair_clauses.specs.declared.span.Span.{Span}
-use Rattle.repair_clauses.specs.declared.numbering.Numbering.{Numbering}
 use Rattle.repair_clauses.specs.Alike.{AreAlike}
 use Rattle.repair_clauses.specs.Clauses.{Variable, HasNumber, row_of, positive, negative}
 use Rattle.repair_clauses.specs.Spans.{at, place_at, HasSpan, IsIn, IsNamed, AreSpansApart, variables_of}
-use Rattle.repair_clauses.specs.Encodings.{AreBlocksOf}
 
 -- nothing is lost from a list
 abbrev pub LosesNone : List ℕ → List ℕ → Type 0
@@ -52,10 +48,6 @@ pub record Marks (variables : List Variable) (columns : List ℕ) (rows : List (
       ((r : ℕ) × HasNumber variables n (at atom r) × SharesKey columns (slice_index_or rows r []) (slice_index_or rows p [])))
   pub kept : (F p n : ℕ) → HasClass variables old F p n → (m : ℕ) × HasClass variables new F p m
   pub added : (p : ℕ) → Contains places p → (m : ℕ) × HasClass variables new atom p m
-
--- these are the witnesses of some row, and its relevant blocks
-abbrev pub AreWitnessed : Query → List Table → List Witness → Numbering → Type 0
-AreWitnessed q db witnesses blocks = (row : List Value) × AreAllNames q db row (names_of witnesses) × AreBlocksOf q db row blocks
 
 -- at most `MOST_ATOMS * MOST_ROWS` spans of one row each, apart from each other and numbered one after the other
 pub record AreSingle (spans : List Span) : Type 0 where

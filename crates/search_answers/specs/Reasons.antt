@@ -13,13 +13,13 @@ use Rattle.query_strategy.specs.declared.reason.Reason.TheVariants.{ByBlock, Rej
 use Rattle.query_strategy.specs.declared.reason.Untold.{Untold}
 use Rattle.query_strategy.specs.declared.reason.Untold.TheVariants.{Over, Spent}
 use Rattle.repair_back.specs.Results.{AreStored}
-use Rattle.repair_back.specs.Rejected.{IsRejected}
+use Rattle.repair_back.specs.Rejected.{AreRejectingRows}
 use Rattle.search_answers.specs.Deciding.{IsDecided}
 
 -- a repair without a witness, or the row's formula with a refutation, where it is within the limit of witnesses
 abbrev pub IsSearchReason : List Table → Query → List Value → ℕ → Reason → Type 0
 IsSearchReason db q row budget (ByBlock table key) = ⊥
-IsSearchReason db q row budget (Rejected names) = IsRejected db q row names × (HasTooMany q db row → ⊥) × AreStored db names
+IsSearchReason db q row budget (Rejected names) = AreRejectingRows db q row names × (HasTooMany q db row → ⊥) × AreStored db names
 IsSearchReason db q row budget (Refuted cnf log) =
     (HasTooMany q db row → ⊥) × ((rows : List RowId) × IsDecided q db row budget (record { formula = record { cnf = cnf; rows = rows }; outcome = outcomes.Unsat log }))
 

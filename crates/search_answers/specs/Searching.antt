@@ -31,11 +31,11 @@ pub record IsSpentFor (q : Query) (db : List Table) (budget : ℕ) (row : List V
   pub spent : IsSpentLog cnf budget log.steps
 
 -- what is found out of a row
-abbrev pub IsVerdict : Query → List Table → List Value → ℕ → Verdict → Type 0
-IsVerdict q db row budget verdict.Certain = IsCertain db q row × (HasTooMany q db row → ⊥)
-IsVerdict q db row budget verdict.Rejected = (IsCertain db q row → ⊥) × (HasTooMany q db row → ⊥)
-IsVerdict q db row budget verdict.Over = HasTooMany q db row
-IsVerdict q db row budget (verdict.Spent cnf log) = IsSpentFor q db budget row cnf log × (HasTooMany q db row → ⊥)
+abbrev pub IsJudged : Query → List Table → List Value → ℕ → Verdict → Type 0
+IsJudged q db row budget verdict.Certain = IsCertain db q row × (HasTooMany q db row → ⊥)
+IsJudged q db row budget verdict.Rejected = (IsCertain db q row → ⊥) × (HasTooMany q db row → ⊥)
+IsJudged q db row budget verdict.Over = HasTooMany q db row
+IsJudged q db row budget (verdict.Spent cnf log) = IsSpentFor q db budget row cnf log × (HasTooMany q db row → ⊥)
 
 -- the verdict of an outcome
 abbrev pub Judges : Encoded → Outcome → Verdict → Type 0

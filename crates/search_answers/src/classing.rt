@@ -1,27 +1,22 @@
 //! The classes of the rows that are in witnesses: rows that are alike have one. A class is the number of one of them.
 //! Rows are sorted by what a query speaks of, so that those that are alike stand side by side.
 
-ghost use Rattle.std.specs.Prelude.{◌≡◌, ◌+◌, ◌<◌, ◌↔◌, ◌⊎◌, ℕ, List, IfOk, Contains, length, slice_index_or, []};
-ghost use Rattle.cqa_value.specs.declared.value.Value.{Value};
+ghost use Rattle.std.specs.Prelude.{◌≡◌, ◌+◌, ◌<◌, ◌↔◌, ◌⊎◌, ℕ, IfOk, Contains, length, slice_index_or, []};
 ghost use Rattle.cqa_model.specs.Repairs.{SharesKey};
-ghost use Rattle.cqa_model.specs.Query.{FitsDatabase};
-ghost use Rattle.join_access.specs.Listing.{AreAllNames, names_of};
+ghost use Rattle.join_access.specs.Listing.{names_of};
 ghost use Rattle.repair_clauses.specs.Spans.{HasSpan, variables_of};
 ghost use Rattle.search_answers.specs.Classing.{AreClassedTo, AreNumberedTo, AreSingle, Marks};
 
 use crate::spoken::spoken_columns;
 use crate::witness_rows::witness_rows;
-use cqa_model::Query;
 use cqa_value::{NOTHING, NoMemory, Row, compare};
-use join_access::Witness;
 use repair_clauses::atom_of;
-use repair_clauses::column::column;
 use repair_clauses::numbering::{Numbering, number};
 use row_blocks::goes_on;
 use row_pieces::Rows;
+use row_witnesses::RowWitnesses;
 use std::alloc::Global;
 use std::cmp::Ordering;
-use table_blocks::Database;
 
 /// Rows that have numbers, each by a span of its own, and the class of each, if it has one.
 #[derive(Drop)]
@@ -102,23 +97,20 @@ fn mark_rows(
 /// Gives the rows of one atom that are in witnesses their classes.
 fn mark_atom(
     alloc: Global,
-    db: &Database,
-    query: &Query,
     numbered: &Numbering,
-    witnesses: &[Witness],
+    witnesses: &RowWitnesses<'_>,
     at: usize,
     classes: &mut [Option<u32>],
 ) -> Result<(), NoMemory>
-    requires fits { FitsDatabase query.now db.now }
-    requires there { at < length query.now.atoms }
-    requires all { (row : List Value) × AreAllNames query.now db.now row (names_of witnesses.now) }
-    requires rows { AreNumberedTo (names_of witnesses.now) (length query.now.atoms) numbered.now.spans }
-    requires so_far { AreClassedTo query.now db.now (variables_of numbered.now.spans) (names_of witnesses.now) at classes.old }
-    ensures { IfOk result (λ done. AreClassedTo query.now db.now (variables_of numbered.now.spans) (names_of witnesses.now) (at + 1) classes.new) }
+    requires there { at < length witnesses.now.bound.now.query.now.atoms }
+    requires rows { AreNumberedTo (names_of witnesses.now.list) (length witnesses.now.bound.now.query.now.atoms) numbered.now.spans }
+    requires so_far { AreClassedTo witnesses.now.bound.now.query.now witnesses.now.bound.now.db.now (variables_of numbered.now.spans) (names_of witnesses.now.list) at classes.old }
+    ensures { IfOk result (λ done. AreClassedTo witnesses.now.bound.now.query.now witnesses.now.bound.now.db.now (variables_of numbered.now.spans) (names_of witnesses.now.list) (at + 1) classes.new) }
 {
+    let query = witnesses.bound.query;
     let columns = spoken_columns(alloc, query, at)?;
-    let mut places = column(alloc, witnesses, at)?;
-    let rows = db.rows(atom_of(query, at).table);
+    let mut places = Vec::from_slice(alloc, witnesses.column(at))?;
+    let rows = witnesses.bound.db.rows(atom_of(query, at).table);
     put_by_columns(&rows, columns.as_slice(), &mut places);
     mark_rows(
         &rows,
@@ -134,28 +126,16 @@ fn mark_atom(
 /// The class of each numbered row, which are those in witnesses: the number of one that is alike.
 fn classes_of(
     alloc: Global,
-    db: &Database,
-    query: &Query,
     numbered: &Numbering,
-    witnesses: &[Witness],
+    witnesses: &RowWitnesses<'_>,
 ) -> Result<Vec<Option<u32>>, NoMemory>
-    requires fits { FitsDatabase query.now db.now }
-    requires all { (row : List Value) × AreAllNames query.now db.now row (names_of witnesses.now) }
-    requires rows { AreNumberedTo (names_of witnesses.now) (length query.now.atoms) numbered.now.spans }
-    ensures { IfOk result (λ classes. AreClassedTo query.now db.now (variables_of numbered.now.spans) (names_of witnesses.now) (length query.now.atoms) classes.items) }
+    requires { AreNumberedTo (names_of witnesses.now.list) (length witnesses.now.bound.now.query.now.atoms) numbered.now.spans }
+    ensures { IfOk result (λ classes. AreClassedTo witnesses.now.bound.now.query.now witnesses.now.bound.now.db.now (variables_of numbered.now.spans) (names_of witnesses.now.list) (length witnesses.now.bound.now.query.now.atoms) classes.items) }
 {
     let mut classes = Vec::new(alloc);
     classes.resize(numbered.spans.len(), None)?;
-    for at in 0..query.atoms.len() {
-        mark_atom(
-            alloc,
-            db,
-            query,
-            numbered,
-            witnesses,
-            at,
-            classes.as_mut_slice(),
-        )?;
+    for at in 0..witnesses.bound.query.atoms.len() {
+        mark_atom(alloc, numbered, witnesses, at, classes.as_mut_slice())?;
     }
     Ok(classes)
 }
@@ -165,18 +145,11 @@ fn classes_of(
 /// # Errors
 ///
 /// `NoMemory` where memory is refused.
-pub fn classed_rows(
-    alloc: Global,
-    db: &Database,
-    query: &Query,
-    witnesses: &[Witness],
-) -> Result<Classed, NoMemory>
-    requires fits { FitsDatabase query.now db.now }
-    requires all { (row : List Value) × AreAllNames query.now db.now row (names_of witnesses.now) }
-    ensures rows { IfOk result (λ classed. AreNumberedTo (names_of witnesses.now) (length query.now.atoms) classed.rows.spans) }
-    ensures classes { IfOk result (λ classed. AreClassedTo query.now db.now (variables_of classed.rows.spans) (names_of witnesses.now) (length query.now.atoms) classed.classes.items) }
+pub fn classed_rows(alloc: Global, witnesses: &RowWitnesses<'_>) -> Result<Classed, NoMemory>
+    ensures rows { IfOk result (λ classed. AreNumberedTo (names_of witnesses.now.list) (length witnesses.now.bound.now.query.now.atoms) classed.rows.spans) }
+    ensures classes { IfOk result (λ classed. AreClassedTo witnesses.now.bound.now.query.now witnesses.now.bound.now.db.now (variables_of classed.rows.spans) (names_of witnesses.now.list) (length witnesses.now.bound.now.query.now.atoms) classed.classes.items) }
 {
-    let rows = witness_rows(alloc, db, query, witnesses)?;
-    let classes = classes_of(alloc, db, query, &rows, witnesses)?;
+    let rows = witness_rows(alloc, witnesses)?;
+    let classes = classes_of(alloc, &rows, witnesses)?;
     Ok(Classed { rows, classes })
 }

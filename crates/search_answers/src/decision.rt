@@ -2,20 +2,18 @@
 //! A model keeps a witness out of a repair, and a refutation says that none can be kept out.
 
 ghost use Rattle.std.specs.Prelude.{◌≡◌, IfOk, IfErr, Ok, length};
-ghost use Rattle.cqa_model.specs.Query.{FitsDatabase};
 ghost use Rattle.cnf_form.specs.Literals.{AreVarsInRange};
 ghost use Rattle.cdcl.specs.Outcomes.{IsOnce, OutcomeIs};
 ghost use Rattle.join_access.specs.Listing.{HasTooMany, IsOver};
 ghost use Rattle.search_answers.specs.Deciding.{IsDecided};
 
+use bound_query::Bound;
 use cdcl::Outcome;
-use cqa_model::Query;
 use cqa_value::{Fail, NoMemory, Row};
 use join_access::TooMany;
 use join_witness::witnesses;
 use repair_clauses::{Encoded, encode};
 use std::alloc::Global;
-use table_blocks::Database;
 
 /// The formula of a row, and what the solver found out of it.
 #[derive(Debug, Drop)]
@@ -71,19 +69,17 @@ fn solved_by_groups(alloc: Global, formula: Encoded, budget: u32) -> Result<Deci
 /// `TooMany` exactly where the row has more than `MOST_WITNESSES` witnesses; `NoMemory` where memory is refused.
 pub fn decide(
     alloc: Global,
-    db: &Database,
-    query: &Query,
+    bound: &Bound<'_>,
     row: &Row,
     budget: u32,
 ) -> Result<Decided, Fail<TooMany>>
-    requires fits { FitsDatabase query.now db.now }
-    requires long { length row.now ≡ length query.now.answer }
-    ensures decided { IfOk result (λ decided. IsDecided query.now db.now row.now budget decided) }
-    ensures within { IfOk result (λ decided. HasTooMany query.now db.now row.now → ⊥) }
-    ensures over { IfErr result (IsOver (HasTooMany query.now db.now row.now)) }
+    requires { length row.now ≡ length bound.now.query.now.answer }
+    ensures decided { IfOk result (λ decided. IsDecided bound.now.query.now bound.now.db.now row.now budget decided) }
+    ensures within { IfOk result (λ decided. HasTooMany bound.now.query.now bound.now.db.now row.now → ⊥) }
+    ensures over { IfErr result (IsOver (HasTooMany bound.now.query.now bound.now.db.now row.now)) }
 {
-    let found = witnesses(alloc, db, query, row)?;
-    let formula = encode(alloc, db, query, found.as_slice());
+    let found = witnesses(alloc, bound, row)?;
+    let formula = encode(alloc, &found);
     drop(found);
     let decided = solved_by_groups(alloc, formula?, budget)?;
     Ok(decided)

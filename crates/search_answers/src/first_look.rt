@@ -5,8 +5,9 @@ ghost use Rattle.std.specs.Prelude.{◌≡◌, [], IfOk, map};
 ghost use Rattle.join_access.specs.Listing.{names_of, places_of};
 ghost use Rattle.repair_clauses.specs.Clauses.{positive};
 ghost use Rattle.repair_clauses.specs.Spans.{numbers_in};
-ghost use Rattle.repair_clauses.specs.Encodings.{AddsWitnesses, AreTold};
-ghost use Rattle.search_answers.specs.Looking.{IsFoundOf};
+ghost use Rattle.repair_clauses.specs.Encodings.{AddsWitnesses, AreBlocksOf, AreTold};
+ghost use Rattle.search_answers.specs.Classing.{FoundSays};
+ghost use Rattle.search_answers.specs.Looking.{AreClausesOf};
 
 use cnf_form::{Lit, Truth};
 use cqa_value::NoMemory;
@@ -14,6 +15,7 @@ use flat_formula::{FlatFormula, Found, glance};
 use join_access::Witness;
 use repair_clauses::numbering::Numbering;
 use repair_clauses::{fill_block, fill_witness};
+use row_witnesses::RowWitnesses;
 use std::alloc::Global;
 
 /// Room for one formula after the other.
@@ -73,7 +75,7 @@ fn pool_witnesses(
 /// Puts the formula over numbered blocks into a room.
 fn pool_formula(blocks: &Numbering, witnesses: &[Witness], room: &mut Room) -> Result<(), NoMemory>
     requires { AreTold blocks.now.spans witnesses.now }
-    ensures { IfOk result (λ done. AddsWitnesses blocks.now.spans (map places_of (names_of witnesses.now)) (map (map positive) (map numbers_in blocks.now.spans)) room.new.formula) }
+    ensures { IfOk result (λ done. AreClausesOf blocks.now.spans (map places_of (names_of witnesses.now)) room.new.formula) }
 {
     room.formula.clear();
     pool_blocks(blocks, &mut room.lits, &mut room.formula)?;
@@ -90,30 +92,31 @@ const WIDE: usize = 4;
 /// Whether a formula over all rows of the relevant blocks, so many, is small beside the witnesses. Where most of the rows are in
 /// no witness it isn't, and many candidates may have a witness through the same wide block: its rows must not be gone over for
 /// each of them.
-fn is_small(vars: u32, witnesses: &[Witness], atoms: usize) -> bool {
-    let rows = witnesses.len().saturating_mul(atoms);
-    witnesses.len() <= FEW_WITNESSES && vars as usize <= rows.saturating_mul(WIDE)
+fn is_small(vars: u32, witnesses: usize, atoms: usize) -> bool {
+    let rows = witnesses.saturating_mul(atoms);
+    witnesses <= FEW_WITNESSES && vars as usize <= rows.saturating_mul(WIDE)
 }
 
-/// What is found out of the formula over numbered blocks without the solver. With a budget of 0 there is no guess either,
-/// so nothing is looked at, nor is a formula that isn't small.
+/// What is found out of a row by the formula over its blocks, which are numbered, without the solver. With a budget of 0 there is
+/// no guess either, so nothing is looked at, nor is a formula that isn't small.
 ///
 /// # Errors
 ///
 /// `NoMemory` where memory is refused.
 pub fn first_look(
     blocks: &Numbering,
-    witnesses: &[Witness],
-    atoms: usize,
+    witnesses: &RowWitnesses<'_>,
     budget: u32,
     room: &mut Room,
 ) -> Result<Found, NoMemory>
-    requires { AreTold blocks.now.spans witnesses.now }
-    ensures { IfOk result (IsFoundOf blocks.now.spans (map places_of (names_of witnesses.now))) }
+    requires { AreBlocksOf witnesses.now.bound.now.query.now witnesses.now.bound.now.db.now witnesses.now.row.now blocks.now }
+    ensures { IfOk result (FoundSays witnesses.now.bound.now.query.now witnesses.now.bound.now.db.now witnesses.now.row.now) }
 {
-    if budget == 0 || !is_small(blocks.vars, witnesses, atoms) {
+    let list = witnesses.list.as_slice();
+    let atoms = witnesses.bound.query.atoms.len();
+    if budget == 0 || !is_small(blocks.vars, list.len(), atoms) {
         return Ok(Found::Unclear);
     }
-    pool_formula(blocks, witnesses, room)?;
+    pool_formula(blocks, list, room)?;
     glance(&room.formula, blocks.vars, &mut room.values)
 }

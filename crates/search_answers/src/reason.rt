@@ -1,64 +1,59 @@
 //! Why a row is certain for a query, or why it isn't: what the solver finds out of its formula.
 
 ghost use Rattle.std.specs.Prelude.{◌≡◌, IfErr, IfOk, length};
-ghost use Rattle.cqa_model.specs.Query.{FitsDatabase};
 ghost use Rattle.cdcl.specs.Outcomes.{IsModel};
 ghost use Rattle.join_access.specs.Listing.{HasTooMany};
 ghost use Rattle.repair_back.specs.Results.{AreStored};
-ghost use Rattle.repair_back.specs.Rejected.{IsRejected};
+ghost use Rattle.repair_back.specs.Rejected.{AreRejectingRows};
 ghost use Rattle.repair_clauses.specs.Encodings.{IsEncoded};
 ghost use Rattle.search_answers.specs.Deciding.{IsDecided};
 ghost use Rattle.search_answers.specs.Reasons.{IsSearchReason, IsSearchStopped};
 
 use crate::decision::{Decided, decide};
+use bound_query::Bound;
 use cdcl::Outcome;
-use cqa_model::{Query, RowId};
+use cqa_model::RowId;
 use cqa_value::{Fail, Items, NoMemory, Row};
 use join_access::TooMany;
 use query_strategy::{Reason, Untold};
 use repair_back::{chosen, from_model};
 use repair_clauses::Encoded;
 use std::alloc::Global;
-use table_blocks::Database;
 
 /// The repair that a model of a row's formula gives, by the rows that it had to choose.
 fn by_model(
     alloc: Global,
-    db: &Database,
-    query: &Query,
+    bound: &Bound<'_>,
     _row: &Row,
     formula: &Encoded,
     model: &[bool],
 ) -> Result<Items<RowId>, NoMemory>
-    requires fits { FitsDatabase query.now db.now }
-    requires formula { IsEncoded query.now db.now _row.now formula.now }
+    requires formula { IsEncoded bound.now.query.now bound.now.db.now _row.now formula.now }
     requires model { IsModel formula.now.cnf model.now }
-    ensures rejected { IfOk result (IsRejected db.now query.now _row.now) }
-    ensures stored { IfOk result (AreStored db.now) }
+    ensures rejected { IfOk result (AreRejectingRows bound.now.db.now bound.now.query.now _row.now) }
+    ensures stored { IfOk result (AreStored bound.now.db.now) }
 {
-    let repair = from_model(alloc, db, query, formula.rows.as_slice(), model)?;
-    chosen(alloc, db, repair)
+    let repair = from_model(alloc, bound, formula.rows.as_slice(), model)?;
+    chosen(alloc, bound.db, repair)
 }
 
 /// What the solver's answer to a row's formula tells of the row.
 fn by_outcome(
     alloc: Global,
-    db: &Database,
-    query: &Query,
+    bound: &Bound<'_>,
     row: &Row,
     _budget: u32,
     decided: Decided,
 ) -> Result<Reason, Fail<Untold>>
-    requires fits { FitsDatabase query.now db.now }
-    requires within { HasTooMany query.now db.now row.now → ⊥ }
-    requires decided { IsDecided query.now db.now row.now _budget decided }
-    ensures told { IfOk result (IsSearchReason db.now query.now row.now _budget) }
-    ensures untold { IfErr result (IsSearchStopped db.now query.now row.now _budget) }
+    requires within { HasTooMany bound.now.query.now bound.now.db.now row.now → ⊥ }
+    requires decided { IsDecided bound.now.query.now bound.now.db.now row.now _budget decided }
+    ensures told { IfOk result (IsSearchReason bound.now.db.now bound.now.query.now row.now _budget) }
+    ensures untold { IfErr result (IsSearchStopped bound.now.db.now bound.now.query.now row.now _budget) }
 {
     let Decided { formula, outcome } = decided;
     match outcome {
         Outcome::Sat(model) => {
-            let names = by_model(alloc, db, query, row, &formula, model.as_slice());
+            let names = by_model(alloc, bound, row, &formula, model.as_slice());
             drop(model);
             drop(formula);
             Ok(Reason::Rejected(names?))
@@ -82,18 +77,16 @@ fn by_outcome(
 /// `NoMemory` where memory is refused.
 pub fn reason_by_search(
     alloc: Global,
-    db: &Database,
-    query: &Query,
+    bound: &Bound<'_>,
     row: &Row,
     budget: u32,
 ) -> Result<Reason, Fail<Untold>>
-    requires fits { FitsDatabase query.now db.now }
-    requires long { length row.now ≡ length query.now.answer }
-    ensures told { IfOk result (IsSearchReason db.now query.now row.now budget) }
-    ensures untold { IfErr result (IsSearchStopped db.now query.now row.now budget) }
+    requires { length row.now ≡ length bound.now.query.now.answer }
+    ensures told { IfOk result (IsSearchReason bound.now.db.now bound.now.query.now row.now budget) }
+    ensures untold { IfErr result (IsSearchStopped bound.now.db.now bound.now.query.now row.now budget) }
 {
-    match decide(alloc, db, query, row, budget) {
-        Ok(decided) => by_outcome(alloc, db, query, row, budget, decided),
+    match decide(alloc, bound, row, budget) {
+        Ok(decided) => by_outcome(alloc, bound, row, budget, decided),
         Err(Fail::Refused(TooMany)) => Err(Fail::Refused(Untold::Over)),
         Err(Fail::NoMemory) => Err(Fail::NoMemory),
     }

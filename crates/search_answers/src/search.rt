@@ -2,19 +2,16 @@
 //! The first one that can't be decided ends the search.
 
 ghost use Rattle.std.specs.Prelude.{◌≡◌, [], IfOk, IfSome, IsNone, length};
-ghost use Rattle.cqa_model.specs.Query.{FitsDatabase};
-ghost use Rattle.join_witness.specs.Lookups.{IsLookup};
 ghost use Rattle.repair_clauses.specs.Candidates.{AreCandidates};
 ghost use Rattle.search_answers.specs.Searching.{IsSearched, IsStop, IsStopAt, Sifts, SiftsAll};
 
 use crate::first_look::Room;
-use crate::judging::{Verdict, judge_row};
+use crate::judging::{Search, Verdict, judge_row};
+use bound_query::Bound;
 use cnf_form::{Cnf, Log};
-use cqa_model::Query;
 use cqa_value::{Items, NoMemory, Row};
-use join_witness::{Lookup, candidates, lookup_of};
+use join_witness::{candidates, lookup_of};
 use std::alloc::Global;
-use table_blocks::Database;
 
 /// Why a search ends before all rows are decided.
 #[derive(Debug, Drop)]
@@ -34,24 +31,19 @@ pub enum Searched {
 }
 
 /// Puts a row behind the certain ones if it is certain. Says why the search ends, if it does.
-fn sift<'a>(
+fn sift(
     alloc: Global,
-    db: &'a Database,
-    query: &Query,
-    lookup: &mut Lookup<'a>,
-    budget: u32,
+    search: &mut Search<'_>,
     row: Row,
-    room: &mut Room,
     answers: &mut Vec<Row>,
 ) -> Result<Option<Stop>, NoMemory>
-    requires fits { FitsDatabase query.now db.now }
-    requires long { length row ≡ length query.now.answer }
-    requires lookup { IsLookup query.now db.now lookup.old }
-    ensures lookup { IsLookup query.now db.now lookup.new }
-    ensures sifted { IfOk result (λ stop. IsNone stop → Sifts query.now db.now row answers.old.items answers.new.items) }
-    ensures stopped { IfOk result (λ stop. IfSome stop (IsStopAt query.now db.now budget row)) }
+    requires { length row ≡ length search.old.lookup.bound.now.query.now.answer }
+    ensures bound { search.new.lookup.bound.now ≡ search.old.lookup.bound.now }
+    ensures budget { search.new.budget ≡ search.old.budget }
+    ensures sifted { IfOk result (λ stop. IsNone stop → Sifts search.old.lookup.bound.now.query.now search.old.lookup.bound.now.db.now row answers.old.items answers.new.items) }
+    ensures stopped { IfOk result (λ stop. IfSome stop (IsStopAt search.old.lookup.bound.now.query.now search.old.lookup.bound.now.db.now search.old.budget row)) }
 {
-    match judge_row(alloc, db, query, &row, lookup, budget, room) {
+    match judge_row(alloc, search, &row) {
         Err(fault) => {
             drop(row);
             Err(fault)
@@ -70,25 +62,19 @@ fn sift<'a>(
 }
 
 /// Gathers the certain ones of the possible rows, ascending. Says why the search ends before all are decided, if it does.
-fn sift_all<'a>(
+fn sift_all(
     alloc: Global,
-    db: &'a Database,
-    query: &Query,
-    lookup: &mut Lookup<'a>,
-    budget: u32,
+    search: &mut Search<'_>,
     rows: Vec<Row>,
-    room: &mut Room,
     answers: &mut Vec<Row>,
 ) -> Result<Option<Stop>, NoMemory>
-    requires fits { FitsDatabase query.now db.now }
-    requires lookup { IsLookup query.now db.now lookup.old }
-    requires rows { AreCandidates query.now db.now rows.items }
+    requires rows { AreCandidates search.old.lookup.bound.now.query.now search.old.lookup.bound.now.db.now rows.items }
     requires none { answers.old.items ≡ [] }
-    ensures all { IfOk result (λ stop. IsNone stop → SiftsAll query.now db.now rows.items answers.new.items) }
-    ensures stopped { IfOk result (λ stop. IfSome stop (IsStop query.now db.now budget)) }
+    ensures all { IfOk result (λ stop. IsNone stop → SiftsAll search.old.lookup.bound.now.query.now search.old.lookup.bound.now.db.now rows.items answers.new.items) }
+    ensures stopped { IfOk result (λ stop. IfSome stop (IsStop search.old.lookup.bound.now.query.now search.old.lookup.bound.now.db.now search.old.budget)) }
 {
     for row in rows {
-        let stop = sift(alloc, db, query, lookup, budget, row, room, answers)?;
+        let stop = sift(alloc, search, row, answers)?;
         if stop.is_some() {
             return Ok(stop);
         }
@@ -96,37 +82,29 @@ fn sift_all<'a>(
     Ok(None)
 }
 
-/// The same by one lookup for all rows.
+/// The same by one search for all rows.
 fn search_rows(
     alloc: Global,
-    db: &Database,
-    query: &Query,
+    bound: &Bound<'_>,
     budget: u32,
     rows: Vec<Row>,
     answers: &mut Vec<Row>,
 ) -> Result<Option<Stop>, NoMemory>
-    requires fits { FitsDatabase query.now db.now }
-    requires rows { AreCandidates query.now db.now rows.items }
+    requires rows { AreCandidates bound.now.query.now bound.now.db.now rows.items }
     requires none { answers.old.items ≡ [] }
-    ensures all { IfOk result (λ stop. IsNone stop → SiftsAll query.now db.now rows.items answers.new.items) }
-    ensures stopped { IfOk result (λ stop. IfSome stop (IsStop query.now db.now budget)) }
+    ensures all { IfOk result (λ stop. IsNone stop → SiftsAll bound.now.query.now bound.now.db.now rows.items answers.new.items) }
+    ensures stopped { IfOk result (λ stop. IfSome stop (IsStop bound.now.query.now bound.now.db.now budget)) }
 {
-    match lookup_of(alloc, db, query) {
-        Ok(made) => {
-            let mut lookup = made;
-            let mut room = Room::new(alloc);
-            let found = sift_all(
-                alloc,
-                db,
-                query,
-                &mut lookup,
+    match lookup_of(alloc, bound) {
+        Ok(lookup) => {
+            let room = Room::new(alloc);
+            let mut search = Search {
+                lookup,
                 budget,
-                rows,
-                &mut room,
-                answers,
-            );
-            drop(room);
-            drop(lookup);
+                room,
+            };
+            let found = sift_all(alloc, &mut search, rows, answers);
+            drop(search);
             found
         }
         Err(fault) => {
@@ -144,16 +122,14 @@ fn search_rows(
 /// `NoMemory` where memory is refused.
 pub fn certain_by_search(
     alloc: Global,
-    db: &Database,
-    query: &Query,
+    bound: &Bound<'_>,
     budget: u32,
 ) -> Result<Searched, NoMemory>
-    requires { FitsDatabase query.now db.now }
-    ensures { IfOk result (IsSearched query.now db.now budget) }
+    ensures { IfOk result (IsSearched bound.now.query.now bound.now.db.now budget) }
 {
-    let rows = candidates(alloc, db, query)?.into_vec();
+    let rows = candidates(alloc, bound)?.into_vec();
     let mut answers = Vec::new(alloc);
-    match search_rows(alloc, db, query, budget, rows, &mut answers) {
+    match search_rows(alloc, bound, budget, rows, &mut answers) {
         Ok(None) => Ok(Searched::All(Items::from_vec(answers))),
         Ok(Some(stop)) => {
             drop(answers);

@@ -1,26 +1,22 @@
 //! A second look at a row's formula: rows that are alike are one variable, which makes most formulas smaller.
 
-ghost use Rattle.std.specs.Prelude.{List, IfOk};
-ghost use Rattle.cqa_value.specs.declared.value.Value.{Value};
-ghost use Rattle.cqa_model.specs.Query.{FitsDatabase};
+ghost use Rattle.std.specs.Prelude.{IfOk};
 ghost use Rattle.cnf_form.specs.Literals.{AreVarsInRange, literals};
 ghost use Rattle.cdcl.specs.Outcomes.{IsOnce};
 ghost use Rattle.flat_formula.specs.Findings.{FoundIs};
-ghost use Rattle.join_access.specs.Listing.{AreAllNames, names_of};
+ghost use Rattle.join_access.specs.Listing.{names_of};
 ghost use Rattle.repair_clauses.specs.Encodings.{AreBlocksOf};
-ghost use Rattle.search_answers.specs.Classing.{AreWitnessed, FoundOf, FoundSays, IsQuotient};
+ghost use Rattle.search_answers.specs.Classing.{FoundOf, FoundSays, IsQuotient};
 
 use crate::class_clauses::class_clauses;
 use crate::classing::classed_rows;
 use cdcl::{Outcome, solve};
 use cnf_form::Cnf;
-use cqa_model::Query;
 use cqa_value::NoMemory;
 use flat_formula::Found;
-use join_access::Witness;
 use repair_clauses::numbering::Numbering;
+use row_witnesses::RowWitnesses;
 use std::alloc::Global;
-use table_blocks::Database;
 
 /// What an outcome finds out of a formula.
 fn found_by(outcome: Outcome) -> Found
@@ -57,16 +53,12 @@ fn found_in(alloc: Global, cnf: &Cnf, budget: u32) -> Result<Found, NoMemory>
 /// The formula over classes of rows that are alike. Its variables are the rows that are in witnesses.
 fn formula_of_classes(
     alloc: Global,
-    db: &Database,
-    query: &Query,
     blocks: &Numbering,
-    witnesses: &[Witness],
+    witnesses: &RowWitnesses<'_>,
 ) -> Result<Cnf, NoMemory>
-    requires fits { FitsDatabase query.now db.now }
-    requires blocks { AreWitnessed query.now db.now witnesses.now blocks.now }
-    ensures { IfOk result (IsQuotient query.now db.now blocks.now.spans (names_of witnesses.now)) }
+    ensures { IfOk result (IsQuotient witnesses.now.bound.now.query.now witnesses.now.bound.now.db.now blocks.now.spans (names_of witnesses.now.list)) }
 {
-    let classed = classed_rows(alloc, db, query, witnesses)?;
+    let classed = classed_rows(alloc, witnesses)?;
     let vars = classed.rows.vars;
     let clauses = class_clauses(alloc, &classed, blocks, witnesses);
     drop(classed);
@@ -82,19 +74,14 @@ fn formula_of_classes(
 /// `NoMemory` where memory is refused.
 pub fn second_look(
     alloc: Global,
-    db: &Database,
-    query: &Query,
     blocks: &Numbering,
-    witnesses: &[Witness],
+    witnesses: &RowWitnesses<'_>,
     budget: u32,
 ) -> Result<Found, NoMemory>
-    requires fits { FitsDatabase query.now db.now }
-    requires blocks { AreWitnessed query.now db.now witnesses.now blocks.now }
-    ensures { IfOk result (λ found. (row : List Value) → AreAllNames query.now db.now row (names_of witnesses.now) → AreBlocksOf query.now db.now row blocks.now →
-        FoundSays query.now db.now row found) }
+    requires { AreBlocksOf witnesses.now.bound.now.query.now witnesses.now.bound.now.db.now witnesses.now.row.now blocks.now }
+    ensures { IfOk result (FoundSays witnesses.now.bound.now.query.now witnesses.now.bound.now.db.now witnesses.now.row.now) }
 {
-    let _tables = db.count();
-    let cnf = formula_of_classes(alloc, db, query, blocks, witnesses)?;
+    let cnf = formula_of_classes(alloc, blocks, witnesses)?;
     let found = found_in(alloc, &cnf, budget);
     drop(cnf);
     found

@@ -7,9 +7,9 @@ use Rattle.cqa_model.proofs.Elimination.{plan-eliminates}
 use Rattle.fo_rewrite.proofs.Distinct.{plan-atoms}
 use Rattle.answer_tests.proofs.repairs.is_mended.Goals as goal
 
-pub holds-held-requires-clause-plan : goal.holds-held-requires-clause-plan
-holds-held-requires-clause-plan c =
-    let query = c.args.query.now in
+pub holds-held-requires : goal.holds-held-requires
+holds-held-requires c =
+    let query = c.args.bound.now.query.now in
     let order = c.in-Ok-Some.plan.order in
     let is = subst (λ found. IfSome found (λ (plan : Plan). IsPlanOf query plan.order)) c.in-Ok-Some.field-0-is c.in-Ok-Some.ensures.plan in
     plan-atoms query order (plan-eliminates query (whole query) order is)

@@ -32,7 +32,7 @@ block_with-requires-clause-stored c =
     let found = c.in_ok-block.block in
     let x = c.get.result.now in
     let stored = first-stored step c.new-blocks.result c.args.row.now c.new-blocks.ensures found c.in_ok-block.ensures.first in
-    let is = rows-of-atom setting.query.now setting.db.now step.atom table (key_at setting.db.now table) setting.fits step.there c.table_of-table.ensures refl (rows_at setting.db.now table) refl in
+    let is = rows-of-atom setting.bound.now.query.now setting.bound.now.db.now step.atom table (key_at setting.bound.now.db.now table) setting.bound.now.fits step.there c.table_of-table.ensures refl (rows_at setting.bound.now.db.now table) refl in
     subst (λ db. Contains (rows_at db table) x) c.requires.db (subst (λ rows. Contains rows x) (sym is) (subst (Contains (rows_of (query_of step) (tables_of step) step.atom)) (get_or_from_slice_get found 0 x [] c.get.ensures) stored))
 
 pub returns : goal.returns
@@ -43,6 +43,6 @@ returns c =
     let found = c.in_ok-block.block in
     let x = c.get.result.now in
     let block = c.block_with.result in
-    let here = block-of-atom setting.query.now setting.db.now step.atom table setting.fits step.there c.table_of-table.ensures x block (subst (λ db. IsBlockOf (key_at db table) (rows_at db table) x block) (sym c.requires.db) c.block_with.ensures) in
+    let here = block-of-atom setting.bound.now.query.now setting.bound.now.db.now step.atom table setting.bound.now.fits step.there c.table_of-table.ensures x block (subst (λ db. IsBlockOf (key_at db table) (rows_at db table) x block) (sym c.requires.db) c.block_with.ensures) in
     first-holds step c.new-blocks.result c.args.row.now c.new-blocks.ensures found c.in_ok-block.ensures.first block
     (subst (λ y. IsBlockOf (atom_key (query_of step) step.atom) (rows_of (query_of step) (tables_of step) step.atom) y block) (sym (get_or_from_slice_get found 0 x [] c.get.ensures)) here)

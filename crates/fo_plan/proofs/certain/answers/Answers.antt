@@ -8,13 +8,13 @@ use Rattle.plan_rows.proofs.Sharing.{underway-starts, none-right}
 use Rattle.fo_plan.proofs.certain.answers.Goals as goal
 
 pub shared_columns-requires : goal.shared_columns-requires
-shared_columns-requires c = subst (AreAtoms c.args.query.now) (sym c.as_slice-order.ensures) c.requires.plan
+shared_columns-requires c = subst (AreAtoms c.args.bound.now.query.now) (sym c.as_slice-order.ensures) c.requires.plan
 
 pub invariant_of-course : goal.invariant_of-course
 invariant_of-course c = record {
-  atoms = subst (AreAtoms c.args.query.now) (sym c.as_slice-order.ensures) c.requires.plan;
-  shares = ∣ subst (AreShared c.args.query.now c.as_slice-order.result.now) (sym c.as_slice.ensures.value) c.in_ok-shared.ensures ∣₁;
-  linked = ∣ subst (λ order. AreWays c.args.query.now c.args.db.now order c.args.ways.now) (sym c.as_slice-order.ensures) c.requires.ways ∣₁;
+  atoms = subst (AreAtoms c.args.bound.now.query.now) (sym c.as_slice-order.ensures) c.requires.plan;
+  shares = ∣ subst (AreShared c.args.bound.now.query.now c.as_slice-order.result.now) (sym c.as_slice.ensures.value) c.in_ok-shared.ensures ∣₁;
+  linked = ∣ subst (λ order. AreWays c.args.bound.now.query.now c.args.bound.now.db.now order c.args.ways.now) (sym c.as_slice-order.ensures) c.requires.ways ∣₁;
 }
 
 pub invariant_of-rest : goal.invariant_of-rest
@@ -28,8 +28,8 @@ add_given-added-requires-clause-notes c = record { memo = none-right _ c.over.re
 
 pub returns-in-Ok-clause-exactly : goal.returns-in-Ok-clause-exactly
 returns-in-Ok-clause-exactly c row =
-    let q = c.args.query.now in
-    let tables = stored c.args.db.now in
+    let q = c.args.bound.now.query.now in
+    let tables = stored c.args.bound.now.db.now in
     let order = c.args.plan.now.order in
     let found = c.add_given-added.new.found in
     let all = gives-all q tables order found (subst (λ p. IsAdded (Gives q tables [] p) [] found) c.as_slice-order.ensures (subst (λ old. IsAdded (Gives q tables [] c.as_slice-order.result.now) old found) c.new-found.ensures c.in-Ok.ensures.added)) row in

@@ -83,14 +83,14 @@ add_given-invariant_of-step-else-may_be_barren t c =
 pub add_given-returns-then-give_none-clause-added : goal.add_given-returns-then-give_none-clause-added
 add_given-returns-then-give_none-clause-added t c =
     let rest = c.args.rest.now in
-    adds-none (Gives rest.course.now.setting.query.now (stored rest.course.now.setting.db.now) (placed rest.taken.now) rest.plan.now) c.args.found.now
+    adds-none (Gives rest.course.now.setting.bound.now.query.now (stored rest.course.now.setting.bound.now.db.now) (placed rest.taken.now) rest.plan.now) c.args.found.now
     (λ row g. noted-none rest.course.now c.args.notes.now.barren (placed rest.taken.now) rest.plan.now row c.requires.notes.barren (c.give_none.ensures.0 c.if-give_none.true) rest.underway g)
 
 pub add_given-returns-else-may_be_barren-clause-added : goal.add_given-returns-else-may_be_barren-clause-added
 add_given-returns-else-may_be_barren-clause-added t c =
     let rest = c.args.rest.now in
-    let q = rest.course.now.setting.query.now in
-    subst (λ p. OnOk c.add_blocks.result (IsAdded (Gives q (stored rest.course.now.setting.db.now) (placed rest.taken.now) p) c.args.found.now c.add_blocks.new.found))
+    let q = rest.course.now.setting.bound.now.query.now in
+    subst (λ p. OnOk c.add_blocks.result (IsAdded (Gives q (stored rest.course.now.setting.bound.now.db.now) (placed rest.taken.now) p) c.args.found.now c.add_blocks.new.found))
     (sym (plan-split rest.plan.now (some-plan q rest.plan.now c.are_settled.result c.are_settled.ensures c.if-are_settled.false))) c.add_blocks.ensures.added
 
 pub add_given-add_blocks-requires : goal.add_given-add_blocks-requires
@@ -99,7 +99,7 @@ add_given-add_blocks-requires t c =
     let plan = rest.plan.now in
     let l = c.in-len1-up.len_at_least in (
       omega (arith, rest-shorter plan l, c.decreases),
-      (subst (AreAll rest.course.now.setting.query.now (placed rest.taken.now)) (plan-split plan l) c.requires.all, c.requires.notes),
+      (subst (AreAll rest.course.now.setting.bound.now.query.now (placed rest.taken.now)) (plan-split plan l) c.requires.all, c.requires.notes),
     )
 
 pub add_given-add_apart-requires : goal.add_given-add_apart-requires
@@ -108,14 +108,14 @@ add_given-add_apart-requires t c =
     let plan = rest.plan.now in
     let l = c.in-len1-up.len_at_least in (
       omega (arith, rest-shorter plan l, c.decreases),
-      (subst (AreAll rest.course.now.setting.query.now (placed rest.taken.now)) (plan-split plan l) c.requires.all, (c.may_be_barren.ensures c.if-may_be_barren.true, c.requires.notes)),
+      (subst (AreAll rest.course.now.setting.bound.now.query.now (placed rest.taken.now)) (plan-split plan l) c.requires.all, (c.may_be_barren.ensures c.if-may_be_barren.true, c.requires.notes)),
     )
 
 pub add_given-returns-then-may_be_barren-clause-added : goal.add_given-returns-then-may_be_barren-clause-added
 add_given-returns-then-may_be_barren-clause-added t c =
     let rest = c.args.rest.now in
-    let q = rest.course.now.setting.query.now in
-    subst (λ p. OnOk c.add_apart.result (IsAdded (Gives q (stored rest.course.now.setting.db.now) (placed rest.taken.now) p) c.args.found.now c.add_apart.new.found))
+    let q = rest.course.now.setting.bound.now.query.now in
+    subst (λ p. OnOk c.add_apart.result (IsAdded (Gives q (stored rest.course.now.setting.bound.now.db.now) (placed rest.taken.now) p) c.args.found.now c.add_apart.new.found))
     (sym (plan-split rest.plan.now (some-plan q rest.plan.now c.are_settled.result c.are_settled.ensures c.if-are_settled.false))) c.add_apart.ensures.added
 
 pub add_or_note-returns-then-is_empty-clause-added : goal.add_or_note-returns-then-is_empty-clause-added

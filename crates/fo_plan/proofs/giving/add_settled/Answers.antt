@@ -10,8 +10,8 @@ use Rattle.fo_plan.proofs.giving.add_settled.Goals as goal
 pub returns-in_ok-put-clause-added : goal.returns-in_ok-put-clause-added
 returns-in_ok-put-clause-added c =
     let rest = c.args.rest.now in
-    let q = rest.course.now.setting.query.now in
-    let tables = stored rest.course.now.setting.db.now in
+    let q = rest.course.now.setting.bound.now.query.now in
+    let tables = stored rest.course.now.setting.bound.now.db.now in
     let taken = placed rest.taken.now in
     add-answer q tables taken rest.plan.now rest.underway.agreed c.requires.all c.requires.settled
     (λ row. settled-plan q tables c.new-none.result row taken rest.plan.now c.requires.settled (c.holds_with-held.ensures.holds.0 c.if-held.true))
@@ -20,8 +20,8 @@ returns-in_ok-put-clause-added c =
 pub returns-else-held-clause-added : goal.returns-else-held-clause-added
 returns-else-held-clause-added c =
     let rest = c.args.rest.now in
-    let q = rest.course.now.setting.query.now in
-    let tables = stored rest.course.now.setting.db.now in
+    let q = rest.course.now.setting.bound.now.query.now in
+    let tables = stored rest.course.now.setting.bound.now.db.now in
     let taken = placed rest.taken.now in
     adds-none (Gives q tables taken rest.plan.now) c.args.found.now
     (λ row g. false≢true (sym c.if-held.false ∙ c.holds_with-held.ensures.holds.1 (settled-plan q tables row c.new-none.result taken rest.plan.now c.requires.settled g.1)))

@@ -40,7 +40,7 @@ holds_with-remembered-requires t c =
 pub holds_with-returns-in-Some-clause-holds : goal.holds_with-returns-in-Some-clause-holds
 holds_with-returns-in-Some-clause-holds t c =
     let rest = c.args.rest.now in
-    subst (λ plan. IsTrue c.remembered.result ↔ PlanHolds rest.course.now.setting.query.now (stored rest.course.now.setting.db.now) c.args.row.now (placed rest.taken.now) plan)
+    subst (λ plan. IsTrue c.remembered.result ↔ PlanHolds rest.course.now.setting.bound.now.query.now (stored rest.course.now.setting.bound.now.db.now) c.args.row.now (placed rest.taken.now) plan)
     (sym (plan-split rest.plan.now c.in-len1-up.len_at_least)) c.remembered.ensures.holds
 
 pub holds_with-some_block-requires : goal.holds_with-some_block-requires
@@ -51,7 +51,7 @@ holds_with-some_block-requires t c =
 pub holds_with-returns-in-None-clause-holds : goal.holds_with-returns-in-None-clause-holds
 holds_with-returns-in-None-clause-holds t c =
     let rest = c.args.rest.now in
-    subst (λ plan. IsTrue c.some_block.result ↔ PlanHolds rest.course.now.setting.query.now (stored rest.course.now.setting.db.now) c.args.row.now (placed rest.taken.now) plan)
+    subst (λ plan. IsTrue c.some_block.result ↔ PlanHolds rest.course.now.setting.bound.now.query.now (stored rest.course.now.setting.bound.now.db.now) c.args.row.now (placed rest.taken.now) plan)
     (sym (plan-split rest.plan.now c.in-len1-up.len_at_least)) c.some_block.ensures.holds
 
 pub remembered-returns-in-Some-clause-holds : goal.remembered-returns-in-Some-clause-holds
@@ -94,18 +94,18 @@ row_holds-returns-then-not-fits-clause-memo t c = still-right c.args.step.now.co
 
 pub row_holds-returns-then-not-fits-clause-holds : goal.row_holds-returns-then-not-fits-clause-holds
 row_holds-returns-then-not-fits-clause-holds t c =
-    let says = of-look c.args.step.now c.look.result c.look.ensures.setting c.look.ensures.taken c.look.ensures.atom (λ s taken F. IsTrue c.fits.result ↔ Fits s.query.now c.args.row.now taken F c.args.y.now) c.fits.ensures in
+    let says = of-look c.args.step.now c.look.result c.look.ensures.setting c.look.ensures.taken c.look.ensures.atom (λ s taken F. IsTrue c.fits.result ↔ Fits s.bound.now.query.now c.args.row.now taken F c.args.y.now) c.fits.ensures in
     ((λ e. absurd (false≢true e)), (λ h. absurd (false≢true (sym c.if-not-fits.true ∙ says.1 h.0))))
 
 pub row_holds-returns-clause-holds : goal.row_holds-returns-clause-holds
 row_holds-returns-clause-holds t c =
-    let says = of-look c.args.step.now c.look.result c.look.ensures.setting c.look.ensures.taken c.look.ensures.atom (λ s taken F. IsTrue c.fits.result ↔ Fits s.query.now c.args.row.now taken F c.args.y.now) c.fits.ensures in
+    let says = of-look c.args.step.now c.look.result c.look.ensures.setting c.look.ensures.taken c.look.ensures.atom (λ s taken F. IsTrue c.fits.result ↔ Fits s.bound.now.query.now c.args.row.now taken F c.args.y.now) c.fits.ensures in
     ((λ e. (says.0 c.if-not-fits.false, c.holds_with.ensures.holds.0 e)), (λ h. c.holds_with.ensures.holds.1 h.1))
 
 pub row_holds-invariant_of-rest : goal.row_holds-invariant_of-rest
 row_holds-invariant_of-rest t c =
     let step = c.args.step.now in
-    let says = of-look step c.look.result c.look.ensures.setting c.look.ensures.taken c.look.ensures.atom (λ s taken F. IsTrue c.fits.result ↔ Fits s.query.now c.args.row.now taken F c.args.y.now) c.fits.ensures in
+    let says = of-look step c.look.result c.look.ensures.setting c.look.ensures.taken c.look.ensures.atom (λ s taken F. IsTrue c.fits.result ↔ Fits s.bound.now.query.now c.args.row.now taken F c.args.y.now) c.fits.ensures in
     record { underway = underway-more step.course.now (rows_before step) step.atom step.rest.now c.args.y.now step.underway (suits-from (query_of step) (rows_before step) step.atom c.args.y.now c.args.row.now (says.0 c.if-not-fits.false)) }
 
 pub row_holds-holds_with-requires : goal.row_holds-holds_with-requires

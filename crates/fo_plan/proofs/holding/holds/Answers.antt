@@ -7,7 +7,7 @@ use Rattle.fo_plan.proofs.holding.holds.Goals as goal
 
 pub invariant_of-course : goal.invariant_of-course
 invariant_of-course c = record {
-  atoms = subst (AreAtoms c.args.query.now) (sym c.as_slice-order.ensures) c.requires.plan;
+  atoms = subst (AreAtoms c.args.bound.now.query.now) (sym c.as_slice-order.ensures) c.requires;
   shares = ∣ (λ front rest e l. absurd (omega (arith, l))) ∣₁;
   linked = ∣ record { links = λ F l m. absurd (mem-nil l m); behind = λ front rest F e G m. absurd (mem-nil G m) } ∣₁;
 }
@@ -20,4 +20,4 @@ holds_with-held-requires c = none-right _ c.over-memo.result c.over-memo.ensures
 
 pub returns : goal.returns
 returns c =
-    subst (λ plan. IsTrue c.holds_with-held.result ↔ HoldsOver c.args.db.now c.args.query.now c.args.row.now plan) c.as_slice-order.ensures c.holds_with-held.ensures.holds
+    subst (λ plan. IsTrue c.holds_with-held.result ↔ HoldsOver c.args.bound.now.db.now c.args.bound.now.query.now c.args.row.now plan) c.as_slice-order.ensures c.holds_with-held.ensures.holds

@@ -32,7 +32,7 @@ add_linked-requires-clause-atoms t c = λ F m.
 
 pub add_linked-requires-clause-taken : goal.add_linked-requires-clause-taken
 add_linked-requires-clause-taken t c =
-    let q = c.args.setting.now.query.now in
+    let q = c.args.setting.now.bound.now.query.now in
     elim c.if-is_none.branch [
       | then-is_none+in_ok-add_chain w ↦ λ F m.
           atoms-further q w.as_slice-then-is_none-2.result.now c.args.taken.now.items w.add_chain.new.taken.items

@@ -28,7 +28,7 @@ add_chain-requires-clause-taken c = λ F m.
 
 pub returns-clause-atoms : goal.returns-clause-atoms
 returns-clause-atoms c =
-    let q = c.args.setting.now.query.now in
+    let q = c.args.setting.now.bound.now.query.now in
     let taken : AreAtoms q c.in_ok-atoms.atoms.items = λ F m.
     c.requires.order F (Contains-from_take c.args.place c.args.order.now F (subst (λ z. Contains z F) (c.in_ok-atoms.ensures.items ∙ c.split_at.ensures.front) m)) in
     let later : AreAtoms q c.split_at-2.result.1.now = λ F m.

@@ -14,8 +14,8 @@ path_of-requires-clause-atom c = c.requires.atoms (get_or c.args.atoms.now c.loo
 
 pub loop-at-preserved : goal.loop-at-preserved
 loop-at-preserved c =
-    let q = c.args.setting.now.query.now in
-    let db = c.args.db.now in
+    let q = c.args.setting.now.bound.now.query.now in
+    let db = c.args.setting.now.bound.now.db.now in
     let atoms = c.args.atoms.now in
     let at = c.loop-at.at in
     let within : at < length atoms = search rules in

@@ -6,8 +6,8 @@ use Rattle.fo_plan.proofs.ways.add_ways.Goals as goal
 
 pub loop-atom-preserved : goal.loop-atom-preserved
 loop-atom-preserved c =
-    let q = c.args.setting.now.query.now in
-    let db = c.args.db.now in
+    let q = c.args.setting.now.bound.now.query.now in
+    let db = c.args.setting.now.bound.now.db.now in
     let order = c.args.order.now in
     let ways = c.loop-atom.ways.items in
     let links = c.in_ok-links.links in

@@ -6,5 +6,5 @@ use Rattle.fo_plan.proofs.ways.add_ways.Given as goal
 abbrev pub invariant-loop-atom : goal.invariant-loop-atom
 invariant-loop-atom l = record {
   size : length l.ways.items ≡ l.atom;
-  ways : AreWays l.setting.query.now l.db l.order l.ways.items;
+  ways : AreWays l.setting.bound.now.query.now l.setting.bound.now.db.now l.order l.ways.items;
 }

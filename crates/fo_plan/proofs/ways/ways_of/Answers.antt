@@ -3,4 +3,4 @@ use Rattle.plan_rows.specs.Left.{AreAtoms}
 use Rattle.fo_plan.proofs.ways.ways_of.Goals as goal
 
 pub add_ways-requires-clause-order : goal.add_ways-requires-clause-order
-add_ways-requires-clause-order c = subst (AreAtoms c.args.query.now) (sym c.as_slice.ensures) c.requires.plan
+add_ways-requires-clause-order c = subst (AreAtoms c.args.bound.now.query.now) (sym c.as_slice.ensures) c.requires

@@ -3,7 +3,7 @@ use Rattle.cqa_model.specs.Variables.{whole}
 use Rattle.cqa_model.proofs.Cycles.{plan_or_cycle}
 use Rattle.cqa_model.proofs.Databases.{elimination_is_exact}
 use Rattle.fo_rewrite.proofs.Distinct.{plan-distinct}
-use Rattle.fo_rewrite.proofs.PlanSteps.{planned-start, planned-more, planned-none, planned-some, planned-first}
+use Rattle.fo_rewrite.proofs.PlanSteps.{planned-start, planned-more, planned-none, planned-some, planned-first, attacked-before}
 use Rattle.fo_rewrite.specs.declared.preference.Choice.TheVariants.{First}
 use Rattle.fo_rewrite.proofs.planning.eliminated.Goals as goal
 
@@ -17,8 +17,12 @@ pub take-preserved : goal.take-preserved
 take-preserved c = record {
   planned = rw c.in_ok-push.ensures.ok
       (planned-more c.args.outset.now.named.now.query.now (c.args.choice ≡ First) c.take.view c.take.left c.remove.new.self c.take.order c.in-Some.atom c.after-view.result c.take.invariant.planned c.in-Some.ensures.next c.in-Some.ensures.first c.after-view.ensures.is c.remove.ensures.is);
-  attacked = c.attacked_atoms-attacked.ensures;
+  attacked = c.attacked_after-attacked.ensures;
 }
+
+pub attacked_after-attacked-requires : goal.attacked_after-attacked-requires
+attacked_after-attacked-requires c = λ G a.
+    (c.take.invariant.attacked G).1 (attacked-before c.args.outset.now.named.now.query.now c.take.view c.after-view.result c.in-Some.atom c.after-view.ensures.is G a)
 
 pub invariant_of-result : goal.invariant_of-result
 invariant_of-result c = record {

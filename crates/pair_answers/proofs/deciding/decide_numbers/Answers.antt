@@ -1,26 +1,27 @@
 use Rattle.std.proofs.Common.{IfOk, sym, subst, length}
 use Rattle.weak_pairs.specs.Digests.{lists_in}
 use Rattle.weak_pairs.specs.Outcomes.{AreStarts, AreSided, IsPairDecision}
+use Rattle.pair_answers.proofs.Told.{pair-told}
 use Rattle.pair_answers.proofs.Decided.{starts, sided, answered}
 use Rattle.pair_answers.proofs.deciding.decide_numbers.Goals as goal
 
 pub decide_rows-requires-clause-starts : goal.decide_rows-requires-clause-starts
 decide_rows-requires-clause-starts c =
     let lists = lists_in c.in_ok-lists.lists in
-    subst (λ z. AreStarts z (length lists)) (sym c.deref-3.ensures.value)
-    (starts c.args.db.now c.args.query.now c.args.row.now c.requires.pair c.requires.fits c.requires.size c.pair_decided.ensures c.in_ok-starts.starts.first.items c.in_ok-starts.starts.split c.in_ok-starts.ensures.starts
+    subst (λ z. AreStarts z (length lists)) (sym c.deref.ensures.value)
+    (starts c.args.pair.now.bound.now.db.now c.args.pair.now.bound.now.query.now c.args.row.now (pair-told c.args.pair.now.bound.now.query.now c.args.pair.now.pair) c.args.pair.now.bound.now.fits c.requires c.pair_decided.ensures c.in_ok-starts.starts.first.items c.in_ok-starts.starts.split c.in_ok-starts.ensures.starts
     lists c.in_ok-lists.ensures.lists)
 
 pub decide_rows-requires-clause-sided : goal.decide_rows-requires-clause-sided
 decide_rows-requires-clause-sided c =
     let lists = lists_in c.in_ok-lists.lists in
-    subst (λ z. AreSided lists z c.in_ok-starts.starts.split) (sym c.deref-3.ensures.value)
-    (sided c.args.db.now c.args.query.now c.args.row.now c.requires.pair c.requires.fits c.requires.size c.pair_decided.ensures c.in_ok-starts.starts.first.items c.in_ok-starts.starts.split c.in_ok-starts.ensures.starts
+    subst (λ z. AreSided lists z c.in_ok-starts.starts.split) (sym c.deref.ensures.value)
+    (sided c.args.pair.now.bound.now.db.now c.args.pair.now.bound.now.query.now c.args.row.now (pair-told c.args.pair.now.bound.now.query.now c.args.pair.now.pair) c.args.pair.now.bound.now.fits c.requires c.pair_decided.ensures c.in_ok-starts.starts.first.items c.in_ok-starts.starts.split c.in_ok-starts.ensures.starts
     lists c.in_ok-lists.ensures.lists)
 
 pub returns : goal.returns
 returns c =
     let lists = lists_in c.in_ok-lists.lists in
-    answered c.args.db.now c.args.query.now c.args.row.now c.requires.pair c.requires.fits c.requires.size c.pair_decided.ensures c.in_ok-starts.starts.first.items c.in_ok-starts.starts.split c.in_ok-starts.ensures.starts
+    answered c.args.pair.now.bound.now.db.now c.args.pair.now.bound.now.query.now c.args.row.now (pair-told c.args.pair.now.bound.now.query.now c.args.pair.now.pair) c.args.pair.now.bound.now.fits c.requires c.pair_decided.ensures c.in_ok-starts.starts.first.items c.in_ok-starts.starts.split c.in_ok-starts.ensures.starts
     lists c.in_ok-lists.ensures.lists c.decide_rows.result
-    (subst (λ z. IfOk c.decide_rows.result (IsPairDecision lists z)) c.deref-3.ensures.value c.decide_rows.ensures)
+    (subst (λ z. IfOk c.decide_rows.result (IsPairDecision lists z)) c.deref.ensures.value c.decide_rows.ensures)

@@ -10,7 +10,7 @@ pub loop-row-preserved : goal.loop-row-preserved
 loop-row-preserved c =
     let own = c.args.own.now in
     let k = c.loop-row.row-index in
-    let id = id_of c.args.query.now (stored c.args.db.now) in
+    let id = id_of c.args.pair.now.bound.now.query.now (stored c.args.pair.now.bound.now.db.now) in
     elim c.match-row.branch [
       | in-Some+in_ok-push w ↦ w.ids-is ∙ w.in_ok-push.ensures.ok ∙ ap (λ z. z ++ w.id.result ∷ []) c.loop-row.invariant ∙
           ap (λ z. map id (taken_rows (take k own)) ++ z ∷ []) w.id.ensures ∙ sym (map-append id (taken_rows (take k own)) (w.in-Some.number ∷ [])) ∙

@@ -1,26 +1,27 @@
 use Rattle.std.proofs.Common.{IfOk, sym, subst, length}
 use Rattle.weak_pairs.specs.Digests.{lists_in}
 use Rattle.weak_pairs.specs.Outcomes.{AreStarts, AreSided, TellsCertainty}
+use Rattle.pair_answers.proofs.Told.{pair-told}
 use Rattle.pair_answers.proofs.Decided.{starts, sided, told}
 use Rattle.pair_answers.proofs.deciding.is_certain.Goals as goal
 
 pub are_certain-certain-requires-clause-starts : goal.are_certain-certain-requires-clause-starts
 are_certain-certain-requires-clause-starts c =
     let lists = lists_in c.in_ok-lists.lists in
-    subst (λ z. AreStarts z (length lists)) (sym c.deref-3.ensures.value)
-    (starts c.args.db.now c.args.query.now c.args.row.now c.requires.pair c.requires.fits c.requires.size c.pair_decided.ensures c.in_ok-starts.starts.first.items c.in_ok-starts.starts.split c.in_ok-starts.ensures.starts
+    subst (λ z. AreStarts z (length lists)) (sym c.deref.ensures.value)
+    (starts c.args.pair.now.bound.now.db.now c.args.pair.now.bound.now.query.now c.args.row.now (pair-told c.args.pair.now.bound.now.query.now c.args.pair.now.pair) c.args.pair.now.bound.now.fits c.requires c.pair_decided.ensures c.in_ok-starts.starts.first.items c.in_ok-starts.starts.split c.in_ok-starts.ensures.starts
     lists c.in_ok-lists.ensures.lists)
 
 pub are_certain-certain-requires-clause-sided : goal.are_certain-certain-requires-clause-sided
 are_certain-certain-requires-clause-sided c =
     let lists = lists_in c.in_ok-lists.lists in
-    subst (λ z. AreSided lists z c.in_ok-starts.starts.split) (sym c.deref-3.ensures.value)
-    (sided c.args.db.now c.args.query.now c.args.row.now c.requires.pair c.requires.fits c.requires.size c.pair_decided.ensures c.in_ok-starts.starts.first.items c.in_ok-starts.starts.split c.in_ok-starts.ensures.starts
+    subst (λ z. AreSided lists z c.in_ok-starts.starts.split) (sym c.deref.ensures.value)
+    (sided c.args.pair.now.bound.now.db.now c.args.pair.now.bound.now.query.now c.args.row.now (pair-told c.args.pair.now.bound.now.query.now c.args.pair.now.pair) c.args.pair.now.bound.now.fits c.requires c.pair_decided.ensures c.in_ok-starts.starts.first.items c.in_ok-starts.starts.split c.in_ok-starts.ensures.starts
     lists c.in_ok-lists.ensures.lists)
 
 pub returns : goal.returns
 returns c =
     let lists = lists_in c.in_ok-lists.lists in
-    told c.args.db.now c.args.query.now c.args.row.now c.requires.pair c.requires.fits c.requires.size c.pair_decided.ensures c.in_ok-starts.starts.first.items c.in_ok-starts.starts.split c.in_ok-starts.ensures.starts
+    told c.args.pair.now.bound.now.db.now c.args.pair.now.bound.now.query.now c.args.row.now (pair-told c.args.pair.now.bound.now.query.now c.args.pair.now.pair) c.args.pair.now.bound.now.fits c.requires c.pair_decided.ensures c.in_ok-starts.starts.first.items c.in_ok-starts.starts.split c.in_ok-starts.ensures.starts
     lists c.in_ok-lists.ensures.lists c.are_certain-certain.result
-    (subst (λ z. IfOk c.are_certain-certain.result (TellsCertainty lists z)) c.deref-3.ensures.value c.are_certain-certain.ensures)
+    (subst (λ z. IfOk c.are_certain-certain.result (TellsCertainty lists z)) c.deref.ensures.value c.are_certain-certain.ensures)

@@ -1,12 +1,24 @@
-use Rattle.std.proofs.Common.{[], ap, map, ◌∙◌, get_or}
+use Rattle.std.proofs.Common.{[], ap, map, length, ◌∙◌, get_or}
 use Rattle.cqa_model.specs.Database.{stored}
 use Rattle.weak_pairs.specs.Packing.{list_of}
-use Rattle.pair_answers.proofs.Listing.{row-lists-of}
+use Rattle.pair_answers.proofs.Listing.{of-side, row-lists-of}
 use Rattle.pair_answers.proofs.lists.append_all_codes.Goals as goal
 
 pub returns-clause-lists : goal.returns-clause-lists
 returns-clause-lists c = λ all.
-    row-lists-of c.args.query.now (stored c.args.db.now) c.args.row.now c.args.left.now c.args.right.now c.rows-first.result c.rows-second.result
-    (map list_of c.args.codes.now.items) (map list_of c.append_codes.new.codes.items) (map list_of c.append_codes-2.new.codes.items) c.requires.columns
-    (c.rows-first.ensures.is ∙ ap (λ t. get_or (stored c.args.db.now) t []) c.table_of.ensures) (c.rows-second.ensures.is ∙ ap (λ t. get_or (stored c.args.db.now) t []) c.table_of-2.ensures)
-    (ap (map list_of) c.requires.none) (c.in_ok-append_codes.ensures c.if-not-branch.false) (c.in_ok-all.ensures all)
+    let bound = c.args.pair.now.bound.now in
+    let row = c.args.row.now in
+    let columns = c.args.columns.now in
+    let tables = stored bound.db.now in
+    let first = c.rows-first.result in
+    let second = c.rows-second.result in
+    let none = map list_of c.args.codes.now.items in
+    let some = map list_of c.append_codes.new.codes.items in
+    let lists = map list_of c.append_codes-2.new.codes.items in
+    let s = c.new.ensures in
+    let t = c.new-2.ensures in
+    row-lists-of bound.query.now tables row columns.left.items columns.right.items first second none some lists c.requires.columns
+    (c.rows-first.ensures.is ∙ ap (λ z. get_or tables z []) c.table_of.ensures) (c.rows-second.ensures.is ∙ ap (λ z. get_or tables z []) c.table_of-2.ensures)
+    (ap (map list_of) c.requires.none)
+    (of-side c.new.result bound row 0 columns.left.items s.bound s.row s.atom (s.columns ∙ c.deref.ensures.value) first (length first) none some (c.in_ok-append_codes.ensures c.if-not-branch.false))
+    (of-side c.new-2.result bound row 1 columns.right.items t.bound t.row t.atom (t.columns ∙ c.deref-2.ensures.value) second (length second) some lists (c.in_ok-all.ensures all))

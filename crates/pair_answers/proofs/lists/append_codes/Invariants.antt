@@ -4,4 +4,4 @@ use Rattle.pair_answers.proofs.Listing.{AreListedSoFar}
 use Rattle.pair_answers.proofs.lists.append_codes.Given as goal
 
 abbrev pub invariant-loop-x : goal.invariant-loop-x
-invariant-loop-x l = AreListedSoFar l.query l.row l.columns l.atom l.rows l.x-iterator (map list_of l.initial.codes.items) (map list_of l.codes.items)
+invariant-loop-x l = AreListedSoFar l.side.bound.now.query.now l.side.row.now l.side.columns.now l.side.atom l.rows l.x-iterator (map list_of l.initial.codes.items) (map list_of l.codes.items)

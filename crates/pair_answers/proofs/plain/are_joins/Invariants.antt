@@ -1,5 +1,6 @@
 use Rattle.std.proofs.Common.{ℕ, ◌<◌, slice_index_or}
-use Rattle.pair_answers.specs.Fitting.{IsJoin, none_cond}
+use Rattle.pair_answers.specs.Fitting.{none_cond}
+use Rattle.pair_answers.specs.Plain.{IsJoin}
 use Rattle.pair_answers.proofs.plain.are_joins.Given as goal
 
 abbrev pub invariant-loop-cond : goal.invariant-loop-cond

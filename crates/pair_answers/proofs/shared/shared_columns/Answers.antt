@@ -1,6 +1,7 @@
 use Rattle.std.proofs.Common.{◌+◌, ◌<◌, length, ap, subst, sym, ◌∙◌, arith, true≢false}
 use Rattle.std.proofs.lemmas.List.{length_push}
 use Rattle.cqa_model.specs.Query.{atom_at}
+use Rattle.key_closure.proofs.Naming.{untold}
 use Rattle.pair_answers.specs.Shared.{AreSharedSoFar}
 use Rattle.pair_answers.proofs.Sharing.{shared-more, shared-less, shared-row, shared-end}
 use Rattle.pair_answers.proofs.shared.shared_columns.Goals as goal
@@ -8,7 +9,7 @@ use Rattle.pair_answers.proofs.shared.shared_columns.Goals.{then-linked+in_ok-pu
 
 pub loop-j-preserved : goal.loop-j-preserved
 loop-j-preserved c =
-    let q = c.args.query.now in
+    let q = c.args.pair.now.bound.now.query.now in
     let li : c.loop-i.i < (atom_at q 0).width = (let t = c.loop-i-test.true in let w = c.width_of-left_width.ensures in omega arith) in
     let lj : c.loop-j.j < (atom_at q 1).width = (let t = c.loop-j-test.true in let w = c.width_of-right_width.ensures in omega arith) in
     let few = c.loop-j.invariant.few in
@@ -28,10 +29,10 @@ loop-j-preserved c =
 
 pub loop-i-preserved : goal.loop-i-preserved
 loop-i-preserved c =
-    let q = c.args.query.now in
+    let q = c.args.pair.now.bound.now.query.now in
     let t = c.loop-j-test.false in
     let w = c.width_of-right_width.ensures in
-    let wide = (q.kept.each 1 (let two = c.requires.two in omega (arith, two))).width.1 in
+    let wide = (q.kept.each 1 (let two = c.args.pair.now.two in omega (arith, two))).width.1 in
     let j = c.loop-j.auto.j-end in
     let few = c.loop-j.invariant.few in
     record {
@@ -40,12 +41,15 @@ loop-i-preserved c =
     }
 
 pub returns-clause-shared : goal.returns-clause-shared
-returns-clause-shared c = shared-end c.args.query.now c.loop-i.cols.items c.loop-i.i (let t = c.loop-i-test.false in let w = c.width_of-left_width.ensures in omega arith) c.loop-i.invariant.shared
+returns-clause-shared c = shared-end c.args.pair.now.bound.now.query.now c.loop-i.cols.items c.loop-i.i (let t = c.loop-i-test.false in let w = c.width_of-left_width.ensures in omega arith) c.loop-i.invariant.shared
 
 pub returns-clause-few : goal.returns-clause-few
 returns-clause-few c =
     let few = c.loop-i.invariant.few in
-    let wide = (c.args.query.now.kept.each 0 (let two = c.requires.two in omega (arith, two))).width.1 in
+    let wide = (c.args.pair.now.bound.now.query.now.kept.each 0 (let two = c.args.pair.now.two in omega (arith, two))).width.1 in
     let w = c.width_of-left_width.ensures in
     let i = c.loop-i.auto.i-end in
     omega (arith, few, wide, w, i)
+
+pub are_linked-linked-requires-clause-variables : goal.are_linked-linked-requires-clause-variables
+are_linked-linked-requires-clause-variables c = let bound = c.args.pair.now.bound.now in untold bound.query.now bound.variables bound.named

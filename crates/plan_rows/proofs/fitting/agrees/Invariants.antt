@@ -3,4 +3,4 @@ use Rattle.plan_rows.proofs.fitting.agrees.Given as goal
 
 -- the columns so far
 abbrev pub invariant-loop-i : goal.invariant-loop-i
-invariant-loop-i l = Agrees l.setting.query.now l.atom l.x l.other l.y l.i
+invariant-loop-i l = Agrees l.setting.bound.now.query.now l.atom l.x l.other l.y l.i

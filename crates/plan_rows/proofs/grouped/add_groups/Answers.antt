@@ -8,17 +8,17 @@ use Rattle.plan_rows.proofs.grouped.add_groups.Goals as goal
 pub loop-init : goal.loop-init
 loop-init c = record {
   there = c.requires.first;
-  grouping = grouping-starts c.args.setting.now.query.now c.args.atoms.now c.args.order.now.items c.in_ok-left.left.items c.in_ok-left.ensures.items;
+  grouping = grouping-starts c.args.setting.now.bound.now.query.now c.args.atoms.now c.args.order.now.items c.in_ok-left.left.items c.in_ok-left.ensures.items;
 }
 
 pub add_group-requires-clause-atoms : goal.add_group-requires-clause-atoms
 add_group-requires-clause-atoms c =
-    let q = c.args.setting.now.query.now in
+    let q = c.args.setting.now.bound.now.query.now in
     subst (AreAtoms q) (sym c.as_slice.ensures.value) (grouping-left q c.args.atoms.now c.args.order.now.items c.loop.order.items c.loop.left.items c.loop.invariant.grouping c.requires.atoms)
 
 pub returns-then-is_empty : goal.returns-then-is_empty
 returns-then-is_empty c =
-    let q = c.args.setting.now.query.now in
+    let q = c.args.setting.now.bound.now.query.now in
     let left = c.in_ok-left-2.left.items in
     let split = subst (λ p. IsSplit q p c.loop.order.items c.add_group.new.order.items left) c.as_slice.ensures.value c.in_ok-left-2.ensures in
     grouping-ended q c.args.atoms.now c.args.order.now.items c.add_group.new.order.items left
@@ -27,7 +27,7 @@ returns-then-is_empty c =
 
 pub loop-preserved : goal.loop-preserved
 loop-preserved c =
-    let q = c.args.setting.now.query.now in
+    let q = c.args.setting.now.bound.now.query.now in
     let left = c.in_ok-left-2.left.items in
     let split = subst (λ p. IsSplit q p c.loop.order.items c.add_group.new.order.items left) c.as_slice.ensures.value c.in_ok-left-2.ensures in
     let on = grouping-on q c.args.atoms.now c.args.order.now.items c.loop.order.items c.loop.left.items c.add_group.new.order.items left c.loop.invariant.grouping split in
@@ -39,5 +39,5 @@ loop-preserved c =
 
 pub returns : goal.returns
 returns c =
-    grouping-ends c.args.setting.now.query.now c.args.atoms.now c.args.order.now.items c.loop.order.items c.loop.left.items c.extend_from_slice.new.self.items c.loop.invariant.grouping
+    grouping-ends c.args.setting.now.bound.now.query.now c.args.atoms.now c.args.order.now.items c.loop.order.items c.loop.left.items c.extend_from_slice.new.self.items c.loop.invariant.grouping
     (c.in_ok-extend_from_slice.ensures.items ∙ ap (λ z. c.loop.order.items ++ z) c.as_slice-2.ensures.value)

@@ -6,7 +6,7 @@ use Rattle.plan_rows.proofs.grouped.are_joined.Goals as goal
 
 pub loop-col-preserved : goal.loop-col-preserved
 loop-col-preserved c =
-    let q = c.args.setting.now.query.now in
+    let q = c.args.setting.now.bound.now.query.now in
     below_more (λ j. (i : ℕ) → i < (atom_at q c.args.atom).width → AreLinked q (record { atom = c.args.atom; col = i }) (record { atom = c.args.other; col = j }) → ⊥) c.loop-col.col c.loop-col.invariant
     (λ i l k. false≢true (sym c.if-is_linked_to.false ∙ c.is_linked_to.ensures.1 (i, l, k)))
 

@@ -9,7 +9,7 @@ use Rattle.plan_rows.proofs.grouped.next_joined.Goals as goal
 pub has-requires : goal.has-requires
 has-requires c =
     let l = c.requires (get_or c.args.atoms.now c.loop-atom.atom-index 0) (Contains-get_or c.args.atoms.now c.loop-atom.atom-index 0 c.loop-atom-test.true) in
-    let few = c.args.setting.now.query.now.kept.size.1 in
+    let few = c.args.setting.now.bound.now.query.now.kept.size.1 in
     omega (arith, l, few)
 
 pub is_joined-requires : goal.is_joined-requires
@@ -20,7 +20,7 @@ returns-then-is_joined c = c.requires (get_or c.args.atoms.now c.loop-atom.atom-
 
 pub loop-atom-preserved : goal.loop-atom-preserved
 loop-atom-preserved c =
-    let q = c.args.setting.now.query.now in
+    let q = c.args.setting.now.bound.now.query.now in
     let group = c.args.group.now in
     let atoms = c.args.atoms.now in
     below_more (λ k. (F : ℕ) → F < length q.atoms → HasAtom group F → (HasAtom group (get_or atoms k 0) → ⊥) → AreUnlinked q F (get_or atoms k 0)) c.loop-atom.atom-index c.loop-atom.invariant
@@ -31,7 +31,7 @@ loop-atom-preserved c =
 
 pub returns : goal.returns
 returns c = λ F G l h m off.
-    let q = c.args.setting.now.query.now in
+    let q = c.args.setting.now.bound.now.query.now in
     let group = c.args.group.now in
     let atoms = c.args.atoms.now in
     each-atom (λ H. (F : ℕ) → F < length q.atoms → HasAtom group F → (HasAtom group H → ⊥) → AreUnlinked q F H) atoms c.loop-atom.atom-index (omega (arith, c.loop-atom-test.false, c.loop-atom.auto.atom-index-end)) c.loop-atom.invariant G m F l h off

@@ -8,7 +8,7 @@ use Rattle.plan_rows.proofs.known.told_by_row.Goals as goal
 
 pub returns-then-are_linked : goal.returns-then-are_linked
 returns-then-are_linked c =
-    let q = c.args.setting.now.query.now in
+    let q = c.args.setting.now.bound.now.query.now in
     let other = c.args.other in
     let j = c.loop-j.j in
     let inside : j < (atom_at q other).width = subst (λ n. j < n) c.width_of-j-end.ensures c.loop-j-test.true in

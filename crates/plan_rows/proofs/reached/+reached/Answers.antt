@@ -22,7 +22,7 @@ add_guesses-loop-place-preserved t c =
     let row = option_copied c.args.row in
     let links = atoms_on c.args.later.now in
     let at = c.loop-place.place in
-    let z = read-row q look.setting.now.db.now c.args.atom c.table_of.result c.rows-rows.result at c.get.result.now c.rows-rows.ensures.is c.table_of.ensures c.get.ensures in
+    let z = read-row q look.setting.now.bound.now.db.now c.args.atom c.table_of.result c.rows-rows.result at c.get.result.now c.rows-rows.ensures.is c.table_of.ensures c.get.ensures in
     record {
       kept = λ p m. c.in_ok-add_guess.ensures.kept p (c.loop-place.invariant.kept p m);
       added = up-next q tables row (look_taken look) [] c.args.atom (rows_of q tables c.args.atom) c.args.places.now c.requires.places
@@ -47,20 +47,20 @@ add_guesses-returns-clause-added t c =
 pub add_reached-invariant_of-guess : goal.add_reached-invariant_of-guess
 add_reached-invariant_of-guess t c =
     let look = c.args.look.now in
-    record { of_atoms = look.of_atoms; there = (links-first (look_query look) look.setting.now.db.now c.args.links.now c.in-Some.link.now c.in-Some.later.now c.in-Some.ensures.cases.0 c.requires.links).0 }
+    record { of_atoms = look.of_atoms; there = (links-first (look_query look) look.setting.now.bound.now.db.now c.args.links.now c.in-Some.link.now c.in-Some.later.now c.in-Some.ensures.cases.0 c.requires.links).0 }
 
 pub add_reached-new-places-requires : goal.add_reached-new-places-requires
 add_reached-new-places-requires t c =
     let look = c.args.look.now in
     let link = c.in-Some.link.now in
-    let first = links-first (look_query look) look.setting.now.db.now c.args.links.now link c.in-Some.later.now c.in-Some.ensures.cases.0 c.requires.links in
+    let first = links-first (look_query look) look.setting.now.bound.now.db.now c.args.links.now link c.in-Some.later.now c.in-Some.ensures.cases.0 c.requires.links in
     record { path = path-of (rows_of (look_query look) (look_tables look) link.atom) link.path c.as_ref.result c.as_ref.ensures.value first.1 }
 
 pub add_reached-add_guesses-added-requires : goal.add_reached-add_guesses-added-requires
 add_reached-add_guesses-added-requires t c =
     let look = c.args.look.now in
     let q = look_query look in
-    let db = look.setting.now.db.now in
+    let db = look.setting.now.bound.now.db.now in
     let links = c.args.links.now in
     let is = c.in-Some.ensures.cases.0 in
     let size = ap length is in (

@@ -20,6 +20,6 @@ loop-count-preserved c =
     let s = c.loop-count.invariant.size in
     record {
       size = omega (arith, e, l, s);
-      shared = subst (AreShared c.args.setting.now.query.now c.args.order.now) (sym c.in_ok-push.ensures.items)
-          (shared-more c.args.setting.now.query.now c.args.order.now shared columns c.loop-count.count c.split_at.result.0.now c.split_at.result.1.now c.loop-count.invariant.size c.split_at.ensures.front c.split_at.ensures.back c.loop-count.invariant.shared c.in_ok-shared_of.ensures);
+      shared = subst (AreShared c.args.setting.now.bound.now.query.now c.args.order.now) (sym c.in_ok-push.ensures.items)
+          (shared-more c.args.setting.now.bound.now.query.now c.args.order.now shared columns c.loop-count.count c.split_at.result.0.now c.split_at.result.1.now c.loop-count.invariant.size c.split_at.ensures.front c.split_at.ensures.back c.loop-count.invariant.shared c.in_ok-shared_of.ensures);
     }

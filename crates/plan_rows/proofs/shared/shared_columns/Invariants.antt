@@ -6,5 +6,5 @@ use Rattle.plan_rows.proofs.shared.shared_columns.Given as goal
 abbrev pub invariant-loop-count : goal.invariant-loop-count
 invariant-loop-count l = record {
   size : length l.shared.items ≡ l.count;
-  shared : AreShared l.setting.query.now l.order l.shared.items;
+  shared : AreShared l.setting.bound.now.query.now l.order l.shared.items;
 }

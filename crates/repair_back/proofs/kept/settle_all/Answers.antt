@@ -9,13 +9,13 @@ use Rattle.repair_back.proofs.kept.settle_all.Goals as goal
 
 pub loop-atom-preserved : goal.loop-atom-preserved
 loop-atom-preserved c =
-    let q = c.args.setting.now.query.now in
-    let db = c.args.setting.now.db.now in
+    let q = c.args.setting.now.bound.now.query.now in
+    let db = c.args.setting.now.bound.now.db.now in
     let at = c.loop-atom.atom in
     let l : at < length q.atoms = omega (arith, c.loop-atom-test.true, c.len-atom-end.ensures) in
     let is_rows : c.rows.result ≡ rows_of q (stored db) at = c.rows.ensures.is ∙ ap (λ t. get_or (stored db) t []) c.table_of-table.ensures in
-    let read = flags-read q db c.args.setting.now.fits c.loop-atom.kept c.loop-atom.invariant.size at l c.table_of-table.result c.table_of-table.ensures c.index-kept-table.result c.index-kept-table.is in
-    let there = c.args.setting.now.fits.there at l in
+    let read = flags-read q db c.args.setting.now.bound.now.fits c.loop-atom.kept c.loop-atom.invariant.size at l c.table_of-table.result c.table_of-table.ensures c.index-kept-table.result c.index-kept-table.is in
+    let there = c.args.setting.now.bound.now.fits.there at l in
     let size = c.loop-atom.invariant.size in
     subst (λ t. AllSettledTo q db c.args.kept.now (set c.loop-atom.kept t c.settle.new.self) (at + 1)) (sym c.table_of-table.ensures)
     (all-more q db c.args.kept.now c.loop-atom.kept at l c.loop-atom.invariant c.settle.new.self (omega (arith, there, size))

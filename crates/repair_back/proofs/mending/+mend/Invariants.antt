@@ -28,7 +28,7 @@ decreases-row_mended l = 7 * length l.rest.now + 3
 -- the blocks so far were mended
 abbrev pub invariant-mend_places-loop-at : goal.invariant-mend_places-loop-at
 invariant-mend_places-loop-at l = record {
-  blocks : BlocksSoFar l.way.course.now.setting.query.now l.way.course.now.setting.db.now l.way.row.now (placed l.taken) l.atom l.fn.kept l.kept l.rows l.places.start l.at l.done;
+  blocks : BlocksSoFar l.way.course.now.setting.bound.now.query.now l.way.course.now.setting.bound.now.db.now l.way.row.now (placed l.taken) l.atom l.fn.kept l.kept l.rows l.places.start l.at l.done;
   right : IsRight l.way.course.now l.memo;
 }
 
@@ -38,6 +38,6 @@ decreases-mend_places-loop-at l = l.places.end - l.at
 -- the rows so far hold, and the last of them is kept
 abbrev pub invariant-mend_block-loop-next : goal.invariant-mend_block-loop-next
 invariant-mend_block-loop-next l = record {
-  rows : RowsSoFar l.way.course.now.setting.query.now l.way.course.now.setting.db.now l.way.row.now (placed l.taken) l.atom l.rest l.fn.kept l.kept l.rows l.start l.end l.last l.next;
+  rows : RowsSoFar l.way.course.now.setting.bound.now.query.now l.way.course.now.setting.bound.now.db.now l.way.row.now (placed l.taken) l.atom l.rest l.fn.kept l.kept l.rows l.start l.end l.last l.next;
   right : IsRight l.way.course.now l.memo;
 }

@@ -7,23 +7,23 @@ use Rattle.repair_back.proofs.Apart.{plan-atoms}
 use Rattle.repair_back.proofs.mending.mend.Goals as goal
 
 pub enough_of-requires : goal.enough_of-requires
-enough_of-requires c = subst (AreAtoms c.args.query.now) (sym c.as_slice-order.ensures) (plan-atoms c.args.query.now c.args.plan.now.order c.requires.plan)
+enough_of-requires c = subst (AreAtoms c.args.bound.now.query.now) (sym c.as_slice-order.ensures) (plan-atoms c.args.bound.now.query.now c.args.plan.now.order c.requires.plan)
 
 pub shared_or_none-shared-requires : goal.shared_or_none-shared-requires
-shared_or_none-shared-requires c = subst (AreAtoms c.args.query.now) (sym c.as_slice-order.ensures) (plan-atoms c.args.query.now c.args.plan.now.order c.requires.plan)
+shared_or_none-shared-requires c = subst (AreAtoms c.args.bound.now.query.now) (sym c.as_slice-order.ensures) (plan-atoms c.args.bound.now.query.now c.args.plan.now.order c.requires.plan)
 
 pub invariant_of-course : goal.invariant_of-course
 invariant_of-course c = record {
-  atoms = subst (AreAtoms c.args.query.now) (sym c.as_slice-order.ensures) (plan-atoms c.args.query.now c.args.plan.now.order c.requires.plan);
-  shares = ∣ subst (AreShared c.args.query.now c.as_slice-order.result.now) (sym c.as_slice.ensures.value) c.shared_or_none-shared.ensures ∣₁;
-  linked = ∣ subst (λ order. AreWays c.args.query.now c.args.db.now order c.args.ways.now) (sym c.as_slice-order.ensures) c.requires.ways ∣₁;
+  atoms = subst (AreAtoms c.args.bound.now.query.now) (sym c.as_slice-order.ensures) (plan-atoms c.args.bound.now.query.now c.args.plan.now.order c.requires.plan);
+  shares = ∣ subst (AreShared c.args.bound.now.query.now c.as_slice-order.result.now) (sym c.as_slice.ensures.value) c.shared_or_none-shared.ensures ∣₁;
+  linked = ∣ subst (λ order. AreWays c.args.bound.now.query.now c.args.bound.now.db.now order c.args.ways.now) (sym c.as_slice-order.ensures) c.requires.ways ∣₁;
 }
 
 pub mended-found-requires-clause-plan : goal.mended-found-requires-clause-plan
-mended-found-requires-clause-plan c = subst (IsPlanOf c.args.query.now) (sym c.as_slice-order.ensures) c.requires.plan
+mended-found-requires-clause-plan c = subst (IsPlanOf c.args.bound.now.query.now) (sym c.as_slice-order.ensures) c.requires.plan
 
 pub invariant_of-way : goal.invariant_of-way
 invariant_of-way c = record {
   long = c.requires.long;
-  known = ∣ subst (AreEnough c.args.query.now c.as_slice-order.result.now) (sym c.as_slice-2.ensures.value) c.in_ok-enough.ensures ∣₁;
+  known = ∣ subst (AreEnough c.args.bound.now.query.now c.as_slice-order.result.now) (sym c.as_slice-2.ensures.value) c.in_ok-enough.ensures ∣₁;
 }

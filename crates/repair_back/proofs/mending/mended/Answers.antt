@@ -17,22 +17,22 @@ pub returns-then-not-mend_all-clause-certain : goal.returns-then-not-mend_all-cl
 returns-then-not-mend_all-clause-certain c =
     let way = c.args.way.now in
     let setting = way.course.now.setting in
-    ((λ e. (rewriting_is_exact setting.db.now setting.query.now way.row.now way.course.now.order.now setting.fits way.long c.requires.plan).0 (c.mend_all.ensures.holds c.if-not-mend_all.true)), (λ h. refl))
+    ((λ e. (rewriting_is_exact setting.bound.now.db.now setting.bound.now.query.now way.row.now way.course.now.order.now setting.bound.now.fits way.long c.requires.plan).0 (c.mend_all.ensures.holds c.if-not-mend_all.true)), (λ h. refl))
 
 pub returns-clause-certain : goal.returns-clause-certain
 returns-clause-certain c =
     let setting = c.args.way.now.course.now.setting in (
       (λ e. absurd (true≢false e)),
-      (λ h. absurd (not-certain setting.query.now setting.db.now setting.fits c.mend_all.new.kept c.mend_all.ensures.chosen c.args.way.now.row.now (c.mend_all.ensures.mended c.if-not-mend_all.false) h)),
+      (λ h. absurd (not-certain setting.bound.now.query.now setting.bound.now.db.now setting.bound.now.fits c.mend_all.new.kept c.mend_all.ensures.chosen c.args.way.now.row.now (c.mend_all.ensures.mended c.if-not-mend_all.false) h)),
     )
 
 pub returns-clause-rejects : goal.returns-clause-rejects
 returns-clause-rejects c =
     let setting = c.args.way.now.course.now.setting in
-    subst (Rejects setting.query.now setting.db.now c.args.way.now.row.now) (sym c.in_ok-repair.ensures)
-    (named-rejects setting.query.now setting.db.now setting.fits c.mend_all.new.kept c.mend_all.ensures.chosen c.args.way.now.row.now (c.mend_all.ensures.mended c.if-not-mend_all.false))
+    subst (Rejects setting.bound.now.query.now setting.bound.now.db.now c.args.way.now.row.now) (sym c.in_ok-repair.ensures)
+    (named-rejects setting.bound.now.query.now setting.bound.now.db.now setting.bound.now.fits c.mend_all.new.kept c.mend_all.ensures.chosen c.args.way.now.row.now (c.mend_all.ensures.mended c.if-not-mend_all.false))
 
 pub returns-clause-stored : goal.returns-clause-stored
 returns-clause-stored c =
     let setting = c.args.way.now.course.now.setting in
-    subst (AreStored setting.db.now) (sym c.in_ok-repair.ensures) (named-stored setting.query.now setting.db.now setting.fits c.mend_all.new.kept c.mend_all.ensures.chosen)
+    subst (AreStored setting.bound.now.db.now) (sym c.in_ok-repair.ensures) (named-stored setting.bound.now.query.now setting.bound.now.db.now setting.bound.now.fits c.mend_all.new.kept c.mend_all.ensures.chosen)

@@ -24,7 +24,7 @@ loop-enough-preserved c =
     let within = c.loop-enough.invariant.within in
     record {
       within = omega (arith, within);
-      apart = apart-more c.args.setting.now.query.now c.args.order.now c.split_at.result.1.now c.args.place c.loop-enough.enough c.split_at.ensures.back (omega (arith, c.loop-enough-test.true))
+      apart = apart-more c.args.setting.now.bound.now.query.now c.args.order.now c.split_at.result.1.now c.args.place c.loop-enough.enough c.split_at.ensures.back (omega (arith, c.loop-enough-test.true))
           c.split_at-in-loop-enough.result.0.now c.split_at-in-loop-enough.ensures.front (c.brings.ensures c.if-brings.false) c.loop-enough.invariant.apart;
     }
 

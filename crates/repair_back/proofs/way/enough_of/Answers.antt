@@ -12,6 +12,6 @@ loop-place-preserved c =
     let s = c.loop-place.invariant.size in
     record {
       size = omega (arith, e, l, s);
-      enough = subst (AreEnough c.args.setting.now.query.now c.args.order.now) (sym c.in_ok-push.ensures.items)
-          (enough-more c.args.setting.now.query.now c.args.order.now enough c.loop-place.place c.enough_at.result s c.loop-place.invariant.enough c.enough_at.ensures);
+      enough = subst (AreEnough c.args.setting.now.bound.now.query.now c.args.order.now) (sym c.in_ok-push.ensures.items)
+          (enough-more c.args.setting.now.bound.now.query.now c.args.order.now enough c.loop-place.place c.enough_at.result s c.loop-place.invariant.enough c.enough_at.ensures);
     }

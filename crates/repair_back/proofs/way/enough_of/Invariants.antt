@@ -6,5 +6,5 @@ use Rattle.repair_back.proofs.way.enough_of.Given as goal
 abbrev pub invariant-loop-place : goal.invariant-loop-place
 invariant-loop-place l = record {
   size : length l.enough.items ≡ l.place;
-  enough : AreEnough l.setting.query.now l.order l.enough.items;
+  enough : AreEnough l.setting.bound.now.query.now l.order l.enough.items;
 }

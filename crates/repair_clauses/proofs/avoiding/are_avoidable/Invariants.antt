@@ -6,6 +6,6 @@ use Rattle.repair_clauses.proofs.avoiding.are_avoidable.Given as goal
 -- the marks of the atoms so far are right
 abbrev pub invariant-loop-at : goal.invariant-loop-at
 invariant-loop-at l = record {
-  size : length l.marks.items ≡ length l.witnesses;
-  marks : AreMarked l.query l.db (names_of l.witnesses) l.marks.items;
+  size : length l.marks.items ≡ length l.witnesses.list;
+  marks : AreMarked l.witnesses.bound.now.query.now l.witnesses.bound.now.db.now (names_of l.witnesses.list) l.marks.items;
 }

@@ -1,4 +1,4 @@
-use Rattle.std.proofs.Common.{◌≡◌, ◌<◌, inl, inr, ◌∙◌, ℕ, List, [], Bool, length, get_or, sym, ap, subst, arith}
+use Rattle.std.proofs.Common.{◌≡◌, ◌<◌, inl, inr, ◌∙◌, ℕ, List, [], Bool, Contains, length, get_or, sym, ap, subst, arith}
 use Rattle.std.proofs.lemmas.List.{length-map}
 use Rattle.cqa_value.specs.declared.value.Value.{Value}
 use Rattle.cqa_model.specs.declared.query.Atom.{Atom}
@@ -9,6 +9,7 @@ use Rattle.cqa_model.specs.Query.{atom_at}
 use Rattle.table_blocks.specs.Tables.{rows_at}
 use Rattle.join_access.specs.declared.witness.Witness.{Witness}
 use Rattle.join_access.specs.Listing.{names_of}
+use Rattle.row_witnesses.proofs.Told.{all_names}
 use Rattle.repair_clauses.specs.Avoiding.{HasFree, AreLoose, IsLooseAt, IsAvoidable}
 use Rattle.repair_clauses.specs.Runs.{AreRowPlaces, AreColumn}
 use Rattle.repair_clauses.specs.Spans.{place_at}
@@ -25,32 +26,33 @@ avoidable q db all n column loose atom key rows here is ek er c marks names (i, 
     let stored : HasFree atom.key (rows_at db atom.table) column (place_at names n) = subst (λ rs. HasFree atom.key rs column (place_at names n)) er keyed in
     record { atom = n; there = here; places = column; column = c; free = subst (λ (a : Atom). HasFree a.key (rows_at db a.table) column (place_at names n)) is stored }
 
-pub column-requires : goal.column-requires
-column-requires c = rows_long c.args.query.now c.args.db.now c.requires.all.0 c.args.witnesses.now c.requires.all.1 c.args.at c.requires.there
-
 pub loose_places-requires : goal.loose_places-requires
 loose_places-requires c =
-    let q = c.args.query.now in
-    let db = c.args.db.now in
-    let rows = c.rows-rows.ensures.is ∙ ap (λ (a : Atom). rows_at db a.table) c.atom_of-atom.ensures in
-    let places = subst (AreColumn (names_of c.args.witnesses.now) c.args.at) (sym c.as_slice-2.ensures.value) c.in_ok-places.ensures in
-    subst (λ x. AreRowPlaces x c.as_slice-2.result.now) (sym rows)
-    (are_places q db c.requires.all.0 (names_of c.args.witnesses.now) c.requires.all.1 c.args.at c.requires.there c.as_slice-2.result.now places)
+    let w = c.args.witnesses.now in
+    let b = w.bound.now in
+    let rows = c.rows-rows.ensures.is ∙ ap (λ (a : Atom). rows_at b.db.now a.table) c.atom_of-atom.ensures in
+    subst (λ x. AreRowPlaces x c.column-places.result.now) (sym rows)
+    (are_places b.query.now b.db.now w.row.now (names_of w.list) (all_names w) c.args.at c.requires.there c.column-places.result.now c.column-places.ensures.column)
 
 pub mark_witnesses-requires-clause-rows : goal.mark_witnesses-requires-clause-rows
-mark_witnesses-requires-clause-rows c = rows_long c.args.query.now c.args.db.now c.requires.all.0 c.args.witnesses.now c.requires.all.1 c.args.at c.requires.there
+mark_witnesses-requires-clause-rows c =
+    let w = c.args.witnesses.now in
+    subst (λ (ws : List Witness). (x : Witness) → Contains ws x → c.args.at < length x.rows) (sym c.as_slice-2.ensures)
+    (rows_long w.bound.now.query.now w.bound.now.db.now w.row.now w.list (all_names w) c.args.at c.requires.there)
 
 pub returns-clause-marks : goal.returns-clause-marks
 returns-clause-marks c = λ i l e.
-    let ws = c.args.witnesses.now in
-    let all = names_of ws in
+    let w = c.args.witnesses.now in
+    let b = w.bound.now in
+    let ws = c.as_slice-2.result.now in
+    let all = names_of w.list in
     let names = get_or all i [] in
-    let size = length-map ws (λ (w : Witness). w.rows) in
-    let column = subst (AreColumn all c.args.at) (sym c.as_slice-2.ensures.value) c.in_ok-places.ensures in
-    let loose = subst (AreLoose c.as_slice.result.now c.rows-rows.result c.as_slice-2.result.now) (sym c.as_slice-4.ensures.value) c.in_ok-loose.ensures.loose in
-    let same : c.as_slice-3.result.now ≡ c.as_slice-2.result.now = c.as_slice-3.ensures.value ∙ sym c.as_slice-2.ensures.value in
-    elim (c.mark_witnesses.ensures.marks i (omega (arith, l, size)) e) [
+    let size = length-map w.list (λ (x : Witness). x.rows) in
+    let long = ap length c.as_slice-2.ensures in
+    let loose = subst (AreLoose c.as_slice.result.now c.rows-rows.result c.column-places.result.now) (sym c.as_slice-3.ensures.value) c.in_ok-loose.ensures.loose in
+    elim (c.mark_witnesses.ensures.marks i (omega (arith, l, size, long)) e) [
       | inl old ↦ c.requires.marks i l old
-      | inr at ↦ avoidable c.args.query.now c.args.db.now all c.args.at c.as_slice-2.result.now c.as_slice-4.result.now c.atom_of-atom.result.now c.as_slice.result.now c.rows-rows.result c.requires.there
-          c.atom_of-atom.ensures c.as_slice.ensures c.rows-rows.ensures.is column loose names (subst (λ ps. IsLooseAt ps c.as_slice-4.result.now (place_at names c.args.at)) same at)
+      | inr at ↦ avoidable b.query.now b.db.now all c.args.at c.column-places.result.now c.as_slice-3.result.now c.atom_of-atom.result.now c.as_slice.result.now c.rows-rows.result c.requires.there
+          c.atom_of-atom.ensures c.as_slice.ensures c.rows-rows.ensures.is c.column-places.ensures.column loose names
+          (subst (λ (xs : List Witness). IsLooseAt c.column-places.result.now c.as_slice-3.result.now (place_at (get_or (names_of xs) i []) c.args.at)) c.as_slice-2.ensures at)
     ]

@@ -1,17 +1,24 @@
-use Rattle.std.proofs.Common.{◌≡◌, ◌++◌, ◌∙◌, List, map, ap, true, false}
+use Rattle.std.proofs.Common.{◌≤◌, ◌++◌, ◌∙◌, List, Contains, length, map, sym, ap, subst}
 use Rattle.std.proofs.lemmas.Result.{IfOk-weaker}
-use Rattle.cnf_form.specs.declared.formula.Clause.{Clause}
-use Rattle.cnf_form.specs.Literals.{literals}
-use Rattle.cqa_value.specs.declared.items.Items.{Items}
+use Rattle.cqa_model.specs.declared.limits.TheConstants.{MOST_ATOMS}
+use Rattle.join_access.specs.declared.witness.Witness.{Witness}
 use Rattle.join_access.specs.Listing.{names_of}
 use Rattle.repair_clauses.specs.Clauses.{negative, positive}
 use Rattle.repair_clauses.specs.Spans.{variables_of}
-use Rattle.search_answers.specs.Classing.{AreClassClauses, signed}
+use Rattle.search_answers.specs.Classing.{AreNameLists}
+use Rattle.row_witnesses.proofs.Told.{all_names}
 use Rattle.search_answers.proofs.ClassLists.{names-same}
+use Rattle.search_answers.proofs.WitnessRows.{few_rows}
 use Rattle.search_answers.proofs.class_clauses.class_clauses.Goals as goal
+
+pub witness_lists-requires : goal.witness_lists-requires
+witness_lists-requires c =
+    let w = c.args.witnesses.now in
+    subst (λ (ws : List Witness). (x : Witness) → Contains ws x → length x.rows ≤ MOST_ATOMS) (sym c.as_slice.ensures) (few_rows w.bound.now.query.now w.bound.now.db.now w.row.now w.list (all_names w))
 
 pub returns : goal.returns
 returns c =
+    let ws = c.args.witnesses.now.list in
     let vars = variables_of c.args.classed.now.rows.spans in
     let blocks = c.in_ok-whole.whole.items in
     let found = c.each_once.new.lists.items in
@@ -19,6 +26,7 @@ returns c =
       blocks = blocks;
       witnesses = found;
       of_blocks = c.in_ok-whole.ensures;
-      of_names = names-same vars c.args.classed.now.classes.items (names_of c.args.witnesses.now) c.in_ok-found.found.items found c.in_ok-found.ensures c.each_once.ensures;
-      is = is ∙ ap (λ ls. map (map positive) ls ++ map (map negative) c.as_slice-2.result.now) c.as_slice.ensures.value ∙ ap (λ ls. map (map positive) blocks ++ map (map negative) ls) c.as_slice-2.ensures.value;
+      of_names = names-same vars c.args.classed.now.classes.items (names_of ws) c.in_ok-found.found.items found
+          (subst (λ (xs : List Witness). AreNameLists vars c.args.classed.now.classes.items (names_of xs) c.in_ok-found.found.items) c.as_slice.ensures c.in_ok-found.ensures) c.each_once.ensures;
+      is = is ∙ ap (λ ls. map (map positive) ls ++ map (map negative) c.as_slice-3.result.now) c.as_slice-2.ensures.value ∙ ap (λ ls. map (map positive) blocks ++ map (map negative) ls) c.as_slice-3.ensures.value;
     }) c.clauses_of-clauses.ensures

@@ -8,11 +8,11 @@ use Rattle.search_answers.proofs.classing.classes_of.Goals as goal
 
 pub returns : goal.returns
 returns c =
-    let e : c.loop-at.at ≡ length c.args.query.now.atoms = omega arith in
-    subst (λ n. AreClassedTo c.args.query.now c.args.db.now (variables_of c.args.numbered.now.spans) (names_of c.args.witnesses.now) n c.loop-at.classes.items) e c.loop-at.invariant
+    let e : c.loop-at.at ≡ length c.args.witnesses.now.bound.now.query.now.atoms = omega arith in
+    subst (λ n. AreClassedTo c.args.witnesses.now.bound.now.query.now c.args.witnesses.now.bound.now.db.now (variables_of c.args.numbered.now.spans) (names_of c.args.witnesses.now.list) n c.loop-at.classes.items) e c.loop-at.invariant
 
 pub loop-at-init : goal.loop-at-init
 loop-at-init c =
     let size = c.in_ok-resize.ensures.len in
-    let same = long c.args.numbered.now.spans c.requires.rows.single in
-    classed-none c.args.query.now c.args.db.now (variables_of c.args.numbered.now.spans) (names_of c.args.witnesses.now) c.resize.new.self.items (omega (arith, size, same)) (search rules)
+    let same = long c.args.numbered.now.spans c.requires.single in
+    classed-none c.args.witnesses.now.bound.now.query.now c.args.witnesses.now.bound.now.db.now (variables_of c.args.numbered.now.spans) (names_of c.args.witnesses.now.list) c.resize.new.self.items (omega (arith, size, same)) (search rules)

@@ -5,4 +5,4 @@ use Rattle.search_answers.proofs.classing.classes_of.Given as goal
 
 -- the rows of the atoms so far have classes
 abbrev pub invariant-loop-at : goal.invariant-loop-at
-invariant-loop-at l = AreClassedTo l.query l.db (variables_of l.numbered.spans) (names_of l.witnesses) l.at l.classes.items
+invariant-loop-at l = AreClassedTo l.witnesses.bound.now.query.now l.witnesses.bound.now.db.now (variables_of l.numbered.spans) (names_of l.witnesses.list) l.at l.classes.items

@@ -3,7 +3,9 @@ use Rattle.search_answers.specs.Classing.{FoundSays}
 use Rattle.search_answers.proofs.judging.judge_classes.Goals as goal
 
 pub returns-in-Satisfiable : goal.returns-in-Satisfiable
-returns-in-Satisfiable c row all blocks few = (subst (FoundSays c.args.query.now c.args.db.now row) c.in-Satisfiable.is (c.in_ok-second_look.ensures row all blocks), few)
+returns-in-Satisfiable c =
+    let w = c.args.witnesses.now in (subst (FoundSays w.bound.now.query.now w.bound.now.db.now w.row.now) c.in-Satisfiable.is c.in_ok-second_look.ensures, w.within)
 
 pub returns-in-Unsatisfiable : goal.returns-in-Unsatisfiable
-returns-in-Unsatisfiable c row all blocks few = (subst (FoundSays c.args.query.now c.args.db.now row) c.in-Unsatisfiable.is (c.in_ok-second_look.ensures row all blocks), few)
+returns-in-Unsatisfiable c =
+    let w = c.args.witnesses.now in (subst (FoundSays w.bound.now.query.now w.bound.now.db.now w.row.now) c.in-Unsatisfiable.is c.in_ok-second_look.ensures, w.within)

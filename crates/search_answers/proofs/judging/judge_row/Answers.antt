@@ -1,20 +1,15 @@
-use Rattle.std.proofs.Common.{List, sym, subst}
+use Rattle.std.proofs.Common.{subst}
 use Rattle.std.proofs.lemmas.Result.{IfOk-weaker}
-use Rattle.join_access.specs.Listing.{AreAllNames, HasTooMany, IsOver, names_of}
-use Rattle.join_access.specs.declared.witness.Witness.{Witness}
+use Rattle.join_access.specs.Listing.{HasTooMany, IsOver}
+use Rattle.search_answers.proofs.Searching.{verdict_of}
 use Rattle.search_answers.proofs.judging.judge_row.Goals as goal
-
-pub judge_witnesses-verdict-requires-clause-all : goal.judge_witnesses-verdict-requires-clause-all
-judge_witnesses-verdict-requires-clause-all c =
-    (c.args.row.now, subst (λ (found : List Witness). AreAllNames c.args.query.now c.args.db.now c.args.row.now (names_of found)) (sym c.as_slice.ensures) c.in-Ok.ensures.all)
 
 pub returns-in-Ok-clause-verdict : goal.returns-in-Ok-clause-verdict
 returns-in-Ok-clause-verdict c =
-    let q = c.args.query.now in
-    let row = c.args.row.now in
-    let all = subst (λ (found : List Witness). AreAllNames q c.args.db.now row (names_of found)) (sym c.as_slice.ensures) c.in-Ok.ensures.all in
-    IfOk-weaker c.judge_witnesses-verdict.result _ _ (λ verdict judged. judged row all c.in-Ok.ensures.within) c.judge_witnesses-verdict.ensures
+    let of = c.in-Ok.ensures.found in
+    IfOk-weaker c.judge_witnesses-verdict.result _ _
+    (λ verdict judged. verdict_of c.in-Ok.found c.args.search.now.lookup.bound.now c.args.row.now of.0 of.1 c.args.search.now.budget verdict judged) c.judge_witnesses-verdict.ensures
 
 pub returns-in-Err-Refused-clause-verdict : goal.returns-in-Err-Refused-clause-verdict
 returns-in-Err-Refused-clause-verdict c =
-    subst (IsOver (HasTooMany c.args.query.now c.args.db.now c.args.row.now)) c.in-Err-Refused.field-0-is c.in-Err-Refused.ensures.over
+    let b = c.args.search.now.lookup.bound.now in subst (IsOver (HasTooMany b.query.now b.db.now c.args.row.now)) c.in-Err-Refused.field-0-is c.in-Err-Refused.ensures.over

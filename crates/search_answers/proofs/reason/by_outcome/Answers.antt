@@ -12,11 +12,11 @@ by_model-names-requires-clause-model c =
 pub returns-in-Unsat-clause-told : goal.returns-in-Unsat-clause-told
 returns-in-Unsat-clause-told c =
     let formula = c.args.decided.formula in
-    let decided = subst (λ (outcome : Outcome). IsDecided c.args.query.now c.args.db.now c.args.row.now c.args._budget (record { formula = formula; outcome = outcome })) c.in-Unsat.is c.requires.decided in
+    let decided = subst (λ (outcome : Outcome). IsDecided c.args.bound.now.query.now c.args.bound.now.db.now c.args.row.now c.args._budget (record { formula = formula; outcome = outcome })) c.in-Unsat.is c.requires.decided in
     (c.requires.within, (formula.rows, decided))
 
 pub returns-in-Spent-clause-untold : goal.returns-in-Spent-clause-untold
 returns-in-Spent-clause-untold c =
     let formula = c.args.decided.formula in
-    let decided = subst (λ (outcome : Outcome). IsDecided c.args.query.now c.args.db.now c.args.row.now c.args._budget (record { formula = formula; outcome = outcome })) c.in-Spent.is c.requires.decided in
+    let decided = subst (λ (outcome : Outcome). IsDecided c.args.bound.now.query.now c.args.bound.now.db.now c.args.row.now c.args._budget (record { formula = formula; outcome = outcome })) c.in-Spent.is c.requires.decided in
     (c.requires.within, (formula.rows, decided))

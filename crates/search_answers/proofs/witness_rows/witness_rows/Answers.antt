@@ -1,5 +1,6 @@
 use Rattle.std.proofs.Common.{◌≡◌, length, sym, subst, arith}
 use Rattle.join_access.specs.Listing.{names_of}
+use Rattle.row_witnesses.proofs.Told.{all_names}
 use Rattle.repair_clauses.specs.Spans.{IsNumbering}
 use Rattle.search_answers.specs.Classing.{AreNumberedTo}
 use Rattle.search_answers.proofs.WitnessRows.{numbering}
@@ -7,8 +8,9 @@ use Rattle.search_answers.proofs.witness_rows.witness_rows.Goals as goal
 
 pub invariant_of-result : goal.invariant_of-result
 invariant_of-result c =
-    let q = c.args.query.now in
-    let all = names_of c.args.witnesses.now in
+    let w = c.args.witnesses.now in
+    let q = w.bound.now.query.now in
+    let all = names_of w.list in
     let spans = c.loop-at.numbered.items in
     let ended : c.loop-at.at ≡ length q.atoms = omega arith in
     let rows = subst (λ n. AreNumberedTo all n spans) ended c.loop-at.invariant.rows in
@@ -16,12 +18,13 @@ invariant_of-result c =
     let long : c.len-vars.result ≡ length spans = omega (arith, len, c.loop-at.numbered.ok.0) in
     record {
       kept = subst (λ ss. IsNumbering ss c.len-vars.result) (sym c.from_vec.ensures)
-          (numbering q c.args.db.now c.requires.all.0 all c.requires.all.1 c.count-tables.ensures.database spans rows c.len-vars.result long);
+          (numbering q w.bound.now.db.now w.row.now all (all_names w) w.bound.now.database spans rows c.len-vars.result long);
     }
 
 pub returns : goal.returns
 returns c =
-    let q = c.args.query.now in
-    let all = names_of c.args.witnesses.now in
+    let w = c.args.witnesses.now in
+    let q = w.bound.now.query.now in
+    let all = names_of w.list in
     let ended : c.loop-at.at ≡ length q.atoms = omega arith in
     subst (AreNumberedTo all (length q.atoms)) (sym c.from_vec.ensures) (subst (λ n. AreNumberedTo all n c.loop-at.numbered.items) ended c.loop-at.invariant.rows)

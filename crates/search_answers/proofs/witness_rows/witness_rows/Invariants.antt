@@ -8,5 +8,5 @@ use Rattle.search_answers.proofs.witness_rows.witness_rows.Given as goal
 abbrev pub invariant-loop-at : goal.invariant-loop-at
 invariant-loop-at l = record {
   few : length l.numbered.items ≤ MOST_ROWS * l.at;
-  rows : AreNumberedTo (names_of l.witnesses) l.at l.numbered.items;
+  rows : AreNumberedTo (names_of l.witnesses.list) l.at l.numbered.items;
 }

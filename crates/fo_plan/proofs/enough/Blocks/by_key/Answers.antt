@@ -18,12 +18,12 @@ returns c =
     let is = c.as_slice-key.ensures ∙ c.schema.ensures.key in
     let values = c.known_values-values.result in
     let look = c.look.ensures in
-    let known = of-look step c.look.result look.setting look.taken look.atom (λ s taken F. (y : List Value) → MayFit s.query.now given taken F y → first_key key values y ≡ values) c.known_values-values.ensures.known in
+    let known = of-look step c.look.result look.setting look.taken look.atom (λ s taken F. (y : List Value) → MayFit s.bound.now.query.now given taken F y → first_key key values y ≡ values) c.known_values-values.ensures.known in
     record {
-      key = key-of-atom setting.query.now setting.db.now step.atom c.table_of-table.result key setting.fits step.there c.table_of-table.ensures is;
+      key = key-of-atom setting.bound.now.query.now setting.bound.now.db.now step.atom c.table_of-table.result key setting.bound.now.fits step.there c.table_of-table.ensures is;
       links = [];
       behind = λ G m. absurd (mem-nil G m);
-      enough = key-enough setting.query.now setting.db.now step.atom c.table_of-table.result key setting.fits step.there c.table_of-table.ensures is
-          values c.told_rows.ensures.span.0 c.told_rows.result (MayFit setting.query.now given (rows_before step) step.atom) c.told_rows.ensures.span.1 known;
+      enough = key-enough setting.bound.now.query.now setting.bound.now.db.now step.atom c.table_of-table.result key setting.bound.now.fits step.there c.table_of-table.ensures is
+          values c.told_rows.ensures.span.0 c.told_rows.result (MayFit setting.bound.now.query.now given (rows_before step) step.atom) c.told_rows.ensures.span.1 known;
       wanted = λ at there may. tt;
     }

@@ -12,12 +12,12 @@ use Rattle.fo_plan.proofs.enough.Blocks.by_links.Goals as goal
 pub reached_places-requires-clause-path : goal.reached_places-requires-clause-path
 reached_places-requires-clause-path c =
     let look = c.look.ensures in
-    to-look c.args.step.now c.look.result look.setting look.taken look.atom (λ s taken F. IfSome c.index_of-path.result (λ x. x.now.rows ≡ rows_of s.query.now (stored s.db.now) F)) c.index_of-path.ensures
+    to-look c.args.step.now c.look.result look.setting look.taken look.atom (λ s taken F. IfSome c.index_of-path.result (λ x. x.now.rows ≡ rows_of s.bound.now.query.now (stored s.bound.now.db.now) F)) c.index_of-path.ensures
 
 pub reached_places-requires-clause-links : goal.reached_places-requires-clause-links
 reached_places-requires-clause-links c =
     let look = c.look.ensures in
-    to-look c.args.step.now c.look.result look.setting look.taken look.atom (λ s taken F. AreLinks s.query.now s.db.now c.links-links.result.now) c.links-links.ensures.links
+    to-look c.args.step.now c.look.result look.setting look.taken look.atom (λ s taken F. AreLinks s.bound.now.query.now s.bound.now.db.now c.links-links.result.now) c.links-links.ensures.links
 
 pub whole-requires : goal.whole-requires
 whole-requires c = c.in_ok-places.ensures.ascending
@@ -30,7 +30,7 @@ returns c =
     let links = atoms_on c.links-links.result.now in
     let places = c.in_ok-places.places.items in
     let all = of-look step c.look.result look.setting look.taken look.atom
-    (λ s taken F. (i : ℕ) → i < length (rows_of s.query.now (stored s.db.now) F) → LeadsTo s.query.now (stored s.db.now) given taken links F (row_of (rows_of s.query.now (stored s.db.now) F) i) → Contains places i)
+    (λ s taken F. (i : ℕ) → i < length (rows_of s.bound.now.query.now (stored s.bound.now.db.now) F) → LeadsTo s.bound.now.query.now (stored s.bound.now.db.now) given taken links F (row_of (rows_of s.bound.now.query.now (stored s.bound.now.db.now) F) i) → Contains places i)
     c.in_ok-places.ensures.all in
     whole-reached step given c.whole.result links c.links-links.ensures.behind c.whole.ensures.key c.whole.ensures.rows
     (λ at there leads. subst (λ w. IsWanted w at) (sym c.whole.ensures.same) (all at there leads))

@@ -14,7 +14,7 @@ returns c =
     let values = c.known_values-values.result in
     let start = c.rows_with-start.result.0 in
     let part = c.rows_with-start.result.1 in
-    let span = span-of q look.setting.now.db.now look.setting.now.fits look.atom c.table_of-table.result look.there c.table_of-table.ensures values start part c.rows_with-start.ensures.span in
+    let span = span-of q look.setting.now.bound.now.db.now look.setting.now.bound.now.fits look.atom c.table_of-table.result look.there c.table_of-table.ensures values start part c.rows_with-start.ensures.span in
     let count : c.len.result ≡ length part = c.len.ensures in
     let all = span-within key rows values start part span in
     record {

@@ -15,4 +15,4 @@ found q db paths atom (Some x) are e = are atom x.now e.0 e.1
 pub returns : goal.returns
 returns c =
     let setting = c.args.self.now in
-    found setting.query.now setting.db.now setting.paths.now c.args.atom c.path_of.result setting.indexed c.path_of.ensures
+    found setting.bound.now.query.now setting.bound.now.db.now setting.paths.now c.args.atom c.path_of.result setting.indexed c.path_of.ensures

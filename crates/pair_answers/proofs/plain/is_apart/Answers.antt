@@ -1,0 +1,5 @@
+use Rattle.key_closure.proofs.Naming.{untold}
+use Rattle.pair_answers.proofs.plain.is_apart.Goals as goal
+
+pub are_linked-requires-clause-variables : goal.are_linked-requires-clause-variables
+are_linked-requires-clause-variables c = let bound = c.args.bound.now in untold bound.query.now bound.variables bound.named
