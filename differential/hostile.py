@@ -28,8 +28,8 @@ SECONDS = 60
 BYTES = b"\0\t\n\r '\"();,.=<>-_\\aeiou09\x7f\x80\xc3\xff"
 """Bytes that mean something to the program, and some that don't."""
 
-RANGE_WORDS = ("range count sum min max from where and r x y t primary = <> < <= > >= 0 -7 9223372036854775807 -9223372036854775808 "
-               "9223372036854775808 'a' '' ' , ( ) . -- ; none group by").split()
+RANGE_WORDS = ("range count sum min max from where and group by r x y t primary = <> < <= > >= 0 -7 9223372036854775807 "
+               "-9223372036854775808 9223372036854775808 'a' '' ' , ( ) . -- ; none").split()
 """Words of ranges, and some that they don't have."""
 
 
@@ -99,6 +99,7 @@ def ranges(random_source):
         for joint in ["where", "and", "and"][:pick.randint(0, 3)]:
             words += [joint, *pick.choice([("x", "1"), ("y", "-1"), ("t", "'none'")])]
             words[-1:-1] = [pick.choice(["=", "<>", "<", "<=", ">", ">="])]
+        words += pick.choice([[], ["group", "by", pick.choice("xyt")]])
         for _ in range(pick.choice([0, 1, 1, 2])):
             place = pick.randrange(len(words))
             words[place:place + pick.randint(0, 1)] = pick.choices(RANGE_WORDS, k=pick.randint(0, 2))
@@ -106,16 +107,17 @@ def ranges(random_source):
     return "\n".join(lines).encode() + b"\n"
 
 
-def range_of_many_tests():
-    """A range with 100,000 tests over some hundred rows."""
+def ranges_of_many_tests():
+    """Ranges with 100,000 tests over some hundred rows, whole and by groups."""
     rows = ", ".join("(%d, %d, 'a')" % (k // 2, k % 2) for k in range(400))
+    tests = " and ".join(["y<3"] * 100_000)
     return ("create table r (x int, y int, t text, primary key (x));\ninsert into r values %s;\nrange sum y from r where %s;\n"
-            % (rows, " and ".join(["y<3"] * 100_000))).encode()
+            "range sum y from r where %s group by x;\n" % (rows, tests, tests)).encode()
 
 
 def inputs(random_source, count, truncated):
     """Pairs of a word and an input."""
-    yield "run", range_of_many_tests()
+    yield "run", ranges_of_many_tests()
     scripts, proofs = read_all("cqa"), read_all("lrat")
     for word, texts in (("run", scripts), ("check", proofs)):
         for _ in range(count):

@@ -163,7 +163,8 @@ class Script:
         pick = self.random
         table = next((table for table in self.tables if table.name == "amount"), None)
         if table is None:
-            columns = [("from", "int"), ("sum", pick.choice(["int", "text"])), ("count", "int"), ("range", "text")]
+            names = pick.sample(["from", "sum", "count", "range", "where", "group", "by"], 4)
+            columns = list(zip(names, ["int", pick.choice(["int", "text"]), "int", "text"]))
             table = Table("amount", columns, pick.sample(range(4), pick.randint(1, 2)), pick.random() < 0.2)
             self.tables.append(table)
             self.replied("create %stable %s;" % ("strict " if table.strict else "", table.schema()), "created amount")
@@ -183,18 +184,22 @@ class Script:
             column = pick.randrange(len(table.columns))
             value = pick.choice(numbers if table.columns[column][1] == "int" else TEXTS)
             tests.append((column, pick.choice(sorted(OPS)), value))
+        group = pick.randrange(len(table.columns)) if pick.random() < 0.5 else None
         if pick.random() < 0.1:
             return self.refused_range(table, word, place, tests)
-        text = "range %s;" % aggregate_text(table, word, place, tests)
+        text = "range %s%s;" % (aggregate_text(table, word, place, tests), "" if group is None else " group by " + table.columns[group][0])
         if word == "sum" and table.columns[place][1] == "text":
             return self.replied(text, "error 9 TypeMismatch condition 0")
+        if group is not None:
+            return self.replied(text, *groups_lines(table.groups((word, place), tests, group)))
         return self.say(text, lambda out: is_range(out, table, (word, place), tests))
 
     def refused_range(self, table, word, place, tests):
-        """A range with a fault or two, of which the first one in the order of checks is told: the table, the aggregate, the tests."""
+        """A range with a fault or two, of which the first one in the order of checks is told: the table, the aggregate, the tests, the
+        groups."""
         pick = self.random
         of_text = word == "sum" and table.columns[place][1] == "text"
-        wrong = pick.sample(["table", "column", "test", "kind"], pick.randint(1, 3))
+        wrong = pick.sample(["table", "column", "test", "kind", "group"], pick.randint(1, 3))
         text = aggregate_text(table, word, place, tests)
         if tests and "kind" in wrong:
             column, op, value = tests[-1]
@@ -204,13 +209,16 @@ class Script:
             text += " and other = 1"
         if word != "count" and "column" in wrong:
             text = text.replace(" %s from " % table.columns[place][0], " nothing from ", 1)
+        if "group" in wrong:
+            text += " group by missing"
         if "table" in wrong:
             text = re.sub(r" from %s\b(?! from)" % table.name, " from nowhere", text, count=1)
         first = [("table", "error 4 UnknownTable nowhere", True),
                  ("column", "error 6 UnknownColumn nothing", word != "count"),
                  ("sum", "error 9 TypeMismatch condition 0", of_text),
                  ("kind", "error 9 TypeMismatch condition %d" % len(tests), bool(tests)),
-                 ("test", "error 6 UnknownColumn other", bool(tests))]
+                 ("test", "error 6 UnknownColumn other", bool(tests)),
+                 ("group", "error 6 UnknownColumn missing", True)]
         told = next((line for what, line, can in first if can and (what == "sum" or what in wrong)), None)
         if told:
             self.replied("range %s;" % text, told)
@@ -472,10 +480,20 @@ def aggregate_text(table, word, place, tests):
     return "%s from %s%s" % (what, table.name, " where " + " and ".join(wheres) if wheres else "")
 
 
+def end_text(end):
+    return "none" if end is None else literal(end)
+
+
+def groups_lines(groups):
+    """The reply to a `range` by groups."""
+    lines = ["group %s least %s greatest %s" % (literal(value), end_text(least), end_text(greatest)) for value, least, greatest in groups]
+    return lines + ["%d groups" % len(groups)]
+
+
 def is_range(out, table, goal, tests):
     """Both ends, each with the kept rows of a repair that has it."""
     for word, end in zip(("least", "greatest"), table.range(goal, tests)):
-        out.expect("%s %s" % (word, "none" if end is None else literal(end)))
+        out.expect("%s %s" % (word, end_text(end)))
         value = table.aggregate(goal, tests, kept_rows(out, [table])[0])
         if value != end:
             raise Differs("the repair behind %s has %s" % (word, value))

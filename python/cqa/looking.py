@@ -23,7 +23,7 @@ ENDS = ("range",)
 def csv_main(arguments: Sequence[str]) -> int:
     """The command `csv FILE ..`: the rows of the last question as CSV. Where a statement is refused nothing is written."""
     words = argparse.ArgumentParser(prog="cqa csv", description="The rows of the last question of script files as CSV with a header, or "
-                                    "the two ends, where it is a range; an end that is none is empty. Where a statement is refused, nothing is written.")
+                                    "the two ends, where it is a range, a line for each group; an end that is none is empty. Where a statement is refused, nothing is written.")
     words.add_argument("files", nargs="+", metavar="FILE")
     words.add_argument("-o", "--output", metavar="FILE", help="the file to write, in place of standard output")
     told = words_told(words, arguments)

@@ -116,7 +116,7 @@ def shown_notes(text: str, places: Places) -> List[str]:
     verb = "".join(tokens(text)[:1])
     if verb == "range":
         aggregate = aggregate_of(text)
-        columns, tables = [name for name in (aggregate.column, aggregate.group) if name], aggregate.tables
+        columns, tables = list(dict.fromkeys(filter(None, (aggregate.column, aggregate.group)))), aggregate.tables
     elif verb in _SHOWS or not verb:
         columns, tables, _ = query_parts(text)
     else:

@@ -22,8 +22,8 @@ STATEMENTS: Tuple[Help, ...] = (
     Help("alter", "alter table NAME set strict | drop strict | set primary key (COLUMN);", "makes a table strict, or gives it another key"),
     Help("ask", "ask select COLUMN from NAME, NAME where COLUMN = COLUMN;", "the certain rows: those that hold whichever row of each key is right"),
     Help("possible", "possible select COLUMN from NAME;", "the possible rows: those that hold for some choice of rows"),
-    Help("range", "range count | sum COLUMN | min COLUMN | max COLUMN from NAME [where COLUMN = 1 and COLUMN <> 'a'];",
-         "between which values a number, a sum, a least or a greatest value lies, with a choice of rows for each end"),
+    Help("range", "range count | sum COLUMN | min COLUMN | max COLUMN from NAME [where COLUMN = 1 and COLUMN <> 'a'] [group by COLUMN];",
+         "between which values a number, a sum, a least or a greatest value lies, with a choice of rows for each end; or for each value of a column"),
     Help("explain", "explain row (1, 'a') for select COLUMN, COLUMN from NAME;", "why a row is certain, or a choice of rows in which it is no answer"),
     Help("classify", "classify select COLUMN from NAME, NAME;", "how hard a query is, by its attacks"),
     Help("plan", "plan select COLUMN from NAME, NAME;", "the order in which tables are gone through without a search"),
@@ -37,7 +37,7 @@ STATEMENTS: Tuple[Help, ...] = (
 VERBS = tuple(statement.name for statement in STATEMENTS)
 
 #: All words of the language, for completion.
-WORDS = tuple(sorted({*VERBS, "and", "conflicts", "count", "drop", "exists", "for", "from", "int", "into", "key", "log", "max", "min", "primary", "row",
+WORDS = tuple(sorted({*VERBS, "and", "by", "conflicts", "count", "drop", "exists", "for", "from", "group", "int", "into", "key", "log", "max", "min", "primary", "row",
                       "select", "strict", "sum", "table", "tables", "text", "values", "where"}))
 
 

@@ -105,6 +105,14 @@ class Pages(ProgramCase):
                        "table the least the greatest c (1, 120.50) (1, 900.00) Question 2 s.cqa:11", "between none and none", "Question 3 s.cqa:12"):
             self.assertIn(wanted, words)
 
+    def test_ranges_by_groups(self) -> None:
+        read = self.page("-- cqa: column c.credit has 2 places\ncreate table c (id int, credit int, primary key (id));\ncopy c;\n1,90000\n1,12050\n2,100\n2,100\n\\.\n"
+                         "range max credit from c where credit > 0 group by id;\nrange count from c group by credit;\n")
+        words = " ".join(read.text.split())
+        for wanted in ("2 questions", "max credit from c where credit > 0 group by id id least greatest 1 120.50 900.00 2 1.00 1.00",
+                       "count from c group by credit credit least greatest 1.00 1 1 120.50 0 1 900.00 0 1"):
+            self.assertIn(wanted, words)
+
     def test_nothing_is_cut_on_a_narrow_page(self) -> None:
         self.file("s.cqa", SCRIPT)
         style = self.command("report", "s.cqa")[1].split("</style>")[0]

@@ -110,6 +110,9 @@ class Places(ProgramCase):
                          "words in lower case, and `ask select` for what is certain, `possible select` for what is possible")
         self.assertEqual(advice_for("frobnicate", 0, "error 2 Syntax at 0"), "")
         self.assertEqual(advice_for("ask select sum( pay ), id from c", 14, "error 2 Syntax at 14"), "write `range sum pay from c;`: between which values it lies")
+        self.assertEqual(advice_for("range sum pay from c group by town, year", 34, "error 2 Syntax at 34"),
+                         "write `range count from c group by town;`: one column makes the groups")
+        self.assertEqual(advice_for("range count from c group by town", 28, "error 6 UnknownColumn town"), "")
 
     def test_texts_lead_no_place_astray(self) -> None:
         hostile = "a\n3 rows\nerror 2 Syntax at 0\nx"
@@ -240,9 +243,11 @@ class Runs(ProgramCase):
         pay = "-- cqa: column pay.cents has 2 places\ncreate table pay (id int, cents int, name text, primary key (id));\n"
         self.file("s.cqa", pay + "insert into pay values (1, 500, 'a'), (1, -200, 'b'), (2, 50, 'c');\nrange sum cents from pay;\n")
         self.file("none.cqa", "ask select id from pay;\nrange max name from pay where id = 3;\n")
+        self.file("groups.cqa", "range sum cents from pay group by name;\n")
         self.file("bad.cqa", "range sum name from pay\n where id = 1;\n")
         self.assertEqual(self.command("csv", "s.cqa")[:2], (0, "least,greatest\n-1.50,5.50\n"))
         self.assertEqual(self.command("csv", "s.cqa", "none.cqa")[:2], (0, "least,greatest\n,\n"))
+        self.assertEqual(self.command("csv", "s.cqa", "groups.cqa")[:2], (0, "name,least,greatest\na,0.00,5.00\nb,-2.00,0.00\nc,0.50,0.50\n"))
         status, out, told = self.command("run", "s.cqa", "bad.cqa")
         self.assertEqual((status, lines(out)[2:]), (1, ["least -150", "keep pay (1, -200, 'b')", "greatest 550", "keep pay (1, 500, 'a')"]))
         self.assertIn("s.cqa:4: note: cents is shown as it is stored, times 100\n", told)

@@ -111,6 +111,12 @@ class Questions(ProgramCase):
                          cqa.Range(8, 21, (("r", (1, -2)), ("r", (3, 1))), (("r", (1, 5)), ("r", (3, 9)))))
         told = self.db.range("max y from r where y > 100;")
         self.assertEqual((told.least, told.greatest, len(told.low), len(told.high)), (None, None, 2, 2))
+        self.assertEqual(self.db.ranges("sum y from r where y > 0 group by x"), [(1, 0, 5), (2, 7, 7), (3, 1, 9)])
+        self.assertEqual(self.db.ranges("max y from r where y > 5 group by y;"), [cqa.Group(7, 7, 7), cqa.Group(9, None, 9)])
+        self.assertEqual(self.db.ranges("min y from r where y > 100 group by x"), [])
+        with self.assertRaises(cqa.Refused) as caught:
+            self.db.ranges("count from r group by z")
+        self.assertEqual((caught.exception.number, caught.exception.fields), (6, "z"))
         with self.assertRaises(cqa.Refused) as caught:
             self.db.range("sum name from staff")
         self.assertEqual((caught.exception.number, caught.exception.fields), (9, "condition 0"))
@@ -119,6 +125,8 @@ class Questions(ProgramCase):
         told = self.db.range("sum cents from pay where cents >= 100.00")
         least, greatest = decimal.Decimal("120.50"), decimal.Decimal("900.00")
         self.assertEqual(told, cqa.Range(least, greatest, (("pay", (1, least)),), (("pay", (1, greatest)),)))
+        self.assertEqual(self.db.ranges("count from pay where cents > 60.00 group by cents"), [(least, 0, 1), (greatest, 0, 1)])
+        self.assertEqual(self.db.ranges("sum cents from pay where cents > 60.00 group by id"), [(1, least, greatest)])
 
     def test_one_statement_is_one(self) -> None:
         for text in ("", "dump; dump;", "copy staff;\n1,a,1\n", "insert into staff values (1, 'open"):

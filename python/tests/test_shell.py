@@ -89,6 +89,7 @@ class ByLines(ProgramCase):
                 self.assertEqual(shell.prompt, prompt, line)
             self.assertEqual(shell.complete("na"), ["name"])
             self.assertEqual(shell.complete("ra"), ["range"])
+            self.assertEqual(shell.complete("gr"), ["group"])
             self.assertIn("staff", shell.complete("st"))
             self.assertIn("\\load", shell.complete("\\l"))
             self.assertTrue(shell.take("ask exists"))

@@ -1,15 +1,20 @@
 -- What is answered to a query is answered to the statement that asks for it.
-use Rattle.std.proofs.Common.{◌≡◌, inr, Option, None, Result, Ok, Err}
+use Rattle.std.proofs.Common.{◌≡◌, ℕ, inr, List, Option, None, Result, Ok, Err}
 use Rattle.cqa_value.specs.declared.memory.Fail.{Fail}
 use Rattle.cqa_value.specs.declared.memory.Fail.TheVariants as fails
 use Rattle.cqa_model.specs.declared.query.Query.{Query}
+use Rattle.cqa_model.specs.Database.{Table}
+use Rattle.search_answers.specs.declared.search.Searched.{Searched}
+use Rattle.search_answers.specs.declared.search.Searched.TheVariants.{All, Stopped}
+use Rattle.search_answers.specs.Searching.{IsSearched}
+use Rattle.query_strategy.specs.Strategies.{NeedsSearch}
 use Rattle.refusals.specs.declared.refusal.Refusal.{Refusal}
 use Rattle.spj_syntax.specs.declared.tree.Select.{Select}
 use Rattle.query_resolve.specs.Resolved.{IsQueryOf}
 use Rattle.reply_text.specs.declared.reply.Reply.{Reply}
 use Rattle.cqa_session.specs.State.{State}
 use Rattle.cqa_session.specs.Replying.{Replies, IsOutcome}
-use Rattle.cqa_session.specs.Statements.Ask.{AnswersCertain, TellsCertain}
+use Rattle.cqa_session.specs.Statements.Ask.{AnswersCertain, FindsCertain, TellsCertain}
 
 module _ (old new : State) (q : Query) where
   -- an answer to the query is one to the statement that asks for it
@@ -18,3 +23,8 @@ module _ (old new : State) (q : Query) where
   answered fault select (Ok reply) valid resolved told = inr (valid, record { query = q; resolved = resolved; told = told })
   answered fault select (Err (fails.Refused refusal)) valid resolved told = inr (valid, record { query = q; resolved = resolved; told = told })
   answered fault select (Err fails.NoMemory) valid resolved told = told
+
+-- what a search finds, of a query that needs one
+pub found_by_search : (q : Query) (db : List Table) (budget : ℕ) (found : Searched) → NeedsSearch q → IsSearched q db budget found → FindsCertain q db budget found
+found_by_search q db budget (All rows) needs s = (s.0, λ _. s.1)
+found_by_search q db budget (Stopped why) needs s = (needs, s)

@@ -1,5 +1,5 @@
 -- How the rooms of the statements answer.
-use Rattle.std.proofs.Common.{◌≡◌, inl, ℕ, List, Option, Some, None, IsNone, Result, Ok, Err, IsErrAnd, refl, sym, ap, subst}
+use Rattle.std.proofs.Common.{◌≡◌, inl, inr, ℕ, List, Option, Some, None, IsNone, Result, Ok, Err, IsErrAnd, refl, sym, ap, subst}
 use Rattle.std.specs.Option.{option_map_or}
 use Rattle.cqa_value.specs.declared.memory.Fail.{Fail}
 use Rattle.cqa_value.specs.declared.memory.Fail.TheVariants as fails
@@ -24,6 +24,12 @@ module _ (fault : Option Refusal) (old new : State) (May : Reply → State → T
   pub refused_out : (result : Result Reply (Fail Refusal)) (fail : Fail Refusal) → IsErrAnd result (λ e. e ≡ fail) → IsRefusedAs fail fault → IsOutcome result old (Replies fault old May) new
   refused_out (Ok reply) fail is cause = absurd is
   refused_out (Err e) fail is cause = subst (λ f. IsOutcome (Err f) old (Replies fault old May) new) (sym is) (refused fail cause)
+
+-- no check failed, and what may be answered then is answered
+pub unrefused : (fault : Option Refusal) (old new : State) (May : Reply → State → Type 0) (result : Result Reply (Fail Refusal)) → fault ≡ None → IsOutcome result old May new → IsOutcome result old (Replies fault old May) new
+unrefused fault old new May (Ok reply) valid may = inr (valid, may)
+unrefused fault old new May (Err (fails.Refused refusal)) valid may = inr (valid, may)
+unrefused fault old new May (Err fails.NoMemory) valid may = may
 
 -- at the exit of a `let .. else`
 pub none_found : {T : Type 0} (found : Option T) → ((x : T) → found ≡ Some x → ⊥) → IsNone found

@@ -6,6 +6,7 @@ pub mod Dumping
 pub mod Explaining
 mod Naming
 mod LineSteps
+mod Contesting
 mod Ranging
 pub mod Sayings
 mod Spending

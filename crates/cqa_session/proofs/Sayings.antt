@@ -1,4 +1,4 @@
--- A text says one thing.
+-- A text says one thing, and something.
 use Rattle.std.proofs.Common.{◌≡◌, ◌⊎◌, inl, inr, ℕ, List, Option, Result, Ok, Err, IsErrAnd, refl, sym, ap, ◌∙◌, subst}
 use Rattle.cqa_value.specs.declared.memory.Fail.{Fail}
 use Rattle.cqa_value.specs.declared.memory.Fail.TheVariants as fails
@@ -10,8 +10,11 @@ use Rattle.spj_syntax.specs.Written.{IsWrittenAs}
 use Rattle.spj_syntax.proofs.Answered.{only_statement, only_fault}
 use Rattle.refusals.specs.declared.refusal.Refusal.{Refusal}
 use Rattle.reply_text.specs.declared.reply.Reply.{Reply}
+use Rattle.saying_law.proofs.Spelling.{texts_have_tokens}
+use Rattle.saying_law.proofs.Parsing.{tokens_are_decided}
+use Rattle.saying_law.proofs.Whole.{statements_have_trees}
 use Rattle.cqa_session.specs.State.{State}
-use Rattle.cqa_session.specs.Saying.{of_lexing, of_parsing, HasNoStatement, HasStatement, Says, IsReadAs, SaysOneThing}
+use Rattle.cqa_session.specs.Saying.{of_lexing, of_parsing, HasNoStatement, HasStatement, Says, IsReadAs, SaysOneThing, SaysSomething}
 use Rattle.cqa_session.specs.Replying.{IsOutcome}
 use Rattle.cqa_session.specs.Machine.{Does, Step}
 
@@ -41,6 +44,18 @@ says_same text (Err r) (Err q) (inr a) (inl b) = absurd (spelled_no_fault text a
 says_same text (Err r) (Err q) (inr a) (inr b) =
     let other = subst (λ tokens. RefusesTokens text tokens b.fault) (spells_same b.spelled a.spelled) b.cause in
     ap Err (a.is ∙ ap of_parsing (refused_once a.fault b.fault (only_fault text a.tokens (Err (fails.Refused a.fault)) a.cause b.fault other)) ∙ sym b.is)
+
+-- A text says something: a fault of its tokens, a fault of its statement, or its statement.
+pub says_something : SaysSomething
+says_something text = elim (texts_have_tokens text) [
+  | inr fault ↦ (Err (of_lexing fault.0), inl (record { fault = fault.0; cause = fault.1; is = refl }))
+  | inl spelled ↦ elim (tokens_are_decided text spelled.0) [
+    | inl fault ↦ (Err (of_parsing fault.0), inr (record { tokens = spelled.0; short = spelled.1; spelled = spelled.2; fault = fault.0; cause = fault.1; is = refl }))
+    | inr is ↦
+        let tree = statements_have_trees text spelled.0 spelled.1 spelled.2 is.0 is.1 in
+        (Ok tree.0, record { tokens = spelled.0; short = spelled.1; spelled = spelled.2; allowed = is.0; fit = is.1; written = tree.1 })
+  ]
+]
 
 -- what a text says decides the reply, whatever else it may say
 pub does_as_said : (old new : State) (text : List ℕ) (block : Option (List ℕ)) (reply : Reply) → Step old text block reply new

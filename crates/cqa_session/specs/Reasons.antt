@@ -19,7 +19,7 @@ use Rattle.query_strategy.specs.declared.reason.Untold.{Untold}
 use Rattle.query_strategy.specs.declared.reason.Untold.TheVariants.{Over, Spent}
 use Rattle.query_strategy.specs.Strategies.{HasNoPlan, NeedsSearch}
 use Rattle.repair_back.specs.Results.{AreStored}
-use Rattle.repair_back.specs.Rejected.{IsRejected}
+use Rattle.repair_back.specs.Rejected.{AreRejectingRows}
 use Rattle.repair_clauses.specs.Encodings.{IsEncoded}
 use Rattle.search_answers.specs.Deciding.{IsDecided}
 use Rattle.weak_pairs.specs.Pairs.{IsPair}
@@ -35,7 +35,7 @@ pub record IsRefuted (db : List Table) (q : Query) (row : List Value) (cnf : Cnf
 -- of a query that needs search must be within the limit for.
 abbrev pub IsReason : List Table → Query → List Value → Reason → Type 0
 IsReason db q row (ByBlock table key) = IsByBlock db q row table key × (table < length db)
-IsReason db q row (Rejected names) = IsRejected db q row names × (NeedsSearch q → HasTooMany q db row → ⊥) × AreStored db names
+IsReason db q row (Rejected names) = AreRejectingRows db q row names × (NeedsSearch q → HasTooMany q db row → ⊥) × AreStored db names
 IsReason db q row (Refuted cnf log) = HasNoPlan q × (HasTooMany q db row → ⊥) × IsRefuted db q row cnf log
 
 -- The query has no plan, and the row has too many witnesses for a formula; of two atoms that attack each other weakly only a
@@ -45,12 +45,12 @@ IsOverLimit db q row = HasNoPlan q × HasTooMany q db row × (IsPair q → IsCer
 
 -- What keeps the reason of a row from being told: it has too many witnesses; or there is a search, and the budget is used up
 -- for its formula, of which there is a spent log.
-abbrev pub IsStop : List Table → Query → List Value → ℕ → Untold → Type 0
-IsStop db q row budget Over = IsOverLimit db q row
-IsStop db q row budget (Spent cnf log) =
+abbrev pub IsUntold : List Table → Query → List Value → ℕ → Untold → Type 0
+IsUntold db q row budget Over = IsOverLimit db q row
+IsUntold db q row budget (Spent cnf log) =
     NeedsSearch q × (HasTooMany q db row → ⊥) × ((rows : List RowId) × IsDecided q db row budget (record { formula = record { cnf = cnf; rows = rows }; outcome = outcomes.Spent log }))
 
 -- a refusal says what keeps it; want of memory says nothing
 abbrev pub IsStopped : List Table → Query → List Value → ℕ → Fail Untold → Type 0
 IsStopped db q row budget NoMemory = Unit {0}
-IsStopped db q row budget (Refused why) = IsStop db q row budget why
+IsStopped db q row budget (Refused why) = IsUntold db q row budget why

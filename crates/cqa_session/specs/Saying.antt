@@ -59,6 +59,10 @@ Says text (Err refusal) = HasNoTokens text refusal ⊎ HasNoStatement text refus
 abbrev pub SaysOneThing : Type 0
 SaysOneThing = (text : List ℕ) (a b : Result Statement Refusal) → Says text a → Says text b → a ≡ b
 
+-- The law: a text says something.
+abbrev pub SaysSomething : Type 0
+SaysSomething = (text : List ℕ) → (said : Result Statement Refusal) × Says text said
+
 -- what a text says was read, or memory ran out
 abbrev pub IsReadAs : List ℕ → Result Statement (Fail Refusal) → Type 0
 IsReadAs text (Ok statement) = HasStatement text statement

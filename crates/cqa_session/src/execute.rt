@@ -24,11 +24,12 @@ use crate::statements::set_conflicts::set_conflicts;
 use crate::statements::show_log::show_log;
 use crate::statements::show_tables::show_tables;
 use crate::statements::sql::sql;
-use cqa_value::Fail;
+use cqa_value::{Fail, Items};
 use refusals::Refusal;
 use reply_text::Reply;
 use spj_syntax::{Select, Statement, Verb};
 use std::alloc::Global;
+use std::mem;
 
 /// Answers what is asked of a query.
 fn asked(
@@ -49,6 +50,39 @@ fn asked(
     }
 }
 
+/// Does what a statement says, with the block that follows it. The rows of an `insert` are taken out of it.
+fn done(
+    alloc: Global,
+    session: &mut Session,
+    statement: &mut Statement,
+    block: Option<&[u8]>,
+) -> Result<Reply, Fail<Refusal>>
+    requires { IsSmall statement.old }
+    ensures { IsOutcome result session.old (Does session.old (Ok statement.old) (option_copied block.entry)) session.new }
+{
+    match statement {
+        Statement::Create { schema } => create(alloc, session, schema),
+        Statement::Alter { table, change } => alter(alloc, session, table, change),
+        Statement::Insert { table, rows } => {
+            let rows = mem::replace(rows, Items::new(alloc));
+            insert(alloc, session, table, rows)
+        }
+        Statement::Delete { table, tests } => delete(alloc, session, table, tests.as_slice()),
+        Statement::Copy { table } => copy(alloc, session, table, block),
+        Statement::Range {
+            goal,
+            table,
+            tests,
+            group,
+        } => range(alloc, session, table, goal, tests.as_slice(), group),
+        Statement::Asking { verb, select } => asked(alloc, session, verb, select),
+        Statement::SetConflicts(conflicts) => set_conflicts(session, *conflicts),
+        Statement::ShowTables => show_tables(alloc, session),
+        Statement::Dump => dump(alloc, session),
+        Statement::ShowLog => show_log(alloc, session),
+    }
+}
+
 /// Does what a statement says, with the block that follows it.
 ///
 /// # Errors
@@ -57,56 +91,13 @@ fn asked(
 pub fn execute(
     alloc: Global,
     session: &mut Session,
-    statement: Statement,
+    mut statement: Statement,
     block: Option<&[u8]>,
 ) -> Result<Reply, Fail<Refusal>>
     requires { IsSmall statement }
     ensures { IsOutcome result session.old (Does session.old (Ok statement) (option_copied block.entry)) session.new }
 {
-    match statement {
-        Statement::Create { schema } => {
-            let reply = create(alloc, session, &schema);
-            drop(schema);
-            reply
-        }
-        Statement::Alter { table, change } => {
-            let reply = alter(alloc, session, &table, &change);
-            drop(table);
-            drop(change);
-            reply
-        }
-        Statement::Insert { table, rows } => {
-            let reply = insert(alloc, session, &table, rows);
-            drop(table);
-            reply
-        }
-        Statement::Delete { table, tests } => {
-            let reply = delete(alloc, session, &table, tests.as_slice());
-            drop(table);
-            drop(tests);
-            reply
-        }
-        Statement::Copy { table } => {
-            let reply = copy(alloc, session, &table, block);
-            drop(table);
-            reply
-        }
-        Statement::Range { goal, table, tests } => {
-            let reply = range(alloc, session, &table, &goal, tests.as_slice());
-            drop(goal);
-            drop(table);
-            drop(tests);
-            reply
-        }
-        Statement::Asking { verb, select } => {
-            let reply = asked(alloc, session, &verb, &select);
-            drop(verb);
-            drop(select);
-            reply
-        }
-        Statement::SetConflicts(conflicts) => set_conflicts(session, conflicts),
-        Statement::ShowTables => show_tables(alloc, session),
-        Statement::Dump => dump(alloc, session),
-        Statement::ShowLog => show_log(alloc, session),
-    }
+    let reply = done(alloc, session, &mut statement, block);
+    drop(statement);
+    reply
 }

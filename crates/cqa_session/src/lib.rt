@@ -6,4 +6,4 @@ mod reading;
 mod session;
 mod statements;
 
-pub use session::{CONFLICTS, Session, text_says_one_thing};
+pub use session::{CONFLICTS, Session, text_says_one_thing, text_says_something};

@@ -6,7 +6,7 @@ ghost use Rattle.spj_syntax.specs.declared.tree.Statement.{Statement};
 ghost use Rattle.refusals.specs.declared.refusal.Refusal.{Refusal as RefusalValue};
 ghost use Rattle.cqa_model.specs.declared.limits.TheConstants.{LONGEST_INPUT};
 ghost use Rattle.cqa_session.specs.State.{opening_with, IsState};
-ghost use Rattle.cqa_session.specs.Saying.{Says, SaysOneThing};
+ghost use Rattle.cqa_session.specs.Saying.{Says, SaysOneThing, SaysSomething};
 ghost use Rattle.cqa_session.specs.Replying.{IsOutcome};
 ghost use Rattle.cqa_session.specs.Machine.{Does, Step};
 
@@ -130,4 +130,9 @@ fn answer(
 /// A text says at most one thing: one statement, or the one refusal of its form.
 pub fn text_says_one_thing()
     ensures { SaysOneThing }
+{}
+
+/// A text says something.
+pub fn text_says_something()
+    ensures { SaysSomething }
 {}

@@ -8,6 +8,8 @@ mod csv_blocks;
 mod cursors;
 #[cfg(test)]
 mod devices;
+#[cfg(test)]
+mod groups;
 pub mod making;
 #[cfg(test)]
 mod many;

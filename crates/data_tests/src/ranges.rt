@@ -9,14 +9,14 @@ use table_blocks::{ColumnTest, Database};
 
 /// The rows of a case, in block order.
 #[derive(Clone, Copy)]
-enum Given {
+pub(crate) enum Given {
     Numbers(&'static [(i64, i64)]),
     Texts(&'static [(i64, &'static str)]),
 }
 
 /// An end, as a case writes it.
 #[derive(Clone, Copy)]
-enum Shown {
+pub(crate) enum Shown {
     Nothing,
     Total(i128),
     Number(i64),
@@ -24,7 +24,7 @@ enum Shown {
 }
 
 /// What is asked of rows: an aggregate, and at most one test.
-type Asked = (Goal, Option<(u32, Op, i64)>);
+pub(crate) type Asked = (Goal, Option<(u32, Op, i64)>);
 
 /// An end, and the places of the rows of a repair that has it. Of rows that do equally well the first is taken.
 type Ended = (Shown, &'static [u32]);
@@ -32,9 +32,9 @@ type Ended = (Shown, &'static [u32]);
 /// A question, and the least and the greatest end.
 type Case = (Given, Asked, Ended, Ended);
 
-const NONE: Given = Given::Numbers(&[]);
+pub(crate) const NONE: Given = Given::Numbers(&[]);
 
-const MIXED: Given = Given::Numbers(&[(1, -2), (1, 5), (2, 7), (3, 1), (3, 9)]);
+pub(crate) const MIXED: Given = Given::Numbers(&[(1, -2), (1, 5), (2, 7), (3, 1), (3, 9)]);
 
 const BOTH: Given = Given::Numbers(&[(1, -5), (1, 5)]);
 
@@ -45,7 +45,7 @@ const GREATEST: Given = Given::Numbers(&[(1, i64::MAX), (2, i64::MAX), (3, i64::
 
 const LEAST: Given = Given::Numbers(&[(1, i64::MIN), (2, i64::MIN), (3, i64::MIN)]);
 
-const WORDS: Given = Given::Texts(&[(1, "b"), (1, "none"), (2, "c")]);
+pub(crate) const WORDS: Given = Given::Texts(&[(1, "b"), (1, "none"), (2, "c")]);
 
 const CASES: [Case; 24] = [
     (
@@ -212,7 +212,7 @@ fn given_rows(alloc: Global, given: Given) -> Result<Items<Row>, Fail<NameFault>
 }
 
 /// The table of a case.
-fn filled(alloc: Global, given: Given) -> Result<Option<Database>, Fail<NameFault>> {
+pub(crate) fn filled(alloc: Global, given: Given) -> Result<Option<Database>, Fail<NameFault>> {
     let kind = match given {
         Given::Numbers(_) => Kind::Int,
         Given::Texts(_) => Kind::Text,
@@ -230,7 +230,10 @@ fn filled(alloc: Global, given: Given) -> Result<Option<Database>, Fail<NameFaul
 }
 
 /// The tests of a case.
-fn tests_of(alloc: Global, test: Option<(u32, Op, i64)>) -> Result<Items<ColumnTest>, NoMemory> {
+pub(crate) fn tests_of(
+    alloc: Global,
+    test: Option<(u32, Op, i64)>,
+) -> Result<Items<ColumnTest>, NoMemory> {
     let mut tests = Items::new(alloc);
     if let Some((col, op, number)) = test {
         let value = Value::Int(number);
@@ -239,7 +242,7 @@ fn tests_of(alloc: Global, test: Option<(u32, Op, i64)>) -> Result<Items<ColumnT
     Ok(tests)
 }
 
-fn is_end(end: &End, shown: Shown) -> bool {
+pub(crate) fn is_end(end: &End, shown: Shown) -> bool {
     match shown {
         Shown::Nothing => matches!(end, End::Empty),
         Shown::Total(total) => match end {

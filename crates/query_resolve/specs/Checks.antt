@@ -1,4 +1,5 @@
--- The first failing check of a schema, of the key of an `alter`, of the tests of rows, of the goal of a `range`, and of a query.
+-- The first failing check of a schema, of the key of an `alter`, of the tests of rows, of the goal and the groups of a `range`, and
+-- of a query.
 use Rattle.std.specs.Prelude.{ℕ, ◌+◌, Bool, nat_lt, nat_le, not, ◌&&◌, if◌then◌else◌, List, [], ◌∷◌, ◌++◌, length, map, Option, Some, None, is_some, is_none, slice_index_or}
 use Rattle.cqa_value.specs.declared.value.Kind.{Kind}
 use Rattle.cqa_value.specs.declared.value.Kind.TheVariants as kinds
@@ -86,6 +87,11 @@ goal_fault columns goals.Count = None
 goal_fault columns (goals.Sum name) = first_of (known_fault columns name) (kinds_fault 0 (kind_named columns name) kinds.Int)
 goal_fault columns (goals.Min name) = known_fault columns name
 goal_fault columns (goals.Max name) = known_fault columns name
+
+-- the column by whose values rows are grouped, where one is named, is there
+abbrev pub group_fault : List Column → Option (List ℕ) → Option Refusal
+group_fault columns None = None
+group_fault columns (Some name) = known_fault columns name
 
 -- a query's table is there, and the query hasn't named it before
 abbrev pub from_fault : List Table → List (List ℕ) → List ℕ → Option Refusal

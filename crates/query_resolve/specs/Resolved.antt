@@ -1,4 +1,4 @@
--- What schemas, tests, goals and queries are once each name is resolved.
+-- What schemas, tests, goals, groups and queries are once each name is resolved.
 use Rattle.std.specs.Prelude.{◌≡◌, ℕ, IsTrue, List, length, Option, Some, None}
 use Rattle.std.specs.List.{AllZip}
 use Rattle.cqa_model.specs.declared.schema.Schema.{Schema}
@@ -56,6 +56,12 @@ IsGoalOf columns (written.Sum name) (goals.Sum col) = column_named columns name 
 IsGoalOf columns (written.Min name) (goals.Min col) = column_named columns name ≡ Some col
 IsGoalOf columns (written.Max name) (goals.Max col) = column_named columns name ≡ Some col
 IsGoalOf columns raw goal = ⊥
+
+-- the column by whose values rows are grouped has its place among these, where one is named
+abbrev pub IsGroupOf : List Column → Option (List ℕ) → Option ℕ → Type 0
+IsGroupOf columns None None = Unit {0}
+IsGroupOf columns (Some name) (Some col) = column_named columns name ≡ Some col
+IsGroupOf columns name col = ⊥
 
 -- the atom of a name: the place, the width, the key and the mark of the table so named
 pub record IsAtomOf (db : List Table) (name : List ℕ) (atom : Atom) : Type 0 where

@@ -1,16 +1,14 @@
 //! The row of an `explain`: a value for each answer column of its query, of the column's kind.
 
 ghost use Rattle.std.specs.Prelude.{◌≡◌, ◌<◌, Some, None, MatchResult, length, slice_get};
-ghost use Rattle.cqa_model.specs.Query.{FitsDatabase};
 ghost use Rattle.refusals.specs.Kinds.{kind_fault};
 ghost use Rattle.query_resolve.specs.Checks.{answer_fault, answer_kinds};
 
 use crate::column::kind_of_column;
 use crate::faults::kind_mismatch;
-use cqa_model::Query;
+use bound_query::Bound;
 use cqa_value::{Kind, Row};
 use refusals::{Place, Refusal};
-use table_blocks::Database;
 
 /// Whether a row has a value for each answer column, of the column's kind.
 ///
@@ -18,29 +16,27 @@ use table_blocks::Database;
 ///
 /// `WrongArity` with row 1 where there are more or fewer values; else `TypeMismatch` with row 1 and the first column whose
 /// value has another kind.
-pub fn check_row(db: &Database, query: &Query, row: &Row) -> Result<(), Refusal>
-    requires { FitsDatabase query.now db.now }
-    ensures { MatchResult result (λ _. answer_fault db.now query.now row.now ≡ None) (λ e. answer_fault db.now query.now row.now ≡ Some e) }
+pub fn check_row(bound: &Bound<'_>, row: &Row) -> Result<(), Refusal>
+    ensures { MatchResult result (λ _. answer_fault bound.now.db.now bound.now.query.now row.now ≡ None) (λ e. answer_fault bound.now.db.now bound.now.query.now row.now ≡ Some e) }
 {
-    if row.len() as usize != query.answer.len() {
+    if row.len() as usize != bound.query.answer.len() {
         return Err(Refusal::WrongArity { row: 1 });
     }
-    match kind_fault_of(db, query, row) {
+    match kind_fault_of(bound, row) {
         None => Ok(()),
         Some(fault) => Err(fault),
     }
 }
 
 /// The first value that has another kind than its answer column.
-fn kind_fault_of(db: &Database, query: &Query, row: &Row) -> Option<Refusal>
-    requires fits { FitsDatabase query.now db.now }
-    requires long { length row.now ≡ length query.now.answer }
-    ensures { result ≡ kind_fault 1 1 (answer_kinds db.now query.now) row.now }
+fn kind_fault_of(bound: &Bound<'_>, row: &Row) -> Option<Refusal>
+    requires { length row.now ≡ length bound.now.query.now.answer }
+    ensures { result ≡ kind_fault 1 1 (answer_kinds bound.now.db.now bound.now.query.now) row.now }
 {
     for (at, value) in row.as_slice().iter().enumerate() {
         let column = at as u32 + 1;
         let place = Place::Cell { row: 1, column };
-        let kind = answer_kind(db, query, at);
+        let kind = answer_kind(bound, at);
         if let Some(fault) = kind_mismatch(place, value.kind(), kind) {
             return Some(fault);
         }
@@ -49,11 +45,10 @@ fn kind_fault_of(db: &Database, query: &Query, row: &Row) -> Option<Refusal>
 }
 
 /// The kind of an answer column.
-fn answer_kind(db: &Database, query: &Query, at: usize) -> Kind
-    requires fits { FitsDatabase query.now db.now }
-    requires there { at < length query.now.answer }
-    ensures { slice_get (answer_kinds db.now query.now) at ≡ Some result }
+fn answer_kind(bound: &Bound<'_>, at: usize) -> Kind
+    requires { at < length bound.now.query.now.answer }
+    ensures { slice_get (answer_kinds bound.now.db.now bound.now.query.now) at ≡ Some result }
 {
-    let col = query.answer.as_slice()[at];
-    kind_of_column(db, query.atoms.as_slice(), col)
+    let col = bound.query.answer.as_slice()[at];
+    kind_of_column(bound.db, bound.query.atoms.as_slice(), col)
 }

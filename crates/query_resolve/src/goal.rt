@@ -1,12 +1,12 @@
-//! The goal of a `range`: its column is there, and that of a sum is one of integers.
+//! The goal of a `range` and the column of its groups: their columns are there, and that of a sum is one of integers.
 
 ghost use Rattle.std.specs.Prelude.{◌≡◌, ◌<◌, ◌≤◌, Some, length};
 ghost use Rattle.cqa_value.specs.declared.value.Kind.TheVariants as kinds;
 ghost use Rattle.cqa_model.specs.declared.limits.TheConstants.{MOST_COLUMNS};
 ghost use Rattle.refusals.specs.Refusal.{Checked, first_of};
 ghost use Rattle.query_resolve.specs.Names.{column_named, columns_at, kind_named};
-ghost use Rattle.query_resolve.specs.Checks.{known_fault, kinds_fault, goal_fault};
-ghost use Rattle.query_resolve.specs.Resolved.{IsGoalOf};
+ghost use Rattle.query_resolve.specs.Checks.{known_fault, kinds_fault, goal_fault, group_fault};
+ghost use Rattle.query_resolve.specs.Resolved.{IsGoalOf, IsGroupOf};
 
 use crate::condition::check_kinds;
 use crate::faults::unknown_column;
@@ -45,6 +45,26 @@ fn goal_among(alloc: Global, columns: &[Column], goal: &RawGoal) -> Result<Goal,
         RawGoal::Sum(name) => Ok(Goal::Sum(summed_place(alloc, columns, name)?)),
         RawGoal::Min(name) => Ok(Goal::Min(known_place(alloc, columns, name)?)),
         RawGoal::Max(name) => Ok(Goal::Max(known_place(alloc, columns, name)?)),
+    }
+}
+
+/// The place of the column by whose values a `range` over a table groups the rows, where one is named.
+///
+/// # Errors
+///
+/// `UnknownColumn`; `NoMemory` where memory is refused.
+pub fn resolve_group(
+    alloc: Global,
+    db: &Database,
+    table: u32,
+    name: &Option<Name>,
+) -> Result<Option<u32>, Fail<Refusal>>
+    requires { table < length db.now }
+    ensures { Checked result (group_fault (columns_at db.now table) name.now) (IsGroupOf (columns_at db.now table) name.now) }
+{
+    match name {
+        None => Ok(None),
+        Some(name) => Ok(Some(known_place(alloc, table_columns(db, table), name)?)),
     }
 }
 

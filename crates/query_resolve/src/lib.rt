@@ -1,4 +1,5 @@
-//! The names of schemas, of the tests of rows, of the goals of ranges and of queries, resolved over a database's tables.
+//! The names of schemas, of the tests of rows, of the goals and the groups of ranges and of queries, resolved over a database's
+//! tables.
 #![tactic(auto)]
 
 mod answer;
@@ -16,7 +17,7 @@ mod schema;
 pub use answer::check_row;
 pub use deletion::resolve_tests;
 pub use faults::unknown_table;
-pub use goal::resolve_goal;
+pub use goal::{resolve_goal, resolve_group};
 pub use key::resolve_key;
 pub use query::resolve;
 pub use schema::resolve_schema;

@@ -42,9 +42,10 @@ module _ (way : Way) (p : List Value → Bool) (col : ℕ) (rows : List (List Va
     }
 
 pub extremes-none : (way : Way) (p : List Value → Bool) (col : ℕ) (rows : List (List Value)) (ends : Extremes) → ends.avoids.places.items ≡ [] → ends.avoids.extreme ≡ None → ends.meets.places.items ≡ [] → ends.meets.extreme ≡ None → ends.top ≡ None →
-    AreExtremes way p col rows [] ends
-extremes-none way p col rows ends a b c d t = record {
+    ends.wide.items ≡ [] → AreExtremes way p col rows [] ends
+extremes-none way p col rows ends a b c d t w = record {
   avoids = reach-none way p col rows (Avoids way p col) ends.avoids a b;
   meets = reach-none way p col rows (Meets way p col) ends.meets c d;
   top = subst (IsTop (turned way) p col rows [] ends.avoids.places.items) (sym t) (λ y m. absurd (mem-nil y m));
+  wide = w;
 }

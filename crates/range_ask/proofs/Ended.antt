@@ -1,5 +1,5 @@
 -- What a walk kept makes a range.
-use Rattle.std.proofs.Common.{◌≡◌, ℕ, ◌<◌, List, [], length, set, Option, Some, None, is_some, Result, Ok, Err, IfOk, Contains, true, false, refl, sym, ◌∙◌, ap, subst, inl, inr}
+use Rattle.std.proofs.Common.{◌≡◌, ℕ, ◌<◌, List, [], length, set, Option, Some, None, is_some, Contains, true, false, refl, sym, ◌∙◌, ap, subst, inl, inr}
 use Rattle.std.specs.Prelude.{ℤ, pos, ◌≤ℤ◌}
 use Rattle.std.specs.Option.{option_copied}
 use Rattle.std.specs.Borrow.{Bor}
@@ -23,23 +23,21 @@ use Rattle.range_ask.specs.declared.way.Way.TheVariants.{Up, Down}
 use Rattle.range_ask.specs.declared.sums.Sides.{Sides}
 use Rattle.range_ask.specs.declared.top.Top.{Top}
 use Rattle.range_ask.specs.declared.extremes.Extremes.{Extremes}
+use Rattle.range_ask.specs.declared.choice.Choice.{Choice}
+use Rattle.range_ask.specs.Choosing.{IsChoice, IsBetween, IsLoose}
 use Rattle.range_ask.specs.Ranges.{cell, meets, part, number_of, total, names_in, rows_in, AtMost, HasValue, IsUpTo, IsAttained, IsRange}
 use Rattle.range_ask.specs.Picks.{ArePicked, IsParted, worth, IsCheapest, IsDearest, Before, IsExtreme, Avoids, Meets}
 use Rattle.range_ask.specs.Finding.{added, row_at}
-use Rattle.range_ask.specs.Walking.{AreChosen, AreSides, IsTotal}
+use Rattle.range_ask.specs.Walking.{wide_of, AreChosen, AreSides, IsTotal}
 use Rattle.range_ask.specs.Reaching.{as_end, with_top, top_row, IsTop, AreExtremes}
 use Rattle.range_ask.proofs.Lists.{set-cases, set-there}
 use Rattle.range_ask.proofs.Ordered.{before-self}
 use Rattle.range_ask.proofs.Picked.{picks_are_repairs}
 use Rattle.range_ask.proofs.Totals.{count-is, sum-is, low, high}
 use Rattle.range_ask.proofs.Claims.{to-greatest, to-least, greatest-between, least-between, least-below}
+use Rattle.range_ask.proofs.Walked.{chosen-length}
 use Rattle.range_ask.proofs.Topped.{Kept}
 use Rattle.range_ask.proofs.Closed.{kept-of}
-
--- four facts of what came back
-pub all-four : {T E : Type 0} (P Q R S U : T → Type 0) → ((x : T) → P x → Q x → R x → S x → U x) → (r : Result T E) → IfOk r P → IfOk r Q → IfOk r R → IfOk r S → IfOk r U
-all-four P Q R S U f (Ok x) a b c d = f x a b c d
-all-four P Q R S U f (Err e) a b c d = tt
 
 pub some-of : (o : Option (Bor (List Value))) → is_some o ≡ true → (x : List Value) × (option_copied o ≡ Some x)
 some-of (Some x) e = (x.now, refl)
@@ -54,7 +52,7 @@ module _ (db : List Table) (table : ℕ) (tests : List ColumnTest) (blocks : Lis
   rows = rows_at db table
 
   -- rows that are kept, one of each block, are a repair
-  attained : (goal : Goal) (places : List ℕ) → Kept rows blocks places → (names : List RowId) (end : End) → names ≡ names_in table places → HasValue goal (part tests (rows_in rows places)) end →
+  pub attained : (goal : Goal) (places : List ℕ) → Kept rows blocks places → (names : List RowId) (end : End) → names ≡ names_in table places → HasValue goal (part tests (rows_in rows places)) end →
       IsAttained db table goal tests names end
   attained goal places k names end e v = record {
     places = places;
@@ -64,19 +62,31 @@ module _ (db : List Table) (table : ℕ) (tests : List ColumnTest) (blocks : Lis
     value = v;
   }
 
-  picks : (kept : List (List Value)) → IsTableRepair (key_at db table) rows kept → ArePicked blocks kept
+  pub picks : (kept : List (List Value)) → IsTableRepair (key_at db table) rows kept → ArePicked blocks kept
   picks kept r = (picks_are_repairs (key_at db table) rows blocks kept parted.blocks_are parted.in_order).0 r
+
+  -- places of kept rows make a choice
+  choice-of : (goal : Goal) (lows highs : List ℕ) → Kept rows blocks lows → Kept rows blocks highs → (choice : Choice) → choice.low.items ≡ lows → choice.high.items ≡ highs → choice.wide.items ≡ wide_of blocks →
+      IsRange db table goal tests (record { least = choice.least; low = names_in table choice.low.items; greatest = choice.greatest; high = names_in table choice.high.items }) → IsChoice db table goal tests choice
+  choice-of goal lows highs kl kh choice l h w range = record {
+    parts = blocks;
+    parted = parted;
+    range = range;
+    low_each = ap length l ∙ chosen-length (λ (b : List (List Value)) x. Contains b x) rows blocks lows kl;
+    high_each = ap length h ∙ chosen-length (λ (b : List (List Value)) x. Contains b x) rows blocks highs kh;
+    wide = w;
+  }
 
   -- ---- counts and sums
 
-  numbers : (m n k : ℤ) (end : End) → end ≡ Number k → m ≤ℤ k → k ≤ℤ n → IsUpTo (Number m) end × IsUpTo end (Number n)
+  pub numbers : (m n k : ℤ) (end : End) → end ≡ Number k → m ≤ℤ k → k ≤ℤ n → IsUpTo (Number m) end × IsUpTo end (Number n)
   numbers m n k end e h g = subst (λ z. IsUpTo (Number m) z × IsUpTo z (Number n)) (sym e) (h, g)
 
   module _ (goal : Goal) (f : List Value → ℤ) (value : List (List Value) → ℤ) (is : (kept : List (List Value)) (end : End) → HasValue goal (part tests kept) end → end ≡ Number (value kept))
       (has : (kept : List (List Value)) → HasValue goal (part tests kept) (Number (value kept))) (adds : (kept : List (List Value)) → value kept ≡ total (worth (meets tests) f) kept) where
     sides-range : (sides : Sides) → AreSides (worth (meets tests) f) rows blocks sides → (range : Range) → range.least ≡ Number sides.low.total → range.low ≡ names_in table sides.low.places.items →
         range.greatest ≡ Number sides.high.total → range.high ≡ names_in table sides.high.places.items → IsRange db table goal tests range
-    sides-range sides (l, h) range a b c d = record {
+    sides-range sides (l, h, w) range a b c d = record {
       from = attained goal sides.low.places.items (kept-of (IsCheapest (worth (meets tests) f)) (λ b x c. c.there) rows blocks sides.low.places.items l.chosen) range.low range.least b
           (subst (HasValue goal (part tests (rows_in rows sides.low.places.items))) (sym (a ∙ ap Number (l.total_is ∙ sym (adds (rows_in rows sides.low.places.items))))) (has (rows_in rows sides.low.places.items)));
       to = attained goal sides.high.places.items (kept-of (IsDearest (worth (meets tests) f)) (λ b x c. c.there) rows blocks sides.high.places.items h.chosen) range.high range.greatest d
@@ -90,13 +100,21 @@ module _ (db : List Table) (table : ℕ) (tests : List ColumnTest) (blocks : Lis
           (high (worth (meets tests) f) blocks (rows_in rows sides.high.places.items) kept h.chosen.chosen (picks kept r))));
     }
 
-  pub total-range : (goal : Goal) → IsTotal goal → (sides : Sides) → AreSides (worth (meets tests) (added goal)) rows blocks sides → (range : Range) → range.least ≡ Number sides.low.total → range.low ≡ names_in table sides.low.places.items →
+  total-range : (goal : Goal) → IsTotal goal → (sides : Sides) → AreSides (worth (meets tests) (added goal)) rows blocks sides → (range : Range) → range.least ≡ Number sides.low.total → range.low ≡ names_in table sides.low.places.items →
       range.greatest ≡ Number sides.high.total → range.high ≡ names_in table sides.high.places.items → IsRange db table goal tests range
   total-range Count t sides h range a b c d = sides-range Count (λ row. pos 1) (λ kept. pos (length (part tests kept))) (λ kept end v. v) (λ kept. refl) (λ kept. count-is tests kept) sides h range a b c d
   total-range (Sum col) t sides h range a b c d =
       sides-range (Sum col) (λ row. number_of (cell row col)) (λ kept. total (λ row. number_of (cell row col)) (part tests kept)) (λ kept end v. v) (λ kept. refl) (λ kept. sum-is tests (λ row. number_of (cell row col)) kept) sides h range a b c d
   total-range (Min col) t sides h range a b c d = elim t [ ]
   total-range (Max col) t sides h range a b c d = elim t [ ]
+
+  pub total-choice : (goal : Goal) → IsTotal goal → (sides : Sides) → AreSides (worth (meets tests) (added goal)) rows blocks sides → (choice : Choice) → choice.least ≡ Number sides.low.total → choice.low.items ≡ sides.low.places.items →
+      choice.greatest ≡ Number sides.high.total → choice.high.items ≡ sides.high.places.items → choice.wide.items ≡ sides.wide.items → IsChoice db table goal tests choice
+  total-choice goal t sides h choice a b c d w =
+      let f = worth (meets tests) (added goal) in
+      choice-of goal sides.low.places.items sides.high.places.items
+      (kept-of (IsCheapest f) (λ b x k. k.there) rows blocks sides.low.places.items h.0.chosen) (kept-of (IsDearest f) (λ b x k. k.there) rows blocks sides.high.places.items h.1.chosen)
+      choice b d (w ∙ h.2) (total-range goal t sides h _ a (ap (names_in table) b) c (ap (names_in table) d))
 
   -- ---- least and greatest values
 
@@ -118,7 +136,7 @@ module _ (db : List Table) (table : ℕ) (tests : List ColumnTest) (blocks : Lis
       between = λ kept end r v. subst (λ e. IsUpTo e end × IsUpTo end range.greatest) (sym la) (subst (λ e. IsUpTo (as_end col a) end × IsUpTo end e) (sym gb) (between kept end r v));
     }
 
-    pub greatest-range : (ends : Extremes) → AreExtremes Up (meets tests) col rows blocks ends → (range : Range) → range.least ≡ as_end col (option_copied ends.avoids.extreme) → range.low ≡ names_in table ends.avoids.places.items →
+    greatest-range : (ends : Extremes) → AreExtremes Up (meets tests) col rows blocks ends → (range : Range) → range.least ≡ as_end col (option_copied ends.avoids.extreme) → range.low ≡ names_in table ends.avoids.places.items →
         range.greatest ≡ as_end col (option_copied ends.meets.extreme) → range.high ≡ names_in table ends.meets.places.items → IsRange db table (Max col) tests range
     greatest-range ends h range la na gb nb =
         let lows = ends.avoids.places.items in
@@ -130,7 +148,7 @@ module _ (db : List Table) (table : ℕ) (tests : List ColumnTest) (blocks : Lis
         range la na gb nb
 
     -- a row that avoids the tests meets them
-    pub least-range : (ends : Extremes) → AreExtremes Down (meets tests) col rows blocks ends → (x : List Value) → option_copied ends.avoids.extreme ≡ Some x → (range : Range) →
+    least-range : (ends : Extremes) → AreExtremes Down (meets tests) col rows blocks ends → (x : List Value) → option_copied ends.avoids.extreme ≡ Some x → (range : Range) →
         range.least ≡ as_end col (option_copied ends.meets.extreme) → range.low ≡ names_in table ends.meets.places.items →
         range.greatest ≡ as_end col (option_copied ends.avoids.extreme) → range.high ≡ names_in table ends.avoids.places.items → IsRange db table (Min col) tests range
     least-range ends h x is range la na gb nb =
@@ -179,7 +197,7 @@ module _ (db : List Table) (table : ℕ) (tests : List ColumnTest) (blocks : Lis
     top-none places (Some top) h e y m = absurd (cc)
 
     -- no row that avoids the tests meets them
-    pub loose-range : (ends : Extremes) → AreExtremes Down (meets tests) col rows blocks ends → option_copied ends.avoids.extreme ≡ None → (range : Range) →
+    loose-range : (ends : Extremes) → AreExtremes Down (meets tests) col rows blocks ends → option_copied ends.avoids.extreme ≡ None → (range : Range) →
         range.least ≡ as_end col (option_copied ends.avoids.extreme) → range.low ≡ names_in table ends.avoids.places.items →
         range.greatest ≡ as_end col (top_row ends.top) → range.high ≡ names_in table (with_top ends.avoids.places.items ends.top) → IsRange db table (Min col) tests range
     loose-range ends h is range la na gb nb =
@@ -190,3 +208,24 @@ module _ (db : List Table) (table : ℕ) (tests : List ColumnTest) (blocks : Lis
         none (to-least col (part tests (rows_in rows (with_top places ends.top))) (top_row ends.top) (top-extreme places ends.top none h.top))
         (λ ys end r v. (tt, least-below tests col blocks [] [] rows (top_row ends.top) (top-best places ends.top h.top) (top-none places ends.top h.top) ys (λ y m. sublist-stored ys rows r.stored y m) end v))
         range (la ∙ ap (as_end col) is) na gb nb
+
+    -- ---- the choices
+
+    pub greatest-choice : (ends : Extremes) → AreExtremes Up (meets tests) col rows blocks ends → (choice : Choice) → IsBetween col ends.avoids ends.meets ends.wide.items choice → IsChoice db table (Max col) tests choice
+    greatest-choice ends h choice b =
+        choice-of (Max col) ends.avoids.places.items ends.meets.places.items (avoids-kept Up ends.avoids.places.items h.avoids.chosen) (meets-kept Up ends.meets.places.items h.meets.chosen)
+        choice b.low_is b.high_is (b.wide_is ∙ h.wide) (greatest-range ends h _ b.least_is (ap (names_in table) b.low_is) b.greatest_is (ap (names_in table) b.high_is))
+
+    pub least-choice : (ends : Extremes) → AreExtremes Down (meets tests) col rows blocks ends → (x : List Value) → option_copied ends.avoids.extreme ≡ Some x → (choice : Choice) →
+        IsBetween col ends.meets ends.avoids ends.wide.items choice → IsChoice db table (Min col) tests choice
+    least-choice ends h x is choice b =
+        choice-of (Min col) ends.meets.places.items ends.avoids.places.items (meets-kept Down ends.meets.places.items h.meets.chosen) (avoids-kept Down ends.avoids.places.items h.avoids.chosen)
+        choice b.low_is b.high_is (b.wide_is ∙ h.wide) (least-range ends h x is _ b.least_is (ap (names_in table) b.low_is) b.greatest_is (ap (names_in table) b.high_is))
+
+    pub loose-choice : (ends : Extremes) → AreExtremes Down (meets tests) col rows blocks ends → option_copied ends.avoids.extreme ≡ None → (choice : Choice) → IsLoose col ends choice → IsChoice db table (Min col) tests choice
+    loose-choice ends h is choice l =
+        let places = ends.avoids.places.items in
+        let kept = avoids-kept Down places h.avoids.chosen in
+        let b = l.between in
+        choice-of (Min col) places (with_top places ends.top) kept (top-kept places ends.top kept h.top) choice b.low_is (b.high_is ∙ l.places_are) (b.wide_is ∙ h.wide)
+        (loose-range ends h is _ b.least_is (ap (names_in table) b.low_is) (b.greatest_is ∙ ap (as_end col) l.extreme_is) (ap (names_in table) (b.high_is ∙ l.places_are)))

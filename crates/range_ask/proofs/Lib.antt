@@ -12,3 +12,13 @@ pub mod Topped
 pub mod Closed
 pub mod Ended
 pub mod Blocked
+pub mod Numbered
+pub mod Adding
+pub mod Peaking
+pub mod Tallied
+pub mod Placed
+pub mod Grouped
+pub mod Keyed
+pub mod Membership
+pub mod Gathered
+pub mod Filled

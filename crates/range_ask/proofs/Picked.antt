@@ -18,7 +18,7 @@ use Rattle.range_ask.proofs.Lists.{not_less}
 abbrev pub all_rows : List (List (List Value)) → List (List Value)
 all_rows bs = flat_map (λ b. b) bs
 
-in_some : (bs : List (List (List Value))) (x : List Value) → Contains (all_rows bs) x → (b : List (List Value)) × Contains bs b × Contains b x
+pub in_some : (bs : List (List (List Value))) (x : List Value) → Contains (all_rows bs) x → (b : List (List Value)) × Contains bs b × Contains b x
 in_some [] x m = absurd (mem-nil x m)
 in_some (c ∷ bs) x m = elim (Contains-append_cases c (all_rows bs) x m) [
   | inl n ↦ (c, mem-head c bs, n)
@@ -30,11 +30,11 @@ abbrev pub Fresh : List (List Value) → Type 0
 Fresh [] = Unit {0}
 Fresh (x ∷ xs) = (Contains xs x → ⊥) × Fresh xs
 
-fresh-left : (b rest : List (List Value)) → Fresh (b ++ rest) → Fresh b
+pub fresh-left : (b rest : List (List Value)) → Fresh (b ++ rest) → Fresh b
 fresh-left [] rest f = tt
 fresh-left (x ∷ b) rest f = ((λ m. f.0 (Contains-append_left b rest x m)), fresh-left b rest f.1)
 
-fresh-right : (b rest : List (List Value)) → Fresh (b ++ rest) → Fresh rest
+pub fresh-right : (b rest : List (List Value)) → Fresh (b ++ rest) → Fresh rest
 fresh-right [] rest f = f
 fresh-right (x ∷ b) rest f = fresh-right b rest f.1
 
@@ -44,7 +44,7 @@ sublist-fresh (x ∷ k) [] s f = absurd s
 sublist-fresh (x ∷ k) (y ∷ b) (inl (e, s)) f = ((λ m. f.0 (subst (Contains b) e (sublist-stored k b s x m))), sublist-fresh k b s f.1)
 sublist-fresh (x ∷ k) (y ∷ b) (inr s) f = sublist-fresh (x ∷ k) b s f.1
 
-sorted-fresh : (key : List ℕ) (rows : List (List Value)) → IsStrictlySortedBy (block_cmp key) rows → Fresh rows
+pub sorted-fresh : (key : List ℕ) (rows : List (List Value)) → IsStrictlySortedBy (block_cmp key) rows → Fresh rows
 unfolding IsStrictlySortedBy
 sorted-fresh key [] s = tt
 sorted-fresh key (x ∷ xs) s = ((λ m. not_less (block_cmp key) (block_total key) x (member_by_recursion (λ y. block_cmp key x y ≡ Less) xs s.0 x m)), sorted-fresh key xs s.1)

@@ -3,7 +3,7 @@ use Rattle.std.proofs.Common.{◌≡◌, inl, inr, ℕ, ◌+◌, ◌<◌, ◌≤
 use Rattle.std.specs.Prelude.{ℤ, pos, ◌+ℤ◌}
 use Rattle.std.specs.List.{AllZip}
 use Rattle.std.proofs.lemmas.Int.{ints}
-use Rattle.std.proofs.lemmas.List.{get_or_append_left, get_or-append-add, map_push, append-nil}
+use Rattle.std.proofs.lemmas.List.{get_or_append_left, get_or-append-add, map_push, append-nil, length-map}
 use mir.Val.{SFits}
 use mir.Syntax.{w64}
 use Rattle.std.proofs.lemmas.List.Elements.{Contains-push_cases}
@@ -18,15 +18,19 @@ use Rattle.range_ask.specs.Ranges.{total, rows_in}
 use Rattle.range_ask.specs.Picks.{IsCheapest, IsDearest}
 use Rattle.range_ask.specs.Finding.{row_at}
 use Rattle.range_ask.specs.Walking.{rows_of, IsNext, AreChosen, IsWithin, IsSide, AreSides}
-use Rattle.join_access.proofs.Naming.{zip-push}
+use Rattle.join_access.proofs.Naming.{zip-push, zip-length}
 use Rattle.range_ask.proofs.Lists.{single-sorted, none-sorted}
 
-total-push : (f : List Value → ℤ) (xs : List (List Value)) (x : List Value) → total f (xs ++ x ∷ []) ≡ total f xs +ℤ f x
+pub total-push : (f : List Value → ℤ) (xs : List (List Value)) (x : List Value) → total f (xs ++ x ∷ []) ≡ total f xs +ℤ f x
 total-push f [] x = omega (arith, ints)
 total-push f (y ∷ xs) x = ap (λ n. f y +ℤ n) (total-push f xs x) ∙ omega (arith, ints)
 
 pub chosen-none : (R : List (List Value) → List Value → Type 0) (rows : List (List Value)) (places : List ℕ) → places ≡ [] → AreChosen R rows [] places
 chosen-none R rows places e = subst (AreChosen R rows []) (sym e) (record { rises = none-sorted; below = λ p m. absurd (mem-nil p m); chosen = tt })
+
+-- one place for each block
+pub chosen-length : (R : List (List Value) → List Value → Type 0) (rows : List (List Value)) (front : List (List (List Value))) (places : List ℕ) → AreChosen R rows front places → length places ≡ length front
+chosen-length R rows front places h = sym (zip-length R front (rows_in rows places) h.chosen ∙ length-map places (λ p. row_at rows p))
 
 module _ (rows : List (List Value)) (front : List (List (List Value))) (block : List (List Value)) (later : List (List (List Value))) (start : ℕ) (next : IsNext rows front block later start) (k : ℕ) (l : k < length block) where
   -- the row at its place is that of the block
@@ -59,7 +63,7 @@ module _ (rows : List (List Value)) (front : List (List (List Value))) (block : 
       m : ℕ
       m = start + k
 
-within-more : (n : ℕ) (s w t : ℤ) → IsWithin n s → IsWithin 1 w → t ≡ s +ℤ w → IsWithin (n + 1) t
+pub within-more : (n : ℕ) (s w t : ℤ) → IsWithin n s → IsWithin 1 w → t ≡ s +ℤ w → IsWithin (n + 1) t
 within-more n s w t h g e =
     let a = h.above in let b = h.below in let c = g.above in let d = g.below in
     record { above = omega (arith, ints, a, c, e); below = omega (arith, ints, b, d, e) }
@@ -95,8 +99,9 @@ module _ (R : List (List Value) → List Value → Type 0) (f : List Value → �
       here : row_at rows m ≡ row_at block k
       here = row-here rows front block later start next k l
 
-pub sides-none : (f : List Value → ℤ) (rows : List (List Value)) (sides : Sides) → sides.low.places.items ≡ [] → sides.low.total ≡ pos 0 → sides.high.places.items ≡ [] → sides.high.total ≡ pos 0 → AreSides f rows [] sides
-sides-none f rows sides a b c d = (side-none (IsCheapest f) f rows sides.low a b, side-none (IsDearest f) f rows sides.high c d)
+pub sides-none : (f : List Value → ℤ) (rows : List (List Value)) (sides : Sides) → sides.low.places.items ≡ [] → sides.low.total ≡ pos 0 → sides.high.places.items ≡ [] → sides.high.total ≡ pos 0 → sides.wide.items ≡ [] →
+    AreSides f rows [] sides
+sides-none f rows sides a b c d w = (side-none (IsCheapest f) f rows sides.low a b, side-none (IsDearest f) f rows sides.high c d, w)
 
 -- so many blocks add up within the bounds
 pub sides-within : (f : List Value → ℤ) (rows : List (List Value)) (front : List (List (List Value))) (sides : Sides) (n : ℕ) → length front ≤ n → AreSides f rows front sides → IsWithin n sides.low.total × IsWithin n sides.high.total

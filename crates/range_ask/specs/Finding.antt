@@ -33,7 +33,7 @@ pub record IsBestHigh (f : List Value → ℤ) (rows : List (List Value)) (n : �
   pub most : (i : ℕ) → i < n → f (row_at rows i) ≤ℤ best.worth
 
 abbrev pub AreBests : (List Value → ℤ) → List (List Value) → ℕ → Open → Type 0
-AreBests f rows n held = IsBestLow f rows n held.least × IsBestHigh f rows n held.most
+AreBests f rows n held = IsBestLow f rows n held.least × IsBestHigh f rows n held.most × (held.read ≡ n)
 
 -- of the first n rows the one at the place doesn't meet the tests; or all do
 abbrev pub IsMissing : (List Value → Bool) → List (List Value) → ℕ → Option ℕ → Type 0
@@ -47,6 +47,7 @@ IsFurthest way p col rows n (Some spot) = (spot.at < n) × (p (row_at rows spot.
     × ((i : ℕ) → i < n → p (row_at rows i) ≡ true → Before way (cell (row_at rows i) col) (cell spot.row.now col))
 
 pub record IsMet (way : Way) (p : List Value → Bool) (col : ℕ) (rows : List (List Value)) (n : ℕ) (met : Met) : Type 0 where
+  pub read_is : met.read ≡ n
   pub missing : IsMissing p rows n met.missing
   pub near : IsFurthest (turned way) p col rows n met.near
   pub far : IsFurthest way p col rows n met.far

@@ -4,3 +4,6 @@ pub mod Picks
 pub mod Finding
 pub mod Walking
 pub mod Reaching
+pub mod Groups
+pub mod Choosing
+pub mod Tallying

@@ -12,7 +12,7 @@ use Rattle.range_ask.specs.declared.extremes.Extremes.{Extremes}
 use Rattle.range_ask.specs.Ranges.{cell, rows_in}
 use Rattle.range_ask.specs.Picks.{Before, turned, IsExtreme, Avoids, Meets}
 use Rattle.range_ask.specs.Finding.{row_at}
-use Rattle.range_ask.specs.Walking.{rows_of, AreChosen}
+use Rattle.range_ask.specs.Walking.{rows_of, wide_of, AreChosen}
 
 -- the row if it meets the tests, and else none
 abbrev pub IsIfMet : (List Value → Bool) → List Value → Option (List Value) → Type 0
@@ -51,8 +51,9 @@ abbrev pub IsTop : Way → (List Value → Bool) → ℕ → List (List Value) �
 IsTop way p col rows front places None = (y : List Value) → Contains (rows_of front) y → p y ≡ false
 IsTop way p col rows front places (Some top) = IsTopAt way p col rows front places top
 
--- the rows that avoid the tests, those that meet them, and which of all that meet them lies least far
+-- the rows that avoid the tests, those that meet them, which of all that meet them lies least far, and which blocks are wide
 pub record AreExtremes (way : Way) (p : List Value → Bool) (col : ℕ) (rows : List (List Value)) (front : List (List (List Value))) (ends : Extremes) : Type 0 where
   pub avoids : IsReach (Avoids way p col) way p col rows front ends.avoids
   pub meets : IsReach (Meets way p col) way p col rows front ends.meets
   pub top : IsTop (turned way) p col rows front ends.avoids.places.items ends.top
+  pub wide : ends.wide.items ≡ wide_of front

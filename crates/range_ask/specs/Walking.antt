@@ -1,5 +1,5 @@
 -- The walk over rows: what was chosen of the blocks so far, and the block that is being read.
-use Rattle.std.specs.Prelude.{◌≡◌, ℕ, ◌*◌, ◌<◌, ◌≤◌, ◌^◌, ◌++◌, List, ◌∷◌, length, drop, flat_map, Contains, ℤ, pos, neg_ℤ, ◌≤ℤ◌}
+use Rattle.std.specs.Prelude.{◌≡◌, ℕ, suc, Bool, true, false, if◌then◌else◌, ◌*◌, ◌<◌, ◌≤◌, ◌^◌, ◌++◌, List, [], ◌∷◌, length, drop, flat_map, Contains, ℤ, pos, neg_ℤ, ◌≤ℤ◌}
 use Rattle.std.specs.List.{AllZip}
 use Rattle.std.specs.List.Sorted.{IsStrictlySortedBy}
 use Rattle.std.specs.Ordering.{nat_cmp}
@@ -14,6 +14,20 @@ use Rattle.range_ask.specs.Picks.{IsCheapest, IsDearest}
 -- the rows of blocks, one behind the other
 abbrev pub rows_of : List (List (List Value)) → List (List Value)
 rows_of blocks = flat_map (λ b. b) blocks
+
+-- a block of two or more rows
+abbrev pub is_wide : List (List Value) → Bool
+is_wide [] = false
+is_wide (x ∷ []) = false
+is_wide (x ∷ y ∷ rows) = true
+
+-- the numbers of such blocks, where the first block has a number
+abbrev pub wide_from : ℕ → List (List (List Value)) → List ℕ
+wide_from n [] = []
+wide_from n (block ∷ blocks) = if is_wide block then n ∷ wide_from (suc n) blocks else wide_from (suc n) blocks
+
+abbrev pub wide_of : List (List (List Value)) → List ℕ
+wide_of blocks = wide_from 0 blocks
 
 -- W holds of the blocks before the one that is being read, and B of so many rows of it. The last of these is this one, the block
 -- begins at this place of the table, and these rows are left
@@ -54,7 +68,7 @@ pub record IsSide (R : List (List Value) → List Value → Type 0) (f : List Va
   pub within : IsWithin (length front) side.total
 
 abbrev pub AreSides : (List Value → ℤ) → List (List Value) → List (List (List Value)) → Sides → Type 0
-AreSides f rows front sides = IsSide (IsCheapest f) f rows front sides.low × IsSide (IsDearest f) f rows front sides.high
+AreSides f rows front sides = IsSide (IsCheapest f) f rows front sides.low × IsSide (IsDearest f) f rows front sides.high × (sides.wide.items ≡ wide_of front)
 
 -- a goal that adds up
 abbrev pub IsTotal : Goal → Type 0

@@ -13,18 +13,21 @@ use crate::found::{Met, begun, read_row};
 use crate::reach::{Reach, avoiding, keep, meeting};
 use crate::top::{Top, further_top};
 use crate::way::{Look, Way};
+use crate::wide::note;
 use cqa_value::NoMemory;
 use row_blocks::same_key;
 use std::alloc::Global;
 use table_blocks::Database;
 
 /// What is kept for both ends, one row of each block: rows that don't meet the tests, or else those of least far values; and rows of
-/// furthest values. Beside them, which row of all that meet the tests lies least far.
+/// furthest values. Beside them, which row of all that meet the tests lies least far, and the numbers of the blocks that have two or
+/// more rows.
 #[derive(Drop)]
 pub struct Extremes<'a> {
     pub avoids: Reach<'a>,
     pub meets: Reach<'a>,
     pub top: Option<Top<'a>>,
+    pub wide: Vec<usize>,
 }
 
 /// No row is kept.
@@ -34,6 +37,7 @@ fn blank<'a>(alloc: Global) -> Extremes<'a>
     ensures meets { result.meets.places.items ≡ [] }
     ensures none_meets { result.meets.extreme ≡ None }
     ensures top { result.top ≡ None }
+    ensures wide { result.wide.items ≡ [] }
 {
     Extremes {
         avoids: Reach {
@@ -45,6 +49,7 @@ fn blank<'a>(alloc: Global) -> Extremes<'a>
             extreme: None,
         },
         top: None,
+        wide: Vec::new(alloc),
     }
 }
 
@@ -56,6 +61,7 @@ fn close<'a>(way: Way, col: u32, held: Met<'a>, ends: &mut Extremes<'a>) -> Resu
     ensures { IfOk result (λ done. (p : List Cell → Bool) (rows : List (List Cell)) (front : List (List (List Cell))) (block : List (List Cell)) (later : List (List (List Cell))) → IsNext rows front block later held.entry.start → IsMet way p col block (length block) held.entry → AreExtremes way p col rows front ends.old → AreExtremes way p col rows (front ++ block ∷ []) ends.new) }
 {
     let number = ends.avoids.places.len();
+    note(&mut ends.wide, number, held.read)?;
     keep(way, col, &mut ends.avoids, held.start, avoiding(&held))?;
     keep(way, col, &mut ends.meets, held.start, meeting(&held))?;
     ends.top = further_top(way.turned(), col, ends.top, number, held.start, held.near);

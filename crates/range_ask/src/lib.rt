@@ -2,15 +2,24 @@
 //! each end a repair that has it.
 #![tactic(auto)]
 
+mod choice;
+mod ends;
 mod extremes;
 mod found;
+mod groups;
 pub mod laws;
+mod peak;
 mod range;
 mod reach;
 mod sums;
+mod tally;
 mod top;
+mod total;
 mod way;
+mod wide;
 mod worth;
 
 pub use cqa_model::{End, Goal};
+pub use ends::{Ends, ends_of};
+pub use groups::{Group, groups_of};
 pub use range::{Range, range_of};

@@ -60,7 +60,7 @@ pub(crate) fn meeting<'a>(met: &Met<'a>) -> Taken<'a>
 }
 
 /// The row whose value lies further, if there is one; the best where neither's does.
-fn further_row<'a>(
+pub(crate) fn further_row<'a>(
     way: Way,
     col: u32,
     best: Option<&'a Row>,

@@ -9,6 +9,7 @@ ghost use Rattle.range_ask.specs.Picks.{IsParted, worth};
 ghost use Rattle.range_ask.specs.Finding.{added, row_at, AreBests, IsBestHigh, IsBestLow};
 ghost use Rattle.range_ask.specs.Walking.{AreSides, IsNext, IsWithin};
 
+use crate::wide::note;
 use crate::worth::worth;
 use cqa_model::Goal;
 use cqa_value::NoMemory;
@@ -40,11 +41,12 @@ pub struct Side {
     pub total: i128,
 }
 
-/// What is kept for both ends.
+/// What is kept for both ends, and the numbers of the blocks that have two or more rows.
 #[derive(Drop)]
 pub struct Sides {
     pub low: Side,
     pub high: Side,
+    pub wide: Vec<usize>,
 }
 
 /// The one that adds less; the best where both add as much.
@@ -118,6 +120,7 @@ fn close(held: Open, sides: &mut Sides) -> Result<(), NoMemory>
     requires high { IsWithin MOST_ROWS sides.old.high.total }
     ensures { IfOk result (λ done. (f : List Cell → ℤ) (rows : List (List Cell)) (front : List (List (List Cell))) (block : List (List Cell)) (later : List (List (List Cell))) → IsNext rows front block later held.start → AreBests f block (length block) held → AreSides f rows front sides.old → AreSides f rows (front ++ block ∷ []) sides.new) }
 {
+    note(&mut sides.wide, sides.low.places.len(), held.read)?;
     take(&mut sides.low, held.start + held.least.at, held.least.worth)?;
     take(&mut sides.high, held.start + held.most.at, held.most.worth)?;
     Ok(())
@@ -129,6 +132,7 @@ fn blank(alloc: Global) -> Sides
     ensures none_low { result.low.total ≡ pos 0 }
     ensures high { result.high.places.items ≡ [] }
     ensures none_high { result.high.total ≡ pos 0 }
+    ensures wide { result.wide.items ≡ [] }
 {
     Sides {
         low: Side {
@@ -139,6 +143,7 @@ fn blank(alloc: Global) -> Sides
             places: Vec::new(alloc),
             total: 0,
         },
+        wide: Vec::new(alloc),
     }
 }
 

@@ -19,11 +19,12 @@ use Rattle.cqa_model.specs.declared.class.Class.TheVariants.{FirstOrder, Polynom
 use Rattle.cqa_model.specs.declared.aggregate.End.{End}
 use Rattle.cqa_model.specs.declared.aggregate.End.TheVariants.{Empty, Number, Held}
 use Rattle.reply_text.specs.declared.reply.AttackLine.{AttackLine}
+use Rattle.reply_text.specs.declared.reply.GroupEnds.{GroupEnds}
 use Rattle.reply_text.specs.declared.reply.KeptRow.{KeptRow}
 use Rattle.reply_text.specs.declared.reply.TableLine.{TableLine}
 use Rattle.reply_text.specs.declared.reply.Proof.{Proof}
 use Rattle.reply_text.specs.declared.reply.Reply.{Reply}
-use Rattle.reply_text.specs.declared.reply.Reply.TheVariants.{Created, Altered, Inserted, Deleted, Copied, Rows, Classified, Steps, Sql, NoPlan, Rejected, ByBlock, ByRefutation, Range, Tables, Conflicts, KeptLog, NoLog, Dumped, Refused}
+use Rattle.reply_text.specs.declared.reply.Reply.TheVariants.{Created, Altered, Inserted, Deleted, Copied, Rows, Classified, Steps, Sql, NoPlan, Rejected, ByBlock, ByRefutation, Range, Groups, Tables, Conflicts, KeptLog, NoLog, Dumped, Refused}
 
 -- row R column C, or condition K
 abbrev pub place_text : Place → List ℕ
@@ -158,6 +159,14 @@ end_text (Held value) = literal_bytes value
 abbrev pub range_text : End → List KeptRow → End → List KeptRow → List ℕ
 range_text least low greatest high = codes "least " ++ end_text least ++ kept_lines low ++ codes "\ngreatest " ++ end_text greatest ++ kept_lines high
 
+-- group V least L greatest G
+abbrev pub group_text : GroupEnds → List ℕ
+group_text line = codes "group " ++ literal_bytes line.value ++ codes " least " ++ end_text line.least ++ codes " greatest " ++ end_text line.greatest
+
+-- each group on a line of its own, then N groups
+abbrev pub groups_text : List GroupEnds → List ℕ
+groups_text lines = flat_map (λ line. group_text line ++ codes "\n") lines ++ decimal (length lines) ++ codes " groups"
+
 -- certain by block NAME KEY
 abbrev pub block_text : List ℕ → List Value → List ℕ
 block_text table key = codes "certain by block " ++ table ++ codes " " ++ row_bytes key
@@ -182,6 +191,7 @@ reply_parts (Rejected lines) = ([], rejected_text lines)
 reply_parts (ByBlock table key) = ([], block_text table key)
 reply_parts (ByRefutation proof) = ([], refutation_text proof)
 reply_parts (Range least low greatest high) = ([], range_text least low greatest high)
+reply_parts (Groups lines) = ([], groups_text lines)
 reply_parts (Conflicts budget) = (codes "conflicts " ++ decimal budget, [])
 reply_parts (Tables lines) = ([], tables_text lines)
 reply_parts (Dumped script) = ([], script)

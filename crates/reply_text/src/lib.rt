@@ -11,5 +11,5 @@ mod refused;
 mod reply;
 mod text;
 
-pub use reply::{AttackLine, KeptRow, Proof, Reply, TableLine};
+pub use reply::{AttackLine, GroupEnds, KeptRow, Proof, Reply, TableLine};
 pub use text::reply_bytes;

@@ -1,11 +1,11 @@
-//! Appends the least and the greatest value of an aggregate.
+//! Appends the least and the greatest value of an aggregate, over all rows or for each group of them.
 
-ghost use Rattle.std.specs.Prelude.{◌≡◌, ◌++◌, OnOk};
-ghost use Rattle.reply_text.specs.Texts.{end_text, kept_lines, range_text};
+ghost use Rattle.std.specs.Prelude.{◌≡◌, ◌++◌, OnOk, codes};
+ghost use Rattle.reply_text.specs.Texts.{end_text, group_text, groups_text, kept_lines, range_text};
 
-use crate::KeptRow;
-use crate::append::{append_signed, append_words};
+use crate::append::{append_number, append_signed, append_words};
 use crate::explained::append_kept_rows;
+use crate::{GroupEnds, KeptRow};
 use cqa_model::End;
 use cqa_value::{NoMemory, literal_text};
 
@@ -27,9 +27,38 @@ pub fn append_range(
 fn append_side(words: &str, end: &End, lines: &[KeptRow], out: &mut Vec<u8>) -> Result<(), NoMemory>
     ensures { OnOk result (out.new.items ≡ out.old.items ++ (words.now ++ end_text end.now ++ kept_lines lines.now)) }
 {
-    append_words(words, out)?;
-    append_end(end, out)?;
+    append_ending(words, end, out)?;
     append_kept_rows(lines, out)
+}
+
+/// Appends each group on a line of its own, and how many they are.
+pub fn append_groups(lines: &[GroupEnds], out: &mut Vec<u8>) -> Result<(), NoMemory>
+    ensures { OnOk result (out.new.items ≡ out.old.items ++ groups_text lines.now) }
+{
+    for line in lines {
+        append_group(line, out)?;
+    }
+    append_number(lines.len(), out)?;
+    append_words(" groups", out)
+}
+
+/// Appends the line of a group with its line feed.
+fn append_group(line: &GroupEnds, out: &mut Vec<u8>) -> Result<(), NoMemory>
+    ensures { OnOk result (out.new.items ≡ out.old.items ++ (group_text line.now ++ codes "\n")) }
+{
+    append_words("group ", out)?;
+    literal_text(&line.value, out)?;
+    append_ending(" least ", &line.least, out)?;
+    append_ending(" greatest ", &line.greatest, out)?;
+    append_words("\n", out)
+}
+
+/// Appends words and an end.
+fn append_ending(words: &str, end: &End, out: &mut Vec<u8>) -> Result<(), NoMemory>
+    ensures { OnOk result (out.new.items ≡ out.old.items ++ (words.now ++ end_text end.now)) }
+{
+    append_words(words, out)?;
+    append_end(end, out)
 }
 
 /// Appends an end: `none`, a number, or a value as a literal.

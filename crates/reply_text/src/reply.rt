@@ -4,7 +4,7 @@ ghost use Rattle.std.specs.Prelude.{◌≡◌, IfOk};
 
 use cnf_form::{Cnf, Log};
 use cqa_model::{Class, End, Schema};
-use cqa_value::{Items, Name, NoMemory, Row};
+use cqa_value::{Items, Name, NoMemory, Row, Value};
 use refusals::Refusal;
 use std::alloc::Global;
 
@@ -52,6 +52,8 @@ pub enum Reply {
         greatest: End,
         high: Items<KeptRow>,
     },
+    /// The least and the greatest value that an aggregate has in a repair of a table, for each group of the table's rows.
+    Groups(Items<GroupEnds>),
     /// A search may take so many conflicts from now on.
     Conflicts(u32),
     /// The tables in the order in which they were made.
@@ -79,6 +81,14 @@ pub struct TableLine {
 pub struct KeptRow {
     pub table: Name,
     pub row: Row,
+}
+
+/// The least and the greatest value that an aggregate over the rows with a value in a column has in a repair.
+#[derive(Drop)]
+pub struct GroupEnds {
+    pub value: Value,
+    pub least: End,
+    pub greatest: End,
 }
 
 /// An attack of one of a query's tables on another.

@@ -8,7 +8,7 @@ use crate::classified::append_classified;
 use crate::explained::{append_by_block, append_by_refutation, append_rejected};
 use crate::logged::append_proof;
 use crate::planned::append_steps;
-use crate::ranged::append_range;
+use crate::ranged::{append_groups, append_range};
 use crate::refused::append_refusal;
 use crate::{Reply, TableLine};
 use cqa_model::schema_text;
@@ -75,6 +75,7 @@ fn append_short(reply: &Reply, out: &mut Vec<u8>) -> Result<(), NoMemory>
         | Reply::ByBlock { .. }
         | Reply::ByRefutation(_)
         | Reply::Range { .. }
+        | Reply::Groups(_)
         | Reply::Tables(_)
         | Reply::Dumped(_)
         | Reply::KeptLog(_)
@@ -100,6 +101,7 @@ fn append_long(alloc: Global, reply: &Reply, out: &mut Vec<u8>) -> Result<(), No
             greatest,
             high,
         } => append_range(least, low.as_slice(), greatest, high.as_slice(), out),
+        Reply::Groups(lines) => append_groups(lines.as_slice(), out),
         Reply::Tables(lines) => append_tables(lines.as_slice(), out),
         Reply::KeptLog(proof) => append_proof(alloc, proof, out),
         Reply::Refused(refusal) => append_refusal(refusal, out),

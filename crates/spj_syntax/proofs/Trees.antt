@@ -23,7 +23,7 @@ use Rattle.spj_syntax.specs.declared.tree.RawCol.{RawCol}
 use Rattle.spj_syntax.specs.declared.tree.RawCond.{RawCond}
 use Rattle.spj_syntax.specs.declared.tree.RawCond.TheVariants.{Join, Test}
 use Rattle.spj_syntax.specs.Lexemes.{Lexeme, Word, Number, Quoted, Mark}
-use Rattle.spj_syntax.specs.Written.{name_tokens, literal_tokens, column_tokens, listed_tokens, row_tokens, schema_tokens, op_symbol, test_tokens, col_tokens_of, col_tokens, cond_tokens, each_after, between, filtered_tokens, head_tokens, select_tokens, verb_tokens, strict_tokens, change_tokens, goal_tokens, statement_tokens}
+use Rattle.spj_syntax.specs.Written.{name_tokens, literal_tokens, column_tokens, listed_tokens, row_tokens, schema_tokens, op_symbol, test_tokens, col_tokens_of, col_tokens, cond_tokens, each_after, between, filtered_tokens, head_tokens, select_tokens, verb_tokens, strict_tokens, change_tokens, goal_tokens, grouped_tokens, statement_tokens}
 use Rattle.spj_syntax.specs.declared.tree.Change.{Change}
 use Rattle.spj_syntax.specs.declared.tree.Change.TheVariants as changes
 use Rattle.spj_syntax.specs.declared.tree.Select.{Select}
@@ -164,15 +164,30 @@ between_decodes l S f n d (x ∷ xs) (y ∷ ys) r z p q h k e =
     let j = each_decodes l S f n d xs ys r z h k i.1 in
     (ap (λ a. a ∷ xs) i.0 ∙ ap (λ a. y ∷ a) j.0, j.1)
 
+-- what may follow "where" and the list behind it, or nothing
+abbrev After : (Lexeme → Type 0) → Lexeme → Type 0
+After S = OrAlso (Word (codes "where")) (OrAlso (Word (codes "and")) S)
+
+fine_after : (S : Lexeme → Type 0) (r : List Lexeme) → Fine (After S) r → Fine (OrAlso (Word (codes "and")) S) r
+fine_after S [] h = tt
+fine_after S (t ∷ r) h = λ k. h (inr k)
+
+filtered_decode : {A : Type 0} (S : Lexeme → Type 0) (f : A → List Lexeme) → (S (Word (codes "and")) → ⊥)
+    → ((a b : A) (r z : List Lexeme) → Fine S r → Fine S z → f a ++ r ≡ f b ++ z → (a ≡ b) × (r ≡ z))
+    → (xs ys : List A) (r z : List Lexeme) → Fine (After S) r → Fine (After S) z → filtered_tokens f xs ++ r ≡ filtered_tokens f ys ++ z → (xs ≡ ys) × (r ≡ z)
+filtered_decode S f n d [] [] r z h k e = (refl, e)
+filtered_decode S f n d [] (y ∷ ys) [] z h k e = absurd (cc)
+filtered_decode S f n d [] (y ∷ ys) (t ∷ r) z h k e = absurd (h (inl (let g : t ≡ Word (codes "where") = cc in g)))
+filtered_decode S f n d (x ∷ xs) [] r [] h k e = absurd (cc)
+filtered_decode S f n d (x ∷ xs) [] r (t ∷ z) h k e = absurd (k (inl (let g : t ≡ Word (codes "where") = cc in g)))
+filtered_decode S f n d (x ∷ xs) (y ∷ ys) r z h k e =
+    let g : between (Word (codes "and")) f (x ∷ xs) ++ r ≡ between (Word (codes "and")) f (y ∷ ys) ++ z = cc in
+    between_decodes (Word (codes "and")) S f n d (x ∷ xs) (y ∷ ys) r z (omega arith) (omega arith) (fine_after S r h) (fine_after S z k) g
+
 filtered_decodes : {A : Type 0} (S : Lexeme → Type 0) (f : A → List Lexeme) → (S (Word (codes "and")) → ⊥)
     → ((a b : A) (r z : List Lexeme) → Fine S r → Fine S z → f a ++ r ≡ f b ++ z → (a ≡ b) × (r ≡ z))
     → (xs ys : List A) → filtered_tokens f xs ≡ filtered_tokens f ys → xs ≡ ys
-filtered_decodes S f n d [] [] e = refl
-filtered_decodes S f n d [] (y ∷ ys) e = (cc)
-filtered_decodes S f n d (x ∷ xs) [] e = (cc)
-filtered_decodes S f n d (x ∷ xs) (y ∷ ys) e =
-    let g : between (Word (codes "and")) f (x ∷ xs) ≡ between (Word (codes "and")) f (y ∷ ys) = cc in
-    (between_decodes (Word (codes "and")) S f n d (x ∷ xs) (y ∷ ys) [] [] (omega arith) (omega arith) tt tt (ap (λ w. w ++ []) g)).0
+filtered_decodes S f n d xs ys e = (filtered_decode S f n d xs ys [] [] tt tt (ap (λ w. w ++ []) e)).0
 
 fine_filtered : {A : Type 0} (f : A → List Lexeme) (xs : List A) → Fine (OrAlso (Mark s.Comma) Never) (filtered_tokens f xs)
 fine_filtered f [] = tt
@@ -396,6 +411,21 @@ goal_decodes (goals.Min c) (goals.Min d) r z e = let h : c ≡ d = cc in (ap goa
 goal_decodes (goals.Max c) (goals.Max d) r z e = let h : c ≡ d = cc in (ap goals.Max h, (cc))
 goal_decodes _ _ r z e = absurd (omega (arith, ap mark_of e))
 
+-- "group" goes on no list of tests
+fine_grouped : (g : Option (List ℕ)) → Fine (After Never) (grouped_tokens g)
+unfolding initial
+fine_grouped None = tt
+fine_grouped (Some c) = λ h. elim h [
+  | inl e ↦ absurd (omega (arith, ap (λ l. initial (l ∷ [])) e))
+  | inr h ↦ elim h [ inl e ↦ absurd (omega (arith, ap (λ l. initial (l ∷ [])) e)) | inr b ↦ b ]
+]
+
+grouped_same : (a b : Option (List ℕ)) → grouped_tokens a ≡ grouped_tokens b → a ≡ b
+grouped_same None None e = refl
+grouped_same None (Some d) e = absurd (cc)
+grouped_same (Some c) None e = absurd (cc)
+grouped_same (Some c) (Some d) e = let h : c ≡ d = cc in ap Some h
+
 -- no tokens are written by two statements
 pub statement_same : (a b : Statement) → statement_tokens a ≡ statement_tokens b → a ≡ b
 unfolding mark_of second_mark is_verb verb_marks
@@ -425,14 +455,16 @@ statement_same (statements.Asking v c) (statements.Asking w d) e =
     λ l. statements.Asking (h l) (g l)
 statement_same (statements.SetConflicts n) (statements.SetConflicts m) e = ap statements.SetConflicts (cc)
 statement_same (statements.Copy t) (statements.Copy u) e = ap statements.Copy (cc)
-statement_same (statements.Range f t xs) (statements.Range g u ys) e =
-    let rest : goal_tokens f ++ (Word (codes "from") ∷ (name_tokens t ++ filtered_tokens test_tokens xs)) ≡ goal_tokens g ++ (Word (codes "from") ∷ (name_tokens u ++ filtered_tokens test_tokens ys)) = cc in
+statement_same (statements.Range f t xs a) (statements.Range g u ys b) e =
+    let rest : goal_tokens f ++ (Word (codes "from") ∷ (name_tokens t ++ (filtered_tokens test_tokens xs ++ grouped_tokens a))) ≡ goal_tokens g ++ (Word (codes "from") ∷ (name_tokens u ++ (filtered_tokens test_tokens ys ++ grouped_tokens b))) = cc in
     let goals = goal_decodes f g _ _ rest in
     let table : t ≡ u = cc (goals.1) in
-    let tests : filtered_tokens test_tokens xs ≡ filtered_tokens test_tokens ys = cc (goals.1) in
-    let c = filtered_decodes Never test_tokens (λ x. x) (λ x y r z f g e. test_decodes x y r z e) xs ys tests in
-    let d = goals.0 in
-    λ i. statements.Range (d i) (table i) (c i)
+    let behind : filtered_tokens test_tokens xs ++ grouped_tokens a ≡ filtered_tokens test_tokens ys ++ grouped_tokens b = cc (goals.1) in
+    let parts = filtered_decode Never test_tokens (λ x. x) (λ x y r z f g e. test_decodes x y r z e) xs ys (grouped_tokens a) (grouped_tokens b) (fine_grouped a) (fine_grouped b) behind in
+    let goal = goals.0 in
+    let tests = parts.0 in
+    let group = grouped_same a b parts.1 in
+    λ i. statements.Range (goal i) (table i) (tests i) (group i)
 statement_same statements.Dump statements.Dump e = refl
 statement_same statements.ShowTables statements.ShowTables e = refl
 statement_same statements.ShowLog statements.ShowLog e = refl

@@ -107,8 +107,12 @@ set = one (word (codes "set")) ⨾ one (word (codes "conflicts")) ⨾ one int
 abbrev pub goal : Shape
 goal = one (word (codes "count")) ∣ one (word (codes "sum")) ⨾ a_name ∣ one (word (codes "min")) ⨾ a_name ∣ one (word (codes "max")) ⨾ a_name
 
+-- nothing, or "group by" and the column by whose values rows are grouped
+abbrev pub grouped : Shape
+grouped = optional (one (word (codes "group")) ⨾ one (word (codes "by")) ⨾ a_name)
+
 abbrev pub range : Shape
-range = one (word (codes "range")) ⨾ goal ⨾ one (word (codes "from")) ⨾ a_name ⨾ filtered test
+range = one (word (codes "range")) ⨾ goal ⨾ one (word (codes "from")) ⨾ a_name ⨾ filtered test ⨾ grouped
 
 abbrev pub show : Shape
 show = one (word (codes "show")) ⨾ one (word (codes "tables")) ∣ one (word (codes "show")) ⨾ one (word (codes "log"))

@@ -133,6 +133,11 @@ goal_tokens (goals.Sum column) = Word (codes "sum") ∷ name_tokens column
 goal_tokens (goals.Min column) = Word (codes "min") ∷ name_tokens column
 goal_tokens (goals.Max column) = Word (codes "max") ∷ name_tokens column
 
+-- nothing, or "group by" and the column by whose values rows are grouped
+abbrev pub grouped_tokens : Option (List ℕ) → List Lexeme
+grouped_tokens None = []
+grouped_tokens (Some column) = Word (codes "group") ∷ Word (codes "by") ∷ name_tokens column
+
 abbrev pub statement_tokens : Statement → List Lexeme
 statement_tokens (statements.Create r) = Word (codes "create") ∷ (strict_tokens r.strict ++ (Word (codes "table") ∷ schema_tokens r))
 statement_tokens (statements.Alter table change) = Word (codes "alter") ∷ Word (codes "table") ∷ (name_tokens table ++ change_tokens change)
@@ -141,7 +146,7 @@ statement_tokens (statements.Delete table tests) = Word (codes "delete") ∷ Wor
 statement_tokens (statements.Asking verb q) = verb_tokens verb ++ select_tokens q
 statement_tokens (statements.SetConflicts n) = Word (codes "set") ∷ Word (codes "conflicts") ∷ Number (pos n) ∷ []
 statement_tokens (statements.Copy table) = Word (codes "copy") ∷ name_tokens table
-statement_tokens (statements.Range goal table tests) = Word (codes "range") ∷ (goal_tokens goal ++ (Word (codes "from") ∷ (name_tokens table ++ filtered_tokens test_tokens tests)))
+statement_tokens (statements.Range goal table tests group) = Word (codes "range") ∷ (goal_tokens goal ++ (Word (codes "from") ∷ (name_tokens table ++ (filtered_tokens test_tokens tests ++ grouped_tokens group))))
 statement_tokens statements.Dump = Word (codes "dump") ∷ []
 statement_tokens statements.ShowTables = Word (codes "show") ∷ Word (codes "tables") ∷ []
 statement_tokens statements.ShowLog = Word (codes "show") ∷ Word (codes "log") ∷ []
@@ -159,7 +164,7 @@ abbrev pub IsSmall : Statement → Type 0
 IsSmall (statements.Alter table change) = HasKey change
 IsSmall (statements.Insert table rows) = length rows ≤ most_items
 IsSmall (statements.Delete table tests) = length tests ≤ most_items
-IsSmall (statements.Range goal table tests) = length tests ≤ most_items
+IsSmall (statements.Range goal table tests group) = length tests ≤ most_items
 IsSmall _ = Unit {0}
 
 -- A statement is written as tokens.

@@ -1,18 +1,19 @@
 //! The statements, each read by the shape that the grammar gives it.
 
-ghost use Rattle.std.specs.Prelude.{◌≡◌, ◌<◌, ◌∷◌, ◌++◌, [], length, IfOk, All, IsTrue, codes};
+ghost use Rattle.std.specs.Prelude.{◌≡◌, ◌<◌, ◌≤◌, ◌∷◌, ◌++◌, [], length, IfOk, All, IsTrue, codes};
 ghost use Rattle.cqa_value.specs.Literals.{integer_of, are_digits, without_minus};
 ghost use Rattle.spj_syntax.specs.Lexemes.{Word, Number, Mark};
+ghost use Rattle.spj_syntax.specs.Limits.{most_items};
 ghost use Rattle.spj_syntax.specs.Reading.{Reads, Took, body_tokens};
 ghost use Rattle.spj_syntax.specs.Shapes.{◌⨾◌};
-ghost use Rattle.spj_syntax.specs.Written.{strict_tokens, key_tokens, change_tokens, HasKey, head_tokens, select_tokens, verb_tokens, goal_tokens, statement_tokens, listed_tokens, literal_tokens, name_tokens, row_tokens, IsSmall};
+ghost use Rattle.spj_syntax.specs.Written.{strict_tokens, key_tokens, change_tokens, HasKey, head_tokens, select_tokens, verb_tokens, goal_tokens, filtered_tokens, test_tokens, grouped_tokens, statement_tokens, listed_tokens, literal_tokens, name_tokens, row_tokens, IsSmall};
 ghost use Rattle.cqa_model.specs.Valid.{IsName};
 ghost use Rattle.spj_syntax.specs.Grammar as grammar;
 ghost use Rattle.spj_syntax.specs.Factored as factored;
 
 use crate::lists::{columns, filtered, listed, literals};
 use crate::reader::{Reader, Stop};
-use crate::{Change, RawCol, RawGoal, RawSchema, Select, Statement, Verb};
+use crate::{Change, RawCol, RawGoal, RawSchema, RawTest, Select, Statement, Verb};
 use cqa_model::Column;
 use cqa_value::{Items, Name, Row};
 use script_lex::Symbol;
@@ -259,7 +260,33 @@ fn goal(alloc: Global, reader: &mut Reader<'_>) -> Result<RawGoal, Stop>
     Ok(RawGoal::Max(greatest))
 }
 
-/// `range GOAL from NAME [where TEST and ..]`.
+/// `group by NAME`, or nothing.
+fn grouped(alloc: Global, reader: &mut Reader<'_>) -> Result<Option<Name>, Stop>
+    ensures { Reads grammar.grouped grouped_tokens result reader.old reader.new }
+{
+    if reader.sees_word(b"group") {
+        reader.advance();
+        reader.word(b"by")?;
+        let column = reader.name(alloc)?;
+        return Ok(Some(column));
+    }
+    Ok(None)
+}
+
+/// `[where TEST and ..] [group by NAME]`.
+fn tests_and_group(
+    alloc: Global,
+    reader: &mut Reader<'_>,
+) -> Result<(Items<RawTest>, Option<Name>), Stop>
+    ensures reads { Reads (grammar.filtered grammar.test ⨾ grammar.grouped) (λ parts. filtered_tokens test_tokens parts.0 ++ grouped_tokens parts.1) result reader.old reader.new }
+    ensures few { IfOk result (λ parts. length parts.0 ≤ most_items) }
+{
+    let tests = filtered(alloc, reader)?;
+    let group = grouped(alloc, reader)?;
+    Ok((tests, group))
+}
+
+/// `range GOAL from NAME [where TEST and ..] [group by NAME]`.
 fn range(alloc: Global, reader: &mut Reader<'_>) -> Result<Statement, Stop>
     ensures reads { Reads grammar.range statement_tokens result reader.old reader.new }
     ensures small { IfOk result (λ s. IsSmall s) }
@@ -268,8 +295,13 @@ fn range(alloc: Global, reader: &mut Reader<'_>) -> Result<Statement, Stop>
     let goal = goal(alloc, reader)?;
     reader.word(b"from")?;
     let table = reader.name(alloc)?;
-    let tests = filtered(alloc, reader)?;
-    Ok(Statement::Range { goal, table, tests })
+    let parts = tests_and_group(alloc, reader)?;
+    Ok(Statement::Range {
+        goal,
+        table,
+        tests: parts.0,
+        group: parts.1,
+    })
 }
 
 /// `show tables` or `show log`.

@@ -111,6 +111,7 @@ pub enum Statement {
         goal: RawGoal,
         table: Name,
         tests: Items<RawTest>,
+        group: Option<Name>,
     },
     Dump,
     ShowTables,

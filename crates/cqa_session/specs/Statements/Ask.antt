@@ -1,5 +1,5 @@
 -- `ask`
-use Rattle.std.specs.Prelude.{◌≡◌, List}
+use Rattle.std.specs.Prelude.{◌≡◌, ℕ, List}
 use Rattle.cqa_value.specs.declared.value.Value.{Value}
 use Rattle.cqa_model.specs.declared.query.Query.{Query}
 use Rattle.refusals.specs.declared.refusal.Refusal.{Refusal}
@@ -7,7 +7,9 @@ use Rattle.refusals.specs.declared.refusal.Refusal.TheVariants.{WitnessLimit, Sp
 use Rattle.cqa_model.specs.Database.{Table}
 use Rattle.cqa_model.specs.Certain.{IsCandidate, IsCertainAnswer}
 use Rattle.join_access.specs.Listing.{HasTooMany}
-use Rattle.search_answers.specs.Searching.{NoneBefore}
+use Rattle.search_answers.specs.declared.search.Searched.{Searched}
+use Rattle.search_answers.specs.declared.search.Searched.TheVariants.{All, Stopped}
+use Rattle.search_answers.specs.Searching.{NoneBefore, IsStop}
 use Rattle.query_strategy.specs.Strategies.{NeedsSearch}
 use Rattle.spj_syntax.specs.declared.tree.Select.{Select}
 use Rattle.query_resolve.specs.Resolved.{IsQueryOf}
@@ -19,6 +21,12 @@ use Rattle.cqa_session.specs.Statements.Spent.{SpendsAt}
 -- no candidate has more witnesses than a search takes
 abbrev pub IsWithin : List Table → Query → Type 0
 IsWithin db q = (row : List Value) → IsCandidate db q row → HasTooMany q db row → ⊥
+
+-- What the method of a query comes to: its certain answer, where it needs search, only while no candidate has too many
+-- witnesses; or where a search stopped.
+abbrev pub FindsCertain : Query → List Table → ℕ → Searched → Type 0
+FindsCertain q db budget (All rows) = IsCertainAnswer db q rows × (NeedsSearch q → IsWithin db q)
+FindsCertain q db budget (Stopped why) = NeedsSearch q × IsStop q db budget why
 
 -- the row is the first candidate with too many witnesses
 abbrev pub IsFirstOver : List Table → Query → List Value → Type 0

@@ -2,21 +2,19 @@
 //! A search that used up its budget keeps its log.
 
 ghost use Rattle.std.specs.Prelude.{IfOk};
-ghost use Rattle.cqa_model.specs.Plan.{IsEliminationOf};
 ghost use Rattle.cqa_model.specs.Query.{FitsDatabase};
 ghost use Rattle.query_resolve.specs.Checks.{query_fault};
-ghost use Rattle.search_answers.specs.Searching.{IsSearched, IsStop};
-ghost use Rattle.weak_pairs.specs.Pairs.{IsPair};
-ghost use Rattle.fo_rewrite.specs.Planning.{IsExact};
-ghost use Rattle.query_strategy.specs.Strategies.{HasNoPlan, IsStrategyOf, NeedsSearch};
+ghost use Rattle.search_answers.specs.Searching.{IsStop};
+ghost use Rattle.query_strategy.specs.Strategies.{IsStrategyOf};
 ghost use Rattle.cqa_session.specs.Replying.{Replies, IsOutcome};
-ghost use Rattle.cqa_session.specs.Statements.Ask.{AnswersCertain, StopsAt, TellsCertain};
+ghost use Rattle.cqa_session.specs.Statements.Ask.{AnswersCertain, FindsCertain, StopsAt, TellsCertain};
 
 use crate::Session;
-use cqa_model::{Plan, Query};
+use bound_query::Bound;
+use cqa_model::{MOST_ATOMS, Query};
 use cqa_value::{Fail, NoMemory};
 use fo_plan::certain_by_plan;
-use pair_formula::certain_by_pairs;
+use pair_formula::{PairQuery, certain_by_pairs};
 use query_resolve::resolve;
 use query_strategy::{Strategy, strategy_by_sizes};
 use refusals::Refusal;
@@ -24,26 +22,42 @@ use reply_text::{Proof, Reply};
 use search_answers::{Searched, Stop, certain_by_search};
 use spj_syntax::Select;
 use std::alloc::Global;
-use table_blocks::Database;
 
 /// The number of rows of each atom's table.
-fn sizes_of(alloc: Global, db: &Database, query: &Query) -> Result<Vec<u32>, NoMemory>
-    requires { FitsDatabase query.now db.now }
-{
-    let mut sizes = Vec::new(alloc);
-    for atom in query.atoms.as_slice() {
-        sizes.push(db.rows(atom.table).len() as u32)?;
+fn sizes_of(bound: &Bound<'_>) -> [u32; MOST_ATOMS as usize] {
+    let mut sizes = [0; MOST_ATOMS as usize];
+    let atoms = bound.query.atoms.as_slice();
+    for at in 0..atoms.len() {
+        sizes[at] = bound.db.rows(atoms[at].table).len() as u32;
     }
-    Ok(sizes)
+    sizes
 }
 
-/// The method of a query, whose order is good for evaluation over these tables.
-fn strategy_over(alloc: Global, db: &Database, query: &Query) -> Result<Strategy, NoMemory>
-    requires { FitsDatabase query.now db.now }
-    ensures { IfOk result (IsStrategyOf query.now) }
+/// The method of a query, whose order is good for evaluation over its tables.
+fn strategy_over(alloc: Global, bound: &Bound<'_>) -> Result<Strategy, NoMemory>
+    ensures { IfOk result (IsStrategyOf bound.now.query.now) }
 {
-    let sizes = sizes_of(alloc, db, query)?;
-    strategy_by_sizes(alloc, query, sizes.as_slice())
+    let sizes = sizes_of(bound);
+    strategy_by_sizes(alloc, bound.query, &bound.variables, &sizes)
+}
+
+/// The certain rows of a query by its method, or where a search stopped.
+fn certain_rows(alloc: Global, bound: &Bound<'_>, budget: u32) -> Result<Searched, NoMemory>
+    ensures { IfOk result (FindsCertain bound.now.query.now bound.now.db.now budget) }
+{
+    match strategy_over(alloc, bound)? {
+        Strategy::Plan(plan) => {
+            let rows = certain_by_plan(alloc, bound, &plan);
+            drop(plan);
+            Ok(Searched::All(rows?))
+        }
+        Strategy::Pair => {
+            let pair = PairQuery::new(bound);
+            let rows = certain_by_pairs(alloc, &pair)?;
+            Ok(Searched::All(rows))
+        }
+        Strategy::Search => certain_by_search(alloc, bound, budget),
+    }
 }
 
 /// Says why a search stopped. Where its budget is used up, the row's formula is kept with the spent log.
@@ -61,10 +75,9 @@ fn stopped(session: &mut Session, query: &Query, stop: Stop) -> Refusal
     }
 }
 
-/// What a search came to, as a reply.
+/// What the method of a query came to, as a reply.
 fn reply_to(session: &mut Session, query: &Query, found: Searched) -> Result<Reply, Fail<Refusal>>
-    requires cycle { NeedsSearch query.now }
-    requires searched { IsSearched query.now session.old.tables session.old.budget found }
+    requires { FindsCertain query.now session.old.tables session.old.budget found }
     ensures { IsOutcome result session.old (TellsCertain session.old query.now) session.new }
 {
     match found {
@@ -73,58 +86,14 @@ fn reply_to(session: &mut Session, query: &Query, found: Searched) -> Result<Rep
     }
 }
 
-/// Answers a query that needs search, candidate by candidate.
-fn by_search(alloc: Global, session: &mut Session, query: &Query) -> Result<Reply, Fail<Refusal>>
-    requires fits { FitsDatabase query.now session.old.tables }
-    requires cycle { NeedsSearch query.now }
-    ensures { IsOutcome result session.old (TellsCertain session.old query.now) session.new }
-{
-    let budget = session.budget();
-    let found = certain_by_search(alloc, session.database(), query, budget)?;
-    reply_to(session, query, found)
-}
-
-/// Answers a query of two atoms that attack each other weakly.
-fn by_pairs(alloc: Global, session: &mut Session, query: &Query) -> Result<Reply, Fail<Refusal>>
-    requires fits { FitsDatabase query.now session.old.tables }
-    requires pair { IsPair query.now }
-    ensures { IsOutcome result session.old (TellsCertain session.old query.now) session.new }
-{
-    let rows = certain_by_pairs(alloc, session.database(), query)?;
-    Ok(Reply::Rows(rows))
-}
-
-/// Answers a query by an order of its atoms.
-fn by_plan(
-    alloc: Global,
-    session: &mut Session,
-    query: &Query,
-    plan: &Plan,
-) -> Result<Reply, Fail<Refusal>>
-    requires fits { FitsDatabase query.now session.old.tables }
-    requires acyclic { HasNoPlan query.now → ⊥ }
-    requires order { IsEliminationOf query.now plan.now.order }
-    requires exact { IsExact query.now plan.now.order }
-    ensures { IsOutcome result session.old (TellsCertain session.old query.now) session.new }
-{
-    let rows = certain_by_plan(alloc, session.database(), query, plan)?;
-    Ok(Reply::Rows(rows))
-}
-
 /// Answers a query that fits the tables, by its method.
 fn ask_query(alloc: Global, session: &mut Session, query: &Query) -> Result<Reply, Fail<Refusal>>
     requires { FitsDatabase query.now session.old.tables }
     ensures { IsOutcome result session.old (TellsCertain session.old query.now) session.new }
 {
-    match strategy_over(alloc, session.database(), query)? {
-        Strategy::Plan(plan) => {
-            let reply = by_plan(alloc, session, query, &plan);
-            drop(plan);
-            reply
-        }
-        Strategy::Pair => by_pairs(alloc, session, query),
-        Strategy::Search => by_search(alloc, session, query),
-    }
+    let bound = Bound::new(session.database(), query);
+    let found = certain_rows(alloc, &bound, session.budget())?;
+    reply_to(session, query, found)
 }
 
 /// Answers the certain rows of a query.

@@ -6,17 +6,18 @@ ghost use Rattle.repair_back.specs.Results.{AreStored};
 ghost use Rattle.weak_pairs.specs.Pairs.{IsPair};
 ghost use Rattle.query_strategy.specs.Strategies.{HasNoPlan};
 ghost use Rattle.query_resolve.specs.Checks.{query_fault, answer_fault};
-ghost use Rattle.cqa_session.specs.Reasons.{IsReason, IsStop, IsStopped};
+ghost use Rattle.cqa_session.specs.Reasons.{IsReason, IsUntold, IsStopped};
 ghost use Rattle.cqa_session.specs.Replying.{Replies, IsOutcome};
 ghost use Rattle.cqa_session.specs.Statements.Kept.{name_at, kept_line};
 ghost use Rattle.cqa_session.specs.Statements.Explain.{MayTell, Explains};
 
 use crate::Session;
 use crate::statements::kept::{kept_rows, name_of};
+use bound_query::Bound;
 use cqa_model::{Query, RowId};
 use cqa_value::{Fail, Items, NoMemory, Row};
 use join_access::TooMany;
-use pair_formula::reason_by_pair;
+use pair_formula::{PairQuery, reason_by_pair};
 use plan_reasons::reason_by_plan;
 use query_resolve::{check_row, resolve};
 use query_strategy::{Reason, Strategy, Untold, strategy_of};
@@ -28,15 +29,14 @@ use std::alloc::Global;
 use table_blocks::Database;
 
 /// The reason of a row of a pair.
-fn of_pair(alloc: Global, db: &Database, query: &Query, row: &Row) -> Result<Reason, Fail<Untold>>
-    requires fits { FitsDatabase query.now db.now }
-    requires long { length row.now ≡ length query.now.answer }
-    requires cycle { HasNoPlan query.now }
-    requires pair { IsPair query.now }
-    ensures told { IfOk result (IsReason db.now query.now row.now) }
-    ensures stopped { (budget : ℕ) → IfErr result (IsStopped db.now query.now row.now budget) }
+fn of_pair(alloc: Global, pair: &PairQuery<'_>, row: &Row) -> Result<Reason, Fail<Untold>>
+    requires long { length row.now ≡ length pair.now.bound.now.query.now.answer }
+    requires cycle { HasNoPlan pair.now.bound.now.query.now }
+    requires weak { IsPair pair.now.bound.now.query.now }
+    ensures told { IfOk result (IsReason pair.now.bound.now.db.now pair.now.bound.now.query.now row.now) }
+    ensures stopped { (budget : ℕ) → IfErr result (IsStopped pair.now.bound.now.db.now pair.now.bound.now.query.now row.now budget) }
 {
-    match reason_by_pair(alloc, db, query, row) {
+    match reason_by_pair(alloc, pair, row) {
         Ok(reason) => Ok(reason),
         Err(Fail::Refused(TooMany)) => Err(Fail::Refused(Untold::Over)),
         Err(Fail::NoMemory) => Err(Fail::NoMemory),
@@ -46,24 +46,25 @@ fn of_pair(alloc: Global, db: &Database, query: &Query, row: &Row) -> Result<Rea
 /// The reason of a row, by the query's method.
 fn reason_of(
     alloc: Global,
-    db: &Database,
-    query: &Query,
+    bound: &Bound<'_>,
     row: &Row,
     budget: u32,
 ) -> Result<Reason, Fail<Untold>>
-    requires fits { FitsDatabase query.now db.now }
-    requires long { length row.now ≡ length query.now.answer }
-    ensures told { IfOk result (IsReason db.now query.now row.now) }
-    ensures stopped { IfErr result (IsStopped db.now query.now row.now budget) }
+    requires { length row.now ≡ length bound.now.query.now.answer }
+    ensures told { IfOk result (IsReason bound.now.db.now bound.now.query.now row.now) }
+    ensures stopped { IfErr result (IsStopped bound.now.db.now bound.now.query.now row.now budget) }
 {
-    match strategy_of(alloc, query)? {
+    match strategy_of(alloc, bound.query, &bound.variables)? {
         Strategy::Plan(plan) => {
-            let reason = reason_by_plan(alloc, db, query, &plan, row);
+            let reason = reason_by_plan(alloc, bound, &plan, row);
             drop(plan);
             Ok(reason?)
         }
-        Strategy::Pair => of_pair(alloc, db, query, row),
-        Strategy::Search => reason_by_search(alloc, db, query, row, budget),
+        Strategy::Pair => {
+            let pair = PairQuery::new(bound);
+            of_pair(alloc, &pair, row)
+        }
+        Strategy::Search => reason_by_search(alloc, bound, row, budget),
     }
 }
 
@@ -129,7 +130,7 @@ fn reply_to(
 
 /// The refusal of a row whose reason isn't told. Where the budget is used up, its formula is kept with the spent log.
 fn stopped(session: &mut Session, _query: &Query, row: Row, stop: Untold) -> Refusal
-    requires { IsStop session.old.tables _query.now row session.old.budget stop }
+    requires { IsUntold session.old.tables _query.now row session.old.budget stop }
     ensures { MayTell session.old _query.now row (Reply.Refused result) session.new }
 {
     match stop {
@@ -150,7 +151,7 @@ fn refused(
     row: &Row,
     stop: Untold,
 ) -> Result<Reply, Fail<Refusal>>
-    requires { IsStop session.old.tables query.now row.now session.old.budget stop }
+    requires { IsUntold session.old.tables query.now row.now session.old.budget stop }
     ensures { IsOutcome result session.old (MayTell session.old query.now row.now) session.new }
 {
     match row.copy(alloc) {
@@ -162,18 +163,19 @@ fn refused(
     }
 }
 
-/// Tells why a row is certain, or why it isn't.
+/// Tells why a row is certain, or why it isn't, or what keeps that from being told.
 fn tell(
     alloc: Global,
     session: &mut Session,
     query: &Query,
     row: &Row,
+    found: Result<Reason, Fail<Untold>>,
 ) -> Result<Reply, Fail<Refusal>>
-    requires fits { FitsDatabase query.now session.old.tables }
-    requires long { length row.now ≡ length query.now.answer }
+    requires told { IfOk found (IsReason session.old.tables query.now row.now) }
+    requires stopped { IfErr found (IsStopped session.old.tables query.now row.now session.old.budget) }
     ensures { IsOutcome result session.old (MayTell session.old query.now row.now) session.new }
 {
-    match reason_of(alloc, session.database(), query, row, session.budget()) {
+    match found {
         Ok(reason) => reply_to(alloc, session, query, row, reason),
         Err(Fail::Refused(stop)) => refused(alloc, session, query, row, stop),
         Err(Fail::NoMemory) => Err(Fail::NoMemory),
@@ -190,10 +192,12 @@ fn check_and_tell(
     requires { FitsDatabase query.now session.old.tables }
     ensures { IsOutcome result session.old (Replies (answer_fault session.old.tables query.now row.now) session.old (MayTell session.old query.now row.now)) session.new }
 {
-    if let Err(refusal) = check_row(session.database(), query, row) {
+    let bound = Bound::new(session.database(), query);
+    if let Err(refusal) = check_row(&bound, row) {
         return Err(Fail::Refused(refusal));
     }
-    tell(alloc, session, query, row)
+    let found = reason_of(alloc, &bound, row, session.budget());
+    tell(alloc, session, query, row, found)
 }
 
 /// Answers why a row is certain for a query: by a block, or by its formula and a refutation of it; or why it isn't: by a

@@ -5,6 +5,7 @@ ghost use Rattle.cqa_session.specs.Replying.{Replies, IsOutcome};
 ghost use Rattle.cqa_session.specs.Statements.Possible.{AnswersPossible};
 
 use crate::Session;
+use bound_query::Bound;
 use cqa_value::Fail;
 use join_witness::candidates;
 use query_resolve::resolve;
@@ -23,7 +24,8 @@ pub fn possible(alloc: Global, session: &Session, select: &Select) -> Result<Rep
 {
     let database = session.database();
     let query = resolve(alloc, database, select)?;
-    let rows = candidates(alloc, database, &query);
+    let bound = Bound::new(database, &query);
+    let rows = candidates(alloc, &bound);
     drop(query);
     Ok(Reply::Rows(rows?))
 }

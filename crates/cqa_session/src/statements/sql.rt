@@ -1,10 +1,9 @@
 //! `sql`: the certain rows of a query that has a plan, as one query in SQL.
 
-ghost use Rattle.std.specs.Prelude.{◌≡◌, ◌<◌, IfOk, Contains, length, map};
+ghost use Rattle.std.specs.Prelude.{◌≡◌, ◌<◌, IfOk, length, map};
 ghost use Rattle.cqa_model.specs.declared.query.Atom.{Atom as AtomValue};
 ghost use Rattle.cqa_model.specs.declared.schema.Column.{Column as ColumnValue};
 ghost use Rattle.cqa_model.specs.Plan.{IsPlanOf};
-ghost use Rattle.cqa_model.specs.Query.{FitsDatabase};
 ghost use Rattle.plan_sql.specs.Statement.{sql_of as sql_by};
 ghost use Rattle.sql_text.specs.Texts.{sql_bytes};
 ghost use Rattle.query_resolve.specs.Checks.{query_fault};
@@ -12,9 +11,11 @@ ghost use Rattle.cqa_session.specs.Replying.{Replies, IsOutcome};
 ghost use Rattle.cqa_session.specs.Statements.Sql.{column_names, names_in, TellsSql, WritesSql};
 
 use crate::Session;
-use cqa_model::{Atom, Column, Plan, Query};
+use bound_query::Bound;
+use cqa_model::{Column, Plan, Query};
 use cqa_value::{Fail, Items, Name, NoMemory};
-use fo_rewrite::plan_of;
+use fo_rewrite::plan_in;
+use key_closure::{Named, View};
 use plan_sql::sql_of;
 use query_resolve::resolve;
 use refusals::Refusal;
@@ -34,25 +35,25 @@ pub fn sql(alloc: Global, session: &Session, select: &Select) -> Result<Reply, F
 {
     let database = session.database();
     let query = resolve(alloc, database, select)?;
-    let reply = told(alloc, database, select.tables.as_slice(), &query);
+    let bound = Bound::new(database, &query);
+    let reply = told(alloc, &bound, select.tables.as_slice());
     drop(query);
     Ok(reply?)
 }
 
-/// What is told of a query over these tables.
-fn told(
-    alloc: Global,
-    database: &Database,
-    tables: &[Name],
-    query: &Query,
-) -> Result<Reply, NoMemory>
-    requires { FitsDatabase query.now database.now }
-    ensures { IfOk result (TellsSql query.now (names_in database.now tables.now query.now)) }
+/// What is told of a query whose tables have these names.
+fn told(alloc: Global, bound: &Bound<'_>, tables: &[Name]) -> Result<Reply, NoMemory>
+    ensures { IfOk result (TellsSql bound.now.query.now (names_in bound.now.db.now tables.now bound.now.query.now)) }
 {
-    let Some(plan) = plan_of(alloc, query)? else {
+    let named = Named {
+        query: bound.query,
+        variables: &bound.variables,
+        view: View::whole(bound.query),
+    };
+    let Some(plan) = plan_in(alloc, &named)? else {
         return Ok(Reply::NoPlan);
     };
-    let text = text_of(alloc, database, tables, query, &plan);
+    let text = text_of(alloc, bound, tables, &plan);
     drop(plan);
     Ok(Reply::Sql(text?))
 }
@@ -60,19 +61,17 @@ fn told(
 /// The text of a plan in SQL.
 fn text_of(
     alloc: Global,
-    database: &Database,
+    bound: &Bound<'_>,
     tables: &[Name],
-    query: &Query,
     plan: &Plan,
 ) -> Result<Items<u8>, NoMemory>
-    requires fits { FitsDatabase query.now database.now }
-    requires plan { IsPlanOf query.now plan.now.order }
-    ensures { IfOk result (λ text. text ≡ sql_bytes query.now (names_in database.now tables.now query.now) (sql_by query.now plan.now.order)) }
+    requires { IsPlanOf bound.now.query.now plan.now.order }
+    ensures { IfOk result (λ text. text ≡ sql_bytes bound.now.query.now (names_in bound.now.db.now tables.now bound.now.query.now) (sql_by bound.now.query.now plan.now.order)) }
 {
-    let columns = columns_of(alloc, database, query.atoms.as_slice())?;
+    let columns = columns_of(alloc, bound)?;
     let tables = copied(alloc, tables)?;
     let names = Names { tables, columns };
-    let text = written(alloc, query, plan, &names);
+    let text = written(alloc, bound.query, plan, &names);
     drop(names);
     text
 }
@@ -102,17 +101,12 @@ fn copied(alloc: Global, names: &[Name]) -> Result<Items<Name>, NoMemory>
 }
 
 /// The names of the columns of each atom's table.
-fn columns_of(
-    alloc: Global,
-    database: &Database,
-    atoms: &[Atom],
-) -> Result<Items<Items<Name>>, NoMemory>
-    requires { (atom : AtomValue) → Contains atoms.now atom → atom.table < length database.now }
-    ensures { IfOk result (λ columns. columns ≡ map (λ (atom : AtomValue). column_names database.now atom.table) atoms.now) }
+fn columns_of(alloc: Global, bound: &Bound<'_>) -> Result<Items<Items<Name>>, NoMemory>
+    ensures { IfOk result (λ columns. columns ≡ map (λ (atom : AtomValue). column_names bound.now.db.now atom.table) bound.now.query.now.atoms) }
 {
     let mut columns = Items::new(alloc);
-    for atom in atoms {
-        columns.push(names_of_table(alloc, database, atom.table)?)?;
+    for atom in bound.query.atoms.as_slice() {
+        columns.push(names_of_table(alloc, bound.db, atom.table)?)?;
     }
     Ok(columns)
 }

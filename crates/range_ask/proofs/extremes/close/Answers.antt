@@ -1,10 +1,11 @@
-use Rattle.std.proofs.Common.{◌≡◌, arith, [], ◌∷◌, ◌++◌, length, sym, subst}
+use Rattle.std.proofs.Common.{◌≡◌, ◌∙◌, arith, [], ◌∷◌, ◌++◌, length, sym, subst}
 use Rattle.std.specs.Option.{option_copied}
 use Rattle.range_ask.specs.Picks.{Avoids, Meets}
 use Rattle.range_ask.specs.Finding.{IsFurthest, avoided_place, spot_place}
 use Rattle.range_ask.specs.Reaching.{IsTop}
 use Rattle.range_ask.proofs.Chosen.{IsTakenAt, avoids, meets}
 use Rattle.range_ask.proofs.Closed.{kept-of, reach-more}
+use Rattle.range_ask.proofs.Walked.{chosen-length}
 use Rattle.range_ask.proofs.extremes.close.Goals as goal
 
 pub returns : goal.returns
@@ -32,4 +33,5 @@ returns c =
           (subst (λ w. IsFurthest w p col block (length block) held.near) (sym turn) met.near)
           (kept-of (Avoids way p col) (λ b x r. r.there) rows front old.avoids.places.items ends.avoids.chosen) number avoid.there c.in_ok-keep.ensures.places
           (subst (λ w. IsTop w p col rows front old.avoids.places.items old.top) (sym turn) ends.top));
+      wide = c.in_ok-note.ensures front block ends.wide (number ∙ chosen-length (Avoids way p col) rows front old.avoids.places.items ends.avoids.chosen) met.read_is;
     }

@@ -23,7 +23,7 @@ returns-in_default c =
     let whole = parted c.args.db.now c.args.table c.rows-left.result c.rows-left.ensures.is c.rows-left.ensures.in_order in
     let are = whole.blocks_are in
     let none = sym c.rows-left.ensures.is ∙ c.in_default.ensures.steps.0 in
-    (all, whole, read-none key rows all are (λ front. AreExtremes look.way p look.col rows front c.blank-ends.result) none (extremes-none look.way p look.col rows c.blank-ends.result c.blank-ends.ensures.avoids c.blank-ends.ensures.none_avoids c.blank-ends.ensures.meets c.blank-ends.ensures.none_meets c.blank-ends.ensures.top))
+    (all, whole, read-none key rows all are (λ front. AreExtremes look.way p look.col rows front c.blank-ends.result) none (extremes-none look.way p look.col rows c.blank-ends.result c.blank-ends.ensures.avoids c.blank-ends.ensures.none_avoids c.blank-ends.ensures.meets c.blank-ends.ensures.none_meets c.blank-ends.ensures.top c.blank-ends.ensures.wide))
 
 pub loop-row-init : goal.loop-row-init
 loop-row-init c =
@@ -36,7 +36,7 @@ loop-row-init c =
     let are = whole.blocks_are in
     read-first key rows all are (λ front. AreExtremes look.way p look.col rows front c.blank-ends.result) (λ block n. IsMet look.way p look.col block n c.begun-held.result) c.in-Some.first.now c.next.new.self c.begun-held.result.start c.begun-held.result.read
     (sym c.rows-left.ensures.is ∙ c.in-Some.ensures.steps) c.begun-held.ensures.start c.begun-held.ensures.read
-    (extremes-none look.way p look.col rows c.blank-ends.result c.blank-ends.ensures.avoids c.blank-ends.ensures.none_avoids c.blank-ends.ensures.meets c.blank-ends.ensures.none_meets c.blank-ends.ensures.top) (λ block e. c.begun-held.ensures.met block e)
+    (extremes-none look.way p look.col rows c.blank-ends.result c.blank-ends.ensures.avoids c.blank-ends.ensures.none_avoids c.blank-ends.ensures.meets c.blank-ends.ensures.none_meets c.blank-ends.ensures.top c.blank-ends.ensures.wide) (λ block e. c.begun-held.ensures.met block e)
 
 pub read_row-held-requires : goal.read_row-held-requires
 read_row-held-requires c =

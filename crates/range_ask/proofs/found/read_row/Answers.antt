@@ -1,4 +1,4 @@
-use Rattle.std.proofs.Common.{◌≡◌, ◌+◌, true, sym, ◌∙◌, ap, subst}
+use Rattle.std.proofs.Common.{◌≡◌, ◌+◌, true, refl, sym, ◌∙◌, ap, subst}
 use Rattle.range_ask.specs.Ranges.{meets}
 use Rattle.range_ask.specs.Finding.{row_at, IsFurthest}
 use Rattle.range_ask.proofs.Further.{missing-more}
@@ -13,6 +13,7 @@ returns-then-meets-clause-met c =
     λ block met e.
     let t : p (row_at block n) ≡ true = ap p (sym e) ∙ (sym c.meets.ensures ∙ c.if-meets.true) in
     record {
+      read_is = refl;
       missing = missing-more p block n c.args.held.missing t met.missing;
       near = subst (λ w. IsFurthest w p look.col block (n + 1) c.further_spot-near.result) turn (c.further_spot-near.ensures p block (subst (λ w. IsFurthest w p look.col block n c.args.held.near) (sym turn) met.near) t (sym e));
       far = c.further_spot-far.ensures p block met.far t (sym e);

@@ -25,7 +25,7 @@ returns-in_default c =
     let whole = parted c.args.db.now c.args.table c.rows-left.result c.rows-left.ensures.is c.rows-left.ensures.in_order in
     let are = whole.blocks_are in
     let none = sym c.rows-left.ensures.is ∙ c.in_default.ensures.steps.0 in
-    (all, whole, read-none key rows all are (λ front. AreSides f rows front c.blank-sides.result) none (sides-none f rows c.blank-sides.result c.blank-sides.ensures.low c.blank-sides.ensures.none_low c.blank-sides.ensures.high c.blank-sides.ensures.none_high))
+    (all, whole, read-none key rows all are (λ front. AreSides f rows front c.blank-sides.result) none (sides-none f rows c.blank-sides.result c.blank-sides.ensures.low c.blank-sides.ensures.none_low c.blank-sides.ensures.high c.blank-sides.ensures.none_high c.blank-sides.ensures.wide))
 
 pub loop-row-init : goal.loop-row-init
 loop-row-init c =
@@ -38,7 +38,7 @@ loop-row-init c =
     let fits : SFits w64 c.worth.result = search rules in
     read-first key rows all are (λ front. AreSides f rows front c.blank-sides.result) (λ block n. AreBests f block n c.opened-held.result) c.in-Some.first.now c.next.new.self c.opened-held.result.start c.opened-held.result.read
     (sym c.rows-left.ensures.is ∙ c.in-Some.ensures.steps) c.opened-held.ensures.start c.opened-held.ensures.read
-    (sides-none f rows c.blank-sides.result c.blank-sides.ensures.low c.blank-sides.ensures.none_low c.blank-sides.ensures.high c.blank-sides.ensures.none_high) (λ block e. c.opened-held.ensures.bests f block (to_z-of_z w64 c.worth.result fits ∙ (c.worth.ensures ∙ ap f e)))
+    (sides-none f rows c.blank-sides.result c.blank-sides.ensures.low c.blank-sides.ensures.none_low c.blank-sides.ensures.high c.blank-sides.ensures.none_high c.blank-sides.ensures.wide) (λ block e. c.opened-held.ensures.bests f block (to_z-of_z w64 c.worth.result fits ∙ (c.worth.ensures ∙ ap f e)))
 
 pub read_more-held-requires : goal.read_more-held-requires
 read_more-held-requires c =

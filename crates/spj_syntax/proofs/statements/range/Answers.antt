@@ -14,8 +14,8 @@ returns-in_err-word-2-clause-reads c = exit _ _ c.from_residual-in_err-word-2.en
 pub returns-in_err-table-clause-reads : goal.returns-in_err-table-clause-reads
 returns-in_err-table-clause-reads c = exit _ _ c.from_residual-in_err-table.ensures.1 (fails_then c.in_ok-word.ensures (fails_then c.in_ok-goal.ensures (fails_then c.in_ok-word-2.ensures (fails_first c.in_err-table.ensures.reads))))
 
-pub returns-in_err-tests-clause-reads : goal.returns-in_err-tests-clause-reads
-returns-in_err-tests-clause-reads c = exit _ _ c.from_residual-in_err-tests.ensures.1 (fails_then c.in_ok-word.ensures (fails_then c.in_ok-goal.ensures (fails_then c.in_ok-word-2.ensures (fails_then c.in_ok-table.ensures.reads c.in_err-tests.ensures.reads))))
+pub returns-in_err-parts-clause-reads : goal.returns-in_err-parts-clause-reads
+returns-in_err-parts-clause-reads c = exit _ _ c.from_residual-in_err-parts.ensures.1 (fails_then c.in_ok-word.ensures (fails_then c.in_ok-goal.ensures (fails_then c.in_ok-word-2.ensures (fails_then c.in_ok-table.ensures.reads c.in_err-parts.ensures.reads))))
 
 pub returns-clause-reads : goal.returns-clause-reads
-returns-clause-reads c = took_both c.in_ok-word.ensures (took_both c.in_ok-goal.ensures (took_both c.in_ok-word-2.ensures (took_both c.in_ok-table.ensures.reads c.in_ok-tests.ensures.reads refl) refl) refl) refl
+returns-clause-reads c = took_both c.in_ok-word.ensures (took_both c.in_ok-goal.ensures (took_both c.in_ok-word-2.ensures (took_both c.in_ok-table.ensures.reads c.in_ok-parts.ensures.reads refl) refl) refl) refl

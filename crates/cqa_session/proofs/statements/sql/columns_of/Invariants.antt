@@ -5,4 +5,4 @@ use Rattle.cqa_session.proofs.statements.sql.columns_of.Given as goal
 
 -- those of the atoms so far
 abbrev pub invariant-loop-atom : goal.invariant-loop-atom
-invariant-loop-atom l = l.columns ≡ map (λ (atom : Atom). column_names l.database atom.table) (take l.atom-index l.atoms)
+invariant-loop-atom l = l.columns ≡ map (λ (atom : Atom). column_names l.bound.db.now atom.table) (take l.atom-index l.atom-items)

@@ -8,9 +8,9 @@ use Rattle.cqa_session.proofs.statements.sql.text_of.Goals as goal
 
 pub returns : goal.returns
 returns c =
-    let db = c.args.database.now in
-    let query = c.args.query.now in
+    let db = c.args.bound.now.db.now in
+    let query = c.args.bound.now.query.now in
     let tables = c.in_ok-tables.ensures in
-    let columns = c.in_ok-columns.ensures ∙ ap (λ atoms. map (λ (atom : Atom). column_names db atom.table) atoms) c.as_slice.ensures in
+    let columns = c.in_ok-columns.ensures in
     let names : record { tables = c.in_ok-tables.tables; columns = c.in_ok-columns.columns } ≡ names_in db c.args.tables.now query = λ i. record { tables = tables i; columns = columns i } in
     subst (λ (n : Names). IfOk c.written-text.result (λ text. text ≡ sql_bytes query n (sql_by query c.args.plan.now.order))) names c.written-text.ensures
