@@ -1,0 +1,13 @@
+pub mod Sorting
+pub mod Choices
+pub mod Answering
+pub mod Refuting
+pub mod Naming
+pub mod Encoding
+pub mod Rejecting
+pub mod Reaching
+pub mod Attacking
+pub mod Blocking
+pub mod Limiting
+pub mod Extremes
+pub mod Ranging

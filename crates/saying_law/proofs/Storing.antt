@@ -1,0 +1,67 @@
+-- What a statement puts into a state can stand there.
+use mir.Syntax.{w64}
+use Rattle.std.proofs.Common.{◌≡◌, ◌^◌, ℤ, pos, negsuc, Bool, true, false, List, [], ◌∷◌, FitsSigned, subst, arith}
+use Rattle.std.specs.List.{AllByRecursion}
+use Rattle.std.proofs.lemmas.Bool.Decides.{Decides-ltb}
+use Rattle.std.proofs.lemmas.Int.{ints}
+use Rattle.std.proofs.lemmas.List.Elements.{All-from_recursion}
+use Rattle.cqa_value.specs.Literals.{is_in_range}
+use Rattle.cqa_value.specs.Valid.{IsValidText, IsValidValue, IsValidRow}
+use Rattle.cqa_value.specs.declared.value.Value.{Value}
+use Rattle.cqa_value.specs.declared.value.Value.TheVariants as values
+use Rattle.script_lex.specs.declared.kinds.Symbol.TheVariants as s
+use Rattle.script_lex.specs.declared.kinds.TokenKind.TheVariants as kinds
+use Rattle.spj_syntax.specs.declared.tree.Statement.{Statement}
+use Rattle.spj_syntax.specs.declared.tree.Statement.TheVariants as statements
+use Rattle.spj_syntax.specs.Lexemes.{Lexeme, Word, Number, Quoted, Mark}
+use Rattle.spj_syntax.specs.Parsed.{lexemes, is_set, IsIntInRange}
+use Rattle.spj_syntax.specs.Written.{each_after, between, listed_tokens, literal_tokens, row_tokens, statement_tokens}
+use Rattle.saying_law.specs.Laws.{IsStorable, StatementsAreStorable}
+use Rattle.saying_law.proofs.Combining.{each_left, each_right}
+use Rattle.saying_law.proofs.Legal.{HoldsOfSound, each_spelled}
+
+-- a number is in its range, and a text is a short one of UTF-8
+abbrev IsValued : Bool → Lexeme → Type 0
+IsValued set (Word w) = Unit {0}
+IsValued set (Number z) = IsIntInRange set z
+IsValued set (Quoted t) = IsValidText t
+IsValued set (Mark s) = Unit {0}
+
+valued : (set : Bool) → HoldsOfSound set (IsValued set)
+valued set kinds.Word bytes sound fits = tt
+valued set kinds.Int bytes sound fits = fits
+valued set kinds.Text bytes sound fits = record { utf8 = sound.1; short = fits }
+valued set (kinds.Sym s) bytes sound fits = tt
+
+-- what holds of an item by its tokens holds of each of a list
+module _ {A : Type 0} (P : Lexeme → Type 0) (Q : A → Type 0) (l : Lexeme) (f : A → List Lexeme) (item : (x : A) → AllByRecursion P (f x) → Q x) where
+  each_later : (xs : List A) → AllByRecursion P (each_after l f xs) → AllByRecursion Q xs
+  each_later [] h = tt
+  each_later (x ∷ xs) h = (item x (each_left P (f x) (each_after l f xs) h.1), each_later xs (each_right P (f x) (each_after l f xs) h.1))
+
+  each_between : (xs : List A) → AllByRecursion P (between l f xs) → AllByRecursion Q xs
+  each_between [] h = tt
+  each_between (x ∷ xs) h = (item x (each_left P (f x) (each_after l f xs) h), each_later xs (each_right P (f x) (each_after l f xs) h))
+
+signed : (z : ℤ) → is_in_range z ≡ true → FitsSigned w64 z
+signed (pos n) e = record { sfits = (Decides-ltb n (2 ^ 63)).0 e }
+signed (negsuc n) e = record { sfits = (Decides-ltb n (2 ^ 63)).0 e }
+
+valid_value : (v : Value) → AllByRecursion (IsValued false) (literal_tokens v) → IsValidValue v
+valid_value (values.Int z) h = signed z h.0
+valid_value (values.Text t) h = h.0
+
+valid_row : (row : List Value) → AllByRecursion (IsValued false) (row_tokens row) → IsValidRow row
+valid_row row h =
+    All-from_recursion IsValidValue row
+    (each_between (IsValued false) IsValidValue (Mark s.Comma) literal_tokens valid_value row (each_left (IsValued false) (listed_tokens literal_tokens row) (Mark s.Close ∷ []) h.1))
+
+storable : (statement : Statement) → AllByRecursion (IsValued (is_set (statement_tokens statement))) (statement_tokens statement) → IsStorable statement
+storable (statements.Insert table rows) h = All-from_recursion IsValidRow rows (each_between (IsValued false) IsValidRow (Mark s.Comma) row_tokens valid_row rows h.1.1.1.1)
+storable (statements.SetConflicts conflicts) h = let range = h.1.1.0 in omega (arith, ints, range.1)
+storable _ h = tt
+
+pub statements_are_storable : StatementsAreStorable
+statements_are_storable text tokens statement spelled fit written =
+    storable statement
+    (subst (λ ls. AllByRecursion (IsValued (is_set ls)) ls) written.tokens (each_spelled (IsValued (is_set (lexemes text tokens))) text tokens (valued (is_set (lexemes text tokens))) spelled fit))

@@ -1,0 +1,28 @@
+//! Laws of texts, over the definitions alone. Each is what its function ensures, so the build proves it.
+
+ghost use Rattle.saying_law.specs.Laws.{TextsHaveTokens, ShapesDecide, TokensAreDecided, StatementsHaveTrees, StatementsAreStorable};
+
+/// Tokens spell a text, or it has a fault.
+pub fn texts_have_tokens()
+    ensures { TextsHaveTokens }
+{}
+
+/// A shape of which one token ahead decides each step generates a list of tokens, or there is their first fault.
+pub fn shapes_decide()
+    ensures { ShapesDecide }
+{}
+
+/// Tokens are refused by a fault, or they are a statement and each of them fits.
+pub fn tokens_are_decided()
+    ensures { TokensAreDecided }
+{}
+
+/// A statement whose tokens spell a text, and each fit, has a tree.
+pub fn statements_have_trees()
+    ensures { StatementsHaveTrees }
+{}
+
+/// What a statement puts into a state can stand there, if its tokens spell a text and each fit.
+pub fn statements_are_storable()
+    ensures { StatementsAreStorable }
+{}

@@ -1,0 +1,5 @@
+//! The laws that each text says something: it has tokens or a fault, its tokens are a statement or have a fault, and a
+//! statement has a tree, whose values can stand in a state.
+#![tactic(auto)]
+
+pub mod laws;
