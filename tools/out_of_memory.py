@@ -5,9 +5,10 @@
 
 For each script the number of allocations of a run is counted. Then the script is run again for each of them, with this one
 allocation refused, and once more with this one and all after it refused. Such a run has to end with status 5 after a front
-of the output, or with the output and the status of a run that isn't refused any. Without scripts, seven of the tests are run.
-The last line says whether all runs ended so; the status is 0 then. A C compiler is needed, for a library of a few lines that
-is put before the program's allocator, and a program that is linked to the C library when it starts.
+of the output, or with the output and the status of a run that isn't refused any. A file NAME.lrat is checked, and not run.
+Without scripts, ten of the tests are run, a formula with its refutation is checked, and `demo 1` is run. The last line says
+whether all runs ended so; the status is 0 then. A C compiler is needed, for a library of a few lines that is put before the
+program's allocator, and a program that is linked to the C library when it starts.
 """
 
 import argparse
@@ -22,9 +23,12 @@ DATA = os.path.join(TOP, "crates", "script_tests", "data")
 
 OUT_OF_MEMORY = 5
 
-SCRIPTS = ["certain_answers.cqa", "searches.cqa", "dumps.cqa", "explains_by_search.cqa", "explains_by_plans.cqa", "ranges.cqa",
-           "ranges_of_values.cqa"]
-"""Rows through one block and through different ones, dumps, refutations, plans with mended repairs, and ranges."""
+FILES = ["certain_answers.cqa", "searches.cqa", "dumps.cqa", "explains_by_search.cqa", "explains_by_plans.cqa", "ranges.cqa",
+         "ranges_of_values.cqa", "copies.cqa", "changed_keys.cqa", "sql_of_worked_queries.cqa", "proof_of_a_bigger_formula.lrat"]
+"""Rows through one block and through different ones, dumps, refutations, plans with mended repairs, ranges, blocks of CSV, other
+keys, queries in SQL, and a refutation that is checked."""
+
+DEMO = ["demo", "1"]
 
 SHIM = r"""
 #define _GNU_SOURCE
@@ -96,12 +100,12 @@ def build_shim(folder):
     return library
 
 
-def run(program, script, library, first=0, last=0, counted=None):
+def run(program, words, script, library, first=0, last=0, counted=None):
     """What a run writes, and its status, where the allocations from one number to another are refused."""
     settings = dict(os.environ, LD_PRELOAD=library, REFUSED_FROM=str(first), REFUSED_TO=str(last))
     if counted:
         settings["COUNTED"] = counted
-    ended = subprocess.run([program, "run"], input=script, stdout=subprocess.PIPE, env=settings, timeout=120, check=False)
+    ended = subprocess.run([program, *words], input=script, stdout=subprocess.PIPE, env=settings, timeout=120, check=False)
     return ended.stdout, ended.returncode
 
 
@@ -110,19 +114,17 @@ def is_well(whole, given):
     return given == whole or (given[1] == OUT_OF_MEMORY and whole[0].startswith(given[0]))
 
 
-def try_script(program, name, library, folder, most):
-    """Refuses each allocation of a script in turn, and gives how many there are and how many runs ended badly."""
-    with open(name, "rb") as file:
-        script = file.read()
+def try_call(program, name, words, script, library, folder, most):
+    """Refuses each allocation of a call in turn, and gives how many runs ended badly and whether there are allocations."""
     counted = os.path.join(folder, "counted")
-    whole = run(program, script, library, counted=counted)
+    whole = run(program, words, script, library, counted=counted)
     with open(counted, encoding="utf-8") as file:
         allocations = int(file.read())
     bad = stopped = 0
     step = max(1, -(-allocations // most))
     for number in range(1, allocations + 1, step):
         for last in (number, 2 ** 60):
-            given = run(program, script, library, number, last)
+            given = run(program, words, script, library, number, last)
             stopped += given[1] == OUT_OF_MEMORY
             if not is_well(whole, given):
                 bad += 1
@@ -130,8 +132,15 @@ def try_script(program, name, library, folder, most):
                     name, number, last, given[1], len(given[0]), len(whole[0])))
     tried = len(range(1, allocations + 1, step))
     print("%s: %d allocations, %d of them refused in turn; %d of %d runs ended early" % (
-        os.path.basename(name), allocations, tried, stopped, 2 * tried))
+        name, allocations, tried, stopped, 2 * tried))
     return bad, allocations > 0
+
+
+def try_file(program, path, library, folder, most):
+    """The same of the call for a file."""
+    words = ["check"] if path.endswith(".lrat") else ["run"]
+    with open(path, "rb") as file:
+        return try_call(program, os.path.basename(path), words, file.read(), library, folder, most)
 
 
 def main():
@@ -140,10 +149,12 @@ def main():
     parser.add_argument("--most", type=int, default=2_000, help="the most allocations of a script that are tried, spread evenly")
     parser.add_argument("scripts", nargs="*", metavar="SCRIPT")
     options = parser.parse_args()
-    scripts = options.scripts or [os.path.join(DATA, name) for name in SCRIPTS if os.path.exists(os.path.join(DATA, name))]
+    files = options.scripts or [os.path.join(DATA, name) for name in FILES]
     with tempfile.TemporaryDirectory() as folder:
         library = build_shim(folder)
-        ended = [try_script(options.program, name, library, folder, options.most) for name in scripts]
+        ended = [try_file(options.program, path, library, folder, options.most) for path in files]
+        if not options.scripts:
+            ended.append(try_call(options.program, " ".join(DEMO), DEMO, b"", library, folder, options.most))
     bad = sum(bad for bad, _ in ended)
     if not ended or not all(counts for _, counts in ended):
         print("no allocation was counted: is the program linked to the C library when it starts?")

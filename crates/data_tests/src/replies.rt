@@ -1,4 +1,4 @@
-//! Replies that no statement of today gets, or none of few bytes.
+//! The texts of refusals that a script seldom gets: that with ample memory they are written, and what they say.
 
 use cqa_value::{NoMemory, Row};
 use refusals::{LimitKind, Refusal};

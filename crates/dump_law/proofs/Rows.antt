@@ -17,7 +17,7 @@ use Rattle.refusals.specs.Refusal.{first_of}
 use Rattle.table_blocks.specs.Keys.{same_key}
 use Rattle.table_changes.specs.Taken.{first_other, taken_by, taken_fault}
 use Rattle.table_blocks.specs.Tables.{rows_at, key_at, mark_at, kinds_at, with_rows, IsMerged}
-use Rattle.table_changes.specs.Changes.{is_among, count_new, key_fault, insert_fault, Inserts}
+use Rattle.table_changes.specs.Changes.{is_among, count_new, strict_key_fault, insert_fault, Inserts}
 use Rattle.refusals.specs.Kinds.{same_kind, kind_fault, row_fault, rows_fault}
 use Rattle.table_changes.proofs.Counting.{counted}
 use Rattle.table_changes.proofs.Inserting.{valid_insert}
@@ -158,7 +158,7 @@ having done schema rows got = done ++ (record { schema = schema; rows = part row
 -- rows are put into such a table
 module _ (done : List Table) (schema : Schema) (rows : List (List Value)) (sorted : IsStrictlySortedBy (block_cmp schema.key) rows) (fit : (row : List Value) → Contains rows row → IsRowOf schema row)
     (strict : IsTrue schema.strict → AreConsistent schema.key rows) (few : row_total done + length rows ≤ 1_000_000) where
-  free : (got given : List (List Value)) → Within rows given → key_fault (having done schema rows got) (length done) given ≡ None
+  free : (got given : List (List Value)) → Within rows given → strict_key_fault (having done schema rows got) (length done) given ≡ None
   free got given inside =
       let t : Table = record { schema = schema; rows = part rows got } in
       subst (λ k. (if mark_at (having done schema rows got) (length done) then taken_fault k (rows_at (having done schema rows got) (length done)) 1 given else None) ≡ None) (sym (key_last done t))

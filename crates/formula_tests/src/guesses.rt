@@ -174,7 +174,8 @@ fn random_cycles_are_guessed(rt: HostRuntime) -> Result<(), Fail> {
             refutations = refutations.saturating_add(1);
         }
     }
-    assert_eq!(rt; models.saturating_add(refutations), 100);
-    assert!(rt; models > 20 && refutations > 20);
+    // So many by trying each way to leave every value to one of the tables.
+    assert_eq!(rt; models, 43);
+    assert_eq!(rt; refutations, 57);
     Ok(())
 }

@@ -42,15 +42,15 @@ abbrev pub MeetsAll : List (List Value) → List Cmp → Type 0
 MeetsAll w cmps = (k : Cmp) → Contains cmps k → Meets w k
 
 -- each comparison of a select holds, and not each of those under `NOT`, if there are any
-pub record IsPicked (select : Select) (w : List (List Value)) : Type 0 where
+pub record MeetsConditions (select : Select) (w : List (List Value)) : Type 0 where
   pub all : MeetsAll w select.all
   pub but : (select.but ≡ []) ⊎ (MeetsAll w select.but → ⊥)
 
--- a select has a row: that of its cells, for a choice that is picked; one without cells has the empty row, where it has one,
--- and its text shows the constant 1 for it
+-- a select has a row: that of its cells, for a choice that meets its conditions; one without cells has the empty row, where it
+-- has one, and its text shows the constant 1 for it
 abbrev pub Selects : (ℕ → List (List Value)) → (ℕ → List Value → Type 0) → Select → List Value → Type 0
 Selects tables before select row =
-    (w : List (List Value)) × IsRowOfEach tables before select.sources w × IsPicked select w × (map (cell_value w) select.cells ≡ row)
+    (w : List (List Value)) × IsRowOfEach tables before select.sources w × MeetsConditions select w × (map (cell_value w) select.cells ≡ row)
 
 -- a step has a row
 abbrev pub Gives : (ℕ → List (List Value)) → (ℕ → List Value → Type 0) → Body → List Value → Type 0

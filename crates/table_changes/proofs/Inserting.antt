@@ -14,7 +14,7 @@ use Rattle.refusals.specs.Refusal.{first_of, IsRefusedAs}
 use Rattle.refusals.specs.Kinds.{rows_fault}
 use Rattle.cqa_model.specs.Database.{Table, row_total}
 use Rattle.table_blocks.specs.Tables.{IsMerged, rows_at, kinds_at}
-use Rattle.table_changes.specs.Changes.{is_among, count_new, key_fault, limit_fault, insert_fault}
+use Rattle.table_changes.specs.Changes.{is_among, count_new, strict_key_fault, limit_fault, insert_fault}
 use Rattle.table_changes.proofs.Membership.{among}
 
 -- the stored rows with the new ones are the stored rows with the given ones
@@ -39,13 +39,13 @@ room n h = ap (λ b. if b then None else Some (Limit Rows)) fits
     fits : nat_le n 1_000_000 ≡ true
     fits = search (rules, h)
 
-pub valid_insert : (db : List Table) (table : ℕ) (rows : List (List Value)) → rows_fault (kinds_at db table) 1 rows ≡ None → key_fault db table rows ≡ None → row_total db + count_new (rows_at db table) rows ≤ 1_000_000 → insert_fault db table rows ≡ None
+pub valid_insert : (db : List Table) (table : ℕ) (rows : List (List Value)) → rows_fault (kinds_at db table) 1 rows ≡ None → strict_key_fault db table rows ≡ None → row_total db + count_new (rows_at db table) rows ≤ 1_000_000 → insert_fault db table rows ≡ None
 valid_insert db table rows fits apart few = (λ i. first_of (fits i) (first_of (apart i) (limit_fault db table rows))) ∙ room (row_total db + count_new (rows_at db table) rows) few
 
 pub faulty_insert : (db : List Table) (table : ℕ) (rows : List (List Value)) (fault : Refusal) → rows_fault (kinds_at db table) 1 rows ≡ Some fault → insert_fault db table rows ≡ Some fault
-faulty_insert db table rows fault e = ap (λ o. first_of o (first_of (key_fault db table rows) (limit_fault db table rows))) e
+faulty_insert db table rows fault e = ap (λ o. first_of o (first_of (strict_key_fault db table rows) (limit_fault db table rows))) e
 
-pub taken_insert : (db : List Table) (table : ℕ) (rows : List (List Value)) (fault : Refusal) → rows_fault (kinds_at db table) 1 rows ≡ None → key_fault db table rows ≡ Some fault → insert_fault db table rows ≡ Some fault
+pub taken_insert : (db : List Table) (table : ℕ) (rows : List (List Value)) (fault : Refusal) → rows_fault (kinds_at db table) 1 rows ≡ None → strict_key_fault db table rows ≡ Some fault → insert_fault db table rows ≡ Some fault
 taken_insert db table rows fault fits e = (λ i. first_of (fits i) (first_of (e i) (limit_fault db table rows)))
 
 -- there are too many rows
@@ -56,7 +56,7 @@ full n h = go (nat_le n 1_000_000) refl
     go true e = absurd (h (search (rules, e)))
     go false e = refl
 
-pub full_insert : (db : List Table) (table : ℕ) (rows : List (List Value)) → rows_fault (kinds_at db table) 1 rows ≡ None → key_fault db table rows ≡ None → (row_total db + count_new (rows_at db table) rows ≤ 1_000_000 → ⊥) → insert_fault db table rows ≡ Some (Limit Rows)
+pub full_insert : (db : List Table) (table : ℕ) (rows : List (List Value)) → rows_fault (kinds_at db table) 1 rows ≡ None → strict_key_fault db table rows ≡ None → (row_total db + count_new (rows_at db table) rows ≤ 1_000_000 → ⊥) → insert_fault db table rows ≡ Some (Limit Rows)
 full_insert db table rows fits apart many = (λ i. first_of (fits i) (first_of (apart i) (limit_fault db table rows))) ∙ full (row_total db + count_new (rows_at db table) rows) many
 
 -- the fault of rows that were looked at

@@ -28,12 +28,12 @@ abbrev pub limit_fault : List Table → ℕ → List (List Value) → Option Ref
 limit_fault db table rows = if nat_le (row_total db + count_new (rows_at db table) rows) MOST_ROWS then None else Some (Limit Rows)
 
 -- the table is strict, and a row shares its key with a different one that is stored or stands before it
-abbrev pub key_fault : List Table → ℕ → List (List Value) → Option Refusal
-key_fault db table rows = if mark_at db table then taken_fault (key_at db table) (rows_at db table) 1 rows else None
+abbrev pub strict_key_fault : List Table → ℕ → List (List Value) → Option Refusal
+strict_key_fault db table rows = if mark_at db table then taken_fault (key_at db table) (rows_at db table) 1 rows else None
 
 -- the first check that fails where rows are put into a table
 abbrev pub insert_fault : List Table → ℕ → List (List Value) → Option Refusal
-insert_fault db table rows = first_of (rows_fault (kinds_at db table) 1 rows) (first_of (key_fault db table rows) (limit_fault db table rows))
+insert_fault db table rows = first_of (rows_fault (kinds_at db table) 1 rows) (first_of (strict_key_fault db table rows) (limit_fault db table rows))
 
 -- two rows share a key of which there should be one
 abbrev pub broken_by : Option Clash → Option Refusal

@@ -7,7 +7,7 @@ ghost use Rattle.refusals.specs.Refusal.{first_of, IsRefusedAs, Checked};
 ghost use Rattle.refusals.specs.Kinds.{rows_fault};
 ghost use Rattle.table_blocks.specs.Keys.{IsKey};
 ghost use Rattle.table_blocks.specs.Tables.{rows_at, key_at, mark_at, kinds_at, with_mark, Rekeys, AreValidRows, AreValidTables};
-ghost use Rattle.table_changes.specs.Changes.{key_fault, insert_fault, strict_fault, rekey_fault, Inserts};
+ghost use Rattle.table_changes.specs.Changes.{strict_key_fault, insert_fault, strict_fault, rekey_fault, Inserts};
 
 use crate::check::rows_fault_of;
 use crate::fresh::fresh_rows;
@@ -30,7 +30,7 @@ fn key_of(db: &Database, table: u32) -> &[u32]
 fn check_keys(alloc: Global, db: &Database, table: u32, rows: &[Row]) -> Result<(), Fail<Refusal>>
     requires there { table < length db.now }
     requires few { length rows.now < 2 ^ 32 }
-    ensures { Checked result (key_fault db.now table rows.now) (λ _. IsTrue (mark_at db.now table) → AreConsistent (key_at db.now table) (rows_at db.now table ++ rows.now)) }
+    ensures { Checked result (strict_key_fault db.now table rows.now) (λ _. IsTrue (mark_at db.now table) → AreConsistent (key_at db.now table) (rows_at db.now table ++ rows.now)) }
 {
     if !db.is_strict(table) {
         return Ok(());
@@ -42,7 +42,7 @@ fn check_keys(alloc: Global, db: &Database, table: u32, rows: &[Row]) -> Result<
 fn check_rows(alloc: Global, db: &Database, table: u32, rows: &[Row]) -> Result<(), Fail<Refusal>>
     requires there { table < length db.now }
     requires few { length rows.now < 2 ^ 32 }
-    ensures checked { Checked result (first_of (rows_fault (kinds_at db.now table) 1 rows.now) (key_fault db.now table rows.now)) (λ _. IsTrue (mark_at db.now table) → AreConsistent (key_at db.now table) (rows_at db.now table ++ rows.now)) }
+    ensures checked { Checked result (first_of (rows_fault (kinds_at db.now table) 1 rows.now) (strict_key_fault db.now table rows.now)) (λ _. IsTrue (mark_at db.now table) → AreConsistent (key_at db.now table) (rows_at db.now table ++ rows.now)) }
     ensures values { OnOk result (AreValidRows rows.now) }
 {
     match rows_fault_of(db.schema(table), rows) {

@@ -5,7 +5,7 @@ use Rattle.cqa_model.specs.Database.{Table, AreConsistent, row_total}
 use Rattle.std.proofs.lemmas.List.Elements.{Contains-append_cases, Contains-append_left, Contains-append_right}
 use Rattle.table_blocks.specs.Tables.{rows_at, kinds_at, key_at}
 use Rattle.refusals.specs.Refusal.{first_of, IsRefusedAs}
-use Rattle.table_changes.specs.Changes.{insert_fault, limit_fault, key_fault, count_new}
+use Rattle.table_changes.specs.Changes.{insert_fault, limit_fault, strict_key_fault, count_new}
 use Rattle.refusals.specs.Kinds.{rows_fault}
 use Rattle.table_blocks.proofs.Sharing.{consistent_within}
 use Rattle.refusals.proofs.Faults.{rows_fit, both_none}
@@ -13,15 +13,15 @@ use Rattle.table_changes.proofs.Inserting.{merged_given, valid_insert, refused_o
 use Rattle.table_changes.proofs.changes.insert.Goals as goal
 
 -- nothing is at fault with the rows
-sound : (db : List Table) (table : ℕ) (rows seen : List (List Value)) → seen ≡ rows → first_of (rows_fault (kinds_at db table) 1 seen) (key_fault db table seen) ≡ None → (rows_fault (kinds_at db table) 1 rows ≡ None) × (key_fault db table rows ≡ None)
-sound db table rows seen is none = subst (λ rows. (rows_fault (kinds_at db table) 1 rows ≡ None) × (key_fault db table rows ≡ None)) is (both_none (rows_fault (kinds_at db table) 1 seen) (key_fault db table seen) none)
+sound : (db : List Table) (table : ℕ) (rows seen : List (List Value)) → seen ≡ rows → first_of (rows_fault (kinds_at db table) 1 seen) (strict_key_fault db table seen) ≡ None → (rows_fault (kinds_at db table) 1 rows ≡ None) × (strict_key_fault db table rows ≡ None)
+sound db table rows seen is none = subst (λ rows. (rows_fault (kinds_at db table) 1 rows ≡ None) × (strict_key_fault db table rows ≡ None)) is (both_none (rows_fault (kinds_at db table) 1 seen) (strict_key_fault db table seen) none)
 
 pub returns-in_err-check_rows-clause-refused : goal.returns-in_err-check_rows-clause-refused
 returns-in_err-check_rows-clause-refused c =
     let db = c.args.db.now in
     let table = c.args.table in
     subst (λ rows. IfErr c.from_residual.result (λ e. IsRefusedAs e (insert_fault db table rows))) (c.as_slice.ensures.value ∙ c.into_vec-rows.ensures)
-    (refused_on (rows_fault (kinds_at db table) 1 c.as_slice.result.now) (key_fault db table c.as_slice.result.now) (limit_fault db table c.as_slice.result.now)
+    (refused_on (rows_fault (kinds_at db table) 1 c.as_slice.result.now) (strict_key_fault db table c.as_slice.result.now) (limit_fault db table c.as_slice.result.now)
     c.in_err-check_rows.field-0.0 c.from_residual.result c.from_residual.ensures.1 c.in_err-check_rows.ensures.checked.refused)
 
 pub add-requires-clause-fits : goal.add-requires-clause-fits
