@@ -4,14 +4,13 @@ ghost use Rattle.std.specs.Prelude.{◌<◌, ◌≤◌, ◌^◌, All, IfSome, Is
 ghost use Rattle.cqa_model.specs.Query.{FitsDatabase};
 ghost use Rattle.spj_syntax.specs.Written.{IsSmall};
 
-use bound_query::Bound;
 use cqa_model::Query;
 use cqa_value::{Items, Name, Row};
 use query_resolve::{resolve, resolve_schema};
 use script_lex::tokens;
 use spj_syntax::{RawSchema, Select, Statement, parse};
 use std::alloc::Global;
-use table_blocks::Database;
+use table_blocks::{Bound, Database};
 
 /// The statement that a text is.
 fn read(alloc: Global, text: &[u8]) -> Option<Statement>

@@ -1,9 +1,9 @@
 //! The elimination orders by which asks go.
 
 use crate::making::{Wanted, is_answered};
-use bound_query::Bound;
 use query_strategy::{Strategy, strategy_by_sizes};
 use std::alloc::Global;
+use table_blocks::Bound;
 
 /// A query, the rows of each atom's table, none where they are missing, and the places of its atoms in the order in which
 /// they are taken.

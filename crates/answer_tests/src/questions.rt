@@ -2,12 +2,12 @@
 //! Each is decided, with its repair and without, and what comes of it is compared.
 
 use crate::making::{Wanted, is_answered};
-use bound_query::Bound;
 use cqa_model::RowId;
 use cqa_value::Row;
 use pair_answers::{PairQuery, decide, is_certain};
 use query_strategy::{Strategy, strategy_of};
 use std::alloc::Global;
+use table_blocks::Bound;
 
 /// What comes of a question.
 #[derive(Clone, Copy, PartialEq, Eq)]

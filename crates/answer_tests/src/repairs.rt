@@ -4,14 +4,13 @@ ghost use Rattle.std.specs.Prelude.{◌≡◌, length};
 ghost use Rattle.repair_back.specs.Results.{AreStored};
 
 use crate::making::{Wanted, is_answered};
-use bound_query::Bound;
 use cqa_model::RowId;
 use cqa_value::{Row, Value};
 use fo_plan::holds;
 use fo_rewrite::plan_of;
 use repair_back::{Repair, contested, from_model, mend};
 use std::alloc::Global;
-use table_blocks::Database;
+use table_blocks::{Bound, Database};
 
 /// Rows by their tables' places and their own.
 type Places = &'static [(u32, u32)];

@@ -2,9 +2,9 @@
 //! Each is searched with a budget, and what comes of it is compared.
 
 use crate::making::{Wanted, is_answered};
-use bound_query::Bound;
 use search_answers::{Searched, Stop, certain_by_search};
 use std::alloc::Global;
+use table_blocks::Bound;
 
 /// What comes of a search.
 #[derive(Clone, Copy, PartialEq, Eq)]

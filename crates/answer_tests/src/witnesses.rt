@@ -1,11 +1,11 @@
 //! The witnesses of a join of two tables, as a cursor gives them one after the other, each with the names of its rows.
 
 use crate::making::{Wanted, is_answered};
-use bound_query::Bound;
 use cqa_value::{Row, row_text};
 use join_access::{PlaceList, RowList};
 use row_cursor::JoinCursor;
 use std::alloc::Global;
+use table_blocks::Bound;
 
 /// The texts of a witness's two rows, and their places in their tables.
 type Told = ([&'static str; 2], [u32; 2]);

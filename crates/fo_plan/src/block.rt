@@ -15,7 +15,6 @@ ghost use Rattle.fo_plan.specs.FirstBlock.{IsBlockOf, IsFirstBlock, IsFirstWith}
 
 use crate::enough::Blocks;
 use crate::holding::first_of;
-use bound_query::Bound;
 use cqa_model::Plan;
 use cqa_value::{Items, Row};
 use join_access::{RowIndex, table_of};
@@ -25,7 +24,7 @@ use plan_rows::{
 use row_blocks::{block_end, block_start};
 use row_pieces::Rows;
 use std::alloc::Global;
-use table_blocks::Database;
+use table_blocks::{Bound, Database};
 
 /// The block of a row in a table.
 fn block_with<'a>(db: &'a Database, table: u32, row: &Row) -> Rows<'a>

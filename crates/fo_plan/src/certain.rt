@@ -11,13 +11,13 @@ ghost use Rattle.plan_rows.specs.Links.{AreWays};
 
 use crate::giving::add_given;
 use crate::notes::Notes;
-use bound_query::Bound;
 use cqa_model::Plan;
 use cqa_value::{Items, NoMemory, Row};
 use join_access::RowIndex;
 use plan_rows::{Candidates, Course, Link, Memo, Rest, Setting, Taken, shared_columns};
 use row_answers::Answers;
 use std::alloc::Global;
+use table_blocks::Bound;
 
 /// The rows of the answer's length for which a plan of all atoms holds, ascending and each once. Rows are found by the
 /// given indexes, of each atom's table one or none, and by the given links of later atoms.

@@ -11,12 +11,12 @@ ghost use Rattle.fo_plan.specs.Enough.{AreSought, IsFirstOf};
 ghost use Rattle.fo_plan.specs.Holding.{RestHolds, HoldsWith, AllHoldWith};
 
 use crate::enough::Blocks;
-use bound_query::Bound;
 use cqa_model::Plan;
 use cqa_value::Row;
 use plan_rows::{Candidates, Course, Memo, Rest, Setting, Step, Taken, fits};
 use row_pieces::Rows;
 use std::alloc::Global;
+use table_blocks::Bound;
 
 /// Whether the rest of a plan holds, by what is remembered of it where deciding has taken long.
 #[cycle(holds)]

@@ -9,11 +9,11 @@ ghost use Rattle.fo_rewrite.specs.Planning.{IsExact};
 use crate::certain::answers;
 use crate::paths::paths_of;
 use crate::ways::ways_of;
-use bound_query::Bound;
 use cqa_model::Plan;
 use cqa_value::{Items, NoMemory, Row};
 use join_access::RowIndex;
 use std::alloc::Global;
+use table_blocks::Bound;
 
 /// The certain rows of a query by an elimination order, which is exact, and by indexes of the query's tables.
 fn rows_by_paths(

@@ -7,11 +7,11 @@ ghost use Rattle.plan_rows.specs.Links.{AreLinks, AreWays, atoms_on};
 
 use crate::links::telling_atoms;
 use crate::paths::{path_of, place_in};
-use bound_query::Bound;
 use cqa_model::{ColRef, Plan};
 use cqa_value::{Items, NoMemory};
 use plan_rows::{Link, Setting};
 use std::alloc::Global;
+use table_blocks::Bound;
 
 /// Adds links: the atoms behind the first ones, whose rows are taken, each with an index by what is known when it is come to.
 fn add_links<'a>(

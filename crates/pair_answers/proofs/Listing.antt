@@ -4,7 +4,7 @@ use native.Mathlib.Decide.{ℕ_discrete, dec_lt}
 use Rattle.std.proofs.Math.ListN.{get_or-map}
 use Rattle.std.proofs.lemmas.List.{length_push, append-nil, length-append, length-map, get_or_push, get_or_append_left, get_or-append-add, get_or_default}
 use Rattle.cqa_value.specs.declared.value.Value.{Value}
-use Rattle.bound_query.specs.declared.Bound.{Bound}
+use Rattle.table_blocks.specs.declared.bound.Bound.{Bound}
 use Rattle.cqa_model.specs.declared.query.Query.{Query}
 use Rattle.cqa_model.specs.Database.{key_of, nothing}
 use Rattle.cqa_model.specs.Query.{rows_of}

@@ -3,7 +3,7 @@
 ghost use Rattle.std.specs.Prelude.{◌≡◌, length};
 ghost use Rattle.weak_pairs.specs.Pairs.{IsPair};
 
-use bound_query::Bound;
+use table_blocks::Bound;
 
 /// A query of two tables that attack each other weakly, with the database that it fits.
 #[derive(Clone, Copy)]

@@ -5,9 +5,9 @@ ghost use Rattle.cqa_model.specs.Shape.{IsInRange};
 ghost use Rattle.cqa_model.specs.Variables.{AreLinked};
 ghost use Rattle.pair_answers.specs.Plain.{AreColumnsApart, AreJoins, IsJoin, IsPlain};
 
-use bound_query::Bound;
 use cqa_model::{ColRef, Cond, Query};
 use join_access::{are_linked, width_of};
+use table_blocks::Bound;
 
 /// Whether a condition is a join.
 fn is_join(cond: &Cond) -> bool

@@ -4,8 +4,8 @@ ghost use Rattle.std.specs.Prelude.{◌≡◌, ◌<◌, IsTrue, length};
 ghost use Rattle.pair_answers.specs.Plain.{IsPlain, plain_once};
 
 use crate::plain::all_fit;
-use bound_query::Bound;
 use cqa_value::Row;
+use table_blocks::Bound;
 
 /// An atom with the row asked for, and with the columns whose values are the list of a row of the atom.
 #[derive(Drop)]

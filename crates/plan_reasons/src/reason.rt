@@ -10,7 +10,6 @@ ghost use Rattle.plan_rows.specs.Links.{AreWays};
 ghost use Rattle.fo_rewrite.specs.Planning.{IsExact};
 ghost use Rattle.plan_reasons.specs.Reasons.{IsPlanReason};
 
-use bound_query::Bound;
 use cqa_model::Plan;
 use cqa_value::{Items, NOTHING, NoMemory, Row};
 use fo_plan::{block_of, paths_of, ways_of};
@@ -19,6 +18,7 @@ use plan_rows::Link;
 use query_strategy::Reason;
 use repair_back::{chosen, mend};
 use std::alloc::Global;
+use table_blocks::Bound;
 
 /// The values of a row in some columns.
 fn values_of(alloc: Global, key: &[u32], row: &Row) -> Result<Row, NoMemory>

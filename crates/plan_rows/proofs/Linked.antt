@@ -6,7 +6,7 @@ use Rattle.std.proofs.Props.{props}
 use Rattle.cqa_model.specs.declared.query.Query.{Query}
 use Rattle.cqa_model.specs.Database.{Table}
 use Rattle.cqa_model.proofs.Classic.{dec_some}
-use Rattle.bound_query.specs.Once.{value_set}
+use Rattle.table_blocks.specs.Once.{value_set}
 use Rattle.plan_rows.specs.Links.{AreLinks, AreWays, atoms_on, links_at}
 use Rattle.plan_rows.specs.declared.links.Link.{Link}
 

@@ -23,7 +23,7 @@ use Rattle.cqa_model.proofs.BrokenKey.{same_number}
 use Rattle.plan_rows.specs.Taking.{placed, taken_value, AreOfAtoms}
 use Rattle.plan_rows.specs.Fitting.{Agrees, AgreesAll, Suits}
 use Rattle.plan_rows.specs.Left.{IsSettled}
-use Rattle.bound_query.specs.Once.{value_set}
+use Rattle.table_blocks.specs.Once.{value_set}
 use Rattle.plan_rows.specs.Over.{query_of, rows_before}
 use Rattle.plan_rows.specs.Underway.{atoms_of, IsUnderway, IsKey, IsRight}
 use Rattle.plan_rows.specs.declared.course.Course.{Course}

@@ -7,7 +7,7 @@ use Rattle.cqa_value.specs.declared.value.Value.TheVariants.{Int}
 use Rattle.cqa_value.specs.Values.{row_cmp}
 use Rattle.cqa_model.specs.Database.{stored}
 use Rattle.cqa_model.specs.Plan.{Placed, PlanHolds}
-use Rattle.bound_query.specs.Once.{value_set}
+use Rattle.table_blocks.specs.Once.{value_set}
 use Rattle.plan_rows.specs.Taking.{taken_value, AreAgreed}
 use Rattle.plan_rows.specs.Left.{IsSettled}
 use Rattle.plan_rows.specs.declared.course.Course.{Course}

@@ -3,10 +3,10 @@
 ghost use Rattle.std.specs.Prelude.{◌≡◌, ◌<◌, IfSome, Some, None, length, slice_index_or};
 ghost use Rattle.join_access.specs.Spots.{ArePaths};
 
-use bound_query::Bound;
 use cqa_model::ColRef;
 use join_access::{RowIndex, are_linked};
 use std::alloc::Global;
+use table_blocks::Bound;
 
 /// A query that fits a database, with indexes of the tables of its atoms, where there are some.
 #[derive(Drop)]

@@ -6,9 +6,9 @@ ghost use Rattle.query_resolve.specs.Checks.{answer_fault, answer_kinds};
 
 use crate::column::kind_of_column;
 use crate::faults::kind_mismatch;
-use bound_query::Bound;
 use cqa_value::{Kind, Row};
 use refusals::{Place, Refusal};
+use table_blocks::Bound;
 
 /// Whether a row has a value for each answer column, of the column's kind.
 ///

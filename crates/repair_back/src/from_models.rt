@@ -8,11 +8,11 @@ ghost use Rattle.repair_back.specs.Results.{IsTrueName, IsRepairOf, ArePicks, Ar
 use crate::choice::Choice;
 use crate::kept::{blank, settle_all};
 use crate::repair::{Repair, named};
-use bound_query::Bound;
 use cqa_model::RowId;
 use cqa_value::NoMemory;
 use plan_rows::Setting;
 use std::alloc::Global;
+use table_blocks::Bound;
 
 /// Sets the flags of the rows that are listed with `true`.
 fn mark(kept: &mut [Choice], listed: &[RowId], model: &[bool])

@@ -26,7 +26,6 @@ use crate::choice::Choice;
 use crate::kept::{blank, settle_all};
 use crate::repair::{Repair, named};
 use crate::way::{Way, enough_for, enough_of};
-use bound_query::Bound;
 use cqa_model::Plan;
 use cqa_value::{Items, NoMemory, Row};
 use join_access::{RowIndex, table_of};
@@ -36,6 +35,7 @@ use plan_rows::{
 };
 use row_pieces::Rows;
 use std::alloc::Global;
+use table_blocks::Bound;
 
 /// The place that is kept of a block.
 fn kept_of(setting: &Setting<'_>, atom: u32, start: usize, end: usize, kept: &[Choice]) -> usize

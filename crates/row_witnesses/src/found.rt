@@ -6,10 +6,10 @@ ghost use Rattle.join_access.specs.declared.witness.TheConstants.{MOST_WITNESSES
 ghost use Rattle.row_witnesses.specs.Columns.{AreColumns};
 
 use crate::column::columns_of;
-use bound_query::Bound;
 use cqa_value::{Items, NoMemory, Row};
 use join_access::Witness;
 use std::alloc::Global;
+use table_blocks::Bound;
 
 /// All witnesses of a row of a query, each once, in the lexicographic order of their rows' places. There are at most
 /// `MOST_WITNESSES`.

@@ -18,7 +18,7 @@ use Rattle.cnf_form.proofs.Sound.{refutation_sound}
 use Rattle.cdcl.specs.declared.outcome.Outcome.{Outcome}
 use Rattle.cdcl.specs.declared.outcome.Outcome.TheVariants.{Sat, Unsat, Spent}
 use Rattle.cdcl.specs.Outcomes.{AreConsecutive, IsModel, IsOnce, OutcomeIs, assignment}
-use Rattle.bound_query.specs.declared.Bound.{Bound}
+use Rattle.table_blocks.specs.declared.bound.Bound.{Bound}
 use Rattle.join_access.specs.Listing.{HasTooMany}
 use Rattle.row_witnesses.specs.declared.found.RowWitnesses.{RowWitnesses}
 use Rattle.search_answers.specs.declared.decision.Decided.{Decided}

@@ -15,7 +15,7 @@ use Rattle.cqa_model.proofs.Databases.{possible_is_candidate}
 use Rattle.join_access.proofs.Extending.{sorted-nil}
 use Rattle.join_access.specs.Listing.{HasTooMany}
 use Rattle.join_access.proofs.Sorted.{not_less, not_both}
-use Rattle.bound_query.specs.declared.Bound.{Bound}
+use Rattle.table_blocks.specs.declared.bound.Bound.{Bound}
 use Rattle.row_witnesses.specs.declared.found.RowWitnesses.{RowWitnesses}
 use Rattle.search_answers.specs.declared.judging.Verdict.{Verdict}
 use Rattle.search_answers.specs.declared.search.Stop.{Stop}

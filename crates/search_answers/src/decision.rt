@@ -7,13 +7,13 @@ ghost use Rattle.cdcl.specs.Outcomes.{IsOnce, OutcomeIs};
 ghost use Rattle.join_access.specs.Listing.{HasTooMany, IsOver};
 ghost use Rattle.search_answers.specs.Deciding.{IsDecided};
 
-use bound_query::Bound;
 use cdcl::Outcome;
 use cqa_value::{Fail, NoMemory, Row};
 use join_access::TooMany;
 use join_witness::witnesses;
 use repair_clauses::{Encoded, encode};
 use std::alloc::Global;
+use table_blocks::Bound;
 
 /// The formula of a row, and what the solver found out of it.
 #[derive(Debug, Drop)]

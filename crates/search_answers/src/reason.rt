@@ -10,7 +10,6 @@ ghost use Rattle.search_answers.specs.Deciding.{IsDecided};
 ghost use Rattle.search_answers.specs.Reasons.{IsSearchReason, IsSearchStopped};
 
 use crate::decision::{Decided, decide};
-use bound_query::Bound;
 use cdcl::Outcome;
 use cqa_model::RowId;
 use cqa_value::{Fail, Items, NoMemory, Row};
@@ -19,6 +18,7 @@ use query_strategy::{Reason, Untold};
 use repair_back::{chosen, from_model};
 use repair_clauses::Encoded;
 use std::alloc::Global;
+use table_blocks::Bound;
 
 /// The repair that a model of a row's formula gives, by the rows that it had to choose.
 fn by_model(

@@ -7,11 +7,11 @@ ghost use Rattle.search_answers.specs.Searching.{IsSearched, IsStop, IsStopAt, S
 
 use crate::first_look::Room;
 use crate::judging::{Search, Verdict, judge_row};
-use bound_query::Bound;
 use cnf_form::{Cnf, Log};
 use cqa_value::{Items, NoMemory, Row};
 use join_witness::{candidates, lookup_of};
 use std::alloc::Global;
+use table_blocks::Bound;
 
 /// Why a search ends before all rows are decided.
 #[derive(Debug, Drop)]

@@ -1,6 +1,7 @@
 //! The tables of a database, each a list of rows in block order.
 #![tactic(auto)]
 
+mod bound;
 mod clash;
 mod database;
 mod order;
@@ -11,6 +12,7 @@ mod steps;
 mod table;
 mod test;
 
+pub use bound::Bound;
 pub use clash::{Clash, shares_key};
 pub use database::Database;
 pub use row_order::{Probe, cell, passes};

@@ -10,7 +10,6 @@ ghost use Rattle.cqa_session.specs.Replying.{Replies, IsOutcome};
 ghost use Rattle.cqa_session.specs.Statements.Ask.{AnswersCertain, FindsCertain, StopsAt, TellsCertain};
 
 use crate::Session;
-use bound_query::Bound;
 use cqa_model::{MOST_ATOMS, Query};
 use cqa_value::{Fail, NoMemory};
 use fo_plan::certain_by_plan;
@@ -22,6 +21,7 @@ use reply_text::{Proof, Reply};
 use search_answers::{Searched, Stop, certain_by_search};
 use spj_syntax::Select;
 use std::alloc::Global;
+use table_blocks::Bound;
 
 /// The number of rows of each atom's table.
 fn sizes_of(bound: &Bound<'_>) -> [u32; MOST_ATOMS as usize] {

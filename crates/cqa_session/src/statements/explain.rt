@@ -13,7 +13,6 @@ ghost use Rattle.cqa_session.specs.Statements.Explain.{MayTell, Explains};
 
 use crate::Session;
 use crate::statements::kept::{kept_rows, name_of};
-use bound_query::Bound;
 use cqa_model::{Query, RowId};
 use cqa_value::{Fail, Items, NoMemory, Row};
 use join_access::TooMany;
@@ -26,7 +25,7 @@ use reply_text::{Proof, Reply};
 use search_answers::reason_by_search;
 use spj_syntax::Select;
 use std::alloc::Global;
-use table_blocks::Database;
+use table_blocks::{Bound, Database};
 
 /// The reason of a row of a pair.
 fn of_pair(alloc: Global, pair: &PairQuery<'_>, row: &Row) -> Result<Reason, Fail<Untold>>

@@ -5,7 +5,6 @@ ghost use Rattle.cqa_session.specs.Replying.{Replies, IsOutcome};
 ghost use Rattle.cqa_session.specs.Statements.Possible.{AnswersPossible};
 
 use crate::Session;
-use bound_query::Bound;
 use cqa_value::Fail;
 use join_witness::candidates;
 use query_resolve::resolve;
@@ -13,6 +12,7 @@ use refusals::Refusal;
 use reply_text::Reply;
 use spj_syntax::Select;
 use std::alloc::Global;
+use table_blocks::Bound;
 
 /// Answers the possible rows of a query.
 ///

@@ -11,7 +11,6 @@ ghost use Rattle.cqa_session.specs.Replying.{Replies, IsOutcome};
 ghost use Rattle.cqa_session.specs.Statements.Sql.{column_names, names_in, TellsSql, WritesSql};
 
 use crate::Session;
-use bound_query::Bound;
 use cqa_model::{Column, Plan, Query};
 use cqa_value::{Fail, Items, Name, NoMemory};
 use fo_rewrite::plan_in;
@@ -23,7 +22,7 @@ use reply_text::Reply;
 use spj_syntax::Select;
 use sql_text::{Names, append_sql};
 use std::alloc::Global;
-use table_blocks::Database;
+use table_blocks::{Bound, Database};
 
 /// Answers a query's plan in SQL, or that it has none.
 ///

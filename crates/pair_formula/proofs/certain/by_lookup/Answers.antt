@@ -1,5 +1,5 @@
 use Rattle.std.proofs.Common.{◌≡◌, ◌↔◌, ◌∙◌, IfOk, IsTrue, length, sym, subst}
-use Rattle.bound_query.specs.declared.Bound.{Bound}
+use Rattle.table_blocks.specs.declared.bound.Bound.{Bound}
 use Rattle.cqa_model.specs.Certain.{IsCertain}
 use Rattle.weak_pairs.specs.Pairs.{IsPair}
 use Rattle.pair_formula.proofs.Carrying.{carried}

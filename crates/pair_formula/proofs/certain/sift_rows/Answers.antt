@@ -1,5 +1,5 @@
 use Rattle.std.proofs.Common.{OnOk, sym, subst}
-use Rattle.bound_query.specs.declared.Bound.{Bound}
+use Rattle.table_blocks.specs.declared.bound.Bound.{Bound}
 use Rattle.weak_pairs.specs.Pairs.{IsPair}
 use Rattle.pair_answers.proofs.Told.{pair-told}
 use Rattle.repair_clauses.specs.Candidates.{AreCandidates}

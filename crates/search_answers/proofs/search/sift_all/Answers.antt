@@ -2,7 +2,7 @@ use Rattle.std.proofs.Common.{◌≡◌, ◌∙◌, length, refl, sym, subst, Op
 use Rattle.std.specs.Option.{IfSome}
 use Rattle.std.proofs.lemmas.List.{nil_from_length}
 use Rattle.std.specs.Vec.Iter.{into_iter_items}
-use Rattle.bound_query.specs.declared.Bound.{Bound}
+use Rattle.table_blocks.specs.declared.bound.Bound.{Bound}
 use Rattle.search_answers.specs.declared.search.Stop.{Stop}
 use Rattle.repair_clauses.specs.Candidates.{AreCandidates}
 use Rattle.search_answers.specs.Searching.{IsStop, IsStopAt, Sifts, SiftsAll}

@@ -1,6 +1,6 @@
 use Rattle.std.proofs.Common.{subst}
 use Rattle.std.proofs.lemmas.Result.{IfOk-weaker}
-use Rattle.bound_query.specs.declared.Bound.{Bound}
+use Rattle.table_blocks.specs.declared.bound.Bound.{Bound}
 use Rattle.cqa_model.specs.Certain.{IsCertainAnswer}
 use Rattle.search_answers.specs.Searching.{IsSearched}
 use Rattle.query_strategy.specs.Strategies.{IsStrategyOf}

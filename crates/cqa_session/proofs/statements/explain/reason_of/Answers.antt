@@ -1,5 +1,5 @@
 use Rattle.std.proofs.Common.{◌≡◌, IfErr, IfOk, length, subst, sym}
-use Rattle.bound_query.specs.declared.Bound.{Bound}
+use Rattle.table_blocks.specs.declared.bound.Bound.{Bound}
 use Rattle.query_strategy.specs.Strategies.{HasNoPlan, IsStrategyOf}
 use Rattle.weak_pairs.specs.Pairs.{IsPair}
 use Rattle.cqa_session.specs.Reasons.{IsReason, IsStopped}

@@ -1,14 +1,13 @@
 //! A query that fits a database, as one value: what every method works on that answers a query.
-#![tactic(auto)]
 
 ghost use Rattle.std.specs.Prelude.{◌≡◌};
 ghost use Rattle.cqa_model.specs.Database.{IsDatabase};
 ghost use Rattle.cqa_model.specs.Query.{FitsDatabase};
 ghost use Rattle.cqa_model.specs.Naming.{AreVariables};
-ghost use Rattle.bound_query.specs.Once.{database_once, fits_once};
+ghost use Rattle.table_blocks.specs.Once.{database_once, fits_once};
 
+use crate::database::Database;
 use cqa_model::{Query, Variables, variables};
-use table_blocks::Database;
 
 /// A database and a query that fits it, with the query's variables. The database doesn't change as long as it is borrowed, so
 /// that the query goes on to fit it.
