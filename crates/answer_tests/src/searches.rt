@@ -2,7 +2,8 @@
 //! Each is searched with a budget, and what comes of it is compared.
 
 use crate::making::{Wanted, is_answered};
-use search_answers::{Searched, Stop, certain_by_search};
+use row_sides::Side;
+use search_answers::{Searched, Stop, rows_by_search};
 use std::alloc::Global;
 use table_blocks::Bound;
 
@@ -29,7 +30,7 @@ fn outcome_of(found: &Searched) -> Shown {
 
 /// What comes of a search for the certain rows of a query.
 fn search(alloc: Global, bound: &Bound<'_>, budget: u32) -> Shown {
-    match certain_by_search(alloc, bound, budget) {
+    match rows_by_search(alloc, bound, Side::Certain, budget) {
         Ok(found) => {
             let shown = outcome_of(&found);
             drop(found);

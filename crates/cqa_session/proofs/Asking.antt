@@ -4,6 +4,7 @@ use Rattle.cqa_value.specs.declared.memory.Fail.{Fail}
 use Rattle.cqa_value.specs.declared.memory.Fail.TheVariants as fails
 use Rattle.cqa_model.specs.declared.query.Query.{Query}
 use Rattle.cqa_model.specs.Database.{Table}
+use Rattle.row_sides.specs.declared.side.Side.{Side}
 use Rattle.search_answers.specs.declared.search.Searched.{Searched}
 use Rattle.search_answers.specs.declared.search.Searched.TheVariants.{All, Stopped}
 use Rattle.search_answers.specs.Searching.{IsSearched}
@@ -14,17 +15,17 @@ use Rattle.query_resolve.specs.Resolved.{IsQueryOf}
 use Rattle.reply_text.specs.declared.reply.Reply.{Reply}
 use Rattle.cqa_session.specs.State.{State}
 use Rattle.cqa_session.specs.Replying.{Replies, IsOutcome}
-use Rattle.cqa_session.specs.Statements.Ask.{AnswersCertain, FindsCertain, TellsCertain}
+use Rattle.cqa_session.specs.Statements.Sides.{AnswersSide, FindsRows, TellsSide}
 
-module _ (old new : State) (q : Query) where
+module _ (old new : State) (q : Query) (side : Side) where
   -- an answer to the query is one to the statement that asks for it
-  pub answered : (fault : Option Refusal) (select : Select) (result : Result Reply (Fail Refusal)) → fault ≡ None → IsQueryOf old.tables select q → IsOutcome result old (TellsCertain old q) new →
-      IsOutcome result old (Replies fault old (AnswersCertain old select)) new
+  pub answered : (fault : Option Refusal) (select : Select) (result : Result Reply (Fail Refusal)) → fault ≡ None → IsQueryOf old.tables select q → IsOutcome result old (TellsSide old q side) new →
+      IsOutcome result old (Replies fault old (AnswersSide old select side)) new
   answered fault select (Ok reply) valid resolved told = inr (valid, record { query = q; resolved = resolved; told = told })
   answered fault select (Err (fails.Refused refusal)) valid resolved told = inr (valid, record { query = q; resolved = resolved; told = told })
   answered fault select (Err fails.NoMemory) valid resolved told = told
 
 -- what a search finds, of a query that needs one
-pub found_by_search : (q : Query) (db : List Table) (budget : ℕ) (found : Searched) → NeedsSearch q → IsSearched q db budget found → FindsCertain q db budget found
-found_by_search q db budget (All rows) needs s = (s.0, λ _. s.1)
-found_by_search q db budget (Stopped why) needs s = (needs, s)
+pub found_by_search : (q : Query) (db : List Table) (side : Side) (budget : ℕ) (found : Searched) → NeedsSearch q → IsSearched q db side budget found → FindsRows q db side budget found
+found_by_search q db side budget (All rows) needs s = (s.0, λ _. s.1)
+found_by_search q db side budget (Stopped why) needs s = (needs, s)

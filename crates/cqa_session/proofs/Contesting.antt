@@ -1,6 +1,5 @@
 -- Of one row of each block, those of blocks of two or more rows are those whose blocks have another row.
-use Rattle.std.proofs.Common.{◌≡◌, ◌⊎◌, inl, inr, ℕ, ◌+◌, ◌<◌, ◌&&◌, Bool, true, false, not, cond, if◌then◌else◌, List, [], ◌∷◌, ◌++◌, length, map, get_or, Contains, refl, sym, ◌∙◌, ap, subst, arith}
-use Rattle.std.specs.List.{AllZip, filter, list_any}
+use Rattle.std.proofs.Common.{◌≡◌, inl, inr, ℕ, ◌&&◌, Bool, true, false, not, cond, if◌then◌else◌, List, [], ◌∷◌, get_or, Contains, refl, sym, ◌∙◌, ap, subst}
 use Rattle.std.proofs.lemmas.Bool.{and_parts, and_from, cases_order, not_from_false, false_from_ne_true}
 use Rattle.std.proofs.lemmas.List.{get_or_default}
 use Rattle.std.proofs.lemmas.List.Folds.{Any-from_list_any, list_any_at}
@@ -16,7 +15,7 @@ use Rattle.cqa_model.proofs.BlockOrder.{shares-from_key, key-from_shares}
 use Rattle.cqa_model.proofs.Repairs.{shares-sym}
 use Rattle.table_blocks.specs.declared.test.ColumnTest.{ColumnTest}
 use Rattle.table_blocks.specs.Tables.{rows_at, key_at}
-use Rattle.repair_back.specs.Results.{is_of_block, is_contested, is_contested_in, contested_of}
+use Rattle.repair_back.specs.Results.{is_of_block, is_contested, contested_of}
 use Rattle.range_ask.specs.Ranges.{names_in, rows_in, IsAttained}
 use Rattle.range_ask.specs.Picks.{ArePicked, IsParted}
 use Rattle.range_ask.specs.Walking.{is_wide}

@@ -9,7 +9,9 @@ use Rattle.cqa_model.specs.declared.schema.Schema.{Schema}
 use Rattle.refusals.specs.declared.refusal.Refusal.{Refusal}
 use Rattle.cqa_model.specs.Database.{Table}
 use Rattle.query_strategy.specs.declared.reason.Reason.TheVariants as reasons
-use Rattle.cqa_session.specs.Reasons.{IsReason}
+use Rattle.query_strategy.specs.declared.reason.Untold.{Untold}
+use Rattle.query_strategy.specs.declared.reason.Untold.TheVariants as stops
+use Rattle.cqa_session.specs.Reasons.{IsReason, IsUntold}
 use Rattle.query_resolve.specs.Checks.{answer_fault, query_fault}
 use Rattle.query_resolve.specs.Resolved.{IsQueryOf}
 use Rattle.spj_syntax.specs.declared.tree.Select.{Select}
@@ -19,7 +21,9 @@ use Rattle.reply_text.specs.declared.reply.Reply.TheVariants as replies
 use Rattle.cqa_session.specs.State.{State}
 use Rattle.cqa_session.specs.Replying.{Replies, IsOutcome}
 use Rattle.cqa_session.specs.Statements.Kept.{name_at, kept_line}
-use Rattle.cqa_session.specs.Statements.Explain.{MayTell, Explains}
+use Rattle.cqa_session.specs.Statements.Untold.{RefusesRow}
+use Rattle.cqa_session.specs.Statements.Explain.{StopsFor, MayTell, Explains}
+use Rattle.cqa_session.proofs.Spending.{spent_for, spends}
 
 -- the name of a table is that of its schema
 pub named : (db : List Table) (table : ℕ) (schema : Schema) → table < length db → IfSome (slice_get db table) (λ t. schema ≡ t.schema) → schema.name ≡ name_at db table
@@ -40,6 +44,16 @@ module _ (old : State) (q : Query) (row : List Value) (db : List Table) (reply :
 pub refutation_told : (old new : State) (q : Query) (row : List Value) (proof : Proof) (reply : Reply) → IsReason old.tables q row (reasons.Refuted proof.cnf proof.log) → reply ≡ replies.ByRefutation proof →
     new ≡ record old { last_log = Some proof } → MayTell old q row reply new
 refutation_told old new q row proof reply reason told kept = subst (λ z. MayTell old q row z new) (sym told) (reason, kept)
+
+-- the refusal of a row whose reason isn't told
+pub untold : (old new : State) (q : Query) (row : List Value) (stop : Untold) (fault : Fail Refusal) → IsUntold old.tables q row old.budget stop → RefusesRow old row stop fault new →
+    IsOutcome (Err fault) old (MayTell old q row) new
+untold old new q row stop fails.NoMemory u h = h
+untold old new q row stops.Over (fails.Refused refusal) u h = subst (λ r. StopsFor old q row r new) (sym h.0) (refl, u, h.1)
+untold old new q row (stops.Spent cnf log) (fails.Refused refusal) u h =
+    let proof : Proof = record { cnf = cnf; log = log } in
+    let spent = spent_for q old.tables old.budget row cnf u.2.0 log u.2.1 in
+    subst (λ r. StopsFor old q row r new) (sym h.0) (refl, u.0, u.1, spends old new q row old.budget proof spent refl h.1)
 
 -- how the answer for a row ends the statement
 pub explained : (old new : State) (row : List Value) (select : Select) (query : Query) (result : Result Reply (Fail Refusal)) → query_fault old.tables select ≡ None → IsQueryOf old.tables select query →

@@ -4,6 +4,7 @@ pub mod Copying
 pub mod Doing
 pub mod Dumping
 pub mod Explaining
+pub mod Opposing
 mod Naming
 mod LineSteps
 mod Contesting

@@ -20,12 +20,15 @@ use Rattle.cqa_session.specs.Statements.Copy.{copy_into_fault, CopiesInto}
 use Rattle.cqa_session.specs.Statements.Range.{range_fault, TellsRange}
 use Rattle.cqa_session.specs.Statements.Ask.{AnswersCertain}
 use Rattle.cqa_session.specs.Statements.Possible.{AnswersPossible}
+use Rattle.cqa_session.specs.Statements.Disputed.{AnswersDisputed}
 use Rattle.cqa_session.specs.Statements.Classify.{Classifies}
 use Rattle.cqa_session.specs.Statements.Plan.{ShowsPlan}
 use Rattle.cqa_session.specs.Statements.Sql.{WritesSql}
 use Rattle.cqa_session.specs.Statements.Explain.{Explains}
+use Rattle.cqa_session.specs.Statements.Against.{AnswersAgainst}
 use Rattle.cqa_session.specs.Statements.SetConflicts.{SetsConflicts}
 use Rattle.cqa_session.specs.Statements.ShowTables.{ShowsTables}
+use Rattle.cqa_session.specs.Statements.ShowConflicts.{ShowsConflicts}
 use Rattle.cqa_session.specs.Statements.Dump.{Dumps}
 use Rattle.cqa_session.specs.Statements.ShowLog.{ShowsLog}
 
@@ -34,10 +37,12 @@ use Rattle.cqa_session.specs.Statements.ShowLog.{ShowsLog}
 abbrev pub Asks : State → Verb → Select → Reply → State → Type 0
 Asks old verbs.Ask select reply new = AnswersCertain old select reply new
 Asks old verbs.Possible select reply new = AnswersPossible old select reply new
+Asks old verbs.Disputed select reply new = AnswersDisputed old select reply new
 Asks old verbs.Classify select reply new = Classifies old select reply new
 Asks old verbs.Plan select reply new = ShowsPlan old select reply new
 Asks old verbs.Sql select reply new = WritesSql old select reply new
 Asks old (verbs.Explain row) select reply new = Explains old row select reply new
+Asks old (verbs.Against row) select reply new = AnswersAgainst old row select reply new
 
 -- ---- a statement, with the block that follows it: the first of its checks that fails in a state, and what it may do where none fails
 
@@ -51,6 +56,7 @@ fault_in old (statements.Range goal name tests group) block = range_fault old.ta
 fault_in old (statements.Asking verb select) block = query_fault old.tables select
 fault_in old (statements.SetConflicts conflicts) block = None
 fault_in old statements.ShowTables block = None
+fault_in old statements.ShowConflicts block = None
 fault_in old statements.Dump block = None
 fault_in old statements.ShowLog block = None
 
@@ -64,6 +70,7 @@ Executes old (statements.Range goal name tests group) block reply new = TellsRan
 Executes old (statements.Asking verb select) block reply new = Asks old verb select reply new
 Executes old (statements.SetConflicts conflicts) block reply new = SetsConflicts old conflicts reply new
 Executes old statements.ShowTables block reply new = ShowsTables old reply new
+Executes old statements.ShowConflicts block reply new = ShowsConflicts old reply new
 Executes old statements.Dump block reply new = Dumps old reply new
 Executes old statements.ShowLog block reply new = ShowsLog old reply new
 

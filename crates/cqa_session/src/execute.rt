@@ -8,12 +8,14 @@ ghost use Rattle.cqa_session.specs.Machine.{Asks, Does};
 ghost use Rattle.cqa_session.specs.Replying.{Replies, IsOutcome};
 
 use crate::Session;
+use crate::statements::against::against;
 use crate::statements::alter::alter;
 use crate::statements::ask::ask;
 use crate::statements::classify::classify;
 use crate::statements::copy::copy;
 use crate::statements::create::create;
 use crate::statements::delete::delete;
+use crate::statements::disputed::disputed;
 use crate::statements::dump::dump;
 use crate::statements::explain::explain;
 use crate::statements::insert::insert;
@@ -21,6 +23,7 @@ use crate::statements::plan::plan;
 use crate::statements::possible::possible;
 use crate::statements::range::range;
 use crate::statements::set_conflicts::set_conflicts;
+use crate::statements::show_conflicts::show_conflicts;
 use crate::statements::show_log::show_log;
 use crate::statements::show_tables::show_tables;
 use crate::statements::sql::sql;
@@ -43,10 +46,12 @@ fn asked(
     match verb {
         Verb::Ask => ask(alloc, session, select),
         Verb::Possible => possible(alloc, session, select),
+        Verb::Disputed => disputed(alloc, session, select),
         Verb::Classify => classify(alloc, session, select),
         Verb::Plan => plan(alloc, session, select),
         Verb::Sql => sql(alloc, session, select),
         Verb::Explain { row } => explain(alloc, session, row, select),
+        Verb::Against { row } => against(alloc, session, row, select),
     }
 }
 
@@ -78,6 +83,7 @@ fn done(
         Statement::Asking { verb, select } => asked(alloc, session, verb, select),
         Statement::SetConflicts(conflicts) => set_conflicts(session, *conflicts),
         Statement::ShowTables => show_tables(alloc, session),
+        Statement::ShowConflicts => show_conflicts(alloc, session),
         Statement::Dump => dump(alloc, session),
         Statement::ShowLog => show_log(alloc, session),
     }

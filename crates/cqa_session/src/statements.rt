@@ -1,11 +1,13 @@
 //! The statements, a room for each: one call that checks the statement and does it.
 
+pub mod against;
 pub mod alter;
 pub mod ask;
 pub mod classify;
 pub mod copy;
 pub mod create;
 pub mod delete;
+pub mod disputed;
 pub mod dump;
 pub mod explain;
 pub mod insert;
@@ -14,7 +16,10 @@ pub mod plan;
 pub mod possible;
 pub mod range;
 pub mod set_conflicts;
+pub mod show_conflicts;
 pub mod show_log;
 pub mod show_tables;
+mod sides;
 pub mod sql;
 mod table_place;
+mod untold;

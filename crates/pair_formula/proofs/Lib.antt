@@ -4,4 +4,4 @@ pub mod FullRuns
 pub mod FullSpans
 pub mod Pairing
 pub mod Carrying
-mod Rejecting
+pub mod Rejecting

@@ -1,4 +1,3 @@
 pub mod Full
-pub mod Sifting
 pub mod Proving
 pub mod Reasons

@@ -10,6 +10,11 @@ one_more piece start now next xs i x within at before after =
     let step : take (i + 1) xs ≡ take i xs ++ x ∷ [] = take_more xs i x within ∙ ap (λ y. take i xs ++ y ∷ []) (sym at) in
     after ∙ ap (λ l. l ++ piece x) before ∙ flat_map_more piece start (take i xs) x ∙ ap (λ ys. start ++ flat_map piece ys) (sym step)
 
+-- two pieces behind those that are written
+pub two_more : (start now next written first second : List ℕ) → now ≡ start ++ written → next ≡ now ++ (first ++ second) → next ≡ start ++ (written ++ first ++ second)
+two_more start now next written first second before after =
+    after ∙ ap (λ l. l ++ (first ++ second)) before ∙ append_assoc start written (first ++ second) ∙ ap (λ l. start ++ l) (sym (append_assoc written first second))
+
 -- the steps of a plan, and then the next one
 steps-more : (before : ℕ) (names : List (List ℕ)) (name : List ℕ) → steps_text before (names ++ name ∷ []) ≡ steps_text before names ++ step_text (before + length names) name
 steps-more before [] name = let none : before ≡ before + 0 = omega arith in append-nil (step_text before name) ∙ ap (λ k. step_text k name) none

@@ -22,9 +22,10 @@ use Rattle.reply_text.specs.declared.reply.AttackLine.{AttackLine}
 use Rattle.reply_text.specs.declared.reply.GroupEnds.{GroupEnds}
 use Rattle.reply_text.specs.declared.reply.KeptRow.{KeptRow}
 use Rattle.reply_text.specs.declared.reply.TableLine.{TableLine}
+use Rattle.reply_text.specs.declared.reply.ConflictLine.{ConflictLine}
 use Rattle.reply_text.specs.declared.reply.Proof.{Proof}
 use Rattle.reply_text.specs.declared.reply.Reply.{Reply}
-use Rattle.reply_text.specs.declared.reply.Reply.TheVariants.{Created, Altered, Inserted, Deleted, Copied, Rows, Classified, Steps, Sql, NoPlan, Rejected, ByBlock, ByRefutation, Range, Groups, Tables, Conflicts, KeptLog, NoLog, Dumped, Refused}
+use Rattle.reply_text.specs.declared.reply.Reply.TheVariants.{Created, Altered, Inserted, Deleted, Copied, Rows, Classified, Steps, Sql, NoPlan, Rejected, Certain, Against, ByBlock, ByRefutation, Range, Groups, Tables, Contested, Conflicts, KeptLog, NoLog, Dumped, Refused}
 
 -- row R column C, or condition K
 abbrev pub place_text : Place → List ℕ
@@ -94,9 +95,13 @@ strict_text false = []
 abbrev pub table_text : TableLine → List ℕ
 table_text line = strict_text line.schema.strict ++ schema_bytes line.schema ++ codes " rows " ++ decimal line.rows ++ codes " blocks " ++ decimal line.blocks
 
+-- a line for each item, then how many they are, and of what
+abbrev pub counted_lines : {X : Type 0} → (X → List ℕ) → List X → List ℕ → List ℕ
+counted_lines text items kind = flat_map (λ item. text item ++ codes "\n") items ++ decimal (length items) ++ kind
+
 -- each row on a line of its own, then N rows
 abbrev pub rows_text : List (List Value) → List ℕ
-rows_text rows = flat_map (λ row. row_bytes row ++ codes "\n") rows ++ decimal (length rows) ++ codes " rows"
+rows_text rows = counted_lines row_bytes rows (codes " rows")
 
 abbrev pub class_text : Class → List ℕ
 class_text FirstOrder = codes "first-order"
@@ -131,7 +136,15 @@ steps_text before (name ∷ names) = step_text before name ++ steps_text (before
 
 -- each table on a line of its own, then N tables
 abbrev pub tables_text : List TableLine → List ℕ
-tables_text lines = flat_map (λ line. table_text line ++ codes "\n") lines ++ decimal (length lines) ++ codes " tables"
+tables_text lines = counted_lines table_text lines (codes " tables")
+
+-- NAME rows N blocks B conflicts C
+abbrev pub conflict_text : ConflictLine → List ℕ
+conflict_text line = line.name ++ codes " rows " ++ decimal line.rows ++ codes " blocks " ++ decimal line.blocks ++ codes " conflicts " ++ decimal line.conflicts
+
+-- each table on a line of its own, then N tables
+abbrev pub contested_text : List ConflictLine → List ℕ
+contested_text lines = counted_lines conflict_text lines (codes " tables")
 
 -- a formula, the line "lrat", and a log
 abbrev pub proof_text : Proof → List ℕ
@@ -149,6 +162,10 @@ kept_lines lines = flat_map (λ line. codes "\n" ++ kept_text line) lines
 abbrev pub rejected_text : List KeptRow → List ℕ
 rejected_text lines = codes "rejected" ++ kept_lines lines
 
+-- each row that stands against a row on a line of its own, then N rows
+abbrev pub against_text : List KeptRow → List ℕ
+against_text lines = counted_lines kept_text lines (codes " rows")
+
 -- an end of a range: none, a number, or a value as a literal
 abbrev pub end_text : End → List ℕ
 end_text Empty = codes "none"
@@ -165,7 +182,7 @@ group_text line = codes "group " ++ literal_bytes line.value ++ codes " least " 
 
 -- each group on a line of its own, then N groups
 abbrev pub groups_text : List GroupEnds → List ℕ
-groups_text lines = flat_map (λ line. group_text line ++ codes "\n") lines ++ decimal (length lines) ++ codes " groups"
+groups_text lines = counted_lines group_text lines (codes " groups")
 
 -- certain by block NAME KEY
 abbrev pub block_text : List ℕ → List Value → List ℕ
@@ -188,12 +205,15 @@ reply_parts (Steps names) = ([], steps_text 0 names)
 reply_parts (Sql text) = ([], text)
 reply_parts NoPlan = (codes "no plan", [])
 reply_parts (Rejected lines) = ([], rejected_text lines)
+reply_parts Certain = (codes "certain", [])
+reply_parts (Against lines) = ([], against_text lines)
 reply_parts (ByBlock table key) = ([], block_text table key)
 reply_parts (ByRefutation proof) = ([], refutation_text proof)
 reply_parts (Range least low greatest high) = ([], range_text least low greatest high)
 reply_parts (Groups lines) = ([], groups_text lines)
 reply_parts (Conflicts budget) = (codes "conflicts " ++ decimal budget, [])
 reply_parts (Tables lines) = ([], tables_text lines)
+reply_parts (Contested lines) = ([], contested_text lines)
 reply_parts (Dumped script) = ([], script)
 reply_parts (KeptLog proof) = ([], proof_text proof)
 reply_parts NoLog = (codes "no log", [])

@@ -30,6 +30,14 @@ pub fn append_number(number: usize, out: &mut Vec<u8>) -> Result<(), NoMemory>
     append_words(buffer.format(number), out)
 }
 
+/// Appends a number, and words.
+pub fn append_counted(number: usize, words: &str, out: &mut Vec<u8>) -> Result<(), NoMemory>
+    ensures { OnOk result (out.new.items ≡ out.old.items ++ (decimal number ++ words.now)) }
+{
+    append_number(number, out)?;
+    append_words(words, out)
+}
+
 /// Appends a number in decimal, with its sign where it is negative.
 pub fn append_signed(number: i128, out: &mut Vec<u8>) -> Result<(), NoMemory>
     ensures { OnOk result (out.new.items ≡ out.old.items ++ signed_decimal number) }

@@ -1,9 +1,9 @@
 //! Appends why a row is certain, or why it isn't.
 
-ghost use Rattle.std.specs.Prelude.{◌≡◌, ◌++◌, OnOk, codes};
-ghost use Rattle.reply_text.specs.Texts.{kept_text, kept_lines, rejected_text, block_text, refutation_text};
+ghost use Rattle.std.specs.Prelude.{◌≡◌, ◌++◌, OnOk};
+ghost use Rattle.reply_text.specs.Texts.{against_text, kept_text, kept_lines, rejected_text, block_text, refutation_text};
 
-use crate::append::{append_named, append_row, append_words};
+use crate::append::{append_counted, append_named, append_row, append_words};
 use crate::logged::append_proof;
 use crate::{KeptRow, Proof};
 use cqa_value::{Name, NoMemory, Row};
@@ -22,16 +22,28 @@ pub fn append_kept_rows(lines: &[KeptRow], out: &mut Vec<u8>) -> Result<(), NoMe
     ensures { OnOk result (out.new.items ≡ out.old.items ++ kept_lines lines.now) }
 {
     for line in lines {
+        append_words("\n", out)?;
         append_kept(line, out)?;
     }
     Ok(())
 }
 
-/// Appends a row that is kept on a new line.
-fn append_kept(line: &KeptRow, out: &mut Vec<u8>) -> Result<(), NoMemory>
-    ensures { OnOk result (out.new.items ≡ out.old.items ++ (codes "\n" ++ kept_text line.now)) }
+/// Appends each row that stands against a row on a line of its own, and how many they are.
+pub fn append_against(lines: &[KeptRow], out: &mut Vec<u8>) -> Result<(), NoMemory>
+    ensures { OnOk result (out.new.items ≡ out.old.items ++ against_text lines.now) }
 {
-    append_named("\nkeep ", &line.table, out)?;
+    for line in lines {
+        append_kept(line, out)?;
+        append_words("\n", out)?;
+    }
+    append_counted(lines.len(), " rows", out)
+}
+
+/// Appends a row that is kept.
+fn append_kept(line: &KeptRow, out: &mut Vec<u8>) -> Result<(), NoMemory>
+    ensures { OnOk result (out.new.items ≡ out.old.items ++ kept_text line.now) }
+{
+    append_named("keep ", &line.table, out)?;
     append_row(" ", &line.row, out)
 }
 

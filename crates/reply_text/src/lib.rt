@@ -3,6 +3,7 @@
 
 mod append;
 mod classified;
+mod contested;
 mod explained;
 mod logged;
 mod planned;
@@ -11,5 +12,5 @@ mod refused;
 mod reply;
 mod text;
 
-pub use reply::{AttackLine, GroupEnds, KeptRow, Proof, Reply, TableLine};
+pub use reply::{AttackLine, ConflictLine, GroupEnds, KeptRow, Proof, Reply, TableLine};
 pub use text::reply_bytes;

@@ -3,7 +3,7 @@
 ghost use Rattle.std.specs.Prelude.{◌≡◌, ◌++◌, OnOk, codes};
 ghost use Rattle.reply_text.specs.Texts.{end_text, group_text, groups_text, kept_lines, range_text};
 
-use crate::append::{append_number, append_signed, append_words};
+use crate::append::{append_counted, append_signed, append_words};
 use crate::explained::append_kept_rows;
 use crate::{GroupEnds, KeptRow};
 use cqa_model::End;
@@ -38,8 +38,7 @@ pub fn append_groups(lines: &[GroupEnds], out: &mut Vec<u8>) -> Result<(), NoMem
     for line in lines {
         append_group(line, out)?;
     }
-    append_number(lines.len(), out)?;
-    append_words(" groups", out)
+    append_counted(lines.len(), " groups", out)
 }
 
 /// Appends the line of a group with its line feed.

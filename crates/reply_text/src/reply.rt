@@ -37,6 +37,11 @@ pub enum Reply {
     /// The row is not certain: a repair of the query's tables that holds no witness of it, by its rows in the blocks
     /// that have a choice.
     Rejected(Items<KeptRow>),
+    /// The row is certain: no rows that a repair keeps stand against it.
+    Certain,
+    /// The row is not certain: rows of blocks that have a choice, such that no repair that keeps them holds a witness of
+    /// it, and none of which can be left out.
+    Against(Items<KeptRow>),
     /// The row is certain by the block of a table that has these key values.
     ByBlock {
         table: Name,
@@ -58,6 +63,8 @@ pub enum Reply {
     Conflicts(u32),
     /// The tables in the order in which they were made.
     Tables(Items<TableLine>),
+    /// How much of each table breaks its key, in the order in which the tables were made.
+    Contested(Items<ConflictLine>),
     /// A script that makes all tables with their rows.
     Dumped(Items<u8>),
     /// The log that was kept last, with its formula.
@@ -74,6 +81,15 @@ pub struct TableLine {
     pub schema: Schema,
     pub rows: u32,
     pub blocks: u32,
+}
+
+/// A table's numbers of rows, of blocks, and of blocks of two rows or more.
+#[derive(Drop)]
+pub struct ConflictLine {
+    pub name: Name,
+    pub rows: u32,
+    pub blocks: u32,
+    pub conflicts: u32,
 }
 
 /// A row of a table that a repair keeps.

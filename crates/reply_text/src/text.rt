@@ -3,9 +3,10 @@
 ghost use Rattle.std.specs.Prelude.{◌≡◌, ◌++◌, IfOk, OnOk, codes};
 ghost use Rattle.reply_text.specs.Texts.{last_end, lines_text, reply_parts, reply_text, rows_text, table_text, tables_text};
 
-use crate::append::{append_bytes, append_named, append_number, append_numbered, append_words};
+use crate::append::{append_bytes, append_counted, append_named, append_numbered, append_words};
 use crate::classified::append_classified;
-use crate::explained::{append_by_block, append_by_refutation, append_rejected};
+use crate::contested::append_contested;
+use crate::explained::{append_against, append_by_block, append_by_refutation, append_rejected};
 use crate::logged::append_proof;
 use crate::planned::append_steps;
 use crate::ranged::{append_groups, append_range};
@@ -65,6 +66,7 @@ fn append_short(reply: &Reply, out: &mut Vec<u8>) -> Result<(), NoMemory>
         Reply::Deleted(count) => append_numbered("deleted ", *count, out),
         Reply::Copied(count) => append_numbered("copied ", *count, out),
         Reply::NoPlan => append_words("no plan", out),
+        Reply::Certain => append_words("certain", out),
         Reply::Conflicts(budget) => append_numbered("conflicts ", *budget, out),
         Reply::NoLog => append_words("no log", out),
         Reply::Rows(_)
@@ -72,11 +74,13 @@ fn append_short(reply: &Reply, out: &mut Vec<u8>) -> Result<(), NoMemory>
         | Reply::Steps(_)
         | Reply::Sql(_)
         | Reply::Rejected(_)
+        | Reply::Against(_)
         | Reply::ByBlock { .. }
         | Reply::ByRefutation(_)
         | Reply::Range { .. }
         | Reply::Groups(_)
         | Reply::Tables(_)
+        | Reply::Contested(_)
         | Reply::Dumped(_)
         | Reply::KeptLog(_)
         | Reply::Refused(_) => Ok(()),
@@ -93,6 +97,7 @@ fn append_long(alloc: Global, reply: &Reply, out: &mut Vec<u8>) -> Result<(), No
         Reply::Steps(names) => append_steps(names.as_slice(), out),
         Reply::Sql(bytes) | Reply::Dumped(bytes) => append_bytes(bytes.as_slice(), out),
         Reply::Rejected(lines) => append_rejected(lines.as_slice(), out),
+        Reply::Against(lines) => append_against(lines.as_slice(), out),
         Reply::ByBlock { table, key } => append_by_block(table, key, out),
         Reply::ByRefutation(proof) => append_by_refutation(alloc, proof, out),
         Reply::Range {
@@ -103,6 +108,7 @@ fn append_long(alloc: Global, reply: &Reply, out: &mut Vec<u8>) -> Result<(), No
         } => append_range(least, low.as_slice(), greatest, high.as_slice(), out),
         Reply::Groups(lines) => append_groups(lines.as_slice(), out),
         Reply::Tables(lines) => append_tables(lines.as_slice(), out),
+        Reply::Contested(lines) => append_contested(lines.as_slice(), out),
         Reply::KeptLog(proof) => append_proof(alloc, proof, out),
         Reply::Refused(refusal) => append_refusal(refusal, out),
         Reply::Created(_)
@@ -111,6 +117,7 @@ fn append_long(alloc: Global, reply: &Reply, out: &mut Vec<u8>) -> Result<(), No
         | Reply::Deleted(_)
         | Reply::Copied(_)
         | Reply::NoPlan
+        | Reply::Certain
         | Reply::Conflicts(_)
         | Reply::NoLog => Ok(()),
     }
@@ -124,8 +131,7 @@ fn append_rows(rows: &[Row], out: &mut Vec<u8>) -> Result<(), NoMemory>
         row_text(row, out)?;
         append_words("\n", out)?;
     }
-    append_number(rows.len(), out)?;
-    append_words(" rows", out)
+    append_counted(rows.len(), " rows", out)
 }
 
 /// Appends each table on a line of its own, and how many they are.
@@ -135,8 +141,7 @@ fn append_tables(lines: &[TableLine], out: &mut Vec<u8>) -> Result<(), NoMemory>
     for line in lines {
         append_table(line, out)?;
     }
-    append_number(lines.len(), out)?;
-    append_words(" tables", out)
+    append_counted(lines.len(), " tables", out)
 }
 
 /// Appends the line of a table with its line feed.

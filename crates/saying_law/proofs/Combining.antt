@@ -132,6 +132,9 @@ each_after_mark s h = each_behind (mark s) (Mark s) (mark_only s) h
 pub with_marks : (s : Symbol) {A : Type 0} {p : Shape} {f : A → List Lexeme} {V : A → Type 0} → HasTrees p f V → HasTrees (separated (mark s) p) (between (Mark s) f) (λ xs. (0 < length xs) × AllByRecursion V xs)
 with_marks s h = all_between (mark s) (Mark s) (mark_only s) h
 
+pub with_words : (w : List ℕ) {A : Type 0} {p : Shape} {f : A → List Lexeme} {V : A → Type 0} → HasTrees p f V → HasTrees (separated (word w) p) (between (Word w) f) (λ xs. (0 < length xs) × AllByRecursion V xs)
+with_words w h = all_between (word w) (Word w) (word_only w) h
+
 -- a list with a token before each of its items is no longer than its tokens
 fewer : {A : Type 0} (l : Lexeme) (f : A → List Lexeme) (xs : List A) → length xs ≤ length (each_after l f xs)
 fewer l f [] = omega arith
@@ -139,11 +142,8 @@ fewer l f (x ∷ xs) = omega (arith, fewer l f xs, length-append (f x) (each_aft
 
 -- nothing, or what is to hold
 pub of_filter : {A : Type 0} {p : Shape} {f : A → List Lexeme} {V : A → Type 0} → HasTrees p f V → HasTrees (filtered p) (filtered_tokens f) (λ xs. AllByRecursion V xs × (length xs ≤ most_items))
-of_filter {A = A} {p = p} {f = f} {V = V} h = record { tree = λ ls legal s. elim s [ inl a ↦ go ls legal ((after_word (codes "where") anded_all).tree ls legal a) | inr e ↦ ([], e, (tt, omega arith)) ] }
+of_filter {A = A} {p = p} {f = f} {V = V} h = record { tree = λ ls legal s. elim s [ inl a ↦ go ls legal ((after_word (codes "where") (with_words (codes "and") h)).tree ls legal a) | inr e ↦ ([], e, (tt, omega arith)) ] }
   where
-    anded_all : HasTrees (anded p) (between (Word (codes "and")) f) (λ xs. (0 < length xs) × AllByRecursion V xs)
-    anded_all = all_between (word (codes "and")) (Word (codes "and")) (word_only (codes "and")) h
-
     go : (ls : List Lexeme) → AreLegal ls → ((xs : List A) × (ls ≡ Word (codes "where") ∷ between (Word (codes "and")) f xs) × ((0 < length xs) × AllByRecursion V xs))
         → (xs : List A) × (ls ≡ filtered_tokens f xs) × (AllByRecursion V xs × (length xs ≤ most_items))
     go ls legal ([], e, v) = let some : 0 < 0 = v.0 in absurd (omega arith)

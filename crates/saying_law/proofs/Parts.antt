@@ -25,7 +25,7 @@ use Rattle.spj_syntax.specs.declared.tree.Verb.TheVariants as verbs
 use Rattle.spj_syntax.specs.Grammar as grammar
 use Rattle.spj_syntax.specs.Lexemes.{Lexeme, Word, Number, Quoted, Mark}
 use Rattle.spj_syntax.specs.Shapes.{int, text, name, mark, matches, Shape, one, ◌⨾◌}
-use Rattle.spj_syntax.specs.Written.{name_tokens, literal_tokens, column_tokens, listed_tokens, filtered_tokens, op_symbol, test_tokens, col_tokens, cond_tokens, row_tokens, head_tokens, select_tokens, strict_tokens, key_tokens, change_tokens, verb_tokens, goal_tokens, grouped_tokens}
+use Rattle.spj_syntax.specs.Written.{name_tokens, literal_tokens, column_tokens, listed_tokens, filtered_tokens, op_symbol, test_tokens, col_tokens, cond_tokens, row_tokens, head_tokens, select_tokens, strict_tokens, key_tokens, change_tokens, row_for_tokens, verb_tokens, goal_tokens, grouped_tokens}
 use Rattle.spj_syntax.proofs.Naming.{is_name}
 use Rattle.saying_law.proofs.Combining.{IsLegal, AreLegal, HasTrees, Anything, turned, counts_as, both, either, none, a_word, a_mark, after_word, after_mark, with_marks, of_filter}
 
@@ -91,6 +91,9 @@ any_row =
     counts_as (λ x v. (x.0, refl))
     (after_mark s.Open (both (either (counts_as (λ x v. (x, refl)) (listed a_literal)) (counts_as {g = listed_tokens literal_tokens} (λ u v. ([], refl)) none)) (a_mark s.Close)))
 
+row_for : HasTrees grammar.row_for row_for_tokens (Anything (List Value))
+row_for = counts_as (λ x v. (x.0, refl)) (after_word (codes "row") (both any_row (a_word (codes "for"))))
+
 an_operator : HasTrees grammar.op (λ o. Mark (op_symbol o) ∷ []) (Anything Op)
 an_operator =
     either (counts_as (λ u v. (ops.Eq, refl)) (a_mark s.Eq))
@@ -145,10 +148,12 @@ pub a_verb : HasTrees grammar.verb verb_tokens (Anything Verb)
 a_verb =
     either (counts_as (λ u v. (verbs.Ask, refl)) (a_word (codes "ask")))
     (either (counts_as (λ u v. (verbs.Possible, refl)) (a_word (codes "possible")))
+    (either (counts_as (λ u v. (verbs.Disputed, refl)) (a_word (codes "disputed")))
     (either (counts_as (λ u v. (verbs.Classify, refl)) (a_word (codes "classify")))
     (either (counts_as (λ u v. (verbs.Plan, refl)) (a_word (codes "plan")))
     (either (counts_as (λ u v. (verbs.Sql, refl)) (a_word (codes "sql")))
-    (counts_as (λ x v. (verbs.Explain x.0, refl)) (after_word (codes "explain") (after_word (codes "row") (both any_row (a_word (codes "for"))))))))))
+    (either (counts_as (λ row v. (verbs.Explain row, refl)) (after_word (codes "explain") row_for))
+    (counts_as (λ row v. (verbs.Against row, refl)) (after_word (codes "against") row_for))))))))
 
 pub a_goal : HasTrees grammar.goal goal_tokens (Anything RawGoal)
 a_goal =

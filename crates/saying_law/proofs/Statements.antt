@@ -56,7 +56,8 @@ range = counts_as (λ x v. (statements.Range x.0 x.1.0 x.1.1.0 x.1.1.1, refl)) (
 show : HasTrees grammar.show statement_tokens (Anything Statement)
 show =
     either (counts_as (λ u v. (statements.ShowTables, refl)) (after_word (codes "show") (a_word (codes "tables"))))
-    (counts_as (λ u v. (statements.ShowLog, refl)) (after_word (codes "show") (a_word (codes "log"))))
+    (either (counts_as (λ u v. (statements.ShowLog, refl)) (after_word (codes "show") (a_word (codes "log"))))
+    (counts_as (λ u v. (statements.ShowConflicts, refl)) (after_word (codes "show") (a_word (codes "conflicts")))))
 
 asking : HasTrees grammar.asking statement_tokens (Anything Statement)
 asking = counts_as (λ x v. (statements.Asking x.0 x.1, refl)) (both a_verb a_query)

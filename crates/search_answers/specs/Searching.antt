@@ -1,19 +1,21 @@
--- The certain rows of a query, found candidate by candidate, ascending.
-use Rattle.std.specs.Prelude.{◌≡◌, ◌↔◌, ◌⊎◌, ℕ, List, [], ◌∷◌, ◌++◌, Contains}
-use Rattle.std.specs.List.Sorted.{IsStrictlySortedBy}
+-- The rows of a side of a query, found candidate by candidate, ascending.
+use Rattle.std.specs.Prelude.{◌≡◌, ℕ, List, Contains}
 use Rattle.std.specs.declared.cmp.Ordering.TheVariants.{Less}
 use Rattle.cqa_value.specs.declared.value.Value.{Value}
 use Rattle.cqa_value.specs.Values.{row_cmp}
 use Rattle.cqa_model.specs.declared.query.Query.{Query}
 use Rattle.cqa_model.specs.declared.query.RowId.{RowId}
 use Rattle.cqa_model.specs.Database.{Table}
-use Rattle.cqa_model.specs.Certain.{IsCertain, IsCandidate, IsCertainAnswer}
+use Rattle.cqa_model.specs.Certain.{IsCertain, IsCandidate}
 use Rattle.cnf_form.specs.declared.formula.Cnf.{Cnf}
 use Rattle.cnf_form.specs.declared.log.Log.{Log}
 use Rattle.cnf_form.specs.Spent.{IsSpentLog}
 use Rattle.cdcl.specs.declared.outcome.Outcome.{Outcome}
 use Rattle.cdcl.specs.declared.outcome.Outcome.TheVariants as outcome
 use Rattle.join_access.specs.Listing.{HasTooMany}
+use Rattle.row_sides.specs.declared.side.Side.{Side}
+use Rattle.row_sides.specs.Sides.{IsAnswerOf, IsOf}
+use Rattle.row_sides.specs.Sifting.{Sifts, AreSifted}
 use Rattle.repair_clauses.specs.declared.formula.Encoded.{Encoded}
 use Rattle.search_answers.specs.declared.judging.Verdict.{Verdict}
 use Rattle.search_answers.specs.declared.judging.Verdict.TheVariants as verdict
@@ -57,17 +59,16 @@ abbrev pub IsStop : Query → List Table → ℕ → Stop → Type 0
 IsStop q db budget (stop.Over row) = IsCandidate db q row × HasTooMany q db row × NoneBefore q db row
 IsStop q db budget (stop.Spent row cnf log) = IsSpentFor q db budget row cnf log × (HasTooMany q db row → ⊥) × NoneBefore q db row
 
--- the certain answer, where no candidate has too many witnesses; or the search stopped
-abbrev pub IsSearched : Query → List Table → ℕ → Searched → Type 0
-IsSearched q db budget (All answers) = IsCertainAnswer db q answers × ((row : List Value) → IsCandidate db q row → HasTooMany q db row → ⊥)
-IsSearched q db budget (Stopped why) = IsStop q db budget why
+-- the rows of the side, where no candidate has too many witnesses; or the search stopped
+abbrev pub IsSearched : Query → List Table → Side → ℕ → Searched → Type 0
+IsSearched q db side budget (All answers) = IsAnswerOf db q side answers × ((row : List Value) → IsCandidate db q row → HasTooMany q db row → ⊥)
+IsSearched q db side budget (Stopped why) = IsStop q db budget why
 
--- a decided row is put behind the certain ones exactly where it is certain
-abbrev pub Sifts : Query → List Table → List Value → List (List Value) → List (List Value) → Type 0
-Sifts q db row old new = (((new ≡ old ++ row ∷ []) × IsCertain db q row) ⊎ ((new ≡ old) × (IsCertain db q row → ⊥))) × (HasTooMany q db row → ⊥)
+-- a decided row is put behind those of the side exactly where it is one of them
+abbrev pub SiftsDecided : Query → List Table → Side → List Value → List (List Value) → List (List Value) → Type 0
+SiftsDecided q db side row old new = Sifts (IsOf db q side) row old new × (HasTooMany q db row → ⊥)
 
--- the certain ones of decided rows, ascending
-pub record SiftsAll (q : Query) (db : List Table) (rows answers : List (List Value)) : Type 0 where
-  pub ascending : IsStrictlySortedBy row_cmp answers
-  pub exactly : (row : List Value) → Contains answers row ↔ (Contains rows row × IsCertain db q row)
+-- of decided rows those of the side are left, in their order
+pub record SiftsAll (q : Query) (db : List Table) (side : Side) (rows answers : List (List Value)) : Type 0 where
+  pub sifted : AreSifted (IsOf db q side) rows answers
   pub within : (row : List Value) → Contains rows row → HasTooMany q db row → ⊥

@@ -1,4 +1,4 @@
-//! The certain rows of a query that has no plan, by search: each possible row is rejected by rows in no witness, or decided by
+//! The certain rows of a query that has no plan, or the disputed ones, by search: each possible row is rejected by rows in no witness, or decided by
 //! its formula. A first look decides most small formulas. What it leaves open goes to the solver: over classes of rows that are
 //! alike, and then over rows. And why one row is certain or isn't: a refutation of its formula, or a repair.
 #![tactic(auto)]
@@ -18,4 +18,4 @@ mod witness_rows;
 pub use decision::{Decided, decide};
 pub use laws::model_rejects;
 pub use reason::reason_by_search;
-pub use search::{Searched, Stop, certain_by_search};
+pub use search::{Searched, Stop, rows_by_search};

@@ -1,15 +1,16 @@
-//! The certain rows of a query that has no plan: each possible row is decided by its formula, ascending.
+//! The certain rows of a query that has no plan, or the disputed ones: each possible row is decided by its formula, ascending.
 //! The first one that can't be decided ends the search.
 
 ghost use Rattle.std.specs.Prelude.{◌≡◌, [], IfOk, IfSome, IsNone, length};
 ghost use Rattle.repair_clauses.specs.Candidates.{AreCandidates};
-ghost use Rattle.search_answers.specs.Searching.{IsSearched, IsStop, IsStopAt, Sifts, SiftsAll};
+ghost use Rattle.search_answers.specs.Searching.{IsSearched, IsStop, IsStopAt, SiftsAll, SiftsDecided};
 
 use crate::first_look::Room;
 use crate::judging::{Search, Verdict, judge_row};
 use cnf_form::{Cnf, Log};
 use cqa_value::{Items, NoMemory, Row};
 use join_witness::{candidates, lookup_of};
+use row_sides::Side;
 use std::alloc::Global;
 use table_blocks::Bound;
 
@@ -22,25 +23,26 @@ pub enum Stop {
     Spent { row: Row, cnf: Cnf, log: Log },
 }
 
-/// What a search for certain rows comes to.
+/// What a search for the rows of a side comes to.
 #[derive(Debug, Drop)]
 pub enum Searched {
-    /// The certain rows, ascending and each once.
+    /// The rows of the side, ascending and each once.
     All(Items<Row>),
     Stopped(Stop),
 }
 
-/// Puts a row behind the certain ones if it is certain. Says why the search ends, if it does.
+/// Puts a row behind those of the side if it is one of them. Says why the search ends, if it does.
 fn sift(
     alloc: Global,
     search: &mut Search<'_>,
+    side: Side,
     row: Row,
     answers: &mut Vec<Row>,
 ) -> Result<Option<Stop>, NoMemory>
     requires { length row ≡ length search.old.lookup.bound.now.query.now.answer }
     ensures bound { search.new.lookup.bound.now ≡ search.old.lookup.bound.now }
     ensures budget { search.new.budget ≡ search.old.budget }
-    ensures sifted { IfOk result (λ stop. IsNone stop → Sifts search.old.lookup.bound.now.query.now search.old.lookup.bound.now.db.now row answers.old.items answers.new.items) }
+    ensures sifted { IfOk result (λ stop. IsNone stop → SiftsDecided search.old.lookup.bound.now.query.now search.old.lookup.bound.now.db.now side row answers.old.items answers.new.items) }
     ensures stopped { IfOk result (λ stop. IfSome stop (IsStopAt search.old.lookup.bound.now.query.now search.old.lookup.bound.now.db.now search.old.budget row)) }
 {
     match judge_row(alloc, search, &row) {
@@ -49,11 +51,11 @@ fn sift(
             Err(fault)
         }
         Ok(Verdict::Certain) => {
-            answers.push(row)?;
+            side.sift(row, true, answers)?;
             Ok(None)
         }
         Ok(Verdict::Rejected) => {
-            drop(row);
+            side.sift(row, false, answers)?;
             Ok(None)
         }
         Ok(Verdict::Over) => Ok(Some(Stop::Over(row))),
@@ -61,20 +63,21 @@ fn sift(
     }
 }
 
-/// Gathers the certain ones of the possible rows, ascending. Says why the search ends before all are decided, if it does.
+/// Gathers those of the possible rows that are of the side, ascending. Says why the search ends before all are decided, if it does.
 fn sift_all(
     alloc: Global,
     search: &mut Search<'_>,
+    side: Side,
     rows: Vec<Row>,
     answers: &mut Vec<Row>,
 ) -> Result<Option<Stop>, NoMemory>
     requires rows { AreCandidates search.old.lookup.bound.now.query.now search.old.lookup.bound.now.db.now rows.items }
     requires none { answers.old.items ≡ [] }
-    ensures all { IfOk result (λ stop. IsNone stop → SiftsAll search.old.lookup.bound.now.query.now search.old.lookup.bound.now.db.now rows.items answers.new.items) }
+    ensures all { IfOk result (λ stop. IsNone stop → SiftsAll search.old.lookup.bound.now.query.now search.old.lookup.bound.now.db.now side rows.items answers.new.items) }
     ensures stopped { IfOk result (λ stop. IfSome stop (IsStop search.old.lookup.bound.now.query.now search.old.lookup.bound.now.db.now search.old.budget)) }
 {
     for row in rows {
-        let stop = sift(alloc, search, row, answers)?;
+        let stop = sift(alloc, search, side, row, answers)?;
         if stop.is_some() {
             return Ok(stop);
         }
@@ -86,13 +89,14 @@ fn sift_all(
 fn search_rows(
     alloc: Global,
     bound: &Bound<'_>,
+    side: Side,
     budget: u32,
     rows: Vec<Row>,
     answers: &mut Vec<Row>,
 ) -> Result<Option<Stop>, NoMemory>
     requires rows { AreCandidates bound.now.query.now bound.now.db.now rows.items }
     requires none { answers.old.items ≡ [] }
-    ensures all { IfOk result (λ stop. IsNone stop → SiftsAll bound.now.query.now bound.now.db.now rows.items answers.new.items) }
+    ensures all { IfOk result (λ stop. IsNone stop → SiftsAll bound.now.query.now bound.now.db.now side rows.items answers.new.items) }
     ensures stopped { IfOk result (λ stop. IfSome stop (IsStop bound.now.query.now bound.now.db.now budget)) }
 {
     match lookup_of(alloc, bound) {
@@ -103,7 +107,7 @@ fn search_rows(
                 budget,
                 room,
             };
-            let found = sift_all(alloc, &mut search, rows, answers);
+            let found = sift_all(alloc, &mut search, side, rows, answers);
             drop(search);
             found
         }
@@ -114,22 +118,23 @@ fn search_rows(
     }
 }
 
-/// The certain rows of a query, each possible row decided by its formula, by searches of at most `budget`
+/// The rows of a side of a query, each possible row decided by its formula, by searches of at most `budget`
 /// conflicts each, ascending.
 ///
 /// # Errors
 ///
 /// `NoMemory` where memory is refused.
-pub fn certain_by_search(
+pub fn rows_by_search(
     alloc: Global,
     bound: &Bound<'_>,
+    side: Side,
     budget: u32,
 ) -> Result<Searched, NoMemory>
-    ensures { IfOk result (IsSearched bound.now.query.now bound.now.db.now budget) }
+    ensures { IfOk result (IsSearched bound.now.query.now bound.now.db.now side budget) }
 {
     let rows = candidates(alloc, bound)?.into_vec();
     let mut answers = Vec::new(alloc);
-    match search_rows(alloc, bound, budget, rows, &mut answers) {
+    match search_rows(alloc, bound, side, budget, rows, &mut answers) {
         Ok(None) => Ok(Searched::All(Items::from_vec(answers))),
         Ok(Some(stop)) => {
             drop(answers);

@@ -152,7 +152,11 @@ same_asking : Same grammar.asking factored.asking
 same_asking = both (same grammar.verb) same_query
 
 same_show : Same grammar.show factored.show
-same_show = drawn (one (word (codes "show"))) (one (word (codes "tables"))) (one (word (codes "log")))
+same_show =
+    let begin = one (word (codes "show")) in
+    let log = one (word (codes "log")) in
+    let conflicts = one (word (codes "conflicts")) in
+    then (either (same (begin ⨾ one (word (codes "tables")))) (drawn begin log conflicts)) (drawn begin (one (word (codes "tables"))) (log ∣ conflicts))
 
 same_rest : (ps : List Shape) {p q : Shape} → Same p q → Same (grammar.one_of ps p) (grammar.one_of ps q)
 same_rest [] f = f

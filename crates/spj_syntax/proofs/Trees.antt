@@ -23,7 +23,7 @@ use Rattle.spj_syntax.specs.declared.tree.RawCol.{RawCol}
 use Rattle.spj_syntax.specs.declared.tree.RawCond.{RawCond}
 use Rattle.spj_syntax.specs.declared.tree.RawCond.TheVariants.{Join, Test}
 use Rattle.spj_syntax.specs.Lexemes.{Lexeme, Word, Number, Quoted, Mark}
-use Rattle.spj_syntax.specs.Written.{name_tokens, literal_tokens, column_tokens, listed_tokens, row_tokens, schema_tokens, op_symbol, test_tokens, col_tokens_of, col_tokens, cond_tokens, each_after, between, filtered_tokens, head_tokens, select_tokens, verb_tokens, strict_tokens, change_tokens, goal_tokens, grouped_tokens, statement_tokens}
+use Rattle.spj_syntax.specs.Written.{name_tokens, literal_tokens, column_tokens, listed_tokens, row_tokens, schema_tokens, op_symbol, test_tokens, col_tokens_of, col_tokens, cond_tokens, each_after, between, filtered_tokens, head_tokens, select_tokens, row_for_tokens, verb_tokens, strict_tokens, change_tokens, goal_tokens, grouped_tokens, statement_tokens}
 use Rattle.spj_syntax.specs.declared.tree.Change.{Change}
 use Rattle.spj_syntax.specs.declared.tree.Change.TheVariants as changes
 use Rattle.spj_syntax.specs.declared.tree.Select.{Select}
@@ -337,22 +337,27 @@ second_mark : List Lexeme → ℕ
 second_mark [] = 0
 second_mark (l ∷ ls) = mark_of ls
 
+row_for_decodes : (a b : List Value) (r z : List Lexeme) → row_for_tokens a ++ r ≡ row_for_tokens b ++ z → (a ≡ b) × (r ≡ z)
+row_for_decodes a b r z e =
+    let g : (row_tokens a ++ Word (codes "for") ∷ []) ++ r ≡ (row_tokens b ++ Word (codes "for") ∷ []) ++ z = cc in
+    let i = row_decodes a b (Word (codes "for") ∷ r) (Word (codes "for") ∷ z) (sym (append_assoc (row_tokens a) (Word (codes "for") ∷ []) r) ∙ g ∙ append_assoc (row_tokens b) (Word (codes "for") ∷ []) z) in
+    (i.0, (cc (i.1)))
+
 -- the verbs differ in them
 verb_decodes : (a b : Verb) (r z : List Lexeme) → verb_tokens a ++ r ≡ verb_tokens b ++ z → (a ≡ b) × (r ≡ z)
 unfolding mark_of
 verb_decodes verbs.Ask verbs.Ask r z e = (refl, (cc))
 verb_decodes verbs.Possible verbs.Possible r z e = (refl, (cc))
+verb_decodes verbs.Disputed verbs.Disputed r z e = (refl, (cc))
 verb_decodes verbs.Classify verbs.Classify r z e = (refl, (cc))
 verb_decodes verbs.Plan verbs.Plan r z e = (refl, (cc))
 verb_decodes verbs.Sql verbs.Sql r z e = (refl, (cc))
-verb_decodes (verbs.Explain a) (verbs.Explain b) r z e =
-    let g : (row_tokens a ++ Word (codes "for") ∷ []) ++ r ≡ (row_tokens b ++ Word (codes "for") ∷ []) ++ z = cc in
-    let i = row_decodes a b (Word (codes "for") ∷ r) (Word (codes "for") ∷ z) (sym (append_assoc (row_tokens a) (Word (codes "for") ∷ []) r) ∙ g ∙ append_assoc (row_tokens b) (Word (codes "for") ∷ []) z) in
-    (ap verbs.Explain i.0, (cc (i.1)))
+verb_decodes (verbs.Explain a) (verbs.Explain b) r z e = let i = row_for_decodes a b r z (cc) in (ap verbs.Explain i.0, i.1)
+verb_decodes (verbs.Against a) (verbs.Against b) r z e = let i = row_for_decodes a b r z (cc) in (ap verbs.Against i.0, i.1)
 verb_decodes _ _ r z e = absurd (omega (arith, ap mark_of e))
 
 verb_marks : List ℕ
-verb_marks = mark_of (verb_tokens verbs.Ask) ∷ mark_of (verb_tokens verbs.Possible) ∷ mark_of (verb_tokens verbs.Classify) ∷ mark_of (verb_tokens verbs.Plan) ∷ mark_of (verb_tokens verbs.Sql) ∷ mark_of (verb_tokens (verbs.Explain [])) ∷ []
+verb_marks = mark_of (verb_tokens verbs.Ask) ∷ mark_of (verb_tokens verbs.Possible) ∷ mark_of (verb_tokens verbs.Disputed) ∷ mark_of (verb_tokens verbs.Classify) ∷ mark_of (verb_tokens verbs.Plan) ∷ mark_of (verb_tokens verbs.Sql) ∷ mark_of (verb_tokens (verbs.Explain [])) ∷ mark_of (verb_tokens (verbs.Against [])) ∷ []
 
 is_verb : List Lexeme → Bool
 is_verb ls = list_any (λ m. nat_eq m (mark_of ls)) verb_marks
@@ -361,10 +366,12 @@ opens_verb : (v : Verb) (r : List Lexeme) → is_verb (verb_tokens v ++ r) ≡ t
 unfolding is_verb verb_marks mark_of
 opens_verb verbs.Ask r = refl
 opens_verb verbs.Possible r = refl
+opens_verb verbs.Disputed r = refl
 opens_verb verbs.Classify r = refl
 opens_verb verbs.Plan r = refl
 opens_verb verbs.Sql r = refl
 opens_verb (verbs.Explain row) r = refl
+opens_verb (verbs.Against row) r = refl
 
 -- what is told apart from each verb begins with none
 no_verb : (v : Verb) (r ls : List Lexeme) → verb_tokens v ++ r ≡ ls → is_verb ls ≡ false → ⊥
@@ -468,8 +475,13 @@ statement_same (statements.Range f t xs a) (statements.Range g u ys b) e =
 statement_same statements.Dump statements.Dump e = refl
 statement_same statements.ShowTables statements.ShowTables e = refl
 statement_same statements.ShowLog statements.ShowLog e = refl
+statement_same statements.ShowConflicts statements.ShowConflicts e = refl
 statement_same statements.ShowTables statements.ShowLog e = absurd (omega (arith, ap second_mark e))
+statement_same statements.ShowTables statements.ShowConflicts e = absurd (omega (arith, ap second_mark e))
 statement_same statements.ShowLog statements.ShowTables e = absurd (omega (arith, ap second_mark e))
+statement_same statements.ShowLog statements.ShowConflicts e = absurd (omega (arith, ap second_mark e))
+statement_same statements.ShowConflicts statements.ShowTables e = absurd (omega (arith, ap second_mark e))
+statement_same statements.ShowConflicts statements.ShowLog e = absurd (omega (arith, ap second_mark e))
 statement_same (statements.Asking v c) _ e = absurd (no_verb v (select_tokens c) _ e refl)
 statement_same _ (statements.Asking w d) e = absurd (no_verb w (select_tokens d) _ (sym e) refl)
 statement_same _ _ e = absurd (omega (arith, ap mark_of e))

@@ -36,7 +36,7 @@ abbrev pub asking : Shape
 asking = verb ⨾ query
 
 abbrev pub show : Shape
-show = one (word (codes "show")) ⨾ (one (word (codes "tables")) ∣ one (word (codes "log")))
+show = one (word (codes "show")) ⨾ (one (word (codes "tables")) ∣ one (word (codes "log")) ∣ one (word (codes "conflicts")))
 
 -- statements that change nothing
 abbrev pub telling : Shape

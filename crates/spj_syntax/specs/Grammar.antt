@@ -87,12 +87,16 @@ query = head ⨾ one (word (codes "from")) ⨾ listed a_name ⨾ filtered cond
 abbrev pub any_row : Shape
 any_row = one (mark Open) ⨾ optional (listed literal) ⨾ one (mark Close)
 
-abbrev pub explain : Shape
-explain = one (word (codes "explain")) ⨾ one (word (codes "row")) ⨾ any_row ⨾ one (word (codes "for"))
+abbrev pub row_for : Shape
+row_for = one (word (codes "row")) ⨾ any_row ⨾ one (word (codes "for"))
+
+-- what is asked of a row
+abbrev pub row_verb : Shape
+row_verb = one (word (codes "explain")) ⨾ row_for ∣ one (word (codes "against")) ⨾ row_for
 
 -- what is asked of a query
 abbrev pub verb : Shape
-verb = one (word (codes "ask")) ∣ one (word (codes "possible")) ∣ one (word (codes "classify")) ∣ one (word (codes "plan")) ∣ one (word (codes "sql")) ∣ explain
+verb = one (word (codes "ask")) ∣ one (word (codes "possible")) ∣ one (word (codes "disputed")) ∣ one (word (codes "classify")) ∣ one (word (codes "plan")) ∣ one (word (codes "sql")) ∣ row_verb
 
 abbrev pub asking : Shape
 asking = verb ⨾ query
@@ -115,7 +119,7 @@ abbrev pub range : Shape
 range = one (word (codes "range")) ⨾ goal ⨾ one (word (codes "from")) ⨾ a_name ⨾ filtered test ⨾ grouped
 
 abbrev pub show : Shape
-show = one (word (codes "show")) ⨾ one (word (codes "tables")) ∣ one (word (codes "show")) ⨾ one (word (codes "log"))
+show = one (word (codes "show")) ⨾ one (word (codes "tables")) ∣ one (word (codes "show")) ⨾ one (word (codes "log")) ∣ one (word (codes "show")) ⨾ one (word (codes "conflicts"))
 
 -- one of these, or else the rest
 abbrev pub one_of : List Shape → Shape → Shape

@@ -117,14 +117,20 @@ change_tokens changes.SetStrict = Word (codes "set") ∷ Word (codes "strict") �
 change_tokens changes.DropStrict = Word (codes "drop") ∷ Word (codes "strict") ∷ []
 change_tokens (changes.SetKey names) = Word (codes "set") ∷ key_tokens names
 
+-- a row of a query
+abbrev pub row_for_tokens : List Value → List Lexeme
+row_for_tokens row = Word (codes "row") ∷ (row_tokens row ++ Word (codes "for") ∷ [])
+
 -- what is asked of a query
 abbrev pub verb_tokens : Verb → List Lexeme
 verb_tokens verbs.Ask = Word (codes "ask") ∷ []
 verb_tokens verbs.Possible = Word (codes "possible") ∷ []
+verb_tokens verbs.Disputed = Word (codes "disputed") ∷ []
 verb_tokens verbs.Classify = Word (codes "classify") ∷ []
 verb_tokens verbs.Plan = Word (codes "plan") ∷ []
 verb_tokens verbs.Sql = Word (codes "sql") ∷ []
-verb_tokens (verbs.Explain row) = Word (codes "explain") ∷ Word (codes "row") ∷ (row_tokens row ++ Word (codes "for") ∷ [])
+verb_tokens (verbs.Explain row) = Word (codes "explain") ∷ row_for_tokens row
+verb_tokens (verbs.Against row) = Word (codes "against") ∷ row_for_tokens row
 
 -- what is asked of the rows of a table
 abbrev pub goal_tokens : RawGoal → List Lexeme
@@ -150,6 +156,7 @@ statement_tokens (statements.Range goal table tests group) = Word (codes "range"
 statement_tokens statements.Dump = Word (codes "dump") ∷ []
 statement_tokens statements.ShowTables = Word (codes "show") ∷ Word (codes "tables") ∷ []
 statement_tokens statements.ShowLog = Word (codes "show") ∷ Word (codes "log") ∷ []
+statement_tokens statements.ShowConflicts = Word (codes "show") ∷ Word (codes "conflicts") ∷ []
 
 abbrev pub IsSome : {A : Type 0} → List A → Type 0
 IsSome xs = 0 < length xs

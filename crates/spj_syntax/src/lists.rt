@@ -6,7 +6,7 @@ ghost use Rattle.spj_syntax.specs.Limits.{most_items, most_tokens};
 ghost use Rattle.spj_syntax.specs.Lexemes.{Mark};
 ghost use Rattle.spj_syntax.specs.Shapes.{mark, one, ◌⨾◌};
 ghost use Rattle.spj_syntax.specs.Walk.{Opens};
-ghost use Rattle.spj_syntax.specs.Written.{between, listed_tokens, filtered_tokens, literal_tokens, column_tokens, side_tokens};
+ghost use Rattle.spj_syntax.specs.Written.{between, listed_tokens, anded_tokens, filtered_tokens, literal_tokens, column_tokens, side_tokens};
 ghost use Rattle.cqa_model.specs.Valid.{IsName};
 ghost use Rattle.spj_syntax.specs.Grammar as grammar;
 ghost use Rattle.spj_syntax.specs.Factored as factored;
@@ -107,6 +107,15 @@ pub fn listed<P: Piece>(alloc: Global, reader: &mut Reader<'_>) -> Result<Items<
     separated(alloc, reader, Between::Comma, room)
 }
 
+/// One or more with `and` between them.
+fn anded<P: Piece>(alloc: Global, reader: &mut Reader<'_>) -> Result<Items<P>, Stop>
+    ensures reads { Reads (grammar.anded P.shape) (anded_tokens P.tokens) result reader.old reader.new }
+    ensures some { IfOk result (λ v. 0 < length v) }
+    ensures few { IfOk result (λ v. length v ≤ most_items) }
+{
+    separated(alloc, reader, Between::And, 0)
+}
+
 /// What follows `where`, or nothing.
 pub fn filtered<P: Piece>(alloc: Global, reader: &mut Reader<'_>) -> Result<Items<P>, Stop>
     ensures few { IfOk result (λ v. length v ≤ most_items) }
@@ -114,7 +123,7 @@ pub fn filtered<P: Piece>(alloc: Global, reader: &mut Reader<'_>) -> Result<Item
 {
     if reader.sees_word(b"where") {
         reader.advance();
-        return separated(alloc, reader, Between::And, 0);
+        return anded(alloc, reader);
     }
     Ok(Items::new(alloc))
 }

@@ -6,7 +6,7 @@ ghost use Rattle.spj_syntax.specs.Lexemes.{Word, Number, Mark};
 ghost use Rattle.spj_syntax.specs.Limits.{most_items};
 ghost use Rattle.spj_syntax.specs.Reading.{Reads, Took, body_tokens};
 ghost use Rattle.spj_syntax.specs.Shapes.{◌⨾◌};
-ghost use Rattle.spj_syntax.specs.Written.{strict_tokens, key_tokens, change_tokens, HasKey, head_tokens, select_tokens, verb_tokens, goal_tokens, filtered_tokens, test_tokens, grouped_tokens, statement_tokens, listed_tokens, literal_tokens, name_tokens, row_tokens, IsSmall};
+ghost use Rattle.spj_syntax.specs.Written.{strict_tokens, key_tokens, change_tokens, HasKey, head_tokens, select_tokens, row_for_tokens, verb_tokens, goal_tokens, filtered_tokens, test_tokens, grouped_tokens, statement_tokens, listed_tokens, literal_tokens, name_tokens, row_tokens, IsSmall};
 ghost use Rattle.cqa_model.specs.Valid.{IsName};
 ghost use Rattle.spj_syntax.specs.Grammar as grammar;
 ghost use Rattle.spj_syntax.specs.Factored as factored;
@@ -179,18 +179,31 @@ fn any_row(alloc: Global, reader: &mut Reader<'_>) -> Result<Row, Stop>
     Ok(row)
 }
 
-/// `explain row ROW for`.
-fn explain(alloc: Global, reader: &mut Reader<'_>) -> Result<Verb, Stop>
-    ensures { Reads grammar.explain verb_tokens result reader.old reader.new }
+/// `row ROW for`.
+fn row_for(alloc: Global, reader: &mut Reader<'_>) -> Result<Row, Stop>
+    ensures { Reads grammar.row_for row_for_tokens result reader.old reader.new }
 {
-    reader.word(b"explain")?;
     reader.word(b"row")?;
     let row = any_row(alloc, reader)?;
     reader.word(b"for")?;
-    Ok(Verb::Explain { row })
+    Ok(row)
 }
 
-/// `ask`, `possible`, `classify`, `plan`, `sql`, or `explain row ROW for`.
+/// `explain row ROW for` or `against row ROW for`.
+fn row_verb(alloc: Global, reader: &mut Reader<'_>) -> Result<Verb, Stop>
+    ensures { Reads grammar.row_verb verb_tokens result reader.old reader.new }
+{
+    if reader.sees_word(b"explain") {
+        reader.advance();
+        let explained = row_for(alloc, reader)?;
+        return Ok(Verb::Explain { row: explained });
+    }
+    reader.word(b"against")?;
+    let row = row_for(alloc, reader)?;
+    Ok(Verb::Against { row })
+}
+
+/// `ask`, `possible`, `disputed`, `classify`, `plan`, `sql`, `explain row ROW for` or `against row ROW for`.
 fn verb(alloc: Global, reader: &mut Reader<'_>) -> Result<Verb, Stop>
     ensures { Reads grammar.verb verb_tokens result reader.old reader.new }
 {
@@ -201,6 +214,10 @@ fn verb(alloc: Global, reader: &mut Reader<'_>) -> Result<Verb, Stop>
     if reader.sees_word(b"possible") {
         reader.advance();
         return Ok(Verb::Possible);
+    }
+    if reader.sees_word(b"disputed") {
+        reader.advance();
+        return Ok(Verb::Disputed);
     }
     if reader.sees_word(b"classify") {
         reader.advance();
@@ -214,7 +231,7 @@ fn verb(alloc: Global, reader: &mut Reader<'_>) -> Result<Verb, Stop>
         reader.advance();
         return Ok(Verb::Sql);
     }
-    explain(alloc, reader)
+    row_verb(alloc, reader)
 }
 
 /// A verb and a query.
@@ -304,7 +321,7 @@ fn range(alloc: Global, reader: &mut Reader<'_>) -> Result<Statement, Stop>
     })
 }
 
-/// `show tables` or `show log`.
+/// `show tables`, `show log` or `show conflicts`.
 fn show(reader: &mut Reader<'_>) -> Result<Statement, Stop>
     ensures reads { Reads factored.show statement_tokens result reader.old reader.new }
     ensures small { IfOk result (λ s. IsSmall s) }
@@ -314,8 +331,12 @@ fn show(reader: &mut Reader<'_>) -> Result<Statement, Stop>
         reader.advance();
         return Ok(Statement::ShowTables);
     }
-    reader.word(b"log")?;
-    Ok(Statement::ShowLog)
+    if reader.sees_word(b"log") {
+        reader.advance();
+        return Ok(Statement::ShowLog);
+    }
+    reader.word(b"conflicts")?;
+    Ok(Statement::ShowConflicts)
 }
 
 /// `set conflicts NUMBER`: the digits of its number.

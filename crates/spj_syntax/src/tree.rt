@@ -60,16 +60,18 @@ pub struct Select {
     pub ghost few: { length conds ≤ most_items },
 }
 
-/// What is asked of a query: its certain rows, its possible rows, its class, its plan, its certain rows as one query in SQL,
-/// or why a row isn't certain.
+/// What is asked of a query: its certain rows, its possible rows, those of them that aren't certain, its class, its plan, its
+/// certain rows as one query in SQL, why a row isn't certain, or which rows are against it.
 #[derive(Drop)]
 pub enum Verb {
     Ask,
     Possible,
+    Disputed,
     Classify,
     Plan,
     Sql,
     Explain { row: Row },
+    Against { row: Row },
 }
 
 /// What a `range` asks of the rows of a table: their number, or the sum, the least or the greatest value of a column.
@@ -116,4 +118,5 @@ pub enum Statement {
     Dump,
     ShowTables,
     ShowLog,
+    ShowConflicts,
 }

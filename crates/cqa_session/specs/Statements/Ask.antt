@@ -1,53 +1,10 @@
 -- `ask`
-use Rattle.std.specs.Prelude.{◌≡◌, ℕ, List}
-use Rattle.cqa_value.specs.declared.value.Value.{Value}
-use Rattle.cqa_model.specs.declared.query.Query.{Query}
-use Rattle.refusals.specs.declared.refusal.Refusal.{Refusal}
-use Rattle.refusals.specs.declared.refusal.Refusal.TheVariants.{WitnessLimit, Spent}
-use Rattle.cqa_model.specs.Database.{Table}
-use Rattle.cqa_model.specs.Certain.{IsCandidate, IsCertainAnswer}
-use Rattle.join_access.specs.Listing.{HasTooMany}
-use Rattle.search_answers.specs.declared.search.Searched.{Searched}
-use Rattle.search_answers.specs.declared.search.Searched.TheVariants.{All, Stopped}
-use Rattle.search_answers.specs.Searching.{NoneBefore, IsStop}
-use Rattle.query_strategy.specs.Strategies.{NeedsSearch}
 use Rattle.spj_syntax.specs.declared.tree.Select.{Select}
-use Rattle.query_resolve.specs.Resolved.{IsQueryOf}
+use Rattle.row_sides.specs.declared.side.Side.TheVariants.{Certain}
 use Rattle.reply_text.specs.declared.reply.Reply.{Reply}
-use Rattle.reply_text.specs.declared.reply.Reply.TheVariants.{Rows, Refused}
 use Rattle.cqa_session.specs.State.{State}
-use Rattle.cqa_session.specs.Statements.Spent.{SpendsAt}
-
--- no candidate has more witnesses than a search takes
-abbrev pub IsWithin : List Table → Query → Type 0
-IsWithin db q = (row : List Value) → IsCandidate db q row → HasTooMany q db row → ⊥
-
--- What the method of a query comes to: its certain answer, where it needs search, only while no candidate has too many
--- witnesses; or where a search stopped.
-abbrev pub FindsCertain : Query → List Table → ℕ → Searched → Type 0
-FindsCertain q db budget (All rows) = IsCertainAnswer db q rows × (NeedsSearch q → IsWithin db q)
-FindsCertain q db budget (Stopped why) = NeedsSearch q × IsStop q db budget why
-
--- the row is the first candidate with too many witnesses
-abbrev pub IsFirstOver : List Table → Query → List Value → Type 0
-IsFirstOver db q row = IsCandidate db q row × HasTooMany q db row × NoneBefore q db row
-
--- What is refused to a query that needs search: the first candidate with too many witnesses, or a candidate for which
--- the budget is used up, where none up to it has too many.
-abbrev pub StopsAt : State → Query → Refusal → State → Type 0
-StopsAt old q (WitnessLimit row) new = IsFirstOver old.tables q row × (new ≡ old)
-StopsAt old q (Spent row conflicts) new = SpendsAt old q row conflicts new × (HasTooMany q old.tables row → ⊥) × NoneBefore q old.tables row
-StopsAt old q _ new = ⊥
-
--- What is answered to a query: its certain answer, and where it needs search, only while no candidate has too many
--- witnesses; else the refusal. A query that needs none is never refused so.
-abbrev pub TellsCertain : State → Query → Reply → State → Type 0
-TellsCertain old q (Rows rows) new = IsCertainAnswer old.tables q rows × (NeedsSearch q → IsWithin old.tables q) × (new ≡ old)
-TellsCertain old q (Refused refusal) new = NeedsSearch q × StopsAt old q refusal new
-TellsCertain old q _ new = ⊥
+use Rattle.cqa_session.specs.Statements.Sides.{AnswersSide}
 
 -- The reply is the certain answer of the query, or says where a search stopped.
-pub record AnswersCertain (old : State) (select : Select) (reply : Reply) (new : State) : Type 0 where
-  pub query : Query
-  pub resolved : IsQueryOf old.tables select query
-  pub told : TellsCertain old query reply new
+abbrev pub AnswersCertain : State → Select → Reply → State → Type 0
+AnswersCertain old select reply new = AnswersSide old select Certain reply new

@@ -6,13 +6,14 @@ ghost use Rattle.repair_back.specs.Results.{AreStored};
 ghost use Rattle.weak_pairs.specs.Pairs.{IsPair};
 ghost use Rattle.query_strategy.specs.Strategies.{HasNoPlan};
 ghost use Rattle.query_resolve.specs.Checks.{query_fault, answer_fault};
-ghost use Rattle.cqa_session.specs.Reasons.{IsReason, IsUntold, IsStopped};
+ghost use Rattle.cqa_session.specs.Reasons.{IsReason, IsStopped};
 ghost use Rattle.cqa_session.specs.Replying.{Replies, IsOutcome};
 ghost use Rattle.cqa_session.specs.Statements.Kept.{name_at, kept_line};
 ghost use Rattle.cqa_session.specs.Statements.Explain.{MayTell, Explains};
 
 use crate::Session;
 use crate::statements::kept::{kept_rows, name_of};
+use crate::statements::untold::refuse_row;
 use cqa_model::{Query, RowId};
 use cqa_value::{Fail, Items, NoMemory, Row};
 use join_access::TooMany;
@@ -127,41 +128,6 @@ fn reply_to(
     }
 }
 
-/// The refusal of a row whose reason isn't told. Where the budget is used up, its formula is kept with the spent log.
-fn stopped(session: &mut Session, _query: &Query, row: Row, stop: Untold) -> Refusal
-    requires { IsUntold session.old.tables _query.now row session.old.budget stop }
-    ensures { MayTell session.old _query.now row (Reply.Refused result) session.new }
-{
-    match stop {
-        Untold::Over => Refusal::WitnessLimit { row },
-        Untold::Spent { cnf, log } => {
-            let conflicts = session.budget();
-            session.keep_log(Proof { cnf, log });
-            Refusal::Spent { row, conflicts }
-        }
-    }
-}
-
-/// The refusal of a row whose reason isn't told, for a row that stays with its caller.
-fn refused(
-    alloc: Global,
-    session: &mut Session,
-    query: &Query,
-    row: &Row,
-    stop: Untold,
-) -> Result<Reply, Fail<Refusal>>
-    requires { IsUntold session.old.tables query.now row.now session.old.budget stop }
-    ensures { IsOutcome result session.old (MayTell session.old query.now row.now) session.new }
-{
-    match row.copy(alloc) {
-        Ok(row) => Err(Fail::Refused(stopped(session, query, row, stop))),
-        Err(NoMemory) => {
-            drop(stop);
-            Err(Fail::NoMemory)
-        }
-    }
-}
-
 /// Tells why a row is certain, or why it isn't, or what keeps that from being told.
 fn tell(
     alloc: Global,
@@ -176,7 +142,7 @@ fn tell(
 {
     match found {
         Ok(reason) => reply_to(alloc, session, query, row, reason),
-        Err(Fail::Refused(stop)) => refused(alloc, session, query, row, stop),
+        Err(Fail::Refused(stop)) => Err(refuse_row(alloc, session, row, stop)),
         Err(Fail::NoMemory) => Err(Fail::NoMemory),
     }
 }

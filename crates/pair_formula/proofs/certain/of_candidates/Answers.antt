@@ -1,7 +1,7 @@
 use Rattle.std.proofs.Common.{sym, subst}
-use Rattle.cqa_model.specs.Certain.{IsCertainAnswer}
+use Rattle.row_sides.specs.Sides.{IsAnswerOf}
+use Rattle.row_sides.proofs.Sieving.{answer-of}
 use Rattle.repair_clauses.proofs.Candidates.{candidates_are}
-use Rattle.pair_formula.proofs.Sieving.{answer-is}
 use Rattle.pair_formula.proofs.certain.of_candidates.Goals as goal
 
 pub sift_rows-requires-clause-rows : goal.sift_rows-requires-clause-rows
@@ -14,4 +14,4 @@ returns-in-Ok c =
     let db = c.args.pair.now.bound.now.db.now in
     let rows = c.into_vec-rows.result.items in
     let are = candidates_are q db c.in_ok-candidates.field-0 rows c.into_vec-rows.ensures c.in_ok-candidates.ensures.possible c.in_ok-candidates.ensures.candidates in
-    subst (IsCertainAnswer db q) (sym c.from_vec.ensures) (answer-is db q c.args.pair.now.bound.now.fits rows c.sift_rows.new.answers.items are c.in-Ok.ensures)
+    subst (IsAnswerOf db q c.args.side) (sym c.from_vec.ensures) (answer-of db q c.args.pair.now.bound.now.fits rows c.sift_rows.new.answers.items are.ascending are.exactly c.args.side c.in-Ok.ensures)

@@ -3,7 +3,8 @@ use Rattle.table_blocks.specs.declared.bound.Bound.{Bound}
 use Rattle.weak_pairs.specs.Pairs.{IsPair}
 use Rattle.pair_answers.proofs.Told.{pair-told}
 use Rattle.repair_clauses.specs.Candidates.{AreCandidates}
-use Rattle.pair_formula.specs.Sifting.{AreSifted}
+use Rattle.row_sides.specs.Sides.{IsOf}
+use Rattle.row_sides.specs.Sifting.{AreSifted}
 use Rattle.pair_formula.proofs.certain.sift_rows.Goals as goal
 
 pub sift_all-sifted-requires-clause-pair : goal.sift_all-sifted-requires-clause-pair
@@ -15,4 +16,4 @@ pub sift_all-sifted-requires-clause-rows : goal.sift_all-sifted-requires-clause-
 sift_all-sifted-requires-clause-rows c = subst (λ (b : Bound). AreCandidates b.query.now b.db.now c.args.rows.items) (sym c.in-Ok.ensures) c.requires.rows
 
 pub returns-in-Ok : goal.returns-in-Ok
-returns-in-Ok c = subst (λ (b : Bound). OnOk c.sift_all-sifted.result (AreSifted b.db.now b.query.now c.args.rows.items c.sift_all-sifted.new.answers.items)) c.in-Ok.ensures c.sift_all-sifted.ensures
+returns-in-Ok c = subst (λ (b : Bound). OnOk c.sift_all-sifted.result (AreSifted (IsOf b.db.now b.query.now c.args.side) c.args.rows.items c.sift_all-sifted.new.answers.items)) c.in-Ok.ensures c.sift_all-sifted.ensures

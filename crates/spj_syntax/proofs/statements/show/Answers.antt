@@ -8,8 +8,11 @@ returns-in_err-word-clause-reads c = exit _ _ c.from_residual.ensures.1 (fails_f
 pub returns-then-sees_word-clause-reads : goal.returns-then-sees_word-clause-reads
 returns-then-sees_word-clause-reads c = took_both c.in_ok-word.ensures (took_left c.if-sees_word.ensures (word_took c.if-sees_word.ensures c.advance.ensures)) refl
 
+pub returns-then-sees_word-2-clause-reads : goal.returns-then-sees_word-2-clause-reads
+returns-then-sees_word-2-clause-reads c = took_both c.in_ok-word.ensures (took_right refl c.if-sees_word.ensures (took_left c.if-sees_word-2.ensures (word_took c.if-sees_word-2.ensures c.advance-then-sees_word-2.ensures))) refl
+
 pub returns-in_err-word-2-clause-reads : goal.returns-in_err-word-2-clause-reads
-returns-in_err-word-2-clause-reads c = exit _ _ c.from_residual-in_err-word-2.ensures.1 (fails_then c.in_ok-word.ensures (fails_right refl c.if-sees_word.ensures c.in_err-word-2.ensures))
+returns-in_err-word-2-clause-reads c = exit _ _ c.from_residual-in_err-word-2.ensures.1 (fails_then c.in_ok-word.ensures (fails_right refl c.if-sees_word.ensures (fails_right refl c.if-sees_word-2.ensures c.in_err-word-2.ensures)))
 
 pub returns-clause-reads : goal.returns-clause-reads
-returns-clause-reads c = took_both c.in_ok-word.ensures (took_right refl c.if-sees_word.ensures c.in_ok-word-2.ensures) refl
+returns-clause-reads c = took_both c.in_ok-word.ensures (took_right refl c.if-sees_word.ensures (took_right refl c.if-sees_word-2.ensures c.in_ok-word-2.ensures)) refl

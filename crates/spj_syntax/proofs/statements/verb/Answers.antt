@@ -18,5 +18,8 @@ returns-then-sees_word-4 c = took_right refl c.if-sees_word.ensures (took_right 
 pub returns-then-sees_word-5 : goal.returns-then-sees_word-5
 returns-then-sees_word-5 c = took_right refl c.if-sees_word.ensures (took_right refl c.if-sees_word-2.ensures (took_right refl c.if-sees_word-3.ensures (took_right refl c.if-sees_word-4.ensures (took_left c.if-sees_word-5.ensures (word_took c.if-sees_word-5.ensures c.advance-then-sees_word-5.ensures)))))
 
+pub returns-then-sees_word-6 : goal.returns-then-sees_word-6
+returns-then-sees_word-6 c = took_right refl c.if-sees_word.ensures (took_right refl c.if-sees_word-2.ensures (took_right refl c.if-sees_word-3.ensures (took_right refl c.if-sees_word-4.ensures (took_right refl c.if-sees_word-5.ensures (took_left c.if-sees_word-6.ensures (word_took c.if-sees_word-6.ensures c.advance-then-sees_word-6.ensures))))))
+
 pub returns : goal.returns
-returns c = reads_right _ verb_tokens c.explain.result _ refl c.if-sees_word.ensures (reads_right _ verb_tokens c.explain.result _ refl c.if-sees_word-2.ensures (reads_right _ verb_tokens c.explain.result _ refl c.if-sees_word-3.ensures (reads_right _ verb_tokens c.explain.result _ refl c.if-sees_word-4.ensures (reads_right _ verb_tokens c.explain.result _ refl c.if-sees_word-5.ensures c.explain.ensures))))
+returns c = reads_right _ verb_tokens c.row_verb.result _ refl c.if-sees_word.ensures (reads_right _ verb_tokens c.row_verb.result _ refl c.if-sees_word-2.ensures (reads_right _ verb_tokens c.row_verb.result _ refl c.if-sees_word-3.ensures (reads_right _ verb_tokens c.row_verb.result _ refl c.if-sees_word-4.ensures (reads_right _ verb_tokens c.row_verb.result _ refl c.if-sees_word-5.ensures (reads_right _ verb_tokens c.row_verb.result _ refl c.if-sees_word-6.ensures c.row_verb.ensures)))))

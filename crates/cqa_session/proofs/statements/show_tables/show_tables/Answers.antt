@@ -9,7 +9,7 @@ pub loop-table-preserved : goal.loop-table-preserved
 loop-table-preserved c =
     let db = c.database-database.result.now in
     subst (λ lines. AllZip IsTableLine (take (c.loop-table.table + 1) db) lines) (sym c.in_ok-push.ensures.ok)
-    (next_line db c.loop-table.lines c.loop-table.table c.in_ok-table_line.field-0 (subst (λ n. c.loop-table.table < n) c.count-table-end.ensures.count c.loop-table-test.true) c.loop-table.invariant c.in_ok-table_line.ensures)
+    (next_line IsTableLine db c.loop-table.lines c.loop-table.table c.in_ok-table_line.field-0 (subst (λ n. c.loop-table.table < n) c.count-table-end.ensures.count c.loop-table-test.true) c.loop-table.invariant c.in_ok-table_line.ensures)
 
 pub returns : goal.returns
 returns c =

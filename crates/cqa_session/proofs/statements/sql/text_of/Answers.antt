@@ -1,9 +1,8 @@
-use Rattle.std.proofs.Common.{◌≡◌, ◌∙◌, IfOk, ap, map, subst}
-use Rattle.cqa_model.specs.declared.query.Atom.{Atom}
+use Rattle.std.proofs.Common.{◌≡◌, IfOk, subst}
 use Rattle.sql_text.specs.declared.names.Names.{Names}
 use Rattle.plan_sql.specs.Statement.{sql_of as sql_by}
 use Rattle.sql_text.specs.Texts.{sql_bytes}
-use Rattle.cqa_session.specs.Statements.Sql.{column_names, names_in}
+use Rattle.cqa_session.specs.Statements.Sql.{names_in}
 use Rattle.cqa_session.proofs.statements.sql.text_of.Goals as goal
 
 pub returns : goal.returns

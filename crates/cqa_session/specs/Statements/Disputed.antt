@@ -1,0 +1,10 @@
+-- `disputed`
+use Rattle.spj_syntax.specs.declared.tree.Select.{Select}
+use Rattle.row_sides.specs.declared.side.Side.TheVariants.{Disputed}
+use Rattle.reply_text.specs.declared.reply.Reply.{Reply}
+use Rattle.cqa_session.specs.State.{State}
+use Rattle.cqa_session.specs.Statements.Sides.{AnswersSide}
+
+-- The reply is the disputed rows of the query, those that are possible and not certain, or says where a search stopped.
+abbrev pub AnswersDisputed : State → Select → Reply → State → Type 0
+AnswersDisputed old select reply new = AnswersSide old select Disputed reply new

@@ -1,0 +1,2 @@
+pub mod Sieving
+mod Leaving

@@ -1,0 +1,9 @@
+pub mod Choosing
+pub mod Ending
+pub mod Hitting
+pub mod Own
+pub mod Parting
+pub mod Pushing
+pub mod Reading
+pub mod Rejecting
+pub mod Walking

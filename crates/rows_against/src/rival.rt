@@ -1,0 +1,110 @@
+//! The kept row of a block, where it is another than a given one, among names in order.
+//! It is found by halving, so that names that matter for no witness aren't walked.
+
+ghost use Rattle.std.specs.Prelude.{◌≡◌, ◌≤◌, ◌<◌, ◌↔◌, ℕ, IfOk, IsTrue, length, slice_index};
+ghost use Rattle.std.specs.List.Sorted.{IsStrictlySortedBy};
+ghost use Rattle.cqa_model.specs.Database.{block_cmp};
+ghost use Rattle.rows_against.specs.Parts.{AreApart, AreOthers, IsBelow, IsInBlock, IsOtherIn, IsPart, name_at};
+
+use cqa_model::RowId;
+use cqa_value::NoMemory;
+use row_blocks::goes_on;
+use row_pieces::Rows;
+use std::alloc::Global;
+
+/// Whether a name is of a table, at a place before another.
+fn is_below(names: &[RowId], at: usize, table: u32, place: u32) -> bool
+    requires { at < length names.now }
+    ensures { IsTrue result ↔ IsBelow names.now table place at }
+{
+    let name = names[at];
+    name.table == table && name.place < place
+}
+
+/// The index behind the names of a table that are at places before another, where those of the table come first from an
+/// index on.
+pub(crate) fn first_from(names: &[RowId], from: usize, table: u32, place: u32) -> usize
+    requires { IsPart names.now from table }
+    ensures after { from ≤ result }
+    ensures within { result ≤ length names.now }
+    ensures before { (k : ℕ) → from ≤ k → k < result → IsBelow names.now table place k }
+    ensures behind { (k : ℕ) → result ≤ k → k < length names.now → IsBelow names.now table place k → ⊥ }
+{
+    let mut low = from;
+    let mut high = names.len();
+    while low < high {
+        let middle = low + (high - low) / 2;
+        if is_below(names, middle, table, place) {
+            low = middle + 1;
+        } else {
+            high = middle;
+        }
+    }
+    low
+}
+
+/// Whether a name is of the block of a row.
+fn is_in_block(rows: &Rows<'_>, key: &[u32], names: &[RowId], at: usize, own: RowId) -> bool
+    requires there { own.place < length rows.now }
+    requires stored { at < length names.now → (name_at names.now at).table ≡ own.table → (name_at names.now at).place < length rows.now }
+    ensures { IsTrue result ↔ IsInBlock key.now rows.now names.now own at }
+{
+    at < names.len()
+        && names[at].table == own.table
+        && goes_on(rows, key, names[at].place as usize, own.place as usize)
+}
+
+/// The number of the name that is another row of a row's block.
+fn rival_of(rows: &Rows<'_>, key: &[u32], names: &[RowId], from: usize, own: RowId) -> Option<usize>
+    requires order { IsStrictlySortedBy (block_cmp key.now) rows.now }
+    requires there { own.place < length rows.now }
+    requires part { IsPart names.now from own.table }
+    requires apart { AreApart key.now rows.now names.now from own.table }
+    ensures { IsOtherIn key.now rows.now names.now from own result }
+{
+    let at = first_from(names, from, own.table, own.place);
+    if is_in_block(rows, key, names, at, own) {
+        return if names[at].place == own.place {
+            None
+        } else {
+            Some(at)
+        };
+    }
+    if at > from && is_in_block(rows, key, names, at - 1, own) {
+        Some(at - 1)
+    } else {
+        None
+    }
+}
+
+/// The numbers of the names that are other rows of the blocks of a table's rows at some places.
+///
+/// # Errors
+///
+/// `NoMemory` where memory is refused.
+pub(crate) fn rivals_of(
+    alloc: Global,
+    rows: &Rows<'_>,
+    key: &[u32],
+    names: &[RowId],
+    from: usize,
+    table: u32,
+    places: &[u32],
+) -> Result<Vec<Option<usize>>, NoMemory>
+    requires order { IsStrictlySortedBy (block_cmp key.now) rows.now }
+    requires there { (i : ℕ) → i < length places.now → slice_index places.now i < length rows.now }
+    requires part { IsPart names.now from table }
+    requires apart { AreApart key.now rows.now names.now from table }
+    ensures size { IfOk result (λ found. length found.items ≡ length places.now) }
+    ensures others { IfOk result (λ found. AreOthers key.now rows.now names.now from table places.now found.items) }
+{
+    let mut found = Vec::with_capacity(alloc, places.len())?;
+    for place in places {
+        let own = RowId {
+            table,
+            place: *place,
+        };
+        found.push(rival_of(rows, key, names, from, own))?;
+    }
+    Ok(found)
+}
