@@ -84,6 +84,23 @@ def deletes(n):
     return made[0] + gone, made[1] + gone
 
 
+def twos(n):
+    """The load of a table of n / 2 keys of two rows."""
+    return join(tables(["r"], ["k", "v"], "k"), inserts("r", [(k, v) for k in range(n // 2) for v in (0, 1)]))
+
+
+def shown_tables(n):
+    """100 times the numbers of rows and blocks of n rows."""
+    ours, theirs = twos(n)
+    return ours + ["show tables;"] * 100, theirs + ["select count(*), count(distinct k) from r;"] * 100
+
+
+def shown_conflicts(n):
+    """100 times the same, with the number of keys of two rows."""
+    ours, theirs = twos(n)
+    return ours + ["show conflicts;"] * 100, theirs + ["select sum(c), count(*), sum(c > 1) from (select count(*) as c from r group by k);"] * 100
+
+
 def one_by_key(n):
     """1,000 statements that find one row of n by its key."""
     made = join(tables(["r"], ["k", "v"], "k"), inserts("r", [(k, k % 7) for k in range(n)]))
@@ -166,6 +183,38 @@ def persons_and_towns(n):
                  "(select 1 from town u where u.city = t.city and u.zone <> 1)));")
     ask = "ask select id from person, town where person.city = town.city and zone = 1;"
     return made[0] + [ask], made[1] + [rewriting]
+
+
+PERSONS = "from person, town where person.city = town.city and zone = 1"
+
+
+def persons_asked_twice(n):
+    """The same persons and towns: the certain rows and the possible ones."""
+    ours, theirs = persons_and_towns(n)
+    return ours + ["possible select id %s;" % PERSONS], theirs + ["select distinct id %s;" % PERSONS]
+
+
+def persons_disputed(n):
+    """The same: the rows that are possible and not certain."""
+    ours, theirs = persons_and_towns(n)
+    return ours[:-1] + ["disputed select id %s;" % PERSONS], theirs[:-1] + ["select id %s except %s" % (PERSONS, theirs[-1])]
+
+
+def strong_cycle_disputed(n):
+    """The same as a strong cycle: the possible rows that aren't certain."""
+    ours, theirs = strong_cycle(n)
+    return ours[:-1] + [ours[-1].replace("ask", "disputed", 1)], theirs
+
+
+def against_one_person(n):
+    """The same: what stands against one person."""
+    ours, _ = persons_and_towns(n)
+    return ours[:-1] + ["against row (1) for select id %s;" % PERSONS], None
+
+
+def against_all(n):
+    """What stands against an `exists` over n / 2 keys of two rows, one of which meets: the other row of each key."""
+    return twos(n)[0] + ["against row () for exists from r where v = 1;"], None
 
 
 def strong_cycle(n):
@@ -301,6 +350,8 @@ LOADS = [
     ("inserts and asks by key in turn, random", random_turns, 50000),
     ("every second row deleted by key", deletes, 20000),
     ("1,000 asks by key, with the load", one_by_key, 250000),
+    ("tables shown 100 times", shown_tables, 100000),
+    ("conflicts shown 100 times", shown_conflicts, 100000),
     ("two tables joined off their keys", two_tables, 100000),
     ("a chain of three, from its front", chain_from_the_front, 20000),
     ("a chain of three, from its back", chain_from_the_back, 20000),
@@ -311,10 +362,15 @@ LOADS = [
     ("a load of one column, random", random_load, 250000),
     ("a load of two columns, random", random_load_of_two, 250000),
     ("certain rows of a join, by a plan", persons_and_towns, 20000),
+    ("certain and possible rows of the same join", persons_asked_twice, 20000),
+    ("disputed rows of the same join", persons_disputed, 20000),
+    ("what stands against one row of the same join", against_one_person, 20000),
+    ("what stands against an exists, a row of each key", against_all, 20000),
     ("certain rows of a path of three, by a plan", path_of_three, 25000),
     ("certain rows of a star with four dimensions, by a plan", star, 25000),
     ("certain rows of a join off keys, by a plan", join_off_keys, 25000),
     ("certain rows of a strong cycle, by formulas", strong_cycle, 20000),
+    ("disputed rows of the same cycle", strong_cycle_disputed, 20000),
     ("a weak cycle of two tables, without a search", weak_cycle, 25000),
     ("a weak cycle of two tables, shuffled", shuffled_weak_cycle, 25000),
     ("a weak pair of two wide blocks", wide_weak_blocks, 25000),
@@ -326,16 +382,18 @@ LOADS = [
     ("ranges of a count, a least and a greatest value, blocks of two rows", ranges_of_ends, 250000),
 ]
 
-NEWER = {"range": (ranges_of_ones, ranges_of_twos, ranges_of_one_block, ranges_of_ends)}
+NEWER = {"range": (ranges_of_ones, ranges_of_twos, ranges_of_one_block, ranges_of_ends),
+         "disputed": (persons_disputed, strong_cycle_disputed), "against": (against_one_person, against_all),
+         "show conflicts": (shown_conflicts,)}
 """Loads with statements that an older program doesn't know, by their first words."""
 
 
 # Runs
 
-def knows(program, word):
-    """Whether a program's grammar has a statement that begins so."""
-    ran = subprocess.run([program, "run"], input=(word + ";").encode(), stdout=subprocess.PIPE, check=False)
-    return ran.stdout != b"error 2 Syntax at 0\n"
+def knows(program, words):
+    """Whether a program's grammar has a statement that begins so: of one that it hasn't the last of the words is refused."""
+    ran = subprocess.run([program, "run"], input=(words + ";").encode(), stdout=subprocess.PIPE, check=False)
+    return ran.stdout != b"error 2 Syntax at %d\n" % (words.rfind(" ") + 1)
 
 
 def write_scripts(make, n, script, other):

@@ -3,8 +3,8 @@
 
     differential/dumps.py [PROGRAM] [--seed S] [--count N] [--records R] [--blocks B]
 
-A dump has to be refused nowhere when it is run, and to give the same dump again. Its blocks have to be read by Python's
-`csv` as the rows that were stored. R records that Python's `csv` wrote, and, where sqlite3 is there, that its CSV mode
+A dump has to be refused nowhere when it is run, and to give the same dump again. Its
+blocks have to be read by Python's `csv` as the rows that were stored. R records that Python's `csv` wrote, and, where sqlite3 is there, that its CSV mode
 wrote, have to be copied as they are. B blocks whose quotes and lines' ends stand anywhere have to be read as Python's `csv`
 reads them, or refused with the first record of another number of fields. A difference prints the script and ends with
 status 1. Python 3.9 and its library alone are needed.
@@ -54,6 +54,9 @@ def random_table(rng, name):
     rows, taken = set(), set()
     for _ in range(rng.randrange(0, 12)):
         row = tuple(random_value(rng, kind) for _, kind in columns)
+        if rows and not strict and rng.random() < 0.3:
+            of_key = rng.choice(sorted(rows, key=repr))
+            row = tuple(of_key[at] if at in key else row[at] for at in range(len(columns)))
         place = tuple(row[at] for at in key)
         if strict and place in taken:
             continue

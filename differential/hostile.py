@@ -3,9 +3,9 @@
 
     differential/hostile.py [--program FILE] [--count N] [--seed N]
 
-Random bytes, random splices of the tests' scripts and proofs, each of these cut off at each byte, and ranges of aggregates with
-words that stand wrong, over great numbers, and with 100,000 tests: the program has to end
-by itself within a minute, with status 0 or 1, and with 1 exactly where a line of what it wrote is a refusal. The last line
+Random bytes, random splices of the tests' scripts and proofs, each of these cut off at each byte, ranges of aggregates with words
+that stand wrong, over great numbers, and with 100,000 tests, and questions about conflicts with words that stand
+wrong: the program has to end by itself within a minute, with status 0 or 1, and with 1 exactly where a line of what it wrote is a refusal. The last line
 says whether all did; the status is 0 then. Python 3.9 and its library alone are needed.
 """
 
@@ -31,6 +31,10 @@ BYTES = b"\0\t\n\r '\"();,.=<>-_\\aeiou09\x7f\x80\xc3\xff"
 RANGE_WORDS = ("range count sum min max from where and group by r x y t primary = <> < <= > >= 0 -7 9223372036854775807 "
                "-9223372036854775808 9223372036854775808 'a' '' ' , ( ) . -- ; none").split()
 """Words of ranges, and some that they don't have."""
+
+QUESTION_WORDS = ("disputed against row for select exists from where and show conflicts tables log r s x y z k primary = <> < >= 0 -1 "
+                  "9223372036854775807 9223372036854775808 'a' 'it''s' ' ( ) () , . -- ; keep").split()
+"""Words of questions about conflicts, and some that they don't have."""
 
 
 def fault_of(program, word, data):
@@ -107,6 +111,29 @@ def ranges(random_source):
     return "\n".join(lines).encode() + b"\n"
 
 
+def questions(random_source):
+    """Two tables that attack each other, and what is disputed of them, and what stands against rows, with a word or two wrong in
+    most."""
+    pick = random_source
+    lines = ["create table r (x int, z int, primary key (%s));" % pick.choice(["x", "z", "z, x"]),
+             "create %stable s (k int, z int, y text, primary key (%s));" % (pick.choice(["", "", "strict "]), pick.choice(["k", "z", "k, y"])),
+             "insert into r values %s;" % ", ".join("(%d, %d)" % (pick.randint(0, 3), pick.randint(0, 3)) for _ in range(pick.randint(1, 12))),
+             "insert into s values %s;" % ", ".join("(%d, %d, '')" % (pick.randint(0, 3), pick.randint(0, 3)) for _ in range(pick.randint(1, 12))),
+             "set conflicts %d;" % pick.choice([0, 1, 200_000])]
+    join = ["from", "r", ",", "s", "where", "r.z", "=", "s.z"]
+    for _ in range(6):
+        words = list(pick.choice([["disputed", "select", "x", *join], ["disputed", "exists", *join],
+                                  ["against", "row", "(", "1", ")", "for", "select", "x", *join],
+                                  ["against", "row", "(", "0", ",", "''", ")", "for", "select", "k", ",", "y", *join],
+                                  ["against", "row", "()", "for", "exists", *join],
+                                  ["show", "conflicts"], ["show", "log"]]))
+        for _ in range(pick.choice([0, 1, 1, 2])):
+            place = pick.randrange(len(words))
+            words[place:place + pick.randint(0, 1)] = pick.choices(QUESTION_WORDS, k=pick.randint(0, 2))
+        lines.append(pick.choice([" ", "\n", " -- a word\n"]).join(words) + ";")
+    return "\n".join(lines).encode() + b"\n"
+
+
 def ranges_of_many_tests():
     """Ranges with 100,000 tests over some hundred rows, whole and by groups."""
     rows = ", ".join("(%d, %d, 'a')" % (k // 2, k % 2) for k in range(400))
@@ -130,6 +157,7 @@ def inputs(random_source, count, truncated):
                     yield word, text[:end]
     for _ in range(count):
         yield "run", ranges(random_source)
+        yield "run", questions(random_source)
         yield "check", random_source.choice(scripts)
         yield "run", random_source.choice(proofs)
 

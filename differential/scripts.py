@@ -7,9 +7,10 @@ Half of the scripts ask joins of four to six tables that have a plan; the others
 
 Where a reply is free, it is judged by what it has to be: the repair of an explanation must hold no witness of its row, a
 refutation must be one of the row's formula and `check` must verify it, and a search may be refused as spent only where its
-budget can be too small for the row's formula. The rows that a `range` keeps must be those of a repair that has the end before
-them. Each step of a log must follow by its hints, in an order in which each of them is of use. A spent log must add as many clauses as its budget has, each new over all before it, and leave a variable
-open. `--pieces` feeds each script in random pieces with pauses. A difference prints the script, the reply and what was
+budget can be too small for the row's formula. Of the rows that stand `against` a row no repair that keeps them may hold a witness
+of it, and without any of them one must. The rows that a `range` keeps must be those of a repair that has the end before them. Each
+step of a log must follow by its hints, in an order in which each of them is of use. A spent log must add as many clauses as its
+budget has, each new over all before it, and leave a variable open. `--pieces` feeds each script in random pieces with pauses. A difference prints the script, the reply and what was
 expected, and ends with status 1. Python 3.9 and its library alone are needed.
 """
 
@@ -22,7 +23,7 @@ import subprocess
 import sys
 import time
 
-from model import OPS, Query, Table, literal, row_text
+from model import MOST_REPAIRS, OPS, Query, Table, literal, row_text
 
 TOP = os.path.dirname(os.path.dirname(os.path.abspath(__file__)))
 PROGRAM = os.path.join(TOP, "crates", "cqa_cli", "out", "cqa_cli")
@@ -32,6 +33,8 @@ LEAST = -9223372036854775808
 AMOUNTS = [LEAST, -7, -1, 0, 2, 2, 5, 9223372036854775807]
 MOST_RANGED = 300
 """The most repairs that are gone over for a range."""
+MOST_WORK = 300_000
+"""The most rows that are gone over for a question, of all repairs together."""
 
 
 class Differs(Exception):
@@ -122,8 +125,7 @@ class Script:
             tests.append((place, self.random.choice(sorted(OPS)), self.kind_of_value(table.columns[place][1])))
         gone = {row for row in table.rows if table.meets(row, tests)}
         table.rows -= gone
-        wheres = " and ".join("%s %s %s" % (table.columns[place][0], op, literal(value)) for place, op, value in tests)
-        self.replied("delete from %s where %s;" % (table.name, wheres), "deleted %d" % len(gone))
+        self.replied("delete from %s where %s;" % (table.name, tests_text(table, tests)), "deleted %d" % len(gone))
 
     def alter(self):
         table, pick = self.random.choice(self.tables), self.random
@@ -144,6 +146,11 @@ class Script:
         lines = ["%s%s rows %d blocks %d" % ("strict " if table.strict else "", table.schema(), len(table.rows), len(table.blocks()))
                  for table in self.tables]
         self.replied("show tables;", *lines, "%d tables" % len(lines))
+
+    def show_conflicts(self):
+        lines = ["%s rows %d blocks %d conflicts %d" % (table.name, len(table.rows), len(table.blocks()), len(table.conflicts()))
+                 for table in self.tables]
+        self.replied("show conflicts;", *lines, "%d tables" % len(lines))
 
     def set_conflicts(self):
         self.budget = self.random.choice([0, 1, 2, 3, 200_000, 200_000])
@@ -304,7 +311,9 @@ class Script:
         query = Query([table.copy() for table in self.cycle], [], [((0, 2), (1, 2))], [])
         self.replied("set conflicts 200000;", "conflicts 200000")
         self.budget = 200_000
-        self.say("explain row () for %s;" % query.text(), lambda out: is_explained(out, query, ()))
+        told = []
+        self.say("explain row () for %s;" % query.text(), lambda out: told.append(out.peek()) or is_explained(out, query, ()))
+        self.say("against row () for %s;" % query.text(), lambda out: is_certain(out) if told == ["certain by refutation"] else is_against(out, query, ()))
         for table in self.cycle:
             self.fill(table, set())
 
@@ -373,7 +382,7 @@ class Script:
         self.create_linked(kind)
         for table in self.tables:
             self.fill_linked(table, values)
-        rare = [self.delete, self.show, self.ranged, lambda: self.fill_linked(self.random.choice(self.tables), values)]
+        rare = [self.delete, self.show, self.show_conflicts, self.ranged, lambda: self.fill_linked(self.random.choice(self.tables), values)]
         length += len(self.statements)
         while len(self.statements) < length:
             if self.random.random() < 0.1:
@@ -385,7 +394,7 @@ class Script:
         self.ask_of(self.query())
 
     def ask_of(self, query):
-        if query.number_of_repairs() > 600 or query.work() > 300_000:
+        if query.number_of_repairs() > MOST_REPAIRS or query.work() > MOST_WORK:
             return
         self.ask_or_explain(query)
         if needs_search(query):
@@ -393,18 +402,18 @@ class Script:
 
     def ask_or_explain(self, query):
         text = query.text()
-        verb = self.random.choice(["ask", "ask", "ask", "possible", "classify", "plan", "explain"])
-        if verb == "explain":
-            return self.explain_one(query)
+        verb = self.random.choice(["ask", "ask", "ask", "possible", "disputed", "classify", "plan", "explain", "against"])
+        if verb in ("explain", "against"):
+            return self.explain_one(query, self.explain if verb == "explain" else self.against)
+        if verb == "disputed":
+            return self.disputed(query)
         if verb in ("ask", "possible"):
-            rows = query.certain() if verb == "ask" else query.possible()
-            lines = [*map(row_text, rows), "%d rows" % len(rows)]
-            if verb == "ask" and needs_search(query):
-                budget = self.budget
-                return self.say("ask %s;" % text, lambda out: is_searched(out, query, budget, query.possible(), lines))
-            self.replied("%s %s;" % (verb, text), *lines)
+            if verb == "ask":
+                self.ask(query)
+            else:
+                self.replied("possible %s;" % text, *rows_lines(query.possible()))
             for row in query.possible() if self.random.random() < 0.2 else []:
-                self.explain(query, row)
+                self.random.choice([self.explain, self.explain, self.against])(query, row)
             return None
         if verb == "classify":
             kind, attacks = query.classify()
@@ -415,19 +424,65 @@ class Script:
         steps = ["no plan"] if plan is None else ["step %d %s" % (number, query.tables[atom].name) for number, atom in enumerate(plan, 1)]
         return self.replied("plan %s;" % text, *steps)
 
-    def explain_one(self, query):
+    def ask(self, query):
+        """The certain rows."""
+        return self.searched("ask", query, query.certain())
+
+    def disputed(self, query):
+        """The rows that are possible and not certain. Where a search may be spent, an `ask` before it is refused at the same row."""
+        first = self.ask(query) if needs_search(query) and self.random.random() < 0.5 else []
+        self.searched("disputed", query, query.disputed(), first)
+
+    def searched(self, verb, query, rows, refused=()):
+        """A question that takes a search where the query has no plan. refused: the first line of another's reply, which is the same where
+        either is refused. Gives a list with the first line of its own, once it is judged."""
+        text, lines, budget, first = "%s %s;" % (verb, query.text()), rows_lines(rows), self.budget, []
+
+        def judge(out):
+            first.append(out.peek())
+            if refused and refused[0] != first[0] and any(line.startswith("error ") for line in (*refused, *first)):
+                raise Differs("ask says %s" % refused[0])
+            is_searched(out, query, budget, query.possible(), lines)
+
+        self.say(text, judge if needs_search(query) else lambda out: out.expect(*lines))
+        return first
+
+    def explain_one(self, query, explain):
+        """Why some row is certain or isn't: mostly a possible one, and rarely one that doesn't fit the query."""
         candidates = query.possible()
+        row = tuple(self.kind_of_value(query.tables[atom].columns[place][1]) for atom, place in query.answer)
+        if self.random.random() < 0.05:
+            return self.misfit(query, row, explain.__name__)
         if candidates and self.random.random() < 0.8:
-            return self.explain(query, self.random.choice(candidates))
-        return self.explain(query, tuple(self.kind_of_value(query.tables[atom].columns[place][1]) for atom, place in query.answer))
+            row = self.random.choice(candidates)
+        return explain(query, row)
+
+    def misfit(self, query, row, verb):
+        """A row with a value more, or with a value of the other kind."""
+        if row and self.random.random() < 0.5:
+            place = self.random.randrange(len(row))
+            row = row[:place] + ("a" if isinstance(row[place], int) else 1,) + row[place + 1:]
+            fault = "error 9 TypeMismatch row 1 column %d" % (place + 1)
+        else:
+            row, fault = row + (1,), "error 10 WrongArity row 1"
+        self.replied("%s row %s for %s;" % (verb, row_text(row), query.text()), fault)
+
+    def against(self, query, row):
+        """The rows that stand against a row, where it isn't certain."""
+        text = "against row %s for %s;" % (row_text(row), query.text())
+        budget, judge = self.budget, is_certain if row in query.certain() else lambda out: is_against(out, query, row)
+        if needs_search(query) and is_spent_for(query, row, budget):
+            self.say(text, lambda out: is_spent(out, query, budget, [row]) or judge(out))
+        else:
+            self.say(text, judge)
 
     def explain(self, query, row):
         text = "explain row %s for %s;" % (row_text(row), query.text())
-        plan, is_certain, budget = query.plan(), row in query.certain(), self.budget
+        plan, holds, budget = query.plan(), row in query.certain(), self.budget
         if needs_search(query) and is_spent_for(query, row, budget):
-            judge = is_refutation if is_certain else is_rejection
+            judge = is_refutation if holds else is_rejection
             self.say(text, lambda out: is_spent(out, query, budget, [row]) or judge(out, query, row))
-        elif not is_certain:
+        elif not holds:
             self.say(text, lambda out: is_rejection(out, query, row))
         elif plan is not None:
             table, block = query.tables[plan[0]], query.block_of(plan, row)
@@ -437,7 +492,7 @@ class Script:
 
     def make(self, length):
         steps = [self.insert] * 8 + [lambda: self.insert(copy=True)] * 2 + [self.asked] * 6
-        steps += [self.delete, self.alter, self.show, self.set_conflicts, self.show_log, self.crossed, self.turned]
+        steps += [self.delete, self.alter, self.show, self.show_conflicts, self.set_conflicts, self.show_log, self.crossed, self.turned]
         steps += [self.ranged, self.ranged, self.amounts]
         for _ in range(self.random.randint(1, 4)):
             self.create()
@@ -451,8 +506,8 @@ class Script:
 
 
 def kept_rows(out, tables):
-    """The rows of a repair of some tables, as lists. Its rows of blocks of several rows are written, in the order of blocks."""
-    keeps = out.while_like(r"keep .*")
+    """The rows of a repair of some tables, as lists. Its rows of blocks of several rows are written, in the order of blocks; lines that
+    are alike may follow, of another reply."""
     kept = []
     for table in tables:
         rows = []
@@ -460,24 +515,29 @@ def kept_rows(out, tables):
             if len(block) == 1:
                 rows.append(block[0])
                 continue
-            if not keeps:
-                raise Differs("a block of %s is missing" % table.name)
-            line = keeps.pop(0)
+            line = out.next()
             found = [one for one in block if line == "keep %s %s" % (table.name, row_text(one))]
             if not found:
                 raise Differs("%s is no row of the next block of %s" % (line, table.name))
             rows += found
         kept.append(rows)
-    if keeps:
-        raise Differs("too many kept rows: %s" % keeps[0])
     return kept
+
+
+def rows_lines(rows):
+    """The reply to a question of rows."""
+    return [*map(row_text, rows), "%d rows" % len(rows)]
+
+
+def tests_text(table, tests):
+    """Tests as they are written, with `and` between two."""
+    return " and ".join("%s %s %s" % (table.columns[column][0], op, literal(value)) for column, op, value in tests)
 
 
 def aggregate_text(table, word, place, tests):
     """What stands behind `range`."""
     what = word if place is None else "%s %s" % (word, table.columns[place][0])
-    wheres = ["%s %s %s" % (table.columns[column][0], op, literal(value)) for column, op, value in tests]
-    return "%s from %s%s" % (what, table.name, " where " + " and ".join(wheres) if wheres else "")
+    return "%s from %s%s" % (what, table.name, " where " + tests_text(table, tests) if tests else "")
 
 
 def end_text(end):
@@ -505,6 +565,27 @@ def is_rejection(out, query, row):
     kept = kept_rows(out, query.tables)
     if any(answer == row for answer, _ in query.witnesses(kept)):
         raise Differs("the repair holds a witness")
+
+
+def is_certain(out):
+    out.expect("certain")
+
+
+def is_against(out, query, row):
+    """Stored rows of blocks of several rows, no two of a block, in the order of the tables and then of blocks, such that no repair that
+    keeps them holds a witness of a row, and that none of them can be left out."""
+    places = {"keep %s %s" % (table.name, row_text(one)): (atom, number, one) for atom, table in enumerate(query.tables)
+              for number, block in enumerate(table.conflicts()) for one in block}
+    found = []
+    for line in out.while_like(r"keep .*"):
+        if line not in places:
+            raise Differs("%s is no row of a block of several rows" % line)
+        found.append(places[line])
+    if any(before[:2] >= after[:2] for before, after in zip(found, found[1:])):
+        raise Differs("two rows of a block, or rows in another order")
+    out.expect("%d rows" % len(found))
+    if not query.stands_against([(atom, one) for atom, _, one in found], row):
+        raise Differs("a repair that keeps these rows holds a witness, or they are too many")
 
 
 def is_refutation(out, query, row):

@@ -62,9 +62,9 @@ def main():
     stored = set(one + two)
     script = ["-- Made by two_lists.py: the customers of two shops, merged.",
               "create table customer (id int, name text, town text, primary key (id));",
-              "copy customer;", *records(one), "\\.", "copy customer;", *records(two), "\\.", "show tables;"]
+              "copy customer;", *records(one), "\\.", "copy customer;", *records(two), "\\.", "show conflicts;"]
     output = ["created customer", "copied %d" % len(one), "copied %d" % len(set(two) - set(one)),
-              "customer (id int, name text, town text, primary key (id)) rows %d blocks %d" % (len(stored), len(blocks)), "1 tables"]
+              "customer rows %d blocks %d conflicts %d" % (len(stored), len(blocks), sum(len(rows) > 1 for rows in blocks.values())), "1 tables"]
 
     def ask(what, where, fits, shown):
         """A question about one table: a row is certain where all rows of some block fit and show it."""
@@ -80,10 +80,14 @@ def main():
     ask("select id, name", " where town = 'Oslo'", lambda row: row[2] == "Oslo", lambda row: row[:2])
     script.append("-- Who is certainly not in Oslo?")
     ask("select id", " where town <> 'Oslo'", lambda row: row[2] != "Oslo", lambda row: row[:1])
-    script.append("-- What is certain of whom? What `possible` gives beyond it are the conflicts.")
+    script.append("-- What is certain of whom, and what is in conflict?")
     ask("select id, name, town", "", lambda row: True, lambda row: row)
-    script.append("possible select id, name, town from customer;")
-    output += lines(stored)
+    script.append("disputed select id, name, town from customer;")
+    output += lines([row for rows in blocks.values() if len(rows) > 1 for row in rows])
+    who, kept = next((row, other) for rows in blocks.values() if len(rows) == 2 for row in rows for other in rows if row[2] == "Oslo" != other[2])
+    script.append("-- Why is customer %d not certainly in Oslo?" % who[0])
+    script.append("against row (%d, 'Oslo') for select id, town from customer;" % who[0])
+    output += ["keep customer (%s)" % ", ".join(map(literal, kept)), "1 rows"]
     script.append("-- How many customers are in Oslo, at least and at most?")
     script.append("range count from customer where town = 'Oslo';")
     for word, best in (("least", min), ("greatest", max)):

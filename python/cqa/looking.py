@@ -35,7 +35,7 @@ def csv_main(arguments: Sequence[str]) -> int:
     with session:
         last = next((answer for answer in reversed(answers) if answer.verb in QUESTIONS + ENDS), None)
         if last is None:
-            print("cqa csv: no statement of %s is an ask, a possible or a range" % ", ".join(told.files), file=sys.stderr)
+            print("cqa csv: no statement of %s is an ask, a possible, a disputed or a range" % ", ".join(told.files), file=sys.stderr)
             return 1
         lines = [line.decode("utf-8") for line in last.lines]
         text = (session.ends_of(last.text, lines) if last.verb in ENDS else session.rows_of(last.text, lines)).csv_text()

@@ -12,15 +12,14 @@ from decimal import Decimal
 from typing import Dict, List, NamedTuple, Optional, Sequence
 
 from . import page
-from .answers import Classification, Explanation, Kept, Range, against, explanation
+from .answers import Classification, Explanation, Range, against, explanation
 from .conflicts import Conflicts, Disputed
 from .drawing import HEADS, attack_graph
-from .errors import Refused, ScaleWarning, UnknownStatement
+from .errors import Refused, ScaleWarning
 from .files import standard_output, written
-from .replies import row_of
 from .rows import Cell, Rows
 from .running import QUERY_VERBS, Answer, loaded
-from .scripts import Schema, aggregate_of, query_parts, quoted, selected, tokens, without_comments
+from .scripts import Schema, aggregate_of, quoted, selected, tokens, without_comments
 from .session import Session
 from .words import told as words_told
 
@@ -84,8 +83,7 @@ class Questions:
         """Answers the questions that aren't answered yet: of those between two changes each once."""
         questions = questions_of(self.answers[self._answered:])
         self._answered = len(self.answers)
-        schemas = session.tables() if questions else []
-        self.parts += [_question_part(session, schemas, number, question) for number, question in enumerate(questions, len(self.parts) + 1)]
+        self.parts += [_question_part(session, number, question) for number, question in enumerate(questions, len(self.parts) + 1)]
 
 
 def main(arguments: Sequence[str]) -> int:
@@ -167,7 +165,7 @@ def _sources_part(sources: Sequence[Cell]) -> str:
     return ' <span class="quiet">%s</span>' % ", ".join(map(page.text, sources)) if sources else ""
 
 
-def _question_part(session: Session, schemas: Sequence[Schema], number: int, question: Question) -> str:
+def _question_part(session: Session, number: int, question: Question) -> str:
     """A question: its certain and its disputed rows, its class and attacks, and why a row isn't certain; or the ends of a range."""
     head = '<h2>Question %d <span class="quiet">%s</span></h2><pre>%s</pre>' % (number, page.text(question.place), page.text(question.query))
     if question.is_range:
@@ -180,7 +178,7 @@ def _question_part(session: Session, schemas: Sequence[Schema], number: int, que
     known = set(certain)
     disputed = Rows(possible.columns, (row for row in possible if row not in known))
     return "".join([head, _answer_part(certain, disputed), _class_part(question.query, classified),
-                    _why_part(session, schemas, question, disputed)])
+                    _why_part(session, question, disputed)])
 
 
 def _range_part(session: Session, aggregate: str) -> str:
@@ -221,24 +219,24 @@ def _class_part(query: str, classified: Classification) -> str:
     return "".join(parts)
 
 
-def _why_part(session: Session, schemas: Sequence[Schema], question: Question, disputed: Rows) -> str:
+def _why_part(session: Session, question: Question, disputed: Rows) -> str:
     """Why a row isn't certain: the one that the script asks of, or the first that is disputed."""
     literal = question.row or ("(%s)" % ", ".join(_literals(session, question.query, disputed[0])) if disputed else None)
     if literal is None:
         return ""
     shown = question.row or _row_shown(disputed[0])
     head = "<h3>Why %s isn't certain</h3>" % ("the yes" if literal == "()" else "<code>%s</code>" % page.text(shown))
+    words = "row %s for %s;" % (literal, question.query)
     try:
-        told = _against(session, question.query, literal)
+        told = against(session._lines("against " + words))
         if told.is_certain:
-            return "<h3><code>%s</code> is certain</h3>%s" % (page.text(shown), _by_block(told))
-        kept = list(told.kept) if told.kind == "against" else _touching(session, schemas, question.query, literal, told.kept)
+            return "<h3><code>%s</code> is certain</h3>%s" % (page.text(shown), _by_block(explanation(session._lines("explain " + words))))
     except Refused as refused:
         return head + '<p class="odd">%s</p>' % page.text(refused.line)
-    if not kept:
+    if not told.kept:
         return head + "<p>No choice of rows gives it: it isn't even possible.</p>"
-    rows = [(table, _row_shown(row)) for table, row in session._shown_kept(kept[:_MOST_KEPT])]
-    more = "<p class=\"quiet\">and %s more</p>" % page.number(len(kept) - _MOST_KEPT) if len(kept) > _MOST_KEPT else ""
+    rows = [(table, _row_shown(row)) for table, row in session._shown_kept(told.kept[:_MOST_KEPT])]
+    more = "<p class=\"quiet\">and %s more</p>" % page.number(len(told.kept) - _MOST_KEPT) if len(told.kept) > _MOST_KEPT else ""
     return head + "<p>It is no answer where these rows are the right ones of their keys:</p>" + page.table(("table", "row"), rows) + more
 
 
@@ -255,27 +253,3 @@ def _by_block(told: Explanation) -> str:
 def _literals(session: Session, query: str, row: Sequence[Cell]) -> List[str]:
     """The values of a row as literals."""
     return [quoted(value) for value in session._stored(row, query)]
-
-
-def _against(session: Session, query: str, literal: str) -> Explanation:
-    """What stands against a row, by `against` where the program knows it, and else by a whole repair."""
-    try:
-        return against(session._lines("against row %s for %s;" % (literal, query)))
-    except UnknownStatement:
-        return explanation(session._lines("explain row %s for %s;" % (literal, query)))
-
-
-def _touching(session: Session, schemas: Sequence[Schema], query: str, literal: str, kept: Sequence[Kept]) -> List[Kept]:
-    """Of the rows that a repair keeps, those of keys with a row that helps to give the answer."""
-    parts = query_parts(query)
-    values = re.findall(r"-?\d+|'(?:[^']|'')*'", literal)
-    tests = ["%s = %s" % pair for pair in zip(parts.columns, values)] + ([parts.conditions] if parts.conditions else [])
-    where = " where " + " and ".join(tests) if tests else ""
-    found: List[Kept] = []
-    for schema in (schema for schema in schemas if schema.table in parts.tables):
-        key = ", ".join("%s.%s" % (schema.table, name) for name in schema.key)
-        lines = session._lines("possible select %s from %s%s;" % (key, ", ".join(parts.tables), where))
-        keys = set(map(row_of, lines[:-1]))
-        places = [list(schema.columns).index(name) for name in schema.key]
-        found += [one for one in kept if one[0] == schema.table and tuple(one[1][place] for place in places) in keys]
-    return found

@@ -340,7 +340,8 @@ class Session:
         return self._shown_explanation(answers.explanation(self._of_row("explain", row, query)))
 
     def against(self, row: Sequence[Cell], query: str) -> Explanation:
-        """The fewest rows that stand against a row. Raises Refused; UnknownStatement where the program is too old."""
+        """The rows by which a row is no answer: no repair that keeps them has a witness of it, and none of them can be left out. Or that
+        it is certain. Raises Refused; UnknownStatement where the program is too old."""
         return self._shown_explanation(answers.against(self._of_row("against", row, query)))
 
     def prove(self, row: Sequence[Cell], query: str) -> Explanation:

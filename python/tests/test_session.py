@@ -93,17 +93,22 @@ class Questions(ProgramCase):
         self.assertEqual(caught.exception.fields, "row 2 (1, 'a\nb''c') (1, 'x')")
 
     def test_statements_of_newer_programs_are_sent_and_told(self) -> None:
-        calls = {"disputed": lambda: self.db.disputed("select name from staff"),
-                 "against": lambda: self.db.against((12,), "select room from staff where id = 7"),
-                 "prove": lambda: self.db.prove(("Ida",), "select name from staff"),
-                 "range": lambda: self.db.range("count from staff"),
-                 "prefer": lambda: self.db.prefer("staff", "room = 12")}
+        calls = {"prove": lambda: self.db.prove(("Ida",), "select name from staff"), "prefer": lambda: self.db.prefer("staff", "room = 12")}
         for word, call in calls.items():
             with self.subTest(word):
                 try:
                     call()
                 except cqa.UnknownStatement as unknown:
                     self.assertIn("doesn't know `%s`" % word, str(unknown))
+
+    def test_what_is_disputed_and_what_stands_against_it(self) -> None:
+        joined = "select name, code from staff, door where staff.room = door.room"
+        self.assertEqual(self.db.disputed(joined), [("Ida", 501), ("Ida", 733)])
+        self.assertEqual(self.db.against(("Ida", 501), joined), cqa.Explanation("against", kept=(("staff", (7, "Ida", 14)), ("door", (14, 733)))))
+        self.assertIs(self.db.against(("Per", 501), joined).is_certain, True)
+        self.assertEqual(self.db.against(("Eli", 501), joined), cqa.Explanation("against"))
+        self.assertEqual(self.db.tell("show conflicts"), ["staff rows 3 blocks 2 conflicts 1", "door rows 3 blocks 2 conflicts 1", "2 tables"])
+        self.assertEqual(self.db.disputed("exists from door where code = 733"), [()])
 
     def test_ranges(self) -> None:
         self.db.run("create table r (x int, y int, primary key (x)); insert into r values (1, 5), (1, -2), (2, 7), (3, 1), (3, 9);")
