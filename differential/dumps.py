@@ -3,11 +3,11 @@
 
     differential/dumps.py [PROGRAM] [--seed S] [--count N] [--records R] [--blocks B]
 
-A dump has to be refused nowhere when it is run, and to give the same dump again. Its
-blocks have to be read by Python's `csv` as the rows that were stored. R records that Python's `csv` wrote, and, where sqlite3 is there, that its CSV mode
-wrote, have to be copied as they are. B blocks whose quotes and lines' ends stand anywhere have to be read as Python's `csv`
-reads them, or refused with the first record of another number of fields. A difference prints the script and ends with
-status 1. Python 3.9 and its library alone are needed.
+A dump has to be refused nowhere when it is run, and to give the same dump again. Its blocks have to be read by Python's
+`csv` as the rows that were stored. R records that Python's `csv` wrote, and, where sqlite3 is there, that its CSV mode
+wrote, have to be copied as they are. B blocks whose quotes and lines' ends stand anywhere have to be read as Python's
+`csv` reads them, or refused with the first record of another number of fields. A difference prints the script and ends
+with status 1. Python 3.9 and its library alone are needed.
 """
 
 import argparse
@@ -23,6 +23,7 @@ TOP = os.path.dirname(os.path.dirname(os.path.abspath(__file__)))
 PROGRAM = os.path.join(TOP, "crates", "cqa_cli", "out", "cqa_cli")
 PIECES = ["", "a", "b", "'", '"', ",", "\n", "\\.", "\n\\.\n", "\n\\.\r\n", "\r", "\r\n", ";", "--", " ", "\t", "ä", "\u20ac",
           "\U0001f600", "\ufeff", "\x00", "copy t;", "\\"]
+MOST_TABLES = 64
 BLOCK_PIECES = ['"', '"', ",", "\n", "\r\n", "\r", "a", "b ", "ä"]
 NUMBERS = [0, 1, -1, 2, 9223372036854775807, -9223372036854775808]
 
@@ -183,19 +184,24 @@ def replies_to_block(width, block):
         "".join("(%s)\n" % ", ".join(map(literal, row)) for row in shown), len(rows))
 
 
+def block_with_replies(rng, name):
+    """A `copy` of a random block into a table of texts of its own, and an `ask` of its rows; with the replies to them."""
+    width = rng.randrange(1, 3)
+    block = "".join(rng.choice(BLOCK_PIECES) for _ in range(rng.randrange(30))) + "\n"
+    columns = ["c%d" % at for at in range(width)]
+    script = "create table %s (%s, primary key (%s));\ncopy %s;\n%s\\.\nask select %s from %s;\n" % (
+        name, ", ".join("%s text" % column for column in columns), ", ".join(columns), name, block, ", ".join(columns), name)
+    return script, "created %s\n%s" % (name, replies_to_block(width, block))
+
+
 def try_blocks(program, rng, count):
-    script, replies = "", ""
-    for number in range(count):
-        width = rng.randrange(1, 3)
-        block = "".join(rng.choice(BLOCK_PIECES) for _ in range(rng.randrange(30))) + "\n"
-        columns = ["c%d" % at for at in range(width)]
-        script += "create table f%d (%s, primary key (%s));\ncopy f%d;\n%s\\.\nask select %s from f%d;\n" % (
-            number, ", ".join("%s text" % column for column in columns), ", ".join(columns), number, block, ", ".join(columns), number)
-        replies += "created f%d\n%s" % (number, replies_to_block(width, block))
-    script, replies = script.encode("utf-8"), replies.encode("utf-8")
-    if run(program, script) != replies:
-        sys.stdout.buffer.write(script)
-        sys.exit("a block is read otherwise than Python reads it")
+    """Tries blocks, as many in one script as there may be tables."""
+    for first in range(0, count, MOST_TABLES):
+        made = [block_with_replies(rng, "f%d" % number) for number in range(first, min(first + MOST_TABLES, count))]
+        script, replies = ("".join(parts).encode("utf-8") for parts in zip(*made))
+        if run(program, script) != replies:
+            sys.stdout.buffer.write(script)
+            sys.exit("a block is read otherwise than Python reads it")
 
 
 def main():
