@@ -7,7 +7,7 @@ use Rattle.reply_text.specs.declared.reply.Reply.{Reply}
 use Rattle.reply_text.specs.Texts.{is_refusal}
 use Rattle.cqa_session.specs.State.{State}
 use Rattle.cqa_session.specs.Runs.{Run, Answers, CutShort, ReachesLast, text_of, has_refusal}
-use Rattle.command_shell.specs.Taking.{Takes, TakesLast, TakesRun, HandsAnswers}
+use Rattle.command_shell.specs.Taking.{TakesReplies, TakesLast, TakesRun, HandsAnswers}
 use Rattle.command_shell.proofs.Progress.{text_of-append, after_whole}
 
 Run-trans : (old : State) (s : List Statement) (a : List Reply) (mid : State) (t : List Statement) (b : List Reply) (new : State) → Run old s a mid → Run mid t b new → Run old (s ++ t) (a ++ b) new
@@ -16,8 +16,8 @@ Run-trans old [] (r ∷ a) mid t b new h k = absurd h
 Run-trans old (x ∷ s) [] mid t b new h k = absurd h
 Run-trans old (x ∷ s) (r ∷ a) mid t b new h k = (h.0, h.1, Run-trans h.0 s a mid t b new h.2 k)
 
-Takes-trans : {T : Type 0} (took : T → List ℕ → Reply → T → Type 0) (old : T) (s : List Statement) (a : List Reply) (mid : T) (t : List Statement) (b : List Reply) (new : T) → Takes took old s a mid → Takes took mid t b new → Takes took old (s ++ t) (a ++ b) new
-Takes-trans took old [] [] mid t b new h k = subst (λ taker. Takes took taker t b new) h k
+Takes-trans : {T : Type 0} (took : T → List ℕ → Reply → T → Type 0) (old : T) (s : List Statement) (a : List Reply) (mid : T) (t : List Statement) (b : List Reply) (new : T) → TakesReplies took old s a mid → TakesReplies took mid t b new → TakesReplies took old (s ++ t) (a ++ b) new
+Takes-trans took old [] [] mid t b new h k = subst (λ taker. TakesReplies took taker t b new) h k
 Takes-trans took old [] (r ∷ a) mid t b new h k = absurd h
 Takes-trans took old (x ∷ s) [] mid t b new h k = absurd h
 Takes-trans took old (x ∷ s) (r ∷ a) mid t b new h k = (h.0, h.1, Takes-trans took h.0 s a mid t b new h.2 k)
@@ -34,7 +34,7 @@ pub record Open {T : Type 0} (took : T → List ℕ → Reply → T → Type 0) 
   pub run : Run old statements replies mid
   pub written_is : written ≡ text_of replies
   pub refused_is : refused ≡ has_refusal replies
-  pub taken : Takes took t_old statements replies t_mid
+  pub taken : TakesReplies took t_old statements replies t_mid
 
 pub opened : {T : Type 0} {took : T → List ℕ → Reply → T → Type 0} {t_old t_mid : T} {old : State} {bytes : List ℕ} {mid : State} {written : List ℕ} {refused : Bool} (a : Answers old bytes false mid written refused) → TakesRun took t_old a.run.statements a.run.answered a.run.last t_mid → Open took t_old t_mid old bytes mid written refused a.run.rest
 opened {took = took} {t_old = t_old} {t_mid = t_mid} a k =
@@ -46,7 +46,7 @@ opened {took = took} {t_old = t_old} {t_mid = t_mid} a k =
       run = a.run.run;
       written_is = a.written_is ∙ ap text_of alone;
       refused_is = a.refused_is ∙ ap has_refusal alone;
-      taken = subst (Takes took t_old a.run.statements a.run.answered) (sym (subst (λ last. TakesLast took k.mid last t_mid) a.run.closes k.closing)) k.each;
+      taken = subst (TakesReplies took t_old a.run.statements a.run.answered) (sym (subst (λ last. TakesLast took k.mid last t_mid) a.run.closes k.closing)) k.each;
     }
 
 module _ {T : Type 0} {took : T → List ℕ → Reply → T → Type 0} {t_old t_mid : T} {old : State} {bytes : List ℕ} {mid : State} {written : List ℕ} {refused : Bool} {held : List ℕ} (o : Open took t_old t_mid old bytes mid written refused held) (piece : List ℕ) where

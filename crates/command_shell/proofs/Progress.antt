@@ -19,7 +19,7 @@ use Rattle.cqa_session.specs.State.{State}
 use Rattle.cqa_session.specs.Machine.{Step}
 use Rattle.cqa_session.specs.Runs.{Run, Closes, CutShort, ReachesLast, text_of, has_refusal}
 use Rattle.command_shell.specs.Parts.{AnswerRow, ReplyRow, CloseRow, ProgressRow}
-use Rattle.command_shell.specs.Taking.{Takes, HandsAnswers}
+use Rattle.command_shell.specs.Taking.{TakesReplies, HandsAnswers}
 
 pub Run-push : (old : State) (statements : List Statement) (replies : List Reply) (now : State) (s : Statement) (reply : Reply) (new : State)
     → Run old statements replies now → Step now s.0 s.1 reply new → Run old (statements ++ s ∷ []) (replies ++ reply ∷ []) new
@@ -29,7 +29,7 @@ Run-push old (t ∷ statements) [] now s reply new run step = absurd run
 Run-push old (t ∷ statements) (r ∷ replies) now s reply new run step = (run.0, run.1, Run-push run.0 statements replies now s reply new run.2 step)
 
 Takes-push : {T : Type 0} (took : T → List ℕ → Reply → T → Type 0) (old : T) (statements : List Statement) (replies : List Reply) (now : T) (s : Statement) (reply : Reply) (new : T)
-    → Takes took old statements replies now → took now s.0 reply new → Takes took old (statements ++ s ∷ []) (replies ++ reply ∷ []) new
+    → TakesReplies took old statements replies now → took now s.0 reply new → TakesReplies took old (statements ++ s ∷ []) (replies ++ reply ∷ []) new
 Takes-push took old [] [] now s reply new taken one = (new, subst (λ t. took t s.0 reply new) taken one, refl)
 Takes-push took old [] (r ∷ replies) now s reply new taken one = absurd taken
 Takes-push took old (t ∷ statements) [] now s reply new taken one = absurd taken
@@ -94,7 +94,7 @@ pub record SoFar {T : Type 0} (took : T → List ℕ → Reply → T → Type 0)
   pub run : Run old statements replies now
   pub written : Appends held_old held_now (text_of replies)
   pub refused_is : refused ≡ has_refusal replies
-  pub taken : Takes took t_old statements replies t_now
+  pub taken : TakesReplies took t_old statements replies t_now
 
 pub start : {T : Type 0} {took : T → List ℕ → Reply → T → Type 0} (t : T) (old : State) (input : List ℕ) (ended : Bool) (held : Option (List ℕ)) → SoFar took t t old input ended input old false held held
 start t old input ended held = record { statements = []; replies = []; begins = refl; run = refl; written = Appends-nil held; refused_is = refl; taken = refl }

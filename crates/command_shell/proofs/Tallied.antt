@@ -12,8 +12,8 @@ use Rattle.command_shell.specs.declared.tally.Tally.{Tally}
 use Rattle.cqa_session.specs.State.{State}
 use Rattle.cqa_session.specs.Runs.{Run, RunsOver, Answers, has_refusal}
 use Rattle.command_shell.specs.Demo.{rows_to, refusals, AnswersAll, StopsIn}
-use Rattle.command_shell.specs.Tallying.{Adds}
-use Rattle.command_shell.specs.Taking.{Takes, TakesLast, TakesRun, HandsOn}
+use Rattle.command_shell.specs.Tallying.{AddsReply}
+use Rattle.command_shell.specs.Taking.{TakesReplies, TakesLast, TakesRun, HandsOn}
 use Rattle.command_shell.specs.Top.{told}
 
 -- a tally has grown by the numbers of these replies
@@ -23,7 +23,7 @@ record Grown (before : Tally) (statements : List Statement) (answered replies : 
   pub possible : now.possible ≡ before.possible + rows_to (codes "possible ") statements answered
   pub refused : now.refused ≡ before.refused + refusals replies
 
-by_each : (before : Tally) (statements : List Statement) (replies : List Reply) (now : Tally) → Takes Adds before statements replies now → Grown before statements replies replies now
+by_each : (before : Tally) (statements : List Statement) (replies : List Reply) (now : Tally) → TakesReplies AddsReply before statements replies now → Grown before statements replies replies now
 by_each before [] [] now same =
     let a = ap (λ t. t.replies) same in
     let b = ap (λ t. t.certain) same in
@@ -37,7 +37,7 @@ by_each before (statement ∷ statements) (reply ∷ replies) now taken =
     let later = by_each taken.0 statements replies now taken.2 in
     record { replied = omega (arith, one.replied, later.replied); certain = omega (arith, one.certain, later.certain); possible = omega (arith, one.possible, later.possible); refused = omega (arith, one.refused, later.refused) }
 
-by_last : (before : Tally) (last : List Reply) (now : Tally) → TakesLast Adds before last now → Grown before [] [] last now
+by_last : (before : Tally) (last : List Reply) (now : Tally) → TakesLast AddsReply before last now → Grown before [] [] last now
 by_last before [] now same =
     let a = ap (λ t. t.replies) same in
     let b = ap (λ t. t.certain) same in
@@ -57,7 +57,7 @@ refusals-append (reply ∷ a) b =
 
 -- a run whose replies a new tally took
 tallied : {old : State} {input : List ℕ} {replies : List Reply} {new : State} (before tally : Tally) → before ≡ record { replies = 0; certain = 0; possible = 0; refused = 0 } → (run : RunsOver old input true replies new)
-    → TakesRun Adds before run.statements run.answered run.last tally → AnswersAll old input tally new
+    → TakesRun AddsReply before run.statements run.answered run.last tally → AnswersAll old input tally new
 tallied {replies = replies} before tally none run taken =
     let each = by_each before run.statements run.answered taken.mid taken.each in
     let last = by_last taken.mid run.last tally taken.closing in
@@ -92,7 +92,7 @@ at_its_start state input = record { statements = []; rest = input; replies = [];
 
 -- how a run ended over these bytes from a source that never fails, into a tally
 abbrev Ends : (before tally : Tally) (source left : List ℕ) (old new : State) → Ending → Type 0
-Ends before tally source left old new ending = HandsOn Adds before tally ending (told (Some source) None 0 0) (told (Some left) None 0 0) old new
+Ends before tally source left old new ending = HandsOn AddsReply before tally ending (told (Some source) None 0 0) (told (Some left) None 0 0) old new
 
 -- where nothing is left, all has come
 whole : (source came left : List ℕ) → source ≡ came ++ left → left ≡ [] → came ≡ source

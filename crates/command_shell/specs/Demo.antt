@@ -22,13 +22,13 @@ pub record IsSize (digits : List ℕ) (size : ℕ) : Type 0 where
   pub few : size ≤ GREATEST_SIZE
 
 -- how many rows a reply lists
-abbrev pub rows_in : Reply → ℕ
-rows_in (Rows rows) = length rows
-rows_in _ = 0
+abbrev pub listed_rows : Reply → ℕ
+listed_rows (Rows rows) = length rows
+listed_rows _ = 0
 
 -- how many rows the reply to a statement's text lists, if the text begins with a word
 abbrev pub rows_after : List ℕ → List ℕ → Reply → ℕ
-rows_after word text reply = if starts_with nat_eq text word then rows_in reply else 0
+rows_after word text reply = if starts_with nat_eq text word then listed_rows reply else 0
 
 -- how many rows the replies to statements list, of those statements that begin with a word
 abbrev pub rows_to : List ℕ → List Statement → List Reply → ℕ

@@ -10,11 +10,11 @@ use Rattle.cqa_session.specs.Runs.{Answers}
 use Rattle.command_shell.specs.Top.{Ended, Outside}
 
 -- the taker took the replies to these statements, one after another
-abbrev pub Takes : {Taker : Type 0} (took : Taker → List ℕ → Reply → Taker → Type 0) → Taker → List Statement → List Reply → Taker → Type 0
-Takes took old [] [] new = new ≡ old
-Takes took old [] (reply ∷ replies) new = ⊥
-Takes took old (statement ∷ statements) [] new = ⊥
-Takes {Taker = Taker} took old (statement ∷ statements) (reply ∷ replies) new = (mid : Taker) × took old statement.0 reply mid × Takes took mid statements replies new
+abbrev pub TakesReplies : {Taker : Type 0} (took : Taker → List ℕ → Reply → Taker → Type 0) → Taker → List Statement → List Reply → Taker → Type 0
+TakesReplies took old [] [] new = new ≡ old
+TakesReplies took old [] (reply ∷ replies) new = ⊥
+TakesReplies took old (statement ∷ statements) [] new = ⊥
+TakesReplies {Taker = Taker} took old (statement ∷ statements) (reply ∷ replies) new = (mid : Taker) × took old statement.0 reply mid × TakesReplies took mid statements replies new
 
 -- the taker took what the end of the input adds, which answers no statement: its text is empty
 abbrev pub TakesLast : {Taker : Type 0} (took : Taker → List ℕ → Reply → Taker → Type 0) → Taker → List Reply → Taker → Type 0
@@ -24,7 +24,7 @@ TakesLast {Taker = Taker} took old (reply ∷ replies) new = (mid : Taker) × to
 -- the taker took the replies to these statements, and then what the end of the input adds
 pub record TakesRun {Taker : Type 0} (took : Taker → List ℕ → Reply → Taker → Type 0) (old : Taker) (statements : List Statement) (answered last : List Reply) (new : Taker) : Type 0 where
   pub mid : Taker
-  pub each : Takes took old statements answered mid
+  pub each : TakesReplies took old statements answered mid
   pub closing : TakesLast took mid last new
 
 -- The statements of the bytes were answered, up to a rest of the bytes, and the taker took the replies.

@@ -12,7 +12,7 @@ use Rattle.case_maker.specs.Scripts.{script_bytes}
 use Rattle.std.specs.Io.KnownBytes.{Appends, Keeps}
 
 -- one reply more, to a statement of this text
-pub record Adds (before : Tally) (text : List ℕ) (reply : Reply) (now : Tally) : Type 0 where
+pub record AddsReply (before : Tally) (text : List ℕ) (reply : Reply) (now : Tally) : Type 0 where
   pub replied : now.replies ≡ before.replies + 1
   pub certain : now.certain ≡ before.certain + rows_after (codes "ask ") text reply
   pub possible : now.possible ≡ before.possible + rows_after (codes "possible ") text reply

@@ -3,8 +3,8 @@
 ghost use Rattle.std.specs.Prelude.{◌≡◌, ◌+◌, None, IfOk, OnOk};
 ghost use Rattle.cqa_io.specs.Causes.{Rose};
 ghost use Rattle.command_shell.specs.Parts.{ReplyRow};
-ghost use Rattle.command_shell.specs.Demo.{rows_after, rows_in};
-ghost use Rattle.command_shell.specs.Tallying.{Adds};
+ghost use Rattle.command_shell.specs.Demo.{rows_after, listed_rows};
+ghost use Rattle.command_shell.specs.Tallying.{AddsReply};
 
 use crate::answers::is_refused;
 use crate::ending::Stop;
@@ -41,7 +41,7 @@ impl Tally {
     ///
     /// `NoMemory` where a number has no room in 64 bits.
     pub fn with(self, text: &[u8], reply: &Reply) -> Result<Tally, NoMemory>
-        ensures { IfOk result (λ tally. Adds self text.now reply.now tally) }
+        ensures { IfOk result (λ tally. AddsReply self text.now reply.now tally) }
     {
         Ok(Tally {
             replies: sum(self.replies, 1)?,
@@ -58,11 +58,11 @@ impl Taker for Tally {
 
     ghost faults = { λ _. 0 };
 
-    ghost took = { Adds };
+    ghost took = { AddsReply };
 
     fn take(&mut self, _alloc: Global, text: &[u8], reply: &Reply) -> Result<bool, Stop>
         ensures row { ReplyRow result (Rose 0 0) None None reply.now }
-        ensures took { OnOk result (Adds self.old text.now reply.now self.new) }
+        ensures took { OnOk result (AddsReply self.old text.now reply.now self.new) }
     {
         *self = self.with(text, reply)?;
         Ok(is_refused(reply))
@@ -81,15 +81,15 @@ fn rows_after(word: &[u8], text: &[u8], reply: &Reply) -> u64
     ensures { result ≡ rows_after word.now text.now reply.now }
 {
     if text.starts_with(word) {
-        rows_in(reply)
+        listed_rows(reply)
     } else {
         0
     }
 }
 
 /// How many rows a reply lists.
-fn rows_in(reply: &Reply) -> u64
-    ensures { result ≡ rows_in reply.now }
+fn listed_rows(reply: &Reply) -> u64
+    ensures { result ≡ listed_rows reply.now }
 {
     match reply {
         Reply::Rows(rows) => rows.len() as u64,

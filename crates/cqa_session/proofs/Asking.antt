@@ -14,13 +14,13 @@ use Rattle.spj_syntax.specs.declared.tree.Select.{Select}
 use Rattle.query_resolve.specs.Resolved.{IsQueryOf}
 use Rattle.reply_text.specs.declared.reply.Reply.{Reply}
 use Rattle.cqa_session.specs.State.{State}
-use Rattle.cqa_session.specs.Replying.{Replies, IsOutcome}
+use Rattle.cqa_session.specs.Replying.{Replies, IsReplyOutcome}
 use Rattle.cqa_session.specs.Statements.Sides.{AnswersSide, FindsRows, TellsSide}
 
 module _ (old new : State) (q : Query) (side : Side) where
   -- an answer to the query is one to the statement that asks for it
-  pub answered : (fault : Option Refusal) (select : Select) (result : Result Reply (Fail Refusal)) → fault ≡ None → IsQueryOf old.tables select q → IsOutcome result old (TellsSide old q side) new →
-      IsOutcome result old (Replies fault old (AnswersSide old select side)) new
+  pub answered : (fault : Option Refusal) (select : Select) (result : Result Reply (Fail Refusal)) → fault ≡ None → IsQueryOf old.tables select q → IsReplyOutcome result old (TellsSide old q side) new →
+      IsReplyOutcome result old (Replies fault old (AnswersSide old select side)) new
   answered fault select (Ok reply) valid resolved told = inr (valid, record { query = q; resolved = resolved; told = told })
   answered fault select (Err (fails.Refused refusal)) valid resolved told = inr (valid, record { query = q; resolved = resolved; told = told })
   answered fault select (Err fails.NoMemory) valid resolved told = told

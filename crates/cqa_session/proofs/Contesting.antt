@@ -14,13 +14,13 @@ use Rattle.cqa_model.specs.Repairs.{SharesKey}
 use Rattle.cqa_model.proofs.BlockOrder.{shares-from_key, key-from_shares}
 use Rattle.cqa_model.proofs.Repairs.{shares-sym}
 use Rattle.table_blocks.specs.declared.test.ColumnTest.{ColumnTest}
-use Rattle.table_blocks.specs.Tables.{rows_at, key_at}
+use Rattle.table_blocks.specs.Tables.{rows_at, key_at, rows_in, names_in}
 use Rattle.repair_back.specs.Results.{is_of_block, is_contested, contested_of}
-use Rattle.range_ask.specs.Ranges.{names_in, rows_in, IsAttained}
-use Rattle.range_ask.specs.Picks.{ArePicked, IsParted}
-use Rattle.range_ask.specs.Walking.{is_wide}
+use Rattle.range_ask.specs.Ranges.{IsAttained}
+use Rattle.range_ask.specs.Picks.{ArePicked, IsInBlocks}
 use Rattle.range_ask.specs.Choosing.{wide_names}
 use Rattle.range_ask.proofs.Picked.{all_rows, Fresh, fresh-left, fresh-right, sorted-fresh, in_some, picks_are_repairs}
+use Rattle.row_cursor.specs.Conflicts.{is_conflict}
 
 in_fresh : (bs : List (List (List Value))) (b : List (List Value)) → Fresh (all_rows bs) → Contains bs b → Fresh b
 in_fresh [] b f m = absurd (mem-nil b m)
@@ -29,7 +29,7 @@ in_fresh (c ∷ bs) b f m = elim (mem-cases b c bs m) [
   | inr k ↦ in_fresh bs b (fresh-right c (all_rows bs) f) k
 ]
 
-module _ (db : List Table) (table : ℕ) (blocks : List (List (List Value))) (parted : IsParted db table blocks) where
+module _ (db : List Table) (table : ℕ) (blocks : List (List (List Value))) (parted : IsInBlocks db table blocks) where
   abbrev key : List ℕ
   key = key_at db table
 
@@ -70,7 +70,7 @@ module _ (db : List Table) (table : ℕ) (blocks : List (List (List Value))) (pa
       (subst (λ z. (is_of_block key x z && not (row_eq x z)) ≡ true) (sym (get_or_default rows k.0 [] y k.1 ∙ k.2))
       (and_from (is_of_block key x y) (not (row_eq x y)) ((row_decides (key_of key x) (key_of key y)).1 (key-from_shares key x y s)) (not_from_false (row_eq x y) (false_from_ne_true (row_eq x y) (λ e. ne ((row_decides x y).0 e))))))
 
-  contested-is : (b : List (List Value)) → Contains blocks b → (x : List Value) → Contains b x → is_contested key rows x ≡ is_wide b
+  contested-is : (b : List (List Value)) → Contains blocks b → (x : List Value) → Contains b x → is_contested key rows x ≡ is_conflict b
   contested-is [] m x mx = absurd (mem-nil x mx)
   contested-is (y ∷ []) m x mx = false_from_ne_true (is_contested key rows x) sole
     where
@@ -97,7 +97,7 @@ module _ (db : List Table) (table : ℕ) (blocks : List (List (List Value))) (pa
   names-are [] [] inside p = refl
   names-are [] (q ∷ places) inside p = absurd p
   names-are (b ∷ bs) [] inside p = absurd p
-  names-are (b ∷ bs) (q ∷ places) inside p = go (is_wide b) (is_contested key rows (get_or rows q [])) (contested-is b (inside b (mem-head b bs)) (get_or rows q []) p.0) (names-are bs places (λ c m. inside c (mem-tail c b bs m)) p.1)
+  names-are (b ∷ bs) (q ∷ places) inside p = go (is_conflict b) (is_contested key rows (get_or rows q [])) (contested-is b (inside b (mem-head b bs)) (get_or rows q []) p.0) (names-are bs places (λ c m. inside c (mem-tail c b bs m)) p.1)
     where
       name : RowId
       name = record { table = table; place = q }

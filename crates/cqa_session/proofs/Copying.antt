@@ -10,7 +10,7 @@ use Rattle.table_changes.specs.Changes.{insert_fault}
 use Rattle.csv_rows.specs.Blocks.{HoldsRows, IsRefusedRecord}
 use Rattle.reply_text.specs.declared.reply.Reply.{Reply}
 use Rattle.cqa_session.specs.State.{State}
-use Rattle.cqa_session.specs.Replying.{Replies, IsOutcome}
+use Rattle.cqa_session.specs.Replying.{Replies, IsReplyOutcome}
 use Rattle.cqa_session.specs.Statements.Copy.{block_bytes, copy_into_fault, CopiesInto}
 use Rattle.cqa_session.proofs.Doing.{on_table-there}
 
@@ -22,21 +22,21 @@ module _ (old new : State) (name : List ℕ) (block : Option (List ℕ)) (table 
   there : copy_into_fault old.tables name ≡ None
   there = on_table-there old.tables name (λ at. None) table found
 
-  by_record : (fail : Fail Refusal) → IsRefusedRecord (kinds_at old.tables table) (block_bytes block) fail → IsOutcome (Err fail) old May new
+  by_record : (fail : Fail Refusal) → IsRefusedRecord (kinds_at old.tables table) (block_bytes block) fail → IsReplyOutcome (Err fail) old May new
   by_record fails.NoMemory refused = keeps
   by_record (fails.Refused refusal) refused = inr (there, record { table = table; found = found; told = (inl (record { number = refused.0; first = refused.2; is = refused.1 }), keeps) })
 
   -- a record is no row
-  pub bad_record : (result : Result Reply (Fail Refusal)) (fail : Fail Refusal) → IsErrAnd result (λ e. e ≡ fail) → IsRefusedRecord (kinds_at old.tables table) (block_bytes block) fail → IsOutcome result old May new
+  pub bad_record : (result : Result Reply (Fail Refusal)) (fail : Fail Refusal) → IsErrAnd result (λ e. e ≡ fail) → IsRefusedRecord (kinds_at old.tables table) (block_bytes block) fail → IsReplyOutcome result old May new
   bad_record (Ok reply) fail is refused = absurd is
-  bad_record (Err e) fail is refused = subst (λ f. IsOutcome (Err f) old May new) (sym is) (by_record fail refused)
+  bad_record (Err e) fail is refused = subst (λ f. IsReplyOutcome (Err f) old May new) (sym is) (by_record fail refused)
 
-  by_rows : (rows : List (List Value)) → HoldsRows (kinds_at old.tables table) (block_bytes block) rows → (fail : Fail Refusal) → IsRefusedAs fail (insert_fault old.tables table rows) → IsOutcome (Err fail) old May new
+  by_rows : (rows : List (List Value)) → HoldsRows (kinds_at old.tables table) (block_bytes block) rows → (fail : Fail Refusal) → IsRefusedAs fail (insert_fault old.tables table rows) → IsReplyOutcome (Err fail) old May new
   by_rows rows held fails.NoMemory refused = keeps
   by_rows rows held (fails.Refused refusal) refused = inr (there, record { table = table; found = found; told = (inr (record { rows = rows; held = held; first = refused }), keeps) })
 
   -- a check of the rows fails
   pub bad_rows : (rows : List (List Value)) → HoldsRows (kinds_at old.tables table) (block_bytes block) rows → (result : Result Reply (Fail Refusal)) (fail : Fail Refusal) → IsErrAnd result (λ e. e ≡ fail)
-      → IsRefusedAs fail (insert_fault old.tables table rows) → IsOutcome result old May new
+      → IsRefusedAs fail (insert_fault old.tables table rows) → IsReplyOutcome result old May new
   bad_rows rows held (Ok reply) fail is refused = absurd is
-  bad_rows rows held (Err e) fail is refused = subst (λ f. IsOutcome (Err f) old May new) (sym is) (by_rows rows held fail refused)
+  bad_rows rows held (Err e) fail is refused = subst (λ f. IsReplyOutcome (Err f) old May new) (sym is) (by_rows rows held fail refused)

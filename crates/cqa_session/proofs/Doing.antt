@@ -10,23 +10,23 @@ use Rattle.refusals.specs.Refusal.{IsRefusedAs}
 use Rattle.table_blocks.specs.Tables.{table_named}
 use Rattle.reply_text.specs.declared.reply.Reply.{Reply}
 use Rattle.cqa_session.specs.State.{State}
-use Rattle.cqa_session.specs.Replying.{on_table, Replies, IsOutcome}
+use Rattle.cqa_session.specs.Replying.{on_table, Replies, IsReplyOutcome}
 
 -- ---- the ways out of a room
 
 module _ (fault : Option Refusal) (old new : State) (May : Reply → State → Type 0) (keeps : new ≡ old) where
   -- a check failed, and no state was changed
-  pub refused : (fail : Fail Refusal) → IsRefusedAs fail fault → IsOutcome (Err fail) old (Replies fault old May) new
+  pub refused : (fail : Fail Refusal) → IsRefusedAs fail fault → IsReplyOutcome (Err fail) old (Replies fault old May) new
   refused fails.NoMemory is = keeps
   refused (fails.Refused refusal) is = inl (record { refusal = refusal; first = is; replies = refl; keeps = keeps })
 
   -- at the exit of a `?`
-  pub refused_out : (result : Result Reply (Fail Refusal)) (fail : Fail Refusal) → IsErrAnd result (λ e. e ≡ fail) → IsRefusedAs fail fault → IsOutcome result old (Replies fault old May) new
+  pub refused_out : (result : Result Reply (Fail Refusal)) (fail : Fail Refusal) → IsErrAnd result (λ e. e ≡ fail) → IsRefusedAs fail fault → IsReplyOutcome result old (Replies fault old May) new
   refused_out (Ok reply) fail is cause = absurd is
-  refused_out (Err e) fail is cause = subst (λ f. IsOutcome (Err f) old (Replies fault old May) new) (sym is) (refused fail cause)
+  refused_out (Err e) fail is cause = subst (λ f. IsReplyOutcome (Err f) old (Replies fault old May) new) (sym is) (refused fail cause)
 
 -- no check failed, and what may be answered then is answered
-pub unrefused : (fault : Option Refusal) (old new : State) (May : Reply → State → Type 0) (result : Result Reply (Fail Refusal)) → fault ≡ None → IsOutcome result old May new → IsOutcome result old (Replies fault old May) new
+pub unrefused : (fault : Option Refusal) (old new : State) (May : Reply → State → Type 0) (result : Result Reply (Fail Refusal)) → fault ≡ None → IsReplyOutcome result old May new → IsReplyOutcome result old (Replies fault old May) new
 unrefused fault old new May (Ok reply) valid may = inr (valid, may)
 unrefused fault old new May (Err (fails.Refused refusal)) valid may = inr (valid, may)
 unrefused fault old new May (Err fails.NoMemory) valid may = may

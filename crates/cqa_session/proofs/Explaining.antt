@@ -19,22 +19,22 @@ use Rattle.reply_text.specs.declared.reply.Proof.{Proof}
 use Rattle.reply_text.specs.declared.reply.Reply.{Reply}
 use Rattle.reply_text.specs.declared.reply.Reply.TheVariants as replies
 use Rattle.cqa_session.specs.State.{State}
-use Rattle.cqa_session.specs.Replying.{Replies, IsOutcome}
-use Rattle.cqa_session.specs.Statements.Kept.{name_at, kept_line}
+use Rattle.cqa_session.specs.Replying.{Replies, IsReplyOutcome}
+use Rattle.cqa_session.specs.Statements.Kept.{table_name_at, kept_line}
 use Rattle.cqa_session.specs.Statements.Untold.{RefusesRow}
 use Rattle.cqa_session.specs.Statements.Explain.{StopsFor, MayTell, Explains}
 use Rattle.cqa_session.proofs.Spending.{spent_for, spends}
 
 -- the name of a table is that of its schema
-pub named : (db : List Table) (table : ℕ) (schema : Schema) → table < length db → IfSome (slice_get db table) (λ t. schema ≡ t.schema) → schema.name ≡ name_at db table
+pub named : (db : List Table) (table : ℕ) (schema : Schema) → table < length db → IfSome (slice_get db table) (λ t. schema ≡ t.schema) → schema.name ≡ table_name_at db table
 named [] table schema l is = absurd (omega (arith, l))
 named (t ∷ db) zero schema l is = ap (λ (s : Schema). s.name) is
 named (t ∷ db) (suc table) schema l is = named db table schema (omega (arith, l)) is
 
 module _ (old : State) (q : Query) (row : List Value) (db : List Table) (reply : Reply) (tables : db ≡ old.tables) where
   -- the block by which a row is certain, told by the name of its table
-  pub block_told : (table : ℕ) (key : List Value) → IsReason old.tables q row (reasons.ByBlock table key) → reply ≡ replies.ByBlock (name_at db table) key → MayTell old q row reply old
-  block_told table key reason told = subst (λ z. MayTell old q row z old) (sym (told ∙ ap (λ z. replies.ByBlock (name_at z table) key) tables)) ((table, reason, refl), refl)
+  pub block_told : (table : ℕ) (key : List Value) → IsReason old.tables q row (reasons.ByBlock table key) → reply ≡ replies.ByBlock (table_name_at db table) key → MayTell old q row reply old
+  block_told table key reason told = subst (λ z. MayTell old q row z old) (sym (told ∙ ap (λ z. replies.ByBlock (table_name_at z table) key) tables)) ((table, reason, refl), refl)
 
   -- a repair, told by the lines of its rows
   pub repair_told : (names : List RowId) → IsReason old.tables q row (reasons.Rejected names) → reply ≡ replies.Rejected (map (kept_line db) names) → MayTell old q row reply old
@@ -47,7 +47,7 @@ refutation_told old new q row proof reply reason told kept = subst (λ z. MayTel
 
 -- the refusal of a row whose reason isn't told
 pub untold : (old new : State) (q : Query) (row : List Value) (stop : Untold) (fault : Fail Refusal) → IsUntold old.tables q row old.budget stop → RefusesRow old row stop fault new →
-    IsOutcome (Err fault) old (MayTell old q row) new
+    IsReplyOutcome (Err fault) old (MayTell old q row) new
 untold old new q row stop fails.NoMemory u h = h
 untold old new q row stops.Over (fails.Refused refusal) u h = subst (λ r. StopsFor old q row r new) (sym h.0) (refl, u, h.1)
 untold old new q row (stops.Spent cnf log) (fails.Refused refusal) u h =
@@ -57,7 +57,7 @@ untold old new q row (stops.Spent cnf log) (fails.Refused refusal) u h =
 
 -- how the answer for a row ends the statement
 pub explained : (old new : State) (row : List Value) (select : Select) (query : Query) (result : Result Reply (Fail Refusal)) → query_fault old.tables select ≡ None → IsQueryOf old.tables select query →
-    IsOutcome result old (Replies (answer_fault old.tables query row) old (MayTell old query row)) new → IsOutcome result old (Replies (query_fault old.tables select) old (Explains old row select)) new
+    IsReplyOutcome result old (Replies (answer_fault old.tables query row) old (MayTell old query row)) new → IsReplyOutcome result old (Replies (query_fault old.tables select) old (Explains old row select)) new
 explained old new row select query (Ok reply) valid resolved told = inr (valid, record { query = query; resolved = resolved; replied = told })
 explained old new row select query (Err (fails.Refused refusal)) valid resolved told = inr (valid, record { query = query; resolved = resolved; replied = told })
 explained old new row select query (Err fails.NoMemory) valid resolved told = told

@@ -16,12 +16,12 @@ use Rattle.attack_graph.specs.Attacking.{HasAttack, HasWeakAttack, AreAttacks}
 use Rattle.query_resolve.specs.Resolved.{IsAtomOf, IsQueryOf}
 use Rattle.spj_syntax.specs.declared.tree.Select.{Select}
 use Rattle.reply_text.specs.declared.reply.AttackLine.{AttackLine}
-use Rattle.cqa_session.specs.AttackLines.{Attack, IsBefore, IsLineOf, AreAttackLines}
+use Rattle.cqa_session.specs.AttackLines.{Attack, IsEarlierAttack, IsLineOf, AreAttackLines}
 
 -- the attacks of a graph with a number below this one have their lines
 pub record AreLines (g : Graph) (names : List (List ℕ)) (n : ℕ) (lines : List AttackLine) : Type 0 where
   pub attacks : List Attack
-  pub in_order : AllPairs IsBefore attacks
+  pub in_order : AllPairs IsEarlierAttack attacks
   pub exactly : (a : Attack) → Contains attacks a ↔ (HasAttack g a.from a.to × (12 * a.from + a.to < n))
   pub each : AllZip (IsLineOf (HasWeakAttack g) names) attacks lines
 
@@ -47,10 +47,10 @@ module _ (g : Graph) (names : List (List ℕ)) where
     same : (b : Attack) → b.to < 12 → 12 * b.from + b.to ≡ n → b ≡ a
     same b l e = attack_eq b a (omega (arith, small, at, l, e)) (omega (arith, small, at, l, e))
 
-    before : (b : Attack) → b.to < 12 → 12 * b.from + b.to < n → IsBefore b a
+    before : (b : Attack) → b.to < 12 → 12 * b.from + b.to < n → IsEarlierAttack b a
     before b l h = go (dec_le (suc b.from) a.from)
       where
-        go : Dec (suc b.from ≤ a.from) → IsBefore b a
+        go : Dec (suc b.from ≤ a.from) → IsEarlierAttack b a
         go (yes f) = inl f
         go (no f) = inr (omega (arith, small, at, l, h, f), omega (arith, small, at, l, h, f))
 
@@ -72,7 +72,7 @@ module _ (g : Graph) (names : List (List ℕ)) where
     pub lines-more : (lines new : List AttackLine) (line : AttackLine) → AreLines g names n lines → HasAttack g a.from a.to → IsLineOf (HasWeakAttack g) names a line → new ≡ lines ++ line ∷ [] → AreLines g names (n + 1) new
     lines-more lines new line old attack is e = rw e (record {
       attacks = old.attacks ++ a ∷ [];
-      in_order = all_pairs_push IsBefore old.attacks a old.in_order (λ k d l. let m = (old.exactly (get_or old.attacks k d)).0 (Contains-get_or old.attacks k d l) in before (get_or old.attacks k d) (g.small (get_or old.attacks k d).from (get_or old.attacks k d).to m.0).1 m.1);
+      in_order = all_pairs_push IsEarlierAttack old.attacks a old.in_order (λ k d l. let m = (old.exactly (get_or old.attacks k d)).0 (Contains-get_or old.attacks k d l) in before (get_or old.attacks k d) (g.small (get_or old.attacks k d).from (get_or old.attacks k d).to m.0).1 m.1);
       exactly = λ b. (
         (λ m. elim (Contains-push_cases old.attacks a b m) [
           | inl o ↦ let w = (old.exactly b).0 o in (w.0, omega (arith, w.1))

@@ -24,10 +24,10 @@ use Rattle.reply_text.specs.declared.reply.Reply.{Reply}
 use Rattle.reply_text.specs.declared.reply.Reply.TheVariants as replies
 use Rattle.weak_pairs.specs.Pairs.{IsPair}
 use Rattle.cqa_session.specs.State.{State}
-use Rattle.cqa_session.specs.Replying.{Replies, IsOutcome}
+use Rattle.cqa_session.specs.Replying.{Replies, IsReplyOutcome}
 use Rattle.cqa_session.specs.Statements.Kept.{kept_line}
 use Rattle.cqa_session.specs.Statements.Untold.{RefusesRow}
-use Rattle.cqa_session.specs.Statements.Against.{rejecting_of, IsDecision, IsPairDecision, IsToldOf, IsUndecided, StopsAgainst, TellsAgainst, AnswersAgainst}
+use Rattle.cqa_session.specs.Statements.Against.{rejecting_of, IsDecision, IsAgainstPair, IsToldOf, IsUndecided, StopsAgainst, TellsAgainst, AnswersAgainst}
 use Rattle.cqa_session.proofs.Spending.{spent_for, spends}
 
 module _ (db : List Table) (q : Query) (row : List Value) where
@@ -42,7 +42,7 @@ module _ (db : List Table) (q : Query) (row : List Value) where
   plan_decides (reasons.Refuted cnf log) plan h = absurd h
 
   -- what is found of a pair
-  pub pair_decides : (found : Option (List RowId)) → IsPair q → IsPairDecision db q row found → IsDecision db q row found
+  pub pair_decides : (found : Option (List RowId)) → IsPair q → IsAgainstPair db q row found → IsDecision db q row found
   pair_decides None pair h = (h, λ needs. absurd (needs.1 pair))
   pair_decides (Some names) pair h = h
 
@@ -54,7 +54,7 @@ module _ (db : List Table) (q : Query) (row : List Value) where
 
 -- how the refusal of a row ends the statement
 pub against_refused : (old new : State) (q : Query) (row : List Value) (stop : Untold) (fault : Fail Refusal) → IsUndecided old.tables q row old.budget stop → RefusesRow old row stop fault new →
-    IsOutcome (Err fault) old (TellsAgainst old q row) new
+    IsReplyOutcome (Err fault) old (TellsAgainst old q row) new
 against_refused old new q row stop fails.NoMemory u h = h
 against_refused old new q row untold.Over (fails.Refused refusal) u h = subst (λ r. StopsAgainst old q row r new) (sym h.0) (refl, u, h.1)
 against_refused old new q row (untold.Spent cnf log) (fails.Refused refusal) u h =
@@ -69,7 +69,7 @@ lines_told old q row db reply tables names told is = subst (λ z. TellsAgainst o
 
 -- how the answer for a row ends the statement
 pub against_answered : (old new : State) (row : List Value) (select : Select) (query : Query) (result : Result Reply (Fail Refusal)) → query_fault old.tables select ≡ None → IsQueryOf old.tables select query →
-    IsOutcome result old (Replies (answer_fault old.tables query row) old (TellsAgainst old query row)) new → IsOutcome result old (Replies (query_fault old.tables select) old (AnswersAgainst old row select)) new
+    IsReplyOutcome result old (Replies (answer_fault old.tables query row) old (TellsAgainst old query row)) new → IsReplyOutcome result old (Replies (query_fault old.tables select) old (AnswersAgainst old row select)) new
 against_answered old new row select query (Ok reply) valid resolved told = inr (valid, record { query = query; resolved = resolved; replied = told })
 against_answered old new row select query (Err (fails.Refused refusal)) valid resolved told = inr (valid, record { query = query; resolved = resolved; replied = told })
 against_answered old new row select query (Err fails.NoMemory) valid resolved told = told

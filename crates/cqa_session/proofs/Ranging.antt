@@ -16,17 +16,17 @@ use Rattle.refusals.specs.declared.refusal.Refusal.{Refusal}
 use Rattle.refusals.specs.Refusal.{IsRefusedAs, Checked}
 use Rattle.spj_syntax.specs.declared.tree.RawGoal.{RawGoal}
 use Rattle.spj_syntax.specs.declared.tree.RawTest.{RawTest}
-use Rattle.table_blocks.specs.Tables.{table_named, rows_at, key_at}
+use Rattle.table_blocks.specs.Tables.{table_named, rows_at, key_at, rows_in, names_in}
 use Rattle.table_blocks.specs.declared.test.ColumnTest.{ColumnTest}
 use Rattle.query_resolve.specs.Names.{columns_at}
 use Rattle.query_resolve.specs.Checks.{goal_fault, tests_fault, group_fault}
 use Rattle.query_resolve.specs.Resolved.{IsGoalOf, AreTestsOf}
 use Rattle.query_resolve.proofs.Members.{refused_first, refused_second, neither}
-use Rattle.range_ask.specs.Ranges.{names_in, rows_in, IsAttained}
+use Rattle.range_ask.specs.Ranges.{IsAttained}
 use Rattle.repair_back.specs.Results.{AreStored}
 use Rattle.reply_text.specs.declared.reply.Reply.{Reply}
 use Rattle.cqa_session.specs.State.{State}
-use Rattle.cqa_session.specs.Replying.{on_table, Replies, IsOutcome}
+use Rattle.cqa_session.specs.Replying.{on_table, Replies, IsReplyOutcome}
 use Rattle.cqa_session.specs.Statements.Range.{asked_fault, range_fault, TellsBy, TellsRange}
 use Rattle.cqa_session.proofs.Doing.{refused, on_table-there}
 
@@ -109,7 +109,7 @@ module _ (old : State) (name : List ℕ) (goal : RawGoal) (tests : List RawTest)
 
         -- it is told, or refused by the column of the groups
         pub told_or_refused : (result : Result Reply (Fail Refusal)) → Checked result (group_fault (columns_at db table) group) (TellsBy db table resolved resolved_tests group) →
-            IsOutcome result old (Replies (range_fault old.tables name goal tests group) old (TellsRange old name goal tests group)) old
+            IsReplyOutcome result old (Replies (range_fault old.tables name goal tests group) old (TellsRange old name goal tests group)) old
         told_or_refused (Ok reply) checked =
             inr (fault_there ∙ neither (goal_fault (columns_at db table) goal) _ right (neither (tests_fault db table tests) (group_fault (columns_at db table) group) pass checked.valid), told_of reply checked.is)
         told_or_refused (Err fail) checked =

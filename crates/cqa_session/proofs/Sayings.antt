@@ -14,8 +14,8 @@ use Rattle.saying_law.proofs.Spelling.{texts_have_tokens}
 use Rattle.saying_law.proofs.Parsing.{tokens_are_decided}
 use Rattle.saying_law.proofs.Whole.{statements_have_trees}
 use Rattle.cqa_session.specs.State.{State}
-use Rattle.cqa_session.specs.Saying.{of_lexing, of_parsing, HasNoStatement, HasStatement, Says, IsReadAs, SaysOneThing, SaysSomething}
-use Rattle.cqa_session.specs.Replying.{IsOutcome}
+use Rattle.cqa_session.specs.Saying.{of_lexing, of_parsing, SaysNoStatement, HasStatement, Says, IsReadAs, SaysOneThing, SaysSomething}
+use Rattle.cqa_session.specs.Replying.{IsReplyOutcome}
 use Rattle.cqa_session.specs.Machine.{Does, Step}
 
 -- the tokens of one are those of the other
@@ -23,7 +23,7 @@ same_statement : (text : List ℕ) (s t : Statement) → HasStatement text s →
 same_statement text s t a b =
     only_statement text a.tokens (Ok s) (a.allowed, a.fit, a.written) t (subst (λ tokens. IsWrittenAs t (lexemes text tokens)) (spells_same b.spelled a.spelled) b.written)
 
-no_refusal : (text : List ℕ) (s : Statement) (refusal : Refusal) → HasStatement text s → HasNoStatement text refusal → ⊥
+no_refusal : (text : List ℕ) (s : Statement) (refusal : Refusal) → HasStatement text s → SaysNoStatement text refusal → ⊥
 no_refusal text s refusal a b =
     only_fault text a.tokens (Ok s) (a.allowed, a.fit, a.written) b.fault (subst (λ tokens. RefusesTokens text tokens b.fault) (spells_same b.spelled a.spelled) b.cause)
 
@@ -64,16 +64,16 @@ does_as_said old new text block reply step said says = subst (λ s. Does old s b
 
 -- a text that is read, or refused by its form
 pub refused_by_form : (old : State) (text : List ℕ) (block : Option (List ℕ)) (result : Result Reply (Fail Refusal)) (fail : Fail Refusal) → IsErrAnd result (λ e. e ≡ fail) → IsReadAs text (Err fail)
-    → IsOutcome result old (Step old text block) old
+    → IsReplyOutcome result old (Step old text block) old
 refused_by_form old text block (Ok reply) fail is read = absurd is
-refused_by_form old text block (Err e) fail is read = subst (λ f. IsOutcome (Err f) old (Step old text block) old) (sym is) (of fail read)
+refused_by_form old text block (Err e) fail is read = subst (λ f. IsReplyOutcome (Err f) old (Step old text block) old) (sym is) (of fail read)
   where
-    of : (fail : Fail Refusal) → IsReadAs text (Err fail) → IsOutcome (Err fail) old (Step old text block) old
+    of : (fail : Fail Refusal) → IsReadAs text (Err fail) → IsReplyOutcome (Err fail) old (Step old text block) old
     of fails.NoMemory read = refl
     of (fails.Refused refusal) read = record { said = Err refusal; says = read; does = (refl, refl) }
 
 pub done_as_read : (old new : State) (text : List ℕ) (block : Option (List ℕ)) (statement : Statement) (result : Result Reply (Fail Refusal)) → IsReadAs text (Ok statement)
-    → IsOutcome result old (Does old (Ok statement) block) new → IsOutcome result old (Step old text block) new
+    → IsReplyOutcome result old (Does old (Ok statement) block) new → IsReplyOutcome result old (Step old text block) new
 done_as_read old new text block statement (Ok reply) read done = record { said = Ok statement; says = read; does = done }
 done_as_read old new text block statement (Err (fails.Refused refusal)) read done = record { said = Ok statement; says = read; does = done }
 done_as_read old new text block statement (Err fails.NoMemory) read done = done

@@ -12,12 +12,12 @@ pub record Attack : Type 0 where
   pub to : ℕ
 
 -- by the attacker, and then by the attacked
-abbrev pub IsBefore : Attack → Attack → Type 0
-IsBefore a b = (a.from < b.from) ⊎ ((a.from ≡ b.from) × (a.to < b.to))
+abbrev pub IsEarlierAttack : Attack → Attack → Type 0
+IsEarlierAttack a b = (a.from < b.from) ⊎ ((a.from ≡ b.from) × (a.to < b.to))
 
 -- the attacks of the whole query, each once, in this order
 pub record AreAttacksOf (q : Query) (attacks : List Attack) : Type 0 where
-  pub in_order : AllPairs IsBefore attacks
+  pub in_order : AllPairs IsEarlierAttack attacks
   pub exactly : (a : Attack) → Contains attacks a ↔ Attacks q (whole q) a.from a.to
 
 -- the line of an attack: the names of its two tables, and whether it is among the weak ones

@@ -27,7 +27,7 @@ abbrev pub Replies : Option Refusal → State → (Reply → State → Type 0) �
 Replies fault old May reply new = Refuses fault old reply new ⊎ ((fault ≡ None) × May reply new)
 
 -- What a call answers is a reply that may be given, or a refusal that may be given as one; want of memory is free, and changes nothing.
-abbrev pub IsOutcome : Result Reply (Fail Refusal) → State → (Reply → State → Type 0) → State → Type 0
-IsOutcome (Ok reply) old May new = May reply new
-IsOutcome (Err (fails.Refused refusal)) old May new = May (Refused refusal) new
-IsOutcome (Err fails.NoMemory) old May new = new ≡ old
+abbrev pub IsReplyOutcome : Result Reply (Fail Refusal) → State → (Reply → State → Type 0) → State → Type 0
+IsReplyOutcome (Ok reply) old May new = May reply new
+IsReplyOutcome (Err (fails.Refused refusal)) old May new = May (Refused refusal) new
+IsReplyOutcome (Err fails.NoMemory) old May new = new ≡ old

@@ -33,7 +33,7 @@ pub record HasNoTokens (text : List ℕ) (refusal : Refusal) : Type 0 where
   pub is : refusal ≡ of_lexing fault
 
 -- its tokens are no statement, or one of them is out of its limits
-pub record HasNoStatement (text : List ℕ) (refusal : Refusal) : Type 0 where
+pub record SaysNoStatement (text : List ℕ) (refusal : Refusal) : Type 0 where
   pub tokens : List Token
   pub short : length text ≤ longest_text
   pub spelled : Spells text tokens
@@ -53,7 +53,7 @@ pub record HasStatement (text : List ℕ) (statement : Statement) : Type 0 where
 -- the statement that a text is, or the first of the checks on its form that fails
 abbrev pub Says : List ℕ → Result Statement Refusal → Type 0
 Says text (Ok statement) = HasStatement text statement
-Says text (Err refusal) = HasNoTokens text refusal ⊎ HasNoStatement text refusal
+Says text (Err refusal) = HasNoTokens text refusal ⊎ SaysNoStatement text refusal
 
 -- The law: a text says at most one thing.
 abbrev pub SaysOneThing : Type 0

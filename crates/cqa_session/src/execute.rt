@@ -5,7 +5,7 @@ ghost use Rattle.std.specs.Prelude.{Ok};
 ghost use Rattle.spj_syntax.specs.Written.{IsSmall};
 ghost use Rattle.query_resolve.specs.Checks.{query_fault};
 ghost use Rattle.cqa_session.specs.Machine.{Asks, Does};
-ghost use Rattle.cqa_session.specs.Replying.{Replies, IsOutcome};
+ghost use Rattle.cqa_session.specs.Replying.{Replies, IsReplyOutcome};
 
 use crate::Session;
 use crate::statements::against::against;
@@ -41,7 +41,7 @@ fn asked(
     verb: &Verb,
     select: &Select,
 ) -> Result<Reply, Fail<Refusal>>
-    ensures { IsOutcome result session.old (Replies (query_fault session.old.tables select.now) session.old (Asks session.old verb.now select.now)) session.new }
+    ensures { IsReplyOutcome result session.old (Replies (query_fault session.old.tables select.now) session.old (Asks session.old verb.now select.now)) session.new }
 {
     match verb {
         Verb::Ask => ask(alloc, session, select),
@@ -63,7 +63,7 @@ fn done(
     block: Option<&[u8]>,
 ) -> Result<Reply, Fail<Refusal>>
     requires { IsSmall statement.old }
-    ensures { IsOutcome result session.old (Does session.old (Ok statement.old) (option_copied block.entry)) session.new }
+    ensures { IsReplyOutcome result session.old (Does session.old (Ok statement.old) (option_copied block.entry)) session.new }
 {
     match statement {
         Statement::Create { schema } => create(alloc, session, schema),
@@ -101,7 +101,7 @@ pub fn execute(
     block: Option<&[u8]>,
 ) -> Result<Reply, Fail<Refusal>>
     requires { IsSmall statement }
-    ensures { IsOutcome result session.old (Does session.old (Ok statement) (option_copied block.entry)) session.new }
+    ensures { IsReplyOutcome result session.old (Does session.old (Ok statement) (option_copied block.entry)) session.new }
 {
     let reply = done(alloc, session, &mut statement, block);
     drop(statement);

@@ -7,7 +7,7 @@ ghost use Rattle.refusals.specs.declared.refusal.Refusal.{Refusal as RefusalValu
 ghost use Rattle.cqa_model.specs.declared.limits.TheConstants.{LONGEST_INPUT};
 ghost use Rattle.cqa_session.specs.State.{opening_with, IsState};
 ghost use Rattle.cqa_session.specs.Saying.{Says, SaysOneThing, SaysSomething};
-ghost use Rattle.cqa_session.specs.Replying.{IsOutcome};
+ghost use Rattle.cqa_session.specs.Replying.{IsReplyOutcome};
 ghost use Rattle.cqa_session.specs.Machine.{Does, Step};
 
 use crate::execute::execute;
@@ -121,7 +121,7 @@ fn answer(
     block: Option<&[u8]>,
 ) -> Result<Reply, Fail<Refusal>>
     requires { length text.now ≤ LONGEST_INPUT }
-    ensures { IsOutcome result session.old (Step session.old text.now (option_copied block.entry)) session.new }
+    ensures { IsReplyOutcome result session.old (Step session.old text.now (option_copied block.entry)) session.new }
 {
     let statement = read(alloc, text)?;
     execute(alloc, session, statement, block)

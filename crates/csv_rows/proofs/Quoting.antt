@@ -7,26 +7,26 @@ use Rattle.csv.specs.Reading.{AreRecords, Reached, default_config, strip_bom}
 use Rattle.csv.specs.Writing as spec
 use Rattle.csv.specs.declared.parser.State.TheVariants as st
 use Rattle.csv.proofs.RoundTrip.{quoted-run, after-quote-same}
-use Rattle.csv_rows.specs.Texts.{doubled, field_bytes, quoting, record_bytes}
+use Rattle.csv_rows.specs.Texts.{quotes_doubled, field_bytes, quoting, record_bytes}
 
 -- the fields after the first, each behind a comma, and the line feed
 abbrev pub tail_bytes : List (List ℕ) → List ℕ
 tail_bytes [] = 10 ∷ []
 tail_bytes (field ∷ fields) = 44 ∷ (field_bytes field ++ tail_bytes fields)
 
-doubled_is : (field : List ℕ) → spec.escaped quoting field ≡ doubled field
+doubled_is : (field : List ℕ) → spec.escaped quoting field ≡ quotes_doubled field
 unfolding spec.escaped
 doubled_is [] = refl
 doubled_is (b ∷ bs) = elim (cases_Bool (b == 34)) [
-  | inl same ↦ rw (same, doubled_is bs) (ap (λ c. 34 ∷ c ∷ doubled bs) (eqb-true b 34 same))
+  | inl same ↦ rw (same, doubled_is bs) (ap (λ c. 34 ∷ c ∷ quotes_doubled bs) (eqb-true b 34 same))
   | inr other ↦ rw (other, doubled_is bs) refl
 ]
 
-doubled_default : (field : List ℕ) → spec.escaped spec.default_writer field ≡ doubled field
+doubled_default : (field : List ℕ) → spec.escaped spec.default_writer field ≡ quotes_doubled field
 unfolding spec.escaped
 doubled_default [] = refl
 doubled_default (b ∷ bs) = elim (cases_Bool (b == 34)) [
-  | inl same ↦ rw (same, doubled_default bs) (ap (λ c. 34 ∷ c ∷ doubled bs) (eqb-true b 34 same))
+  | inl same ↦ rw (same, doubled_default bs) (ap (λ c. 34 ∷ c ∷ quotes_doubled bs) (eqb-true b 34 same))
   | inr other ↦ rw (other, doubled_default bs) refl
 ]
 
@@ -61,7 +61,7 @@ field_read : (fields : List (List ℕ)) (f : List ℕ) (c : ℕ) (tail : List �
     → next_record default_config st.StartField fields [] (field_bytes f ++ c ∷ tail) ≡ next_record default_config st.InField fields f (c ∷ tail)
 unfolding next_record
 field_read fields f c tail n =
-    rw (append_assoc (doubled f) (34 ∷ []) (c ∷ tail), ← doubled_default f) (quoted-run fields [] f (c ∷ tail) ∙ after-quote-same fields f c tail n)
+    rw (append_assoc (quotes_doubled f) (34 ∷ []) (c ∷ tail), ← doubled_default f) (quoted-run fields [] f (c ∷ tail) ∙ after-quote-same fields f c tail n)
 
 field_read_on : (fields : List (List ℕ)) (f : List ℕ) (fs : List (List ℕ)) (tail : List ℕ)
     → next_record default_config st.StartField fields [] (field_bytes f ++ (tail_bytes fs ++ tail)) ≡ next_record default_config st.InField fields f (tail_bytes fs ++ tail)

@@ -28,9 +28,9 @@ abbrev pub insert_text : List ℕ → List Value → List ℕ
 insert_text name row = codes "insert into " ++ name ++ codes " values " ++ row_bytes row ++ codes ";\n"
 
 -- a table: it is made, the rows that can stand in a block are copied, and each other row is inserted
-abbrev pub table_text : Schema → List (List Value) → List ℕ
-table_text schema rows = create_text schema ++ copy_text schema.name (plain_rows rows) ++ flat_map (λ row. insert_text schema.name row) (other_rows rows)
+abbrev pub dump_of_table : Schema → List (List Value) → List ℕ
+dump_of_table schema rows = create_text schema ++ copy_text schema.name (plain_rows rows) ++ flat_map (λ row. insert_text schema.name row) (other_rows rows)
 
 -- the tables of a database, in order
 abbrev pub dump_text : List Table → List ℕ
-dump_text db = flat_map (λ table. table_text table.schema table.rows) db
+dump_text db = flat_map (λ table. dump_of_table table.schema table.rows) db

@@ -14,13 +14,13 @@ abbrev pub value_bytes : Value → List ℕ
 value_bytes (Int number) = signed_decimal number
 value_bytes (Text bytes) = bytes
 
--- the bytes of a field with each quote (34) doubled
-abbrev pub doubled : List ℕ → List ℕ
-doubled bytes = flat_map (λ byte. if byte == 34 then 34 ∷ 34 ∷ [] else byte ∷ []) bytes
+-- the bytes of a field with each quote (34) quotes_doubled
+abbrev pub quotes_doubled : List ℕ → List ℕ
+quotes_doubled bytes = flat_map (λ byte. if byte == 34 then 34 ∷ 34 ∷ [] else byte ∷ []) bytes
 
 -- a field between quotes
 abbrev pub field_bytes : List ℕ → List ℕ
-field_bytes field = 34 ∷ (doubled field ++ 34 ∷ [])
+field_bytes field = 34 ∷ (quotes_doubled field ++ 34 ∷ [])
 
 -- a record: its fields with a comma (44) between two, and a line feed (10); one without fields is written as one empty field
 abbrev pub record_bytes : List (List ℕ) → List ℕ
@@ -36,8 +36,8 @@ abbrev pub quoting : WriterBuilder
 quoting = with_flexible (with_style default_writer Always) true
 
 -- a writer that stands between two records
-abbrev pub IsBetween : {W : Type 0} → Writer W → Type 0
-IsBetween writer = (fields_written writer ≡ 0) × (has_written writer ≡ false)
+abbrev pub IsBetweenRecords : {W : Type 0} → Writer W → Type 0
+IsBetweenRecords writer = (fields_written writer ≡ 0) × (has_written writer ≡ false)
 
 -- the bytes that a writer into memory has written
 abbrev pub written : {A : Type 0} → Writer (Vec ℕ A) → List ℕ

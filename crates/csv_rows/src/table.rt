@@ -4,7 +4,7 @@ ghost use Rattle.std.specs.Prelude.{◌≡◌, ◌++◌, IfOk, OnOk, not};
 ghost use Rattle.std.specs.List.{flat_map, list_any};
 ghost use Rattle.csv_rows.specs.Ends.{other_rows, plain_rows, row_has_end};
 ghost use Rattle.csv_rows.specs.Texts.{rows_bytes};
-ghost use Rattle.csv_rows.specs.Dumps.{copy_text, create_text, create_words, insert_text, table_text};
+ghost use Rattle.csv_rows.specs.Dumps.{copy_text, create_text, create_words, insert_text, dump_of_table};
 
 use crate::ends::row_has_end;
 use crate::writing::append_block;
@@ -26,7 +26,7 @@ pub fn append_table(
     rows: &Rows<'_>,
     text: Vec<u8>,
 ) -> Result<Vec<u8>, NoMemory>
-    ensures { IfOk result (λ out. out.items ≡ text.items ++ table_text schema.now rows.now) }
+    ensures { IfOk result (λ out. out.items ≡ text.items ++ dump_of_table schema.now rows.now) }
 {
     let mut out = text;
     append_create(schema, &mut out)?;

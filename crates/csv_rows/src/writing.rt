@@ -8,7 +8,7 @@ ghost use Rattle.csv.specs.Writing.{row_text, writer_setup};
 ghost use Rattle.cqa_value.specs.Valid.{IsValidRow};
 ghost use Rattle.csv_rows.specs.Blocks.{HoldsRows};
 ghost use Rattle.csv_rows.specs.Ends.{plain_rows};
-ghost use Rattle.csv_rows.specs.Texts.{IsBetween, quoting, record_bytes, rows_bytes, value_bytes, written};
+ghost use Rattle.csv_rows.specs.Texts.{IsBetweenRecords, quoting, record_bytes, rows_bytes, value_bytes, written};
 
 use crate::ends::row_has_end;
 use crate::record::set_record;
@@ -20,7 +20,7 @@ use std::alloc::Global;
 /// A writer of records that goes on at the end of a text.
 fn writer_to(text: Vec<u8>) -> Writer<Vec<u8>>
     ensures setup { writer_setup result ≡ quoting }
-    ensures between { IsBetween result }
+    ensures between { IsBetweenRecords result }
     ensures text { written result ≡ text.items }
 {
     WriterBuilder::new()
@@ -32,10 +32,10 @@ fn writer_to(text: Vec<u8>) -> Writer<Vec<u8>>
 /// Writes a record.
 fn write_record(writer: &mut Writer<Vec<u8>>, fields: &ByteRecord) -> Result<(), NoMemory>
     requires setup { writer_setup writer.old ≡ quoting }
-    requires between { IsBetween writer.old }
+    requires between { IsBetweenRecords writer.old }
     ensures text { OnOk result (written writer.new ≡ written writer.old ++ row_text (writer_setup writer.old) (fields_of fields.now)) }
     ensures setup { OnOk result (writer_setup writer.new ≡ quoting) }
-    ensures between { OnOk result (IsBetween writer.new) }
+    ensures between { OnOk result (IsBetweenRecords writer.new) }
 {
     match writer.write_byte_record(fields) {
         Ok(()) => Ok(()),
@@ -46,7 +46,7 @@ fn write_record(writer: &mut Writer<Vec<u8>>, fields: &ByteRecord) -> Result<(),
 /// Writes a record for each row.
 fn write_records(alloc: Global, rows: &[Row], writer: &mut Writer<Vec<u8>>) -> Result<(), NoMemory>
     requires setup { writer_setup writer.old ≡ quoting }
-    requires between { IsBetween writer.old }
+    requires between { IsBetweenRecords writer.old }
     requires empty { written writer.old ≡ [] }
     ensures text { OnOk result (written writer.new ≡ rows_bytes rows.now) }
     ensures stored { OnOk result (All IsValidRow rows.now) }
@@ -96,10 +96,10 @@ fn write_row(
     writer: &mut Writer<Vec<u8>>,
 ) -> Result<(), NoMemory>
     requires setup { writer_setup writer.old ≡ quoting }
-    requires between { IsBetween writer.old }
+    requires between { IsBetweenRecords writer.old }
     ensures text { OnOk result (written writer.new ≡ written writer.old ++ record_bytes (map value_bytes row.now)) }
     ensures setup { OnOk result (writer_setup writer.new ≡ quoting) }
-    ensures between { OnOk result (IsBetween writer.new) }
+    ensures between { OnOk result (IsBetweenRecords writer.new) }
 {
     set_record(row, record)?;
     write_record(writer, record)
@@ -108,7 +108,7 @@ fn write_row(
 /// Writes a record for each row that can stand in a block.
 fn write_plain(alloc: Global, rows: &Rows<'_>, writer: &mut Writer<Vec<u8>>) -> Result<(), NoMemory>
     requires setup { writer_setup writer.old ≡ quoting }
-    requires between { IsBetween writer.old }
+    requires between { IsBetweenRecords writer.old }
     ensures { OnOk result (written writer.new ≡ written writer.old ++ rows_bytes (plain_rows rows.now)) }
 {
     let mut record = ByteRecord::new(alloc);

@@ -13,7 +13,7 @@ use Rattle.script_lex.specs.Bytes.{is_not_line_feed, is_digit, AllPass}
 use Rattle.script_lex.specs.Scripts.{IsEndingLine, IsBlockLine, lines_text, IsCopyBlock}
 use Rattle.script_lex.proofs.Runs.{AllPass-push}
 use Rattle.csv_rows.specs.Ends.{begins_with_end, has_end, value_has_end, row_has_end, plain_rows}
-use Rattle.csv_rows.specs.Texts.{doubled, field_bytes, record_bytes, rows_bytes, value_bytes}
+use Rattle.csv_rows.specs.Texts.{quotes_doubled, field_bytes, record_bytes, rows_bytes, value_bytes}
 use Rattle.dump_law.proofs.Numbers.{is_written, IsWritten}
 
 -- the bytes are lines of a block
@@ -87,8 +87,8 @@ line_between line rest e (inr h) = clash (has_end (10 ∷ (line ++ 10 ∷ rest))
 
 -- what stands in a field, from an open line that holds a double quote, or from a line that holds what the text has had since a line feed
 pub record InField (text more : List ℕ) : Type 0 where
-  pub safe : has_end text ≡ false → Closes (doubled text ++ 34 ∷ more)
-  pub fresh : (line : List ℕ) → has_end (10 ∷ (line ++ text)) ≡ false → AllPass is_not_line_feed line → AreLines (line ++ (doubled text ++ 34 ∷ more))
+  pub safe : has_end text ≡ false → Closes (quotes_doubled text ++ 34 ∷ more)
+  pub fresh : (line : List ℕ) → has_end (10 ∷ (line ++ text)) ≡ false → AllPass is_not_line_feed line → AreLines (line ++ (quotes_doubled text ++ 34 ∷ more))
 
 in_field : (text more : List ℕ) → Closes more → InField text more
 in_field [] more f = record {
@@ -100,31 +100,31 @@ in_field (b ∷ text) more f = go (b == 10) (b == 34) refl refl (in_field text m
     go : (t u : Bool) → (b == 10) ≡ t → (b == 34) ≡ u → InField text more → InField (b ∷ text) more
     go true u e k h =
         let ten = is_10 b e in
-        let out : doubled (b ∷ text) ≡ 10 ∷ doubled text = rw ten refl in
+        let out : quotes_doubled (b ∷ text) ≡ 10 ∷ quotes_doubled text = rw ten refl in
         record {
-          safe = λ n. subst (λ z. Closes (z ++ 34 ∷ more)) (sym out) (closes_feed (doubled text ++ 34 ∷ more) (h.fresh [] (subst (λ z. has_end (z ∷ text) ≡ false) ten n) tt));
+          safe = λ n. subst (λ z. Closes (z ++ 34 ∷ more)) (sym out) (closes_feed (quotes_doubled text ++ 34 ∷ more) (h.fresh [] (subst (λ z. has_end (z ∷ text) ≡ false) ten n) tt));
           fresh = λ line n a.
               let n2 : has_end (10 ∷ (line ++ 10 ∷ text)) ≡ false = subst (λ z. has_end (10 ∷ (line ++ z ∷ text)) ≡ false) ten n in
               subst (λ z. AreLines (line ++ (z ++ 34 ∷ more))) (sym out)
-              (one_line line (doubled text ++ 34 ∷ more) (record { one = a; inner = line_between line text n2 }) (h.fresh [] (end_later (10 ∷ line) (10 ∷ text) n2) tt));
+              (one_line line (quotes_doubled text ++ 34 ∷ more) (record { one = a; inner = line_between line text n2 }) (h.fresh [] (end_later (10 ∷ line) (10 ∷ text) n2) tt));
         }
     go false true e k h =
         let is = is_34 b k in
-        let out : doubled (b ∷ text) ≡ 34 ∷ 34 ∷ doubled text = rw is refl in
+        let out : quotes_doubled (b ∷ text) ≡ 34 ∷ 34 ∷ quotes_doubled text = rw is refl in
         record {
-          safe = λ n. subst (λ z. Closes (z ++ 34 ∷ more)) (sym out) (closes_more 34 (34 ∷ (doubled text ++ 34 ∷ more)) refl (closes_more 34 (doubled text ++ 34 ∷ more) refl (h.safe (end_later (b ∷ []) text n))));
+          safe = λ n. subst (λ z. Closes (z ++ 34 ∷ more)) (sym out) (closes_more 34 (34 ∷ (quotes_doubled text ++ 34 ∷ more)) refl (closes_more 34 (quotes_doubled text ++ 34 ∷ more) refl (h.safe (end_later (b ∷ []) text n))));
           fresh = λ line n a.
               subst (λ z. AreLines (line ++ (z ++ 34 ∷ more))) (sym out)
-              (subst AreLines (append_assoc line (34 ∷ []) (34 ∷ (doubled text ++ 34 ∷ more)))
-              (closes_more 34 (doubled text ++ 34 ∷ more) refl (h.safe (end_later (10 ∷ (line ++ b ∷ [])) text (subst (λ z. has_end (10 ∷ z) ≡ false) (sym (append_assoc line (b ∷ []) text)) n))) (line ++ 34 ∷ []) (AllPass-push is_not_line_feed line 34 a refl) (holds_last line)));
+              (subst AreLines (append_assoc line (34 ∷ []) (34 ∷ (quotes_doubled text ++ 34 ∷ more)))
+              (closes_more 34 (quotes_doubled text ++ 34 ∷ more) refl (h.safe (end_later (10 ∷ (line ++ b ∷ [])) text (subst (λ z. has_end (10 ∷ z) ≡ false) (sym (append_assoc line (b ∷ []) text)) n))) (line ++ 34 ∷ []) (AllPass-push is_not_line_feed line 34 a refl) (holds_last line)));
         }
     go false false e k h =
-        let out : doubled (b ∷ text) ≡ b ∷ doubled text = rw k refl in
+        let out : quotes_doubled (b ∷ text) ≡ b ∷ quotes_doubled text = rw k refl in
         record {
-          safe = λ n. subst (λ z. Closes (z ++ 34 ∷ more)) (sym out) (closes_more b (doubled text ++ 34 ∷ more) (not_10 b e) (h.safe (end_later (b ∷ []) text n)));
+          safe = λ n. subst (λ z. Closes (z ++ 34 ∷ more)) (sym out) (closes_more b (quotes_doubled text ++ 34 ∷ more) (not_10 b e) (h.safe (end_later (b ∷ []) text n)));
           fresh = λ line n a.
               subst (λ z. AreLines (line ++ (z ++ 34 ∷ more))) (sym out)
-              (subst AreLines (append_assoc line (b ∷ []) (doubled text ++ 34 ∷ more))
+              (subst AreLines (append_assoc line (b ∷ []) (quotes_doubled text ++ 34 ∷ more))
               (h.fresh (line ++ b ∷ []) (subst (λ z. has_end (10 ∷ z) ≡ false) (sym (append_assoc line (b ∷ []) text)) n) (AllPass-push is_not_line_feed line b a (not_10 b e))));
         }
 
@@ -136,19 +136,19 @@ tail_bytes fields = flat_map (λ field. (44 ∷ []) ++ field_bytes field) fields
 abbrev pub NoEnds : List (List ℕ) → Type 0
 NoEnds fields = AllByRecursion (λ field. has_end field ≡ false) fields
 
-field_then : (field more : List ℕ) → field_bytes field ++ more ≡ 34 ∷ (doubled field ++ 34 ∷ more)
-field_then field more = ap (λ z. 34 ∷ z) (append_assoc (doubled field) (34 ∷ []) more)
+field_then : (field more : List ℕ) → field_bytes field ++ more ≡ 34 ∷ (quotes_doubled field ++ 34 ∷ more)
+field_then field more = ap (λ z. 34 ∷ z) (append_assoc (quotes_doubled field) (34 ∷ []) more)
 
 tail_closes : (fields : List (List ℕ)) (rest : List ℕ) → NoEnds fields → AreLines rest → Closes (tail_bytes fields ++ rest)
 tail_closes [] rest n h = closes_feed rest h
 tail_closes (field ∷ fields) rest n h =
     let more = tail_bytes fields ++ rest in
-    let text : tail_bytes (field ∷ fields) ++ rest ≡ 44 ∷ 34 ∷ (doubled field ++ 34 ∷ more) =
+    let text : tail_bytes (field ∷ fields) ++ rest ≡ 44 ∷ 34 ∷ (quotes_doubled field ++ 34 ∷ more) =
     ap (λ z. 44 ∷ z) (ap (λ z. z ++ rest) (append_assoc (field_bytes field) (flat_map (λ f. (44 ∷ []) ++ field_bytes f) fields) (10 ∷ [])) ∙ append_assoc (field_bytes field) (tail_bytes fields) rest ∙ field_then field more) in
     subst Closes (sym text)
-    (closes_more 44 (34 ∷ (doubled field ++ 34 ∷ more)) refl (closes_more 34 (doubled field ++ 34 ∷ more) refl ((in_field field more (tail_closes fields rest n.1 h)).safe n.0)))
+    (closes_more 44 (34 ∷ (quotes_doubled field ++ 34 ∷ more)) refl (closes_more 34 (quotes_doubled field ++ 34 ∷ more) refl ((in_field field more (tail_closes fields rest n.1 h)).safe n.0)))
 
-first_lines : (field more : List ℕ) → has_end field ≡ false → Closes more → AreLines (34 ∷ (doubled field ++ 34 ∷ more))
+first_lines : (field more : List ℕ) → has_end field ≡ false → Closes more → AreLines (34 ∷ (quotes_doubled field ++ 34 ∷ more))
 first_lines field more n f = (in_field field more f).safe n (34 ∷ []) (refl, tt) (inl refl)
 
 -- a record is lines of a block
@@ -156,7 +156,7 @@ record_lines : (fields : List (List ℕ)) (rest : List ℕ) → NoEnds fields �
 record_lines [] rest n h = first_lines [] (10 ∷ rest) refl (closes_feed rest h)
 record_lines (field ∷ fields) rest n h =
     let more = tail_bytes fields ++ rest in
-    let text : record_bytes (field ∷ fields) ++ rest ≡ 34 ∷ (doubled field ++ 34 ∷ more) =
+    let text : record_bytes (field ∷ fields) ++ rest ≡ 34 ∷ (quotes_doubled field ++ 34 ∷ more) =
     ap (λ z. z ++ rest) (append_assoc (field_bytes field) (flat_map (λ f. (44 ∷ []) ++ field_bytes f) fields) (10 ∷ [])) ∙ append_assoc (field_bytes field) (tail_bytes fields) rest ∙ field_then field more in
     subst AreLines (sym text) (first_lines field more n.0 (tail_closes fields rest n.1 h))
 

@@ -13,7 +13,7 @@ use Rattle.cqa_model.specs.Valid.{HasNames, IsValidTable, AreValid}
 use Rattle.script_lex.specs.Scripts.{Statement}
 use Rattle.csv_rows.specs.Ends.{row_has_end, plain_rows, other_rows}
 use Rattle.csv_rows.specs.Texts.{rows_bytes}
-use Rattle.csv_rows.specs.Dumps.{create_words, create_text, copy_text, insert_text, table_text, dump_text}
+use Rattle.csv_rows.specs.Dumps.{create_words, create_text, copy_text, insert_text, dump_of_table, dump_text}
 use Rattle.reply_text.specs.declared.reply.Reply.{Reply}
 use Rattle.reply_text.specs.Texts.{is_refusal}
 use Rattle.table_blocks.specs.Tables.{table_named}
@@ -69,7 +69,7 @@ inserts_cut schema h (row ∷ rows) each =
 values_of : (table : Table) → IsValidTable table → (row : List Value) → Contains table.rows row → AllByRecursion IsValidValue row
 values_of table valid row m = recursion_from_All IsValidValue row (valid.values row m)
 
-table_cut : (table : Table) → IsValidTable table → IsCutInto (table_text table.schema table.rows) (table_statements table.schema table.rows)
+table_cut : (table : Table) → IsValidTable table → IsCutInto (dump_of_table table.schema table.rows) (table_statements table.schema table.rows)
 table_cut table valid =
     let schema = table.schema in
     let create = plain_cut (create_words schema.strict ++ schema_bytes schema) (create_is_text schema valid.names) (create_copies_not schema) in
@@ -83,7 +83,7 @@ table_cut table valid =
 pub dump_cut : (db : List Table) → AreValid db → IsCutInto (dump_text db) (dump_statements db)
 dump_cut [] valid = no_text
 dump_cut (table ∷ db) valid =
-    both_texts (table_text table.schema table.rows) (dump_text db) (table_statements table.schema table.rows) (dump_statements db) (table_cut table (valid table (mem-head table db))) (dump_cut db (λ t m. valid t (mem-tail t table db m)))
+    both_texts (dump_of_table table.schema table.rows) (dump_text db) (table_statements table.schema table.rows) (dump_statements db) (table_cut table (valid table (mem-head table db))) (dump_cut db (λ t m. valid t (mem-tail t table db m)))
 
 -- ---- the run
 

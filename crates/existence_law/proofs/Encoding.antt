@@ -23,7 +23,7 @@ use Rattle.cnf_form.specs.Logs.{Refutes}
 use Rattle.cdcl.specs.Outcomes.{AreConsecutive}
 use Rattle.join_access.proofs.Sorted.{one_sorted}
 use Rattle.repair_clauses.specs.declared.formula.Encoded.{Encoded}
-use Rattle.repair_clauses.specs.Clauses.{Variable, variable_cmp, row_of, IsStoredVariable, AreVariables, IsBlockOf, AreBlockNumbers, IsNumberOf, IsOfWitness, AreAll, Formula, IsFormula, clauses, name_of}
+use Rattle.repair_clauses.specs.Clauses.{Variable, variable_cmp, variable_row, IsStoredVariable, AreRowVariables, IsBlockOfVariable, AreBlockNumbers, IsNumberOf, IsOfWitness, AreAllLists, Formula, IsFormula, clauses, variable_name}
 use Rattle.repair_clauses.specs.Encodings.{IsEncoded}
 use Rattle.repair_clauses.specs.Spans.{at}
 use Rattle.repair_clauses.proofs.Exact.{clauses_decide}
@@ -52,12 +52,12 @@ module _ (db : List Table) (q : Query) (row : List Value) where
   -- ---- the variables
 
   IsVariable : Variable → Type 0
-  IsVariable x = IsStoredVariable q db x × IsRelevant q (stored db) row x.atom (row_of q db x)
+  IsVariable x = IsStoredVariable q db x × IsRelevant q (stored db) row x.atom (variable_row q db x)
 
   dec_variable : (x : Variable) → Dec (IsVariable x)
   unfolding IsVariable
   dec_variable x = dec_both (dec_both (dec_lt x.atom (length q.atoms)) (dec_lt x.place (length (rows_of q (stored db) x.atom))))
-      (dec_witness_with q (stored db) row (λ w. SharesKey (atom_key q x.atom) (row_of q db x) (row_at w x.atom)) (λ w. dec_shares (atom_key q x.atom) (row_of q db x) (row_at w x.atom)))
+      (dec_witness_with q (stored db) row (λ w. SharesKey (atom_key q x.atom) (variable_row q db x) (row_at w x.atom)) (λ w. dec_shares (atom_key q x.atom) (variable_row q db x) (row_at w x.atom)))
 
   abbrev stored_variables : List Variable
   stored_variables = flat_map (λ F. map (at F) (range_with_len 0 (length (rows_of q (stored db) F)))) (range_with_len 0 (length q.atoms))
@@ -71,7 +71,7 @@ module _ (db : List Table) (q : Query) (row : List Value) where
       (Contains-range 0 (length q.atoms) x.atom (omega arith) (omega (arith, a)))
       (Contains-map (at x.atom) (range_with_len 0 (length (rows_of q (stored db) x.atom))) x.place (Contains-range 0 (length (rows_of q (stored db) x.atom)) x.place (omega arith) (omega (arith, p))))
 
-  variables : (xs : List Variable) × AreVariables q db row xs
+  variables : (xs : List Variable) × AreRowVariables q db row xs
   unfolding IsVariable
   variables =
       let l = decided_list variable_cmp variable_total IsVariable dec_variable (λ x y h k e. variable_exact x y e) stored_variables variable_stored in
@@ -80,24 +80,24 @@ module _ (db : List Table) (q : Query) (row : List Value) where
   module _ (xs : List Variable) where
     -- ---- the numbers of blocks
 
-    one_block : (x : Variable) (a b : List ℕ) → IsBlockOf q db xs x a → IsBlockOf q db xs x b → a ≡ b
+    one_block : (x : Variable) (a b : List ℕ) → IsBlockOfVariable q db xs x a → IsBlockOfVariable q db xs x b → a ≡ b
     one_block x a b h k = one_sorted nat_cmp nat_cmp_total a b h.rises k.rises (λ n m. (k.exactly n).1 ((h.exactly n).0 m)) (λ n m. (h.exactly n).1 ((k.exactly n).0 m))
 
     numbers_of : Variable → List ℕ
     numbers_of x = (block_numbers q db xs x).0
 
-    are_numbers : (x : Variable) → IsBlockOf q db xs x (numbers_of x)
+    are_numbers : (x : Variable) → IsBlockOfVariable q db xs x (numbers_of x)
     unfolding numbers_of
     are_numbers x = (block_numbers q db xs x).1
 
-    block_lists : (lists : List (List ℕ)) × AreAll (AreBlockNumbers q db xs) lists
+    block_lists : (lists : List (List ℕ)) × AreAllLists (AreBlockNumbers q db xs) lists
     block_lists = (
       sorted (slice_cmp nat_cmp) nat_list_cmp_total (map numbers_of xs),
       record {
         in_order = in_order (slice_cmp nat_cmp) nat_list_cmp_total (map numbers_of xs);
         exactly = λ numbers.
             let same = members (slice_cmp nat_cmp) nat_list_cmp_total (map numbers_of xs) (λ a b m n e. numbers_exact a b e) numbers in (
-              λ m. (let p = Contains-from_map numbers_of xs numbers (same.0 m) in (p.0, p.1, subst (IsBlockOf q db xs p.0) p.2 (are_numbers p.0))),
+              λ m. (let p = Contains-from_map numbers_of xs numbers (same.0 m) in (p.0, p.1, subst (IsBlockOfVariable q db xs p.0) p.2 (are_numbers p.0))),
               λ h. same.1 (subst (Contains (map numbers_of xs)) (one_block h.0 (numbers_of h.0) numbers (are_numbers h.0) h.2) (Contains-map numbers_of xs h.0 h.1)),
             );
       },
@@ -107,7 +107,7 @@ module _ (db : List Table) (q : Query) (row : List Value) where
 
     dec_number_of : (F : ℕ) (x : List Value) (n : ℕ) → Dec (IsNumberOf q db xs F x n)
     dec_number_of F x n = dec_by (λ h. (h.0, h.1, h.2.0, h.2.1)) (λ h. (h.0, h.1, (h.2, h.3)))
-        (dec_number xs (λ y. (y.atom ≡ F) × (row_of q db y ≡ x)) (λ y. dec_both (ℕ_discrete y.atom F) (row_discrete (row_of q db y) x)) n)
+        (dec_number xs (λ y. (y.atom ≡ F) × (variable_row q db y ≡ x)) (λ y. dec_both (ℕ_discrete y.atom F) (row_discrete (variable_row q db y) x)) n)
 
     dec_of_witness : (numbers : List ℕ) → Dec (IsOfWitness q db row xs numbers)
     dec_of_witness numbers = dec_by (λ h. record { rows = h.0; witness = h.1; size = h.2.0; each = h.2.1 }) (λ w. (w.rows, w.witness, (w.size, w.each)))
@@ -123,7 +123,7 @@ module _ (db : List Table) (q : Query) (row : List Value) where
     of_witness_listed numbers w = choices-all 0 (length q.atoms) (λ F. range_with_len 0 (1 + length xs)) numbers w.size
         (λ F l. let b = (number_below xs (slice_index numbers F) (w.each F l).0 (w.each F l).1).1 in Contains-range 0 (1 + length xs) (slice_index numbers F) (omega arith) (omega (arith, b)))
 
-    witness_lists : (lists : List (List ℕ)) × AreAll (IsOfWitness q db row xs) lists
+    witness_lists : (lists : List (List ℕ)) × AreAllLists (IsOfWitness q db row xs) lists
     witness_lists =
         let l = decided_list (slice_cmp nat_cmp) nat_list_cmp_total (IsOfWitness q db row xs) dec_of_witness (λ x y h k e. numbers_exact x y e) number_lists of_witness_listed in
         (l.0, record { in_order = l.1.0; exactly = l.1.1 })
@@ -146,7 +146,7 @@ encoded db q row = make (formula db q row)
   where
     make : ((f : Formula) × IsFormula q db row f) → (e : Encoded) × IsEncoded q db row e
     make (f, h) = (
-      record { cnf = record { vars = length f.variables; clauses = as_clauses (clauses f) }; rows = map (name_of q) f.variables },
+      record { cnf = record { vars = length f.variables; clauses = as_clauses (clauses f) }; rows = map (variable_name q) f.variables },
       record { formula = f; is = h; vars = refl; are = same_literals (clauses f); rows = refl },
     )
 

@@ -21,7 +21,7 @@ use Rattle.cqa_model.specs.Query.{rows_of, value, CondHolds, IsWitness}
 use Rattle.cqa_model.proofs.Classic.{dec_each}
 use Rattle.cqa_model.proofs.Values.{dec_by, value_discrete, row_discrete}
 use Rattle.cqa_model.proofs.Witnesses.{dec_lists, dec_cond}
-use Rattle.join_access.specs.Witnesses.{AreNamed}
+use Rattle.join_access.specs.Witnesses.{AreNamedRows}
 use Rattle.join_access.specs.Listing.{AreNamesOf, AreAllNames, HasTooMany, places_of}
 use Rattle.join_access.specs.declared.witness.TheConstants.{MOST_WITNESSES}
 use Rattle.join_access.proofs.Extending.{sorted-map}
@@ -48,7 +48,7 @@ module _ (db : List Table) where
       go None = no (λ e. cc e)
       go (Some x) = dec_by (λ e. ap Some e) (λ e. same_Some x row e) (row_discrete x row)
 
-  dec_named : (atoms : List Atom) (names : List RowId) (w : List (List Value)) → Dec (AreNamed db atoms names w)
+  dec_named : (atoms : List Atom) (names : List RowId) (w : List (List Value)) → Dec (AreNamedRows db atoms names w)
   dec_named [] [] [] = yes tt
   dec_named [] [] (r ∷ w) = no (λ h. h)
   dec_named [] (x ∷ names) [] = no (λ h. h)
@@ -74,7 +74,7 @@ module _ (db : List Table) where
       (Contains-map (name atom.table) (range_with_len 0 (length (slice_index_or (stored db) atom.table []))) x.place
       (Contains-range 0 (length (slice_index_or (stored db) atom.table [])) x.place (omega arith) (omega (arith, within))))
 
-  named-among : (atoms : List Atom) (names : List RowId) (w : List (List Value)) → AreNamed db atoms names w → Contains (name_lists atoms) names
+  named-among : (atoms : List Atom) (names : List RowId) (w : List (List Value)) → AreNamedRows db atoms names w → Contains (name_lists atoms) names
   named-among [] [] [] h = mem-head [] []
   named-among [] [] (r ∷ w) h = absurd h
   named-among [] (x ∷ names) [] h = absurd h
@@ -87,7 +87,7 @@ module _ (db : List Table) where
       (Contains-map (λ ys. x ∷ ys) (name_lists atoms) names (named-among atoms names w h.2))
 
   -- names of rows of the same atoms are told by their places
-  told_by_places : (atoms : List Atom) (a b : List RowId) (v w : List (List Value)) → AreNamed db atoms a v → AreNamed db atoms b w → places_of a ≡ places_of b → a ≡ b
+  told_by_places : (atoms : List Atom) (a b : List RowId) (v w : List (List Value)) → AreNamedRows db atoms a v → AreNamedRows db atoms b w → places_of a ≡ places_of b → a ≡ b
   told_by_places [] [] [] v w h k e = refl
   told_by_places [] (x ∷ a) b [] w h k e = absurd h
   told_by_places [] (x ∷ a) b (r ∷ v) w h k e = absurd h
@@ -106,7 +106,7 @@ module _ (db : List Table) where
 
   module _ (q : Query) (row : List Value) where
     dec_names : (names : List RowId) → Dec (AreNamesOf q db row names)
-    dec_names names = dec_witness_with q (stored db) row (AreNamed db q.atoms names) (dec_named q.atoms names)
+    dec_names names = dec_witness_with q (stored db) row (AreNamedRows db q.atoms names) (dec_named q.atoms names)
 
     listed : (all : List (List RowId)) × (IsStrictlySortedBy (on places_of (slice_cmp nat_cmp)) all × ((names : List RowId) → Contains all names ↔ AreNamesOf q db row names))
     listed = decided_list (on places_of (slice_cmp nat_cmp)) (on_total places_of nat_list_cmp_total) (AreNamesOf q db row) dec_names

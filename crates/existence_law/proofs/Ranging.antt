@@ -18,10 +18,10 @@ use Rattle.cqa_model.proofs.Existence.{last_rows, last_rows-repair}
 use Rattle.cqa_model.proofs.Repairs.{dec_shares}
 use Rattle.cqa_model.proofs.Values.{dec_by, row_discrete}
 use Rattle.table_blocks.specs.declared.test.ColumnTest.{ColumnTest}
-use Rattle.table_blocks.specs.Tables.{rows_at, key_at}
+use Rattle.table_blocks.specs.Tables.{rows_at, key_at, rows_in, names_in}
 use Rattle.range_ask.specs.declared.range.Range.{Range}
 use Rattle.range_ask.specs.declared.way.Way.TheVariants.{Up}
-use Rattle.range_ask.specs.Ranges.{cell, part, total, number_of, AtMost, IsLeast, IsGreatest, HasValue, IsUpTo, rows_in, names_in, IsAttained, IsRange}
+use Rattle.range_ask.specs.Ranges.{cell, part, total, number_of, AtMost, IsLeastValue, IsGreatestValue, HasValue, IsUpTo, IsAttained, IsRange}
 use Rattle.range_ask.proofs.Ordered.{before-trans, before-self}
 use Rattle.existence_law.specs.Ranges.{RangesExist}
 use Rattle.existence_law.proofs.Extremes.{first_among}
@@ -68,14 +68,14 @@ up_trans (Held x) (Held y) (Held z) h k = at_most_trans x y z h k
 -- ---- the value of an aggregate in some rows
 
 module _ (col : ℕ) where
-  least_in : (rows : List (List Value)) → (end : End) × IsLeast col rows end
+  least_in : (rows : List (List Value)) → (end : End) × IsLeastValue col rows end
   least_in [] = (Empty, refl)
   least_in (row ∷ rows) =
       let m = first_among (λ x y. AtMost (cell x col) (cell y col)) (λ x. at_most_self (cell x col)) (λ x y. at_most_either (cell x col) (cell y col))
       (λ x y z. at_most_trans (cell x col) (cell y col) (cell z col)) (row ∷ rows) row (mem-head row rows) in
       (Held (cell m.0 col), ((m.0, m.1.0, refl), m.1.1))
 
-  greatest_in : (rows : List (List Value)) → (end : End) × IsGreatest col rows end
+  greatest_in : (rows : List (List Value)) → (end : End) × IsGreatestValue col rows end
   greatest_in [] = (Empty, refl)
   greatest_in (row ∷ rows) =
       let m = first_among (λ x y. AtMost (cell y col) (cell x col)) (λ x. at_most_self (cell x col)) (λ x y. at_most_either (cell y col) (cell x col))

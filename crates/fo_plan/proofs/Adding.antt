@@ -6,8 +6,8 @@ use Rattle.cqa_model.specs.Repairs.{SharesKey}
 use Rattle.cqa_model.specs.OneTable.{SomeBlockFits}
 use Rattle.plan_rows.specs.Over.{query_of, rows_before}
 use Rattle.plan_rows.specs.declared.steps.Step.{Step}
-use Rattle.fo_plan.specs.Enough.{row_of, IsFirstOfBlock, WholeHas, IsPassed, AreSought, AreReached, IsNextBlock}
-use Rattle.fo_plan.specs.Holding.{HoldsWith}
+use Rattle.fo_plan.specs.Enough.{row_at_place, IsFirstOfBlock, WholeHas, IsBlockPassed, AreSought, AreReached, IsNextBlock}
+use Rattle.fo_plan.specs.Holding.{PlanHoldsWith}
 use Rattle.fo_plan.specs.Giving.{IsAnswerRow, StepGives, IsAdded}
 use Rattle.fo_plan.specs.declared.enough.Blocks.{Blocks}
 use Rattle.fo_plan.proofs.Passing.{some-at, at-some}
@@ -26,10 +26,10 @@ pub record AddedBefore (s : Blocks) (Q : List Value → Type 0) (R : List Value 
 
 module _ (s : Blocks) (Q : List Value → Type 0) (R : List Value → List Value → Type 0) (sought : (row : List Value) → AreSought s (R row)) where
   -- what is passed gives nothing
-  passed : (from to at : ℕ) (row : List Value) → IsPassed s from to → from ≤ at → at < to → GivesFrom s Q R at row → ⊥
+  passed : (from to at : ℕ) (row : List Value) → IsBlockPassed s from to → from ≤ at → at < to → GivesFrom s Q R at row → ⊥
   passed from to at row h low high g = h at low high g.1 (sought row at g.0 g.1 g.3)
 
-  pub added-starts : (start : ℕ) (old : List (List Value)) → IsPassed s 0 start → AddedBefore s Q R start old old
+  pub added-starts : (start : ℕ) (old : List (List Value)) → IsBlockPassed s 0 start → AddedBefore s Q R start old old
   added-starts start old h = record {
     kept = λ row m. m;
     given = λ row m. inl m;
@@ -48,7 +48,7 @@ module _ (s : Blocks) (Q : List Value → Type 0) (R : List Value → List Value
         go (no a) (no b) (yes c) = absurd (passed (n.at + 1) on at row n.behind (omega (arith, c)) l g)
         go (no a) (no b) (no c) =
             let same : at ≡ n.at = omega (arith, b, c) in
-            inr (g.2, λ y m. let e = (n.is.exactly y).0 m in g.3 y e.0 (subst (λ k. SharesKey s.key.now (row_of s.rows k) y) (sym same) e.1))
+            inr (g.2, λ y m. let e = (n.is.exactly y).0 m in g.3 y e.0 (subst (λ k. SharesKey s.key.now (row_at_place s.rows k) y) (sym same) e.1))
 
     -- the block that was found gives from its place
     from-block : (row : List Value) → Q row × ((y : List Value) → Contains block y → R row y) → (at : ℕ) × GivesFrom s Q R at row
@@ -66,7 +66,7 @@ module _ (s : Blocks) (Q : List Value → Type 0) (R : List Value → List Value
     pub added-on : AddedBefore s Q R on old more
     added-on = record { kept = kept-on; given = given-on; all = all-on }
 
-  pub added-ends : (from : ℕ) (old new : List (List Value)) → AddedBefore s Q R from old new → IsPassed s from (length s.rows) → IsAdded (λ row. Q row × SomeBlockFits s.key.now s.rows (R row)) old new
+  pub added-ends : (from : ℕ) (old new : List (List Value)) → AddedBefore s Q R from old new → IsBlockPassed s from (length s.rows) → IsAdded (λ row. Q row × SomeBlockFits s.key.now s.rows (R row)) old new
   added-ends from old new h n row = (
     (λ m. elim (h.given row m) [ inl k ↦ inl k | inr g ↦ inr (g.1.2, at-some s.key.now s.rows (R row) g.0 g.1.0 g.1.3) ]),
     (λ e. elim e [ inl k ↦ h.kept row k | inr p ↦ (let g = begun p in h.all row g.0 g.1 g.2) ]),
@@ -87,9 +87,9 @@ module _ (s : Blocks) (Q : List Value → Type 0) (R : List Value → List Value
               early (no a) = absurd (passed from (length s.rows) b.0 row n (omega (arith, a)) b.1 g)
 
 -- what the blocks give that are gone over is what the rows taken and the plan give
-pub gives-table : (step : Step) (s : Blocks) → AreReached step None s → (old new : List (List Value)) → IsAdded (λ row. IsAnswerRow (query_of step) (rows_before step) row × SomeBlockFits s.key.now s.rows (HoldsWith step row)) old new →
+pub gives-table : (step : Step) (s : Blocks) → AreReached step None s → (old new : List (List Value)) → IsAdded (λ row. IsAnswerRow (query_of step) (rows_before step) row × SomeBlockFits s.key.now s.rows (PlanHoldsWith step row)) old new →
     IsAdded (StepGives step) old new
 gives-table step s h old new =
-    adds-same (λ row. IsAnswerRow (query_of step) (rows_before step) row × SomeBlockFits s.key.now s.rows (HoldsWith step row)) (StepGives step)
+    adds-same (λ row. IsAnswerRow (query_of step) (rows_before step) row × SomeBlockFits s.key.now s.rows (PlanHoldsWith step row)) (StepGives step)
     (λ row. let t = (given-reached step s row h).1 in ((λ p. (p.0, t.0 p.1)), (λ p. (p.0, t.1 p.1))))
     old new

@@ -24,7 +24,7 @@ use Rattle.plan_rows.specs.Underway.{atoms_of, IsUnderway}
 use Rattle.plan_rows.specs.declared.course.Course.{Course}
 use Rattle.plan_rows.proofs.Suiting.{suits-from, gives-from}
 use Rattle.plan_rows.proofs.Sharing.{value-taken, in-atoms, length-atoms, passed-count, underway-more, same-plan, same-shared, same-answers}
-use Rattle.fo_plan.specs.Giving.{Gives}
+use Rattle.fo_plan.specs.Giving.{PlanGives}
 use Rattle.fo_plan.specs.Noted.{StandsApart, GivesNone}
 
 -- an order is parted at one place in one way
@@ -90,7 +90,7 @@ module _ (s : Course) (taken others : List Placed) (plan : List ℕ) (u : IsUnde
       (sym w.3 ∙ (sym (pick-second (dec_atom plan c.atom) (get_or row i nothing) (taken_value taken c) (λ n. off c.atom (subst (λ F. Contains (atoms_of taken) F) (sym e) (in-atoms taken t m)) n c.col (in-range i l))) ∙ sym (reads row i l)))
 
   -- what others give, the rows taken give with their own answers
-  pub gives-too : (row : List Value) → Gives s.setting.bound.now.query.now (stored s.setting.bound.now.db.now) others plan row → Gives s.setting.bound.now.query.now (stored s.setting.bound.now.db.now) taken plan (mixed row)
+  pub gives-too : (row : List Value) → PlanGives s.setting.bound.now.query.now (stored s.setting.bound.now.db.now) others plan row → PlanGives s.setting.bound.now.query.now (stored s.setting.bound.now.db.now) taken plan (mixed row)
   gives-too row g = (
     (length-map (range_with_len 0 (length s.setting.bound.now.query.now.answer)) (value_at row) ∙ length-range_with_len 0 (length s.setting.bound.now.query.now.answer), has-answers row),
     same-answers s.setting.bound.now.query.now (stored s.setting.bound.now.db.now) row (mixed row) taken plan
@@ -118,13 +118,13 @@ apart-at s taken plan columns item place none u e l is c says t = (subst (λ n. 
 
 -- where it gives no row, nothing is given from its atoms on, nor from more
 pub gives-none : (s : Course) (taken : List Placed) (plan : List ℕ) → IsUnderway s taken plan → StandsApart s taken →
-    ((row : List Value) → Gives s.setting.bound.now.query.now (stored s.setting.bound.now.db.now) taken plan row → ⊥) → GivesNone s (length plan)
+    ((row : List Value) → PlanGives s.setting.bound.now.query.now (stored s.setting.bound.now.db.now) taken plan row → ⊥) → GivesNone s (length plan)
 gives-none s taken plan u apart empty others left row v long g = go (length left - length plan) others left v (omega (arith, long)) g
   where
-    go : (d : ℕ) (others : List Placed) (left : List ℕ) → IsUnderway s others left → length left ≡ d + length plan → Gives s.setting.bound.now.query.now (stored s.setting.bound.now.db.now) others left row → ⊥
+    go : (d : ℕ) (others : List Placed) (left : List ℕ) → IsUnderway s others left → length left ≡ d + length plan → PlanGives s.setting.bound.now.query.now (stored s.setting.bound.now.db.now) others left row → ⊥
     go zero others left v e g =
         let p = same-place s taken others plan left u v (omega (arith, e)) in
-        empty (mixed s taken others plan u (subst (IsUnderway s others) (sym p.1) v) p.0 apart.0 apart.1 row) (gives-too s taken others plan u (subst (IsUnderway s others) (sym p.1) v) p.0 apart.0 apart.1 row (subst (λ l. Gives s.setting.bound.now.query.now (stored s.setting.bound.now.db.now) others l row) (sym p.1) g))
+        empty (mixed s taken others plan u (subst (IsUnderway s others) (sym p.1) v) p.0 apart.0 apart.1 row) (gives-too s taken others plan u (subst (IsUnderway s others) (sym p.1) v) p.0 apart.0 apart.1 row (subst (λ l. PlanGives s.setting.bound.now.query.now (stored s.setting.bound.now.db.now) others l row) (sym p.1) g))
     go (suc d) others [] v e g = absurd (omega (arith, e))
     go (suc d) others (F ∷ left) v e (answer, (x, m, all)) =
         let own = all x m (shares-self (atom_key s.setting.bound.now.query.now F) x) in
@@ -141,6 +141,6 @@ gives-none s taken plan u apart empty others left row v long g = go (length left
 
 -- so it is where it was noted
 pub noted-none : (s : Course) (barren : Option ℕ) (taken : List Placed) (plan : List ℕ) (row : List Value) → IfSome barren (GivesNone s) → MatchOption barren ⊥ (λ least. least ≤ length plan) → IsUnderway s taken plan →
-    Gives s.setting.bound.now.query.now (stored s.setting.bound.now.db.now) taken plan row → ⊥
+    PlanGives s.setting.bound.now.query.now (stored s.setting.bound.now.db.now) taken plan row → ⊥
 noted-none s None taken plan row h m u g = m
 noted-none s (Some least) taken plan row h m u g = h taken plan row u m g

@@ -21,8 +21,8 @@ use Rattle.cqa_model.proofs.Classic.{mem-nil, mem-cases}
 use Rattle.cqa_model.proofs.Repairs.{shares-self, shares-sym, shares-trans}
 use Rattle.row_cursor.specs.Blocks.{blocks_of}
 use Rattle.row_cursor.proofs.Parting.{blocks-are, side_by_side}
-use Rattle.fo_plan.specs.Enough.{row_of}
-use Rattle.fo_plan.specs.FirstBlock.{IsBlockOf}
+use Rattle.fo_plan.specs.Enough.{row_at_place}
+use Rattle.fo_plan.specs.FirstBlock.{IsBlockOfRow}
 use Rattle.fo_plan.proofs.Spanned.{sorted-part}
 use Rattle.fo_plan.proofs.Parted.{row_in}
 
@@ -62,14 +62,14 @@ module _ (key : List ℕ) (xs ys : List (List Value)) (cs bs : List (List (List 
 
 -- cut out between the place where it begins and the one where it ends
 module _ (key : List ℕ) (rows : List (List Value)) (sorted : IsStrictlySortedBy (block_cmp key) rows) (at : ℕ) (there : at < length rows) (start : ℕ) (low : start ≤ at)
-    (starts : (i : ℕ) → i ≤ at → SharesKey key (row_of rows at) (row_of rows i) ↔ (start ≤ i)) (rest : List (List Value)) (is : rest ≡ drop start rows) (end : ℕ) (within : end ≤ length rest)
-    (ends : (i : ℕ) → 0 ≤ i → i < length rest → SharesKey key (row_of rest 0) (row_of rest i) ↔ (i < end)) (block : List (List Value)) (front : block ≡ take end rest) where
-  shares-first : SharesKey key (row_of rows at) (row_of rest 0)
+    (starts : (i : ℕ) → i ≤ at → SharesKey key (row_at_place rows at) (row_at_place rows i) ↔ (start ≤ i)) (rest : List (List Value)) (is : rest ≡ drop start rows) (end : ℕ) (within : end ≤ length rest)
+    (ends : (i : ℕ) → 0 ≤ i → i < length rest → SharesKey key (row_at_place rest 0) (row_at_place rest i) ↔ (i < end)) (block : List (List Value)) (front : block ≡ take end rest) where
+  shares-first : SharesKey key (row_at_place rows at) (row_at_place rest 0)
   shares-first =
-      let first : row_of rest 0 ≡ row_of rows start = ap (λ xs. row_of xs 0) is ∙ (get_or-drop start rows 0 [] ∙ ap (row_of rows) (let e : start + 0 ≡ start = omega arith in e)) in
-      subst (SharesKey key (row_of rows at)) (sym first) ((starts start low).1 (omega arith))
+      let first : row_at_place rest 0 ≡ row_at_place rows start = ap (λ xs. row_at_place xs 0) is ∙ (get_or-drop start rows 0 [] ∙ ap (row_at_place rows) (let e : start + 0 ≡ start = omega arith in e)) in
+      subst (SharesKey key (row_at_place rows at)) (sym first) ((starts start low).1 (omega arith))
 
-  pub cut-block : IsBlockOf key rows (row_of rows at) block
+  pub cut-block : IsBlockOfRow key rows (row_at_place rows at) block
   cut-block = record {
     in_order = sorted;
     before = take start rows;
@@ -80,27 +80,27 @@ module _ (key : List ℕ) (rows : List (List Value)) (sorted : IsStrictlySortedB
     none_behind = λ y m. late y (member_place (drop end rest) y [] m);
   }
     where
-      inside : (y : List Value) → ((i : ℕ) × (i < length (take end rest)) × (get_or (take end rest) i [] ≡ y)) → SharesKey key (row_of rows at) y
+      inside : (y : List Value) → ((i : ℕ) × (i < length (take end rest)) × (get_or (take end rest) i [] ≡ y)) → SharesKey key (row_at_place rows at) y
       inside y (i, l, e) =
           let size = length-take-le end rest within in
           let near : i < end = omega (arith, l, size) in
-          shares-trans key (row_of rows at) (row_of rest 0) y shares-first (subst (SharesKey key (row_of rest 0)) (sym (get_or-take end rest i [] near) ∙ e) ((ends i (omega arith) (omega (arith, near, within))).1 near))
+          shares-trans key (row_at_place rows at) (row_at_place rest 0) y shares-first (subst (SharesKey key (row_at_place rest 0)) (sym (get_or-take end rest i [] near) ∙ e) ((ends i (omega arith) (omega (arith, near, within))).1 near))
 
-      early : (y : List Value) → ((i : ℕ) × (i < length (take start rows)) × (get_or (take start rows) i [] ≡ y)) → SharesKey key (row_of rows at) y → ⊥
+      early : (y : List Value) → ((i : ℕ) × (i < length (take start rows)) × (get_or (take start rows) i [] ≡ y)) → SharesKey key (row_at_place rows at) y → ⊥
       early y (i, l, e) s =
           let size = length-take-le start rows (omega (arith, low, there)) in
           let near : i < start = omega (arith, l, size) in
-          let far = (starts i (omega (arith, near, low))).0 (subst (SharesKey key (row_of rows at)) (sym e ∙ get_or-take start rows i [] near) s) in
+          let far = (starts i (omega (arith, near, low))).0 (subst (SharesKey key (row_at_place rows at)) (sym e ∙ get_or-take start rows i [] near) s) in
           omega (arith, near, far)
 
-      late : (y : List Value) → ((i : ℕ) × (i < length (drop end rest)) × (get_or (drop end rest) i [] ≡ y)) → SharesKey key (row_of rows at) y → ⊥
+      late : (y : List Value) → ((i : ℕ) × (i < length (drop end rest)) × (get_or (drop end rest) i [] ≡ y)) → SharesKey key (row_at_place rows at) y → ⊥
       late y (i, l, e) s =
           let size = length-drop end rest in
-          let shared : SharesKey key (row_of rest 0) (row_of rest (end + i)) = subst (SharesKey key (row_of rest 0)) (sym e ∙ get_or-drop end rest i []) (shares-trans key (row_of rest 0) (row_of rows at) y (shares-sym key (row_of rows at) (row_of rest 0) shares-first) s) in
+          let shared : SharesKey key (row_at_place rest 0) (row_at_place rest (end + i)) = subst (SharesKey key (row_at_place rest 0)) (sym e ∙ get_or-drop end rest i []) (shares-trans key (row_at_place rest 0) (row_at_place rows at) y (shares-sym key (row_at_place rows at) (row_at_place rest 0) shares-first) s) in
           let near = (ends (end + i) (omega arith) (omega (arith, l, size))).0 shared in
           omega (arith, near)
 
-module _ (key : List ℕ) (rows : List (List Value)) (x : List Value) (block : List (List Value)) (h : IsBlockOf key rows x block) where
+module _ (key : List ℕ) (rows : List (List Value)) (x : List Value) (block : List (List Value)) (h : IsBlockOfRow key rows x block) where
   pub block-rows : (y : List Value) → Contains block y → Contains rows y
   block-rows y m = subst (λ xs. Contains xs y) (sym h.parts) (Contains-append_right h.before (block ++ h.behind) y (Contains-append_left block h.behind y m))
 
@@ -183,6 +183,6 @@ module _ (key : List ℕ) (rows : List (List Value)) (x : List Value) (block : L
         ]))
 
 -- the same of the table of an atom
-pub block-of-atom : (q : Query) (db : List Table) (F table : ℕ) → FitsDatabase q db → F < length q.atoms → table ≡ (atom_at q F).table → (x : List Value) (block : List (List Value)) → IsBlockOf (key_at db table) (rows_at db table) x block →
-    IsBlockOf (atom_key q F) (rows_of q (stored db) F) x block
-block-of-atom q db F table h there table_is x block b = subst (λ ks. IsBlockOf ks (rows_of q (stored db) F) x block) (sym (h.keyed F there)) (subst (λ t. IsBlockOf (key_at db t) (rows_at db t) x block) table_is b)
+pub block-of-atom : (q : Query) (db : List Table) (F table : ℕ) → FitsDatabase q db → F < length q.atoms → table ≡ (atom_at q F).table → (x : List Value) (block : List (List Value)) → IsBlockOfRow (key_at db table) (rows_at db table) x block →
+    IsBlockOfRow (atom_key q F) (rows_of q (stored db) F) x block
+block-of-atom q db F table h there table_is x block b = subst (λ ks. IsBlockOfRow ks (rows_of q (stored db) F) x block) (sym (h.keyed F there)) (subst (λ t. IsBlockOfRow (key_at db t) (rows_at db t) x block) table_is b)

@@ -6,7 +6,7 @@ use Rattle.std.proofs.lemmas.List.Elements.{Contains-append_right, Contains-appe
 use Rattle.cqa_value.proofs.Words.{mem-nil, mem-cases}
 use Rattle.cqa_model.specs.declared.query.Query.{Query}
 use Rattle.cqa_model.specs.Shape.{AreDistinct}
-use Rattle.plan_rows.specs.Left.{AreAtoms}
+use Rattle.plan_rows.specs.Left.{AreQueryAtoms}
 use Rattle.fo_plan.specs.Chaining.{GoesOn}
 
 -- nothing is added
@@ -45,7 +45,7 @@ some-are zero e = absurd (true≢false (sym e))
 some-are (suc count) e = omega arith
 
 -- atoms of a query go on by atoms of it
-pub atoms-further : (q : Query) (atoms old new : List ℕ) → AreAtoms q atoms → AreAtoms q old → GoesOn atoms old new → AreAtoms q new
+pub atoms-further : (q : Query) (atoms old new : List ℕ) → AreQueryAtoms q atoms → AreQueryAtoms q old → GoesOn atoms old new → AreQueryAtoms q new
 atoms-further q atoms old new some front h F m = elim (Contains-append_cases old h.added F (subst (λ z. Contains z F) h.is m)) [
   | inl n ↦ front F n
   | inr n ↦ some F (h.among F n)

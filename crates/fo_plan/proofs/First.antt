@@ -18,12 +18,12 @@ use Rattle.cqa_model.proofs.BlockOrder.{block_total}
 use Rattle.cqa_model.proofs.Repairs.{shares-sym, shares-trans}
 use Rattle.row_cursor.specs.Blocks.{blocks_of}
 use Rattle.plan_rows.specs.Links.{LeadsTo}
-use Rattle.plan_rows.specs.Over.{query_of, tables_of, rows_before}
+use Rattle.plan_rows.specs.Over.{query_of, stored_rows, rows_before}
 use Rattle.plan_rows.specs.declared.steps.Step.{Step}
 use Rattle.plan_rows.proofs.Reaching.{held_rows_are_reached}
-use Rattle.fo_plan.specs.Enough.{IsEnough, row_of, IsFirstOfBlock, IsFirstOf, AreReached}
-use Rattle.fo_plan.specs.FirstBlock.{IsBlockOf, IsFirstWith}
-use Rattle.fo_plan.specs.Holding.{HoldsWith}
+use Rattle.fo_plan.specs.Enough.{IsEnough, row_at_place, IsFirstOfBlock, IsFirstOf, AreReached}
+use Rattle.fo_plan.specs.FirstBlock.{IsBlockOfRow, IsFirstWith}
+use Rattle.fo_plan.specs.Holding.{PlanHoldsWith}
 use Rattle.fo_plan.specs.declared.enough.Blocks.{Blocks}
 use Rattle.fo_plan.proofs.Parted.{row_in, whole-block}
 use Rattle.fo_plan.proofs.Passing.{first-place, at-some}
@@ -42,9 +42,9 @@ not-less : (key : List ℕ) (x y : List Value) → block_cmp key x y ≡ Less �
 not-less key x y e f = let back = (block_total key).antisymm x y in let g : Less ≡ ordering_reverse Less = sym e ∙ (back ∙ ap ordering_reverse f) in cc
 
 module _ (key : List ℕ) (rows part : List (List Value)) (fits P : List Value → Type 0) (enough : IsEnough key rows fits part) (strong : (y : List Value) → P y → fits y) (sorted : IsStrictlySortedBy (block_cmp key) part)
-    (found : List (List Value)) (f : IsFirstOf key part P found) (block : List (List Value)) (h : IsBlockOf key rows (row_of part f.at) block) where
+    (found : List (List Value)) (f : IsFirstOf key part P found) (block : List (List Value)) (h : IsBlockOfRow key rows (row_at_place part f.at) block) where
   abbrev x : List Value
-  x = row_of part f.at
+  x = row_at_place part f.at
 
   in-part : Contains part x
   in-part = Contains-get_or part f.at [] f.is.there
@@ -74,12 +74,12 @@ module _ (key : List ℕ) (rows part : List (List Value)) (fits P : List Value �
       less = comes-first key rows x block h here z (row_in key h.before (blocks_of key h.before) (before-are key rows x block h) b z m mz)
 
       -- the row stands before the first one that was found
-      earlier : (i : ℕ) → i < length part → row_of part i ≡ z → Dec (i < f.at) → Dec (f.at < i) → i < f.at
+      earlier : (i : ℕ) → i < length part → row_at_place part i ≡ z → Dec (i < f.at) → Dec (f.at < i) → i < f.at
       earlier i l e (yes a) d = a
       earlier i l e (no a) (yes b) = absurd (not-less key x z (subst (λ w. block_cmp key x w ≡ Less) e (Less-from_sorted (block_cmp key) part f.at i [] sorted b l)) less)
       earlier i l e (no a) (no b) =
           let same : i ≡ f.at = omega (arith, a, b) in
-          let one : z ≡ x = sym e ∙ ap (row_of part) same in
+          let one : z ≡ x = sym e ∙ ap (row_at_place part) same in
           let loop : block_cmp key x x ≡ Less = subst (λ w. block_cmp key w x ≡ Less) one less in
           absurd (not-less key x x loop loop)
 
@@ -88,9 +88,9 @@ module _ (key : List ℕ) (rows part : List (List Value)) (fits P : List Value �
           let p = first-place key part i 0 i (omega arith) (λ j a s. absurd (omega (arith, a))) in
           let low = p.1 in
           let near = earlier i l e (dec_lt i f.at) (dec_lt f.at i) in
-          let shared : SharesKey key z (row_of part p.0) = shares-sym key (row_of part p.0) z (subst (SharesKey key (row_of part p.0)) e p.3) in
+          let shared : SharesKey key z (row_at_place part p.0) = shares-sym key (row_at_place part p.0) z (subst (SharesKey key (row_at_place part p.0)) e p.3) in
           f.none p.0 (omega (arith, low, near)) (omega (arith, low, l)) p.2
-          (λ y my s. k y (whole-block key rows (blocks_of key h.before ++ block ∷ blocks_of key h.behind) whole b among z y mz (enough.stored y my) (shares-trans key z (row_of part p.0) y shared s)))
+          (λ y my s. k y (whole-block key rows (blocks_of key h.before ++ block ∷ blocks_of key h.behind) whole b among z y mz (enough.stored y my) (shares-trans key z (row_at_place part p.0) y shared s)))
 
   first-in_table : SomeBlockFits key rows P × IsFirstWith key rows P block
   first-in_table = (
@@ -104,18 +104,18 @@ module _ (key : List ℕ) (rows part : List (List Value)) (fits P : List Value �
     },
   )
 
-module _ (step : Step) (s : Blocks) (row : List Value) (h : AreReached step (Some row) s) (found : List (List Value)) (f : IsFirstOf s.key.now s.rows (HoldsWith step row) found) where
+module _ (step : Step) (s : Blocks) (row : List Value) (h : AreReached step (Some row) s) (found : List (List Value)) (f : IsFirstOf s.key.now s.rows (PlanHoldsWith step row) found) where
   -- its first row is stored
-  pub first-stored : Contains (rows_of (query_of step) (tables_of step) step.atom) (row_of found 0)
-  first-stored = h.enough.stored (row_of found 0) (subst (Contains s.rows) (sym f.is.first) (Contains-get_or s.rows f.at [] f.is.there))
+  pub first-stored : Contains (rows_of (query_of step) (stored_rows step) step.atom) (row_at_place found 0)
+  first-stored = h.enough.stored (row_at_place found 0) (subst (Contains s.rows) (sym f.is.first) (Contains-get_or s.rows f.at [] f.is.there))
 
-  pub first-holds : (block : List (List Value)) → IsBlockOf (atom_key (query_of step) step.atom) (rows_of (query_of step) (tables_of step) step.atom) (row_of found 0) block →
-      SomeBlockFits (atom_key (query_of step) step.atom) (rows_of (query_of step) (tables_of step) step.atom) (HoldsWith step row) × IsFirstWith (atom_key (query_of step) step.atom) (rows_of (query_of step) (tables_of step) step.atom) (HoldsWith step row) block
-  first-holds block b = first-in_table (atom_key (query_of step) step.atom) (rows_of (query_of step) (tables_of step) step.atom) s.rows
-      (LeadsTo (query_of step) (tables_of step) (Some row) (rows_before step) h.links step.atom) (HoldsWith step row) h.enough
-      (λ y p. (held_rows_are_reached (query_of step) (tables_of step) row (rows_before step) step.atom step.rest.now h.links y h.behind p).0)
+  pub first-holds : (block : List (List Value)) → IsBlockOfRow (atom_key (query_of step) step.atom) (rows_of (query_of step) (stored_rows step) step.atom) (row_at_place found 0) block →
+      SomeBlockFits (atom_key (query_of step) step.atom) (rows_of (query_of step) (stored_rows step) step.atom) (PlanHoldsWith step row) × IsFirstWith (atom_key (query_of step) step.atom) (rows_of (query_of step) (stored_rows step) step.atom) (PlanHoldsWith step row) block
+  first-holds block b = first-in_table (atom_key (query_of step) step.atom) (rows_of (query_of step) (stored_rows step) step.atom) s.rows
+      (LeadsTo (query_of step) (stored_rows step) (Some row) (rows_before step) h.links step.atom) (PlanHoldsWith step row) h.enough
+      (λ y p. (held_rows_are_reached (query_of step) (stored_rows step) row (rows_before step) step.atom step.rest.now h.links y h.behind p).0)
       (subst (λ k. IsStrictlySortedBy (block_cmp k) s.rows) h.key s.in_order) found (moved s.key.now (atom_key (query_of step) step.atom) h.key f) block
-      (subst (λ x. IsBlockOf (atom_key (query_of step) step.atom) (rows_of (query_of step) (tables_of step) step.atom) x block) f.is.first b)
+      (subst (λ x. IsBlockOfRow (atom_key (query_of step) step.atom) (rows_of (query_of step) (stored_rows step) step.atom) x block) f.is.first b)
     where
-      moved : (k l : List ℕ) → k ≡ l → IsFirstOf k s.rows (HoldsWith step row) found → IsFirstOf l s.rows (HoldsWith step row) found
-      moved k l e g = record { at = g.at; is = record { there = g.is.there; leads = subst (λ j. IsFirstOfBlock j s.rows g.at) e g.is.leads; some = g.is.some; first = g.is.first; exactly = subst (λ j. (y : List Value) → Contains found y ↔ (Contains s.rows y × SharesKey j (row_of s.rows g.at) y)) e g.is.exactly }; all = g.all; none = subst (λ j. (i : ℕ) → i < g.at → i < length s.rows → IsFirstOfBlock j s.rows i → ((y : List Value) → Contains s.rows y → SharesKey j (row_of s.rows i) y → HoldsWith step row y) → ⊥) e g.none }
+      moved : (k l : List ℕ) → k ≡ l → IsFirstOf k s.rows (PlanHoldsWith step row) found → IsFirstOf l s.rows (PlanHoldsWith step row) found
+      moved k l e g = record { at = g.at; is = record { there = g.is.there; leads = subst (λ j. IsFirstOfBlock j s.rows g.at) e g.is.leads; some = g.is.some; first = g.is.first; exactly = subst (λ j. (y : List Value) → Contains found y ↔ (Contains s.rows y × SharesKey j (row_at_place s.rows g.at) y)) e g.is.exactly }; all = g.all; none = subst (λ j. (i : ℕ) → i < g.at → i < length s.rows → IsFirstOfBlock j s.rows i → ((y : List Value) → Contains s.rows y → SharesKey j (row_at_place s.rows i) y → PlanHoldsWith step row y) → ⊥) e g.none }

@@ -14,15 +14,15 @@ use Rattle.cqa_model.proofs.Classic.{mem-head, mem-tail, mem-nil, mem-cases}
 use Rattle.cqa_model.proofs.Exactness.{map_is}
 use Rattle.plan_rows.specs.Taking.{taken_value, AreAgreed}
 use Rattle.plan_rows.specs.Fitting.{Suits, GivesAt}
-use Rattle.plan_rows.specs.Left.{IsSettled}
+use Rattle.plan_rows.specs.Left.{IsAnswerSettled}
 use Rattle.plan_rows.specs.Links.{RowHolds}
 use Rattle.fo_plan.specs.Holding.{AllHold}
-use Rattle.fo_plan.specs.Giving.{AreAll, IsAnswerRow, Gives, BlockGives, IsAdded}
+use Rattle.fo_plan.specs.Giving.{AreAllAtoms, IsAnswerRow, PlanGives, BlockGives, IsAdded}
 use Rattle.plan_rows.proofs.Sharing.{value-taken}
 use Rattle.plan_rows.proofs.Suiting.{of_all, fits-of, suits-from, gives-from}
 
 module _ (q : Query) (tables : List (List (List Value))) (taken : List Placed) (F : ℕ) (plan : List ℕ) where
-  pub all-more : (x : List Value) → AreAll q taken (F ∷ plan) → AreAll q (record { atom = F; row = x } ∷ taken) plan
+  pub all-more : (x : List Value) → AreAllAtoms q taken (F ∷ plan) → AreAllAtoms q (record { atom = F; row = x } ∷ taken) plan
   all-more x h G l = elim (h G l) [
     | inl m ↦ elim (mem-cases G F plan m) [ inl e ↦ inr (record { atom = F; row = x }, mem-head (record { atom = F; row = x }) taken, e) | inr n ↦ inl n ]
     | inr t ↦ inr (t.0, mem-tail t.0 (record { atom = F; row = x }) taken t.1, t.2)
@@ -31,13 +31,13 @@ module _ (q : Query) (tables : List (List (List Value))) (taken : List Placed) (
   module _ (first : List Value) (others block : List (List Value)) (is : block ≡ first ∷ others) where
     -- its first row proposes, and the others test
     pub first-gives : Suits q taken F first → (row : List Value) →
-        (Gives q tables (record { atom = F; row = first } ∷ taken) plan row × AllHold q tables row taken F plan others) ↔ BlockGives q tables taken F plan block row
+        (PlanGives q tables (record { atom = F; row = first } ∷ taken) plan row × AllHold q tables row taken F plan others) ↔ BlockGives q tables taken F plan block row
     first-gives s row = (into, from)
       where
         Now : Placed
         Now = record { atom = F; row = first }
 
-        into : Gives q tables (record { atom = F; row = first } ∷ taken) plan row × AllHold q tables row taken F plan others → BlockGives q tables taken F plan block row
+        into : PlanGives q tables (record { atom = F; row = first } ∷ taken) plan row × AllHold q tables row taken F plan others → BlockGives q tables taken F plan block row
         into (g, rest) = (
           (g.0.0, (λ t m. g.0.1 t (mem-tail t (record { atom = F; row = first }) taken m))),
           λ y m. elim (mem-cases y first others (subst (λ z. Contains z y) is m)) [
@@ -46,7 +46,7 @@ module _ (q : Query) (tables : List (List (List Value))) (taken : List Placed) (
           ],
         )
 
-        from : BlockGives q tables taken F plan block row → Gives q tables (record { atom = F; row = first } ∷ taken) plan row × AllHold q tables row taken F plan others
+        from : BlockGives q tables taken F plan block row → PlanGives q tables (record { atom = F; row = first } ∷ taken) plan row × AllHold q tables row taken F plan others
         from g =
             let one : RowHolds q tables row taken F plan first = g.1 first (subst (λ z. Contains z first) (sym is) (mem-head first others)) in (
               (
@@ -113,7 +113,7 @@ module _ (q : Query) (taken : List Placed) (agreed : AreAgreed q taken) (of_colu
           agreed t u.0 m u.1 (sym f ∙ sym u.2) (answer_at q i).col (subst (λ z. (answer_at q i).col < (atom_at q z).width) f (in_range i l).1) ∙ sym u.3
 
 -- so it is where no answer column is of an atom that is left
-pub settled-columns : (q : Query) (taken : List Placed) (plan : List ℕ) → AreAll q taken plan → IsSettled q plan → (i : ℕ) → i < length q.answer → (t : Placed) × Contains taken t × (t.atom ≡ (answer_at q i).atom)
+pub settled-columns : (q : Query) (taken : List Placed) (plan : List ℕ) → AreAllAtoms q taken plan → IsAnswerSettled q plan → (i : ℕ) → i < length q.answer → (t : Placed) × Contains taken t × (t.atom ≡ (answer_at q i).atom)
 settled-columns q taken plan all settled i l =
     let column = answer_at q i in
     let there = Contains-get_or q.answer i (record { atom = 0; col = 0 }) l in
@@ -218,17 +218,17 @@ moved-on P none part old new e a moved = adds-same (Contains part) P (λ row. ((
 
 -- a block of one row
 pub add-one : (q : Query) (tables : List (List (List Value))) (taken : List Placed) (F : ℕ) (plan : List ℕ) (first : List Value) (block : List (List Value)) → block ≡ first ∷ [] → Suits q taken F first → (old new : List (List Value)) →
-    IsAdded (Gives q tables (record { atom = F; row = first } ∷ taken) plan) old new → IsAdded (BlockGives q tables taken F plan block) old new
+    IsAdded (PlanGives q tables (record { atom = F; row = first } ∷ taken) plan) old new → IsAdded (BlockGives q tables taken F plan block) old new
 add-one q tables taken F plan first block is s old new =
-    adds-same (Gives q tables (record { atom = F; row = first } ∷ taken) plan) (BlockGives q tables taken F plan block)
+    adds-same (PlanGives q tables (record { atom = F; row = first } ∷ taken) plan) (BlockGives q tables taken F plan block)
     (λ row. (
       (λ g. (first-gives q tables taken F plan first [] block is s row).0 (g, λ y m. absurd (mem-nil y m))),
       (λ b. ((first-gives q tables taken F plan first [] block is s row).1 b).0),
     )) old new
 
 -- the answer of the rows taken was put in, where the rest of the plan holds
-pub add-answer : (q : Query) (tables : List (List (List Value))) (taken : List Placed) (plan : List ℕ) → AreAgreed q taken → AreAll q taken plan → IsSettled q plan → ((row : List Value) → PlanHolds q tables row taken plan) → (old new : List (List Value)) (answer : List Value) →
-    answer ≡ map (taken_value taken) q.answer → ((other : List Value) → Contains new other ↔ (Contains old other ⊎ (answer ≡ other))) → IsAdded (Gives q tables taken plan) old new
+pub add-answer : (q : Query) (tables : List (List (List Value))) (taken : List Placed) (plan : List ℕ) → AreAgreed q taken → AreAllAtoms q taken plan → IsAnswerSettled q plan → ((row : List Value) → PlanHolds q tables row taken plan) → (old new : List (List Value)) (answer : List Value) →
+    answer ≡ map (taken_value taken) q.answer → ((other : List Value) → Contains new other ↔ (Contains old other ⊎ (answer ≡ other))) → IsAdded (PlanGives q tables taken plan) old new
 add-answer q tables taken plan agreed all settled holds old new answer ea put row = (
   (λ m. elim ((put row).0 m) [ inl k ↦ inl k | inr e ↦ inr (is-answer q taken agreed (settled-columns q taken plan all settled) row (sym ea ∙ e), holds row) ]),
   (λ s. (put row).1 (elim s [ inl k ↦ inl k | inr g ↦ inr (ea ∙ answer-of q taken agreed (settled-columns q taken plan all settled) row g.0) ])),
@@ -239,16 +239,16 @@ no-plan [] l = refl
 no-plan (F ∷ plan) l = absurd (omega arith)
 
 -- an empty rest is settled
-pub settled-empty : (q : Query) (plan : List ℕ) → plan ≡ [] → IsSettled q plan
+pub settled-empty : (q : Query) (plan : List ℕ) → plan ≡ [] → IsAnswerSettled q plan
 settled-empty q plan e = of_all (λ F. All (λ c. c.atom ≢ F) q.answer) plan (λ F m. absurd (mem-nil F (subst (λ z. Contains z F) e m)))
 
 -- a rest that isn't settled has an atom
-pub some-plan : (q : Query) (plan : List ℕ) (b : Bool) → IsTrue b ↔ IsSettled q plan → b ≡ false → 1 ≤ length plan
+pub some-plan : (q : Query) (plan : List ℕ) (b : Bool) → IsTrue b ↔ IsAnswerSettled q plan → b ≡ false → 1 ≤ length plan
 some-plan q [] b says f = absurd (false≢true (sym f ∙ says.1 (settled-empty q [] refl)))
 some-plan q (F ∷ plan) b says f = omega arith
 
 -- with no row taken
-pub gives-all : (q : Query) (tables : List (List (List Value))) (plan : List ℕ) (found : List (List Value)) → IsAdded (Gives q tables [] plan) [] found →
+pub gives-all : (q : Query) (tables : List (List (List Value))) (plan : List ℕ) (found : List (List Value)) → IsAdded (PlanGives q tables [] plan) [] found →
     (row : List Value) → Contains found row ↔ ((length row ≡ length q.answer) × PlanHolds q tables row [] plan)
 gives-all q tables plan found h row = (
   λ m. elim ((h row).0 m) [ inl n ↦ absurd (mem-nil row n) | inr g ↦ (g.0.0, g.1) ],

@@ -7,7 +7,7 @@ use Rattle.cqa_model.specs.Query.{atom_key, rows_of}
 use Rattle.cqa_model.specs.Plan.{HoldsOver}
 use Rattle.cqa_model.proofs.Classic.{mem-head, mem-tail, mem-cases}
 use Rattle.plan_rows.specs.Links.{RowHolds}
-use Rattle.plan_rows.specs.Grouping.{AreAlike, IsRegrouped}
+use Rattle.plan_rows.specs.Grouping.{AreAlikeOrders, IsRegrouped}
 use Rattle.fo_plan.specs.FirstBlock.{IsFirstWith, IsFirstBlock}
 
 -- the first block with a property is the first one with another that the same rows have
@@ -24,7 +24,7 @@ module _ (db : List Table) (q : Query) (row : List Value) where
   abbrev IsFound : List ℕ → Option (List (List Value)) → Type 0
   IsFound order found = MatchOption found (HoldsOver db q row order → ⊥) (λ block. HoldsOver db q row order × IsFirstBlock db q row order block)
 
-  alike-first : (F : ℕ) (plan rest : List ℕ) (found : Option (List (List Value))) → AreAlike q plan rest → IsFound (F ∷ rest) found → IsFound (F ∷ plan) found
+  alike-first : (F : ℕ) (plan rest : List ℕ) (found : Option (List (List Value))) → AreAlikeOrders q plan rest → IsFound (F ∷ rest) found → IsFound (F ∷ plan) found
   alike-first F plan rest None alike none = λ (x, m, all). none (x, m, λ y n k. let r = all y n k in (r.0, (alike.holds (stored db) row (record { atom = F; row = y } ∷ [])).0 r.1))
   alike-first F plan rest (Some block) alike ((x, m, all), first) = (
     (x, m, λ y n k. let r = all y n k in (r.0, (alike.holds (stored db) row (record { atom = F; row = y } ∷ [])).1 r.1)),

@@ -13,39 +13,39 @@ use Rattle.cqa_model.proofs.Repairs.{shares-sym, shares-trans}
 use Rattle.plan_rows.specs.Wanted.{IsWanted, NoneWanted}
 use Rattle.plan_rows.specs.declared.wanted.Wanted.{Wanted}
 use Rattle.plan_rows.specs.declared.wanted.Wanted.TheVariants.{All}
-use Rattle.fo_plan.specs.Enough.{row_of, IsFirstOfBlock, IsBlockAt, IsPassed, IsNextBlock, IsSpot}
+use Rattle.fo_plan.specs.Enough.{row_at_place, IsFirstOfBlock, IsBlockAt, IsBlockPassed, IsNextBlock, IsSpot}
 use Rattle.fo_plan.specs.declared.enough.Blocks.{Blocks}
 use Rattle.fo_plan.specs.declared.enough.Spot.{Spot}
 
 module _ (key : List ℕ) (rows : List (List Value)) (sorted : IsStrictlySortedBy (block_cmp key) rows) (at : ℕ) (leads : at < length rows → IsFirstOfBlock key rows at) (rest : List (List Value)) (is : rest ≡ drop at rows)
-    (end : ℕ) (behind : 0 < end) (within : end ≤ length rest) (ends : (i : ℕ) → 0 ≤ i → i < length rest → SharesKey key (row_of rest 0) (row_of rest i) ↔ (i < end)) where
+    (end : ℕ) (behind : 0 < end) (within : end ≤ length rest) (ends : (i : ℕ) → 0 ≤ i → i < length rest → SharesKey key (row_at_place rest 0) (row_at_place rest i) ↔ (i < end)) where
   long : length rest ≡ length rows - at
   long = ap length is ∙ length-drop at rows
 
   there : at < length rows
   there = omega (arith, behind, within, long)
 
-  read : (i : ℕ) → row_of rest i ≡ row_of rows (at + i)
-  read i = ap (λ xs. row_of xs i) is ∙ get_or-drop at rows i []
+  read : (i : ℕ) → row_at_place rest i ≡ row_at_place rows (at + i)
+  read i = ap (λ xs. row_at_place xs i) is ∙ get_or-drop at rows i []
 
-  read-at : (k : ℕ) → at ≤ k → row_of rest (k - at) ≡ row_of rows k
-  read-at k low = read (k - at) ∙ ap (row_of rows) (let e : at + (k - at) ≡ k = omega (arith, low) in e)
+  read-at : (k : ℕ) → at ≤ k → row_at_place rest (k - at) ≡ row_at_place rows k
+  read-at k low = read (k - at) ∙ ap (row_at_place rows) (let e : at + (k - at) ≡ k = omega (arith, low) in e)
 
-  read-first : row_of rest 0 ≡ row_of rows at
-  read-first = read 0 ∙ ap (row_of rows) (let e : at + 0 ≡ at = omega arith in e)
+  read-first : row_at_place rest 0 ≡ row_at_place rows at
+  read-first = read 0 ∙ ap (row_at_place rows) (let e : at + 0 ≡ at = omega arith in e)
 
   -- the rows up to the end share the key of the row at the place, and the others don't
-  shares-below : (k : ℕ) → at ≤ k → k < length rows → SharesKey key (row_of rows at) (row_of rows k) → k < at + end
+  shares-below : (k : ℕ) → at ≤ k → k < length rows → SharesKey key (row_at_place rows at) (row_at_place rows k) → k < at + end
   shares-below k low l s =
       let inside : k - at < length rest = omega (arith, low, l, long) in
-      let near = (ends (k - at) (omega arith) inside).0 (subst (λ x. SharesKey key x (row_of rest (k - at))) (sym read-first) (subst (SharesKey key (row_of rows at)) (sym (read-at k low)) s)) in
+      let near = (ends (k - at) (omega arith) inside).0 (subst (λ x. SharesKey key x (row_at_place rest (k - at))) (sym read-first) (subst (SharesKey key (row_at_place rows at)) (sym (read-at k low)) s)) in
       omega (arith, low, near)
 
-  below-shares : (k : ℕ) → at ≤ k → k < at + end → SharesKey key (row_of rows at) (row_of rows k)
+  below-shares : (k : ℕ) → at ≤ k → k < at + end → SharesKey key (row_at_place rows at) (row_at_place rows k)
   below-shares k low l =
       let inside : k - at < length rest = omega (arith, low, l, within, behind) in
       let near : k - at < end = omega (arith, low, l, behind) in
-      subst (SharesKey key (row_of rows at)) (read-at k low) (subst (λ x. SharesKey key x (row_of rest (k - at))) read-first ((ends (k - at) (omega arith) inside).1 near))
+      subst (SharesKey key (row_at_place rows at)) (read-at k low) (subst (λ x. SharesKey key x (row_at_place rest (k - at))) read-first ((ends (k - at) (omega arith) inside).1 near))
 
   pub walked-block : (block : List (List Value)) → block ≡ take end rest → IsBlockAt key rows at block
   walked-block block e = record {
@@ -56,26 +56,26 @@ module _ (key : List ℕ) (rows : List (List Value)) (sorted : IsStrictlySortedB
     exactly = λ y. (
       (λ m. let i = m.0 in let l = m.1 in let n = size in
           let near : i < end = omega (arith, l, n) in
-          let row : row_of rows (at + i) ≡ y = sym (cell i near ∙ read i) ∙ (get_or_default block i [] y l ∙ m.2) in
+          let row : row_at_place rows (at + i) ≡ y = sym (cell i near ∙ read i) ∙ (get_or_default block i [] y l ∙ m.2) in
           let inside : at + i < length rows = omega (arith, near, within, long) in (
             subst (Contains rows) row (Contains-get_or rows (at + i) [] inside),
-            subst (SharesKey key (row_of rows at)) row (below-shares (at + i) (omega arith) (omega (arith, near))),
+            subst (SharesKey key (row_at_place rows at)) row (below-shares (at + i) (omega arith) (omega (arith, near))),
           )),
-      (λ p. let m = p.0 in let row : row_of rows m.0 ≡ y = get_or_default rows m.0 [] y m.1 ∙ m.2 in here y m.0 m.1 row p.1 (dec_lt m.0 at)),
+      (λ p. let m = p.0 in let row : row_at_place rows m.0 ≡ y = get_or_default rows m.0 [] y m.1 ∙ m.2 in here y m.0 m.1 row p.1 (dec_lt m.0 at)),
     );
   }
     where
       size : length block ≡ end
       size = ap length e ∙ length-take-le end rest within
 
-      cell : (i : ℕ) → i < end → row_of block i ≡ row_of rest i
-      cell i l = ap (λ xs. row_of xs i) e ∙ get_or-take end rest i [] l
+      cell : (i : ℕ) → i < end → row_at_place block i ≡ row_at_place rest i
+      cell i l = ap (λ xs. row_at_place xs i) e ∙ get_or-take end rest i [] l
 
-      here : (y : List Value) (i : ℕ) → i < length rows → row_of rows i ≡ y → SharesKey key (row_of rows at) y → Dec (i < at) → Contains block y
-      here y i l row s (yes a) = absurd (leads there i a (shares-sym key (row_of rows at) (row_of rows i) (subst (SharesKey key (row_of rows at)) (sym row) s)))
+      here : (y : List Value) (i : ℕ) → i < length rows → row_at_place rows i ≡ y → SharesKey key (row_at_place rows at) y → Dec (i < at) → Contains block y
+      here y i l row s (yes a) = absurd (leads there i a (shares-sym key (row_at_place rows at) (row_at_place rows i) (subst (SharesKey key (row_at_place rows at)) (sym row) s)))
       here y i l row s (no a) =
           let low : at ≤ i = omega (arith, a) in
-          let high = shares-below i low l (subst (SharesKey key (row_of rows at)) (sym row) s) in
+          let high = shares-below i low l (subst (SharesKey key (row_at_place rows at)) (sym row) s) in
           let near : i - at < end = omega (arith, low, high, behind) in
           let n = size in
           subst (Contains block) (cell (i - at) near ∙ (read-at i low ∙ row)) (Contains-get_or block (i - at) [] (omega (arith, near, n)))
@@ -86,7 +86,7 @@ module _ (key : List ℕ) (rows : List (List Value)) (sorted : IsStrictlySortedB
       go : Dec (j < at) → ⊥
       go (yes a) = leads there j a (grouped key rows sorted j at (at + end) (omega (arith, a)) (omega arith) l s)
       go (no a) =
-          let near = shares-below (at + end) (omega arith) l (shares-trans key (row_of rows at) (row_of rows j) (row_of rows (at + end)) (below-shares j (omega (arith, a)) lj) s) in
+          let near = shares-below (at + end) (omega arith) l (shares-trans key (row_at_place rows at) (row_at_place rows j) (row_at_place rows (at + end)) (below-shares j (omega (arith, a)) lj) s) in
           omega (arith, near)
 
   pub walked-rest : (later : List (List Value)) → later ≡ drop end rest → later ≡ drop (at + end) rows
@@ -97,7 +97,7 @@ module _ (key : List ℕ) (rows : List (List Value)) (sorted : IsStrictlySortedB
 
 -- it is the next one
 pub walked-next : (s : Blocks) (sorted : IsStrictlySortedBy (block_cmp s.key.now) s.rows) (at : ℕ) (leads : at < length s.rows → IsFirstOfBlock s.key.now s.rows at) (rest : List (List Value)) (is : rest ≡ drop at s.rows) (end : ℕ) (behind : 0 < end)
-    (within : end ≤ length rest) (ends : (i : ℕ) → 0 ≤ i → i < length rest → SharesKey s.key.now (row_of rest 0) (row_of rest i) ↔ (i < end)) (block : List (List Value)) → block ≡ take end rest → IsNextBlock s at block (at + end)
+    (within : end ≤ length rest) (ends : (i : ℕ) → 0 ≤ i → i < length rest → SharesKey s.key.now (row_at_place rest 0) (row_at_place rest i) ↔ (i < end)) (block : List (List Value)) → block ≡ take end rest → IsNextBlock s at block (at + end)
 walked-next s sorted at leads rest is end behind within ends block e = record {
   at = at;
   is = walked-block s.key.now s.rows sorted at leads rest is end behind within ends block e;
@@ -108,7 +108,7 @@ walked-next s sorted at leads rest is end behind within ends block e = record {
 }
 
 -- what is the next block from a place on is so from an earlier one, if nothing is left out between
-pub found-next : (s : Blocks) (from at on : ℕ) (block : List (List Value)) → from ≤ at → IsPassed s from at → IsNextBlock s at block on → IsNextBlock s from block on
+pub found-next : (s : Blocks) (from at on : ℕ) (block : List (List Value)) → from ≤ at → IsBlockPassed s from at → IsNextBlock s at block on → IsNextBlock s from block on
 found-next s from at on block low passed n = record {
   at = n.at;
   is = n.is;

@@ -24,7 +24,7 @@ IsFirstBlock db q row [] block = ⊥
 IsFirstBlock db q row (F ∷ plan) block = IsFirstWith (atom_key q F) (rows_of q (stored db) F) (RowHolds q (stored db) row [] F plan) block
 
 -- the block of a row among rows in block order
-pub record IsBlockOf (key : List ℕ) (rows : List (List Value)) (x : List Value) (block : List (List Value)) : Type 0 where
+pub record IsBlockOfRow (key : List ℕ) (rows : List (List Value)) (x : List Value) (block : List (List Value)) : Type 0 where
   pub in_order : IsStrictlySortedBy (block_cmp key) rows
   pub before : List (List Value)
   pub behind : List (List Value)

@@ -6,12 +6,12 @@ ghost use Rattle.cqa_model.specs.Query.{atom_key, rows_of};
 ghost use Rattle.cqa_model.specs.Plan.{HoldsOver};
 ghost use Rattle.table_blocks.specs.Tables.{rows_at, key_at};
 ghost use Rattle.join_access.specs.Spots.{ArePaths};
-ghost use Rattle.plan_rows.specs.Left.{AreAtoms};
+ghost use Rattle.plan_rows.specs.Left.{AreQueryAtoms};
 ghost use Rattle.plan_rows.specs.Links.{AreWays};
-ghost use Rattle.plan_rows.specs.Over.{query_of, tables_of};
+ghost use Rattle.plan_rows.specs.Over.{query_of, stored_rows};
 ghost use Rattle.plan_rows.specs.Underway.{IsRight};
-ghost use Rattle.fo_plan.specs.Holding.{HoldsWith};
-ghost use Rattle.fo_plan.specs.FirstBlock.{IsBlockOf, IsFirstBlock, IsFirstWith};
+ghost use Rattle.fo_plan.specs.Holding.{PlanHoldsWith};
+ghost use Rattle.fo_plan.specs.FirstBlock.{IsBlockOfRow, IsFirstBlock, IsFirstWith};
 
 use crate::enough::Blocks;
 use crate::holding::first_of;
@@ -30,7 +30,7 @@ use table_blocks::{Bound, Database};
 fn block_with<'a>(db: &'a Database, table: u32, row: &Row) -> Rows<'a>
     requires there { table < length db.now }
     requires stored { Contains (rows_at db.now table) row.now }
-    ensures { IsBlockOf (key_at db.now table) (rows_at db.now table) row.now result }
+    ensures { IsBlockOfRow (key_at db.now table) (rows_at db.now table) row.now result }
 {
     let Some(at) = db.place_of(table, row) else {
         unreachable!()
@@ -51,7 +51,7 @@ fn first_block<'a, 'x>(
 ) -> Option<Rows<'a>>
     requires db { step.now.course.now.setting.bound.now.db.now ≡ db.now }
     requires memo { IsRight step.now.course.now memo.old }
-    ensures { MatchOption result (SomeBlockFits (atom_key (query_of step.now) step.now.atom) (rows_of (query_of step.now) (tables_of step.now) step.now.atom) (HoldsWith step.now row.now) → ⊥) (λ block. SomeBlockFits (atom_key (query_of step.now) step.now.atom) (rows_of (query_of step.now) (tables_of step.now) step.now.atom) (HoldsWith step.now row.now) × IsFirstWith (atom_key (query_of step.now) step.now.atom) (rows_of (query_of step.now) (tables_of step.now) step.now.atom) (HoldsWith step.now row.now) block) }
+    ensures { MatchOption result (SomeBlockFits (atom_key (query_of step.now) step.now.atom) (rows_of (query_of step.now) (stored_rows step.now) step.now.atom) (PlanHoldsWith step.now row.now) → ⊥) (λ block. SomeBlockFits (atom_key (query_of step.now) step.now.atom) (rows_of (query_of step.now) (stored_rows step.now) step.now.atom) (PlanHoldsWith step.now row.now) × IsFirstWith (atom_key (query_of step.now) step.now.atom) (rows_of (query_of step.now) (stored_rows step.now) step.now.atom) (PlanHoldsWith step.now row.now) block) }
 {
     let blocks = Blocks::new(step, Some(row));
     let found = first_of(step, row, &blocks, memo);
@@ -97,7 +97,7 @@ fn block_along<'a>(
     ways: &[Items<Link<'_>>],
 ) -> Option<Rows<'a>>
     requires db { setting.bound.now.db.now ≡ db.now }
-    requires order { AreAtoms setting.bound.now.query.now order.now }
+    requires order { AreQueryAtoms setting.bound.now.query.now order.now }
     requires all { (F : ℕ) → F < length setting.bound.now.query.now.atoms → Contains order.now F }
     requires ways { AreWays setting.bound.now.query.now db.now order.now ways.now }
     ensures { MatchOption result (HoldsOver db.now setting.entry.bound.now.query.now row.now order.now → ⊥) (λ block. HoldsOver db.now setting.entry.bound.now.query.now row.now order.now × IsFirstBlock db.now setting.entry.bound.now.query.now row.now order.now block) }
@@ -125,7 +125,7 @@ pub fn block_of<'a>(
     paths: &[Option<RowIndex<'_>>],
     ways: &[Items<Link<'_>>],
 ) -> Option<Rows<'a>>
-    requires plan { AreAtoms bound.now.query.now plan.now.order }
+    requires plan { AreQueryAtoms bound.now.query.now plan.now.order }
     requires all { (F : ℕ) → F < length bound.now.query.now.atoms → Contains plan.now.order F }
     requires paths { ArePaths bound.now.query.now bound.now.db.now paths.now }
     requires ways { AreWays bound.now.query.now bound.now.db.now plan.now.order ways.now }

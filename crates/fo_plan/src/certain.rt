@@ -6,7 +6,7 @@ ghost use Rattle.cqa_value.specs.declared.value.Value.{Value as Cell};
 ghost use Rattle.cqa_value.specs.Values.{row_cmp};
 ghost use Rattle.cqa_model.specs.Plan.{HoldsOver};
 ghost use Rattle.join_access.specs.Spots.{ArePaths};
-ghost use Rattle.plan_rows.specs.Left.{AreAtoms};
+ghost use Rattle.plan_rows.specs.Left.{AreQueryAtoms};
 ghost use Rattle.plan_rows.specs.Links.{AreWays};
 
 use crate::giving::add_given;
@@ -32,7 +32,7 @@ pub fn answers(
     paths: &[Option<RowIndex<'_>>],
     ways: &[Items<Link<'_>>],
 ) -> Result<Items<Row>, NoMemory>
-    requires plan { AreAtoms bound.now.query.now plan.now.order }
+    requires plan { AreQueryAtoms bound.now.query.now plan.now.order }
     requires all { (F : ℕ) → F < length bound.now.query.now.atoms → Contains plan.now.order F }
     requires paths { ArePaths bound.now.query.now bound.now.db.now paths.now }
     requires ways { AreWays bound.now.query.now bound.now.db.now plan.now.order ways.now }

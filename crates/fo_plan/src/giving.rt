@@ -5,11 +5,11 @@ ghost use Rattle.std.specs.Prelude.{◌≡◌, ◌<◌, ◌↔◌, IsTrue, Conta
 ghost use Rattle.cqa_value.specs.declared.value.Value.{Value as Cell};
 ghost use Rattle.cqa_model.specs.OneTable.{SomeBlockFits};
 ghost use Rattle.plan_rows.specs.Fitting.{Suits};
-ghost use Rattle.plan_rows.specs.Left.{IsSettled};
-ghost use Rattle.plan_rows.specs.Over.{query_of, tables_of, rows_before};
+ghost use Rattle.plan_rows.specs.Left.{IsAnswerSettled};
+ghost use Rattle.plan_rows.specs.Over.{query_of, stored_rows, rows_before};
 ghost use Rattle.plan_rows.specs.Underway.{IsRight};
 ghost use Rattle.fo_plan.specs.Enough.{AreSought};
-ghost use Rattle.fo_plan.specs.Holding.{HoldsWith, AllHoldWith};
+ghost use Rattle.fo_plan.specs.Holding.{PlanHoldsWith, AllHoldWith};
 ghost use Rattle.plan_rows.specs.Taking.{placed};
 ghost use Rattle.fo_plan.specs.Noted.{StandsApart, AreRight};
 ghost use Rattle.fo_plan.specs.Giving.{IsAnswerRow, BlockGives, IsAdded, RestHasAll, StepHasAll, RestGives, StepGives};
@@ -76,7 +76,7 @@ fn keep_all(
 /// Adds the answer of the rows taken if a rest of a plan holds that doesn't change it.
 fn add_settled(rest: &Rest<'_>, found: &mut Answers, memo: &mut Memo) -> Result<(), NoMemory>
     requires all { RestHasAll rest.now }
-    requires settled { IsSettled rest.now.course.now.setting.bound.now.query.now rest.now.plan.now }
+    requires settled { IsAnswerSettled rest.now.course.now.setting.bound.now.query.now rest.now.plan.now }
     requires memo { IsRight rest.now.course.now memo.old }
     ensures added { OnOk result (IsAdded (RestGives rest.now) found.old found.new) }
     ensures memo { IsRight rest.now.course.now memo.new }
@@ -228,9 +228,9 @@ fn add_all_of(
     notes: &mut Notes,
 ) -> Result<(), NoMemory>
     requires all { StepHasAll step.now }
-    requires sought { (row : List Cell) → AreSought blocks.now (HoldsWith step.now row) }
+    requires sought { (row : List Cell) → AreSought blocks.now (PlanHoldsWith step.now row) }
     requires notes { AreRight step.now.course.now notes.old }
-    ensures added { OnOk result (IsAdded (λ row. IsAnswerRow (query_of step.now) (rows_before step.now) row × SomeBlockFits blocks.now.key.now blocks.now.rows (HoldsWith step.now row)) found.old found.new) }
+    ensures added { OnOk result (IsAdded (λ row. IsAnswerRow (query_of step.now) (rows_before step.now) row × SomeBlockFits blocks.now.key.now blocks.now.rows (PlanHoldsWith step.now row)) found.old found.new) }
     ensures notes { AreRight step.now.course.now notes.new }
 {
     let mut spot = blocks.start();
@@ -251,7 +251,7 @@ fn add_block(
     requires all { StepHasAll step.now }
     requires some { 0 < length block.now }
     requires notes { AreRight step.now.course.now notes.old }
-    ensures added { OnOk result (IsAdded (BlockGives (query_of step.now) (tables_of step.now) (rows_before step.now) step.now.atom step.now.rest.now block.now) found.old found.new) }
+    ensures added { OnOk result (IsAdded (BlockGives (query_of step.now) (stored_rows step.now) (rows_before step.now) step.now.atom step.now.rest.now block.now) found.old found.new) }
     ensures notes { AreRight step.now.course.now notes.new }
 {
     if !all_suit(step, block) {
@@ -287,7 +287,7 @@ fn add_tested(
     requires first { Suits (query_of step.now) (rows_before step.now) step.now.atom (slice_index_or block.now 0 []) }
     requires none { part.old ≡ [] }
     requires notes { AreRight step.now.course.now notes.old }
-    ensures added { OnOk result (IsAdded (BlockGives (query_of step.now) (tables_of step.now) (rows_before step.now) step.now.atom step.now.rest.now block.now) found.old found.new) }
+    ensures added { OnOk result (IsAdded (BlockGives (query_of step.now) (stored_rows step.now) (rows_before step.now) step.now.atom step.now.rest.now block.now) found.old found.new) }
     ensures notes { AreRight step.now.course.now notes.new }
 {
     let more = Taken::Before(step.atom, block.get(0), &*step.taken);

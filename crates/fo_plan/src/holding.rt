@@ -4,11 +4,11 @@ ghost use Rattle.std.specs.Prelude.{◌↔◌, ◌∷◌, IsTrue, MatchOption};
 ghost use Rattle.cqa_model.specs.Query.{atom_key, rows_of};
 ghost use Rattle.cqa_model.specs.OneTable.{SomeBlockFits};
 ghost use Rattle.cqa_model.specs.Plan.{HoldsOver, PlanHolds};
-ghost use Rattle.plan_rows.specs.Left.{AreAtoms};
-ghost use Rattle.plan_rows.specs.Over.{query_of, tables_of, rows_before};
-ghost use Rattle.plan_rows.specs.Underway.{IsKey, IsRight};
+ghost use Rattle.plan_rows.specs.Left.{AreQueryAtoms};
+ghost use Rattle.plan_rows.specs.Over.{query_of, stored_rows, rows_before};
+ghost use Rattle.plan_rows.specs.Underway.{IsMemoKey, IsRight};
 ghost use Rattle.fo_plan.specs.Enough.{AreSought, IsFirstOf};
-ghost use Rattle.fo_plan.specs.Holding.{RestHolds, HoldsWith, AllHoldWith};
+ghost use Rattle.fo_plan.specs.Holding.{PlanRestHolds, PlanHoldsWith, AllHoldWith};
 
 use crate::enough::Blocks;
 use cqa_model::Plan;
@@ -22,7 +22,7 @@ use table_blocks::Bound;
 #[cycle(holds)]
 pub(crate) fn holds_with<'x>(rest: &Rest<'x>, row: &'x Row, memo: &mut Memo) -> bool
     requires { IsRight rest.now.course.now memo.old }
-    ensures holds { IsTrue result ↔ RestHolds rest.now row.now }
+    ensures holds { IsTrue result ↔ PlanRestHolds rest.now row.now }
     ensures memo { IsRight rest.now.course.now memo.new }
 {
     let plan = rest.plan;
@@ -47,8 +47,8 @@ pub(crate) fn holds_with<'x>(rest: &Rest<'x>, row: &'x Row, memo: &mut Memo) -> 
 #[cycle(holds)]
 fn remembered<'x>(step: &Step<'x>, row: &'x Row, key: Row, memo: &mut Memo) -> bool
     requires memo { IsRight step.now.course.now memo.old }
-    requires key { IsKey step.now.course.now (rows_before step.now) (step.now.atom ∷ step.now.rest.now) row.now key }
-    ensures holds { IsTrue result ↔ PlanHolds (query_of step.now) (tables_of step.now) row.now (rows_before step.now) (step.now.atom ∷ step.now.rest.now) }
+    requires key { IsMemoKey step.now.course.now (rows_before step.now) (step.now.atom ∷ step.now.rest.now) row.now key }
+    ensures holds { IsTrue result ↔ PlanHolds (query_of step.now) (stored_rows step.now) row.now (rows_before step.now) (step.now.atom ∷ step.now.rest.now) }
     ensures memo { IsRight step.now.course.now memo.new }
 {
     if let Some(held) = memo.told(&key) {
@@ -64,7 +64,7 @@ fn remembered<'x>(step: &Step<'x>, row: &'x Row, key: Row, memo: &mut Memo) -> b
 #[cycle(holds)]
 fn some_block<'x>(step: &Step<'x>, row: &'x Row, memo: &mut Memo) -> bool
     requires { IsRight step.now.course.now memo.old }
-    ensures holds { IsTrue result ↔ SomeBlockFits (atom_key (query_of step.now) step.now.atom) (rows_of (query_of step.now) (tables_of step.now) step.now.atom) (HoldsWith step.now row.now) }
+    ensures holds { IsTrue result ↔ SomeBlockFits (atom_key (query_of step.now) step.now.atom) (rows_of (query_of step.now) (stored_rows step.now) step.now.atom) (PlanHoldsWith step.now row.now) }
     ensures memo { IsRight step.now.course.now memo.new }
 {
     let blocks = Blocks::new(step, Some(row));
@@ -81,9 +81,9 @@ pub(crate) fn first_of<'x>(
     blocks: &Blocks<'x>,
     memo: &mut Memo,
 ) -> Option<Rows<'x>>
-    requires sought { AreSought blocks.now (HoldsWith step.now row.now) }
+    requires sought { AreSought blocks.now (PlanHoldsWith step.now row.now) }
     requires memo { IsRight step.now.course.now memo.old }
-    ensures first { MatchOption result (SomeBlockFits blocks.now.key.now blocks.now.rows (HoldsWith step.now row.now) → ⊥) (IsFirstOf blocks.now.key.now blocks.now.rows (HoldsWith step.now row.now)) }
+    ensures first { MatchOption result (SomeBlockFits blocks.now.key.now blocks.now.rows (PlanHoldsWith step.now row.now) → ⊥) (IsFirstOf blocks.now.key.now blocks.now.rows (PlanHoldsWith step.now row.now)) }
     ensures memo { IsRight step.now.course.now memo.new }
 {
     let mut spot = blocks.start();
@@ -114,7 +114,7 @@ pub(crate) fn all_hold<'x>(step: &Step<'x>, row: &'x Row, block: &Rows<'_>, memo
 #[cycle(holds)]
 fn row_holds<'x>(step: &Step<'x>, row: &'x Row, y: &Row, memo: &mut Memo) -> bool
     requires { IsRight step.now.course.now memo.old }
-    ensures holds { IsTrue result ↔ HoldsWith step.now row.now y.now }
+    ensures holds { IsTrue result ↔ PlanHoldsWith step.now row.now y.now }
     ensures memo { IsRight step.now.course.now memo.new }
 {
     memo.turn();
@@ -134,7 +134,7 @@ fn row_holds<'x>(step: &Step<'x>, row: &'x Row, y: &Row, memo: &mut Memo) -> boo
 /// the rest of the plan holds with that row taken (Koutris and Wijsen, ACM TODS 2017). It takes no memory: rows are found
 /// by the first key values that are known, and nothing is remembered.
 pub fn holds<'x>(alloc: Global, bound: &'x Bound<'x>, plan: &'x Plan, row: &'x Row) -> bool
-    requires { AreAtoms bound.now.query.now plan.now.order }
+    requires { AreQueryAtoms bound.now.query.now plan.now.order }
     ensures { IsTrue result ↔ HoldsOver bound.now.db.now bound.now.query.now row.now plan.now.order }
 {
     let order = plan.order.as_slice();

@@ -1,7 +1,7 @@
 //! The later atoms of an order by which an atom is linked to what is known when a plan comes to it.
 
 ghost use Rattle.std.specs.Prelude.{◌≡◌, ◌<◌, ◌+◌, IfOk, IfSome, OnOk, Contains, length, take, drop};
-ghost use Rattle.plan_rows.specs.Left.{AreAtoms};
+ghost use Rattle.plan_rows.specs.Left.{AreQueryAtoms};
 ghost use Rattle.fo_plan.specs.Chaining.{GoesOn};
 
 use crate::paths::is_known;
@@ -12,7 +12,7 @@ use plan_rows::{Setting, is_told};
 
 /// Whether the value of one of an atom's columns is given, or told by a row of some atoms.
 fn is_linked(setting: &Setting<'_>, taken: &[u32], given: &[ColRef], atom: u32) -> bool
-    requires taken { AreAtoms setting.now.bound.now.query.now taken.now }
+    requires taken { AreQueryAtoms setting.now.bound.now.query.now taken.now }
     requires atom { atom < length setting.now.bound.now.query.now.atoms }
 {
     for col in 0..width_of(setting.bound.query, atom) {
@@ -26,7 +26,7 @@ fn is_linked(setting: &Setting<'_>, taken: &[u32], given: &[ColRef], atom: u32) 
 
 /// Whether all values of an atom's key are known once rows of some atoms are taken.
 fn is_key_known(setting: &Setting<'_>, taken: &[u32], given: &[ColRef], atom: u32) -> bool
-    requires taken { AreAtoms setting.now.bound.now.query.now taken.now }
+    requires taken { AreQueryAtoms setting.now.bound.now.query.now taken.now }
     requires atom { atom < length setting.now.bound.now.query.now.atoms }
 {
     for col in setting.bound.query.atoms.as_slice()[atom as usize]
@@ -43,7 +43,7 @@ fn is_key_known(setting: &Setting<'_>, taken: &[u32], given: &[ColRef], atom: u3
 /// Whether other atoms may link an atom to what is known once rows of some atoms are taken: something is known, but none of the
 /// atom's own columns is told by these rows, or given at the beginning, nor is its key known.
 fn needs_links(setting: &Setting<'_>, taken: &[u32], given: &[ColRef], atom: u32) -> bool
-    requires taken { AreAtoms setting.now.bound.now.query.now taken.now }
+    requires taken { AreQueryAtoms setting.now.bound.now.query.now taken.now }
     requires atom { atom < length setting.now.bound.now.query.now.atoms }
 {
     let is_linked = if taken.is_empty() {
@@ -57,8 +57,8 @@ fn needs_links(setting: &Setting<'_>, taken: &[u32], given: &[ColRef], atom: u32
 /// One of these atoms that is linked to what is known once rows of others are taken: the first whose key is known, else
 /// the first.
 fn linked_atom(setting: &Setting<'_>, taken: &[u32], given: &[ColRef], atoms: &[u32]) -> Option<u32>
-    requires taken { AreAtoms setting.now.bound.now.query.now taken.now }
-    requires atoms { AreAtoms setting.now.bound.now.query.now atoms.now }
+    requires taken { AreQueryAtoms setting.now.bound.now.query.now taken.now }
+    requires atoms { AreQueryAtoms setting.now.bound.now.query.now atoms.now }
     ensures { IfSome result (Contains atoms.now) }
 {
     let mut linked = None;
@@ -83,8 +83,8 @@ fn part(
     joined: &mut Vec<u32>,
     others: &mut Vec<u32>,
 ) -> Result<(), NoMemory>
-    requires ends { AreAtoms setting.now.bound.now.query.now ends.now }
-    requires atoms { AreAtoms setting.now.bound.now.query.now atoms.now }
+    requires ends { AreQueryAtoms setting.now.bound.now.query.now ends.now }
+    requires atoms { AreQueryAtoms setting.now.bound.now.query.now atoms.now }
     ensures joined { OnOk result (GoesOn atoms.now joined.old.items joined.new.items) }
     ensures others { OnOk result (GoesOn atoms.now others.old.items others.new.items) }
     ensures size { OnOk result (length joined.new.items + length others.new.items ≡ length joined.old.items + length others.old.items + length atoms.now) }
@@ -106,8 +106,8 @@ fn add_linked(
     atoms: &[u32],
     taken: &mut Vec<u32>,
 ) -> Result<(), NoMemory>
-    requires atoms { AreAtoms setting.now.bound.now.query.now atoms.now }
-    requires taken { AreAtoms setting.now.bound.now.query.now taken.old.items }
+    requires atoms { AreQueryAtoms setting.now.bound.now.query.now atoms.now }
+    requires taken { AreQueryAtoms setting.now.bound.now.query.now taken.old.items }
     ensures { OnOk result (GoesOn atoms.now taken.old.items taken.new.items) }
 {
     if let Some(link) = linked_atom(setting, taken.as_slice(), given, atoms) {
@@ -125,9 +125,9 @@ fn add_chain(
     atoms: &[u32],
     taken: &mut Vec<u32>,
 ) -> Result<(), NoMemory>
-    requires ends { AreAtoms setting.now.bound.now.query.now ends.now }
-    requires atoms { AreAtoms setting.now.bound.now.query.now atoms.now }
-    requires taken { AreAtoms setting.now.bound.now.query.now taken.old.items }
+    requires ends { AreQueryAtoms setting.now.bound.now.query.now ends.now }
+    requires atoms { AreQueryAtoms setting.now.bound.now.query.now atoms.now }
+    requires taken { AreQueryAtoms setting.now.bound.now.query.now taken.old.items }
     ensures { OnOk result (GoesOn atoms.now taken.old.items taken.new.items) }
 {
     let mut joined = Vec::new(setting.alloc);
@@ -155,9 +155,9 @@ pub(crate) fn telling_atoms(
     place: usize,
     given: &[ColRef],
 ) -> Result<Vec<u32>, NoMemory>
-    requires order { AreAtoms setting.now.bound.now.query.now order.now }
+    requires order { AreQueryAtoms setting.now.bound.now.query.now order.now }
     requires place { place < length order.now }
-    ensures atoms { IfOk result (λ atoms. AreAtoms setting.now.bound.now.query.now atoms.items) }
+    ensures atoms { IfOk result (λ atoms. AreQueryAtoms setting.now.bound.now.query.now atoms.items) }
     ensures behind { IfOk result (λ atoms. GoesOn (drop (place + 1) order.now) (take place order.now) atoms.items) }
 {
     let (taken, others) = order.split_at(place);

@@ -2,7 +2,7 @@
 
 ghost use Rattle.std.specs.Prelude.{◌≡◌, ◌<◌, ◌≤◌, ◌+◌, ◌++◌, ◌∷◌, ℕ, List, [], IfOk, OnOk, Contains, length, drop};
 ghost use Rattle.cqa_model.specs.Shape.{AreDistinct};
-ghost use Rattle.plan_rows.specs.Left.{AreAtoms};
+ghost use Rattle.plan_rows.specs.Left.{AreQueryAtoms};
 ghost use Rattle.plan_rows.specs.Links.{AreLinks, AreWays, atoms_on};
 
 use crate::links::telling_atoms;
@@ -21,7 +21,7 @@ fn add_links<'a>(
     given: &[ColRef],
     links: &mut Items<Link<'a>>,
 ) -> Result<(), NoMemory>
-    requires atoms { AreAtoms setting.now.bound.now.query.now atoms.now }
+    requires atoms { AreQueryAtoms setting.now.bound.now.query.now atoms.now }
     requires taken { taken ≤ length atoms.now }
     requires none { links.old ≡ [] }
     ensures links { OnOk result (AreLinks setting.now.bound.now.query.now setting.now.bound.now.db.now links.new) }
@@ -43,7 +43,7 @@ fn links_at<'a>(
     place: usize,
     given: &[ColRef],
 ) -> Result<Items<Link<'a>>, NoMemory>
-    requires order { AreAtoms setting.now.bound.now.query.now order.now }
+    requires order { AreQueryAtoms setting.now.bound.now.query.now order.now }
     requires place { place < length order.now }
     ensures links { IfOk result (λ links. AreLinks setting.now.bound.now.query.now setting.now.bound.now.db.now links) }
     ensures later { IfOk result (λ links. (G : ℕ) → Contains (atoms_on links) G → Contains (drop (place + 1) order.now) G) }
@@ -66,7 +66,7 @@ fn links_of<'a>(
     given: &[ColRef],
     atom: u32,
 ) -> Result<Items<Link<'a>>, NoMemory>
-    requires order { AreAtoms setting.now.bound.now.query.now order.now }
+    requires order { AreQueryAtoms setting.now.bound.now.query.now order.now }
     requires distinct { AreDistinct order.now }
     ensures links { IfOk result (λ links. AreLinks setting.now.bound.now.query.now setting.now.bound.now.db.now links) }
     ensures behind { IfOk result (λ links. (front rest : List ℕ) → order.now ≡ front ++ atom ∷ rest → (G : ℕ) → Contains (atoms_on links) G → Contains rest G) }
@@ -84,7 +84,7 @@ fn add_ways<'a>(
     given: &[ColRef],
     ways: &mut Vec<Items<Link<'a>>>,
 ) -> Result<(), NoMemory>
-    requires order { AreAtoms setting.now.bound.now.query.now order.now }
+    requires order { AreQueryAtoms setting.now.bound.now.query.now order.now }
     requires distinct { AreDistinct order.now }
     requires none { ways.old.items ≡ [] }
     ensures { OnOk result (AreWays setting.now.bound.now.query.now setting.now.bound.now.db.now order.now ways.new.items) }
@@ -109,7 +109,7 @@ pub fn ways_of<'a>(
     plan: &Plan,
     given: &[ColRef],
 ) -> Result<Vec<Items<Link<'a>>>, NoMemory>
-    requires { AreAtoms bound.now.query.now plan.now.order }
+    requires { AreQueryAtoms bound.now.query.now plan.now.order }
     ensures { IfOk result (λ ways. AreWays bound.now.query.now bound.now.db.now plan.now.order ways.items) }
 {
     let mut ways = Vec::new(alloc);

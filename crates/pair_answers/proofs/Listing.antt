@@ -14,7 +14,7 @@ use Rattle.weak_pairs.specs.Pairs.{FitsAlone}
 use Rattle.weak_pairs.specs.Numbering.{AreShared, values_in}
 use Rattle.pair_answers.specs.declared.side.Side.{Side}
 use Rattle.pair_answers.specs.Numbers.{placed_in, numbered, place_of}
-use Rattle.pair_answers.specs.Lists.{columns_in, AreColumns, IsListOf, AreListsAdded, AreRowLists}
+use Rattle.pair_answers.specs.Lists.{columns_of_side, AreColumnPairs, IsListOf, AreListsAdded, AreRowLists}
 
 module _ (q : Query) (row : List Value) (columns : List ℕ) (F : ℕ) (rows : List (List Value)) (n : ℕ) (old new : List (Option (List Value))) (so : AreListsAdded q row columns F rows n old new) where
   pub added-more : (list : Option (List Value)) → IsListOf q row columns F (get_or rows n []) list → AreListsAdded q row columns F rows (n + 1) old (new ++ list ∷ [])
@@ -58,7 +58,7 @@ module _ (q : Query) (row : List Value) (columns : List ℕ) (F : ℕ) (rows : L
   listed-all left new h e = subst (λ n. AreListsAdded q row columns F rows n old new) (ap (λ (z : List (List Value)). length z) (sym (h.parts ∙ (ap (λ z. h.gone ++ z) e ∙ append-nil h.gone)))) h.added
 
 -- the values in the columns of an atom
-picked : (F : ℕ) (cols : List (ℕ × ℕ)) (x : List Value) → key_of (columns_in F cols) x ≡ values_in F cols x
+picked : (F : ℕ) (cols : List (ℕ × ℕ)) (x : List Value) → key_of (columns_of_side F cols) x ≡ values_in F cols x
 picked zero [] x = refl
 picked zero (c ∷ cols) x = ap (λ z. get_or x c.0 nothing ∷ z) (picked zero cols x)
 picked (suc F) [] x = refl
@@ -66,7 +66,7 @@ picked (suc F) (c ∷ cols) x = ap (λ z. get_or x c.1 nothing ∷ z) (picked (s
 
 -- the lists of both tables
 module _ (q : Query) (tables : List (List (List Value))) (row : List Value) (cols : List (ℕ × ℕ)) (shared : AreShared q cols) (one all : List (Option (List Value)))
-    (a : AreListsAdded q row (columns_in 0 cols) 0 (rows_of q tables 0) (length (rows_of q tables 0)) [] one) (b : AreListsAdded q row (columns_in 1 cols) 1 (rows_of q tables 1) (length (rows_of q tables 1)) one all) where
+    (a : AreListsAdded q row (columns_of_side 0 cols) 0 (rows_of q tables 0) (length (rows_of q tables 0)) [] one) (b : AreListsAdded q row (columns_of_side 1 cols) 1 (rows_of q tables 1) (length (rows_of q tables 1)) one all) where
   abbrev count : ℕ
   count = length (rows_of q tables 0)
 
@@ -88,7 +88,7 @@ module _ (q : Query) (tables : List (List (List Value))) (row : List Value) (col
       IsList : ℕ → Placed → Option (List Value) → Type 0
       IsList i t list = (x : List Value) → (list ≡ Some x) ↔ (FitsAlone q row t.atom t.row × (x ≡ values_in t.atom cols t.row))
 
-      in-values : (F : ℕ) (x : List Value) (list : Option (List Value)) → IsListOf q row (columns_in F cols) F x list → (values : List Value) → (list ≡ Some values) ↔ (FitsAlone q row F x × (values ≡ values_in F cols x))
+      in-values : (F : ℕ) (x : List Value) (list : Option (List Value)) → IsListOf q row (columns_of_side F cols) F x list → (values : List Value) → (list ≡ Some values) ↔ (FitsAlone q row F x × (values ≡ values_in F cols x))
       in-values F x list h = subst (λ z. (values : List Value) → (list ≡ Some values) ↔ (FitsAlone q row F x × (values ≡ z))) (picked F cols x) h
 
       at : (i : ℕ) → i < length all → Dec (i < count) → IsList i (place_of q tables i) (get_or all i None)
@@ -108,13 +108,13 @@ module _ (q : Query) (tables : List (List (List Value))) (row : List Value) (col
           subst (λ t. IsList i t (get_or all i None)) (sym e) (subst (λ z. IsList i (placed 1 (get_or (rows_of q tables 1) j [])) z) (sym f) (in-values 1 (get_or (rows_of q tables 1) j []) (get_or all (length one + j) None) (b.added j lj)))
 
 pub row-lists-of : (q : Query) (tables : List (List (List Value))) (row : List Value) (left_columns right_columns : List ℕ) (left right : List (List Value)) (none one all : List (Option (List Value))) →
-    AreColumns q left_columns right_columns → left ≡ rows_of q tables 0 → right ≡ rows_of q tables 1 → none ≡ [] →
+    AreColumnPairs q left_columns right_columns → left ≡ rows_of q tables 0 → right ≡ rows_of q tables 1 → none ≡ [] →
     AreListsAdded q row left_columns 0 left (length left) none one → AreListsAdded q row right_columns 1 right (length right) one all → AreRowLists q tables row all
 row-lists-of q tables row left_columns right_columns left right none one all c fl fr en a b =
     row-lists q tables row c.cols c.shared one all
-    (subst (λ z. AreListsAdded q row (columns_in 0 c.cols) 0 (rows_of q tables 0) (length (rows_of q tables 0)) z one) en
-    (subst (λ z. AreListsAdded q row (columns_in 0 c.cols) 0 z (length z) none one) fl (subst (λ z. AreListsAdded q row z 0 left (length left) none one) c.left_are a)))
-    (subst (λ z. AreListsAdded q row (columns_in 1 c.cols) 1 z (length z) one all) fr (subst (λ z. AreListsAdded q row z 1 right (length right) one all) c.right_are b))
+    (subst (λ z. AreListsAdded q row (columns_of_side 0 c.cols) 0 (rows_of q tables 0) (length (rows_of q tables 0)) z one) en
+    (subst (λ z. AreListsAdded q row (columns_of_side 0 c.cols) 0 z (length z) none one) fl (subst (λ z. AreListsAdded q row z 0 left (length left) none one) c.left_are a)))
+    (subst (λ z. AreListsAdded q row (columns_of_side 1 c.cols) 1 z (length z) one all) fr (subst (λ z. AreListsAdded q row z 1 right (length right) one all) c.right_are b))
 
 -- the lists of an atom, made by its side
 pub of-side : (s : Side) (bound : Bound) (row : List Value) (F : ℕ) (columns : List ℕ) → s.bound.now ≡ bound → s.row.now ≡ row → s.atom ≡ F → s.columns.now ≡ columns →

@@ -15,7 +15,7 @@ use Rattle.cqa_model.specs.Plan.{Placed, TestHolds, answer_at}
 use Rattle.cqa_model.proofs.Classic.{mem-head, mem-nil, mem-cases}
 use Rattle.cqa_model.proofs.Views.{linked-self}
 use Rattle.weak_pairs.specs.Pairs.{IsGiven, FitsAlone}
-use Rattle.pair_answers.specs.Fitting.{OwnFits, AnswerFits, GivenBy, none_cond, GivenFits, TestsFit}
+use Rattle.pair_answers.specs.Fitting.{OwnFits, HasLinkedAnswer, GivenBy, none_cond, GivenFits, TestsFit}
 
 module _ (q : Query) (row : List Value) (F : ℕ) (x : List Value) where
   abbrev self : Placed
@@ -28,7 +28,7 @@ module _ (q : Query) (row : List Value) (F : ℕ) (x : List Value) where
   given-of f (Join c d) m = tt
   given-of f (Test d op y) m = λ e i li l. f.given i li y (inr (d, l, subst (λ z. Contains q.conds (Test d z y)) e m))
 
-  pub to_parts : FitsAlone q row F x → OwnFits q F x × TestsFit q F x × AnswerFits q row F x × GivenFits q F x
+  pub to_parts : FitsAlone q row F x → OwnFits q F x × TestsFit q F x × HasLinkedAnswer q row F x × GivenFits q F x
   to_parts f = (
     λ j lj i li l. f.fits.agrees self (mem-head self []) i li j lj l,
     λ k lk. f.fits.tests (slice_index_or q.conds k none_cond) (Contains-get_or q.conds k none_cond lk),
@@ -39,7 +39,7 @@ module _ (q : Query) (row : List Value) (F : ℕ) (x : List Value) where
   cond-at : (k : Cond) (m : Contains q.conds k) → slice_index_or q.conds m.0 none_cond ≡ k
   cond-at k m = get_or_default q.conds m.0 none_cond k m.1 ∙ m.2
 
-  pub from_parts : OwnFits q F x → TestsFit q F x → AnswerFits q row F x → GivenFits q F x → FitsAlone q row F x
+  pub from_parts : OwnFits q F x → TestsFit q F x → HasLinkedAnswer q row F x → GivenFits q F x → FitsAlone q row F x
   from_parts o t a g = record {
     fits = record {
       agrees = λ u m. elim (mem-cases u self [] m) [

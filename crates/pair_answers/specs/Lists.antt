@@ -8,16 +8,16 @@ use Rattle.weak_pairs.specs.Numbering.{AreShared, AreLists}
 use Rattle.pair_answers.specs.Numbers.{numbered, place_of}
 
 -- the columns of an atom among pairs of columns
-abbrev pub columns_in : ℕ → List (ℕ × ℕ) → List ℕ
-columns_in zero cols = map (λ c. c.0) cols
-columns_in (suc F) cols = map (λ c. c.1) cols
+abbrev pub columns_of_side : ℕ → List (ℕ × ℕ) → List ℕ
+columns_of_side zero cols = map (λ c. c.0) cols
+columns_of_side (suc F) cols = map (λ c. c.1) cols
 
 -- columns of both atoms: the two at each place are of one variable, and no variable that both have is left out but constants
-pub record AreColumns (q : Query) (left right : List ℕ) : Type 0 where
+pub record AreColumnPairs (q : Query) (left right : List ℕ) : Type 0 where
   pub cols : List (ℕ × ℕ)
   pub shared : AreShared q cols
-  pub left_are : left ≡ columns_in 0 cols
-  pub right_are : right ≡ columns_in 1 cols
+  pub left_are : left ≡ columns_of_side 0 cols
+  pub right_are : right ≡ columns_of_side 1 cols
 
 -- the list of a row: its values in the columns, where it fits
 abbrev pub IsListOf : Query → List Value → List ℕ → ℕ → List Value → Option (List Value) → Type 0

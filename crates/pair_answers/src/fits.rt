@@ -6,7 +6,7 @@ ghost use Rattle.cqa_model.specs.declared.query.ColRef.{ColRef as Column};
 ghost use Rattle.cqa_model.specs.Query.{atom_at};
 ghost use Rattle.cqa_model.specs.Shape.{IsInRange, columns_of};
 ghost use Rattle.weak_pairs.specs.Pairs.{FitsAlone};
-ghost use Rattle.pair_answers.specs.Fitting.{AnswerFits, GivenBy, GivenFits, HasValueOf, HaveValueOf, OwnFits, TestsFit};
+ghost use Rattle.pair_answers.specs.Fitting.{HasLinkedAnswer, GivenBy, GivenFits, HasValueOf, HaveValueOf, OwnFits, TestsFit};
 
 use crate::side::Side;
 use cqa_model::{ColRef, Cond, Op, Query};
@@ -58,7 +58,7 @@ fn own_fits(side: &Side<'_, '_>, x: &Row) -> bool
 
 /// Whether the columns of a row that are linked to the answer's have the values of the row asked for.
 fn answer_fits(side: &Side<'_, '_>, x: &Row) -> bool
-    ensures { IsTrue result ↔ AnswerFits side.now.bound.now.query.now side.now.row.now side.now.atom x.now }
+    ensures { IsTrue result ↔ HasLinkedAnswer side.now.bound.now.query.now side.now.row.now side.now.atom x.now }
 {
     let answer = side.bound.query.answer.as_slice();
     for k in 0..answer.len() as u32 {

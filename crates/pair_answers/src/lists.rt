@@ -7,7 +7,7 @@ ghost use Rattle.cqa_model.specs.Database.{stored};
 ghost use Rattle.weak_pairs.specs.Digests.{lists_in};
 ghost use Rattle.weak_pairs.specs.Packing.{list_of as listed};
 ghost use Rattle.pair_answers.specs.Shared.{pairs_of};
-ghost use Rattle.pair_answers.specs.Lists.{AreColumns, AreListsAdded, AreRowLists, IsListOf, columns_in};
+ghost use Rattle.pair_answers.specs.Lists.{AreColumnPairs, AreListsAdded, AreRowLists, IsListOf, columns_of_side};
 
 use crate::fits::fits;
 use crate::pair::PairQuery;
@@ -28,7 +28,7 @@ pub(crate) struct Columns {
 
 /// The columns of an atom among pairs of columns.
 fn columns_of(alloc: Global, cols: &[Shared], atom: u32) -> Result<Vec<u32>, NoMemory>
-    ensures { IfOk result (λ columns. columns.items ≡ columns_in atom (pairs_of cols.now)) }
+    ensures { IfOk result (λ columns. columns.items ≡ columns_of_side atom (pairs_of cols.now)) }
 {
     let mut columns = Vec::new(alloc);
     for col in cols {
@@ -43,7 +43,7 @@ fn columns_of(alloc: Global, cols: &[Shared], atom: u32) -> Result<Vec<u32>, NoM
 ///
 /// `NoMemory` where memory is refused.
 pub(crate) fn both_columns(alloc: Global, pair: &PairQuery<'_>) -> Result<Columns, NoMemory>
-    ensures { IfOk result (λ columns. AreColumns pair.now.bound.now.query.now columns.left.items columns.right.items) }
+    ensures { IfOk result (λ columns. AreColumnPairs pair.now.bound.now.query.now columns.left.items columns.right.items) }
 {
     let cols = shared_columns(alloc, pair)?;
     let left = columns_of(alloc, &cols, 0)?;
@@ -62,7 +62,7 @@ pub(crate) fn row_lists<'a>(
     row: &Row,
     columns: &'a Columns,
 ) -> Result<Lists<'a>, NoMemory>
-    requires { AreColumns pair.now.bound.now.query.now columns.now.left.items columns.now.right.items }
+    requires { AreColumnPairs pair.now.bound.now.query.now columns.now.left.items columns.now.right.items }
     ensures lists { IfOk result (λ lists. AreRowLists pair.now.bound.now.query.now (stored pair.now.bound.now.db.now) row.now (lists_in lists)) }
     ensures few { IfOk result (λ lists. length (lists_in lists) ≤ MOST_ROWS + MOST_ROWS) }
 {
@@ -86,7 +86,7 @@ fn packed_lists(
     row: &Row,
     columns: &Columns,
 ) -> Result<Option<Vec<u64>>, NoMemory>
-    requires { AreColumns pair.now.bound.now.query.now columns.now.left.items columns.now.right.items }
+    requires { AreColumnPairs pair.now.bound.now.query.now columns.now.left.items columns.now.right.items }
     ensures lists { IfOk result (λ found. IfSome found (λ codes. AreRowLists pair.now.bound.now.query.now (stored pair.now.bound.now.db.now) row.now (map listed codes.items))) }
     ensures few { IfOk result (λ found. IfSome found (λ codes. length (map listed codes.items) ≤ MOST_ROWS + MOST_ROWS)) }
 {
@@ -111,7 +111,7 @@ fn append_all_codes(
     columns: &Columns,
     codes: &mut Vec<u64>,
 ) -> Result<bool, NoMemory>
-    requires columns { AreColumns pair.now.bound.now.query.now columns.now.left.items columns.now.right.items }
+    requires columns { AreColumnPairs pair.now.bound.now.query.now columns.now.left.items columns.now.right.items }
     requires none { codes.old.items ≡ [] }
     ensures lists { IfOk result (λ all. IsTrue all → AreRowLists pair.now.bound.now.query.now (stored pair.now.bound.now.db.now) row.now (map listed codes.new.items)) }
     ensures few { IfOk result (λ all. IsTrue all → length (map listed codes.new.items) ≤ MOST_ROWS + MOST_ROWS) }
@@ -168,7 +168,7 @@ fn borrowed_lists<'a>(
     row: &Row,
     columns: &'a Columns,
 ) -> Result<Vec<Option<Picked<'a>>>, NoMemory>
-    requires { AreColumns pair.now.bound.now.query.now columns.now.left.items columns.now.right.items }
+    requires { AreColumnPairs pair.now.bound.now.query.now columns.now.left.items columns.now.right.items }
     ensures lists { IfOk result (λ lists. AreRowLists pair.now.bound.now.query.now (stored pair.now.bound.now.db.now) row.now lists.items) }
     ensures few { IfOk result (λ lists. length lists.items ≤ MOST_ROWS + MOST_ROWS) }
 {

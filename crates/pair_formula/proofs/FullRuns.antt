@@ -21,7 +21,7 @@ use Rattle.repair_clauses.proofs.Columns.{places-up}
 use Rattle.repair_clauses.proofs.Spans.{then_less, equal_self}
 use Rattle.repair_clauses.proofs.Atoms.{based-joined, none_sorted}
 use Rattle.repair_clauses.proofs.Running.{single_sorted}
-use Rattle.pair_formula.specs.Full.{Follows, IsInRow, HasMore, IsRunAdded, IsFullRun, AreFullRuns}
+use Rattle.pair_formula.specs.Full.{FollowsInBlock, IsInRow, HasNeighbour, IsRunAdded, IsFullRun, AreFullRuns}
 
 module _ (key : List ℕ) (rows : List (List Value)) (places : List ℕ) where
   abbrev at : ℕ → ℕ
@@ -34,7 +34,7 @@ module _ (key : List ℕ) (rows : List (List Value)) (places : List ℕ) where
   pub in-row-one : (i : ℕ) → IsInRow key rows places i (i + 1)
   in-row-one i k l u = let e : k ≡ i = omega (arith, l, u) in subst (λ z. (at z ≡ at i + (z - i)) × SharesKey key (row (at i)) (row (at z))) (sym e) (omega arith, shares-self key (row (at i)))
 
-  pub in-row-more : (i j : ℕ) → i < j → IsInRow key rows places i j → Follows key rows (at (j - 1)) (at j) → IsInRow key rows places i (j + 1)
+  pub in-row-more : (i j : ℕ) → i < j → IsInRow key rows places i j → FollowsInBlock key rows (at (j - 1)) (at j) → IsInRow key rows places i (j + 1)
   in-row-more i j l h f k lk uk = go (cases_order k j)
     where
       last : (at (j - 1) ≡ at i + ((j - 1) - i)) × SharesKey key (row (at i)) (row (at (j - 1)))
@@ -58,7 +58,7 @@ module _ (key : List ℕ) (rows : List (List Value)) (places : List ℕ) where
     pub before : (s : Span) → Contains spans s → (k : ℕ) → n ≤ k → k < length places → s.start < at k
     pub each : (s : Span) → Contains spans s → IsFullRun key rows atom places s
     pub every : (k : ℕ) → k < n → ((s : Span) × Contains spans s × Covers s (at k)) ⊎ HasFree key rows places (at k)
-    pub apart : 0 < n → n < length places → Follows key rows (at (n - 1)) (at n) → ⊥
+    pub apart : 0 < n → n < length places → FollowsInBlock key rows (at (n - 1)) (at n) → ⊥
 
   pub full-none : (atom base : ℕ) → AreFullTo atom base 0 base []
   full-none atom base = record {
@@ -87,7 +87,7 @@ module _ (key : List ℕ) (rows : List (List Value)) (places : List ℕ) where
 
   module _ (order : IsStrictlySortedBy (block_cmp key) rows) (are : AreRowPlaces rows places) where
     module _ (atom base n vars : ℕ) (spans : List Span) (h : AreFullTo atom base n vars spans) (here : n < length places) (end : ℕ) (some : n < end) (in' : end ≤ length places)
-        (run : IsInRow key rows places n end) (stops : end < length places → Follows key rows (at (end - 1)) (at end) → ⊥) where
+        (run : IsInRow key rows places n end) (stops : end < length places → FollowsInBlock key rows (at (end - 1)) (at end) → ⊥) where
       abbrev start : ℕ
       start = at n
 
@@ -142,11 +142,11 @@ module _ (key : List ℕ) (rows : List (List Value)) (places : List ℕ) where
                   )
               cases (inr (inr u)) = let a = after end (omega arith) (omega (arith, u, l)) in let b = are.in_order end i u l in let d = e in omega (arith, a, b, d)
 
-      has-free : HasMore key rows start stop → HasFree key rows places start
+      has-free : HasNeighbour key rows start stop → HasFree key rows places start
       has-free (inl (some', sh)) = record { free = start - 1; there = (let w = are.there n here in omega (arith, w)); shares = sh; apart = before-free some' sh }
       has-free (inr (l, sh)) = record { free = stop; there = l; shares = sh; apart = behind-free sh }
 
-      free-at : HasMore key rows start stop → (k : ℕ) → n ≤ k → k < end → HasFree key rows places (at k)
+      free-at : HasNeighbour key rows start stop → (k : ℕ) → n ≤ k → k < end → HasFree key rows places (at k)
       free-at more k l u =
           let f = has-free more in
           record {
@@ -159,7 +159,7 @@ module _ (key : List ℕ) (rows : List (List Value)) (places : List ℕ) where
       abbrev Done : List Span → ℕ → Type 0
       Done ss k = ((s : Span) × Contains ss s × Covers s (at k)) ⊎ HasFree key rows places (at k)
 
-      skipped : HasMore key rows start stop → AreFullTo atom base end vars spans
+      skipped : HasNeighbour key rows start stop → AreFullTo atom base end vars spans
       skipped more = record {
         within = in';
         in_order = h.in_order;
@@ -176,7 +176,7 @@ module _ (key : List ℕ) (rows : List (List Value)) (places : List ℕ) where
           every k u (inl l) = inr (free-at more k l u)
           every k u (inr l) = h.every k l
 
-      module _ (whole : HasMore key rows start stop → ⊥) where
+      module _ (whole : HasNeighbour key rows start stop → ⊥) where
         abbrev span : Span
         span = record { atom = atom; start = start; count = stop - start; base = vars }
 

@@ -21,8 +21,8 @@ use Rattle.cnf_form.specs.declared.formula.Lit.{Lit}
 use Rattle.cnf_form.specs.Literals.{Satisfies, SatisfiesAll}
 use Rattle.join_access.specs.Listing.{AreAllNames}
 use Rattle.repair_clauses.specs.declared.span.Span.{Span}
-use Rattle.repair_clauses.specs.Clauses.{Variable, HasNumber, AreBlockNumbers, IsNumberOf, row_of, variable_cmp, AreAll}
-use Rattle.repair_clauses.specs.Spans.{at, IsIn, IsNamed, IsNumbering, IsSpan, IsWholeBlock, span_cmp, AreBased, variables_of, numbers_in, place_at}
+use Rattle.repair_clauses.specs.Clauses.{Variable, HasNumber, AreBlockNumbers, IsNumberOf, variable_row, variable_cmp, AreAllLists}
+use Rattle.repair_clauses.specs.Spans.{at, IsInSpan, IsNamed, IsSpanNumbering, IsRelevantSpan, IsWholeBlock, span_cmp, AreBased, variables_of_spans, numbers_in, place_at}
 use Rattle.repair_clauses.specs.Runs.{AreColumn}
 use Rattle.cqa_value.proofs.Words.{Contains-map, Contains-from_map, Contains-range, dec_one_below, in_range, is_yes, nat_cmp_less, no_of, sorted_join, yes_of}
 use Rattle.std.proofs.Math.Bool.{Bool-discrete}
@@ -37,7 +37,7 @@ use Rattle.repair_clauses.proofs.FreeRows as free
 use Rattle.weak_pairs.specs.Pairs.{IsPair}
 use Rattle.pair_refutation.specs.declared.graph.Pair.{Pair}
 use Rattle.pair_refutation.specs.Graph.{positive, negative, not_both, graph_clauses, Meet, IsGraph}
-use Rattle.pair_formula.specs.Full.{IsFullRun, AreFullOf, IsFullSpan, HasFreeRow, AreFullSpans, IsNumber, IsPairOf, AddsPairs}
+use Rattle.pair_formula.specs.Full.{IsFullRun, AreFullOf, IsFullSpan, HasFreeRow, AreFullSpans, IsRowNumber, IsRowPair, AddsPairs}
 use Rattle.pair_formula.proofs.Linked.{IsMet, graph-of}
 
 module _ (q : Query) (db : List Table) (all : List (List RowId)) where
@@ -65,7 +65,7 @@ module _ (q : Query) (db : List Table) (all : List (List RowId)) where
     every = every;
   }
     where
-      every : (F p : ℕ) → F < length q.atoms → IsNamed all F p → ((s : Span) × Contains (spans ++ more) s × IsIn s (at F p)) ⊎ HasFreeRow q db all F p
+      every : (F p : ℕ) → F < length q.atoms → IsNamed all F p → ((s : Span) × Contains (spans ++ more) s × IsInSpan s (at F p)) ⊎ HasFreeRow q db all F p
       every zero p l (names, m, e) = elim (h.every p (subst (Contains ps) e (c.to names m))) [
         | inl s ↦ inl (s.0, Contains-append_left spans more s.0 s.1, (sym (h.each s.0 s.1).of_atom, s.2.0, s.2.1))
         | inr f ↦ inr (ps, c, f)
@@ -77,26 +77,26 @@ module _ (q : Query) (db : List Table) (all : List (List RowId)) where
       every (suc (suc F)) p l n = absurd (omega (arith, l, two))
 
 module _ (q : Query) (db : List Table) (row : List Value) (all : List (List RowId)) (a : AreAllNames q db row all) (vars : ℕ) (spans : List Span) (h : AreFullSpans q db all vars spans) where
-  named-row : (F p : ℕ) → F < length q.atoms → IsNamed all F p → (w : List (List Value)) × IsWitness q (stored db) row w × (p < length (rows_of q (stored db) F)) × (row_of q db (at F p) ≡ row_at w F)
+  named-row : (F p : ℕ) → F < length q.atoms → IsNamed all F p → (w : List (List Value)) × IsWitness q (stored db) row w × (p < length (rows_of q (stored db) F)) × (variable_row q db (at F p) ≡ row_at w F)
   named-row F p l (names, m, e) =
       let b = of_names q db row names ((a.exactly names).0 m) in
       let t = b.each F l in
-      subst (λ r. (w : List (List Value)) × IsWitness q (stored db) row w × (r < length (rows_of q (stored db) F)) × (row_of q db (at F r) ≡ row_at w F)) e (b.rows, b.witness, t.0, t.1)
+      subst (λ r. (w : List (List Value)) × IsWitness q (stored db) row w × (r < length (rows_of q (stored db) F)) × (variable_row q db (at F r) ≡ row_at w F)) e (b.rows, b.witness, t.0, t.1)
 
   -- a full block is relevant
-  pub span-is : (s : Span) → Contains spans s → IsSpan q db row s
+  pub span-is : (s : Span) → Contains spans s → IsRelevantSpan q db row s
   span-is s m = record { there = f.there; whole = f.whole; relevant = relevant }
     where
       f : IsFullSpan q db all s
       f = h.each s m
 
-      relevant : IsRelevant q (stored db) row s.atom (row_of q db (at s.atom s.start))
+      relevant : IsRelevant q (stored db) row s.atom (variable_row q db (at s.atom s.start))
       relevant =
           let c = f.whole.some in
           let w = named-row s.atom s.start f.there (f.full s.start (omega arith) (omega (arith, c))) in
-          (w.0, w.1, subst (λ x. SharesKey (atom_key q s.atom) (row_of q db (at s.atom s.start)) x) w.3 (shares-self (atom_key q s.atom) (row_of q db (at s.atom s.start))))
+          (w.0, w.1, subst (λ x. SharesKey (atom_key q s.atom) (variable_row q db (at s.atom s.start)) x) w.3 (shares-self (atom_key q s.atom) (variable_row q db (at s.atom s.start))))
 
-  pub full-numbering : IsDatabase db → IsNumbering spans vars
+  pub full-numbering : IsDatabase db → IsSpanNumbering spans vars
   full-numbering d = record {
     apart = stand_apart q db row spans h.in_order span-is;
     based = h.based;
@@ -108,7 +108,7 @@ module _ (q : Query) (db : List Table) (row : List Value) (all : List (List RowI
   based = based-whole 0 vars spans h.based
 
   abbrev variables : List Variable
-  variables = variables_of spans
+  variables = variables_of_spans spans
 
   abbrev blocks : List (List ℕ)
   blocks = map numbers_in spans
@@ -116,13 +116,13 @@ module _ (q : Query) (db : List Table) (row : List Value) (all : List (List RowI
   in_order : IsStrictlySortedBy variable_cmp variables
   in_order = variables-sorted q db row spans h.in_order span-is
 
-  blocks-are : AreAll (AreBlockNumbers q db variables) blocks
+  blocks-are : AreAllLists (AreBlockNumbers q db variables) blocks
   blocks-are = are_blocks q db row spans h.in_order based span-is
 
-  number-is : (F p n : ℕ) → IsNumber spans F p (Some n) → HasNumber variables n (at F p)
+  number-is : (F p n : ℕ) → IsRowNumber spans F p (Some n) → HasNumber variables n (at F p)
   number-is F p n (s, m, i, e) = subst (λ k. HasNumber variables k (at F p)) (sym e) (has_number spans based s m (at F p) i)
 
-  is-number : (F p n : ℕ) → HasNumber variables n (at F p) → IsNumber spans F p (Some n)
+  is-number : (F p n : ℕ) → HasNumber variables n (at F p) → IsRowNumber spans F p (Some n)
   is-number F p n hn =
       let s = in_variables spans (at F p) (numbered variables n (at F p) hn) in
       (s.0, s.1, s.2, same_number variables in_order n (suc (s.0.base + (p - s.0.start))) (at F p) hn (has_number spans based s.0 s.1 (at F p) s.2))
@@ -151,14 +151,14 @@ module _ (q : Query) (db : List Table) (row : List Value) (all : List (List RowI
         }
 
     -- the number of a witness's row is that of its name
-    name-number : (w : List (List Value)) (i : ℕ) → free.IsNamed q db row all d a w i → (F n : ℕ) → F < length q.atoms → IsNumberOf q db variables F (row_at w F) n → IsNumber spans F (place_at (get_or all i []) F) (Some n)
+    name-number : (w : List (List Value)) (i : ℕ) → free.IsNamed q db row all d a w i → (F n : ℕ) → F < length q.atoms → IsNumberOf q db variables F (row_at w F) n → IsRowNumber spans F (place_at (get_or all i []) F) (Some n)
     name-number w i (l, e) F n lF (y, hn, ya, ye) =
         let names = get_or all i [] in
         let b = of_names q db row names ((a.exactly names).0 (Contains-get_or all i [] l)) in
         let hp : HasNumber variables n (at F y.place) = subst (HasNumber variables n) (as_at y F ya) hn in
-        let yr : row_of q db (at F y.place) ≡ row_at w F = ap (row_of q db) (sym (as_at y F ya)) ∙ ye in
+        let yr : variable_row q db (at F y.place) ≡ row_at w F = ap (variable_row q db) (sym (as_at y F ya)) ∙ ye in
         let same : y.place ≡ place_at names F = free.one_place q db row all d a F y.place (place_at names F) (stored-at F y.place n hp) (b.each F lF).0 (yr ∙ sym (e F lF)) in
-        subst (λ p. IsNumber spans F p (Some n)) same (is-number F y.place n hp)
+        subst (λ p. IsRowNumber spans F p (Some n)) same (is-number F y.place n hp)
 
     to-meet : (x y : ℕ) → IsMet q db row variables x y → Meet c.pairs x y
     to-meet x y m = go (c.every names (Contains-get_or all i.0 [] i.1.0))
@@ -169,13 +169,13 @@ module _ (q : Query) (db : List Table) (row : List Value) (all : List (List RowI
         names : List RowId
         names = get_or all i.0 []
 
-        mine : IsPairOf spans names (record { left = x; right = y })
+        mine : IsRowPair spans names (record { left = x; right = y })
         mine = (name-number m.rows i.0 i.1 0 x (two-atoms 0 (omega arith)) m.left, name-number m.rows i.0 i.1 1 y (two-atoms 1 (omega arith)) m.right)
 
-        one : (F n k : ℕ) → IsNumber spans F (place_at names F) (Some n) → IsNumber spans F (place_at names F) (Some k) → n ≡ k
+        one : (F n k : ℕ) → IsRowNumber spans F (place_at names F) (Some n) → IsRowNumber spans F (place_at names F) (Some k) → n ≡ k
         one F n k hn hk = same_number variables in_order n k (at F (place_at names F)) (number-is F (place_at names F) n hn) (number-is F (place_at names F) k hk)
 
-        go : ((p : Pair) × Contains c.pairs p × IsPairOf spans names p) ⊎ ((p : Pair) → IsPairOf spans names p → ⊥) → Meet c.pairs x y
+        go : ((p : Pair) × Contains c.pairs p × IsRowPair spans names p) ⊎ ((p : Pair) → IsRowPair spans names p → ⊥) → Meet c.pairs x y
         go (inr none) = absurd (none (record { left = x; right = y }) mine)
         go (inl (p, mp, is)) =
             let el : p.left ≡ x = one 0 p.left x is.0 mine.0 in
@@ -191,13 +191,13 @@ module _ (q : Query) (db : List Table) (row : List Value) (all : List (List RowI
 
     abbrev value_at : (ℕ → List Value → Bool) → Option Variable → Bool
     value_at t None = false
-    value_at t (Some y) = t y.atom (row_of q db y)
+    value_at t (Some y) = t y.atom (variable_row q db y)
 
     abbrev value_of : (ℕ → List Value → Bool) → ℕ → Bool
     value_of t zero = false
     value_of t (suc k) = value_at t (slice_get variables k)
 
-    value_is : (t : ℕ → List Value → Bool) (n : ℕ) (y : Variable) → HasNumber variables n y → value_of t n ≡ t y.atom (row_of q db y)
+    value_is : (t : ℕ → List Value → Bool) (n : ℕ) (y : Variable) → HasNumber variables n y → value_of t n ≡ t y.atom (variable_row q db y)
     value_is t zero y hn = absurd hn
     value_is t (suc k) y hn = ap (value_at t) hn
 
@@ -205,13 +205,13 @@ module _ (q : Query) (db : List Table) (row : List Value) (all : List (List RowI
       span-true : (u : Span) → Contains spans u → Satisfies (value_of t) (map positive (numbers_in u))
       span-true u m = go (s.blocks u.atom f.there first (Contains-get_or (rows_of q (stored db) u.atom) u.start [] (let w = f.whole.within in let k = f.whole.some in omega (arith, w, k))) f.relevant)
         where
-          f : IsSpan q db row u
+          f : IsRelevantSpan q db row u
           f = span-is u m
 
           first : List Value
-          first = row_of q db (at u.atom u.start)
+          first = variable_row q db (at u.atom u.start)
 
-          at-place : (j : ℕ) → j < length (rows_of q (stored db) u.atom) → SharesKey (atom_key q u.atom) first (row_of q db (at u.atom j)) → t u.atom (row_of q db (at u.atom j)) ≡ true → Satisfies (value_of t) (map positive (numbers_in u))
+          at-place : (j : ℕ) → j < length (rows_of q (stored db) u.atom) → SharesKey (atom_key q u.atom) first (variable_row q db (at u.atom j)) → t u.atom (variable_row q db (at u.atom j)) ≡ true → Satisfies (value_of t) (map positive (numbers_in u))
           at-place j l sh e =
               let b = (f.whole.block j l).0 sh in
               let x : Variable = at u.atom j in
@@ -223,11 +223,11 @@ module _ (q : Query) (db : List Table) (row : List Value) (all : List (List RowI
           go : ((y : List Value) × Contains (rows_of q (stored db) u.atom) y × SharesKey (atom_key q u.atom) first y × (t u.atom y ≡ true)) → Satisfies (value_of t) (map positive (numbers_in u))
           go (y, my, sh, e) =
               let j = Rattle.repair_clauses.proofs.Numbers.place_of (rows_of q (stored db) u.atom) y my in
-              let is : row_of q db (at u.atom j.0) ≡ y = Rattle.std.proofs.lemmas.Option.get_or_from_slice_get (rows_of q (stored db) u.atom) j.0 y [] j.2 in
+              let is : variable_row q db (at u.atom j.0) ≡ y = Rattle.std.proofs.lemmas.Option.get_or_from_slice_get (rows_of q (stored db) u.atom) j.0 y [] j.2 in
               at-place j.0 j.1 (subst (λ z. SharesKey (atom_key q u.atom) first z) (sym is) sh) (ap (t u.atom) is ∙ e)
 
       number-false : (F x : ℕ) (r : List Value) → IsNumberOf q db variables F r x → t F r ≡ false → value_of t x ≡ false
-      number-false F x r (y, hn, ya, ye) e = value_is t x y hn ∙ (ap (λ G. t G (row_of q db y)) ya ∙ (ap (t F) ye ∙ e))
+      number-false F x r (y, hn, ya, ye) e = value_is t x y hn ∙ (ap (λ G. t G (variable_row q db y)) ya ∙ (ap (t F) ye ∙ e))
 
       pair-false : (p : Pair) → Contains c.pairs p → Satisfies (value_of t) (not_both p)
       pair-false p m = go (s.witnesses w.rows w.witness)
@@ -256,17 +256,17 @@ module _ (q : Query) (db : List Table) (row : List Value) (all : List (List RowI
 
       dec_of : (F : ℕ) (x : List Value) (n : ℕ) → Dec (IsNumberOf q db variables F x n)
       dec_of F x n = dec_by (λ p. (p.0, p.1, p.2.0, p.2.1)) (λ p. (p.0, p.1, (p.2, p.3)))
-          (dec_number variables (λ y. (y.atom ≡ F) × (row_of q db y ≡ x)) (λ y. dec_both (ℕ_discrete y.atom F) (row_discrete (row_of q db y) x)) n)
+          (dec_number variables (λ y. (y.atom ≡ F) × (variable_row q db y ≡ x)) (λ y. dec_both (ℕ_discrete y.atom F) (row_discrete (variable_row q db y) x)) n)
 
       dec_true : (F : ℕ) (x : List Value) → Dec (IsTrueRow F x)
       dec_true F x = dec_one_below (λ n. IsNumberOf q db variables F x n × (v n ≡ true)) (λ n. dec_both (dec_of F x n) (Bool-discrete (v n) true)) (1 + length variables)
 
       -- one of the witnesses has the row
       abbrev IsInSome : ℕ → List Value → Type 0
-      IsInSome F x = (i : ℕ) × (i < length all) × (row_of q db (at F (place_at (get_or all i []) F)) ≡ x)
+      IsInSome F x = (i : ℕ) × (i < length all) × (variable_row q db (at F (place_at (get_or all i []) F)) ≡ x)
 
       dec_in : (F : ℕ) (x : List Value) → Dec (IsInSome F x)
-      dec_in F x = dec_one_below (λ i. row_of q db (at F (place_at (get_or all i []) F)) ≡ x) (λ i. row_discrete (row_of q db (at F (place_at (get_or all i []) F))) x) (length all)
+      dec_in F x = dec_one_below (λ i. variable_row q db (at F (place_at (get_or all i []) F)) ≡ x) (λ i. row_discrete (variable_row q db (at F (place_at (get_or all i []) F))) x) (length all)
 
       abbrev IsOut : ℕ → List Value → Type 0
       IsOut F x = IsInSome F x × (IsTrueRow F x → ⊥)
@@ -281,10 +281,10 @@ module _ (q : Query) (db : List Table) (row : List Value) (all : List (List RowI
       Stays F x = (y : List Value) × Contains (rows_of q (stored db) F) y × SharesKey (atom_key q F) x y × (stays F y ≡ true)
 
       -- a row of the block of each full block's first row is true
-      in-span : (F : ℕ) (x : List Value) (u : Span) → Contains spans u → F ≡ u.atom → SharesKey (atom_key q F) x (row_of q db (at F u.start)) → Stays F x
+      in-span : (F : ℕ) (x : List Value) (u : Span) → Contains spans u → F ≡ u.atom → SharesKey (atom_key q F) x (variable_row q db (at F u.start)) → Stays F x
       in-span F x u m ea sh = go (sat (map positive (numbers_in u)) (Contains-append_left (map (map positive) blocks) (map not_both c.pairs) (map positive (numbers_in u)) (Contains-map (map positive) blocks (numbers_in u) (Contains-map numbers_in spans u m))))
         where
-          f : IsSpan q db row u
+          f : IsRelevantSpan q db row u
           f = span-is u m
 
           at-number : (n : ℕ) → Contains (numbers_in u) n → v n ≡ true → Stays F x
@@ -297,14 +297,14 @@ module _ (q : Query) (db : List Table) (row : List Value) (all : List (List RowI
               let lj : j < u.count = omega (arith, r0, r1) in
               let p = u.start + j in
               let inside : p < length (rows_of q (stored db) u.atom) = omega (arith, lj, w) in
-              let i : IsIn u (at F p) = (ea, omega arith, omega (arith, lj)) in
+              let i : IsInSpan u (at F p) = (ea, omega arith, omega (arith, lj)) in
               let en : suc (u.base + (p - u.start)) ≡ n = omega (arith, r0) in
               let hn : HasNumber variables n (at F p) = subst (λ k. HasNumber variables k (at F p)) en (has_number spans based u m (at F p) i) in
-              let y = row_of q db (at F p) in
-              let near : SharesKey (atom_key q F) (row_of q db (at F u.start)) y = subst (λ G. SharesKey (atom_key q G) (row_of q db (at G u.start)) (row_of q db (at G p))) (sym ea) ((f.whole.block p inside).1 (omega arith, omega (arith, lj))) in (
+              let y = variable_row q db (at F p) in
+              let near : SharesKey (atom_key q F) (variable_row q db (at F u.start)) y = subst (λ G. SharesKey (atom_key q G) (variable_row q db (at G u.start)) (variable_row q db (at G p))) (sym ea) ((f.whole.block p inside).1 (omega arith, omega (arith, lj))) in (
                 y,
                 Contains-get_or (rows_of q (stored db) F) p [] (subst (λ G. p < length (rows_of q (stored db) G)) (sym ea) inside),
-                shares-trans (atom_key q F) x (row_of q db (at F u.start)) y sh near,
+                shares-trans (atom_key q F) x (variable_row q db (at F u.start)) y sh near,
                 yes_of (dec_not (dec_out F y)) (λ o. o.1 (n, (number_below variables n (at F p) hn).1, ((at F p, hn, refl, refl), e))),
               )
 
@@ -312,15 +312,15 @@ module _ (q : Query) (db : List Table) (row : List Value) (all : List (List RowI
           go (l, ml, e) = let n = Contains-from_map positive (numbers_in u) l ml in at-number n.0 n.1 (subst (λ (z : Lit). v z.var ≡ z.positive) (sym n.2) e)
 
       -- so is a row that is in no witness
-      by-free : (F p : ℕ) → F < length q.atoms → (x : List Value) → SharesKey (atom_key q F) x (row_of q db (at F p)) → HasFreeRow q db all F p → Stays F x
+      by-free : (F p : ℕ) → F < length q.atoms → (x : List Value) → SharesKey (atom_key q F) x (variable_row q db (at F p)) → HasFreeRow q db all F p → Stays F x
       by-free F p lF x sh (places, col, f) = (
-        row_of q db (at F f.free),
+        variable_row q db (at F f.free),
         Contains-get_or (rows_of q (stored db) F) f.free [] f.there,
-        shares-trans (atom_key q F) x (row_of q db (at F p)) (row_of q db (at F f.free)) sh f.shares,
-        yes_of (dec_not (dec_out F (row_of q db (at F f.free)))) (λ o. none o.0),
+        shares-trans (atom_key q F) x (variable_row q db (at F p)) (variable_row q db (at F f.free)) sh f.shares,
+        yes_of (dec_not (dec_out F (variable_row q db (at F f.free)))) (λ o. none o.0),
       )
         where
-          none : IsInSome F (row_of q db (at F f.free)) → ⊥
+          none : IsInSome F (variable_row q db (at F f.free)) → ⊥
           none (i, l, e) =
               let names = get_or all i [] in
               let m : Contains all names = Contains-get_or all i [] l in
@@ -340,16 +340,16 @@ module _ (q : Query) (db : List Table) (row : List Value) (all : List (List RowI
           p : ℕ
           p = place_at names F
 
-          here : SharesKey (atom_key q F) x (row_of q db (at F p))
+          here : SharesKey (atom_key q F) x (variable_row q db (at F p))
           here = subst (λ z. SharesKey (atom_key q F) x z) (sym (i.1.1 F lF)) sh
 
-          first : (u : Span) → Contains spans u → IsIn u (at F p) → SharesKey (atom_key q u.atom) (row_of q db (at u.atom u.start)) (row_of q db (at u.atom p))
+          first : (u : Span) → Contains spans u → IsInSpan u (at F p) → SharesKey (atom_key q u.atom) (variable_row q db (at u.atom u.start)) (variable_row q db (at u.atom p))
           first u m g = let f = span-is u m in let w = f.whole.within in let g2 = g.2 in (f.whole.block p (omega (arith, w, g2))).1 (g.1, g.2)
 
-          go : ((s : Span) × Contains spans s × IsIn s (at F p)) ⊎ HasFreeRow q db all F p → Stays F x
+          go : ((s : Span) × Contains spans s × IsInSpan s (at F p)) ⊎ HasFreeRow q db all F p → Stays F x
           go (inl (u, m, g)) =
-              let k : SharesKey (atom_key q F) (row_of q db (at F u.start)) (row_of q db (at F p)) = subst (λ G. SharesKey (atom_key q G) (row_of q db (at G u.start)) (row_of q db (at G p))) (sym g.0) (first u m g) in
-              in-span F x u m g.0 (shares-trans (atom_key q F) x (row_of q db (at F p)) (row_of q db (at F u.start)) here (shares-sym (atom_key q F) (row_of q db (at F u.start)) (row_of q db (at F p)) k))
+              let k : SharesKey (atom_key q F) (variable_row q db (at F u.start)) (variable_row q db (at F p)) = subst (λ G. SharesKey (atom_key q G) (variable_row q db (at G u.start)) (variable_row q db (at G p))) (sym g.0) (first u m g) in
+              in-span F x u m g.0 (shares-trans (atom_key q F) x (variable_row q db (at F p)) (variable_row q db (at F u.start)) here (shares-sym (atom_key q F) (variable_row q db (at F u.start)) (variable_row q db (at F p)) k))
           go (inr f) = by-free F p lF x here f
 
       is-out : (w : List (List Value)) → IsWitness q (stored db) row w → (F : ℕ) → F < length q.atoms → (IsTrueRow F (row_at w F) → ⊥) → stays F (row_at w F) ≡ false

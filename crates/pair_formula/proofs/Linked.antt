@@ -23,7 +23,7 @@ use Rattle.cqa_model.proofs.Repairs.{shares-self, shares-sym, shares-trans}
 use Rattle.cqa_model.proofs.Fitting.{fits_tables}
 use Rattle.join_access.proofs.Sorted.{one_sorted, not_less}
 use Rattle.repair_clauses.specs.declared.formula.Encoded.{Encoded}
-use Rattle.repair_clauses.specs.Clauses.{Variable, variable_cmp, AreAll, HasNumber, SharesBlock, IsBlockOf, AreBlockNumbers, IsNumberOf, IsOfWitness, Formula, IsFormula, row_of}
+use Rattle.repair_clauses.specs.Clauses.{Variable, variable_cmp, AreAllLists, HasNumber, SharesBlock, IsBlockOfVariable, AreBlockNumbers, IsNumberOf, IsOfWitness, Formula, IsFormula, variable_row}
 use Rattle.repair_clauses.specs.Encodings.{IsEncoded}
 use Rattle.repair_clauses.proofs.Rows.{numbered, number_below, number_of, one_variable, block_numbers}
 use Rattle.repair_clauses.proofs.Order.{numbers_rise, atom_less}
@@ -69,7 +69,7 @@ pub record IsMet (q : Query) (db : List Table) (row : List Value) (variables : L
 
 -- blocks of numbered rows, and pairs of numbers of which each is that of a witness
 module _ (db : List Table) (q : Query) (row : List Value) (fits : FitsDatabase q db) (pair : IsPair q) (variables : List Variable) (in_order : IsStrictlySortedBy variable_cmp variables)
-    (blocks : List (List ℕ)) (all_blocks : AreAll (AreBlockNumbers q db variables) blocks) (pairs : List Pair) (exactly : (x y : ℕ) → Meet pairs x y ↔ IsMet q db row variables x y) where
+    (blocks : List (List ℕ)) (all_blocks : AreAllLists (AreBlockNumbers q db variables) blocks) (pairs : List Pair) (exactly : (x y : ℕ) → Meet pairs x y ↔ IsMet q db row variables x y) where
   met : (x y : ℕ) → Meet pairs x y → IsMet q db row variables x y
   met x y = (exactly x y).0
 
@@ -92,8 +92,8 @@ module _ (db : List Table) (q : Query) (row : List Value) (fits : FitsDatabase q
       let fa = as-two a.rows a.witness in
       let fb = as-two b.rows b.witness in
       let fc = as-two c.rows c.witness in
-      let y_same : row_at b.rows 1 ≡ row_at a.rows 1 = sym b.right.3 ∙ (ap (λ z. row_of q db z) (one_variable variables y b.right.0 a.right.0 b.right.1 a.right.1) ∙ a.right.3) in
-      let x_same : row_at c.rows 0 ≡ row_at a.rows 0 = sym c.left.3 ∙ (ap (λ z. row_of q db z) (one_variable variables x c.left.0 a.left.0 c.left.1 a.left.1) ∙ a.left.3) in
+      let y_same : row_at b.rows 1 ≡ row_at a.rows 1 = sym b.right.3 ∙ (ap (λ z. variable_row q db z) (one_variable variables y b.right.0 a.right.0 b.right.1 a.right.1) ∙ a.right.3) in
+      let x_same : row_at c.rows 0 ≡ row_at a.rows 0 = sym c.left.3 ∙ (ap (λ z. variable_row q db z) (one_variable variables x c.left.0 a.left.0 c.left.1 a.left.1) ∙ a.left.3) in
       let agree : Agree q 0 1 (row_at b.rows 0) (row_at c.rows 1) =
       (λ i j sh. fb.2 i j sh ∙ (ap (λ z. get_or z j nothing) y_same ∙ (sym (fa.2 i j sh) ∙ (ap (λ z. get_or z i nothing) (sym x_same) ∙ fc.2 i j sh)))) in
       let k0 : Contains (rows_of q (stored db) 0) (row_at b.rows 0) = b.witness.kept 0 (let z = pair.two in omega (arith, z)) in
@@ -110,11 +110,11 @@ module _ (db : List Table) (q : Query) (row : List Value) (fits : FitsDatabase q
   partners F G lF lG n v w hv hw e = Structure.partners q row (keys_of db) (stored db) (fits_tables q db fits) (long v hv) pair F G lF lG n v w hv hw e
 
   beside : (x z : ℕ) (a c : Variable) → HasNumber variables x a → HasNumber variables z c → AreBeside pairs x z → SharesBlock q db a c
-  beside x z a c na nc (inl e) = subst (λ u. SharesBlock q db a u) (one_variable variables z a c (subst (λ k. HasNumber variables k a) e na) nc) (refl, shares-self (atom_key q a.atom) (row_of q db a))
+  beside x z a c na nc (inl e) = subst (λ u. SharesBlock q db a u) (one_variable variables z a c (subst (λ k. HasNumber variables k a) e na) nc) (refl, shares-self (atom_key q a.atom) (variable_row q db a))
   beside x z a c na nc (inr (inl (y, m, k))) =
       let p = met x y m in
       let r = met z y k in
-      let same : row_at p.rows 1 ≡ row_at r.rows 1 = sym p.right.3 ∙ (ap (λ u. row_of q db u) (one_variable variables y p.right.0 r.right.0 p.right.1 r.right.1) ∙ r.right.3) in
+      let same : row_at p.rows 1 ≡ row_at r.rows 1 = sym p.right.3 ∙ (ap (λ u. variable_row q db u) (one_variable variables y p.right.0 r.right.0 p.right.1 r.right.1) ∙ r.right.3) in
       shared 0 x z a c na nc p.left r.left (partners 1 0 (omega arith) (omega arith) (λ d. omega (arith, d)) p.rows r.rows p.witness r.witness same)
     where
       shared : (F x z : ℕ) (a c : Variable) → HasNumber variables x a → HasNumber variables z c → {u w : List Value} → IsNumberOf q db variables F u x → IsNumberOf q db variables F w z → SharesKey (atom_key q F) u w → SharesBlock q db a c
@@ -123,21 +123,21 @@ module _ (db : List Table) (q : Query) (row : List Value) (fits : FitsDatabase q
           let ec = one_variable variables z c r.0 nc r.1 in
           let fa : a.atom ≡ F = ap (λ (k : Variable). k.atom) ea ∙ l.2 in
           let fc : c.atom ≡ F = ap (λ (k : Variable). k.atom) ec ∙ r.2 in
-          let ra : row_of q db a ≡ u = ap (λ k. row_of q db k) ea ∙ l.3 in
-          let rc : row_of q db c ≡ w = ap (λ k. row_of q db k) ec ∙ r.3 in
-          (fa ∙ sym fc, subst (λ G. SharesKey (atom_key q G) (row_of q db a) (row_of q db c)) (sym fa) (subst (λ k. SharesKey (atom_key q F) k (row_of q db c)) (sym ra) (subst (λ k. SharesKey (atom_key q F) u k) (sym rc) s)))
+          let ra : variable_row q db a ≡ u = ap (λ k. variable_row q db k) ea ∙ l.3 in
+          let rc : variable_row q db c ≡ w = ap (λ k. variable_row q db k) ec ∙ r.3 in
+          (fa ∙ sym fc, subst (λ G. SharesKey (atom_key q G) (variable_row q db a) (variable_row q db c)) (sym fa) (subst (λ k. SharesKey (atom_key q F) k (variable_row q db c)) (sym ra) (subst (λ k. SharesKey (atom_key q F) u k) (sym rc) s)))
   beside x z a c na nc (inr (inr (y, m, k))) =
       let p = met y x m in
       let r = met y z k in
-      let same : row_at p.rows 0 ≡ row_at r.rows 0 = sym p.left.3 ∙ (ap (λ u. row_of q db u) (one_variable variables y p.left.0 r.left.0 p.left.1 r.left.1) ∙ r.left.3) in
+      let same : row_at p.rows 0 ≡ row_at r.rows 0 = sym p.left.3 ∙ (ap (λ u. variable_row q db u) (one_variable variables y p.left.0 r.left.0 p.left.1 r.left.1) ∙ r.left.3) in
       let s = partners 0 1 (omega arith) (omega arith) (λ d. omega (arith, d)) p.rows r.rows p.witness r.witness same in
       let ea = one_variable variables x a p.right.0 na p.right.1 in
       let ec = one_variable variables z c r.right.0 nc r.right.1 in
       let fa : a.atom ≡ 1 = ap (λ (u : Variable). u.atom) ea ∙ p.right.2 in
       let fc : c.atom ≡ 1 = ap (λ (u : Variable). u.atom) ec ∙ r.right.2 in
-      let ra : row_of q db a ≡ row_at p.rows 1 = ap (λ u. row_of q db u) ea ∙ p.right.3 in
-      let rc : row_of q db c ≡ row_at r.rows 1 = ap (λ u. row_of q db u) ec ∙ r.right.3 in
-      (fa ∙ sym fc, subst (λ G. SharesKey (atom_key q G) (row_of q db a) (row_of q db c)) (sym fa) (subst (λ u. SharesKey (atom_key q 1) u (row_of q db c)) (sym ra) (subst (λ u. SharesKey (atom_key q 1) (row_at p.rows 1) u) (sym rc) s)))
+      let ra : variable_row q db a ≡ row_at p.rows 1 = ap (λ u. variable_row q db u) ea ∙ p.right.3 in
+      let rc : variable_row q db c ≡ row_at r.rows 1 = ap (λ u. variable_row q db u) ec ∙ r.right.3 in
+      (fa ∙ sym fc, subst (λ G. SharesKey (atom_key q G) (variable_row q db a) (variable_row q db c)) (sym fa) (subst (λ u. SharesKey (atom_key q 1) u (variable_row q db c)) (sym ra) (subst (λ u. SharesKey (atom_key q 1) (row_at p.rows 1) u) (sym rc) s)))
 
   -- ---- blocks
 
@@ -145,13 +145,13 @@ module _ (db : List Table) (q : Query) (row : List Value) (fits : FitsDatabase q
   block-of v l = (all_blocks.exactly (block_at blocks v)).0 (Contains-get_or blocks v [] l)
 
   blocks-share : (a b c : Variable) → SharesBlock q db a b → SharesBlock q db b c → SharesBlock q db a c
-  blocks-share a b c s t = (s.0 ∙ t.0, shares-trans (atom_key q a.atom) (row_of q db a) (row_of q db b) (row_of q db c) s.1 (subst (λ G. SharesKey (atom_key q G) (row_of q db b) (row_of q db c)) (sym s.0) t.1))
+  blocks-share a b c s t = (s.0 ∙ t.0, shares-trans (atom_key q a.atom) (variable_row q db a) (variable_row q db b) (variable_row q db c) s.1 (subst (λ G. SharesKey (atom_key q G) (variable_row q db b) (variable_row q db c)) (sym s.0) t.1))
 
   blocks-turn : (a b : Variable) → SharesBlock q db a b → SharesBlock q db b a
-  blocks-turn a b s = (sym s.0, subst (λ G. SharesKey (atom_key q G) (row_of q db b) (row_of q db a)) s.0 (shares-sym (atom_key q a.atom) (row_of q db a) (row_of q db b) s.1))
+  blocks-turn a b s = (sym s.0, subst (λ G. SharesKey (atom_key q G) (variable_row q db b) (variable_row q db a)) s.0 (shares-sym (atom_key q a.atom) (variable_row q db a) (variable_row q db b) s.1))
 
   -- blocks of rows that share a key are one
-  same-list : (a c : Variable) (xs ys : List ℕ) → IsBlockOf q db variables a xs → IsBlockOf q db variables c ys → SharesBlock q db a c → xs ≡ ys
+  same-list : (a c : Variable) (xs ys : List ℕ) → IsBlockOfVariable q db variables a xs → IsBlockOfVariable q db variables c ys → SharesBlock q db a c → xs ≡ ys
   same-list a c xs ys bx by s = one_sorted nat_cmp nat_cmp_total xs ys bx.rises by.rises
       (λ n m. let y = (bx.exactly n).0 m in (by.exactly n).1 (y.0, y.1, blocks-share c a y.0 (blocks-turn a c s) y.2))
       (λ n m. let y = (by.exactly n).0 m in (bx.exactly n).1 (y.0, y.1, blocks-share a c y.0 s y.2))
@@ -176,10 +176,10 @@ module _ (db : List Table) (q : Query) (row : List Value) (fits : FitsDatabase q
   listed-by : (x : ℕ) (a : Variable) → HasNumber variables x a → IsInSomeBlock blocks x
   listed-by x a n = go (block_numbers q db variables a)
     where
-      go : (numbers : List ℕ) × IsBlockOf q db variables a numbers → IsInSomeBlock blocks x
+      go : (numbers : List ℕ) × IsBlockOfVariable q db variables a numbers → IsInSomeBlock blocks x
       go (numbers, b) =
           let m = (all_blocks.exactly numbers).1 (a, numbered variables x a n, b) in
-          let k : Contains numbers x = (b.exactly x).1 (a, n, (refl, shares-self (atom_key q a.atom) (row_of q db a))) in
+          let k : Contains numbers x = (b.exactly x).1 (a, n, (refl, shares-self (atom_key q a.atom) (variable_row q db a))) in
           (m.0, m.1, subst (λ z. Contains z x) (sym (get_or_default blocks m.0 [] numbers m.1 ∙ m.2)) k)
 
   listed : (x y : ℕ) → AreAdjacent pairs x y → IsInSomeBlock blocks x
@@ -212,7 +212,7 @@ module _ (db : List Table) (q : Query) (row : List Value) (fits : FitsDatabase q
   some v l =
       let b = block-of v l in
       let n = number_of variables b.0 b.1 in
-      let m : Contains (block_at blocks v) n.0 = (b.2.exactly n.0).1 (b.0, n.1, (refl, shares-self (atom_key q b.0.atom) (row_of q db b.0))) in
+      let m : Contains (block_at blocks v) n.0 = (b.2.exactly n.0).1 (b.0, n.1, (refl, shares-self (atom_key q b.0.atom) (variable_row q db b.0))) in
       let k = m.1 in omega (arith, k)
 
   -- ---- the blocks have no variable twice

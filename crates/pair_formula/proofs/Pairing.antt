@@ -14,25 +14,25 @@ use Rattle.repair_clauses.proofs.Numbers.{place_of}
 use Rattle.repair_clauses.proofs.Encoding.{place_read}
 use Rattle.pair_refutation.specs.declared.graph.Pair.{Pair}
 use Rattle.pair_refutation.specs.Graph.{not_both}
-use Rattle.pair_formula.specs.Full.{IsNumber, IsPairOf, AddsPair, AddsPairs}
+use Rattle.pair_formula.specs.Full.{IsRowNumber, IsRowPair, AddsPair, AddsPairs}
 
 -- a row that is in no span has no number
-pub number-none : (spans : List Span) (F p : ℕ) → ((k : ℕ) → IsAt spans F p k → ⊥) → IsNumber spans F p None
+pub number-none : (spans : List Span) (F p : ℕ) → ((k : ℕ) → IsAt spans F p k → ⊥) → IsRowNumber spans F p None
 number-none spans F p none = λ s m i. let k = place_of spans s m in none k.0 (s, k.2, i)
 
 -- a row with no number has none
-pub no-number : (spans : List Span) (F p : ℕ) (o : Option ℕ) → ((n : ℕ) → o ≡ Some n → ⊥) → IsNumber spans F p o → (n : ℕ) → IsNumber spans F p (Some n) → ⊥
+pub no-number : (spans : List Span) (F p : ℕ) (o : Option ℕ) → ((n : ℕ) → o ≡ Some n → ⊥) → IsRowNumber spans F p o → (n : ℕ) → IsRowNumber spans F p (Some n) → ⊥
 no-number spans F p None none h n (s, m, i, e) = h s m i
 no-number spans F p (Some k) none h n g = none k refl
 
 -- the place that is read of a name
-pub read-number : (spans : List Span) (names rows : List RowId) (F : ℕ) (o : Option ℕ) → names ≡ rows → F < length rows → IsNumber spans F (get_or names F (name 0 0)).place o → IsNumber spans F (place_at rows F) o
-read-number spans names rows F o same l h = subst (λ p. IsNumber spans F p o) (ap (λ ns. (get_or ns F (name 0 0)).place) same ∙ place_read rows F l) h
+pub read-number : (spans : List Span) (names rows : List RowId) (F : ℕ) (o : Option ℕ) → names ≡ rows → F < length rows → IsRowNumber spans F (get_or names F (name 0 0)).place o → IsRowNumber spans F (place_at rows F) o
+read-number spans names rows F o same l h = subst (λ p. IsRowNumber spans F p o) (ap (λ ns. (get_or ns F (name 0 0)).place) same ∙ place_read rows F l) h
 
-pub pair-none-left : (spans : List Span) (names : List RowId) (old : List (List Lit)) → ((n : ℕ) → IsNumber spans 0 (place_at names 0) (Some n) → ⊥) → AddsPair spans names old old
+pub pair-none-left : (spans : List Span) (names : List RowId) (old : List (List Lit)) → ((n : ℕ) → IsRowNumber spans 0 (place_at names 0) (Some n) → ⊥) → AddsPair spans names old old
 pair-none-left spans names old h = inr (λ p i. h p.left i.0, refl)
 
-pub pair-none-right : (spans : List Span) (names : List RowId) (old : List (List Lit)) → ((n : ℕ) → IsNumber spans 1 (place_at names 1) (Some n) → ⊥) → AddsPair spans names old old
+pub pair-none-right : (spans : List Span) (names : List RowId) (old : List (List Lit)) → ((n : ℕ) → IsRowNumber spans 1 (place_at names 1) (Some n) → ⊥) → AddsPair spans names old old
 pair-none-right spans names old h = inr (λ p i. h p.right i.1, refl)
 
 module _ (spans : List Span) where
@@ -46,7 +46,7 @@ module _ (spans : List Span) where
     each = λ p m. let n = h.each p m in (n.0, Contains-append_left all (names ∷ []) n.0 n.1, n.2);
     every = λ ns m. elim (Contains-push_cases all names ns m) [
       | inl o ↦ h.every ns o
-      | inr k ↦ inr (subst (λ z. (p : Pair) → IsPairOf spans z p → ⊥) k none)
+      | inr k ↦ inr (subst (λ z. (p : Pair) → IsRowPair spans z p → ⊥) k none)
     ];
   }
   pairs-more all names old mid new h (inl (p, i, e)) = record {
@@ -54,11 +54,11 @@ module _ (spans : List Span) where
     is = e ∙ (ap (λ ls. ls ++ not_both p ∷ []) h.is ∙ (append_assoc old (map not_both h.pairs) (not_both p ∷ []) ∙ ap (λ ls. old ++ ls) (sym (map_push not_both h.pairs p))));
     each = λ r m. elim (Contains-push_cases h.pairs p r m) [
       | inl o ↦ (let n = h.each r o in (n.0, Contains-append_left all (names ∷ []) n.0 n.1, n.2))
-      | inr k ↦ (names, Contains-push all names, subst (IsPairOf spans names) k i)
+      | inr k ↦ (names, Contains-push all names, subst (IsRowPair spans names) k i)
     ];
     every = λ ns m. elim (Contains-push_cases all names ns m) [
       | inl o ↦ elim (h.every ns o) [ inl r ↦ inl (r.0, Contains-append_left h.pairs (p ∷ []) r.0 r.1, r.2) | inr n ↦ inr n ]
-      | inr k ↦ inl (p, Contains-push h.pairs p, subst (λ z. IsPairOf spans z p) k i)
+      | inr k ↦ inl (p, Contains-push h.pairs p, subst (λ z. IsRowPair spans z p) k i)
     ];
   }
 

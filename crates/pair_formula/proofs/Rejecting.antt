@@ -26,7 +26,8 @@ use Rattle.join_access.proofs.Sorted.{one_sorted, sorted-from}
 use Rattle.pair_answers.specs.Numbers.{placed_in, numbered, place_of}
 use Rattle.pair_answers.specs.Kept.{id_of, AreAscendingFrom}
 use Rattle.pair_answers.specs.Kept as pairs
-use Rattle.repair_back.specs.Results.{names_in, rows_in, AreKept, AreStored, Rejects}
+use Rattle.repair_back.specs.Results.{AreKept, AreStored, Rejects}
+use Rattle.table_blocks.specs.Tables.{rows_in, names_in}
 
 -- ---- ascending numbers
 

@@ -10,15 +10,15 @@ use Rattle.cqa_model.specs.Repairs.{SharesKey}
 use Rattle.cqa_model.specs.Query.{atom_key, rows_of}
 use Rattle.cnf_form.specs.declared.formula.Lit.{Lit}
 use Rattle.repair_clauses.specs.declared.span.Span.{Span}
-use Rattle.repair_clauses.specs.Spans.{at, Covers, HasSpan, IsIn, IsNamed, IsWholeBlock, span_cmp, AreBasedTo, place_at}
+use Rattle.repair_clauses.specs.Spans.{at, Covers, HasSpan, IsInSpan, IsNamed, IsWholeBlock, span_cmp, AreBasedTo, place_at}
 use Rattle.repair_clauses.specs.Runs.{AreColumn}
 use Rattle.repair_clauses.specs.Avoiding.{HasFree}
 use Rattle.pair_refutation.specs.declared.graph.Pair.{Pair}
 use Rattle.pair_refutation.specs.Graph.{not_both}
 
 -- the row at a place is the next one of the same block
-abbrev pub Follows : List ℕ → List (List Value) → ℕ → ℕ → Type 0
-Follows key rows p r = (r ≡ p + 1) × SharesKey key (slice_index_or rows p []) (slice_index_or rows r [])
+abbrev pub FollowsInBlock : List ℕ → List (List Value) → ℕ → ℕ → Type 0
+FollowsInBlock key rows p r = (r ≡ p + 1) × SharesKey key (slice_index_or rows p []) (slice_index_or rows r [])
 
 -- the rows at the places from i on, before j, stand side by side, and are of one block
 abbrev pub IsInRow : List ℕ → List (List Value) → List ℕ → ℕ → ℕ → Type 0
@@ -26,16 +26,16 @@ IsInRow key rows places i j = (k : ℕ) → i ≤ k → k < j →
     (slice_index places k ≡ slice_index places i + (k - i)) × SharesKey key (slice_index_or rows (slice_index places i) []) (slice_index_or rows (slice_index places k) [])
 
 -- the block of the row at a place has a row right before it, or at the end
-abbrev pub HasMore : List ℕ → List (List Value) → ℕ → ℕ → Type 0
-HasMore key rows start end =
+abbrev pub HasNeighbour : List ℕ → List (List Value) → ℕ → ℕ → Type 0
+HasNeighbour key rows start end =
     ((0 < start) × SharesKey key (slice_index_or rows start []) (slice_index_or rows (start - 1) [])) ⊎
     ((end < length rows) × SharesKey key (slice_index_or rows start []) (slice_index_or rows end []))
 
 -- the block of a run of rows is added, exactly where it has no more
 abbrev pub IsRunAdded : List ℕ → List (List Value) → ℕ → ℕ → ℕ → ℕ → List Span → ℕ → List Span → Type 0
 IsRunAdded key rows atom base start end old vars new =
-    (HasMore key rows start end × (vars ≡ base) × (new ≡ old)) ⊎
-    ((HasMore key rows start end → ⊥) × (vars ≡ base + (end - start)) × (new ≡ old ++ record { atom = atom; start = start; count = end - start; base = base } ∷ []))
+    (HasNeighbour key rows start end × (vars ≡ base) × (new ≡ old)) ⊎
+    ((HasNeighbour key rows start end → ⊥) × (vars ≡ base + (end - start)) × (new ≡ old ++ record { atom = atom; start = start; count = end - start; base = base } ∷ []))
 
 -- a whole block of a table, all of whose rows are at places
 pub record IsFullRun (key : List ℕ) (rows : List (List Value)) (atom : ℕ) (places : List ℕ) (s : Span) : Type 0 where
@@ -74,22 +74,22 @@ pub record AreFullSpans (q : Query) (db : List Table) (all : List (List RowId)) 
   pub every : (F p : ℕ) → F < length q.atoms → IsNamed all F p → HasSpan spans F p ⊎ HasFreeRow q db all F p
 
 -- the number of the row at a place of an atom, if it is in one of the spans
-abbrev pub IsNumber : List Span → ℕ → ℕ → Option ℕ → Type 0
-IsNumber spans F p None = (s : Span) → Contains spans s → IsIn s (at F p) → ⊥
-IsNumber spans F p (Some n) = (s : Span) × Contains spans s × IsIn s (at F p) × (n ≡ suc (s.base + (p - s.start)))
+abbrev pub IsRowNumber : List Span → ℕ → ℕ → Option ℕ → Type 0
+IsRowNumber spans F p None = (s : Span) → Contains spans s → IsInSpan s (at F p) → ⊥
+IsRowNumber spans F p (Some n) = (s : Span) × Contains spans s × IsInSpan s (at F p) × (n ≡ suc (s.base + (p - s.start)))
 
 -- the numbers of the rows of a witness
-abbrev pub IsPairOf : List Span → List RowId → Pair → Type 0
-IsPairOf spans names p = IsNumber spans 0 (place_at names 0) (Some p.left) × IsNumber spans 1 (place_at names 1) (Some p.right)
+abbrev pub IsRowPair : List Span → List RowId → Pair → Type 0
+IsRowPair spans names p = IsRowNumber spans 0 (place_at names 0) (Some p.left) × IsRowNumber spans 1 (place_at names 1) (Some p.right)
 
 -- the clause of a witness is added, exactly where both of its rows have numbers
 abbrev pub AddsPair : List Span → List RowId → List (List Lit) → List (List Lit) → Type 0
 AddsPair spans names old new =
-    ((p : Pair) × IsPairOf spans names p × (new ≡ old ++ not_both p ∷ [])) ⊎ (((p : Pair) → IsPairOf spans names p → ⊥) × (new ≡ old))
+    ((p : Pair) × IsRowPair spans names p × (new ≡ old ++ not_both p ∷ [])) ⊎ (((p : Pair) → IsRowPair spans names p → ⊥) × (new ≡ old))
 
 -- the clauses of these witnesses are added, exactly where both rows have numbers
 pub record AddsPairs (spans : List Span) (all : List (List RowId)) (old new : List (List Lit)) : Type 0 where
   pub pairs : List Pair
   pub is : new ≡ old ++ map not_both pairs
-  pub each : (p : Pair) → Contains pairs p → (names : List RowId) × Contains all names × IsPairOf spans names p
-  pub every : (names : List RowId) → Contains all names → ((p : Pair) × Contains pairs p × IsPairOf spans names p) ⊎ ((p : Pair) → IsPairOf spans names p → ⊥)
+  pub each : (p : Pair) → Contains pairs p → (names : List RowId) × Contains all names × IsRowPair spans names p
+  pub every : (names : List RowId) → Contains all names → ((p : Pair) × Contains pairs p × IsRowPair spans names p) ⊎ ((p : Pair) → IsRowPair spans names p → ⊥)

@@ -10,7 +10,7 @@ ghost use Rattle.weak_pairs.specs.Pairs.{IsPair};
 ghost use Rattle.repair_clauses.specs.Clauses.{positive};
 ghost use Rattle.repair_clauses.specs.Spans.{numbers_in};
 ghost use Rattle.pair_refutation.specs.Graph.{not_both};
-ghost use Rattle.pair_formula.specs.Full.{AddsPair, AddsPairs, IsNumber};
+ghost use Rattle.pair_formula.specs.Full.{AddsPair, AddsPairs, IsRowNumber};
 ghost use Rattle.pair_refutation.specs.Formulas.{IsPairFormula, IsUnsatisfiable};
 
 use crate::full::full_blocks;
@@ -35,7 +35,7 @@ fn number_in(span: &Span, place: u32) -> u32
 
 /// The number of a row, if it is in one of the spans.
 fn number_of(blocks: &Numbering, atom: u32, place: u32) -> Option<u32>
-    ensures { IsNumber blocks.now.spans atom place result }
+    ensures { IsRowNumber blocks.now.spans atom place result }
 {
     let spans = blocks.spans.as_slice();
     match find_span(blocks, atom, place) {

@@ -8,7 +8,7 @@ ghost use Rattle.cqa_model.specs.Database.{block_cmp};
 ghost use Rattle.cqa_model.specs.declared.limits.TheConstants.{MOST_ROWS};
 ghost use Rattle.join_access.specs.Listing.{names_of};
 ghost use Rattle.repair_clauses.specs.Runs.{AreRowPlaces};
-ghost use Rattle.pair_formula.specs.Full.{AreFullOf, AreFullRuns, AreFullSpans, Follows, HasMore, IsInRow, IsRunAdded};
+ghost use Rattle.pair_formula.specs.Full.{AreFullOf, AreFullRuns, AreFullSpans, FollowsInBlock, HasNeighbour, IsInRow, IsRunAdded};
 
 use cqa_value::{Items, NoMemory};
 use repair_clauses::atom_of;
@@ -23,7 +23,7 @@ use std::alloc::Global;
 fn follows(rows: &Rows<'_>, key: &[u32], place: u32, next: u32) -> bool
     requires place { place < length rows.now }
     requires next { next < length rows.now }
-    ensures { IsTrue result ↔ Follows key.now rows.now place next }
+    ensures { IsTrue result ↔ FollowsInBlock key.now rows.now place next }
 {
     next > 0 && next - 1 == place && goes_on(rows, key, place as usize, next as usize)
 }
@@ -35,7 +35,7 @@ fn run_end(rows: &Rows<'_>, key: &[u32], places: &[u32], at: usize) -> usize
     ensures some { at < result }
     ensures within { result ≤ length places.now }
     ensures run { IsInRow key.now rows.now places.now at result }
-    ensures stops { result < length places.now → Follows key.now rows.now (slice_index places.now (result - 1)) (slice_index places.now result) → ⊥ }
+    ensures stops { result < length places.now → FollowsInBlock key.now rows.now (slice_index places.now (result - 1)) (slice_index places.now result) → ⊥ }
 {
     let mut end = at + 1;
     while end < places.len() && follows(rows, key, places[end - 1], places[end]) {
@@ -48,7 +48,7 @@ fn run_end(rows: &Rows<'_>, key: &[u32], places: &[u32], at: usize) -> usize
 fn has_more(rows: &Rows<'_>, key: &[u32], start: usize, end: usize) -> bool
     requires start { start < end }
     requires end { end ≤ length rows.now }
-    ensures { IsTrue result ↔ HasMore key.now rows.now start end }
+    ensures { IsTrue result ↔ HasNeighbour key.now rows.now start end }
 {
     (start > 0 && goes_on(rows, key, start, start - 1))
         || (end < rows.len() && goes_on(rows, key, start, end))

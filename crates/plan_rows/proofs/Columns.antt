@@ -6,7 +6,7 @@ use Rattle.std.proofs.lemmas.List.{length-append, get_or_append_left, get_or_def
 use Rattle.cqa_model.specs.declared.query.ColRef.{ColRef}
 use Rattle.cqa_model.specs.declared.query.Query.{Query}
 use Rattle.cqa_model.proofs.Classic.{mem-tail}
-use Rattle.plan_rows.specs.Left.{HasShared, AreShared}
+use Rattle.plan_rows.specs.Left.{HasShared, AreSharedInParts}
 
 -- a property of each atom of a list, by places
 pub each-atom : (P : ℕ → Type 0) (atoms : List ℕ) (n : ℕ) → length atoms ≡ n → ((k : ℕ) → k < n → P (get_or atoms k 0)) → (F : ℕ) → Contains atoms F → P F
@@ -18,8 +18,8 @@ drop-member (suc n) [] F m = m
 drop-member (suc n) (G ∷ plan) F m = mem-tail F G plan (drop-member n plan F m)
 
 -- with the columns of one atom more in front
-pub shared-more : (q : Query) (order : List ℕ) (shared : List (List ColRef)) (columns : List ColRef) (count : ℕ) (front rest : List ℕ) → length shared ≡ count → front ≡ take count order → rest ≡ drop count order → AreShared q order shared → HasShared q front rest columns →
-    AreShared q order (shared ++ columns ∷ [])
+pub shared-more : (q : Query) (order : List ℕ) (shared : List (List ColRef)) (columns : List ColRef) (count : ℕ) (front rest : List ℕ) → length shared ≡ count → front ≡ take count order → rest ≡ drop count order → AreSharedInParts q order shared → HasShared q front rest columns →
+    AreSharedInParts q order (shared ++ columns ∷ [])
 shared-more q order shared columns count front rest size ef er h new before behind e l = go (dec_lt (length before) (length shared))
   where
     go : Dec (length before < length shared) → HasShared q before behind (get_or (shared ++ columns ∷ []) (length before) [])

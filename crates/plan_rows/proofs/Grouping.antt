@@ -18,7 +18,7 @@ use Rattle.key_closure.specs.declared.atom_set.AtomSet.{AtomSet}
 use Rattle.key_closure.specs.Sets.{HasAtom}
 use Rattle.plan_rows.specs.Links.{AreWays, atoms_on, links_at}
 use Rattle.plan_rows.specs.declared.links.Link.{Link}
-use Rattle.plan_rows.specs.Grouping.{AreUnlinked, AreSeparate, IsClosed, IsMerge, IsParted, IsSplit, AreAlike, GoesOnAlike, IsRegrouped}
+use Rattle.plan_rows.specs.Grouping.{AreUnlinked, AreSeparate, IsClosed, IsMerge, IsGroupParted, IsAtomSplit, AreAlikeOrders, GoesOnAlike, IsRegrouped}
 use Rattle.plan_rows.proofs.Sharing.{same-plan, same-less, same-more}
 
 unlinked-sym : (q : Query) (F G : ℕ) → AreUnlinked q F G → AreUnlinked q G F
@@ -116,7 +116,7 @@ merge-members part others (G ∷ order) F (inr (rest, e, m)) =
     )
 
 -- the two parts one after the other are like the order
-pub alike-parts : (q : Query) (part others order : List ℕ) → IsMerge part others order → AreSeparate q part others → AreAlike q order (part ++ others)
+pub alike-parts : (q : Query) (part others order : List ℕ) → IsMerge part others order → AreSeparate q part others → AreAlikeOrders q order (part ++ others)
 alike-parts q part others order m off = record {
   atoms = λ F. (
     (λ n. elim ((merge-members part others order F m).0 n) [ inl a ↦ Contains-append_left part others F a | inr b ↦ Contains-append_right part others F b ]),
@@ -127,13 +127,13 @@ alike-parts q part others order m off = record {
       let b = merged q tables row part others (part ++ others) taken (merge-append part others) off in ((λ h. b.1 (a.0 h)), (λ h. a.1 (b.0 h)));
 }
 
-pub alike-same : (q : Query) (order : List ℕ) → AreAlike q order order
+pub alike-same : (q : Query) (order : List ℕ) → AreAlikeOrders q order order
 alike-same q order = record { atoms = λ F. ((λ n. n), (λ n. n)); holds = λ tables row taken. ((λ h. h), (λ h. h)) }
 
 -- so it is behind atoms to which an order was brought
-pub alike-on : (q : Query) (order front left part others : List ℕ) → AreAlike q order (front ++ left) → IsMerge part others left → AreSeparate q part others → AreAlike q order ((front ++ part) ++ others)
+pub alike-on : (q : Query) (order front left part others : List ℕ) → AreAlikeOrders q order (front ++ left) → IsMerge part others left → AreSeparate q part others → AreAlikeOrders q order ((front ++ part) ++ others)
 alike-on q order front left part others h m off =
-    subst (AreAlike q order) (sym (append_assoc front part others)) (record {
+    subst (AreAlikeOrders q order) (sym (append_assoc front part others)) (record {
       atoms = λ F. (
         (λ n. elim (Contains-append_cases front left F ((h.atoms F).0 n)) [ inl a ↦ Contains-append_left front (part ++ others) F a | inr b ↦ Contains-append_right front (part ++ others) F (((alike-parts q part others left m off).atoms F).0 b) ]),
         (λ n. (h.atoms F).1 (elim (Contains-append_cases front (part ++ others) F n) [ inl a ↦ Contains-append_left front left F a | inr b ↦ Contains-append_right front left F (((alike-parts q part others left m off).atoms F).1 b) ])),
@@ -153,7 +153,7 @@ take-next : (xs : List ℕ) (at : ℕ) → at < length xs → take (at + 1) xs �
 take-next xs at l = ap (λ n. take n xs) (let e : at + 1 ≡ suc at = omega arith in e) ∙ take-suc xs at 0 l
 
 -- none of the atoms is parted yet
-pub parted-none : (group : AtomSet) (atoms old others : List ℕ) → others ≡ [] → IsParted group (take 0 atoms) old old others
+pub parted-none : (group : AtomSet) (atoms old others : List ℕ) → others ≡ [] → IsGroupParted group (take 0 atoms) old old others
 parted-none group atoms old others e = record {
   part = [];
   grows = sym (append-nil old);
@@ -167,7 +167,7 @@ parted-none group atoms old others e = record {
     take-none (x ∷ xs) = refl
 
 -- an atom of the group more, or one outside
-pub parted-left : (group : AtomSet) (atoms old new others next : List ℕ) (at : ℕ) → at < length atoms → IsParted group (take at atoms) old new others → HasAtom group (get_or atoms at 0) → next ≡ new ++ get_or atoms at 0 ∷ [] → IsParted group (take (at + 1) atoms) old next others
+pub parted-left : (group : AtomSet) (atoms old new others next : List ℕ) (at : ℕ) → at < length atoms → IsGroupParted group (take at atoms) old new others → HasAtom group (get_or atoms at 0) → next ≡ new ++ get_or atoms at 0 ∷ [] → IsGroupParted group (take (at + 1) atoms) old next others
 parted-left group atoms old new others next at l h has e = record {
   part = h.part ++ get_or atoms at 0 ∷ [];
   grows = e ∙ (ap (λ z. z ++ get_or atoms at 0 ∷ []) h.grows ∙ append_assoc old h.part (get_or atoms at 0 ∷ []));
@@ -179,7 +179,7 @@ parted-left group atoms old new others next at l h has e = record {
   outside = h.outside;
 }
 
-pub parted-right : (group : AtomSet) (atoms old new others next : List ℕ) (at : ℕ) → at < length atoms → IsParted group (take at atoms) old new others → (HasAtom group (get_or atoms at 0) → ⊥) → next ≡ others ++ get_or atoms at 0 ∷ [] → IsParted group (take (at + 1) atoms) old new next
+pub parted-right : (group : AtomSet) (atoms old new others next : List ℕ) (at : ℕ) → at < length atoms → IsGroupParted group (take at atoms) old new others → (HasAtom group (get_or atoms at 0) → ⊥) → next ≡ others ++ get_or atoms at 0 ∷ [] → IsGroupParted group (take (at + 1) atoms) old new next
 parted-right group atoms old new others next at l h off e = record {
   part = h.part;
   grows = h.grows;
@@ -191,8 +191,8 @@ parted-right group atoms old new others next at l h off e = record {
   ];
 }
 
-pub parted-all : (group : AtomSet) (atoms old new others : List ℕ) (at : ℕ) → length atoms ≤ at → IsParted group (take at atoms) old new others → IsParted group atoms old new others
-parted-all group atoms old new others at l h = subst (λ z. IsParted group z old new others) (take-whole atoms at l) h
+pub parted-all : (group : AtomSet) (atoms old new others : List ℕ) (at : ℕ) → length atoms ≤ at → IsGroupParted group (take at atoms) old new others → IsGroupParted group atoms old new others
+parted-all group atoms old new others at l h = subst (λ z. IsGroupParted group z old new others) (take-whole atoms at l) h
 
 -- where a closed group parts atoms, they are not linked
 pub closed-parts : (q : Query) (group : AtomSet) (atoms part others : List ℕ) → IsClosed q group atoms → ((F : ℕ) → Contains atoms F → F < length q.atoms) → IsMerge part others atoms → ((F : ℕ) → Contains part F → HasAtom group F) →
@@ -200,7 +200,7 @@ pub closed-parts : (q : Query) (group : AtomSet) (atoms part others : List ℕ) 
 closed-parts q group atoms part others closed there m inside outside F G mF mG =
     closed F G (there F ((merge-members part others atoms F m).1 (inl mF))) (inside F mF) ((merge-members part others atoms G m).1 (inr mG)) (outside G mG)
 
-pub split-of : (q : Query) (group : AtomSet) (atoms old new others : List ℕ) → IsClosed q group atoms → ((F : ℕ) → Contains atoms F → F < length q.atoms) → IsParted group atoms old new others → IsSplit q atoms old new others
+pub split-of : (q : Query) (group : AtomSet) (atoms old new others : List ℕ) → IsClosed q group atoms → ((F : ℕ) → Contains atoms F → F < length q.atoms) → IsGroupParted group atoms old new others → IsAtomSplit q atoms old new others
 split-of q group atoms old new others closed there h = record {
   part = h.part;
   grows = h.grows;
@@ -212,12 +212,12 @@ split-of q group atoms old new others closed there h = record {
 pub record IsGrouping (q : Query) (atoms old new left : List ℕ) : Type 0 where
   pub done : List ℕ
   pub grows : new ≡ old ++ done
-  pub alike : AreAlike q atoms (done ++ left)
+  pub alike : AreAlikeOrders q atoms (done ++ left)
 
 pub grouping-starts : (q : Query) (atoms old left : List ℕ) → left ≡ atoms → IsGrouping q atoms old old left
-grouping-starts q atoms old left e = record { done = []; grows = sym (append-nil old); alike = subst (AreAlike q atoms) (sym e) (alike-same q atoms) }
+grouping-starts q atoms old left e = record { done = []; grows = sym (append-nil old); alike = subst (AreAlikeOrders q atoms) (sym e) (alike-same q atoms) }
 
-pub grouping-on : (q : Query) (atoms old new left next others : List ℕ) → IsGrouping q atoms old new left → IsSplit q left new next others → IsGrouping q atoms old next others
+pub grouping-on : (q : Query) (atoms old new left next others : List ℕ) → IsGrouping q atoms old new left → IsAtomSplit q left new next others → IsGrouping q atoms old next others
 grouping-on q atoms old new left next others h s = record {
   done = h.done ++ s.part;
   grows = s.grows ∙ (ap (λ z. z ++ s.part) h.grows ∙ append_assoc old h.done s.part);

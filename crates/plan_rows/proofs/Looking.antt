@@ -9,7 +9,7 @@ use Rattle.cqa_model.specs.Query.{atom_at, rows_of}
 use Rattle.cqa_model.specs.Plan.{Placed}
 use Rattle.table_blocks.specs.Tables.{rows_at}
 use Rattle.plan_rows.specs.Links.{LeadsTo}
-use Rattle.plan_rows.specs.Places.{AreThere, IsPassed}
+use Rattle.plan_rows.specs.Places.{AreThere, IsRowPassed}
 use Rattle.plan_rows.specs.declared.places.Places.{Places}
 use Rattle.plan_rows.proofs.Reaching.{leads-may}
 
@@ -30,7 +30,7 @@ module _ (q : Query) (tables : List (List (List Value))) (row : Option (List Val
   pub up-first : IsUpTo rows (LeadsTo q tables row taken links F) P s.start
   up-first i l low f = absurd (h.others i l (inl low) f)
 
-  pub up-next : (at to : ℕ) → IsPassed s at to → IsUpTo rows (LeadsTo q tables row taken links F) P at → (LeadsTo q tables row taken links F (get_or rows at []) → P at) → IsUpTo rows (LeadsTo q tables row taken links F) P to
+  pub up-next : (at to : ℕ) → IsRowPassed s at to → IsUpTo rows (LeadsTo q tables row taken links F) P at → (LeadsTo q tables row taken links F (get_or rows at []) → P at) → IsUpTo rows (LeadsTo q tables row taken links F) P to
   up-next at to passed before here i l low f = elim (cases_lt i at) [
     | inl less ↦ before i l less f
     | inr high ↦ elim (cases_lt at i) [

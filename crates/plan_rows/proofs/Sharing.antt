@@ -20,12 +20,12 @@ use Rattle.cqa_model.specs.Variables.{AreLinked}
 use Rattle.cqa_model.specs.Plan.{Placed, Fits, PlanHolds, answer_at}
 use Rattle.cqa_model.proofs.Classic.{mem-head, mem-tail, mem-nil, mem-cases, map_agree}
 use Rattle.cqa_model.proofs.BrokenKey.{same_number}
-use Rattle.plan_rows.specs.Taking.{placed, taken_value, AreOfAtoms}
-use Rattle.plan_rows.specs.Fitting.{Agrees, AgreesAll, Suits}
-use Rattle.plan_rows.specs.Left.{IsSettled}
+use Rattle.plan_rows.specs.Taking.{placed, taken_value, AreRowsOfAtoms}
+use Rattle.plan_rows.specs.Fitting.{AgreesInFirst, AgreesAll, Suits}
+use Rattle.plan_rows.specs.Left.{IsAnswerSettled}
 use Rattle.table_blocks.specs.Once.{value_set}
 use Rattle.plan_rows.specs.Over.{query_of, rows_before}
-use Rattle.plan_rows.specs.Underway.{atoms_of, IsUnderway, IsKey, IsRight}
+use Rattle.plan_rows.specs.Underway.{atoms_of, IsUnderway, IsMemoKey, IsRight}
 use Rattle.plan_rows.specs.declared.course.Course.{Course}
 use Rattle.plan_rows.specs.declared.memo.Memo.{Memo}
 use Rattle.plan_rows.specs.declared.steps.Step.{Step}
@@ -75,13 +75,13 @@ length-atoms (s ∷ ss) =
     omega (arith, l, h)
 
 -- the atoms of the rows taken and those that are left are of the order, and so of the query
-pub underway-taken : (s : Course) (taken : List Placed) (plan : List ℕ) → IsUnderway s taken plan → AreOfAtoms s.setting.bound.now.query.now taken
+pub underway-taken : (s : Course) (taken : List Placed) (plan : List ℕ) → IsUnderway s taken plan → AreRowsOfAtoms s.setting.bound.now.query.now taken
 underway-taken s taken plan u t m = s.atoms t.atom (subst (λ order. Contains order t.atom) (sym u.place) (Contains-append_left (atoms_of taken) plan t.atom (in-atoms taken t m)))
 
 pub first-atom : (s : Course) (taken : List Placed) (F : ℕ) (rest : List ℕ) → IsUnderway s taken (F ∷ rest) → F < length s.setting.bound.now.query.now.atoms
 first-atom s taken F rest u = s.atoms F (subst (λ order. Contains order F) (sym u.place) (Contains-append_right (atoms_of taken) (F ∷ rest) F (mem-head F rest)))
 
-pub step-taken : (s : Step) → AreOfAtoms (query_of s) (rows_before s)
+pub step-taken : (s : Step) → AreRowsOfAtoms (query_of s) (rows_before s)
 step-taken s = underway-taken s.course.now (placed s.taken.now) (s.atom ∷ s.rest.now) s.underway
 
 -- with one row more
@@ -133,10 +133,10 @@ pub same-less : (q : Query) (plan : List ℕ) (taken : List Placed) (u : Placed)
 unfolding SameFor
 same-less q plan taken u F m x all t n = all t (mem-tail t u taken n)
 
-pub same-more : (q : Query) (plan : List ℕ) (taken : List Placed) (u : Placed) → ((F : ℕ) → Contains plan F → (x : List Value) → Agrees q F x u.atom u.row (atom_at q F).width) → SameFor q plan taken (u ∷ taken)
+pub same-more : (q : Query) (plan : List ℕ) (taken : List Placed) (u : Placed) → ((F : ℕ) → Contains plan F → (x : List Value) → AgreesInFirst q F x u.atom u.row (atom_at q F).width) → SameFor q plan taken (u ∷ taken)
 unfolding SameFor
 same-more q plan taken u agrees F m x all t n = elim (mem-cases t u taken n) [
-  | inl e ↦ subst (λ (z : Placed). Agrees q F x z.atom z.row (atom_at q F).width) e (agrees F m x)
+  | inl e ↦ subst (λ (z : Placed). AgreesInFirst q F x z.atom z.row (atom_at q F).width) e (agrees F m x)
   | inr k ↦ all t k
 ]
 
@@ -154,7 +154,7 @@ same-answers q tables row other taken (F ∷ plan) same (x, m, all) = (
 )
 
 -- a rest without answer columns holds for any candidate
-pub settled-plan : (q : Query) (tables : List (List (List Value))) (row other : List Value) (taken : List Placed) (plan : List ℕ) → IsSettled q plan → PlanHolds q tables row taken plan → PlanHolds q tables other taken plan
+pub settled-plan : (q : Query) (tables : List (List (List Value))) (row other : List Value) (taken : List Placed) (plan : List ℕ) → IsAnswerSettled q plan → PlanHolds q tables row taken plan → PlanHolds q tables other taken plan
 settled-plan q tables row other taken plan settled =
     same-answers q tables row other taken plan
     (λ F m i l e. absurd (All-contains (λ c. c.atom ≢ F) q.answer (answer_at q i) (All-contains (λ G. All (λ c. c.atom ≢ G) q.answer) plan F settled m) (Contains-get_or q.answer i (record { atom = 0; col = 0 }) l) e))
@@ -184,7 +184,7 @@ tail-cases false false row other e = inr (inr e)
 
 -- what holds under a key holds wherever the key is the same
 same-rest : (s : Course) (taken others : List Placed) (plan : List ℕ) (row other key : List Value) → IsUnderway s taken plan → IsUnderway s others plan → atoms_of taken ≡ atoms_of others →
-    IsKey s taken plan row key → IsKey s others plan other key →
+    IsMemoKey s taken plan row key → IsMemoKey s others plan other key →
     PlanHolds s.setting.bound.now.query.now (stored s.setting.bound.now.db.now) row taken plan → PlanHolds s.setting.bound.now.query.now (stored s.setting.bound.now.db.now) other others plan
 same-rest s taken others plan row other key u v atoms k l h =
     elim (tail-cases k.settled l.settled row other split.1) [
@@ -217,11 +217,11 @@ same-rest s taken others plan row other key u v atoms k l h =
     moved = same-plan s.setting.bound.now.query.now (stored s.setting.bound.now.db.now) row taken others plan (same-shared s taken others plan u v atoms k.there split.0) h
 
 same-key : (s : Course) (taken others : List Placed) (plan left : List ℕ) (row other key : List Value) → IsUnderway s taken plan → IsUnderway s others left →
-    IsKey s taken plan row key → IsKey s others left other key →
+    IsMemoKey s taken plan row key → IsMemoKey s others left other key →
     PlanHolds s.setting.bound.now.query.now (stored s.setting.bound.now.db.now) row taken plan → PlanHolds s.setting.bound.now.query.now (stored s.setting.bound.now.db.now) other others left
 same-key s taken others plan left row other key u v k l h =
     subst (λ p. PlanHolds s.setting.bound.now.query.now (stored s.setting.bound.now.db.now) other others p) split.1
-    (same-rest s taken others plan row other key u (subst (IsUnderway s others) (sym split.1) v) split.0 k (subst (λ p. IsKey s others p other key) (sym split.1) l) h)
+    (same-rest s taken others plan row other key u (subst (IsUnderway s others) (sym split.1) v) split.0 k (subst (λ p. IsMemoKey s others p other key) (sym split.1) l) h)
   where
     count : length plan ≡ length left
     count = same_number (length plan) (length left) (same_head (Int (pos (length plan))) (Int (pos (length left))) _ _ (sym k.is ∙ l.is))
@@ -246,8 +246,8 @@ underway-starts s = record { agreed = λ t u m. absurd (mem-nil t m); place = re
 
 -- the key that was made
 pub key-made : (s : Course) (taken : List Placed) (plan : List ℕ) (row : List Value) (columns item : List ColRef) (place : ℕ) (settled : Bool) (r : Option (List Value)) → IsUnderway s taken plan → place ≡ length s.order.now - length plan → place < length s.shared.now →
-    item ≡ get_or s.shared.now place item → columns ≡ item → IsTrue settled ↔ IsSettled s.setting.bound.now.query.now plan → IfSome r (λ key. key ≡ Int (pos (length plan)) ∷ map (taken_value taken) columns ++ (if settled then [] else row)) →
-    IfSome r (λ key. IsKey s taken plan row key)
+    item ≡ get_or s.shared.now place item → columns ≡ item → IsTrue settled ↔ IsAnswerSettled s.setting.bound.now.query.now plan → IfSome r (λ key. key ≡ Int (pos (length plan)) ∷ map (taken_value taken) columns ++ (if settled then [] else row)) →
+    IfSome r (λ key. IsMemoKey s taken plan row key)
 key-made s taken plan row columns item place settled None u e l i c says made = tt
 key-made s taken plan row columns item place settled (Some key) u e l i c says made = record {
   settled = settled;
@@ -263,14 +263,14 @@ pub none-right : (s : Course) (memo : Memo) → ((key : List Value) → get row_
 none-right s memo n k b g = absurd (none-some b (sym (n k) ∙ g))
 
 -- one decision more is remembered, or not
-pub keeps-right : (s : Course) (old new : Memo) (taken : List Placed) (plan : List ℕ) (row key : List Value) (held : Bool) → IsRight s old → IsUnderway s taken plan → IsKey s taken plan row key →
+pub keeps-right : (s : Course) (old new : Memo) (taken : List Placed) (plan : List ℕ) (row key : List Value) (held : Bool) → IsRight s old → IsUnderway s taken plan → IsMemoKey s taken plan row key →
     IsTrue held ↔ PlanHolds s.setting.bound.now.query.now (stored s.setting.bound.now.db.now) row taken plan →
     ((k : List Value) (b : Bool) → get row_cmp new.known k ≡ Some b → (get row_cmp old.known k ≡ Some b) ⊎ ((k ≡ key) × (b ≡ held))) → IsRight s new
 keeps-right s old new taken plan row key held right u is decided kept k b g = elim (kept k b g) [
   | inl o ↦ right k b o
   | inr p ↦ (λ others left other v l. (
-    (λ t. same-key s taken others plan left row other key u v is (subst (λ z. IsKey s others left other z) p.0 l) (decided.0 (sym p.1 ∙ t))),
-    (λ h. p.1 ∙ decided.1 (same-key s others taken left plan other row key v u (subst (λ z. IsKey s others left other z) p.0 l) is h)),
+    (λ t. same-key s taken others plan left row other key u v is (subst (λ z. IsMemoKey s others left other z) p.0 l) (decided.0 (sym p.1 ∙ t))),
+    (λ h. p.1 ∙ decided.1 (same-key s others taken left plan other row key v u (subst (λ z. IsMemoKey s others left other z) p.0 l) is h)),
   ))
 ]
 

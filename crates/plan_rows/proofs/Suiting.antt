@@ -11,8 +11,8 @@ use Rattle.cqa_model.specs.Plan.{Placed, Fits, TestHolds}
 use Rattle.cqa_model.proofs.Classic.{mem-head, mem-tail, mem-cases}
 use Rattle.cqa_model.proofs.Views.{linked-self}
 use Rattle.cqa_value.specs.Values.{nothing}
-use Rattle.plan_rows.specs.Taking.{AreOfAtoms, AreAgreed}
-use Rattle.plan_rows.specs.Fitting.{Agrees, AgreesAll, Suits, GivesAt}
+use Rattle.plan_rows.specs.Taking.{AreRowsOfAtoms, AreAgreed}
+use Rattle.plan_rows.specs.Fitting.{AgreesInFirst, AgreesAll, Suits, GivesAt}
 
 pub all_of : {A : Type 0} (P : A → Type 0) (xs : List A) → All P xs → (x : A) → Contains xs x → P x
 all_of P xs h x m = All-contains P xs x h m
@@ -20,23 +20,23 @@ all_of P xs h x m = All-contains P xs x h m
 pub of_all : {A : Type 0} (P : A → Type 0) (xs : List A) → ((x : A) → Contains xs x → P x) → All P xs
 of_all P xs h = All-weaker (λ x. Contains xs x) P h xs (All-contains_itself xs)
 
-pub atoms-head : (q : Query) (taken : List Placed) (t : Placed) (ts : List Placed) → taken ≡ t ∷ ts → AreOfAtoms q taken → t.atom < length q.atoms
+pub atoms-head : (q : Query) (taken : List Placed) (t : Placed) (ts : List Placed) → taken ≡ t ∷ ts → AreRowsOfAtoms q taken → t.atom < length q.atoms
 atoms-head q taken t ts e h = h t (subst (λ z. Contains z t) (sym e) (mem-head t ts))
 
-pub atoms-tail : (q : Query) (taken : List Placed) (t : Placed) (ts : List Placed) → taken ≡ t ∷ ts → AreOfAtoms q taken → AreOfAtoms q ts
+pub atoms-tail : (q : Query) (taken : List Placed) (t : Placed) (ts : List Placed) → taken ≡ t ∷ ts → AreRowsOfAtoms q taken → AreRowsOfAtoms q ts
 atoms-tail q taken t ts e h s m = h s (subst (λ z. Contains z s) (sym e) (mem-tail s t ts m))
 
-pub atoms-more : (q : Query) (t : Placed) (ts : List Placed) → t.atom < length q.atoms → AreOfAtoms q ts → AreOfAtoms q (t ∷ ts)
+pub atoms-more : (q : Query) (t : Placed) (ts : List Placed) → t.atom < length q.atoms → AreRowsOfAtoms q ts → AreRowsOfAtoms q (t ∷ ts)
 atoms-more q t ts l h s m = elim (mem-cases s t ts m) [ inl e ↦ subst (λ z. z.atom < length q.atoms) e l | inr n ↦ h s n ]
 
 module _ (q : Query) (F : ℕ) (x : List Value) (taken : List Placed) (t : Placed) (ts : List Placed) (e : taken ≡ t ∷ ts) where
-  pub agrees-more : (a : Bool) → (a ≡ true) ↔ AgreesAll q F x ts → Agrees q F x t.atom t.row (atom_at q F).width → (a ≡ true) ↔ AgreesAll q F x taken
+  pub agrees-more : (a : Bool) → (a ≡ true) ↔ AgreesAll q F x ts → AgreesInFirst q F x t.atom t.row (atom_at q F).width → (a ≡ true) ↔ AgreesAll q F x taken
   agrees-more a h g = (
-    (λ p s m. elim (mem-cases s t ts (subst (λ z. Contains z s) e m)) [ inl f ↦ subst (λ z. Agrees q F x z.atom z.row (atom_at q F).width) f g | inr n ↦ h.0 p s n ]),
+    (λ p s m. elim (mem-cases s t ts (subst (λ z. Contains z s) e m)) [ inl f ↦ subst (λ z. AgreesInFirst q F x z.atom z.row (atom_at q F).width) f g | inr n ↦ h.0 p s n ]),
     (λ all. h.1 (λ s m. all s (subst (λ z. Contains z s) (sym e) (mem-tail s t ts m)))),
   )
 
-  pub agrees-not : (a : Bool) → a ≡ false → (a ≡ true) ↔ Agrees q F x t.atom t.row (atom_at q F).width → (a ≡ true) ↔ AgreesAll q F x taken
+  pub agrees-not : (a : Bool) → a ≡ false → (a ≡ true) ↔ AgreesInFirst q F x t.atom t.row (atom_at q F).width → (a ≡ true) ↔ AgreesAll q F x taken
   agrees-not a f h = ((λ p. absurd (false≢true (sym f ∙ p))), (λ all. h.1 (all t (subst (λ z. Contains z t) (sym e) (mem-head t ts)))))
 
 module _ (q : Query) (taken : List Placed) (F : ℕ) (x : List Value) where

@@ -11,7 +11,7 @@ use Rattle.cqa_model.specs.declared.query.Query.{Query}
 use Rattle.cqa_model.specs.Query.{atom_at}
 use Rattle.cqa_model.specs.Plan.{Placed, TestHolds}
 use Rattle.cqa_model.proofs.Classic.{mem-head, mem-tail}
-use Rattle.plan_rows.specs.Fitting.{Agrees, AgreesAll, Suits, GivesAt}
+use Rattle.plan_rows.specs.Fitting.{AgreesInFirst, AgreesAll, Suits, GivesAt}
 use Rattle.plan_rows.specs.Knowing.{MayFit}
 
 -- a value that is read of a row, if there is one
@@ -25,7 +25,7 @@ told-map P Q (Some v) h p = h v.now p
 
 -- the first of the rows taken, and the others
 module _ (q : Query) (F : ℕ) (y : List Value) (taken : List Placed) (t : Placed) (ts : List Placed) (e : taken ≡ t ∷ ts) (all : AgreesAll q F y taken) where
-  pub agrees-first : Agrees q F y t.atom t.row (atom_at q F).width
+  pub agrees-first : AgreesInFirst q F y t.atom t.row (atom_at q F).width
   agrees-first = all t (subst (λ z. Contains z t) (sym e) (mem-head t ts))
 
   pub agrees-others : AgreesAll q F y ts

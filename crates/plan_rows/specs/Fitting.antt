@@ -14,12 +14,12 @@ abbrev pub ColumnAgrees : Query → List Value → ColRef → List Value → ℕ
 ColumnAgrees q x c y G n = (j : ℕ) → j < n → AreLinked q c (record { atom = G; col = j }) → slice_index_or x c.col nothing ≡ slice_index_or y j nothing
 
 -- so it is for the first n columns of F
-abbrev pub Agrees : Query → ℕ → List Value → ℕ → List Value → ℕ → Type 0
-Agrees q F x G y n = (i : ℕ) → i < n → ColumnAgrees q x (record { atom = F; col = i }) y G (atom_at q G).width
+abbrev pub AgreesInFirst : Query → ℕ → List Value → ℕ → List Value → ℕ → Type 0
+AgreesInFirst q F x G y n = (i : ℕ) → i < n → ColumnAgrees q x (record { atom = F; col = i }) y G (atom_at q G).width
 
 -- a row of F agrees with each of these
 abbrev pub AgreesAll : Query → ℕ → List Value → List Placed → Type 0
-AgreesAll q F x taken = (t : Placed) → Contains taken t → Agrees q F x t.atom t.row (atom_at q F).width
+AgreesAll q F x taken = (t : Placed) → Contains taken t → AgreesInFirst q F x t.atom t.row (atom_at q F).width
 
 -- a row fits but for the candidate
 pub record Suits (q : Query) (taken : List Placed) (F : ℕ) (x : List Value) : Type 0 where

@@ -26,7 +26,7 @@ IsMerge part others [] = (part ≡ []) × (others ≡ [])
 IsMerge part others (F ∷ order) = ((rest : List ℕ) × (part ≡ F ∷ rest) × IsMerge rest others order) ⊎ ((rest : List ℕ) × (others ≡ F ∷ rest) × IsMerge part rest order)
 
 -- atoms are parted into those of a group, by which a list goes on, and the others
-pub record IsParted (group : AtomSet) (atoms old new others : List ℕ) : Type 0 where
+pub record IsGroupParted (group : AtomSet) (atoms old new others : List ℕ) : Type 0 where
   pub part : List ℕ
   pub grows : new ≡ old ++ part
   pub merge : IsMerge part others atoms
@@ -34,22 +34,22 @@ pub record IsParted (group : AtomSet) (atoms old new others : List ℕ) : Type 0
   pub outside : (F : ℕ) → Contains others F → HasAtom group F → ⊥
 
 -- atoms are parted into some by which a list goes on, and others that are not linked to these
-pub record IsSplit (q : Query) (atoms old new others : List ℕ) : Type 0 where
+pub record IsAtomSplit (q : Query) (atoms old new others : List ℕ) : Type 0 where
   pub part : List ℕ
   pub grows : new ≡ old ++ part
   pub merge : IsMerge part others atoms
   pub apart : AreSeparate q part others
 
 -- two orders have the same atoms, and hold for the same candidates over the same tables, whatever rows were taken
-pub record AreAlike (q : Query) (order other : List ℕ) : Type 0 where
+pub record AreAlikeOrders (q : Query) (order other : List ℕ) : Type 0 where
   pub atoms : (F : ℕ) → Contains order F ↔ Contains other F
   pub holds : (tables : List (List (List Value))) (row : List Value) (taken : List Placed) → PlanHolds q tables row taken order ↔ PlanHolds q tables row taken other
 
 -- a list goes on by an order that is like another
 abbrev pub GoesOnAlike : Query → List ℕ → List ℕ → List ℕ → Type 0
-GoesOnAlike q atoms old new = (more : List ℕ) × (new ≡ old ++ more) × AreAlike q atoms more
+GoesOnAlike q atoms old new = (more : List ℕ) × (new ≡ old ++ more) × AreAlikeOrders q atoms more
 
 -- two orders have the same first atom, and what is behind it is alike
 abbrev pub IsRegrouped : Query → List ℕ → List ℕ → Type 0
 IsRegrouped q [] other = other ≡ []
-IsRegrouped q (F ∷ order) other = (rest : List ℕ) × (other ≡ F ∷ rest) × AreAlike q order rest
+IsRegrouped q (F ∷ order) other = (rest : List ℕ) × (other ≡ F ∷ rest) × AreAlikeOrders q order rest

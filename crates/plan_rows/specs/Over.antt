@@ -14,8 +14,8 @@ abbrev pub query_of : Step → Query
 query_of s = s.course.now.setting.bound.now.query.now
 
 -- the stored rows of all tables
-abbrev pub tables_of : Step → List (List (List Value))
-tables_of s = stored s.course.now.setting.bound.now.db.now
+abbrev pub stored_rows : Step → List (List (List Value))
+stored_rows s = stored s.course.now.setting.bound.now.db.now
 
 -- the rows taken, the last first
 abbrev pub rows_before : Step → List Placed

@@ -14,5 +14,5 @@ pub record AreThere (q : Query) (tables : List (List (List Value))) (row : Optio
   pub known : (i : ℕ) → i < length rows → LeadsTo q tables row taken links F (slice_index_or rows i []) → IsWanted s.wanted i
 
 -- no row between two places is wanted
-abbrev pub IsPassed : Places → ℕ → ℕ → Type 0
-IsPassed s from to = NoneWanted s.wanted (from + 1) to
+abbrev pub IsRowPassed : Places → ℕ → ℕ → Type 0
+IsRowPassed s from to = NoneWanted s.wanted (from + 1) to

@@ -19,8 +19,8 @@ taken_value [] c = nothing
 taken_value (t ∷ ts) c = if t.atom == c.atom then slice_index_or t.row c.col nothing else taken_value ts c
 
 -- the rows are of atoms of the query
-abbrev pub AreOfAtoms : Query → List Placed → Type 0
-AreOfAtoms q taken = (t : Placed) → Contains taken t → t.atom < length q.atoms
+abbrev pub AreRowsOfAtoms : Query → List Placed → Type 0
+AreRowsOfAtoms q taken = (t : Placed) → Contains taken t → t.atom < length q.atoms
 
 -- rows of one atom agree in its columns
 abbrev pub AreAgreed : Query → List Placed → Type 0

@@ -9,7 +9,7 @@ use Rattle.cqa_model.specs.Database.{stored}
 use Rattle.cqa_model.specs.Plan.{Placed, PlanHolds}
 use Rattle.table_blocks.specs.Once.{value_set}
 use Rattle.plan_rows.specs.Taking.{taken_value, AreAgreed}
-use Rattle.plan_rows.specs.Left.{IsSettled}
+use Rattle.plan_rows.specs.Left.{IsAnswerSettled}
 use Rattle.plan_rows.specs.declared.course.Course.{Course}
 use Rattle.plan_rows.specs.declared.memo.Memo.{Memo}
 
@@ -29,15 +29,15 @@ underway_once s rows left = hlevel (value_set, props)
 
 -- by what it is found again whether a rest of a plan holds: its length, the values of the rows taken that it shares, and
 -- the candidate unless no answer column is of its atoms
-pub record IsKey (s : Course) (taken : List Placed) (plan : List ℕ) (row key : List Value) : Type 0 where
+pub record IsMemoKey (s : Course) (taken : List Placed) (plan : List ℕ) (row key : List Value) : Type 0 where
   pub settled : Bool
-  pub says : IsTrue settled ↔ IsSettled s.setting.bound.now.query.now plan
+  pub says : IsTrue settled ↔ IsAnswerSettled s.setting.bound.now.query.now plan
   pub there : length taken < length s.shared.now
   pub is : key ≡ Int (pos (length plan)) ∷ map (taken_value taken) (slice_index_or s.shared.now (length taken) []) ++ (if settled then [] else row)
 
 -- what was decided under a key is so for each rest, rows taken and candidate of that key
 abbrev pub IsRemembered : Course → List Value → Bool → Type 0
-IsRemembered s key held = (taken : List Placed) (plan : List ℕ) (row : List Value) → IsUnderway s taken plan → IsKey s taken plan row key → IsTrue held ↔ PlanHolds s.setting.bound.now.query.now (stored s.setting.bound.now.db.now) row taken plan
+IsRemembered s key held = (taken : List Placed) (plan : List ℕ) (row : List Value) → IsUnderway s taken plan → IsMemoKey s taken plan row key → IsTrue held ↔ PlanHolds s.setting.bound.now.query.now (stored s.setting.bound.now.db.now) row taken plan
 
 -- all that is remembered was decided
 abbrev pub IsRight : Course → Memo → Type 0

@@ -2,7 +2,7 @@
 
 ghost use Rattle.std.specs.Prelude.{◌≤◌, ◌*◌, length};
 ghost use Rattle.cqa_model.specs.declared.limits.TheConstants.{MOST_ROWS};
-ghost use Rattle.plan_rows.specs.Left.{AreAtoms, AreShared};
+ghost use Rattle.plan_rows.specs.Left.{AreQueryAtoms, AreSharedInParts};
 ghost use Rattle.plan_rows.specs.Links.{AreWays};
 
 use crate::links::Link;
@@ -22,8 +22,8 @@ pub struct Course<'a> {
     pub order: &'a [u32],
     pub shared: &'a [Items<ColRef>],
     pub ways: &'a [Items<Link<'a>>],
-    pub ghost atoms: { AreAtoms setting.bound.now.query.now order.now },
-    pub ghost shares: { ∥ AreShared setting.bound.now.query.now order.now shared.now ∥₁ },
+    pub ghost atoms: { AreQueryAtoms setting.bound.now.query.now order.now },
+    pub ghost shares: { ∥ AreSharedInParts setting.bound.now.query.now order.now shared.now ∥₁ },
     pub ghost linked: { ∥ AreWays setting.bound.now.query.now setting.bound.now.db.now order.now ways.now ∥₁ },
 }
 

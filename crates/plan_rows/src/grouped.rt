@@ -4,9 +4,9 @@
 ghost use Rattle.std.specs.Prelude.{◌≡◌, ◌<◌, ℕ, [], IfOk, IfSome, OnOk, IsFalse, MatchOption, Contains, length};
 ghost use Rattle.cqa_model.specs.declared.limits.TheConstants.{MOST_ATOMS};
 ghost use Rattle.key_closure.specs.Sets.{HasAtom};
-ghost use Rattle.plan_rows.specs.Left.{AreAtoms};
+ghost use Rattle.plan_rows.specs.Left.{AreQueryAtoms};
 ghost use Rattle.plan_rows.specs.Links.{AreWays};
-ghost use Rattle.plan_rows.specs.Grouping.{AreUnlinked, IsClosed, IsParted, IsSplit, GoesOnAlike, IsRegrouped};
+ghost use Rattle.plan_rows.specs.Grouping.{AreUnlinked, IsClosed, IsGroupParted, IsAtomSplit, GoesOnAlike, IsRegrouped};
 
 use crate::links::{Link, are_behind};
 use crate::setting::Setting;
@@ -45,7 +45,7 @@ fn is_joined(setting: &Setting<'_>, group: &AtomSet, atom: u32) -> bool
 
 /// The first of some atoms that is outside of a group and joined to one of it.
 fn next_joined(setting: &Setting<'_>, group: &AtomSet, atoms: &[u32]) -> Option<u32>
-    requires { AreAtoms setting.now.bound.now.query.now atoms.now }
+    requires { AreQueryAtoms setting.now.bound.now.query.now atoms.now }
     ensures { MatchOption result (IsClosed setting.now.bound.now.query.now group.now atoms.now) (λ F. F < length setting.now.bound.now.query.now.atoms) }
 {
     for atom in atoms {
@@ -59,7 +59,7 @@ fn next_joined(setting: &Setting<'_>, group: &AtomSet, atoms: &[u32]) -> Option<
 /// An atom with those of others that chains of joins link to it.
 fn group_of(setting: &Setting<'_>, atom: u32, atoms: &[u32]) -> AtomSet
     requires atom { atom < length setting.now.bound.now.query.now.atoms }
-    requires atoms { AreAtoms setting.now.bound.now.query.now atoms.now }
+    requires atoms { AreQueryAtoms setting.now.bound.now.query.now atoms.now }
     ensures { IsClosed setting.now.bound.now.query.now result atoms.now }
 {
     let mut group = AtomSet::new();
@@ -83,7 +83,7 @@ fn part(
 ) -> Result<(), NoMemory>
     requires small { (F : ℕ) → Contains atoms.now F → F < MOST_ATOMS }
     requires none { others.old.items ≡ [] }
-    ensures { OnOk result (IsParted group.now atoms.now order.old.items order.new.items others.new.items) }
+    ensures { OnOk result (IsGroupParted group.now atoms.now order.old.items order.new.items others.new.items) }
 {
     for atom in atoms {
         if group.has(*atom) {
@@ -103,8 +103,8 @@ fn add_group(
     order: &mut Vec<u32>,
 ) -> Result<Vec<u32>, NoMemory>
     requires atom { atom < length setting.now.bound.now.query.now.atoms }
-    requires atoms { AreAtoms setting.now.bound.now.query.now atoms.now }
-    ensures { IfOk result (λ others. IsSplit setting.now.bound.now.query.now atoms.now order.old.items order.new.items others.items) }
+    requires atoms { AreQueryAtoms setting.now.bound.now.query.now atoms.now }
+    ensures { IfOk result (λ others. IsAtomSplit setting.now.bound.now.query.now atoms.now order.old.items order.new.items others.items) }
 {
     let group = group_of(setting, atom, atoms);
     let mut others = Vec::new(setting.alloc);
@@ -120,7 +120,7 @@ fn add_groups(
     order: &mut Vec<u32>,
 ) -> Result<(), NoMemory>
     requires first { first < length setting.now.bound.now.query.now.atoms }
-    requires atoms { AreAtoms setting.now.bound.now.query.now atoms.now }
+    requires atoms { AreQueryAtoms setting.now.bound.now.query.now atoms.now }
     ensures { OnOk result (GoesOnAlike setting.now.bound.now.query.now atoms.now order.old.items order.new.items) }
 {
     let mut left = Vec::from_slice(setting.alloc, atoms)?;
@@ -140,7 +140,7 @@ fn add_groups(
 
 /// An order of the same atoms that begins with the same one, and in which those that chains of joins link stand together.
 fn grouped(setting: &Setting<'_>, order: &[u32]) -> Result<Vec<u32>, NoMemory>
-    requires { AreAtoms setting.now.bound.now.query.now order.now }
+    requires { AreQueryAtoms setting.now.bound.now.query.now order.now }
     ensures { IfOk result (λ other. IsRegrouped setting.now.bound.now.query.now order.now other.items) }
 {
     let mut other = Vec::new(setting.alloc);
@@ -160,7 +160,7 @@ pub fn grouped_along(
     order: &[u32],
     ways: &[Items<Link<'_>>],
 ) -> Option<Vec<u32>>
-    requires order { AreAtoms setting.now.bound.now.query.now order.now }
+    requires order { AreQueryAtoms setting.now.bound.now.query.now order.now }
     requires ways { AreWays setting.now.bound.now.query.now setting.now.bound.now.db.now order.now ways.now }
     ensures same { IfSome result (λ other. IsRegrouped setting.now.bound.now.query.now order.now other.items) }
     ensures ways { IfSome result (λ other. AreWays setting.now.bound.now.query.now setting.now.bound.now.db.now other.items ways.now) }

@@ -8,7 +8,7 @@ ghost use Rattle.cqa_model.specs.Shape.{IsInRange};
 ghost use Rattle.cqa_model.specs.Query.{atom_at};
 ghost use Rattle.cqa_model.specs.Plan.{TestHolds};
 ghost use Rattle.row_order.specs.Spans.{first_key};
-ghost use Rattle.plan_rows.specs.Taking.{placed, AreOfAtoms};
+ghost use Rattle.plan_rows.specs.Taking.{placed, AreRowsOfAtoms};
 ghost use Rattle.plan_rows.specs.Fitting.{ColumnAgrees, AgreesAll, GivesAt};
 ghost use Rattle.plan_rows.specs.Knowing.{MayFit};
 ghost use Rattle.plan_rows.specs.Over.{look_query, look_taken};
@@ -73,7 +73,7 @@ fn told_by_row<'b>(
 /// The value that some row taken tells of a column.
 fn told_by_taken<'b>(setting: &Setting<'_>, taken: &Taken<'b>, column: ColRef) -> Option<&'b Value>
     requires column { IsInRange setting.now.bound.now.query.now.atoms column }
-    requires taken { AreOfAtoms setting.now.bound.now.query.now (placed taken.now) }
+    requires taken { AreRowsOfAtoms setting.now.bound.now.query.now (placed taken.now) }
     ensures { IfSome result (λ value. (y : List Cell) → AgreesAll setting.now.bound.now.query.now column.atom y (placed taken.now) → slice_index_or y column.col nothing ≡ value.now) }
 {
     match taken {

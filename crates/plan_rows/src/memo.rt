@@ -7,7 +7,7 @@ ghost use Rattle.cqa_value.specs.declared.value.Value.{Value as Cell};
 ghost use Rattle.cqa_value.specs.declared.value.Value.TheVariants.{Int};
 ghost use Rattle.cqa_value.specs.Values.{row_cmp};
 ghost use Rattle.plan_rows.specs.Taking.{placed, taken_value};
-ghost use Rattle.plan_rows.specs.Underway.{IsKey};
+ghost use Rattle.plan_rows.specs.Underway.{IsMemoKey};
 
 use crate::course::{rests_to_keep, turns_before_memo};
 use crate::setting::Setting;
@@ -119,7 +119,7 @@ impl Memo {
     /// By what it is remembered whether a rest of a plan holds; `None` where there is no key, and before the turns are used
     /// up, unless the rest depends neither on the rows taken nor on a candidate, if there are many.
     pub fn key(&self, rest: &Rest<'_>, row: &Row) -> Option<Row>
-        ensures { IfSome result (IsKey rest.now.course.now (placed rest.now.taken.now) rest.now.plan.now row.now) }
+        ensures { IfSome result (IsMemoKey rest.now.course.now (placed rest.now.taken.now) rest.now.plan.now row.now) }
     {
         let course = rest.course;
         let plan = rest.plan;

@@ -35,7 +35,7 @@ pub fn key_columns(query: &Query, atom: u32) -> &[u32]
 
 impl<'x> Places<'x> {
     ghost use Rattle.plan_rows.specs.Links.{AreLinks, atoms_on};
-    ghost use Rattle.plan_rows.specs.Places.{AreThere, IsPassed};
+    ghost use Rattle.plan_rows.specs.Places.{AreThere, IsRowPassed};
 
     /// The places of the rows with the key values that are known.
     fn by_key(look: &Look<'x>, row: Option<&'x Row>) -> Places<'x>
@@ -138,7 +138,7 @@ impl<'x> Places<'x> {
         requires { at < self.now.end }
         ensures later { at < result }
         ensures within { result ≤ self.now.end }
-        ensures passed { IsPassed self.now at result }
+        ensures passed { IsRowPassed self.now at result }
     {
         self.wanted.after(self.end, at)
     }

@@ -1,7 +1,7 @@
 //! Whether the rows taken settle the answer: no answer column is of an atom that is left.
 
 ghost use Rattle.std.specs.Prelude.{◌≢◌, ◌↔◌, All, IsTrue};
-ghost use Rattle.plan_rows.specs.Left.{IsSettled};
+ghost use Rattle.plan_rows.specs.Left.{IsAnswerSettled};
 
 use cqa_model::{ColRef, Query};
 
@@ -14,7 +14,7 @@ fn is_settled(columns: &[ColRef], atom: u32) -> bool
 
 /// Whether no answer column is of one of these atoms.
 pub fn are_settled(query: &Query, atoms: &[u32]) -> bool
-    ensures { IsTrue result ↔ IsSettled query.now atoms.now }
+    ensures { IsTrue result ↔ IsAnswerSettled query.now atoms.now }
 {
     atoms
         .iter()

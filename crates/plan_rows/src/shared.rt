@@ -5,7 +5,7 @@ ghost use Rattle.cqa_model.specs.declared.query.ColRef.{ColRef as Column};
 ghost use Rattle.cqa_model.specs.Shape.{IsInRange};
 ghost use Rattle.cqa_model.specs.Query.{atom_at};
 ghost use Rattle.cqa_model.specs.Variables.{AreLinked};
-ghost use Rattle.plan_rows.specs.Left.{AreAtoms, IsTold, HasShared, AreShared};
+ghost use Rattle.plan_rows.specs.Left.{AreQueryAtoms, IsTold, HasShared, AreSharedInParts};
 
 use crate::setting::Setting;
 use cqa_model::ColRef;
@@ -28,7 +28,7 @@ pub(crate) fn is_linked_to(setting: &Setting<'_>, atom: u32, column: ColRef) -> 
 
 /// Whether one of these atoms has a column that is linked to this one.
 pub fn is_told(setting: &Setting<'_>, atoms: &[u32], column: ColRef) -> bool
-    requires atoms { AreAtoms setting.now.bound.now.query.now atoms.now }
+    requires atoms { AreQueryAtoms setting.now.bound.now.query.now atoms.now }
     requires column { IsInRange setting.now.bound.now.query.now.atoms column }
     ensures { IsTrue result ↔ IsTold setting.now.bound.now.query.now atoms.now column }
 {
@@ -48,7 +48,7 @@ fn add_column(
     columns: &mut Vec<ColRef>,
 ) -> Result<(), NoMemory>
     requires column { IsInRange setting.now.bound.now.query.now.atoms column }
-    requires others { AreAtoms setting.now.bound.now.query.now others.now }
+    requires others { AreQueryAtoms setting.now.bound.now.query.now others.now }
     ensures kept { OnOk result ((c : Column) → Contains columns.old.items c → Contains columns.new.items c) }
     ensures added { OnOk result (IsTold setting.now.bound.now.query.now others.now column → Contains columns.new.items column) }
 {
@@ -67,7 +67,7 @@ fn add_shared(
     columns: &mut Vec<ColRef>,
 ) -> Result<(), NoMemory>
     requires atom { atom < length setting.now.bound.now.query.now.atoms }
-    requires others { AreAtoms setting.now.bound.now.query.now others.now }
+    requires others { AreQueryAtoms setting.now.bound.now.query.now others.now }
     ensures kept { OnOk result ((c : Column) → Contains columns.old.items c → Contains columns.new.items c) }
     ensures added { OnOk result ((j : ℕ) → j < (atom_at setting.now.bound.now.query.now atom).width → IsTold setting.now.bound.now.query.now others.now (record { atom = atom; col = j }) → Contains columns.new.items (record { atom = atom; col = j })) }
 {
@@ -79,8 +79,8 @@ fn add_shared(
 
 /// The columns of atoms that are linked to columns of others.
 fn shared_of(setting: &Setting<'_>, front: &[u32], rest: &[u32]) -> Result<Items<ColRef>, NoMemory>
-    requires front { AreAtoms setting.now.bound.now.query.now front.now }
-    requires rest { AreAtoms setting.now.bound.now.query.now rest.now }
+    requires front { AreQueryAtoms setting.now.bound.now.query.now front.now }
+    requires rest { AreQueryAtoms setting.now.bound.now.query.now rest.now }
     ensures { IfOk result (HasShared setting.now.bound.now.query.now front.now rest.now) }
 {
     let mut columns = Vec::new(setting.alloc);
@@ -96,8 +96,8 @@ fn shared_of(setting: &Setting<'_>, front: &[u32], rest: &[u32]) -> Result<Items
 ///
 /// `NoMemory` where memory is refused.
 pub fn shared_columns(setting: &Setting<'_>, order: &[u32]) -> Result<Vec<Items<ColRef>>, NoMemory>
-    requires { AreAtoms setting.now.bound.now.query.now order.now }
-    ensures { IfOk result (λ shared. AreShared setting.now.bound.now.query.now order.now shared.items) }
+    requires { AreQueryAtoms setting.now.bound.now.query.now order.now }
+    ensures { IfOk result (λ shared. AreSharedInParts setting.now.bound.now.query.now order.now shared.items) }
 {
     let mut shared = Vec::new(setting.alloc);
     for count in 0..order.len() {
@@ -109,8 +109,8 @@ pub fn shared_columns(setting: &Setting<'_>, order: &[u32]) -> Result<Vec<Items<
 
 /// The same lists, or none where memory is refused.
 pub fn shared_or_none(setting: &Setting<'_>, order: &[u32]) -> Vec<Items<ColRef>>
-    requires { AreAtoms setting.now.bound.now.query.now order.now }
-    ensures { AreShared setting.now.bound.now.query.now order.now result.items }
+    requires { AreQueryAtoms setting.now.bound.now.query.now order.now }
+    ensures { AreSharedInParts setting.now.bound.now.query.now order.now result.items }
 {
     match shared_columns(setting, order) {
         Ok(shared) => shared,

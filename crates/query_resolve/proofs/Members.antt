@@ -10,7 +10,7 @@ use Rattle.cqa_value.specs.declared.memory.Fail.TheVariants.{NoMemory, Refused}
 use Rattle.cqa_value.proofs.Words.{all_zip_push}
 use Rattle.refusals.specs.declared.refusal.Refusal.{Refusal}
 use Rattle.refusals.specs.Refusal.{first_of, IsRefusedAs, Checked}
-use Rattle.query_resolve.specs.Checks.{first_fault, by_number}
+use Rattle.query_resolve.specs.Checks.{first_fault, fault_by_number}
 
 -- a refusal by the first of two checks, or by the second where the first passes
 pub refused_first : (e : Fail Refusal) (a b : Option Refusal) → IsRefusedAs e a → IsRefusedAs e (first_of a b)
@@ -84,6 +84,6 @@ finished {check = check} {R = R} {xs = xs} {at = at} {out = out} so over same = 
 
 -- a check by the number of a member
 pub numbered : {A T : Type 0} (check : ℕ → A → Option Refusal) (xs : List A) (at : ℕ) (x : A) {r : Result T (Fail Refusal)} {P : T → Type 0} →
-    at < length xs → Checked r (check (at + 1) x) P → Checked r (by_number check (take at xs) x) P
+    at < length xs → Checked r (check (at + 1) x) P → Checked r (fault_by_number check (take at xs) x) P
 numbered check xs at x {r = r} {P = P} inside checked =
     subst (λ n. Checked r (check (n + 1) x) P) (sym (length-take-le at xs (omega (arith, inside)))) checked

@@ -28,7 +28,7 @@ use Rattle.refusals.specs.Refusal.{first_of}
 use Rattle.table_blocks.specs.Tables.{table_named}
 use Rattle.refusals.proofs.Faults.{both_none}
 use Rattle.query_resolve.specs.Names.{name_place, columns_at}
-use Rattle.query_resolve.specs.Checks.{fault_unless, first_fault, by_number, kinds_fault, from_fault, column_fault, column_kind, cond_fault, size_fault, where_fault}
+use Rattle.query_resolve.specs.Checks.{fault_unless, first_fault, fault_by_number, kinds_fault, from_fault, column_fault, column_kind, cond_fault, size_fault, where_fault}
 use Rattle.query_resolve.specs.Resolved.{IsAtomOf, IsColumnOf, IsCondOf, IsQueryOf}
 use Rattle.query_resolve.proofs.Lookups.{passes, at_most, none_is, named_at, named_apart, passes_at, zip_at, zip_length}
 use Rattle.query_resolve.proofs.Scopes.{table_there, as_many, atom_there, table_of_column, column_there, kind_found}
@@ -180,7 +180,7 @@ query_of db valid select q parts =
         strict = λ F inside. strict-consistent db valid q F (within F inside) (of F inside).key (of F inside).mark;
         kinds = λ k h.
             let found = zip_found (IsCondOf db select.tables) select.conds q.conds k parts.meant h in
-            let passes = passes_at (by_number (cond_fault db select.tables)) select.conds found.0 found.1 parts.sound found.2 in
+            let passes = passes_at (fault_by_number (cond_fault db select.tables)) select.conds found.0 found.1 parts.sound found.2 in
             kinds_agree db select.tables q parts.are (length (take found.0 select.conds) + 1) found.1 k found.4
             (ap (cond_fault db select.tables (length (take found.0 select.conds) + 1)) (sym found.3) ∙ passes);
       };

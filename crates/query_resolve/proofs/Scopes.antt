@@ -14,14 +14,14 @@ use Rattle.cqa_model.specs.Shape.{column_at, nth_atom}
 use Rattle.spj_syntax.specs.declared.tree.RawCol.{RawCol}
 use Rattle.refusals.specs.Refusal.{first_of}
 use Rattle.table_blocks.specs.Tables.{table_named}
-use Rattle.query_resolve.specs.Names.{name_place, column_named, has_column, kind_named, columns_at, columns_in, scope, atom_columns, having, owners, atom_scope, IsNextOwner}
+use Rattle.query_resolve.specs.Names.{name_place, column_named, has_column, kind_named, columns_at, columns_named, scope, atom_columns, having, owners, atom_scope, IsNextOwner}
 use Rattle.query_resolve.specs.Checks.{fault_unless, owner_fault, column_fault, column_kind, table_of}
 use Rattle.query_resolve.specs.Resolved.{IsAtomOf, IsAtomFor, IsColumnOf}
 use Rattle.query_resolve.proofs.Members.{drop_next}
 use Rattle.query_resolve.proofs.Lookups.{column_inside, named_at, zip_at, zip_length}
 
 -- the columns of a table that is found by its name
-pub columns-found : (db : List Table) (name : List ℕ) (table : ℕ) → table_named db name ≡ Some table → columns_in db name ≡ columns_at db table
+pub columns-found : (db : List Table) (name : List ℕ) (table : ℕ) → table_named db name ≡ Some table → columns_named db name ≡ columns_at db table
 columns-found db name table e = ap (λ o. Rattle.std.specs.Option.unwrap_or (Rattle.std.specs.Option.option_map (columns_at db) o) []) e
 
 pub table_there : (db : List Table) (name : List ℕ) (table : ℕ) → table_named db name ≡ Some table → table < length db
@@ -52,16 +52,16 @@ module _ (db : List Table) (names : List (List ℕ)) (atoms : List Atom) (are : 
   columns_seen table atom d columns e same = same ∙ columns-read atom d (atom_inside table atom e)
 
 -- the columns of the table that a column is written with
-pub columns-named : (db : List Table) (names : List (List ℕ)) (table : List ℕ) (atom : ℕ) → name_place names table ≡ Some atom → atom_columns db names atom ≡ columns_in db table
+pub columns-named : (db : List Table) (names : List (List ℕ)) (table : List ℕ) (atom : ℕ) → name_place names table ≡ Some atom → atom_columns db names atom ≡ columns_named db table
 columns-named db names table atom e =
     let found = named_at (λ (n : List ℕ). n) [] names table atom e in
-    get_or-map (columns_in db) names atom [] [] found.0 ∙ ap (columns_in db) found.1
+    get_or-map (columns_named db) names atom [] [] found.0 ∙ ap (columns_named db) found.1
 
 -- a column that is written with its table
 module _ (db : List Table) (names : List (List ℕ)) (table name : List ℕ) (atom : ℕ) (found : name_place names table ≡ Some atom) (columns : List Column) (same : columns ≡ atom_columns db names atom) where
   table_passes : column_fault db names (Some table) name ≡ fault_unless (has_column columns name) (UnknownColumn (Some table) name)
   table_passes =
-      ap (λ o. first_of (fault_unless (is_some o) (UnknownTable table)) (fault_unless (has_column (columns_in db table) name) (UnknownColumn (Some table) name))) found
+      ap (λ o. first_of (fault_unless (is_some o) (UnknownTable table)) (fault_unless (has_column (columns_named db table) name) (UnknownColumn (Some table) name))) found
       ∙ ap (λ l. fault_unless (has_column l name) (UnknownColumn (Some table) name)) (sym (same ∙ columns-named db names table atom found))
 
   pub column_passes : (col : ℕ) → column_named columns name ≡ Some col → column_fault db names (Some table) name ≡ None
@@ -158,7 +158,7 @@ pub kind_is : (db : List Table) (names : List (List ℕ)) (table : Option (List 
     → column_fault db names table name ≡ None → (column_at (atom_columns db names atom) col).kind ≡ kind_named (table_of db names table name) name
 kind_is db names (Some table) name atom col for place valid =
     let same = columns-named db names table atom for in
-    ap (λ l. (column_at l col).kind) same ∙ ap (λ o. (column_at (columns_in db table) (Rattle.std.specs.Option.unwrap_or o 0)).kind) (sym (ap (λ l. column_named l name) (sym same) ∙ place))
+    ap (λ l. (column_at l col).kind) same ∙ ap (λ o. (column_at (columns_named db table) (Rattle.std.specs.Option.unwrap_or o 0)).kind) (sym (ap (λ l. column_named l name) (sym same) ∙ place))
 kind_is db names None name atom col for place valid =
     let one = one_owner (owners db names name) name valid in
     let same : atom_columns db names atom ≡ one.0 = the_one (λ columns. has_column columns name) [] refl (scope db names) one.0 atom one.1 (ap is_some place) in
@@ -173,7 +173,7 @@ module _ (db : List Table) (names : List (List ℕ)) (atoms : List Atom) (are : 
     | inr past ↦ (
         let inside = column_inside (atom_columns db names col.atom) written.name col.col is.place in
         let many = as_many db names atoms are in
-        let long = length-map names (columns_in db) in
+        let long = length-map names (columns_named db) in
         let none = ap length (get_or_past (scope db names) col.atom [] (omega (arith, past, many, long))) in
         absurd (omega (arith, inside, none))
         )

@@ -25,7 +25,7 @@ use Rattle.cqa_model.specs.Query.{kind_at}
 use Rattle.refusals.specs.Refusal.{first_of}
 use Rattle.table_blocks.specs.Tables.{table_named}
 use Rattle.refusals.specs.Kinds.{same_kind, row_fault}
-use Rattle.query_resolve.specs.Names.{name_place, has_column, kind_named, columns_at, columns_in, owners}
+use Rattle.query_resolve.specs.Names.{name_place, has_column, kind_named, columns_at, columns_named, owners}
 
 -- the refusal of a check that fails
 abbrev pub fault_unless : Bool → Refusal → Option Refusal
@@ -37,8 +37,8 @@ first_fault check before [] = None
 first_fault check before (x ∷ xs) = first_of (check before x) (first_fault check (before ++ x ∷ []) xs)
 
 -- a check by a member's number, from 1
-abbrev pub by_number : {A : Type 0} → (ℕ → A → Option Refusal) → List A → A → Option Refusal
-by_number check before x = check (length before + 1) x
+abbrev pub fault_by_number : {A : Type 0} → (ℕ → A → Option Refusal) → List A → A → Option Refusal
+fault_by_number check before x = check (length before + 1) x
 
 -- two kinds are one, in the condition of a number
 abbrev pub kinds_fault : ℕ → Kind → Kind → Option Refusal
@@ -78,7 +78,7 @@ abbrev pub test_fault : List Column → ℕ → RawTest → Option Refusal
 test_fault columns number test = first_of (known_fault columns test.col) (kinds_fault number (kind_named columns test.col) (kind_of test.value))
 
 abbrev pub tests_fault : List Table → ℕ → List RawTest → Option Refusal
-tests_fault db table tests = first_fault (by_number (test_fault (columns_at db table))) [] tests
+tests_fault db table tests = first_fault (fault_by_number (test_fault (columns_at db table))) [] tests
 
 -- the column of a goal is there, and that of a sum is one of integers: else it is refused with the number 0, since tests have
 -- those from 1
@@ -107,12 +107,12 @@ owner_fault (owner ∷ other ∷ more) name = Some (AmbiguousColumn name)
 abbrev pub column_fault : List Table → List (List ℕ) → Option (List ℕ) → List ℕ → Option Refusal
 column_fault db names None name = owner_fault (owners db names name) name
 column_fault db names (Some table) name =
-    first_of (fault_unless (is_some (name_place names table)) (UnknownTable table)) (fault_unless (has_column (columns_in db table) name) (UnknownColumn (Some table) name))
+    first_of (fault_unless (is_some (name_place names table)) (UnknownTable table)) (fault_unless (has_column (columns_named db table) name) (UnknownColumn (Some table) name))
 
 -- the columns of the table that a column is of
 abbrev pub table_of : List Table → List (List ℕ) → Option (List ℕ) → List ℕ → List Column
 table_of db names None name = slice_index_or (owners db names name) 0 []
-table_of db names (Some table) name = columns_in db table
+table_of db names (Some table) name = columns_named db table
 
 abbrev pub column_kind : List Table → List (List ℕ) → RawCol → Kind
 column_kind db names col = kind_named (table_of db names col.table col.name) col.name
@@ -132,7 +132,7 @@ abbrev pub select_fault : List Table → List (List ℕ) → List RawCol → Opt
 select_fault db names columns = first_fault (λ before (col : RawCol). column_fault db names col.table col.name) [] columns
 
 abbrev pub where_fault : List Table → List (List ℕ) → List RawCond → Option Refusal
-where_fault db names conds = first_fault (by_number (cond_fault db names)) [] conds
+where_fault db names conds = first_fault (fault_by_number (cond_fault db names)) [] conds
 
 abbrev pub query_fault : List Table → Select → Option Refusal
 query_fault db select =

@@ -19,8 +19,8 @@ abbrev pub column_named : List Column → List ℕ → Option ℕ
 column_named columns name = position (λ (column : Column). pointwise nat_eq name column.name) columns
 
 -- the places of the columns with these names
-abbrev pub places_of : List Column → List (List ℕ) → List ℕ
-places_of columns names = map (λ name. unwrap_or (column_named columns name) 0) names
+abbrev pub column_places : List Column → List (List ℕ) → List ℕ
+column_places columns names = map (λ name. unwrap_or (column_named columns name) 0) names
 
 abbrev pub has_column : List Column → List ℕ → Bool
 has_column columns name = is_some (column_named columns name)
@@ -34,12 +34,12 @@ abbrev pub columns_at : List Table → ℕ → List Column
 columns_at db table = slice_index_or (map (λ (t : Table). t.schema.columns) db) table []
 
 -- the columns of the table with a name; a table that isn't there has none
-abbrev pub columns_in : List Table → List ℕ → List Column
-columns_in db name = unwrap_or (option_map (columns_at db) (table_named db name)) []
+abbrev pub columns_named : List Table → List ℕ → List Column
+columns_named db name = unwrap_or (option_map (columns_at db) (table_named db name)) []
 
 -- the columns of each table that a query names
 abbrev pub scope : List Table → List (List ℕ) → List (List Column)
-scope db names = map (columns_in db) names
+scope db names = map (columns_named db) names
 
 -- those of the atom at a place
 abbrev pub atom_columns : List Table → List (List ℕ) → ℕ → List Column

@@ -4,7 +4,7 @@ ghost use Rattle.std.specs.Prelude.{◌<◌, ◌≤◌, ◌^◌, [], length};
 ghost use Rattle.std.specs.List.{AllZip};
 ghost use Rattle.cqa_model.specs.declared.limits.TheConstants.{MOST_COLUMNS};
 ghost use Rattle.refusals.specs.Refusal.{Checked};
-ghost use Rattle.query_resolve.specs.Checks.{first_fault, by_number, test_fault, tests_fault};
+ghost use Rattle.query_resolve.specs.Checks.{first_fault, fault_by_number, test_fault, tests_fault};
 ghost use Rattle.query_resolve.specs.Resolved.{IsTestOf, AreTestsOf};
 
 use crate::condition::check_kinds;
@@ -43,7 +43,7 @@ fn tests_of(
 ) -> Result<Items<ColumnTest>, Fail<Refusal>>
     requires narrow { length columns.now ≤ MOST_COLUMNS }
     requires few { length tests.now < 2 ^ 32 }
-    ensures { Checked result (first_fault (by_number (test_fault columns.now)) [] tests.now) (AllZip (IsTestOf columns.now) tests.now) }
+    ensures { Checked result (first_fault (fault_by_number (test_fault columns.now)) [] tests.now) (AllZip (IsTestOf columns.now) tests.now) }
 {
     let mut resolved = Vec::with_capacity(alloc, tests.len())?;
     for (at, test) in tests.iter().enumerate() {

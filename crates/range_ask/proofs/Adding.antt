@@ -10,9 +10,9 @@ use Rattle.cqa_value.specs.declared.value.Value.{Value}
 use Rattle.cqa_value.proofs.Words.{clash, cases_next}
 use Rattle.range_ask.specs.declared.total.Total.{Total}
 use Rattle.range_ask.specs.Picks.{IsCheapest, IsDearest}
-use Rattle.range_ask.specs.Finding.{row_at}
-use Rattle.range_ask.specs.Walking.{IsWithin}
-use Rattle.range_ask.specs.Tallying.{IsSureOf, NoneOf, IsEither, AtMostℤ, AtLeastℤ, IsSum, AreSums, IsPart, AreAdding}
+use Rattle.range_ask.specs.Finding.{row_in_block}
+use Rattle.range_ask.specs.Walking.{IsWithinBlocks}
+use Rattle.range_ask.specs.Tallying.{IsSureOf, NoneOf, IsEither, AtMostℤ, AtLeastℤ, IsSum, AreSums, IsOpenPart, AreAdding}
 use Rattle.join_access.proofs.Naming.{zip-push}
 use Rattle.range_ask.proofs.Chosen.{place}
 use Rattle.range_ask.proofs.Walked.{total-push, within-more}
@@ -21,58 +21,58 @@ abbrev pub AddsNone : (List Value → ℤ) → (List Value → Bool) → Type 0
 AddsNone f p = (x : List Value) → p x ≡ false → f x ≡ pos 0
 
 sum-more : (R : List (List Value) → List Value → Type 0) (f : List Value → ℤ) (front : List (List (List Value))) (block : List (List Value)) (n m : ℤ) (y : List Value) →
-    IsSum R f front n → R block y → IsWithin 1 (f y) → m ≡ n +ℤ f y → IsSum R f (front ++ block ∷ []) m
+    IsSum R f front n → R block y → IsWithinBlocks 1 (f y) → m ≡ n +ℤ f y → IsSum R f (front ++ block ∷ []) m
 sum-more R f front block n m y h r small e = record {
   picks = h.picks ++ y ∷ [];
   picked = zip-push R front h.picks block y h.picked r;
   is = e ∙ (ap (λ k. k +ℤ f y) h.is ∙ sym (total-push f h.picks y));
-  within = subst (λ k. IsWithin k m) (sym (length-append front (block ∷ []))) (within-more (length front) n (f y) m h.within small e);
+  within = subst (λ k. IsWithinBlocks k m) (sym (length-append front (block ∷ []))) (within-more (length front) n (f y) m h.within small e);
 }
 
 -- ---- one part, whichever way sums are compared
 
 module _ (Le : ℤ → ℤ → Type 0) (le-trans : (a b c : ℤ) → Le a b → Le b c → Le a c) (f : List Value → ℤ) (p : List Value → Bool) (sure : Bool) (block : List (List Value)) (n : ℕ) where
-  pub part-open : AddsNone f p → IsSureOf sure p block → n < length block → p (row_at block n) ≡ true → NoneOf p block n → (worth other part : ℤ) → f (row_at block n) ≡ worth →
-      (sure ≡ true → other ≡ worth) → (sure ≡ false → other ≡ pos 0) → IsEither Le other worth part → IsWithin 1 part → IsPart Le f sure block (suc n) part
+  pub part-open : AddsNone f p → IsSureOf sure p block → n < length block → p (row_in_block block n) ≡ true → NoneOf p block n → (worth other part : ℤ) → f (row_in_block block n) ≡ worth →
+      (sure ≡ true → other ≡ worth) → (sure ≡ false → other ≡ pos 0) → IsEither Le other worth part → IsWithinBlocks 1 part → IsOpenPart Le f sure block (suc n) part
   part-open adds h l t none worth other part e when_sure when_not c small = record {
     small = small;
-    there = elim c.one [ inl o ↦ from sure refl o | inr w ↦ (row_at block n, here, e ∙ sym w) ];
+    there = elim c.one [ inl o ↦ from sure refl o | inr w ↦ (row_in_block block n, here, e ∙ sym w) ];
     bound = λ i k. elim (cases_next i n (omega (arith, k))) [
       | inl lt ↦ below i lt sure refl
-      | inr same ↦ subst (Le part) (sym (ap (λ k. f (row_at block k)) same ∙ e)) c.second
+      | inr same ↦ subst (Le part) (sym (ap (λ k. f (row_in_block block k)) same ∙ e)) c.second
     ];
     loose = λ s. subst (Le part) (when_not s) c.first;
   }
     where
-      here : Contains block (row_at block n)
+      here : Contains block (row_in_block block n)
       here = Contains-get_or block n [] l
 
       from : (b : Bool) → sure ≡ b → part ≡ other → (y : List Value) × Contains block y × (f y ≡ part)
-      from true s o = (row_at block n, here, e ∙ sym (o ∙ when_sure s))
+      from true s o = (row_in_block block n, here, e ∙ sym (o ∙ when_sure s))
       from false s o = let y = h.misses s in (y.0, y.1, adds y.0 y.2 ∙ sym (o ∙ when_not s))
 
-      below : (i : ℕ) → i < n → (b : Bool) → sure ≡ b → Le part (f (row_at block i))
-      below i lt true s = absurd (clash (p (row_at block i)) (h.together s (row_at block n) (row_at block i) here (Contains-get_or block i [] (omega (arith, lt, l))) t) (none i lt))
-      below i lt false s = subst (Le part) (when_not s ∙ sym (adds (row_at block i) (none i lt))) c.first
+      below : (i : ℕ) → i < n → (b : Bool) → sure ≡ b → Le part (f (row_in_block block i))
+      below i lt true s = absurd (clash (p (row_in_block block i)) (h.together s (row_in_block block n) (row_in_block block i) here (Contains-get_or block i [] (omega (arith, lt, l))) t) (none i lt))
+      below i lt false s = subst (Le part) (when_not s ∙ sym (adds (row_in_block block i) (none i lt))) c.first
 
-  pub part-more : n < length block → (worth old part : ℤ) → f (row_at block n) ≡ worth → IsPart Le f sure block n old → IsEither Le old worth part → IsWithin 1 part → IsPart Le f sure block (suc n) part
+  pub part-more : n < length block → (worth old part : ℤ) → f (row_in_block block n) ≡ worth → IsOpenPart Le f sure block n old → IsEither Le old worth part → IsWithinBlocks 1 part → IsOpenPart Le f sure block (suc n) part
   part-more l worth old part e h c small = record {
     small = small;
-    there = elim c.one [ inl o ↦ (h.there.0, h.there.1, h.there.2 ∙ sym o) | inr w ↦ (row_at block n, Contains-get_or block n [] l, e ∙ sym w) ];
+    there = elim c.one [ inl o ↦ (h.there.0, h.there.1, h.there.2 ∙ sym o) | inr w ↦ (row_in_block block n, Contains-get_or block n [] l, e ∙ sym w) ];
     bound = λ i k. elim (cases_next i n (omega (arith, k))) [
-      | inl lt ↦ le-trans part old (f (row_at block i)) c.first (h.bound i lt)
-      | inr same ↦ subst (Le part) (sym (ap (λ k. f (row_at block k)) same ∙ e)) c.second
+      | inl lt ↦ le-trans part old (f (row_in_block block i)) c.first (h.bound i lt)
+      | inr same ↦ subst (Le part) (sym (ap (λ k. f (row_in_block block k)) same ∙ e)) c.second
     ];
     loose = λ s. le-trans part old (pos 0) c.first (h.loose s);
   }
 
-  pub part-miss : (part : ℤ) → f (row_at block n) ≡ pos 0 → (sure ≡ true → ⊥) → IsPart Le f sure block n part → IsPart Le f sure block (suc n) part
+  pub part-miss : (part : ℤ) → f (row_in_block block n) ≡ pos 0 → (sure ≡ true → ⊥) → IsOpenPart Le f sure block n part → IsOpenPart Le f sure block (suc n) part
   part-miss part e unsure h = record {
     small = h.small;
     there = h.there;
     bound = λ i k. elim (cases_next i n (omega (arith, k))) [
       | inl lt ↦ h.bound i lt
-      | inr same ↦ subst (Le part) (sym (ap (λ k. f (row_at block k)) same ∙ e)) (zero-bound sure refl)
+      | inr same ↦ subst (Le part) (sym (ap (λ k. f (row_in_block block k)) same ∙ e)) (zero-bound sure refl)
     ];
     loose = h.loose;
   }
@@ -81,7 +81,7 @@ module _ (Le : ℤ → ℤ → Type 0) (le-trans : (a b c : ℤ) → Le a b → 
       zero-bound true s = absurd (unsure s)
       zero-bound false s = h.loose s
 
-part-end : (Le : ℤ → ℤ → Type 0) (f : List Value → ℤ) (sure : Bool) (block : List (List Value)) (part : ℤ) (h : IsPart Le f sure block (length block) part) → (y : List Value) → Contains block y → Le (f h.there.0) (f y)
+part-end : (Le : ℤ → ℤ → Type 0) (f : List Value → ℤ) (sure : Bool) (block : List (List Value)) (part : ℤ) (h : IsOpenPart Le f sure block (length block) part) → (y : List Value) → Contains block y → Le (f h.there.0) (f y)
 part-end Le f sure block part h y m = let i = place block y m in subst (λ n. Le n (f y)) (sym h.there.2) (subst (λ z. Le part (f z)) i.2 (h.bound i.0 i.1))
 
 pub most-trans : (a b c : ℤ) → AtMostℤ a b → AtMostℤ b c → AtMostℤ a c
@@ -99,19 +99,19 @@ module _ (f : List Value → ℤ) (p : List Value → Bool) (adds : AddsNone f p
   pub adding-begin : (t : Total) → AreSums f front t → AreAdding f p sure front block 0 t
   adding-begin t s = inl (s, λ i l. absurd (omega (arith, l)))
 
-  pub adding-miss : (n : ℕ) (t : Total) → n < length block → p (row_at block n) ≡ false → AreAdding f p sure front block n t → AreAdding f p sure front block (suc n) t
-  adding-miss n t l e (inl (s, none)) = inl (s, λ i k. elim (cases_next i n (omega (arith, k))) [ inl lt ↦ none i lt | inr same ↦ ap (λ k. p (row_at block k)) same ∙ e ])
+  pub adding-miss : (n : ℕ) (t : Total) → n < length block → p (row_in_block block n) ≡ false → AreAdding f p sure front block n t → AreAdding f p sure front block (suc n) t
+  adding-miss n t l e (inl (s, none)) = inl (s, λ i k. elim (cases_next i n (omega (arith, k))) [ inl lt ↦ none i lt | inr same ↦ ap (λ k. p (row_in_block block k)) same ∙ e ])
   adding-miss n t l e (inr o) = inr (record {
     number_is = o.number_is;
     low = o.low;
     high = o.high;
-    least = part-miss AtMostℤ most-trans f p sure block n t.least (adds (row_at block n) e) unsure o.least;
-    most = part-miss AtLeastℤ least-trans f p sure block n t.most (adds (row_at block n) e) unsure o.most;
+    least = part-miss AtMostℤ most-trans f p sure block n t.least (adds (row_in_block block n) e) unsure o.least;
+    most = part-miss AtLeastℤ least-trans f p sure block n t.most (adds (row_in_block block n) e) unsure o.most;
     all = o.all;
   })
     where
       unsure : sure ≡ true → ⊥
-      unsure s = clash (p (row_at block n)) (o.all s (row_at block n) (Contains-get_or block n [] l)) e
+      unsure s = clash (p (row_in_block block n)) (o.all s (row_in_block block n) (Contains-get_or block n [] l)) e
 
   pub adding-end : 0 < length block → (t : Total) → AreAdding f p sure front block (length block) t → AreSums f (front ++ block ∷ []) t
   adding-end some t (inl (s, none)) = record {
@@ -121,13 +121,13 @@ module _ (f : List Value → ℤ) (p : List Value → Bool) (adds : AddsNone f p
   }
     where
       y : List Value
-      y = row_at block 0
+      y = row_in_block block 0
 
       my : Contains block y
       my = Contains-get_or block 0 [] some
 
       zero-at : (z : List Value) → Contains block z → f z ≡ pos 0
-      zero-at z m = let i = place block z m in subst (λ x. f x ≡ pos 0) i.2 (adds (row_at block i.0) (none i.0 i.1))
+      zero-at z m = let i = place block z m in subst (λ x. f x ≡ pos 0) i.2 (adds (row_in_block block i.0) (none i.0 i.1))
 
       zeros : (z : List Value) → Contains block z → f y ≤ℤ f z
       zeros z m = let a = zero-at y my in let b = zero-at z m in omega (arith, ints, a, b)
@@ -135,26 +135,26 @@ module _ (f : List Value → ℤ) (p : List Value → Bool) (adds : AddsNone f p
       zeros-back : (z : List Value) → Contains block z → f z ≤ℤ f y
       zeros-back z m = let a = zero-at y my in let b = zero-at z m in omega (arith, ints, a, b)
 
-      small : IsWithin 1 (f y)
+      small : IsWithinBlocks 1 (f y)
       small = let a = zero-at y my in record { above = omega (arith, ints, a); below = omega (arith, ints, a) }
 
       same : (n : ℤ) → n ≡ n +ℤ f y
       same n = let a = zero-at y my in omega (arith, ints, a)
   adding-end some t (inr o) = record {
     low = sum-more (IsCheapest f) f front block t.low (t.low +ℤ t.least) o.least.there.0 o.low (record { there = o.least.there.1; least = λ z m. part-end AtMostℤ f sure block t.least o.least z m })
-        (subst (IsWithin 1) (sym o.least.there.2) o.least.small) (ap (λ n. t.low +ℤ n) (sym o.least.there.2));
+        (subst (IsWithinBlocks 1) (sym o.least.there.2) o.least.small) (ap (λ n. t.low +ℤ n) (sym o.least.there.2));
     high = sum-more (IsDearest f) f front block t.high (t.high +ℤ t.most) o.most.there.0 o.high (record { there = o.most.there.1; most = λ z m. part-end AtLeastℤ f sure block t.most o.most z m })
-        (subst (IsWithin 1) (sym o.most.there.2) o.most.small) (ap (λ n. t.high +ℤ n) (sym o.most.there.2));
+        (subst (IsWithinBlocks 1) (sym o.most.there.2) o.most.small) (ap (λ n. t.high +ℤ n) (sym o.most.there.2));
     early = (let l = o.number_is in let e = front-longer in omega (arith, l, e));
   }
 
-  module _ (n : ℕ) (l : n < length block) (t : p (row_at block n) ≡ true) (number : ℕ) (is : number ≡ suc (length front)) (worth : ℤ) (e : f (row_at block n) ≡ worth) where
+  module _ (n : ℕ) (l : n < length block) (t : p (row_in_block block n) ≡ true) (number : ℕ) (is : number ≡ suc (length front)) (worth : ℤ) (e : f (row_in_block block n) ≡ worth) where
     met-all : sure ≡ true → (y : List Value) → Contains block y → p y ≡ true
-    met-all s y m = h.together s (row_at block n) y (Contains-get_or block n [] l) m t
+    met-all s y m = h.together s (row_in_block block n) y (Contains-get_or block n [] l) m t
 
     -- the block gave rows of the group before
     pub adding-more : (old new : Total) → old.number ≡ number → new.number ≡ old.number → new.low ≡ old.low → new.high ≡ old.high → IsEither AtMostℤ old.least worth new.least → IsEither AtLeastℤ old.most worth new.most →
-        IsWithin 1 new.least → IsWithin 1 new.most → AreAdding f p sure front block n old → AreAdding f p sure front block (suc n) new
+        IsWithinBlocks 1 new.least → IsWithinBlocks 1 new.most → AreAdding f p sure front block n old → AreAdding f p sure front block (suc n) new
     adding-more old new here a b c least most sl sm (inl (s, none)) = absurd (let z = s.early in omega (arith, z, here, is))
     adding-more old new here a b c least most sl sm (inr o) = inr (record {
       number_is = a ∙ o.number_is;
@@ -167,8 +167,8 @@ module _ (f : List Value → ℤ) (p : List Value → Bool) (adds : AddsNone f p
 
     -- it gives the first
     pub adding-open : (old new : Total) → (old.number ≡ number → ⊥) → (other : ℤ) → (sure ≡ true → other ≡ worth) → (sure ≡ false → other ≡ pos 0) → new.number ≡ number →
-        (IsWithin (length front) (old.low +ℤ old.least) → new.low ≡ old.low +ℤ old.least) → (IsWithin (length front) (old.high +ℤ old.most) → new.high ≡ old.high +ℤ old.most) →
-        IsEither AtMostℤ other worth new.least → IsEither AtLeastℤ other worth new.most → IsWithin 1 new.least → IsWithin 1 new.most → AreAdding f p sure front block n old → AreAdding f p sure front block (suc n) new
+        (IsWithinBlocks (length front) (old.low +ℤ old.least) → new.low ≡ old.low +ℤ old.least) → (IsWithinBlocks (length front) (old.high +ℤ old.most) → new.high ≡ old.high +ℤ old.most) →
+        IsEither AtMostℤ other worth new.least → IsEither AtLeastℤ other worth new.most → IsWithinBlocks 1 new.least → IsWithinBlocks 1 new.most → AreAdding f p sure front block n old → AreAdding f p sure front block (suc n) new
     adding-open old new apart other when_sure when_not a b c least most sl sm (inr o) = absurd (apart (o.number_is ∙ sym is))
     adding-open old new apart other when_sure when_not a b c least most sl sm (inl (s, none)) = inr (record {
       number_is = a ∙ is;
@@ -190,13 +190,13 @@ wide-fits z f = let l = f.sfits in record { sfits = omega (arith, l) }
 pub widened : (z : ℤ) → SFits w64 z → to_z w128 (of_z w128 (to_z w64 (of_z w64 z))) ≡ z
 widened z f = ap (λ x. to_z w128 (of_z w128 x)) (to_z-of_z w64 z f) ∙ to_z-of_z w128 z (wide-fits z f)
 
-saturated : (k : ℕ) → k < 2 ^ 32 → (z : ℤ) → IsWithin k z → saturate_signed w128 z ≡ z
+saturated : (k : ℕ) → k < 2 ^ 32 → (z : ℤ) → IsWithinBlocks k z → saturate_signed w128 z ≡ z
 saturated k l (pos n) h = let b = h.below in ap pos (omega (arith, ints, b, l))
 saturated k l (negsuc n) h = let a = h.above in ap negsuc (omega (arith, ints, a, l))
 
 -- a sum that fits
 pub saturated-sum : (k : ℕ) → k < 2 ^ 32 → (before part sum : ℤ) → SFits w128 before → SFits w64 part → SFits w128 sum →
-    sum ≡ saturate_signed w128 (to_z w128 (of_z w128 before) +ℤ to_z w128 (of_z w128 (to_z w64 (of_z w64 part)))) → IsWithin k (before +ℤ part) → to_z w128 (of_z w128 sum) ≡ before +ℤ part
+    sum ≡ saturate_signed w128 (to_z w128 (of_z w128 before) +ℤ to_z w128 (of_z w128 (to_z w64 (of_z w64 part)))) → IsWithinBlocks k (before +ℤ part) → to_z w128 (of_z w128 sum) ≡ before +ℤ part
 saturated-sum k l before part sum fb fp fs e h =
     to_z-of_z w128 sum fs ∙ (e ∙ (ap (λ a. saturate_signed w128 (a +ℤ to_z w128 (of_z w128 (to_z w64 (of_z w64 part))))) (to_z-of_z w128 before fb)
     ∙ (ap (λ b. saturate_signed w128 (before +ℤ b)) (widened part fp) ∙ saturated k l (before +ℤ part) h)))

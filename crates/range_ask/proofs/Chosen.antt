@@ -9,39 +9,39 @@ use Rattle.range_ask.specs.declared.sums.Best.{Best}
 use Rattle.range_ask.specs.declared.way.Way.{Way}
 use Rattle.range_ask.specs.declared.found.Spot.{Spot}
 use Rattle.range_ask.specs.Ranges.{cell}
-use Rattle.range_ask.specs.Picks.{Before, turned, IsCheapest, IsDearest, Avoids, Meets}
-use Rattle.range_ask.specs.Finding.{row_at, IsBestLow, IsBestHigh, IsMissing, IsFurthest, avoided_place, avoided_row, spot_place, spot_row}
+use Rattle.range_ask.specs.Picks.{Before, turned, IsCheapest, IsDearest, AvoidsFar, MeetsFar}
+use Rattle.range_ask.specs.Finding.{row_in_block, IsBestLow, IsBestHigh, IsMissing, IsFurthest, avoided_place, avoided_row, spot_place, spot_row}
 use Rattle.range_ask.specs.Reaching.{IsIfMet}
 use Rattle.range_ask.proofs.Ordered.{before-turned}
 
 -- a row of a block stands at a place
-pub place : (block : List (List Value)) (y : List Value) → Contains block y → (i : ℕ) × (i < length block) × (row_at block i ≡ y)
+pub place : (block : List (List Value)) (y : List Value) → Contains block y → (i : ℕ) × (i < length block) × (row_in_block block i ≡ y)
 place block y (k, l, e) = (k, l, get_or_default block k [] y l ∙ e)
 
-pub cheapest : (f : List Value → ℤ) (block : List (List Value)) (best : Best) → IsBestLow f block (length block) best → IsCheapest f block (row_at block best.at)
+pub cheapest : (f : List Value → ℤ) (block : List (List Value)) (best : Best) → IsBestLow f block (length block) best → IsCheapest f block (row_in_block block best.at)
 cheapest f block best h = record {
   there = Contains-get_or block best.at [] h.there;
-  least = λ y m. let p = place block y m in subst (λ z. f (row_at block best.at) ≤ℤ f z) p.2 (subst (λ n. n ≤ℤ f (row_at block p.0)) h.is (h.least p.0 p.1));
+  least = λ y m. let p = place block y m in subst (λ z. f (row_in_block block best.at) ≤ℤ f z) p.2 (subst (λ n. n ≤ℤ f (row_in_block block p.0)) h.is (h.least p.0 p.1));
 }
 
-pub dearest : (f : List Value → ℤ) (block : List (List Value)) (best : Best) → IsBestHigh f block (length block) best → IsDearest f block (row_at block best.at)
+pub dearest : (f : List Value → ℤ) (block : List (List Value)) (best : Best) → IsBestHigh f block (length block) best → IsDearest f block (row_in_block block best.at)
 dearest f block best h = record {
   there = Contains-get_or block best.at [] h.there;
-  most = λ y m. let p = place block y m in subst (λ z. f z ≤ℤ f (row_at block best.at)) p.2 (subst (λ n. f (row_at block p.0) ≤ℤ n) h.is (h.most p.0 p.1));
+  most = λ y m. let p = place block y m in subst (λ z. f z ≤ℤ f (row_in_block block best.at)) p.2 (subst (λ n. f (row_in_block block p.0) ≤ℤ n) h.is (h.most p.0 p.1));
 }
 
 -- a row of a block is chosen so, and it is this row if it meets the tests
 pub record IsTakenAt (R : List (List Value) → List Value → Type 0) (p : List Value → Bool) (block : List (List Value)) (at : ℕ) (row : Option (List Value)) : Type 0 where
   pub there : at < length block
-  pub chosen : R block (row_at block at)
-  pub is : IsIfMet p (row_at block at) row
+  pub chosen : R block (row_in_block block at)
+  pub is : IsIfMet p (row_in_block block at) row
 
 module _ (way : Way) (p : List Value → Bool) (col : ℕ) (block : List (List Value)) (some : 0 < length block) where
   pub avoids : (m : Option ℕ) (near : Option Spot) → IsMissing p block (length block) m → IsFurthest (turned way) p col block (length block) near →
-      IsTakenAt (Avoids way p col) p block (avoided_place m near) (avoided_row m near)
+      IsTakenAt (AvoidsFar way p col) p block (avoided_place m near) (avoided_row m near)
   avoids (Some at) near (la, e) f = record {
     there = la;
-    chosen = record { there = Contains-get_or block at [] la; else_near = λ t. absurd (clash (p (row_at block at)) t e) };
+    chosen = record { there = Contains-get_or block at [] la; else_near = λ t. absurd (clash (p (row_in_block block at)) t e) };
     is = e;
   }
   avoids None (Some spot) all (la, e, is, near) = record {
@@ -51,14 +51,14 @@ module _ (way : Way) (p : List Value → Bool) (col : ℕ) (block : List (List V
       else_near = λ t y m. let i = place block y m in (
         subst (λ z. p z ≡ true) i.2 (all i.0 i.1),
         subst (λ z. Before way (cell z col) (cell y col)) (sym is) (subst (λ z. Before way (cell spot.row.now col) (cell z col)) i.2
-            (before-turned way (cell (row_at block i.0) col) (cell spot.row.now col) (near i.0 i.1 (all i.0 i.1)))),
+            (before-turned way (cell (row_in_block block i.0) col) (cell spot.row.now col) (near i.0 i.1 (all i.0 i.1)))),
       );
     };
     is = (e, is);
   }
-  avoids None None all none = absurd (clash (p (row_at block 0)) (all 0 some) (none 0 some))
+  avoids None None all none = absurd (clash (p (row_in_block block 0)) (all 0 some) (none 0 some))
 
-  pub meets : (far : Option Spot) → IsFurthest way p col block (length block) far → IsTakenAt (Meets way p col) p block (spot_place far) (spot_row far)
+  pub meets : (far : Option Spot) → IsFurthest way p col block (length block) far → IsTakenAt (MeetsFar way p col) p block (spot_place far) (spot_row far)
   meets (Some spot) (la, e, is, far) = record {
     there = la;
     chosen = record {
@@ -72,7 +72,7 @@ module _ (way : Way) (p : List Value → Bool) (col : ℕ) (block : List (List V
     there = some;
     chosen = record {
       there = Contains-get_or block 0 [] some;
-      far = λ y m t. let i = place block y m in absurd (clash (p (row_at block i.0)) (subst (λ z. p z ≡ true) (sym i.2) t) (none i.0 i.1));
+      far = λ y m t. let i = place block y m in absurd (clash (p (row_in_block block i.0)) (subst (λ z. p z ≡ true) (sym i.2) t) (none i.0 i.1));
     };
     is = none 0 some;
   }

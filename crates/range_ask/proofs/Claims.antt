@@ -12,8 +12,8 @@ use Rattle.table_blocks.specs.declared.test.ColumnTest.{ColumnTest}
 use Rattle.range_ask.specs.declared.way.Way.{Way}
 use Rattle.range_ask.specs.declared.way.Way.TheVariants.{Up, Down}
 use Rattle.range_ask.specs.Laws.{EndsAreOne}
-use Rattle.range_ask.specs.Ranges.{cell, meets, part, AtMost, IsLeast, IsGreatest, IsUpTo}
-use Rattle.range_ask.specs.Picks.{ArePicked, Before, IsExtreme, Avoids, Meets}
+use Rattle.range_ask.specs.Ranges.{cell, meets, part, AtMost, IsLeastValue, IsGreatestValue, IsUpTo}
+use Rattle.range_ask.specs.Picks.{ArePicked, Before, IsExtreme, AvoidsFar, MeetsFar}
 use Rattle.range_ask.specs.Reaching.{as_end}
 use Rattle.join_access.proofs.Naming.{zip-left, zip-right}
 use Rattle.range_ask.proofs.Ordered.{at_most-both, before-trans}
@@ -42,21 +42,21 @@ ends_are_one db table goal tests a b r s = (
 
 -- ---- an end is the value of a row
 
-pub of-greatest : (col : ℕ) (rows : List (List Value)) (end : End) → IsGreatest col rows end → (o : Option (List Value)) × (end ≡ as_end col o) × IsExtreme Up col rows o
+pub of-greatest : (col : ℕ) (rows : List (List Value)) (end : End) → IsGreatestValue col rows end → (o : Option (List Value)) × (end ≡ as_end col o) × IsExtreme Up col rows o
 of-greatest col rows Empty h = (None, refl, h)
 of-greatest col rows (Number n) h = absurd h
 of-greatest col rows (Held v) ((row, m, e), all) = (Some row, ap Held (sym e), (m, λ y n. subst (λ u. AtMost (cell y col) u) (sym e) (all y n)))
 
-pub of-least : (col : ℕ) (rows : List (List Value)) (end : End) → IsLeast col rows end → (o : Option (List Value)) × (end ≡ as_end col o) × IsExtreme Down col rows o
+pub of-least : (col : ℕ) (rows : List (List Value)) (end : End) → IsLeastValue col rows end → (o : Option (List Value)) × (end ≡ as_end col o) × IsExtreme Down col rows o
 of-least col rows Empty h = (None, refl, h)
 of-least col rows (Number n) h = absurd h
 of-least col rows (Held v) ((row, m, e), all) = (Some row, ap Held (sym e), (m, λ y n. subst (λ u. AtMost u (cell y col)) (sym e) (all y n)))
 
-pub to-greatest : (col : ℕ) (rows : List (List Value)) (o : Option (List Value)) → IsExtreme Up col rows o → IsGreatest col rows (as_end col o)
+pub to-greatest : (col : ℕ) (rows : List (List Value)) (o : Option (List Value)) → IsExtreme Up col rows o → IsGreatestValue col rows (as_end col o)
 to-greatest col rows None h = h
 to-greatest col rows (Some x) (m, all) = ((x, m, refl), all)
 
-pub to-least : (col : ℕ) (rows : List (List Value)) (o : Option (List Value)) → IsExtreme Down col rows o → IsLeast col rows (as_end col o)
+pub to-least : (col : ℕ) (rows : List (List Value)) (o : Option (List Value)) → IsExtreme Down col rows o → IsLeastValue col rows (as_end col o)
 to-least col rows None h = h
 to-least col rows (Some x) (m, all) = ((x, m, refl), all)
 
@@ -77,29 +77,29 @@ module _ (way : Way) (tests : List ColumnTest) (col : ℕ) where
 
   module _ (blocks : List (List (List Value))) (xs ys : List (List Value)) (picked : ArePicked blocks ys) where
     -- a row that avoids the tests and meets them: a picked row of its block meets them, and lies no less far
-    pub near-from : AllZip (Avoids way (meets tests) col) blocks xs → (x : List Value) → IsExtreme way col (part tests xs) (Some x) → (o : Option (List Value)) → IsExtreme way col (part tests ys) o →
+    pub near-from : AllZip (AvoidsFar way (meets tests) col) blocks xs → (x : List Value) → IsExtreme way col (part tests xs) (Some x) → (o : Option (List Value)) → IsExtreme way col (part tests ys) o →
         (w : List Value) × (o ≡ Some w) × Before way (cell x col) (cell w col)
     near-from h x (mx, all) o e =
         let px = of_part xs x mx in
-        let b = zip-right (Avoids way (meets tests) col) blocks xs h x px.0 in
+        let b = zip-right (AvoidsFar way (meets tests) col) blocks xs h x px.0 in
         let y = zip-left (λ (c : List (List Value)) z. Contains c z) blocks ys picked b.0 b.1 in
         let near = b.2.else_near px.1 y.0 y.2 in
         reached x ys o y.0 (in_part ys y.0 y.1 near.0) near.1 e
 
     -- a picked row that meets the tests: the chosen row of its block meets them, and lies no less far
-    pub far-from : AllZip (Meets way (meets tests) col) blocks xs → (o : Option (List Value)) → IsExtreme way col (part tests xs) o → (y : List Value) → IsExtreme way col (part tests ys) (Some y) →
+    pub far-from : AllZip (MeetsFar way (meets tests) col) blocks xs → (o : Option (List Value)) → IsExtreme way col (part tests xs) o → (y : List Value) → IsExtreme way col (part tests ys) (Some y) →
         (w : List Value) × (o ≡ Some w) × Before way (cell y col) (cell w col)
     far-from h o e y (my, all) =
         let py = of_part ys y my in
         let b = zip-right (λ (c : List (List Value)) z. Contains c z) blocks ys picked y py.0 in
-        let x = zip-left (Meets way (meets tests) col) blocks xs h b.0 b.1 in
+        let x = zip-left (MeetsFar way (meets tests) col) blocks xs h b.0 b.1 in
         let far = x.2.far y b.2 py.1 in
         reached y xs o x.0 (in_part xs x.0 x.1 far.0) far.1 e
 
 module _ (tests : List ColumnTest) (col : ℕ) (blocks : List (List (List Value))) (xs zs : List (List Value)) where
   -- the greatest value lies between that of rows that avoid the tests and that of rows of greatest values
-  pub greatest-between : AllZip (Avoids Up (meets tests) col) blocks xs → AllZip (Meets Up (meets tests) col) blocks zs → (a b : Option (List Value)) →
-      IsExtreme Up col (part tests xs) a → IsExtreme Up col (part tests zs) b → (ys : List (List Value)) → ArePicked blocks ys → (end : End) → IsGreatest col (part tests ys) end →
+  pub greatest-between : AllZip (AvoidsFar Up (meets tests) col) blocks xs → AllZip (MeetsFar Up (meets tests) col) blocks zs → (a b : Option (List Value)) →
+      IsExtreme Up col (part tests xs) a → IsExtreme Up col (part tests zs) b → (ys : List (List Value)) → ArePicked blocks ys → (end : End) → IsGreatestValue col (part tests ys) end →
       IsUpTo (as_end col a) end × IsUpTo end (as_end col b)
   greatest-between h k a b ea eb ys picked end g =
       let o = of-greatest col (part tests ys) end g in
@@ -114,8 +114,8 @@ module _ (tests : List ColumnTest) (col : ℕ) (blocks : List (List (List Value)
       upper (Some y) f = let n = far-from Up tests col blocks zs ys picked k b eb y f in subst (λ r. IsUpTo (Held (cell y col)) (as_end col r)) (sym n.1) n.2
 
   -- where a row that avoids the tests meets them, the least value lies between that of rows of least values and that of rows that avoid
-  pub least-between : AllZip (Avoids Down (meets tests) col) blocks xs → AllZip (Meets Down (meets tests) col) blocks zs → (x : List Value) (b : Option (List Value)) →
-      IsExtreme Down col (part tests xs) (Some x) → IsExtreme Down col (part tests zs) b → (ys : List (List Value)) → ArePicked blocks ys → (end : End) → IsLeast col (part tests ys) end →
+  pub least-between : AllZip (AvoidsFar Down (meets tests) col) blocks xs → AllZip (MeetsFar Down (meets tests) col) blocks zs → (x : List Value) (b : Option (List Value)) →
+      IsExtreme Down col (part tests xs) (Some x) → IsExtreme Down col (part tests zs) b → (ys : List (List Value)) → ArePicked blocks ys → (end : End) → IsLeastValue col (part tests ys) end →
       IsUpTo (as_end col b) end × IsUpTo end (Held (cell x col))
   least-between h k x b ex eb ys picked end l =
       let o = of-least col (part tests ys) end l in
@@ -127,7 +127,7 @@ module _ (tests : List ColumnTest) (col : ℕ) (blocks : List (List (List Value)
 
   -- no value lies above that of the row whose value is greatest of all that meet the tests
   pub least-below : (rows : List (List Value)) (top : Option (List Value)) → ((x : List Value) → top ≡ Some x → (y : List Value) → Contains rows y → meets tests y ≡ true → AtMost (cell y col) (cell x col)) →
-      (top ≡ None → (y : List Value) → Contains rows y → meets tests y ≡ false) → (ys : List (List Value)) → ((y : List Value) → Contains ys y → Contains rows y) → (end : End) → IsLeast col (part tests ys) end →
+      (top ≡ None → (y : List Value) → Contains rows y → meets tests y ≡ false) → (ys : List (List Value)) → ((y : List Value) → Contains ys y → Contains rows y) → (end : End) → IsLeastValue col (part tests ys) end →
       IsUpTo end (as_end col top)
   least-below rows top best none ys from end l = let o = of-least col (part tests ys) end l in subst (λ e. IsUpTo e (as_end col top)) (sym o.1) (go o.0 o.2)
     where

@@ -16,7 +16,7 @@ use Rattle.cqa_model.specs.Repairs.{IsTableRepair}
 use Rattle.cqa_model.proofs.Classic.{mem-nil}
 use Rattle.cqa_model.proofs.Repairs.{sublist-stored}
 use Rattle.table_blocks.specs.declared.test.ColumnTest.{ColumnTest}
-use Rattle.table_blocks.specs.Tables.{rows_at, key_at}
+use Rattle.table_blocks.specs.Tables.{rows_at, key_at, rows_in, names_in}
 use Rattle.range_ask.specs.declared.range.Range.{Range}
 use Rattle.range_ask.specs.declared.way.Way.{Way}
 use Rattle.range_ask.specs.declared.way.Way.TheVariants.{Up, Down}
@@ -24,11 +24,11 @@ use Rattle.range_ask.specs.declared.sums.Sides.{Sides}
 use Rattle.range_ask.specs.declared.top.Top.{Top}
 use Rattle.range_ask.specs.declared.extremes.Extremes.{Extremes}
 use Rattle.range_ask.specs.declared.choice.Choice.{Choice}
-use Rattle.range_ask.specs.Choosing.{IsChoice, IsBetween, IsLoose}
-use Rattle.range_ask.specs.Ranges.{cell, meets, part, number_of, total, names_in, rows_in, AtMost, HasValue, IsUpTo, IsAttained, IsRange}
-use Rattle.range_ask.specs.Picks.{ArePicked, IsParted, worth, IsCheapest, IsDearest, Before, IsExtreme, Avoids, Meets}
-use Rattle.range_ask.specs.Finding.{added, row_at}
-use Rattle.range_ask.specs.Walking.{wide_of, AreChosen, AreSides, IsTotal}
+use Rattle.range_ask.specs.Choosing.{IsRangeChoice, IsChoiceBetween, IsLoose}
+use Rattle.range_ask.specs.Ranges.{cell, meets, part, number_of, total, AtMost, HasValue, IsUpTo, IsAttained, IsRange}
+use Rattle.range_ask.specs.Picks.{ArePicked, IsInBlocks, worth, IsCheapest, IsDearest, Before, IsExtreme, AvoidsFar, MeetsFar}
+use Rattle.range_ask.specs.Finding.{added, row_in_block}
+use Rattle.range_ask.specs.Walking.{wide_of, AreChosenSoFar, AreSides, IsTotal}
 use Rattle.range_ask.specs.Reaching.{as_end, with_top, top_row, IsTop, AreExtremes}
 use Rattle.range_ask.proofs.Lists.{set-cases, set-there}
 use Rattle.range_ask.proofs.Ordered.{before-self}
@@ -47,7 +47,7 @@ pub none-of : (o : Option (Bor (List Value))) → is_some o ≡ false → option
 none-of (Some x) e = absurd (cc)
 none-of None e = refl
 
-module _ (db : List Table) (table : ℕ) (tests : List ColumnTest) (blocks : List (List (List Value))) (parted : IsParted db table blocks) where
+module _ (db : List Table) (table : ℕ) (tests : List ColumnTest) (blocks : List (List (List Value))) (parted : IsInBlocks db table blocks) where
   abbrev rows : List (List Value)
   rows = rows_at db table
 
@@ -67,7 +67,7 @@ module _ (db : List Table) (table : ℕ) (tests : List ColumnTest) (blocks : Lis
 
   -- places of kept rows make a choice
   choice-of : (goal : Goal) (lows highs : List ℕ) → Kept rows blocks lows → Kept rows blocks highs → (choice : Choice) → choice.low.items ≡ lows → choice.high.items ≡ highs → choice.wide.items ≡ wide_of blocks →
-      IsRange db table goal tests (record { least = choice.least; low = names_in table choice.low.items; greatest = choice.greatest; high = names_in table choice.high.items }) → IsChoice db table goal tests choice
+      IsRange db table goal tests (record { least = choice.least; low = names_in table choice.low.items; greatest = choice.greatest; high = names_in table choice.high.items }) → IsRangeChoice db table goal tests choice
   choice-of goal lows highs kl kh choice l h w range = record {
     parts = blocks;
     parted = parted;
@@ -109,7 +109,7 @@ module _ (db : List Table) (table : ℕ) (tests : List ColumnTest) (blocks : Lis
   total-range (Max col) t sides h range a b c d = elim t [ ]
 
   pub total-choice : (goal : Goal) → IsTotal goal → (sides : Sides) → AreSides (worth (meets tests) (added goal)) rows blocks sides → (choice : Choice) → choice.least ≡ Number sides.low.total → choice.low.items ≡ sides.low.places.items →
-      choice.greatest ≡ Number sides.high.total → choice.high.items ≡ sides.high.places.items → choice.wide.items ≡ sides.wide.items → IsChoice db table goal tests choice
+      choice.greatest ≡ Number sides.high.total → choice.high.items ≡ sides.high.places.items → choice.wide.items ≡ sides.wide.items → IsRangeChoice db table goal tests choice
   total-choice goal t sides h choice a b c d w =
       let f = worth (meets tests) (added goal) in
       choice-of goal sides.low.places.items sides.high.places.items
@@ -119,11 +119,11 @@ module _ (db : List Table) (table : ℕ) (tests : List ColumnTest) (blocks : Lis
   -- ---- least and greatest values
 
   module _ (col : ℕ) where
-    avoids-kept : (way : Way) (places : List ℕ) → AreChosen (Avoids way (meets tests) col) rows blocks places → Kept rows blocks places
-    avoids-kept way places h = kept-of (Avoids way (meets tests) col) (λ b x c. c.there) rows blocks places h
+    avoids-kept : (way : Way) (places : List ℕ) → AreChosenSoFar (AvoidsFar way (meets tests) col) rows blocks places → Kept rows blocks places
+    avoids-kept way places h = kept-of (AvoidsFar way (meets tests) col) (λ b x c. c.there) rows blocks places h
 
-    meets-kept : (way : Way) (places : List ℕ) → AreChosen (Meets way (meets tests) col) rows blocks places → Kept rows blocks places
-    meets-kept way places h = kept-of (Meets way (meets tests) col) (λ b x c. c.there) rows blocks places h
+    meets-kept : (way : Way) (places : List ℕ) → AreChosenSoFar (MeetsFar way (meets tests) col) rows blocks places → Kept rows blocks places
+    meets-kept way places h = kept-of (MeetsFar way (meets tests) col) (λ b x c. c.there) rows blocks places h
 
     -- ends that are values of kept rows make a range
     ranges : (goal : Goal) (lows highs : List ℕ) (a b : Option (List Value)) → Kept rows blocks lows → Kept rows blocks highs →
@@ -177,9 +177,9 @@ module _ (db : List Table) (table : ℕ) (tests : List ColumnTest) (blocks : Lis
     top-extreme : (places : List ℕ) (top : Option Top) → part tests (rows_in rows places) ≡ [] → IsTop Up (meets tests) col rows blocks places top → IsExtreme Down col (part tests (rows_in rows (with_top places top))) (top_row top)
     top-extreme places None e h = e
     top-extreme places (Some top) e h =
-        subst (λ xs. IsExtreme Down col (part tests xs) (Some top.row.now)) (sym (map-set (λ q. row_at rows q) places top.number top.place))
-        (subst (λ r. IsExtreme Down col (part tests (set (rows_in rows places) top.number (row_at rows top.place))) (Some r)) h.is
-        (sole (rows_in rows places) top.number (row_at rows top.place) e (subst (λ k. top.number < k) (sym (length-map places (λ q. row_at rows q))) h.there) h.meets))
+        subst (λ xs. IsExtreme Down col (part tests xs) (Some top.row.now)) (sym (map-set (λ q. row_in_block rows q) places top.number top.place))
+        (subst (λ r. IsExtreme Down col (part tests (set (rows_in rows places) top.number (row_in_block rows top.place))) (Some r)) h.is
+        (sole (rows_in rows places) top.number (row_in_block rows top.place) e (subst (λ k. top.number < k) (sym (length-map places (λ q. row_in_block rows q))) h.there) h.meets))
 
     top-kept : (places : List ℕ) (top : Option Top) → Kept rows blocks places → IsTop Up (meets tests) col rows blocks places top → Kept rows blocks (with_top places top)
     top-kept places None k h = k
@@ -211,18 +211,18 @@ module _ (db : List Table) (table : ℕ) (tests : List ColumnTest) (blocks : Lis
 
     -- ---- the choices
 
-    pub greatest-choice : (ends : Extremes) → AreExtremes Up (meets tests) col rows blocks ends → (choice : Choice) → IsBetween col ends.avoids ends.meets ends.wide.items choice → IsChoice db table (Max col) tests choice
+    pub greatest-choice : (ends : Extremes) → AreExtremes Up (meets tests) col rows blocks ends → (choice : Choice) → IsChoiceBetween col ends.avoids ends.meets ends.wide.items choice → IsRangeChoice db table (Max col) tests choice
     greatest-choice ends h choice b =
         choice-of (Max col) ends.avoids.places.items ends.meets.places.items (avoids-kept Up ends.avoids.places.items h.avoids.chosen) (meets-kept Up ends.meets.places.items h.meets.chosen)
         choice b.low_is b.high_is (b.wide_is ∙ h.wide) (greatest-range ends h _ b.least_is (ap (names_in table) b.low_is) b.greatest_is (ap (names_in table) b.high_is))
 
     pub least-choice : (ends : Extremes) → AreExtremes Down (meets tests) col rows blocks ends → (x : List Value) → option_copied ends.avoids.extreme ≡ Some x → (choice : Choice) →
-        IsBetween col ends.meets ends.avoids ends.wide.items choice → IsChoice db table (Min col) tests choice
+        IsChoiceBetween col ends.meets ends.avoids ends.wide.items choice → IsRangeChoice db table (Min col) tests choice
     least-choice ends h x is choice b =
         choice-of (Min col) ends.meets.places.items ends.avoids.places.items (meets-kept Down ends.meets.places.items h.meets.chosen) (avoids-kept Down ends.avoids.places.items h.avoids.chosen)
         choice b.low_is b.high_is (b.wide_is ∙ h.wide) (least-range ends h x is _ b.least_is (ap (names_in table) b.low_is) b.greatest_is (ap (names_in table) b.high_is))
 
-    pub loose-choice : (ends : Extremes) → AreExtremes Down (meets tests) col rows blocks ends → option_copied ends.avoids.extreme ≡ None → (choice : Choice) → IsLoose col ends choice → IsChoice db table (Min col) tests choice
+    pub loose-choice : (ends : Extremes) → AreExtremes Down (meets tests) col rows blocks ends → option_copied ends.avoids.extreme ≡ None → (choice : Choice) → IsLoose col ends choice → IsRangeChoice db table (Min col) tests choice
     loose-choice ends h is choice l =
         let places = ends.avoids.places.items in
         let kept = avoids-kept Down places h.avoids.chosen in

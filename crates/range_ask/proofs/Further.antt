@@ -9,16 +9,16 @@ use Rattle.range_ask.specs.declared.way.Way.{Way}
 use Rattle.range_ask.specs.declared.found.Spot.{Spot}
 use Rattle.range_ask.specs.Ranges.{cell}
 use Rattle.range_ask.specs.Picks.{Before, IsExtreme}
-use Rattle.range_ask.specs.Finding.{row_at, IsMissing, IsFurthest}
+use Rattle.range_ask.specs.Finding.{row_in_block, IsMissing, IsFurthest}
 use Rattle.range_ask.proofs.Ordered.{before-self, before-trans}
 
-module _ (way : Way) (p : List Value → Bool) (col : ℕ) (block : List (List Value)) (next : Spot) (t : p (row_at block next.at) ≡ true) (e : row_at block next.at ≡ next.row.now) where
+module _ (way : Way) (p : List Value → Bool) (col : ℕ) (block : List (List Value)) (next : Spot) (t : p (row_in_block block next.at) ≡ true) (e : row_in_block block next.at ≡ next.row.now) where
   -- the row itself
-  itself : (i : ℕ) → i ≡ next.at → Before way (cell (row_at block i) col) (cell next.row.now col)
-  itself i same = subst (λ k. Before way (cell (row_at block k) col) (cell next.row.now col)) (sym same) (subst (λ r. Before way (cell r col) (cell next.row.now col)) (sym e) (before-self way (cell next.row.now col)))
+  itself : (i : ℕ) → i ≡ next.at → Before way (cell (row_in_block block i) col) (cell next.row.now col)
+  itself i same = subst (λ k. Before way (cell (row_in_block block k) col) (cell next.row.now col)) (sym same) (subst (λ r. Before way (cell r col) (cell next.row.now col)) (sym e) (before-self way (cell next.row.now col)))
 
   pub spot-first : IsFurthest way p col block next.at None → IsFurthest way p col block (next.at + 1) (Some next)
-  spot-first none = (omega arith, t, e, λ i l u. elim (cases_next i next.at l) [ inl lt ↦ absurd (clash (p (row_at block i)) u (none i lt)) | inr same ↦ itself i same ])
+  spot-first none = (omega arith, t, e, λ i l u. elim (cases_next i next.at l) [ inl lt ↦ absurd (clash (p (row_in_block block i)) u (none i lt)) | inr same ↦ itself i same ])
 
   pub spot-further : (spot : Spot) → IsFurthest way p col block next.at (Some spot) → Before way (cell spot.row.now col) (cell next.row.now col) → IsFurthest way p col block (next.at + 1) (Some next)
   spot-further spot (l, s, is, far) b = (
@@ -26,13 +26,13 @@ module _ (way : Way) (p : List Value → Bool) (col : ℕ) (block : List (List V
     t,
     e,
     λ i k u. elim (cases_next i next.at k) [
-      | inl lt ↦ before-trans way (cell (row_at block i) col) (cell spot.row.now col) (cell next.row.now col) (far i lt u) b
+      | inl lt ↦ before-trans way (cell (row_in_block block i) col) (cell spot.row.now col) (cell next.row.now col) (far i lt u) b
       | inr same ↦ itself i same
     ],
   )
 
-pub missing-more : (p : List Value → Bool) (block : List (List Value)) (n : ℕ) (m : Option ℕ) → p (row_at block n) ≡ true → IsMissing p block n m → IsMissing p block (n + 1) m
-missing-more p block n None t all = λ i l. elim (cases_next i n l) [ inl lt ↦ all i lt | inr same ↦ subst (λ k. p (row_at block k) ≡ true) (sym same) t ]
+pub missing-more : (p : List Value → Bool) (block : List (List Value)) (n : ℕ) (m : Option ℕ) → p (row_in_block block n) ≡ true → IsMissing p block n m → IsMissing p block (n + 1) m
+missing-more p block n None t all = λ i l. elim (cases_next i n l) [ inl lt ↦ all i lt | inr same ↦ subst (λ k. p (row_in_block block k) ≡ true) (sym same) t ]
 missing-more p block n (Some at) t (l, e) = (omega (arith, l), e)
 
 -- ---- rows that are kept, with one more

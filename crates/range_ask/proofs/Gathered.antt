@@ -17,10 +17,10 @@ use Rattle.table_blocks.specs.declared.test.ColumnTest.{ColumnTest}
 use Rattle.range_ask.specs.declared.groups.Group.{Group}
 use Rattle.range_ask.specs.declared.tally.Tally.{Tally}
 use Rattle.range_ask.specs.Ranges.{cell, meets, IsRange}
-use Rattle.range_ask.specs.Picks.{IsParted}
-use Rattle.range_ask.specs.Walking.{rows_of}
+use Rattle.range_ask.specs.Picks.{IsInBlocks}
+use Rattle.range_ask.specs.Walking.{rows_of_blocks}
 use Rattle.range_ask.specs.Groups.{tests_with, group_values, IsGroup, HasMember, AreGroups}
-use Rattle.range_ask.specs.Tallying.{low_end, IsKnown, IsWhole, AreTallied, IsEnded}
+use Rattle.range_ask.specs.Tallying.{low_end, IsKnownGroup, IsWhole, AreTallied, IsEnded}
 use Rattle.join_access.proofs.Naming.{zip-right}
 use Rattle.range_ask.proofs.Membership.{is-in, of-in}
 use Rattle.range_ask.proofs.Grouped.{group-range}
@@ -28,7 +28,7 @@ use Rattle.range_ask.proofs.Grouped.{group-range}
 all-members : {A : Type 0} (P : A → Type 0) (xs : List A) → ((x : A) → Contains xs x → P x) → All P xs
 all-members P xs h k d l = h (slice_index_or xs k d) (Contains-get_or xs k d l)
 
-module _ (db : List Table) (table : ℕ) (goal : Goal) (tests : List ColumnTest) (col : ℕ) (blocks : List (List (List Value))) (parted : IsParted db table blocks) (few : length blocks ≤ MOST_ROWS) (map_of : BTreeMap Value Tally)
+module _ (db : List Table) (table : ℕ) (goal : Goal) (tests : List ColumnTest) (col : ℕ) (blocks : List (List (List Value))) (parted : IsInBlocks db table blocks) (few : length blocks ≤ MOST_ROWS) (map_of : BTreeMap Value Tally)
     (ordered : IsStrictlySortedBy value_cmp (keys map_of)) (tallied : AreTallied goal tests col blocks map_of) where
   abbrev Ended : Value × Tally → Group → Type 0
   Ended entry group = IsEnded goal entry.0 entry.1 group
@@ -38,7 +38,7 @@ module _ (db : List Table) (table : ℕ) (goal : Goal) (tests : List ColumnTest)
 
   group-is : (entry : Value × Tally) (group : Group) → Contains map_of.entries entry → Ended entry group → IsGroup db table goal tests col group
   group-is entry group m e =
-      let whole = subst (λ o. IsKnown (meets (tests_with tests col entry.0)) (rows_of blocks) o × IsWhole goal (meets (tests_with tests col entry.0)) blocks o) (found entry m) (tallied entry.0) in
+      let whole = subst (λ o. IsKnownGroup (meets (tests_with tests col entry.0)) (rows_of_blocks blocks) o × IsWhole goal (meets (tests_with tests col entry.0)) blocks o) (found entry m) (tallied entry.0) in
       let r = group-range db table (tests_with tests col entry.0) blocks parted goal entry.1 whole.1 in
       let ends = e.ends (meets (tests_with tests col entry.0)) blocks few whole.1 in
       record {
@@ -51,8 +51,8 @@ module _ (db : List Table) (table : ℕ) (goal : Goal) (tests : List ColumnTest)
 
   member-is : (entry : Value × Tally) (group : Group) → Contains map_of.entries entry → Ended entry group → HasMember db table tests col group.value
   member-is entry group m e =
-      let known = subst (IsKnown (meets (tests_with tests col entry.0)) (rows_of blocks)) (found entry m) (tallied entry.0).0 in
-      let row = (Contains-filter (meets (tests_with tests col entry.0)) (rows_of blocks) known.0).0 known.1 in
+      let known = subst (IsKnownGroup (meets (tests_with tests col entry.0)) (rows_of_blocks blocks)) (found entry m) (tallied entry.0).0 in
+      let row = (Contains-filter (meets (tests_with tests col entry.0)) (rows_of_blocks blocks) known.0).0 known.1 in
       let of = of-in tests col entry.0 known.0 row.1 in
       record { row = known.0; stored = subst (λ rs. Contains rs known.0) parted.blocks_are.joined row.0; meets_them = of.0; has = of.1 ∙ sym e.value_is }
 
@@ -62,8 +62,8 @@ module _ (db : List Table) (table : ℕ) (goal : Goal) (tests : List ColumnTest)
   same-values (e ∷ es) [] h = absurd h
   same-values (e ∷ es) (g ∷ gs) h = ap (λ v. v ∷ group_values gs) h.0.value_is ∙ ap (λ vs. e.0 ∷ vs) (same-values es gs h.1)
 
-  known-value : (v : Value) (row : List Value) → Contains (rows_of blocks) row → meets (tests_with tests col v) row ≡ true → (o : Option Tally) → get value_cmp map_of v ≡ o → IsKnown (meets (tests_with tests col v)) (rows_of blocks) o → Contains (keys map_of) v
-  known-value v row m t None e none = absurd (mem-nil row (subst (λ rs. Contains rs row) none ((Contains-filter (meets (tests_with tests col v)) (rows_of blocks) row).1 (m, t))))
+  known-value : (v : Value) (row : List Value) → Contains (rows_of_blocks blocks) row → meets (tests_with tests col v) row ≡ true → (o : Option Tally) → get value_cmp map_of v ≡ o → IsKnownGroup (meets (tests_with tests col v)) (rows_of_blocks blocks) o → Contains (keys map_of) v
+  known-value v row m t None e none = absurd (mem-nil row (subst (λ rs. Contains rs row) none ((Contains-filter (meets (tests_with tests col v)) (rows_of_blocks blocks) row).1 (m, t))))
   known-value v row m t (Some tally) e known =
       let p = place_from_lookup (is_at (value_cmp v)) map_of.entries tally e in
       let same : v ≡ p.1 = (value_decides v p.1).0 (value_ties v p.1 ∙ p.3) in

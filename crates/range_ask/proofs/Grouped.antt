@@ -14,18 +14,18 @@ use Rattle.cqa_model.specs.Database.{Table}
 use Rattle.cqa_model.proofs.Classic.{mem-nil, mem-head}
 use Rattle.cqa_model.proofs.Repairs.{sublist-stored}
 use Rattle.table_blocks.specs.declared.test.ColumnTest.{ColumnTest}
-use Rattle.table_blocks.specs.Tables.{rows_at, key_at}
+use Rattle.table_blocks.specs.Tables.{rows_at, key_at, names_in}
 use Rattle.range_ask.specs.declared.tally.Tally.{Tally}
 use Rattle.range_ask.specs.declared.total.Total.{Total}
 use Rattle.range_ask.specs.declared.peak.Peak.{Peak}
 use Rattle.range_ask.specs.declared.way.Way.{Way}
 use Rattle.range_ask.specs.declared.way.Way.TheVariants.{Up, Down}
-use Rattle.range_ask.specs.Ranges.{cell, meets, part, number_of, total, names_in, HasValue, IsUpTo, IsRange}
-use Rattle.range_ask.specs.Picks.{ArePicked, IsParted, worth, IsCheapest, IsDearest, Before, IsExtreme, Avoids}
+use Rattle.range_ask.specs.Ranges.{cell, meets, part, number_of, total, HasValue, IsUpTo, IsRange}
+use Rattle.range_ask.specs.Picks.{ArePicked, IsInBlocks, worth, IsCheapest, IsDearest, Before, IsExtreme, AvoidsFar}
 use Rattle.range_ask.specs.Finding.{added}
-use Rattle.range_ask.specs.Walking.{rows_of, IsTotal}
+use Rattle.range_ask.specs.Walking.{rows_of_blocks, IsTotal}
 use Rattle.range_ask.specs.Reaching.{as_end}
-use Rattle.range_ask.specs.Tallying.{total_of, peak_of, low_end, high_end, least_low, least_high, HasEnds, AreSums, IsSettled, AreFar, IsWhole}
+use Rattle.range_ask.specs.Tallying.{total_of, peak_of, low_end, high_end, least_low, least_high, HasEnds, AreSums, IsPeakSettled, AreFar, IsWhole}
 use Rattle.range_ask.proofs.Lists.{zip-map}
 use Rattle.range_ask.proofs.Ordered.{before-self}
 use Rattle.range_ask.proofs.Totals.{count-is, sum-is, low, high}
@@ -38,7 +38,7 @@ no_member : (xs : List (List Value)) → ((z : List Value) → Contains xs z →
 no_member [] h = refl
 no_member (x ∷ xs) h = absurd (h x (mem-head x xs))
 
-module _ (db : List Table) (table : ℕ) (tests : List ColumnTest) (blocks : List (List (List Value))) (parted : IsParted db table blocks) where
+module _ (db : List Table) (table : ℕ) (tests : List ColumnTest) (blocks : List (List (List Value))) (parted : IsInBlocks db table blocks) where
   abbrev rows : List (List Value)
   rows = rows_at db table
 
@@ -79,30 +79,30 @@ module _ (db : List Table) (table : ℕ) (tests : List ColumnTest) (blocks : Lis
   -- ---- extreme values
 
   module _ (col : ℕ) where
-    in_rows : (kept : List (List Value)) → ArePicked blocks kept → (y : List Value) → Contains (part tests kept) y → Contains (filter (meets tests) (rows_of blocks)) y
+    in_rows : (kept : List (List Value)) → ArePicked blocks kept → (y : List Value) → Contains (part tests kept) y → Contains (filter (meets tests) (rows_of_blocks blocks)) y
     in_rows kept p y m =
         let b = (Contains-filter (meets tests) kept y).0 m in
-        (Contains-filter (meets tests) (rows_of blocks) y).1
+        (Contains-filter (meets tests) (rows_of_blocks blocks) y).1
         (subst (λ rs. Contains rs y) (sym parted.blocks_are.joined) (sublist-stored kept rows (repair-of_picks (key_at db table) rows blocks kept parted.blocks_are p).stored y b.0), b.1)
 
-    avoiding : (way : Way) (xs : List (List Value)) → AllZip (Avoids way (meets tests) col) blocks xs → ArePicked blocks xs
-    avoiding way xs h = zip-map (Avoids way (meets tests) col) (λ (b : List (List Value)) x. Contains b x) (λ b x a. a.there) blocks xs h
+    avoiding : (way : Way) (xs : List (List Value)) → AllZip (AvoidsFar way (meets tests) col) blocks xs → ArePicked blocks xs
+    avoiding way xs h = zip-map (AvoidsFar way (meets tests) col) (λ (b : List (List Value)) x. Contains b x) (λ b x a. a.there) blocks xs h
 
     -- a row that lies furthest of all that meet the tests does so of picked rows, too
-    furthest : (way : Way) (xs : List (List Value)) → ArePicked blocks xs → (o : Option (List Value)) → IsExtreme way col (filter (meets tests) (rows_of blocks)) o →
+    furthest : (way : Way) (xs : List (List Value)) → ArePicked blocks xs → (o : Option (List Value)) → IsExtreme way col (filter (meets tests) (rows_of_blocks blocks)) o →
         (ys : List (List Value)) × ArePicked blocks ys × IsExtreme way col (part tests ys) o
     furthest way xs p None none = (xs, p, no_member (part tests xs) (λ z m. mem-nil z (subst (λ rs. Contains rs z) none (in_rows xs p z m))))
     furthest way xs p (Some r) (m, all) =
-        let b = (Contains-filter (meets tests) (rows_of blocks) r).0 m in
+        let b = (Contains-filter (meets tests) (rows_of_blocks blocks) r).0 m in
         let w = pick-with blocks xs r p b.0 in
         (w.0, w.1, ((Contains-filter (meets tests) w.0 r).1 (w.2, b.1), λ y n. all y (in_rows w.0 w.1 y n)))
 
     -- the same beside rows that don't meet the tests
-    alone : (xs : List (List Value)) → ArePicked blocks xs → part tests xs ≡ [] → (o : Option (List Value)) → IsExtreme Up col (filter (meets tests) (rows_of blocks)) o →
+    alone : (xs : List (List Value)) → ArePicked blocks xs → part tests xs ≡ [] → (o : Option (List Value)) → IsExtreme Up col (filter (meets tests) (rows_of_blocks blocks)) o →
         (ys : List (List Value)) × ArePicked blocks ys × IsExtreme Down col (part tests ys) o
     alone xs p e None none = (xs, p, e)
     alone xs p e (Some r) (m, all) =
-        let b = (Contains-filter (meets tests) (rows_of blocks) r).0 m in
+        let b = (Contains-filter (meets tests) (rows_of_blocks blocks) r).0 m in
         let w = pick-with blocks xs r p b.0 in (
           w.0,
           w.1,
@@ -116,12 +116,12 @@ module _ (db : List Table) (table : ℕ) (tests : List ColumnTest) (blocks : Lis
         )
 
     -- no picked row lies further
-    below : (way : Way) (kept : List (List Value)) → ArePicked blocks kept → (o : Option (List Value)) → IsExtreme way col (filter (meets tests) (rows_of blocks)) o → (y : List Value) → Contains (part tests kept) y →
+    below : (way : Way) (kept : List (List Value)) → ArePicked blocks kept → (o : Option (List Value)) → IsExtreme way col (filter (meets tests) (rows_of_blocks blocks)) o → (y : List Value) → Contains (part tests kept) y →
         (r : List Value) × (o ≡ Some r) × Before way (cell y col) (cell r col)
     below way kept p None none y m = absurd (mem-nil y (subst (λ rs. Contains rs y) none (in_rows kept p y m)))
     below way kept p (Some r) (mr, all) y m = (r, refl, all y (in_rows kept p y m))
 
-    pub greatest-group : (t : Peak) → IsSettled Up (meets tests) col blocks t → AreFar Up (meets tests) col (rows_of blocks) t → HasRange (Max col) (as_end col (option_copied t.sure)) (as_end col (option_copied t.far))
+    pub greatest-group : (t : Peak) → IsPeakSettled Up (meets tests) col blocks t → AreFar Up (meets tests) col (rows_of_blocks blocks) t → HasRange (Max col) (as_end col (option_copied t.sure)) (as_end col (option_copied t.far))
     greatest-group t s f =
         let xs = s.sure.picks in
         let px = avoiding Up xs s.sure.picked in
@@ -140,7 +140,7 @@ module _ (db : List Table) (table : ℕ) (tests : List ColumnTest) (blocks : Lis
         upper kept p (Some y) (m, all) = let n = below Up kept p (option_copied t.far) f.far y m in subst (λ q. IsUpTo (Held (cell y col)) (as_end col q)) (sym n.1) n.2
 
     -- a block is sure
-    least-sure : (t : Peak) (x : List Value) → option_copied t.sure ≡ Some x → IsSettled Down (meets tests) col blocks t → AreFar Down (meets tests) col (rows_of blocks) t → HasRange (Min col) (as_end col (option_copied t.far)) (Held (cell x col))
+    least-sure : (t : Peak) (x : List Value) → option_copied t.sure ≡ Some x → IsPeakSettled Down (meets tests) col blocks t → AreFar Down (meets tests) col (rows_of_blocks blocks) t → HasRange (Min col) (as_end col (option_copied t.far)) (Held (cell x col))
     least-sure t x e s f =
         let xs = s.sure.picks in
         let px = avoiding Down xs s.sure.picked in
@@ -155,7 +155,7 @@ module _ (db : List Table) (table : ℕ) (tests : List ColumnTest) (blocks : Lis
         (subst (λ q. IsUpTo (as_end col q) (Held (cell n.0 col))) (sym b.1) b.2, n.2))
 
     -- none is
-    least-loose : (t : Peak) → option_copied t.sure ≡ None → IsSettled Down (meets tests) col blocks t → AreFar Down (meets tests) col (rows_of blocks) t → HasRange (Min col) Empty (as_end col (option_copied t.top))
+    least-loose : (t : Peak) → option_copied t.sure ≡ None → IsPeakSettled Down (meets tests) col blocks t → AreFar Down (meets tests) col (rows_of_blocks blocks) t → HasRange (Min col) Empty (as_end col (option_copied t.top))
     least-loose t e s f =
         let xs = s.sure.picks in
         let px = avoiding Down xs s.sure.picked in
@@ -169,7 +169,7 @@ module _ (db : List Table) (table : ℕ) (tests : List ColumnTest) (blocks : Lis
         upper kept p None x = tt
         upper kept p (Some y) (m, all) = let n = below Up kept p (option_copied t.top) f.top y m in subst (λ q. IsUpTo (Held (cell y col)) (as_end col q)) (sym n.1) n.2
 
-    least-group : (tally : Tally) (o : Option (List Value)) → option_copied (peak_of (Some tally)).sure ≡ o → IsSettled Down (meets tests) col blocks (peak_of (Some tally)) → AreFar Down (meets tests) col (rows_of blocks) (peak_of (Some tally)) →
+    least-group : (tally : Tally) (o : Option (List Value)) → option_copied (peak_of (Some tally)).sure ≡ o → IsPeakSettled Down (meets tests) col blocks (peak_of (Some tally)) → AreFar Down (meets tests) col (rows_of_blocks blocks) (peak_of (Some tally)) →
         HasRange (Min col) (low_end (Min col) tally) (high_end (Min col) tally)
     least-group tally None e s f =
         subst (λ q. HasRange (Min col) (least_low col q (peak_of (Some tally))) (least_high col q (peak_of (Some tally)))) (sym e) (least-loose (peak_of (Some tally)) e s f)

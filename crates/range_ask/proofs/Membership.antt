@@ -11,8 +11,8 @@ use Rattle.range_ask.specs.declared.total.Turn.{Turn}
 use Rattle.range_ask.specs.declared.tally.Tally.{Tally}
 use Rattle.range_ask.specs.Ranges.{cell, op_passes, meets}
 use Rattle.range_ask.specs.Groups.{tests_with}
-use Rattle.range_ask.specs.Finding.{row_at}
-use Rattle.range_ask.specs.Tallying.{IsSureOf, IsTallying, AreTallied, HasMore}
+use Rattle.range_ask.specs.Finding.{row_in_block}
+use Rattle.range_ask.specs.Tallying.{IsSureOf, IsTallying, AreTallied, HasRowMore}
 use Rattle.range_ask.proofs.Tallied.{tallying-begin, tallying-miss, tallying-end}
 
 and-true : (b : Bool) → (b && true) ≡ (true && b)
@@ -76,11 +76,11 @@ module _ (goal : Goal) (tests : List ColumnTest) (col : ℕ) (sure : Bool) (fron
   pub all-end : 0 < length block → (groups : BTreeMap Value Tally) → AreTallying (length block) groups → AreTallied goal tests col (front ++ block ∷ []) groups
   all-end some groups h v = tallying-end (of v) sure front block (sure-of v) goal (get value_cmp groups v) some (h v)
 
-  pub all-miss : (n : ℕ) → n < length block → meets tests (row_at block n) ≡ false → (groups : BTreeMap Value Tally) → AreTallying n groups → AreTallying (suc n) groups
-  all-miss n l e groups h v = tallying-miss (of v) sure front block (sure-of v) goal n (get value_cmp groups v) l (not-met tests col v (row_at block n) e) (h v)
+  pub all-miss : (n : ℕ) → n < length block → meets tests (row_in_block block n) ≡ false → (groups : BTreeMap Value Tally) → AreTallying n groups → AreTallying (suc n) groups
+  all-miss n l e groups h v = tallying-miss (of v) sure front block (sure-of v) goal n (get value_cmp groups v) l (not-met tests col v (row_in_block block n) e) (h v)
 
-  pub all-more : (n : ℕ) → n < length block → (row : List Value) → row_at block n ≡ row → meets tests row ≡ true → (turn : Turn) → turn.number ≡ suc (length front) → turn.sure ≡ sure → (value : Value) → value ≡ cell row col →
-      (old new : BTreeMap Value Tally) → HasMore goal turn row value old new → AreTallying n old → AreTallying (suc n) new
+  pub all-more : (n : ℕ) → n < length block → (row : List Value) → row_in_block block n ≡ row → meets tests row ≡ true → (turn : Turn) → turn.number ≡ suc (length front) → turn.sure ≡ sure → (value : Value) → value ≡ cell row col →
+      (old new : BTreeMap Value Tally) → HasRowMore goal turn row value old new → AreTallying n old → AreTallying (suc n) new
   all-more n l row e m turn is same value vis old new more h v = at (value_eq value v) refl
     where
       at : (b : Bool) → value_eq value v ≡ b → IsTallying goal (of v) sure front block (suc n) (get value_cmp new v)
@@ -93,4 +93,4 @@ module _ (goal : Goal) (tests : List ColumnTest) (col : ℕ) (sure : Bool) (fron
       at false q =
           let apart : value ≡ v → ⊥ = λ w. let z = sym ((value_decides value v).1 w) ∙ q in (cc) in
           subst (λ o. IsTallying goal (of v) sure front block (suc n) o) (sym (more.others v (λ w. apart (sym w))))
-          (tallying-miss (of v) sure front block (sure-of v) goal n (get value_cmp old v) l (not-has tests col v (row_at block n) (λ w. apart (vis ∙ (ap (λ r. cell r col) (sym e) ∙ w)))) (h v))
+          (tallying-miss (of v) sure front block (sure-of v) goal n (get value_cmp old v) l (not-has tests col v (row_in_block block n) (λ w. apart (vis ∙ (ap (λ r. cell r col) (sym e) ∙ w)))) (h v))

@@ -5,30 +5,31 @@ use Rattle.std.proofs.lemmas.List.{append-nil}
 use Rattle.cqa_value.specs.declared.value.Value.{Value}
 use Rattle.cqa_model.specs.declared.query.RowId.{RowId}
 use Rattle.cqa_model.proofs.Classic.{mem-nil, mem-cases}
-use Rattle.range_ask.specs.Walking.{is_wide, wide_from, wide_of}
+use Rattle.range_ask.specs.Walking.{wide_from, wide_of}
 use Rattle.range_ask.specs.Choosing.{wide_names}
+use Rattle.row_cursor.specs.Conflicts.{is_conflict}
 
 abbrev one_if : Bool → ℕ → List ℕ
 one_if t n = if t then n ∷ [] else []
 
-wide-more : (n : ℕ) (front : List (List (List Value))) (block : List (List Value)) → wide_from n (front ++ block ∷ []) ≡ wide_from n front ++ one_if (is_wide block) (n + length front)
-wide-more n [] block = let e : n ≡ n + 0 = omega arith in ap (λ k. one_if (is_wide block) k) e
-wide-more n (b ∷ bs) block = go (is_wide b) (wide-more (suc n) bs block ∙ ap (λ k. wide_from (suc n) bs ++ one_if (is_wide block) k) same)
+wide-more : (n : ℕ) (front : List (List (List Value))) (block : List (List Value)) → wide_from n (front ++ block ∷ []) ≡ wide_from n front ++ one_if (is_conflict block) (n + length front)
+wide-more n [] block = let e : n ≡ n + 0 = omega arith in ap (λ k. one_if (is_conflict block) k) e
+wide-more n (b ∷ bs) block = go (is_conflict b) (wide-more (suc n) bs block ∙ ap (λ k. wide_from (suc n) bs ++ one_if (is_conflict block) k) same)
   where
     same : suc n + length bs ≡ n + length (b ∷ bs)
     same = omega arith
 
-    go : (t : Bool) → wide_from (suc n) (bs ++ block ∷ []) ≡ wide_from (suc n) bs ++ one_if (is_wide block) (n + length (b ∷ bs)) →
-        (if t then n ∷ wide_from (suc n) (bs ++ block ∷ []) else wide_from (suc n) (bs ++ block ∷ [])) ≡ (if t then n ∷ wide_from (suc n) bs else wide_from (suc n) bs) ++ one_if (is_wide block) (n + length (b ∷ bs))
+    go : (t : Bool) → wide_from (suc n) (bs ++ block ∷ []) ≡ wide_from (suc n) bs ++ one_if (is_conflict block) (n + length (b ∷ bs)) →
+        (if t then n ∷ wide_from (suc n) (bs ++ block ∷ []) else wide_from (suc n) (bs ++ block ∷ [])) ≡ (if t then n ∷ wide_from (suc n) bs else wide_from (suc n) bs) ++ one_if (is_conflict block) (n + length (b ∷ bs))
     go true e = ap (λ ns. n ∷ ns) e
     go false e = e
 
-narrow-is : (block : List (List Value)) → length block ≤ 1 → is_wide block ≡ false
+narrow-is : (block : List (List Value)) → length block ≤ 1 → is_conflict block ≡ false
 narrow-is [] l = refl
 narrow-is (x ∷ []) l = refl
 narrow-is (x ∷ y ∷ rows) l = absurd (omega (arith, l))
 
-wide-is : (block : List (List Value)) → 1 < length block → is_wide block ≡ true
+wide-is : (block : List (List Value)) → 1 < length block → is_conflict block ≡ true
 wide-is [] l = absurd (omega (arith, l))
 wide-is (x ∷ []) l = absurd (omega (arith, l))
 wide-is (x ∷ y ∷ rows) l = refl
@@ -46,7 +47,7 @@ module _ (front : List (List (List Value))) (block : List (List Value)) (old : L
 -- such a number is one of a block
 pub wide-below : (n : ℕ) (blocks : List (List (List Value))) (k : ℕ) → Contains (wide_from n blocks) k → k < n + length blocks
 wide-below n [] k m = absurd (mem-nil k m)
-wide-below n (b ∷ bs) k m = go (λ r. wide-below (suc n) bs k r) (is_wide b) m
+wide-below n (b ∷ bs) k m = go (λ r. wide-below (suc n) bs k r) (is_conflict b) m
   where
     go : (Contains (wide_from (suc n) bs) k → k < suc n + length bs) → (t : Bool) → Contains (if t then n ∷ wide_from (suc n) bs else wide_from (suc n) bs) k → k < n + length (b ∷ bs)
     go below true r = elim (mem-cases k n (wide_from (suc n) bs) r) [
@@ -61,7 +62,7 @@ pub wide-picks : (f : ℕ → RowId) (blocks : List (List (List Value))) (before
 wide-picks f [] before [] e = refl
 wide-picks f [] before (p ∷ places) e = absurd (omega (arith, e))
 wide-picks f (b ∷ bs) before [] e = absurd (omega (arith, e))
-wide-picks f (b ∷ bs) before (p ∷ places) e = go (is_wide b) (rest (wide-picks f bs (before ++ p ∷ []) places (omega (arith, e))))
+wide-picks f (b ∷ bs) before (p ∷ places) e = go (is_conflict b) (rest (wide-picks f bs (before ++ p ∷ []) places (omega (arith, e))))
   where
     all : (before ++ p ∷ []) ++ places ≡ before ++ p ∷ places
     all = append_assoc before (p ∷ []) places

@@ -8,8 +8,8 @@ use Rattle.cqa_value.specs.declared.value.Value.{Value}
 use Rattle.cqa_model.specs.Blocks.{AreBlocks}
 use Rattle.cqa_model.specs.Repairs.{SharesKey}
 use Rattle.cqa_model.proofs.Classic.{mem-head}
-use Rattle.range_ask.specs.Finding.{row_at}
-use Rattle.range_ask.specs.Walking.{rows_of, IsReading, IsNext}
+use Rattle.range_ask.specs.Finding.{row_in_block}
+use Rattle.range_ask.specs.Walking.{rows_of_blocks, IsReading, IsNextBlock}
 
 head-same : (x y : List Value) (xs ys : List (List Value)) → x ∷ xs ≡ y ∷ ys → (x ≡ y) × (xs ≡ ys)
 head-same x y xs ys e = (cc, cc)
@@ -21,11 +21,11 @@ drop-all (x ∷ xs) zero l = absurd (omega (arith, l))
 drop-all (x ∷ xs) (suc n) l = drop-all xs n (omega (arith, l))
 
 -- rows of blocks that begin with a row
-first-of : (bs : List (List (List Value))) (row : List Value) (rest : List (List Value)) → ((b : List (List Value)) → Contains bs b → 0 < length b) → rows_of bs ≡ row ∷ rest →
-    (b : List (List Value)) × (more : List (List (List Value))) × (bs ≡ (row ∷ b) ∷ more) × (rest ≡ b ++ rows_of more)
+first-of : (bs : List (List (List Value))) (row : List Value) (rest : List (List Value)) → ((b : List (List Value)) → Contains bs b → 0 < length b) → rows_of_blocks bs ≡ row ∷ rest →
+    (b : List (List Value)) × (more : List (List (List Value))) × (bs ≡ (row ∷ b) ∷ more) × (rest ≡ b ++ rows_of_blocks more)
 first-of [] row rest some e = absurd (cc)
 first-of ([] ∷ bs) row rest some e = let z = some [] (mem-head [] bs) in absurd (omega (arith, z))
-first-of ((x ∷ b) ∷ bs) row rest some e = let h = head-same x row (b ++ rows_of bs) rest e in (b, bs, ap (λ r. (r ∷ b) ∷ bs) h.0, sym h.1)
+first-of ((x ∷ b) ∷ bs) row rest some e = let h = head-same x row (b ++ rows_of_blocks bs) rest e in (b, bs, ap (λ r. (r ∷ b) ∷ bs) h.0, sym h.1)
 
 within-or-not : (m n : ℕ) → m ≤ n → (m < n) ⊎ (m ≡ n)
 within-or-not zero zero l = inr refl
@@ -36,7 +36,7 @@ within-or-not (suc m) (suc n) l = elim (within-or-not m n (omega (arith, l))) [
   | inr e ↦ inr (ap suc e)
 ]
 
-none-of : (bs : List (List (List Value))) → ((b : List (List Value)) → Contains bs b → 0 < length b) → rows_of bs ≡ [] → bs ≡ []
+none-of : (bs : List (List (List Value))) → ((b : List (List Value)) → Contains bs b → 0 < length b) → rows_of_blocks bs ≡ [] → bs ≡ []
 none-of [] some e = refl
 none-of ([] ∷ bs) some e = let z = some [] (mem-head [] bs) in absurd (omega (arith, z))
 none-of ((x ∷ b) ∷ bs) some e = absurd (cc)
@@ -46,20 +46,20 @@ both-none [] ys e = (refl, e)
 both-none (x ∷ xs) ys e = absurd (cc)
 
 abbrev GoesOn : List ℕ → List (List Value) → List (List (List Value)) → List Value → ℕ → List Value → List (List Value) → Type 0
-GoesOn key block later last read row rest = (read < length block) × (row ≡ row_at block read) × (rest ≡ drop (suc read) block ++ rows_of later) × SharesKey key last row
+GoesOn key block later last read row rest = (read < length block) × (row ≡ row_in_block block read) × (rest ≡ drop (suc read) block ++ rows_of_blocks later) × SharesKey key last row
 
 abbrev Ends : List ℕ → List (List Value) → List (List (List Value)) → List Value → ℕ → List Value → List (List Value) → Type 0
-Ends key block later last read row rest = (b : List (List Value)) × (more : List (List (List Value))) × (read ≡ length block) × (later ≡ (row ∷ b) ∷ more) × (rest ≡ b ++ rows_of more) × (SharesKey key last row → ⊥)
+Ends key block later last read row rest = (b : List (List Value)) × (more : List (List (List Value))) × (read ≡ length block) × (later ≡ (row ∷ b) ∷ more) × (rest ≡ b ++ rows_of_blocks more) × (SharesKey key last row → ⊥)
 
 module _ (key : List ℕ) (rows : List (List Value)) (all : List (List (List Value))) (are : AreBlocks key rows all) where
   -- what holds of the blocks so far still holds when a block is added
   abbrev pub Closes : (List (List Value) → ℕ → Type 0) → (W W' : List (List (List Value)) → Type 0) → ℕ → Type 0
   Closes B W W' start =
-      (front : List (List (List Value))) (block : List (List Value)) (later : List (List (List Value))) → IsNext rows front block later start → B block (length block) → W front → W' (front ++ block ∷ [])
+      (front : List (List (List Value))) (block : List (List Value)) (later : List (List (List Value))) → IsNextBlock rows front block later start → B block (length block) → W front → W' (front ++ block ∷ [])
 
   -- what is known of a first row
   abbrev pub Opens : (List (List Value) → ℕ → Type 0) → List Value → Type 0
-  Opens B row = (block : List (List Value)) → row ≡ row_at block 0 → B block 1
+  Opens B row = (block : List (List Value)) → row ≡ row_in_block block 0 → B block 1
 
   module _ (W : List (List (List Value)) → Type 0) (B : List (List Value) → ℕ → Type 0) (left : List (List Value)) (last : List Value) (start read : ℕ) (h : IsReading W B all left last start read) where
     block-in : Contains all h.block
@@ -68,15 +68,15 @@ module _ (key : List ℕ) (rows : List (List Value)) (all : List (List (List Val
     some-later : (b : List (List Value)) → Contains h.later b → 0 < length b
     some-later b m = are.some b (subst (λ bs. Contains bs b) (sym h.cut) (Contains-append_right h.front (h.block ∷ h.later) b (Contains-append_right (h.block ∷ []) h.later b m)))
 
-    pub next-is : IsNext rows h.front h.block h.later start
-    next-is = record { rows_are = sym are.joined ∙ ap rows_of h.cut; start_is = h.start_is; some = are.some h.block block-in }
+    pub next-is : IsNextBlock rows h.front h.block h.later start
+    next-is = record { rows_are = sym are.joined ∙ ap rows_of_blocks h.cut; start_is = h.start_is; some = are.some h.block block-in }
 
     -- the block fits behind those before
     pub read-fits : start + length h.block ≤ length rows
     read-fits =
         let e = ap length (next-is.rows_are ∙ flat_map-append (λ (c : List (List Value)). c) h.front (h.block ∷ h.later)) in
-        let f = length-append (rows_of h.front) (h.block ++ rows_of h.later) in
-        let g = length-append h.block (rows_of h.later) in
+        let f = length-append (rows_of_blocks h.front) (h.block ++ rows_of_blocks h.later) in
+        let g = length-append h.block (rows_of_blocks h.later) in
         let s = h.start_is in
         omega (arith, e, f, g, s)
 
@@ -89,14 +89,14 @@ module _ (key : List ℕ) (rows : List (List Value)) (all : List (List (List Val
     module _ (row : List Value) (rest : List (List Value)) (next : left ≡ row ∷ rest) where
       goes-on : read < length h.block → GoesOn key h.block h.later last read row rest
       goes-on s =
-          let e = sym next ∙ (h.left_is ∙ ap (λ xs. xs ++ rows_of h.later) (drop-cons h.block read [] s)) in
-          let g = head-same row (row_at h.block read) rest (drop (suc read) h.block ++ rows_of h.later) e in
+          let e = sym next ∙ (h.left_is ∙ ap (λ xs. xs ++ rows_of_blocks h.later) (drop-cons h.block read [] s)) in
+          let g = head-same row (row_in_block h.block read) rest (drop (suc read) h.block ++ rows_of_blocks h.later) e in
           (s, g.0, g.1, are.alike h.block block-in last row h.last_in (subst (Contains h.block) (sym g.0) (Contains-get_or h.block read [] s)))
 
       ends : read ≡ length h.block → Ends key h.block h.later last read row rest
       ends e =
           let none = drop-all h.block read (omega (arith, e)) in
-          let g = first-of h.later row rest some-later (sym (sym next ∙ (h.left_is ∙ ap (λ xs. xs ++ rows_of h.later) none))) in
+          let g = first-of h.later row rest some-later (sym (sym next ∙ (h.left_is ∙ ap (λ xs. xs ++ rows_of_blocks h.later) none))) in
           let front = h.front in
           let here : slice_index_or all (length front) [] ≡ h.block = ap (λ bs. slice_index_or bs (length front) []) h.cut ∙ get_or-append_seam front h.block h.later [] in
           let there : slice_index_or all (length front + 1) [] ≡ row ∷ g.0 =
@@ -120,7 +120,7 @@ module _ (key : List ℕ) (rows : List (List Value)) (all : List (List (List Val
 
       -- the next row is of the block
       pub read-on : (B' : List (List Value) → ℕ → Type 0) (start' read' : ℕ) → start' ≡ start → read' ≡ read + 1 →
-          ((block : List (List Value)) → B block read → row ≡ row_at block read → B' block (read + 1)) → SharesKey key last row → IsReading W B' all rest row start' read'
+          ((block : List (List Value)) → B block read → row ≡ row_in_block block read → B' block (read + 1)) → SharesKey key last row → IsReading W B' all rest row start' read'
       read-on B' start' read' se re more s = elim cases [
         | inr n ↦ absurd (n.5 s)
         | inl g ↦ record {
@@ -131,7 +131,7 @@ module _ (key : List ℕ) (rows : List (List Value)) (all : List (List (List Val
           start_is = se ∙ h.start_is;
           begun = omega (arith, re);
           read_in = (let l = g.0 in omega (arith, re, l));
-          left_is = g.2 ∙ ap (λ n. drop n h.block ++ rows_of h.later) suc-is;
+          left_is = g.2 ∙ ap (λ n. drop n h.block ++ rows_of_blocks h.later) suc-is;
           last_in = subst (Contains h.block) (sym g.1) (Contains-get_or h.block read [] g.0);
           before = h.before;
           so_far = subst (B' h.block) (sym re) (more h.block h.so_far g.1);
@@ -154,24 +154,24 @@ module _ (key : List ℕ) (rows : List (List Value)) (all : List (List (List Val
           start_is = (let s = h.start_is in let r = g.2 in let m = front-more in omega (arith, se, s, r, m));
           begun = omega (arith, re);
           read_in = omega (arith, re);
-          left_is = subst (λ k. rest ≡ drop k (row ∷ g.0) ++ rows_of g.1) (sym re) g.4;
+          left_is = subst (λ k. rest ≡ drop k (row ∷ g.0) ++ rows_of_blocks g.1) (sym re) g.4;
           last_in = mem-head row g.0;
           before = closed W' close g.2;
           so_far = subst (B' (row ∷ g.0)) (sym re) (first (row ∷ g.0) refl);
         }
       ]
         where
-          front-more : length (rows_of (h.front ++ h.block ∷ [])) ≡ length (rows_of h.front) + length h.block
+          front-more : length (rows_of_blocks (h.front ++ h.block ∷ [])) ≡ length (rows_of_blocks h.front) + length h.block
           front-more =
               let e = ap length (flat_map-append (λ (c : List (List Value)). c) h.front (h.block ∷ [])) in
-              let f = length-append (rows_of h.front) (h.block ++ []) in
+              let f = length-append (rows_of_blocks h.front) (h.block ++ []) in
               let g = ap length (append-nil h.block) in
               omega (arith, e, f, g)
 
     -- there is no next row
     pub read-all : (W' : List (List (List Value)) → Type 0) → left ≡ [] → Closes B W W' start → W' all
     read-all W' none close =
-        let e = both-none (drop read h.block) (rows_of h.later) (sym h.left_is ∙ none) in
+        let e = both-none (drop read h.block) (rows_of_blocks h.later) (sym h.left_is ∙ none) in
         let whole : read ≡ length h.block = elim (within-or-not read (length h.block) h.read_in) [
           | inl s ↦ (let z = sym (drop-cons h.block read [] s) ∙ e.0 in absurd (cc))
           | inr w ↦ w
@@ -189,7 +189,7 @@ module _ (key : List ℕ) (rows : List (List Value)) (all : List (List (List Val
         start_is = se;
         begun = omega (arith, re);
         read_in = omega (arith, re);
-        left_is = subst (λ k. rest ≡ drop k (row ∷ g.0) ++ rows_of g.1) (sym re) g.3;
+        left_is = subst (λ k. rest ≡ drop k (row ∷ g.0) ++ rows_of_blocks g.1) (sym re) g.3;
         last_in = mem-head row g.0;
         before = w;
         so_far = subst (B (row ∷ g.0)) (sym re) (first (row ∷ g.0) refl);

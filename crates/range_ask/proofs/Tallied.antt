@@ -11,9 +11,9 @@ use Rattle.cqa_model.proofs.Classic.{mem-head}
 use Rattle.range_ask.specs.declared.tally.Tally.{Tally}
 use Rattle.range_ask.specs.declared.way.Way.TheVariants.{Up, Down}
 use Rattle.range_ask.specs.Picks.{worth}
-use Rattle.range_ask.specs.Finding.{added, row_at}
+use Rattle.range_ask.specs.Finding.{added, row_in_block}
 use Rattle.range_ask.specs.Walking.{IsTotal}
-use Rattle.range_ask.specs.Tallying.{seen, total_of, peak_of, IsSureOf, IsKnown, IsWhole, IsPartly, IsTallied, IsTallying, AreAdding}
+use Rattle.range_ask.specs.Tallying.{rows_so_far, total_of, peak_of, IsSureOf, IsKnownGroup, IsWhole, IsPartly, IsTallied, IsTallying, AreAdding}
 use Rattle.range_ask.proofs.Adding.{AddsNone, adding-begin, adding-miss, adding-end}
 use Rattle.range_ask.proofs.Peaking.{seen-none, seen-more, seen-all, filter-miss, far-begin, far-miss, far-end, peak-begin, peak-miss, peak-end}
 
@@ -24,14 +24,14 @@ pub worth-met : (p : List Value → Bool) (g : List Value → ℤ) (x : List Val
 worth-met p g x t = ap (λ b. if b then g x else pos 0) t
 
 module _ (p : List Value → Bool) (sure : Bool) (front : List (List (List Value))) (block : List (List Value)) (h : IsSureOf sure p block) where
-  known-miss : (n : ℕ) (o : Option Tally) → n < length block → p (row_at block n) ≡ false → IsKnown p (seen front block n) o → IsKnown p (seen front block (suc n)) o
-  known-miss n None l e k = ap (filter p) (seen-more front block n l) ∙ (filter-miss p (seen front block n) (row_at block n) e ∙ k)
-  known-miss n (Some t) l e (y, m) = (y, subst (λ rows. Contains rows y) (sym (ap (filter p) (seen-more front block n l) ∙ filter-miss p (seen front block n) (row_at block n) e)) m)
+  known-miss : (n : ℕ) (o : Option Tally) → n < length block → p (row_in_block block n) ≡ false → IsKnownGroup p (rows_so_far front block n) o → IsKnownGroup p (rows_so_far front block (suc n)) o
+  known-miss n None l e k = ap (filter p) (seen-more front block n l) ∙ (filter-miss p (rows_so_far front block n) (row_in_block block n) e ∙ k)
+  known-miss n (Some t) l e (y, m) = (y, subst (λ rows. Contains rows y) (sym (ap (filter p) (seen-more front block n l) ∙ filter-miss p (rows_so_far front block n) (row_in_block block n) e)) m)
 
-  pub known-hit : (n : ℕ) (t : Tally) → n < length block → p (row_at block n) ≡ true → IsKnown p (seen front block (suc n)) (Some t)
+  pub known-hit : (n : ℕ) (t : Tally) → n < length block → p (row_in_block block n) ≡ true → IsKnownGroup p (rows_so_far front block (suc n)) (Some t)
   known-hit n t l e =
-      let row = row_at block n in
-      (row, (Contains-filter p (seen front block (suc n)) row).1 (subst (λ rows. Contains rows row) (sym (seen-more front block n l)) (Contains-append_right (seen front block n) (row ∷ []) row (mem-head row [])), e))
+      let row = row_in_block block n in
+      (row, (Contains-filter p (rows_so_far front block (suc n)) row).1 (subst (λ rows. Contains rows row) (sym (seen-more front block n l)) (Contains-append_right (rows_so_far front block n) (row ∷ []) row (mem-head row [])), e))
 
   begin : (goal : Goal) (o : Option Tally) → IsWhole goal p front o → IsPartly goal p sure front block 0 o
   begin Count o w = adding-begin (worth p (added Count)) p (worth-none p (added Count)) sure front block h (total_of o) w
@@ -39,7 +39,7 @@ module _ (p : List Value → Bool) (sure : Bool) (front : List (List (List Value
   begin (Min col) o (s, f) = (peak-begin Down p col sure front block h (peak_of o) s, far-begin Down p col front block (peak_of o) f)
   begin (Max col) o (s, f) = (peak-begin Up p col sure front block h (peak_of o) s, far-begin Up p col front block (peak_of o) f)
 
-  miss : (goal : Goal) (n : ℕ) (o : Option Tally) → n < length block → p (row_at block n) ≡ false → IsPartly goal p sure front block n o → IsPartly goal p sure front block (suc n) o
+  miss : (goal : Goal) (n : ℕ) (o : Option Tally) → n < length block → p (row_in_block block n) ≡ false → IsPartly goal p sure front block n o → IsPartly goal p sure front block (suc n) o
   miss Count n o l e w = adding-miss (worth p (added Count)) p (worth-none p (added Count)) sure front block h n (total_of o) l e w
   miss (Sum col) n o l e w = adding-miss (worth p (added (Sum col))) p (worth-none p (added (Sum col))) sure front block h n (total_of o) l e w
   miss (Min col) n o l e (s, f) = (peak-miss Down p col sure front block h n (peak_of o) l e s, far-miss Down p col front block n (peak_of o) l e f)
@@ -52,13 +52,13 @@ module _ (p : List Value → Bool) (sure : Bool) (front : List (List (List Value
   end (Max col) o l (s, f) = (peak-end Up p col sure front block h l (peak_of o) s, far-end Up p col front block (peak_of o) f)
 
   pub tallying-begin : (goal : Goal) (o : Option Tally) → IsTallied goal p front o → IsTallying goal p sure front block 0 o
-  tallying-begin goal o (k, w) = (subst (λ rows. IsKnown p rows o) (seen-none front block) k, begin goal o w)
+  tallying-begin goal o (k, w) = (subst (λ rows. IsKnownGroup p rows o) (seen-none front block) k, begin goal o w)
 
-  pub tallying-miss : (goal : Goal) (n : ℕ) (o : Option Tally) → n < length block → p (row_at block n) ≡ false → IsTallying goal p sure front block n o → IsTallying goal p sure front block (suc n) o
+  pub tallying-miss : (goal : Goal) (n : ℕ) (o : Option Tally) → n < length block → p (row_in_block block n) ≡ false → IsTallying goal p sure front block n o → IsTallying goal p sure front block (suc n) o
   tallying-miss goal n o l e (k, w) = (known-miss n o l e k, miss goal n o l e w)
 
   pub tallying-end : (goal : Goal) (o : Option Tally) → 0 < length block → IsTallying goal p sure front block (length block) o → IsTallied goal p (front ++ block ∷ []) o
-  tallying-end goal o l (k, w) = (subst (λ rows. IsKnown p rows o) (seen-all front block) k, end goal o l w)
+  tallying-end goal o l (k, w) = (subst (λ rows. IsKnownGroup p rows o) (seen-all front block) k, end goal o l w)
 
 -- what is kept for a count or a sum
 pub from_part : (goal : Goal) → IsTotal goal → (p : List Value → Bool) (sure : Bool) (front : List (List (List Value))) (block : List (List Value)) (n : ℕ) (o : Option Tally) →

@@ -12,7 +12,7 @@ use Rattle.range_ask.specs.declared.top.Top.{Top}
 use Rattle.range_ask.specs.Ranges.{cell}
 use Rattle.range_ask.specs.Picks.{Before}
 use Rattle.range_ask.specs.Finding.{IsFurthest}
-use Rattle.range_ask.specs.Walking.{rows_of, IsNext, AreChosen}
+use Rattle.range_ask.specs.Walking.{rows_of_blocks, IsNextBlock, AreChosenSoFar}
 use Rattle.range_ask.specs.Reaching.{IsTop}
 use Rattle.range_ask.proofs.Ordered.{before-trans}
 use Rattle.range_ask.proofs.Chosen.{place}
@@ -20,12 +20,12 @@ use Rattle.range_ask.proofs.Walked.{row-here, chosen-more}
 use Rattle.std.proofs.lemmas.List.Elements.{Contains-get_or}
 
 abbrev pub Kept : List (List Value) → List (List (List Value)) → List ℕ → Type 0
-Kept rows front places = AreChosen (λ (b : List (List Value)) x. Contains b x) rows front places
+Kept rows front places = AreChosenSoFar (λ (b : List (List Value)) x. Contains b x) rows front places
 
-module _ (way : Way) (p : List Value → Bool) (col : ℕ) (rows : List (List Value)) (front : List (List (List Value))) (block : List (List Value)) (later : List (List (List Value))) (start : ℕ) (next : IsNext rows front block later start) where
-  more-cases : (y : List Value) → Contains (rows_of (front ++ block ∷ [])) y → Contains (rows_of front) y ⊎ Contains block y
-  more-cases y m = Contains-append_cases (rows_of front) block y
-      (subst (λ xs. Contains xs y) (flat_map-append (λ (c : List (List Value)). c) front (block ∷ []) ∙ ap (λ xs. rows_of front ++ xs) (append-nil block)) m)
+module _ (way : Way) (p : List Value → Bool) (col : ℕ) (rows : List (List Value)) (front : List (List (List Value))) (block : List (List Value)) (later : List (List (List Value))) (start : ℕ) (next : IsNextBlock rows front block later start) where
+  more-cases : (y : List Value) → Contains (rows_of_blocks (front ++ block ∷ [])) y → Contains (rows_of_blocks front) y ⊎ Contains block y
+  more-cases y m = Contains-append_cases (rows_of_blocks front) block y
+      (subst (λ xs. Contains xs y) (flat_map-append (λ (c : List (List Value)). c) front (block ∷ []) ∙ ap (λ xs. rows_of_blocks front ++ xs) (append-nil block)) m)
 
   -- no row of the block meets the tests
   unmet : IsFurthest way p col block (length block) None → (y : List Value) → Contains block y → p y ≡ false
@@ -73,7 +73,7 @@ module _ (way : Way) (p : List Value → Bool) (col : ℕ) (rows : List (List Va
 
     -- the row of the block is the one
     pub top-fresh : (spot : Spot) → IsFurthest way p col block (length block) (Some spot) → (number : ℕ) → number ≡ length places →
-        ((y : List Value) → Contains (rows_of front) y → p y ≡ true → Before way (cell y col) (cell spot.row.now col)) →
+        ((y : List Value) → Contains (rows_of_blocks front) y → p y ≡ true → Before way (cell y col) (cell spot.row.now col)) →
         IsTop way p col rows (front ++ block ∷ []) new (Some (record { number = number; place = start + spot.at; row = spot.row }))
     top-fresh spot far number e behind =
         let here = row-here rows front block later start next spot.at far.0 in record {

@@ -15,7 +15,7 @@ abbrev pub ArePicked : List (List (List Value)) → List (List Value) → Type 0
 ArePicked blocks xs = AllZip (λ (b : List (List Value)) x. Contains b x) blocks xs
 
 -- a table's rows are in block order, and these are its blocks
-pub record IsParted (db : List Table) (table : ℕ) (blocks : List (List (List Value))) : Type 0 where
+pub record IsInBlocks (db : List Table) (table : ℕ) (blocks : List (List (List Value))) : Type 0 where
   pub in_order : IsStrictlySortedBy (block_cmp (key_at db table)) (rows_at db table)
   pub blocks_are : AreBlocks (key_at db table) (rows_at db table) blocks
 
@@ -47,11 +47,11 @@ IsExtreme way col rows None = rows ≡ []
 IsExtreme way col rows (Some x) = Contains rows x × ((y : List Value) → Contains rows y → Before way (cell y col) (cell x col))
 
 -- a row that doesn't meet the tests; or all of the block do, and no value lies less far that way than its own
-pub record Avoids (way : Way) (p : List Value → Bool) (col : ℕ) (block : List (List Value)) (x : List Value) : Type 0 where
+pub record AvoidsFar (way : Way) (p : List Value → Bool) (col : ℕ) (block : List (List Value)) (x : List Value) : Type 0 where
   pub there : Contains block x
   pub else_near : p x ≡ true → (y : List Value) → Contains block y → (p y ≡ true) × Before way (cell x col) (cell y col)
 
 -- of the rows that meet the tests one whose value lies furthest that way; any row where none meets them
-pub record Meets (way : Way) (p : List Value → Bool) (col : ℕ) (block : List (List Value)) (x : List Value) : Type 0 where
+pub record MeetsFar (way : Way) (p : List Value → Bool) (col : ℕ) (block : List (List Value)) (x : List Value) : Type 0 where
   pub there : Contains block x
   pub far : (y : List Value) → Contains block y → p y ≡ true → (p x ≡ true) × Before way (cell y col) (cell x col)

@@ -18,7 +18,7 @@ use Rattle.cqa_model.specs.declared.query.RowId.{RowId}
 use Rattle.cqa_model.specs.Database.{Table, nothing}
 use Rattle.cqa_model.specs.Repairs.{IsTableRepair}
 use Rattle.table_blocks.specs.declared.test.ColumnTest.{ColumnTest}
-use Rattle.table_blocks.specs.Tables.{rows_at, key_at}
+use Rattle.table_blocks.specs.Tables.{rows_at, key_at, rows_in, names_in}
 use Rattle.range_ask.specs.declared.range.Range.{Range}
 
 -- a row's value in a column
@@ -58,23 +58,23 @@ abbrev pub AtMost : Value → Value → Type 0
 AtMost x y = value_cmp x y ≢ Greater
 
 -- the least value of a column in rows; none where there are no rows
-abbrev pub IsLeast : ℕ → List (List Value) → End → Type 0
-IsLeast col rows Empty = rows ≡ []
-IsLeast col rows (Number n) = ⊥
-IsLeast col rows (Held v) = ((row : List Value) × Contains rows row × (cell row col ≡ v)) × ((row : List Value) → Contains rows row → AtMost v (cell row col))
+abbrev pub IsLeastValue : ℕ → List (List Value) → End → Type 0
+IsLeastValue col rows Empty = rows ≡ []
+IsLeastValue col rows (Number n) = ⊥
+IsLeastValue col rows (Held v) = ((row : List Value) × Contains rows row × (cell row col ≡ v)) × ((row : List Value) → Contains rows row → AtMost v (cell row col))
 
 -- the greatest
-abbrev pub IsGreatest : ℕ → List (List Value) → End → Type 0
-IsGreatest col rows Empty = rows ≡ []
-IsGreatest col rows (Number n) = ⊥
-IsGreatest col rows (Held v) = ((row : List Value) × Contains rows row × (cell row col ≡ v)) × ((row : List Value) → Contains rows row → AtMost (cell row col) v)
+abbrev pub IsGreatestValue : ℕ → List (List Value) → End → Type 0
+IsGreatestValue col rows Empty = rows ≡ []
+IsGreatestValue col rows (Number n) = ⊥
+IsGreatestValue col rows (Held v) = ((row : List Value) × Contains rows row × (cell row col ≡ v)) × ((row : List Value) → Contains rows row → AtMost (cell row col) v)
 
 -- the value of an aggregate over rows
 abbrev pub HasValue : Goal → List (List Value) → End → Type 0
 HasValue Count rows end = end ≡ Number (pos (length rows))
 HasValue (Sum col) rows end = end ≡ Number (total (λ row. number_of (cell row col)) rows)
-HasValue (Min col) rows end = IsLeast col rows end
-HasValue (Max col) rows end = IsGreatest col rows end
+HasValue (Min col) rows end = IsLeastValue col rows end
+HasValue (Max col) rows end = IsGreatestValue col rows end
 
 -- one end isn't above another: no value is below each value; numbers are compared by size, values by their order
 abbrev pub IsUpTo : End → End → Type 0
@@ -85,14 +85,6 @@ IsUpTo (Number m) (Held y) = ⊥
 IsUpTo (Held x) Empty = ⊥
 IsUpTo (Held x) (Number n) = ⊥
 IsUpTo (Held x) (Held y) = AtMost x y
-
--- the rows of a table at some places
-abbrev pub rows_in : List (List Value) → List ℕ → List (List Value)
-rows_in rows places = map (λ p. slice_index_or rows p []) places
-
--- and their names
-abbrev pub names_in : ℕ → List ℕ → List RowId
-names_in table places = map (λ p. record { table = table; place = p }) places
 
 -- the names are those of a repair of the table, in block order, and this is its value
 pub record IsAttained (db : List Table) (table : ℕ) (goal : Goal) (tests : List ColumnTest) (names : List RowId) (end : End) : Type 0 where

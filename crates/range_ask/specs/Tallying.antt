@@ -21,9 +21,9 @@ use Rattle.range_ask.specs.declared.groups.Group.{Group}
 use Rattle.range_ask.specs.declared.tally.Tally.TheVariants as tallies
 use Rattle.range_ask.specs.Ranges.{cell, meets, total}
 use Rattle.range_ask.specs.Groups.{tests_with}
-use Rattle.range_ask.specs.Picks.{worth, turned, IsCheapest, IsDearest, IsExtreme, Avoids}
-use Rattle.range_ask.specs.Finding.{added, row_at}
-use Rattle.range_ask.specs.Walking.{rows_of, IsWithin}
+use Rattle.range_ask.specs.Picks.{worth, turned, IsCheapest, IsDearest, IsExtreme, AvoidsFar}
+use Rattle.range_ask.specs.Finding.{added, row_in_block}
+use Rattle.range_ask.specs.Walking.{rows_of_blocks, IsWithinBlocks}
 use Rattle.range_ask.specs.Reaching.{as_end, IsIfMet}
 
 -- a block is sure: its rows are of a group all together or not at all; or a row of it isn't of the group
@@ -33,7 +33,7 @@ pub record IsSureOf (sure : Bool) (p : List Value → Bool) (block : List (List 
 
 -- no row of a block's first n is of the group
 abbrev pub NoneOf : (List Value → Bool) → List (List Value) → ℕ → Type 0
-NoneOf p block n = (i : ℕ) → i < n → p (row_at block i) ≡ false
+NoneOf p block n = (i : ℕ) → i < n → p (row_in_block block i) ≡ false
 
 -- one of two numbers, in such an order with both
 pub record IsEither (Le : ℤ → ℤ → Type 0) (a b c : ℤ) : Type 0 where
@@ -54,7 +54,7 @@ pub record IsSum (R : List (List Value) → List Value → Type 0) (f : List Val
   pub picks : List (List Value)
   pub picked : AllZip R front picks
   pub is : n ≡ total f picks
-  pub within : IsWithin (length front) n
+  pub within : IsWithinBlocks (length front) n
 
 -- both sums over the blocks so far
 pub record AreSums (f : List Value → ℤ) (front : List (List (List Value))) (t : Total) : Type 0 where
@@ -64,35 +64,35 @@ pub record AreSums (f : List Value → ℤ) (front : List (List (List Value))) (
 
 -- what the block that is being read adds to a sum: what a row of it is worth, in such an order with the first n rows; and with 0 if a
 -- row of the block isn't of the group
-pub record IsPart (Le : ℤ → ℤ → Type 0) (f : List Value → ℤ) (sure : Bool) (block : List (List Value)) (n : ℕ) (part : ℤ) : Type 0 where
-  pub small : IsWithin 1 part
+pub record IsOpenPart (Le : ℤ → ℤ → Type 0) (f : List Value → ℤ) (sure : Bool) (block : List (List Value)) (n : ℕ) (part : ℤ) : Type 0 where
+  pub small : IsWithinBlocks 1 part
   pub there : (y : List Value) × Contains block y × (f y ≡ part)
-  pub bound : (i : ℕ) → i < n → Le part (f (row_at block i))
+  pub bound : (i : ℕ) → i < n → Le part (f (row_in_block block i))
   pub loose : sure ≡ false → Le part (pos 0)
 
 -- both sums over the blocks before, and both parts of the block
-pub record AreOpen (f : List Value → ℤ) (p : List Value → Bool) (sure : Bool) (front : List (List (List Value))) (block : List (List Value)) (n : ℕ) (t : Total) : Type 0 where
+pub record AreOpenSums (f : List Value → ℤ) (p : List Value → Bool) (sure : Bool) (front : List (List (List Value))) (block : List (List Value)) (n : ℕ) (t : Total) : Type 0 where
   pub number_is : t.number ≡ suc (length front)
   pub low : IsSum (IsCheapest f) f front t.low
   pub high : IsSum (IsDearest f) f front t.high
-  pub least : IsPart AtMostℤ f sure block n t.least
-  pub most : IsPart AtLeastℤ f sure block n t.most
+  pub least : IsOpenPart AtMostℤ f sure block n t.least
+  pub most : IsOpenPart AtLeastℤ f sure block n t.most
   pub all : sure ≡ true → (y : List Value) → Contains block y → p y ≡ true
 
 -- no row of the block was of the group so far, or some was
 abbrev pub AreAdding : (List Value → ℤ) → (List Value → Bool) → Bool → List (List (List Value)) → List (List Value) → ℕ → Total → Type 0
-AreAdding f p sure front block n t = (AreSums f front t × NoneOf p block n) ⊎ AreOpen f p sure front block n t
+AreAdding f p sure front block n t = (AreSums f front t × NoneOf p block n) ⊎ AreOpenSums f p sure front block n t
 
 -- ---- extreme values
 
 -- rows that avoid the group where they can, one of each block, and of those that are of the group this one's value lies furthest
-pub record IsReached (way : Way) (p : List Value → Bool) (col : ℕ) (front : List (List (List Value))) (row : Option (List Value)) : Type 0 where
+pub record IsGroupReached (way : Way) (p : List Value → Bool) (col : ℕ) (front : List (List (List Value))) (row : Option (List Value)) : Type 0 where
   pub picks : List (List Value)
-  pub picked : AllZip (Avoids way p col) front picks
+  pub picked : AllZip (AvoidsFar way p col) front picks
   pub is : IsExtreme way col (filter p picks) row
 
-pub record IsSettled (way : Way) (p : List Value → Bool) (col : ℕ) (front : List (List (List Value))) (t : Peak) : Type 0 where
-  pub sure : IsReached way p col front (option_copied t.sure)
+pub record IsPeakSettled (way : Way) (p : List Value → Bool) (col : ℕ) (front : List (List (List Value))) (t : Peak) : Type 0 where
+  pub sure : IsGroupReached way p col front (option_copied t.sure)
   pub early : t.number ≤ length front
 
 -- one row more, if it is of the group
@@ -110,16 +110,16 @@ pub record IsNearer (way : Way) (col : ℕ) (turn : Turn) (row : List Value) (ol
 -- the block that is being read gave rows of the group; of a sure one, that which lies least far
 pub record IsPeaking (way : Way) (p : List Value → Bool) (col : ℕ) (sure : Bool) (front : List (List (List Value))) (block : List (List Value)) (n : ℕ) (t : Peak) : Type 0 where
   pub number_is : t.number ≡ suc (length front)
-  pub before : IsReached way p col front (option_copied t.before)
+  pub before : IsGroupReached way p col front (option_copied t.before)
   pub near : sure ≡ true → IsExtreme (turned way) col (filter p (take n block)) (option_copied t.near)
   pub none : sure ≡ false → option_copied t.near ≡ None
   pub sure_is : Furthers way col (option_copied t.before) (option_copied t.near) (option_copied t.sure)
   pub all : sure ≡ true → (y : List Value) → Contains block y → p y ≡ true
 
 -- the extreme values of all rows that were read
-pub record AreFar (way : Way) (p : List Value → Bool) (col : ℕ) (seen : List (List Value)) (t : Peak) : Type 0 where
-  pub far : IsExtreme way col (filter p seen) (option_copied t.far)
-  pub top : IsExtreme (turned way) col (filter p seen) (option_copied t.top)
+pub record AreFar (way : Way) (p : List Value → Bool) (col : ℕ) (rows_so_far : List (List Value)) (t : Peak) : Type 0 where
+  pub far : IsExtreme way col (filter p rows_so_far) (option_copied t.far)
+  pub top : IsExtreme (turned way) col (filter p rows_so_far) (option_copied t.top)
 
 -- ---- either, as the aggregate asks
 
@@ -144,35 +144,35 @@ peak_of (Some (tallies.Peak t)) = t
 abbrev pub IsWhole : Goal → (List Value → Bool) → List (List (List Value)) → Option Tally → Type 0
 IsWhole Count p front o = AreSums (worth p (added Count)) front (total_of o)
 IsWhole (Sum col) p front o = AreSums (worth p (added (Sum col))) front (total_of o)
-IsWhole (Min col) p front o = IsSettled Down p col front (peak_of o) × AreFar Down p col (rows_of front) (peak_of o)
-IsWhole (Max col) p front o = IsSettled Up p col front (peak_of o) × AreFar Up p col (rows_of front) (peak_of o)
+IsWhole (Min col) p front o = IsPeakSettled Down p col front (peak_of o) × AreFar Down p col (rows_of_blocks front) (peak_of o)
+IsWhole (Max col) p front o = IsPeakSettled Up p col front (peak_of o) × AreFar Up p col (rows_of_blocks front) (peak_of o)
 
 -- the rows of the blocks so far, and so many of the next one
-abbrev pub seen : List (List (List Value)) → List (List Value) → ℕ → List (List Value)
-seen front block n = rows_of front ++ take n block
+abbrev pub rows_so_far : List (List (List Value)) → List (List Value) → ℕ → List (List Value)
+rows_so_far front block n = rows_of_blocks front ++ take n block
 
 -- and while one is read
 abbrev pub IsPartly : Goal → (List Value → Bool) → Bool → List (List (List Value)) → List (List Value) → ℕ → Option Tally → Type 0
 IsPartly Count p sure front block n o = AreAdding (worth p (added Count)) p sure front block n (total_of o)
 IsPartly (Sum col) p sure front block n o = AreAdding (worth p (added (Sum col))) p sure front block n (total_of o)
-IsPartly (Min col) p sure front block n o = ((IsSettled Down p col front (peak_of o) × NoneOf p block n) ⊎ IsPeaking Down p col sure front block n (peak_of o)) × AreFar Down p col (seen front block n) (peak_of o)
-IsPartly (Max col) p sure front block n o = ((IsSettled Up p col front (peak_of o) × NoneOf p block n) ⊎ IsPeaking Up p col sure front block n (peak_of o)) × AreFar Up p col (seen front block n) (peak_of o)
+IsPartly (Min col) p sure front block n o = ((IsPeakSettled Down p col front (peak_of o) × NoneOf p block n) ⊎ IsPeaking Down p col sure front block n (peak_of o)) × AreFar Down p col (rows_so_far front block n) (peak_of o)
+IsPartly (Max col) p sure front block n o = ((IsPeakSettled Up p col front (peak_of o) × NoneOf p block n) ⊎ IsPeaking Up p col sure front block n (peak_of o)) × AreFar Up p col (rows_so_far front block n) (peak_of o)
 
 -- there is something kept of a group exactly if a row of it was read
-abbrev pub IsKnown : (List Value → Bool) → List (List Value) → Option Tally → Type 0
-IsKnown p rows None = filter p rows ≡ []
-IsKnown p rows (Some t) = (y : List Value) × Contains (filter p rows) y
+abbrev pub IsKnownGroup : (List Value → Bool) → List (List Value) → Option Tally → Type 0
+IsKnownGroup p rows None = filter p rows ≡ []
+IsKnownGroup p rows (Some t) = (y : List Value) × Contains (filter p rows) y
 
 abbrev pub IsTallied : Goal → (List Value → Bool) → List (List (List Value)) → Option Tally → Type 0
-IsTallied goal p front o = IsKnown p (rows_of front) o × IsWhole goal p front o
+IsTallied goal p front o = IsKnownGroup p (rows_of_blocks front) o × IsWhole goal p front o
 
 abbrev pub IsTallying : Goal → (List Value → Bool) → Bool → List (List (List Value)) → List (List Value) → ℕ → Option Tally → Type 0
-IsTallying goal p sure front block n o = IsKnown p (seen front block n) o × IsPartly goal p sure front block n o
+IsTallying goal p sure front block n o = IsKnownGroup p (rows_so_far front block n) o × IsPartly goal p sure front block n o
 
 -- so it is with the next row of a block, which is of the group
 abbrev pub IsMore : Goal → Turn → List Value → Option Tally → Tally → Type 0
 IsMore goal turn row old new =
-    (p : List Value → Bool) (front : List (List (List Value))) (block : List (List Value)) (n : ℕ) → turn.number ≡ suc (length front) → IsSureOf turn.sure p block → n < length block → row_at block n ≡ row → p row ≡ true →
+    (p : List Value → Bool) (front : List (List (List Value))) (block : List (List Value)) (n : ℕ) → turn.number ≡ suc (length front) → IsSureOf turn.sure p block → n < length block → row_in_block block n ≡ row → p row ≡ true →
     IsTallying goal p turn.sure front block n old → IsTallying goal p turn.sure front block (suc n) (Some new)
 
 -- ---- the ends
@@ -205,7 +205,7 @@ abbrev pub AreTallied : Goal → List ColumnTest → ℕ → List (List (List Va
 AreTallied goal tests col front groups = (v : Value) → IsTallied goal (meets (tests_with tests col v)) front (get value_cmp groups v)
 
 -- a row more of the group of a value, and of no other
-pub record HasMore (goal : Goal) (turn : Turn) (row : List Value) (value : Value) (old new : BTreeMap Value Tally) : Type 0 where
+pub record HasRowMore (goal : Goal) (turn : Turn) (row : List Value) (value : Value) (old new : BTreeMap Value Tally) : Type 0 where
   pub tally : Tally
   pub more : IsMore goal turn row (get value_cmp old value) tally
   pub here : get value_cmp new value ≡ Some tally
@@ -213,7 +213,7 @@ pub record HasMore (goal : Goal) (turn : Turn) (row : List Value) (value : Value
 
 -- a row more of its group, if it meets the tests
 abbrev pub HasMet : Goal → List ColumnTest → ℕ → Turn → List Value → BTreeMap Value Tally → BTreeMap Value Tally → Type 0
-HasMet goal tests col turn row old new = ((meets tests row ≡ true) × HasMore goal turn row (cell row col) old new) ⊎ ((meets tests row ≡ false) × (new ≡ old))
+HasMet goal tests col turn row old new = ((meets tests row ≡ true) × HasRowMore goal turn row (cell row col) old new) ⊎ ((meets tests row ≡ false) × (new ≡ old))
 
 -- both ends of what is kept of a group
 pub record HasEnds (goal : Goal) (tally : Tally) (least greatest : End) : Type 0 where

@@ -3,7 +3,7 @@
 ghost use Rattle.std.specs.Prelude.{◌≡◌, ◌<◌, IfOk, IfSome, length};
 ghost use Rattle.std.specs.Option.{option_copied};
 ghost use Rattle.cqa_model.specs.declared.aggregate.Goal.TheVariants.{Max, Min};
-ghost use Rattle.range_ask.specs.Choosing.{IsBetween, IsChoice, IsLoose};
+ghost use Rattle.range_ask.specs.Choosing.{IsChoiceBetween, IsRangeChoice, IsLoose};
 ghost use Rattle.range_ask.specs.Reaching.{as_end};
 ghost use Rattle.range_ask.specs.Walking.{IsTotal};
 
@@ -48,7 +48,7 @@ fn total_choice(
 ) -> Result<Choice, NoMemory>
     requires there { table < length db.now }
     requires goal { IsTotal goal.now }
-    ensures { IfOk result (IsChoice db.now table goal.now tests.now) }
+    ensures { IfOk result (IsRangeChoice db.now table goal.now tests.now) }
 {
     let Sides { low, high, wide } = both_sums(alloc, db, table, goal, tests)?;
     Ok(Choice {
@@ -68,7 +68,7 @@ fn choice_between<'a>(
     high: Reach<'a>,
     wide: Vec<usize>,
 ) -> Result<Choice, NoMemory>
-    ensures { IfOk result (IsBetween col low.entry high.entry wide.items) }
+    ensures { IfOk result (IsChoiceBetween col low.entry high.entry wide.items) }
 {
     let least = end_of(alloc, col, low.extreme)?;
     let greatest = end_of(alloc, col, high.extreme)?;
@@ -90,7 +90,7 @@ fn greatest_choice(
     tests: &[ColumnTest],
 ) -> Result<Choice, NoMemory>
     requires { table < length db.now }
-    ensures { IfOk result (IsChoice db.now table (Max col) tests.now) }
+    ensures { IfOk result (IsRangeChoice db.now table (Max col) tests.now) }
 {
     let way = Way::Up;
     let Extremes {
@@ -127,7 +127,7 @@ fn least_choice(
     tests: &[ColumnTest],
 ) -> Result<Choice, NoMemory>
     requires { table < length db.now }
-    ensures { IfOk result (IsChoice db.now table (Min col) tests.now) }
+    ensures { IfOk result (IsRangeChoice db.now table (Min col) tests.now) }
 {
     let way = Way::Down;
     let found = find_extremes(alloc, db, table, &Look { way, col, tests })?;
@@ -151,7 +151,7 @@ pub(crate) fn choose(
     tests: &[ColumnTest],
 ) -> Result<Choice, NoMemory>
     requires { table < length db.now }
-    ensures { IfOk result (IsChoice db.now table goal.now tests.now) }
+    ensures { IfOk result (IsRangeChoice db.now table goal.now tests.now) }
 {
     match goal {
         Goal::Count | Goal::Sum(_) => total_choice(alloc, db, table, goal, tests),

@@ -4,9 +4,9 @@ ghost use Rattle.std.specs.Prelude.{◌≡◌, ◌+◌, ◌^◌, ◌<◌, ◌++�
 ghost use Rattle.cqa_value.specs.declared.value.Value.{Value as Cell};
 ghost use Rattle.table_blocks.specs.Tables.{rows_at};
 ghost use Rattle.range_ask.specs.Ranges.{meets};
-ghost use Rattle.range_ask.specs.Picks.{IsParted};
-ghost use Rattle.range_ask.specs.Finding.{avoided_place, spot_place, IsMet};
-ghost use Rattle.range_ask.specs.Walking.{IsNext};
+ghost use Rattle.range_ask.specs.Picks.{IsInBlocks};
+ghost use Rattle.range_ask.specs.Finding.{avoided_place, spot_place, IsMetSoFar};
+ghost use Rattle.range_ask.specs.Walking.{IsNextBlock};
 ghost use Rattle.range_ask.specs.Reaching.{AreExtremes};
 
 use crate::found::{Met, begun, read_row};
@@ -58,7 +58,7 @@ fn close<'a>(way: Way, col: u32, held: Met<'a>, ends: &mut Extremes<'a>) -> Resu
     requires avoids { held.start + avoided_place held.missing held.near < 2 ^ 31 }
     requires meets { held.start + spot_place held.far < 2 ^ 31 }
     requires near { IfSome held.near (λ spot. held.start + spot.at < 2 ^ 31) }
-    ensures { IfOk result (λ done. (p : List Cell → Bool) (rows : List (List Cell)) (front : List (List (List Cell))) (block : List (List Cell)) (later : List (List (List Cell))) → IsNext rows front block later held.entry.start → IsMet way p col block (length block) held.entry → AreExtremes way p col rows front ends.old → AreExtremes way p col rows (front ++ block ∷ []) ends.new) }
+    ensures { IfOk result (λ done. (p : List Cell → Bool) (rows : List (List Cell)) (front : List (List (List Cell))) (block : List (List Cell)) (later : List (List (List Cell))) → IsNextBlock rows front block later held.entry.start → IsMetSoFar way p col block (length block) held.entry → AreExtremes way p col rows front ends.old → AreExtremes way p col rows (front ++ block ∷ []) ends.new) }
 {
     let number = ends.avoids.places.len();
     note(&mut ends.wide, number, held.read)?;
@@ -80,7 +80,7 @@ pub(crate) fn find_extremes<'a>(
     look: &Look<'_>,
 ) -> Result<Extremes<'a>, NoMemory>
     requires { table < length db.now }
-    ensures { IfOk result (λ ends. (blocks : List (List (List Cell))) × IsParted db.now table blocks × AreExtremes look.now.way (meets look.now.tests.now) look.now.col (rows_at db.now table) blocks ends) }
+    ensures { IfOk result (λ ends. (blocks : List (List (List Cell))) × IsInBlocks db.now table blocks × AreExtremes look.now.way (meets look.now.tests.now) look.now.col (rows_at db.now table) blocks ends) }
 {
     let mut ends = blank(alloc);
     let key = db.schema(table).key.as_slice();

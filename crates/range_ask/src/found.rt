@@ -3,7 +3,7 @@
 ghost use Rattle.std.specs.Prelude.{◌≡◌, ◌+◌, ◌^◌, ◌<◌, ℕ, Bool, List, true};
 ghost use Rattle.cqa_value.specs.declared.value.Value.{Value as Cell};
 ghost use Rattle.range_ask.specs.Ranges.{meets};
-ghost use Rattle.range_ask.specs.Finding.{row_at, IsFurthest, IsMet};
+ghost use Rattle.range_ask.specs.Finding.{row_in_block, IsFurthest, IsMetSoFar};
 
 use crate::way::{Look, Way, is_further};
 use crate::worth::meets;
@@ -29,7 +29,7 @@ pub struct Met<'a> {
 
 /// The one that lies further; the best where neither does.
 fn further_spot<'a>(way: Way, col: u32, best: Option<Spot<'a>>, next: Spot<'a>) -> Option<Spot<'a>>
-    ensures { (p : List Cell → Bool) (block : List (List Cell)) → IsFurthest way p col block next.entry.at best.entry → p (row_at block next.entry.at) ≡ true → row_at block next.entry.at ≡ next.entry.row.now → IsFurthest way p col block (next.entry.at + 1) result }
+    ensures { (p : List Cell → Bool) (block : List (List Cell)) → IsFurthest way p col block next.entry.at best.entry → p (row_in_block block next.entry.at) ≡ true → row_in_block block next.entry.at ≡ next.entry.row.now → IsFurthest way p col block (next.entry.at + 1) result }
 {
     let Some(spot) = best else {
         return Some(next);
@@ -45,7 +45,7 @@ fn further_spot<'a>(way: Way, col: u32, best: Option<Spot<'a>>, next: Spot<'a>) 
 fn unread<'a>(start: u32) -> Met<'a>
     ensures start { result.start ≡ start }
     ensures read { result.read ≡ 0 }
-    ensures met { (look : Way) (p : List Cell → Bool) (col : ℕ) (block : List (List Cell)) → IsMet look p col block 0 result }
+    ensures met { (look : Way) (p : List Cell → Bool) (col : ℕ) (block : List (List Cell)) → IsMetSoFar look p col block 0 result }
 {
     Met {
         start,
@@ -61,7 +61,7 @@ pub(crate) fn read_row<'a>(look: &Look<'_>, held: Met<'a>, row: &'a Row) -> Met<
     requires { held.read < 2 ^ 31 }
     ensures start { result.start ≡ held.entry.start }
     ensures read { result.read ≡ held.entry.read + 1 }
-    ensures met { (block : List (List Cell)) → IsMet look.now.way (meets look.now.tests.now) look.now.col block held.entry.read held.entry → row.now ≡ row_at block held.entry.read → IsMet look.now.way (meets look.now.tests.now) look.now.col block (held.entry.read + 1) result }
+    ensures met { (block : List (List Cell)) → IsMetSoFar look.now.way (meets look.now.tests.now) look.now.col block held.entry.read held.entry → row.now ≡ row_in_block block held.entry.read → IsMetSoFar look.now.way (meets look.now.tests.now) look.now.col block (held.entry.read + 1) result }
 {
     let at = held.read;
     let next = Spot { at, row };
@@ -91,7 +91,7 @@ pub(crate) fn read_row<'a>(look: &Look<'_>, held: Met<'a>, row: &'a Row) -> Met<
 pub(crate) fn begun<'a>(look: &Look<'_>, start: u32, row: &'a Row) -> Met<'a>
     ensures start { result.start ≡ start }
     ensures read { result.read ≡ 1 }
-    ensures met { (block : List (List Cell)) → row.now ≡ row_at block 0 → IsMet look.now.way (meets look.now.tests.now) look.now.col block 1 result }
+    ensures met { (block : List (List Cell)) → row.now ≡ row_in_block block 0 → IsMetSoFar look.now.way (meets look.now.tests.now) look.now.col block 1 result }
 {
     read_row(look, unread(start), row)
 }

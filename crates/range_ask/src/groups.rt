@@ -8,9 +8,9 @@ ghost use Rattle.cqa_value.specs.Values.{value_cmp};
 ghost use Rattle.cqa_model.specs.declared.limits.TheConstants.{MOST_ROWS};
 ghost use Rattle.cqa_value.specs.declared.value.Value.{Value as Cell};
 ghost use Rattle.range_ask.specs.Ranges.{cell, meets};
-ghost use Rattle.range_ask.specs.Picks.{IsParted};
+ghost use Rattle.range_ask.specs.Picks.{IsInBlocks};
 ghost use Rattle.range_ask.specs.Groups.{AreGroups};
-ghost use Rattle.range_ask.specs.Tallying.{AreTallied, HasMet, HasMore, IsEnded};
+ghost use Rattle.range_ask.specs.Tallying.{AreTallied, HasMet, HasRowMore, IsEnded};
 
 use crate::tally::{Tally, both_ends, more};
 use crate::total::Turn;
@@ -48,7 +48,7 @@ fn add_row<'a>(
     value: &Value,
     groups: &mut BTreeMap<Value, Tally<'a>>,
 ) -> Result<(), NoMemory>
-    ensures { IfOk result (λ done. HasMore goal.now turn row.now value.now groups.old groups.new) }
+    ensures { IfOk result (λ done. HasRowMore goal.now turn row.now value.now groups.old groups.new) }
 {
     if let Some(tally) = groups.get_mut(value) {
         *tally = more(goal, turn, row, Some(*tally));
@@ -124,7 +124,7 @@ fn add_table<'a>(
 ) -> Result<(), NoMemory>
     requires there { table < length db.now }
     requires none { groups.old.entries ≡ [] }
-    ensures { IfOk result (λ done. (blocks : List (List (List Cell))) × IsParted db.now table blocks × (length blocks ≤ MOST_ROWS) × AreTallied ask.now.goal.now ask.now.tests.now ask.now.col blocks groups.new) }
+    ensures { IfOk result (λ done. (blocks : List (List (List Cell))) × IsInBlocks db.now table blocks × (length blocks ≤ MOST_ROWS) × AreTallied ask.now.goal.now ask.now.tests.now ask.now.col blocks groups.new) }
 {
     let mut blocks = BlockCursor::over(db.rows(table), db.schema(table).key.as_slice());
     let mut number = 0;

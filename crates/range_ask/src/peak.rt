@@ -3,8 +3,8 @@
 ghost use Rattle.std.specs.Prelude.{◌≡◌, ◌⊎◌, ◌<◌, suc, ℕ, Bool, true, List, length};
 ghost use Rattle.std.specs.Option.{option_copied};
 ghost use Rattle.cqa_value.specs.declared.value.Value.{Value as Cell};
-ghost use Rattle.range_ask.specs.Finding.{row_at};
-ghost use Rattle.range_ask.specs.Tallying.{seen, AreFar, IsNearer, IsPeaking, IsSettled, IsSureOf, NoneOf};
+ghost use Rattle.range_ask.specs.Finding.{row_in_block};
+ghost use Rattle.range_ask.specs.Tallying.{rows_so_far, AreFar, IsNearer, IsPeaking, IsPeakSettled, IsSureOf, NoneOf};
 
 use crate::reach::further_row;
 use crate::total::Turn;
@@ -52,8 +52,8 @@ pub(crate) fn more_peak<'a>(
     row: &'a Row,
     peak: Peak<'a>,
 ) -> Peak<'a>
-    ensures far { (p : List Cell → Bool) (front : List (List (List Cell))) (block : List (List Cell)) (n : ℕ) → n < length block → row_at block n ≡ row.now → p row.now ≡ true → AreFar way p col (seen front block n) peak.entry → AreFar way p col (seen front block (suc n)) result }
-    ensures peaking { (p : List Cell → Bool) (front : List (List (List Cell))) (block : List (List Cell)) (n : ℕ) → turn.number ≡ suc (length front) → IsSureOf turn.sure p block → n < length block → row_at block n ≡ row.now → p row.now ≡ true → ((IsSettled way p col front peak.entry × NoneOf p block n) ⊎ IsPeaking way p col turn.sure front block n peak.entry) → IsPeaking way p col turn.sure front block (suc n) result }
+    ensures far { (p : List Cell → Bool) (front : List (List (List Cell))) (block : List (List Cell)) (n : ℕ) → n < length block → row_in_block block n ≡ row.now → p row.now ≡ true → AreFar way p col (rows_so_far front block n) peak.entry → AreFar way p col (rows_so_far front block (suc n)) result }
+    ensures peaking { (p : List Cell → Bool) (front : List (List (List Cell))) (block : List (List Cell)) (n : ℕ) → turn.number ≡ suc (length front) → IsSureOf turn.sure p block → n < length block → row_in_block block n ≡ row.now → p row.now ≡ true → ((IsPeakSettled way p col front peak.entry × NoneOf p block n) ⊎ IsPeaking way p col turn.sure front block n peak.entry) → IsPeaking way p col turn.sure front block (suc n) result }
 {
     let (before, near) = nearer(way, col, turn, row, peak);
     Peak {

@@ -1,7 +1,8 @@
 //! The range of an aggregate over a table: its ends, each with a repair of the table that has it.
 
 ghost use Rattle.std.specs.Prelude.{◌≡◌, ◌<◌, IfOk, length};
-ghost use Rattle.range_ask.specs.Ranges.{names_in, IsRange};
+ghost use Rattle.range_ask.specs.Ranges.{IsRange};
+ghost use Rattle.table_blocks.specs.Tables.{names_in};
 
 use crate::choice::choose;
 use cqa_model::{End, Goal, RowId};

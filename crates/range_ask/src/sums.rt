@@ -5,9 +5,9 @@ ghost use Rattle.cqa_value.specs.declared.value.Value.{Value as Cell};
 ghost use Rattle.cqa_model.specs.declared.limits.TheConstants.{MOST_ROWS};
 ghost use Rattle.table_blocks.specs.Tables.{rows_at};
 ghost use Rattle.range_ask.specs.Ranges.{meets};
-ghost use Rattle.range_ask.specs.Picks.{IsParted, worth};
-ghost use Rattle.range_ask.specs.Finding.{added, row_at, AreBests, IsBestHigh, IsBestLow};
-ghost use Rattle.range_ask.specs.Walking.{AreSides, IsNext, IsWithin};
+ghost use Rattle.range_ask.specs.Picks.{IsInBlocks, worth};
+ghost use Rattle.range_ask.specs.Finding.{added, row_in_block, AreBests, IsBestHigh, IsBestLow};
+ghost use Rattle.range_ask.specs.Walking.{AreSides, IsNextBlock, IsWithinBlocks};
 
 use crate::wide::note;
 use crate::worth::worth;
@@ -51,7 +51,7 @@ pub struct Sides {
 
 /// The one that adds less; the best where both add as much.
 fn lower_of(best: Best, at: u32, worth: i64) -> Best
-    ensures { (f : List Cell → ℤ) (block : List (List Cell)) → IsBestLow f block at best → worth ≡ f (row_at block at) → IsBestLow f block (at + 1) result }
+    ensures { (f : List Cell → ℤ) (block : List (List Cell)) → IsBestLow f block at best → worth ≡ f (row_in_block block at) → IsBestLow f block (at + 1) result }
 {
     if worth < best.worth {
         Best { at, worth }
@@ -62,7 +62,7 @@ fn lower_of(best: Best, at: u32, worth: i64) -> Best
 
 /// The one that adds more; the best where both add as much.
 fn higher_of(best: Best, at: u32, worth: i64) -> Best
-    ensures { (f : List Cell → ℤ) (block : List (List Cell)) → IsBestHigh f block at best → worth ≡ f (row_at block at) → IsBestHigh f block (at + 1) result }
+    ensures { (f : List Cell → ℤ) (block : List (List Cell)) → IsBestHigh f block at best → worth ≡ f (row_in_block block at) → IsBestHigh f block (at + 1) result }
 {
     if best.worth < worth {
         Best { at, worth }
@@ -75,7 +75,7 @@ fn higher_of(best: Best, at: u32, worth: i64) -> Best
 fn opened(start: u32, worth: i64) -> Open
     ensures start { result.start ≡ start }
     ensures read { result.read ≡ 1 }
-    ensures bests { (f : List Cell → ℤ) (block : List (List Cell)) → worth ≡ f (row_at block 0) → AreBests f block 1 result }
+    ensures bests { (f : List Cell → ℤ) (block : List (List Cell)) → worth ≡ f (row_in_block block 0) → AreBests f block 1 result }
 {
     let best = Best { at: 0, worth };
     Open {
@@ -91,7 +91,7 @@ fn read_more(held: Open, worth: i64) -> Open
     requires { held.read < 2 ^ 31 }
     ensures start { result.start ≡ held.start }
     ensures read { result.read ≡ held.read + 1 }
-    ensures bests { (f : List Cell → ℤ) (block : List (List Cell)) → AreBests f block held.read held → worth ≡ f (row_at block held.read) → AreBests f block (held.read + 1) result }
+    ensures bests { (f : List Cell → ℤ) (block : List (List Cell)) → AreBests f block held.read held → worth ≡ f (row_in_block block held.read) → AreBests f block (held.read + 1) result }
 {
     Open {
         start: held.start,
@@ -103,7 +103,7 @@ fn read_more(held: Open, worth: i64) -> Open
 
 /// One row more for an end, which adds so much.
 fn take(side: &mut Side, place: u32, worth: i64) -> Result<(), NoMemory>
-    requires { IsWithin MOST_ROWS side.old.total }
+    requires { IsWithinBlocks MOST_ROWS side.old.total }
     ensures places { IfOk result (λ done. side.new.places.items ≡ side.old.places.items ++ place ∷ []) }
     ensures total { IfOk result (λ done. side.new.total ≡ side.old.total +ℤ worth) }
 {
@@ -116,9 +116,9 @@ fn take(side: &mut Side, place: u32, worth: i64) -> Result<(), NoMemory>
 fn close(held: Open, sides: &mut Sides) -> Result<(), NoMemory>
     requires least { held.start + held.least.at < 2 ^ 31 }
     requires most { held.start + held.most.at < 2 ^ 31 }
-    requires low { IsWithin MOST_ROWS sides.old.low.total }
-    requires high { IsWithin MOST_ROWS sides.old.high.total }
-    ensures { IfOk result (λ done. (f : List Cell → ℤ) (rows : List (List Cell)) (front : List (List (List Cell))) (block : List (List Cell)) (later : List (List (List Cell))) → IsNext rows front block later held.start → AreBests f block (length block) held → AreSides f rows front sides.old → AreSides f rows (front ++ block ∷ []) sides.new) }
+    requires low { IsWithinBlocks MOST_ROWS sides.old.low.total }
+    requires high { IsWithinBlocks MOST_ROWS sides.old.high.total }
+    ensures { IfOk result (λ done. (f : List Cell → ℤ) (rows : List (List Cell)) (front : List (List (List Cell))) (block : List (List Cell)) (later : List (List (List Cell))) → IsNextBlock rows front block later held.start → AreBests f block (length block) held → AreSides f rows front sides.old → AreSides f rows (front ++ block ∷ []) sides.new) }
 {
     note(&mut sides.wide, sides.low.places.len(), held.read)?;
     take(&mut sides.low, held.start + held.least.at, held.least.worth)?;
@@ -160,7 +160,7 @@ pub(crate) fn both_sums(
     tests: &[ColumnTest],
 ) -> Result<Sides, NoMemory>
     requires { table < length db.now }
-    ensures { IfOk result (λ sides. (blocks : List (List (List Cell))) × IsParted db.now table blocks × AreSides (worth (meets tests.now) (added goal.now)) (rows_at db.now table) blocks sides) }
+    ensures { IfOk result (λ sides. (blocks : List (List (List Cell))) × IsInBlocks db.now table blocks × AreSides (worth (meets tests.now) (added goal.now)) (rows_at db.now table) blocks sides) }
 {
     let mut sides = blank(alloc);
     let key = db.schema(table).key.as_slice();

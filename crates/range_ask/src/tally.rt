@@ -5,7 +5,7 @@ ghost use Rattle.std.specs.Option.{option_copied};
 ghost use Rattle.cqa_value.specs.declared.value.Value.{Value as Cell};
 ghost use Rattle.cqa_model.specs.declared.limits.TheConstants.{MOST_ROWS};
 ghost use Rattle.range_ask.specs.Reaching.{as_end};
-ghost use Rattle.range_ask.specs.Walking.{IsWithin};
+ghost use Rattle.range_ask.specs.Walking.{IsWithinBlocks};
 ghost use Rattle.range_ask.specs.Tallying.{peak_of, total_of, HasEnds, IsMore, IsWhole};
 
 use crate::choice::end_of;
@@ -87,7 +87,7 @@ fn ends_at(
 
 /// The sum of both parts.
 fn sum_of(before: i128, part: i64) -> i128
-    ensures { (blocks : ℕ) → blocks ≤ MOST_ROWS → IsWithin blocks (before +ℤ part) → result ≡ before +ℤ part }
+    ensures { (blocks : ℕ) → blocks ≤ MOST_ROWS → IsWithinBlocks blocks (before +ℤ part) → result ≡ before +ℤ part }
 {
     before.saturating_add(part as i128)
 }

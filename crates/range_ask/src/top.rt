@@ -4,7 +4,7 @@ ghost use Rattle.std.specs.Prelude.{◌≡◌, ◌+◌, ◌^◌, ◌<◌, ◌++�
 ghost use Rattle.std.specs.Option.{option_copied};
 ghost use Rattle.cqa_value.specs.declared.value.Value.{Value as Cell};
 ghost use Rattle.range_ask.specs.Finding.{IsFurthest};
-ghost use Rattle.range_ask.specs.Walking.{AreChosen, IsNext};
+ghost use Rattle.range_ask.specs.Walking.{AreChosenSoFar, IsNextBlock};
 ghost use Rattle.range_ask.specs.Reaching.{top_row, with_top, IsTop};
 
 use crate::found::Spot;
@@ -31,7 +31,7 @@ pub(crate) fn further_top<'a>(
     next: Option<Spot<'a>>,
 ) -> Option<Top<'a>>
     requires { IfSome next (λ spot. start + spot.at < 2 ^ 31) }
-    ensures { (p : List Cell → Bool) (rows : List (List Cell)) (front : List (List (List Cell))) (block : List (List Cell)) (later : List (List (List Cell))) (places new : List ℕ) (at : ℕ) → IsNext rows front block later start → IsFurthest way p col block (length block) next.entry → AreChosen (λ b x. Contains b x) rows front places → number ≡ length places → at < length block → new ≡ places ++ (start + at) ∷ [] → IsTop way p col rows front places top.entry → IsTop way p col rows (front ++ block ∷ []) new result }
+    ensures { (p : List Cell → Bool) (rows : List (List Cell)) (front : List (List (List Cell))) (block : List (List Cell)) (later : List (List (List Cell))) (places new : List ℕ) (at : ℕ) → IsNextBlock rows front block later start → IsFurthest way p col block (length block) next.entry → AreChosenSoFar (λ b x. Contains b x) rows front places → number ≡ length places → at < length block → new ≡ places ++ (start + at) ∷ [] → IsTop way p col rows front places top.entry → IsTop way p col rows (front ++ block ∷ []) new result }
 {
     let Some(spot) = next else {
         return top;

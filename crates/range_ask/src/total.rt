@@ -2,7 +2,7 @@
 
 ghost use Rattle.std.specs.Prelude.{◌≡◌, ◌<◌, suc, ℤ, ℕ, Bool, true, false, List, length, pos};
 ghost use Rattle.cqa_value.specs.declared.value.Value.{Value as Cell};
-ghost use Rattle.range_ask.specs.Finding.{row_at};
+ghost use Rattle.range_ask.specs.Finding.{row_in_block};
 ghost use Rattle.range_ask.specs.Tallying.{AreAdding, AtLeastℤ, AtMostℤ, IsEither, IsSureOf};
 
 /// A block whose rows are added: its number, from 1 on, and whether all its rows are of one group.
@@ -47,7 +47,7 @@ fn beside(turn: Turn, worth: i64) -> i64
 
 /// One row more of a group, which adds so much.
 pub(crate) fn more_total(turn: Turn, worth: i64, total: Total) -> Total
-    ensures { (f : List Cell → ℤ) (p : List Cell → Bool) (front : List (List (List Cell))) (block : List (List Cell)) (n : ℕ) → ((x : List Cell) → p x ≡ false → f x ≡ pos 0) → turn.number ≡ suc (length front) → IsSureOf turn.sure p block → n < length block → p (row_at block n) ≡ true → f (row_at block n) ≡ worth → AreAdding f p turn.sure front block n total → AreAdding f p turn.sure front block (suc n) result }
+    ensures { (f : List Cell → ℤ) (p : List Cell → Bool) (front : List (List (List Cell))) (block : List (List Cell)) (n : ℕ) → ((x : List Cell) → p x ≡ false → f x ≡ pos 0) → turn.number ≡ suc (length front) → IsSureOf turn.sure p block → n < length block → p (row_in_block block n) ≡ true → f (row_in_block block n) ≡ worth → AreAdding f p turn.sure front block n total → AreAdding f p turn.sure front block (suc n) result }
 {
     if total.number == turn.number {
         return Total {

@@ -8,14 +8,14 @@ use Rattle.cqa_model.specs.Database.{Table, stored}
 use Rattle.cqa_model.specs.Query.{atom_at, atom_key, rows_of, row_at, IsWitness, FitsDatabase}
 use Rattle.cqa_model.specs.Certain.{IsCertain}
 use Rattle.cqa_model.proofs.Classic.{mem-nil}
-use Rattle.repair_back.specs.Flags.{IsFlagged, kept_tables, flags_of, AreBlank, AreLong, AreChosen}
+use Rattle.repair_back.specs.Flags.{IsFlagged, kept_tables, flags_of, AreBlank, AreLong, AreRepairFlags}
 use Rattle.repair_back.specs.Mending.{HasNone}
 use Rattle.cqa_model.specs.Blocks.{IsPick}
 use Rattle.repair_back.specs.Results.{names_kept, IsRepairOf, Rejects, IsTrueName, ArePicks}
 use Rattle.repair_back.proofs.Keeping.{shown}
 use Rattle.repair_back.proofs.Naming.{kept-named, name-flagged}
 
-module _ (q : Query) (db : List Table) (fits : FitsDatabase q db) (flags : List (List Bool)) (chosen : AreChosen q db flags) where
+module _ (q : Query) (db : List Table) (fits : FitsDatabase q db) (flags : List (List Bool)) (chosen : AreRepairFlags q db flags) where
   pub named-repair : IsRepairOf q db (names_kept q.atoms flags)
   named-repair = let s = shown q db fits flags chosen in (s.0, s.1, kept-named q db flags chosen s.0 s.2)
 

@@ -20,19 +20,19 @@ use Rattle.cqa_model.proofs.Views.{value-linked, linked-sym, linked-trans}
 use Rattle.cqa_model.proofs.Reification.{placed}
 use Rattle.cqa_model.proofs.Elimination.{plan-eliminates}
 use Rattle.cqa_model.proofs.Exactness.{full, forget, fits_of}
-use Rattle.plan_rows.specs.Left.{AreAtoms, IsTold}
+use Rattle.plan_rows.specs.Left.{AreQueryAtoms, IsTold}
 use Rattle.plan_rows.specs.Underway.{atoms_of}
 use Rattle.plan_rows.proofs.Sharing.{length-atoms, in-atoms, of-atoms}
 use Rattle.repair_back.specs.Flags.{kept_tables}
-use Rattle.repair_back.specs.Apart.{IsApart, AreApart, AreEnough}
+use Rattle.repair_back.specs.Apart.{IsAtomApart, ArePartsApart, AreEnough}
 use Rattle.repair_back.specs.Mending.{IsKeptWitness, HasNone, HasNoneFrom}
 
 -- what an atom shares with the rest is told by the first ones, if each brings nothing after those before it
-told-first : (q : Query) (order rest : List ℕ) (n place : ℕ) → place ≤ length order → ((k : ℕ) → n ≤ k → k < place → IsApart q (take k order) (get_or order k 0) rest) → (d k : ℕ) → k < d → n ≤ k → k < place → IsApart q (take n order) (get_or order k 0) rest
+told-first : (q : Query) (order rest : List ℕ) (n place : ℕ) → place ≤ length order → ((k : ℕ) → n ≤ k → k < place → IsAtomApart q (take k order) (get_or order k 0) rest) → (d k : ℕ) → k < d → n ≤ k → k < place → IsAtomApart q (take n order) (get_or order k 0) rest
 told-first q order rest n place within step zero k l low high j lj t = absurd (omega (arith, l))
 told-first q order rest n place within step (suc d) k l low high j lj (F, i, mF, li, linked) = go (step k low high j lj (F, i, mF, li, linked)) (λ p b low high. told-first q order rest n place within step d p b low high)
   where
-    go : IsTold q (take k order) (record { atom = get_or order k 0; col = j }) → ((p : ℕ) → p < d → n ≤ p → p < place → IsApart q (take n order) (get_or order p 0) rest) → IsTold q (take n order) (record { atom = get_or order k 0; col = j })
+    go : IsTold q (take k order) (record { atom = get_or order k 0; col = j }) → ((p : ℕ) → p < d → n ≤ p → p < place → IsAtomApart q (take n order) (get_or order p 0) rest) → IsTold q (take n order) (record { atom = get_or order k 0; col = j })
     go (H, h, mH, lh, lk) next = split (dec_lt mH.0 n)
       where
         before : mH.0 < k
@@ -50,12 +50,12 @@ told-first q order rest n place within step (suc d) k l low high j lj (F, i, mF,
             (H, h, m, lh, lk)
         split (no b) =
             let r = next mH.0 (omega (arith, before, l)) (omega (arith, b)) (omega (arith, before, high)) in
-            let s = subst (λ G. IsApart q (take n order) G rest) is r h lh
+            let s = subst (λ G. IsAtomApart q (take n order) G rest) is r h lh
             (F, i, mF, li, linked-trans q (record { atom = F; col = i }) (record { atom = get_or order k 0; col = j }) (record { atom = H; col = h }) linked (linked-sym q (record { atom = H; col = h }) (record { atom = get_or order k 0; col = j }) lk)) in
             (s.0, s.1, s.2, s.3, linked-trans q (record { atom = s.0; col = s.1 }) (record { atom = H; col = h }) (record { atom = get_or order k 0; col = j }) s.4 lk)
 
 -- the atoms between the first ones of an order and the rest from a place on, by their places
-pub apart-at : (q : Query) (order rest enough : List ℕ) (place n : ℕ) → AreEnough q order enough → place ≡ length order - length rest → place < length enough → n ≡ get_or enough place 0 → AreApart q order rest n
+pub apart-at : (q : Query) (order rest enough : List ℕ) (place n : ℕ) → AreEnough q order enough → place ≡ length order - length rest → place < length enough → n ≡ get_or enough place 0 → ArePartsApart q order rest n
 apart-at q order rest enough place n h ep l en front between e le G m =
     let lf = length-append front (between ++ rest) in
     let lb = length-append between rest in
@@ -69,10 +69,10 @@ apart-at q order rest enough place n h ep l en front between e le G m =
     let left : drop place order ≡ rest = ap (λ o. drop place o) (e ∙ sym (append_assoc front between rest)) ∙ (ap (λ k. drop k ((front ++ between) ++ rest)) (sym whole) ∙ drop-append_seam (front ++ between) rest) in
     let first : take (length front) order ≡ front = ap (λ o. take (length front) o) e ∙ take-append_seam front (between ++ rest) in
     let all = told-first q order (drop place order) (length front) place (omega (arith, ep)) (λ k low high. h place l k (let z : get_or enough place 0 ≤ k = omega (arith, en, le, low) in z) high) (suc (length front + m.0)) (length front + m.0) (omega arith) (omega arith) before in
-    subst (λ r. IsApart q front G r) left (subst (λ A. IsApart q front A (drop place order)) here (subst (λ b. IsApart q b (get_or order (length front + m.0) 0) (drop place order)) first all))
+    subst (λ r. IsAtomApart q front G r) left (subst (λ A. IsAtomApart q front A (drop place order)) here (subst (λ b. IsAtomApart q b (get_or order (length front + m.0) 0) (drop place order)) first all))
 
 -- where there are as many as the atoms before the rest, none is between
-pub apart-all : (q : Query) (order rest : List ℕ) (place : ℕ) → place ≡ length order - length rest → AreApart q order rest place
+pub apart-all : (q : Query) (order rest : List ℕ) (place : ℕ) → place ≡ length order - length rest → ArePartsApart q order rest place
 apart-all q order rest place ep front [] e le G m = absurd (mem-nil G m)
 apart-all q order rest place ep front (H ∷ between) e le G m =
     let lf = length-append front ((H ∷ between) ++ rest) in
@@ -81,27 +81,27 @@ apart-all q order rest place ep front (H ∷ between) e le G m =
     absurd (omega (arith, ep, le, lf, lb, lo))
 
 -- with one atom more between
-pub apart-more : (q : Query) (order rest : List ℕ) (place enough : ℕ) → rest ≡ drop place order → 0 < enough → (before : List ℕ) → before ≡ take (enough - 1) order → IsApart q before (get_or order (enough - 1) 0) rest →
-    ((k : ℕ) → enough ≤ k → k < place → IsApart q (take k order) (get_or order k 0) (drop place order)) → (k : ℕ) → enough - 1 ≤ k → k < place → IsApart q (take k order) (get_or order k 0) (drop place order)
+pub apart-more : (q : Query) (order rest : List ℕ) (place enough : ℕ) → rest ≡ drop place order → 0 < enough → (before : List ℕ) → before ≡ take (enough - 1) order → IsAtomApart q before (get_or order (enough - 1) 0) rest →
+    ((k : ℕ) → enough ≤ k → k < place → IsAtomApart q (take k order) (get_or order k 0) (drop place order)) → (k : ℕ) → enough - 1 ≤ k → k < place → IsAtomApart q (take k order) (get_or order k 0) (drop place order)
 apart-more q order rest place enough er some before eb now later k low high = go (dec_lt k enough)
   where
-    go : Dec (k < enough) → IsApart q (take k order) (get_or order k 0) (drop place order)
+    go : Dec (k < enough) → IsAtomApart q (take k order) (get_or order k 0) (drop place order)
     go (no b) = later k (omega (arith, b)) high
     go (yes b) =
         let is : enough - 1 ≡ k = omega (arith, b, low, some) in
-        subst (λ i. IsApart q (take i order) (get_or order i 0) (drop place order)) is (subst (λ f. IsApart q f (get_or order (enough - 1) 0) (drop place order)) eb (subst (λ r. IsApart q before (get_or order (enough - 1) 0) r) er now))
+        subst (λ i. IsAtomApart q (take i order) (get_or order i 0) (drop place order)) is (subst (λ f. IsAtomApart q f (get_or order (enough - 1) 0) (drop place order)) eb (subst (λ r. IsAtomApart q before (get_or order (enough - 1) 0) r) er now))
 
 -- with a number for one place more
-pub enough-more : (q : Query) (order enough : List ℕ) (place n : ℕ) → length enough ≡ place → AreEnough q order enough → ((k : ℕ) → n ≤ k → k < place → IsApart q (take k order) (get_or order k 0) (drop place order)) → AreEnough q order (enough ++ n ∷ [])
+pub enough-more : (q : Query) (order enough : List ℕ) (place n : ℕ) → length enough ≡ place → AreEnough q order enough → ((k : ℕ) → n ≤ k → k < place → IsAtomApart q (take k order) (get_or order k 0) (drop place order)) → AreEnough q order (enough ++ n ∷ [])
 enough-more q order enough place n size h new at l k low high = go (dec_lt at (length enough))
   where
-    go : Dec (at < length enough) → IsApart q (take k order) (get_or order k 0) (drop at order)
+    go : Dec (at < length enough) → IsAtomApart q (take k order) (get_or order k 0) (drop at order)
     go (yes b) = h at b k (subst (λ z. z ≤ k) (get_or_append_left enough (n ∷ []) 0 at b) low) high
     go (no b) =
         let t : length (enough ++ n ∷ []) ≡ length enough + 1 = length-append enough (n ∷ []) in
         let is : at ≡ length enough = omega (arith, b, l, t) in
         let last : get_or (enough ++ n ∷ []) at 0 ≡ n = ap (λ z. get_or (enough ++ n ∷ []) z 0) is ∙ get_or-append_seam enough n [] 0 in
-        subst (λ z. IsApart q (take k order) (get_or order k 0) (drop z order)) (sym (is ∙ size)) (new k (subst (λ z. z ≤ k) last low) (subst (λ z. k < z) (is ∙ size) high))
+        subst (λ z. IsAtomApart q (take k order) (get_or order k 0) (drop z order)) (sym (is ∙ size)) (new k (subst (λ z. z ≤ k) last low) (subst (λ z. k < z) (is ∙ size) high))
 
 atoms-append : (later first : List Placed) → atoms_of (later ++ first) ≡ atoms_of first ++ atoms_of later
 atoms-append [] first = sym (append-nil (atoms_of first))
@@ -117,7 +117,7 @@ plan-has q view [] is F m = absurd (mem-nil F m)
 plan-has q view (G ∷ plan) is F m = elim (mem-cases F G plan m) [ inl e ↦ subst (λ H. view.has H) e is.0 | inr n ↦ (plan-has q (after q view G) plan is.3 F n).0 ]
 
 -- a query's plan names its atoms
-pub plan-atoms : (q : Query) (plan : List ℕ) → IsPlanOf q plan → AreAtoms q plan
+pub plan-atoms : (q : Query) (plan : List ℕ) → IsPlanOf q plan → AreQueryAtoms q plan
 plan-atoms q plan is = plan-has q (whole q) plan is
 
 -- a later row agrees with the first ones
@@ -178,7 +178,7 @@ module _ (q : Query) (db : List Table) (fits : FitsDatabase q db) (row : List Va
         ]
 
   -- where there is no witness with all rows taken, there is none with the first of them
-  none-first : (later first : List Placed) (plan : List ℕ) → AllFit q row (later ++ first) → IsPlan q (view_of q (later ++ first)) plan → ((u : Placed) → Contains later u → IsApart q (atoms_of first) u.atom plan) →
+  none-first : (later first : List Placed) (plan : List ℕ) → AllFit q row (later ++ first) → IsPlan q (view_of q (later ++ first)) plan → ((u : Placed) → Contains later u → IsAtomApart q (atoms_of first) u.atom plan) →
       HasNone db q row (later ++ first) flags → HasNone db q row first flags
   none-first later first plan all is apart none w hw =
       let r = carried first w hw plan (later ++ first) all (plan-eliminates q (view_of q (later ++ first)) plan is) (left-first q later first)
@@ -199,7 +199,7 @@ module _ (q : Query) (db : List Table) (fits : FitsDatabase q db) (row : List Va
               own first w hw t (hw.extends t mt) G i h (linked-trans q (record { atom = G; col = i }) (record { atom = u.atom; col = j }) (record { atom = t.atom; col = h }) linked back)
               ∙ sym (later-fits q row later first all u k t mt j lj h (subst (λ z. h < (atom_at q z).width) (sym et) lh) back)
 
-  pub none-enough : (order : List ℕ) (taken : List Placed) (plan : List ℕ) (n : ℕ) → order ≡ atoms_of taken ++ plan → AreApart q order plan n → AllFit q row taken → IsPlan q (view_of q taken) plan →
+  pub none-enough : (order : List ℕ) (taken : List Placed) (plan : List ℕ) (n : ℕ) → order ≡ atoms_of taken ++ plan → ArePartsApart q order plan n → AllFit q row taken → IsPlan q (view_of q taken) plan →
       HasNone db q row taken flags → HasNoneFrom db q row taken flags n
   none-enough order taken plan n place apart all is none later first e l =
       none-first later first plan (subst (λ t. AllFit q row t) e all) (subst (λ t. IsPlan q (view_of q t) plan) e is)

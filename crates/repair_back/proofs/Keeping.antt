@@ -13,7 +13,7 @@ use Rattle.cqa_model.specs.Partial.{IsPartial}
 use Rattle.cqa_model.proofs.Classic.{choose}
 use Rattle.cqa_model.proofs.Existence.{last_rows, last_rows-repair}
 use Rattle.cqa_model.proofs.Views.{view-in_range}
-use Rattle.repair_back.specs.Flags.{kept_of, kept_tables, flags_of, AreChosen}
+use Rattle.repair_back.specs.Flags.{kept_of, kept_tables, flags_of, AreRepairFlags}
 use Rattle.repair_back.proofs.Choosing.{choice-repair, kept_of-out}
 
 -- what is kept of one table
@@ -52,7 +52,7 @@ partial-same q row taken r s w same h = record {
   extends = h.extends;
 }
 
-module _ (q : Query) (db : List Table) (fits : FitsDatabase q db) (flags : List (List Bool)) (chosen : AreChosen q db flags) where
+module _ (q : Query) (db : List Table) (fits : FitsDatabase q db) (flags : List (List Bool)) (chosen : AreRepairFlags q db flags) where
   -- there is a repair of the whole database that keeps these rows of the query's tables
   abbrev pub Shown : Type 0
   Shown = (r : List (List (List Value))) × IsRepair db r × ((F : ℕ) → F < length q.atoms → rows_of q r F ≡ rows_of q (kept_tables (stored db) flags) F)

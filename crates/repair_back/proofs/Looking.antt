@@ -6,7 +6,7 @@ use Rattle.cqa_model.specs.Plan.{Placed}
 use Rattle.cqa_model.specs.Variables.{after}
 use Rattle.cqa_model.specs.Partial.{view_of}
 use Rattle.plan_rows.specs.Links.{LeadsTo}
-use Rattle.plan_rows.specs.Places.{IsPassed}
+use Rattle.plan_rows.specs.Places.{IsRowPassed}
 use Rattle.plan_rows.specs.declared.places.Places.{Places}
 use Rattle.plan_rows.proofs.Reaching.{witnesses_are_reached}
 use Rattle.repair_back.specs.declared.way.Way.{Way}
@@ -35,5 +35,5 @@ module _ (way : Way) (taken : List Placed) (F : ℕ) (rest : List ℕ) (next : I
   outside-led i l o k = h.2.others i l o (led i k)
 
   -- and no row that is passed
-  pub passed-led : (from to : ℕ) → IsPassed s from to → (i : ℕ) → from < i → i < to → i < length (rows_on way F) → IsHeld i → ⊥
+  pub passed-led : (from to : ℕ) → IsRowPassed s from to → (i : ℕ) → from < i → i < to → i < length (rows_on way F) → IsHeld i → ⊥
   passed-led from to none i low high l k = none i (omega (arith, low)) high (h.2.known i l (led i k))

@@ -15,8 +15,8 @@ use Rattle.cqa_model.specs.Partial.{view_of, AllFit, IsPartial}
 use Rattle.cqa_model.proofs.Repairs.{shares-sym, shares-trans, shares-eq}
 use Rattle.cqa_model.proofs.Views.{view-in_range}
 use Rattle.plan_rows.specs.Links.{RowHolds}
-use Rattle.repair_back.specs.Flags.{IsFlagged, kept_of, kept_tables, flags_of, HasOneFlagEach, AreChosen}
-use Rattle.repair_back.specs.Mending.{IsKeptWitness, HasNone, Lacks, IsStep, IsReached}
+use Rattle.repair_back.specs.Flags.{IsFlagged, kept_of, kept_tables, flags_of, HasOneFlagEach, AreRepairFlags}
+use Rattle.repair_back.specs.Mending.{IsKeptWitness, HasNone, Lacks, IsMendingStep, IsReachedBySteps}
 use Rattle.repair_back.specs.Walking.{IsBlockBetween}
 use Rattle.repair_back.proofs.Choosing.{flag-there, kept_of-into, kept_of-out, exchanged-choice, exchanged-here}
 use Rattle.repair_back.proofs.Keeping.{kept-atom, stored-witness}
@@ -38,8 +38,8 @@ module _ (q : Query) (db : List Table) (row : List Value) (taken : List Placed) 
 
   -- the rows before a place, and those before the end of the last block, were mended, as far as they are in a witness
   pub record BlocksSoFar (old flags : List (List Bool)) (rows : List (List Value)) (start at done : ℕ) : Type 0 where
-    pub chosen : AreChosen q db flags
-    pub reached : IsReached db q row taken old flags
+    pub chosen : AreRepairFlags q db flags
+    pub reached : IsReachedBySteps db q row taken old flags
     pub lacks : (i : ℕ) → start ≤ i → i < length rows → (i < at) ⊎ (i < done) → IsInWitness (get_or rows i []) → Lacks db q row taken F flags (get_or rows i [])
 
   -- where all rows were mended that are in a witness, none is left
@@ -67,8 +67,8 @@ module _ (q : Query) (db : List Table) (row : List Value) (taken : List Placed) 
 
   -- rows of a block that were tried
   pub record RowsSoFar (plan : List ℕ) (old flags : List (List Bool)) (rows : List (List Value)) (start end last next : ℕ) : Type 0 where
-    pub chosen : AreChosen q db flags
-    pub reached : IsReached db q row taken old flags
+    pub chosen : AreRepairFlags q db flags
+    pub reached : IsReachedBySteps db q row taken old flags
     pub after : start ≤ last
     pub before : last < end
     pub is_kept : IsFlagged (flags_of q flags F) last
@@ -82,7 +82,7 @@ flags-read q db fits flags size F l t is f e =
     let there = fits.there F l in
     e ∙ get_or_default flags t f [] (omega (arith, there, is, size)) ∙ ap (λ u. get_or flags u []) is
 
-module _ (q : Query) (db : List Table) (flags : List (List Bool)) (chosen : AreChosen q db flags) (F : ℕ) (lF : F < length q.atoms) where
+module _ (q : Query) (db : List Table) (flags : List (List Bool)) (chosen : AreRepairFlags q db flags) (F : ℕ) (lF : F < length q.atoms) where
   -- a block has a row that is kept
   pub kept-in-block : (start end : ℕ) → IsBlockBetween (atom_key q F) (rows_of q (stored db) F) start end → (p : ℕ) × (start ≤ p) × (p < end) × IsFlagged (flags_of q flags F) p
   kept-in-block start end block =
@@ -101,7 +101,7 @@ module _ (q : Query) (db : List Table) (flags : List (List Bool)) (chosen : AreC
 
 module _ (q : Query) (db : List Table) (fits : FitsDatabase q db) (row : List Value) (long : length row ≡ length q.answer) (taken : List Placed) (all : AllFit q row taken)
     (F : ℕ) (hF : (view_of q taken).has F) where
-  pub blocks-none : (old : List (List Bool)) (rows : List (List Value)) (start : ℕ) → AreChosen q db old → BlocksSoFar q db row taken F old old rows start start 0
+  pub blocks-none : (old : List (List Bool)) (rows : List (List Value)) (start : ℕ) → AreRepairFlags q db old → BlocksSoFar q db row taken F old old rows start start 0
   blocks-none old rows start chosen = record {
     chosen = chosen;
     reached = reached-self q db fits row long taken old;
@@ -110,7 +110,7 @@ module _ (q : Query) (db : List Table) (fits : FitsDatabase q db) (row : List Va
 
   -- the block of the row at a place was mended
   pub blocks-more : IsUnattacked q (view_of q taken) F → (old flags new : List (List Bool)) (rows : List (List Value)) (start at done begin end : ℕ) →
-      BlocksSoFar q db row taken F old flags rows start at done → IsBlockBetween (atom_key q F) rows begin end → begin ≤ at → at < end → AreChosen q db new → IsReached db q row taken flags new →
+      BlocksSoFar q db row taken F old flags rows start at done → IsBlockBetween (atom_key q F) rows begin end → begin ≤ at → at < end → AreRepairFlags q db new → IsReachedBySteps db q row taken flags new →
       Lacks db q row taken F new (get_or rows begin []) → BlocksSoFar q db row taken F old new rows start at end
   blocks-more free old flags new rows start at done begin end h block low high chosen reached lacks = record {
     chosen = chosen;
@@ -153,7 +153,7 @@ module _ (q : Query) (db : List Table) (fits : FitsDatabase q db) (row : List Va
   module _ (plan : List ℕ) (is_plan : IsPlan q (Rattle.cqa_model.specs.Variables.after q (view_of q taken) F) plan) (rows : List (List Value)) (is : rows ≡ rows_of q (stored db) F)
       (start end : ℕ) (block : IsBlockBetween (atom_key q F) rows start end) where
     -- one row is kept for another
-    module _ (flags new : List (List Bool)) (chosen : AreChosen q db flags) (last next : ℕ) (ll : start ≤ last) (lb : last < end) (nl : start ≤ next) (nb : next < end)
+    module _ (flags new : List (List Bool)) (chosen : AreRepairFlags q db flags) (last next : ℕ) (ll : start ≤ last) (lb : last < end) (nl : start ≤ next) (nb : next < end)
         (kept : IsFlagged (flags_of q flags F) last) (holds : RowHolds q (stored db) row taken F plan (get_or rows last []))
         (long_new : length new ≡ length flags) (size : length (flags_of q new F) ≡ length (flags_of q flags F))
         (is_new : (p : ℕ) → IsFlagged (flags_of q new F) p ↔ ((p ≡ next) ⊎ (IsFlagged (flags_of q flags F) p × (p ≢ last))))
@@ -172,7 +172,7 @@ module _ (q : Query) (db : List Table) (fits : FitsDatabase q db) (row : List Va
       same : (H : ℕ) → H < length q.atoms → H ≢ F → flags_of q new H ≡ flags_of q flags H
       same H l ne = others (atom_at q H).table (λ e. ne (q.kept.apart H F l lF e))
 
-      pub kept-chosen : AreChosen q db new
+      pub kept-chosen : AreRepairFlags q db new
       kept-chosen = record { size = long_new ∙ chosen.size; each = λ H l. go H l (ℕ_discrete H F) }
         where
           go : (H : ℕ) → H < length q.atoms → Dec (H ≡ F) → HasOneFlagEach (atom_key q H) (rows_of q (stored db) H) (flags_of q new H)
@@ -183,10 +183,10 @@ module _ (q : Query) (db : List Table) (fits : FitsDatabase q db) (row : List Va
       held' : RowHolds q (stored db) row taken F plan (get_or (rows_of q (stored db) F) last [])
       held' = subst (λ (rs : List (List Value)). RowHolds q (stored db) row taken F plan (get_or rs last [])) is holds
 
-      kept-step : IsStep db q row taken flags new
+      kept-step : IsMendingStep db q row taken flags new
       kept-step = go (held-witness q db fits row long taken all F hF (get_or (rows_of q (stored db) F) last []) flags chosen (kept-row q db flags chosen F lF last kept) plan is_plan held')
         where
-          go : ((w : List (List Value)) × IsKeptWitness db q row taken flags w × (row_at w F ≡ get_or (rows_of q (stored db) F) last [])) → IsStep db q row taken flags new
+          go : ((w : List (List Value)) × IsKeptWitness db q row taken flags w × (row_at w F ≡ get_or (rows_of q (stored db) F) last [])) → IsMendingStep db q row taken flags new
           go (w, hw, e) = record {
             witness = w;
             atom = F;
@@ -204,7 +204,7 @@ module _ (q : Query) (db : List Table) (fits : FitsDatabase q db) (row : List Va
               here x (inl e) = inl e
               here x (inr n) = inr (subst (λ rs. Contains rs x) (sym (kept-atom q db flags F)) n)
 
-      pub kept-reached : IsReached db q row taken flags new
+      pub kept-reached : IsReachedBySteps db q row taken flags new
       kept-reached = reached-step q db fits row long taken flags new kept-step kept-chosen
 
       pub kept-next : Contains (rows_of q (kept_tables (stored db) new) F) (get_or (rows_of q (stored db) F) next [])
@@ -212,8 +212,8 @@ module _ (q : Query) (db : List Table) (fits : FitsDatabase q db) (row : List Va
 
     -- the same of rows that were tried
     pub record Turned (old flags new : List (List Bool)) (next : ℕ) : Type 0 where
-      pub chosen : AreChosen q db new
-      pub reached : IsReached db q row taken old new
+      pub chosen : AreRepairFlags q db new
+      pub reached : IsReachedBySteps db q row taken old new
       pub next_kept : Contains (rows_of q (kept_tables (stored db) new) F) (get_or rows next [])
 
     pub turned : (old flags new : List (List Bool)) (last next : ℕ) → RowsSoFar q db row taken F plan old flags rows start end last next → start ≤ next → next < end →
@@ -230,7 +230,7 @@ module _ (q : Query) (db : List Table) (fits : FitsDatabase q db) (row : List Va
     -- a row was mended after it
     pub rows-turned : (old flags new later : List (List Bool)) (last next : ℕ) → RowsSoFar q db row taken F plan old flags rows start end last next → Turned old flags new next → start ≤ next → next < end →
         ((p : ℕ) → IsFlagged (flags_of q new F) p ↔ ((p ≡ next) ⊎ (IsFlagged (flags_of q flags F) p × (p ≢ last)))) →
-        AreChosen q db later → IsReached db q row taken new later → flags_of q later F ≡ flags_of q new F → RowHolds q (stored db) row taken F plan (get_or rows next []) →
+        AreRepairFlags q db later → IsReachedBySteps db q row taken new later → flags_of q later F ≡ flags_of q new F → RowHolds q (stored db) row taken F plan (get_or rows next []) →
         RowsSoFar q db row taken F plan old later rows start end next (next + 1)
     rows-turned old flags new later last next h t nl nb is_new chosen reached same holds = record {
       chosen = chosen;
@@ -265,7 +265,7 @@ module _ (q : Query) (db : List Table) (row : List Value) (taken : List Placed) 
       (shares-sym (atom_key q F) (get_or rows start []) (get_or rows p []) ((block.exactly p (omega (arith, b, within))).1 (l, b))) lacks
 
 -- the row at a place that is flagged is kept
-pub kept-read : (q : Query) (db : List Table) (flags : List (List Bool)) → AreChosen q db flags → (F : ℕ) → F < length q.atoms → (rows : List (List Value)) → rows ≡ rows_of q (stored db) F →
+pub kept-read : (q : Query) (db : List Table) (flags : List (List Bool)) → AreRepairFlags q db flags → (F : ℕ) → F < length q.atoms → (rows : List (List Value)) → rows ≡ rows_of q (stored db) F →
     (p : ℕ) → IsFlagged (flags_of q flags F) p → (x : List Value) → x ≡ get_or rows p [] → Contains (rows_of q (kept_tables (stored db) flags) F) x
 kept-read q db flags chosen F lF rows is p f x e =
     subst (λ z. Contains (rows_of q (kept_tables (stored db) flags) F) z) (ap (λ (rs : List (List Value)). get_or rs p []) (sym is) ∙ sym e) (kept-row q db flags chosen F lF p f)

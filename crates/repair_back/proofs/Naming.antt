@@ -12,12 +12,13 @@ use Rattle.cqa_model.specs.declared.query.RowId.{RowId}
 use Rattle.cqa_model.specs.Database.{Table, stored}
 use Rattle.cqa_model.specs.Query.{atom_at, rows_of, FitsDatabase}
 use Rattle.cqa_model.proofs.Classic.{mem-head, mem-tail, mem-nil, mem-cases}
-use Rattle.repair_back.specs.Flags.{IsFlagged, kept_of, kept_tables, flags_of, places_from, AreChosen}
-use Rattle.repair_back.specs.Results.{names_in, rows_in, names_kept, AreKept, AreStored}
+use Rattle.repair_back.specs.Flags.{IsFlagged, kept_of, kept_tables, flags_of, places_from, AreRepairFlags}
+use Rattle.repair_back.specs.Results.{names_kept, AreKept, AreStored}
 use Rattle.repair_back.proofs.Keeping.{kept-atom}
 use Rattle.cqa_model.specs.Shape.{nth_atom}
 use Rattle.std.proofs.lemmas.List.Elements.{Contains-append_cases}
 use Rattle.repair_back.proofs.Choosing.{flag-there}
+use Rattle.table_blocks.specs.Tables.{rows_in, names_in}
 
 -- one flag more
 places-more : (n : ℕ) (bs : List Bool) (b : Bool) → places_from n (bs ++ b ∷ []) ≡ places_from n bs ++ cond b ((n + length bs) ∷ []) []
@@ -158,7 +159,7 @@ name-used (atom ∷ atoms) flags name m = elim (Contains-append_cases (names_in 
     later (i, l, e) = (suc i, omega (arith, l), e)
 
 -- the names of a choice are those of stored rows
-pub named-stored : (q : Query) (db : List Table) → FitsDatabase q db → (flags : List (List Bool)) → AreChosen q db flags → AreStored db (names_kept q.atoms flags)
+pub named-stored : (q : Query) (db : List Table) → FitsDatabase q db → (flags : List (List Bool)) → AreRepairFlags q db flags → AreStored db (names_kept q.atoms flags)
 named-stored q db fits flags chosen name m = go (name-used q.atoms flags name m)
   where
     go : ((i : ℕ) × (i < length q.atoms) × ((atom_at q i).table ≡ name.table)) → (name.table < length db) × (name.place < length (get_or (stored db) name.table []))
@@ -170,7 +171,7 @@ named-stored q db fits flags chosen name m = go (name-used q.atoms flags name m)
     )
 
 -- the names of a choice are those of a repair
-pub kept-named : (q : Query) (db : List Table) (flags : List (List Bool)) → AreChosen q db flags → (r : List (List (List Value))) →
+pub kept-named : (q : Query) (db : List Table) (flags : List (List Bool)) → AreRepairFlags q db flags → (r : List (List (List Value))) →
     ((F : ℕ) → F < length q.atoms → rows_of q r F ≡ rows_of q (kept_tables (stored db) flags) F) → AreKept q db (names_kept q.atoms flags) r
 kept-named q db flags chosen r same = record {
   places = λ t. places_from 0 (get_or flags t []);

@@ -6,7 +6,7 @@ use Rattle.cqa_value.proofs.Words.{cases_next}
 use Rattle.cqa_model.specs.declared.query.Query.{Query}
 use Rattle.cqa_model.specs.Database.{Table, stored}
 use Rattle.cqa_model.specs.Query.{atom_at, atom_key, rows_of, FitsDatabase}
-use Rattle.repair_back.specs.Flags.{IsFlagged, HasOneFlagEach, flags_of, AreLong, AreBlank, AreChosen}
+use Rattle.repair_back.specs.Flags.{IsFlagged, HasOneFlagEach, flags_of, AreLong, AreBlank, AreRepairFlags}
 use Rattle.cqa_model.specs.Blocks.{IsPick}
 
 -- the tables before one have flags
@@ -106,5 +106,5 @@ all-more q db old flags at la h f lt choice picks = record {
         (subst (λ g. IsPick (atom_key q at) (rows_of q (stored db) at) (IsFlagged g) p) (h.later at la (omega arith))
         (picks p (subst (λ g. IsFlagged g p) here (subst (λ G. IsFlagged (flags_of q (set flags (atom_at q at).table f) G) p) e m))))
 
-pub all-chosen : (q : Query) (db : List Table) (old flags : List (List Bool)) (at : ℕ) → length q.atoms ≤ at → AllSettledTo q db old flags at → AreChosen q db flags
+pub all-chosen : (q : Query) (db : List Table) (old flags : List (List Bool)) (at : ℕ) → length q.atoms ≤ at → AllSettledTo q db old flags at → AreRepairFlags q db flags
 all-chosen q db old flags at e h = record { size = h.size; each = λ F l. h.chosen F l (omega (arith, l, e)) }

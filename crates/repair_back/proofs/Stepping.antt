@@ -19,8 +19,8 @@ use Rattle.cqa_model.proofs.Reification.{placed, kept-stored}
 use Rattle.cqa_model.proofs.Elimination.{plan-eliminates}
 use Rattle.cqa_model.proofs.Exactness.{forget, sound, fits_of}
 use Rattle.plan_rows.specs.Links.{RowHolds}
-use Rattle.repair_back.specs.Flags.{kept_of, kept_tables, flags_of, AreChosen}
-use Rattle.repair_back.specs.Mending.{IsKeptWitness, HasNone, Lacks, IsStep, IsReachedIn, IsReached}
+use Rattle.repair_back.specs.Flags.{kept_of, kept_tables, flags_of, AreRepairFlags}
+use Rattle.repair_back.specs.Mending.{IsKeptWitness, HasNone, Lacks, IsMendingStep, IsReachedIn, IsReachedBySteps}
 use Rattle.repair_back.proofs.Keeping.{kept-atom, partial-same, shown}
 
 module _ (q : Query) (db : List Table) (fits : FitsDatabase q db) (row : List Value) (long : length row ≡ length q.answer) where
@@ -35,12 +35,12 @@ module _ (q : Query) (db : List Table) (fits : FitsDatabase q db) (row : List Va
   same-rows old new H e = kept-atom q db new H ∙ ap (λ f. kept_of (rows_of q (stored db) H) f) e ∙ sym (kept-atom q db old H)
 
   -- what a step leaves, it leaves with its rows
-  step-elsewhere : (taken : List Placed) (old new : List (List Bool)) (s : IsStep db q row taken old new) (H : ℕ) → (view_of q taken).has H → H ≢ s.atom → (x : List Value) →
+  step-elsewhere : (taken : List Placed) (old new : List (List Bool)) (s : IsMendingStep db q row taken old new) (H : ℕ) → (view_of q taken).has H → H ≢ s.atom → (x : List Value) →
       Contains (rows_of q (Kept new) H) x → Contains (rows_of q (Kept old) H) x
   step-elsewhere taken old new s H has ne x m = subst (λ rows. Contains rows x) (same-rows old new H (s.elsewhere H (view-in_range q taken H has) ne)) m
 
   -- a step along a witness of one row more is one without that row, where it is kept
-  step-forget : (taken : List Placed) (F : ℕ) (y : List Value) (old new : List (List Bool)) → Contains (rows_of q (Kept old) F) y → IsStep db q row (placed F y ∷ taken) old new → IsStep db q row taken old new
+  step-forget : (taken : List Placed) (F : ℕ) (y : List Value) (old new : List (List Bool)) → Contains (rows_of q (Kept old) F) y → IsMendingStep db q row (placed F y ∷ taken) old new → IsMendingStep db q row taken old new
   step-forget taken F y old new my s = record {
     witness = s.witness;
     atom = s.atom;
@@ -59,7 +59,7 @@ module _ (q : Query) (db : List Table) (fits : FitsDatabase q db) (row : List Va
 
     -- a step brings back no key of an atom that is not attacked
     module _ (free : IsUnattacked q (view_of q taken) F) where
-      step-lacks : (old new : List (List Bool)) → AreChosen q db old → IsStep db q row taken old new → (x : List Value) → Lacks db q row taken F old x → Lacks db q row taken F new x
+      step-lacks : (old new : List (List Bool)) → AreRepairFlags q db old → IsMendingStep db q row taken old new → (x : List Value) → Lacks db q row taken F old x → Lacks db q row taken F new x
       step-lacks old new chosen s x lacks T hT sh = go (shown q db fits old chosen)
         where
           go : ((r : List (List (List Value))) × IsRepair db r × ((H : ℕ) → H < length q.atoms → rows_of q r H ≡ rows_of q (Kept old) H)) → ⊥
@@ -95,11 +95,11 @@ module _ (q : Query) (db : List Table) (fits : FitsDatabase q db) (row : List Va
               stays m H has (yes e) = subst (λ z. Contains (rows_of q (Kept old) z) (row_at T z)) (sym e) m
               stays m H has (no ne) = step-elsewhere taken old new s H has ne (row_at T H) (hT.keeps H has)
 
-      reach-lacks : (n : ℕ) (old new : List (List Bool)) → AreChosen q db old → IsReachedIn db q row taken n old new → (x : List Value) → Lacks db q row taken F old x → Lacks db q row taken F new x
+      reach-lacks : (n : ℕ) (old new : List (List Bool)) → AreRepairFlags q db old → IsReachedIn db q row taken n old new → (x : List Value) → Lacks db q row taken F old x → Lacks db q row taken F new x
       reach-lacks zero old new chosen e x lacks = subst (λ f. Lacks db q row taken F f x) e lacks
       reach-lacks (suc n) old new chosen (flags, s, h, more) x lacks = reach-lacks n flags new h more x (step-lacks old flags chosen s x lacks)
 
-      pub reached-lacks : (old new : List (List Bool)) → AreChosen q db old → IsReached db q row taken old new → (x : List Value) → Lacks db q row taken F old x → Lacks db q row taken F new x
+      pub reached-lacks : (old new : List (List Bool)) → AreRepairFlags q db old → IsReachedBySteps db q row taken old new → (x : List Value) → Lacks db q row taken F old x → Lacks db q row taken F new x
       reached-lacks old new chosen (n, h) x lacks = reach-lacks n old new chosen h x lacks
 
     -- steps along witnesses with F's row taken leave F's flags, and are steps without it
@@ -117,13 +117,13 @@ module _ (q : Query) (db : List Table) (fits : FitsDatabase q db) (row : List Va
         reach-forget n flags new (subst (λ rows. Contains rows y) (sym (same-rows old flags F (s.elsewhere F lF (λ e. s.has.1 (sym e))))) my) more,
       )
 
-      pub reached-same : (old new : List (List Bool)) → IsReached db q row (placed F y ∷ taken) old new → flags_of q new F ≡ flags_of q old F
+      pub reached-same : (old new : List (List Bool)) → IsReachedBySteps db q row (placed F y ∷ taken) old new → flags_of q new F ≡ flags_of q old F
       reached-same old new (n, h) = reach-same n old new h
 
-      pub reached-forget : (old new : List (List Bool)) → Contains (rows_of q (Kept old) F) y → IsReached db q row (placed F y ∷ taken) old new → IsReached db q row taken old new
+      pub reached-forget : (old new : List (List Bool)) → Contains (rows_of q (Kept old) F) y → IsReachedBySteps db q row (placed F y ∷ taken) old new → IsReachedBySteps db q row taken old new
       reached-forget old new my (n, h) = (n, reach-forget n old new my h)
 
-      module _ (flags : List (List Bool)) (chosen : AreChosen q db flags) (my : Contains (rows_of q (Kept flags) F) y) where
+      module _ (flags : List (List Bool)) (chosen : AreRepairFlags q db flags) (my : Contains (rows_of q (Kept flags) F) y) where
         -- a witness whose row of F is of y's block has y, if y is kept
         with-taken : (w : List (List Value)) → IsKeptWitness db q row taken flags w → SharesKey (atom_key q F) y (row_at w F) → IsKeptWitness db q row (placed F y ∷ taken) flags w
         with-taken w h sh = go (shown q db fits flags chosen)
@@ -159,15 +159,15 @@ module _ (q : Query) (db : List Table) (fits : FitsDatabase q db) (row : List Va
                 (s.0, forget q (keys_of db) (stored db) tables row long taken (Kept flags) F y my s.0 k, k.extends (placed F y) (mem-head (placed F y) taken))
 
   -- one way and then another
-  reach-joined : (taken : List Placed) (n m : ℕ) (a b c : List (List Bool)) → IsReachedIn db q row taken n a b → IsReachedIn db q row taken m b c → IsReached db q row taken a c
+  reach-joined : (taken : List Placed) (n m : ℕ) (a b c : List (List Bool)) → IsReachedIn db q row taken n a b → IsReachedIn db q row taken m b c → IsReachedBySteps db q row taken a c
   reach-joined taken zero m a b c e h = (m, subst (λ f. IsReachedIn db q row taken m f c) (sym e) h)
   reach-joined taken (suc n) m a b c (flags, s, k, more) h = let j = reach-joined taken n m flags b c more h in (suc j.0, (flags, s, k, j.1))
 
-  pub reached-joined : (taken : List Placed) (a b c : List (List Bool)) → IsReached db q row taken a b → IsReached db q row taken b c → IsReached db q row taken a c
+  pub reached-joined : (taken : List Placed) (a b c : List (List Bool)) → IsReachedBySteps db q row taken a b → IsReachedBySteps db q row taken b c → IsReachedBySteps db q row taken a c
   reached-joined taken a b c (n, h) (m, k) = reach-joined taken n m a b c h k
 
-  pub reached-self : (taken : List Placed) (a : List (List Bool)) → IsReached db q row taken a a
+  pub reached-self : (taken : List Placed) (a : List (List Bool)) → IsReachedBySteps db q row taken a a
   reached-self taken a = (0, refl)
 
-  pub reached-step : (taken : List Placed) (a b : List (List Bool)) → IsStep db q row taken a b → AreChosen q db b → IsReached db q row taken a b
+  pub reached-step : (taken : List Placed) (a b : List (List Bool)) → IsMendingStep db q row taken a b → AreRepairFlags q db b → IsReachedBySteps db q row taken a b
   reached-step taken a b s h = (1, (b, s, h, refl))

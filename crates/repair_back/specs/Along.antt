@@ -8,8 +8,8 @@ use Rattle.plan_rows.specs.Links.{RowHolds}
 use Rattle.plan_rows.specs.Places.{AreThere}
 use Rattle.plan_rows.specs.declared.places.Places.{Places}
 use Rattle.repair_back.specs.declared.way.Way.{Way}
-use Rattle.repair_back.specs.Flags.{kept_tables, AreChosen}
-use Rattle.repair_back.specs.Mending.{HasNone, HasNoneFrom, Lacks, IsReached}
+use Rattle.repair_back.specs.Flags.{kept_tables, AreRepairFlags}
+use Rattle.repair_back.specs.Mending.{HasNone, HasNoneFrom, Lacks, IsReachedBySteps}
 
 -- the stored rows of an atom
 abbrev pub rows_on : Way → ℕ → List (List Value)
@@ -26,11 +26,11 @@ AreLed way taken F rest s = (links : List ℕ) × ((G : ℕ) → Contains links 
 
 -- one row is kept of each block
 abbrev pub KeepsOne : Way → List (List Bool) → Type 0
-KeepsOne way flags = AreChosen way.course.now.setting.bound.now.query.now way.course.now.setting.bound.now.db.now flags
+KeepsOne way flags = AreRepairFlags way.course.now.setting.bound.now.query.now way.course.now.setting.bound.now.db.now flags
 
 -- exchanges along witnesses with these rows lead from one choice to another
 abbrev pub IsExchanged : Way → List Placed → List (List Bool) → List (List Bool) → Type 0
-IsExchanged way taken old new = IsReached way.course.now.setting.bound.now.db.now way.course.now.setting.bound.now.query.now way.row.now taken old new
+IsExchanged way taken old new = IsReachedBySteps way.course.now.setting.bound.now.db.now way.course.now.setting.bound.now.query.now way.row.now taken old new
 
 -- no witness with these rows is kept
 abbrev pub KeepsNoWitness : Way → List Placed → List (List Bool) → Type 0
@@ -45,12 +45,12 @@ abbrev pub LacksBlock : Way → List Placed → ℕ → List (List Bool) → Lis
 LacksBlock way taken F flags x = Lacks way.course.now.setting.bound.now.db.now way.course.now.setting.bound.now.query.now way.row.now taken F flags x
 
 -- a row of F fits, and the rest of the plan holds with it
-abbrev pub HoldsWith : Way → List Placed → ℕ → List ℕ → List Value → Type 0
-HoldsWith way taken F plan y = RowHolds way.course.now.setting.bound.now.query.now (stored way.course.now.setting.bound.now.db.now) way.row.now taken F plan y
+abbrev pub WayHoldsWith : Way → List Placed → ℕ → List ℕ → List Value → Type 0
+WayHoldsWith way taken F plan y = RowHolds way.course.now.setting.bound.now.query.now (stored way.course.now.setting.bound.now.db.now) way.row.now taken F plan y
 
 -- the rest of the plan holds
-abbrev pub RestHolds : Way → List Placed → List ℕ → Type 0
-RestHolds way taken plan = PlanHolds way.course.now.setting.bound.now.query.now (stored way.course.now.setting.bound.now.db.now) way.row.now taken plan
+abbrev pub WayRestHolds : Way → List Placed → List ℕ → Type 0
+WayRestHolds way taken plan = PlanHolds way.course.now.setting.bound.now.query.now (stored way.course.now.setting.bound.now.db.now) way.row.now taken plan
 
 -- What mending leaves where a rest of a plan is left: one row of each block, come to by exchanges; and so many of the first
 -- rows taken as no kept witness has, or else the rest holds.
@@ -59,7 +59,7 @@ pub record Mends (way : Way) (taken : List Placed) (plan : List ℕ) (old new : 
   pub reached : IsExchanged way taken old new
   pub few : IfSome result (λ count. count ≤ length taken)
   pub mended : IfSome result (λ count. IsFreeFrom way taken new count)
-  pub holds : IsNone result → RestHolds way taken plan
+  pub holds : IsNone result → WayRestHolds way taken plan
 
 -- What mending leaves where a row of F is taken next: the same, and no kept witness has a row of x's block, or else what is
 -- said of its rows holds.

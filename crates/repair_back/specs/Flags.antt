@@ -32,7 +32,7 @@ abbrev pub flags_of : Query → List (List Bool) → ℕ → List Bool
 flags_of q flags F = slice_index_or flags (atom_at q F).table []
 
 -- one row is kept of each block of each of the query's tables
-pub record AreChosen (q : Query) (db : List Table) (flags : List (List Bool)) : Type 0 where
+pub record AreRepairFlags (q : Query) (db : List Table) (flags : List (List Bool)) : Type 0 where
   pub size : length flags ≡ length db
   pub each : (F : ℕ) → F < length q.atoms → HasOneFlagEach (atom_key q F) (rows_of q (stored db) F) (flags_of q flags F)
 

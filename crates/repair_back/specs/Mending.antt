@@ -10,7 +10,7 @@ use Rattle.cqa_model.specs.Variables.{after}
 use Rattle.cqa_model.specs.Partial.{view_of, AllFit, IsPartial}
 use Rattle.plan_rows.specs.Underway.{IsUnderway}
 use Rattle.repair_back.specs.declared.way.Way.{Way}
-use Rattle.repair_back.specs.Flags.{kept_tables, flags_of, AreChosen}
+use Rattle.repair_back.specs.Flags.{kept_tables, flags_of, AreRepairFlags}
 
 -- a witness with these rows taken whose other rows are flagged
 abbrev pub IsKeptWitness : List Table → Query → List Value → List Placed → List (List Bool) → List (List Value) → Type 0
@@ -25,7 +25,7 @@ abbrev pub Lacks : List Table → Query → List Value → List Placed → ℕ �
 Lacks db q row taken F flags x = (w : List (List Value)) → IsKeptWitness db q row taken flags w → SharesKey (atom_key q F) x (row_at w F) → ⊥
 
 -- a row of such a witness is exchanged for a row of its block, and nothing else changes
-pub record IsStep (db : List Table) (q : Query) (row : List Value) (taken : List Placed) (old new : List (List Bool)) : Type 0 where
+pub record IsMendingStep (db : List Table) (q : Query) (row : List Value) (taken : List Placed) (old new : List (List Bool)) : Type 0 where
   pub witness : List (List Value)
   pub atom : ℕ
   pub into : List Value
@@ -39,10 +39,10 @@ pub record IsStep (db : List Table) (q : Query) (row : List Value) (taken : List
 -- so many such steps lead from one choice to another
 abbrev pub IsReachedIn : List Table → Query → List Value → List Placed → ℕ → List (List Bool) → List (List Bool) → Type 0
 IsReachedIn db q row taken zero old new = old ≡ new
-IsReachedIn db q row taken (suc n) old new = (flags : List (List Bool)) × IsStep db q row taken old flags × AreChosen q db flags × IsReachedIn db q row taken n flags new
+IsReachedIn db q row taken (suc n) old new = (flags : List (List Bool)) × IsMendingStep db q row taken old flags × AreRepairFlags q db flags × IsReachedIn db q row taken n flags new
 
-abbrev pub IsReached : List Table → Query → List Value → List Placed → List (List Bool) → List (List Bool) → Type 0
-IsReached db q row taken old new = (n : ℕ) × IsReachedIn db q row taken n old new
+abbrev pub IsReachedBySteps : List Table → Query → List Value → List Placed → List (List Bool) → List (List Bool) → Type 0
+IsReachedBySteps db q row taken old new = (n : ℕ) × IsReachedIn db q row taken n old new
 
 -- there is no witness of the row with the first rows taken, where these are at least so many
 abbrev pub HasNoneFrom : List Table → Query → List Value → List Placed → List (List Bool) → ℕ → Type 0

@@ -13,14 +13,7 @@ use Rattle.cqa_model.specs.Repairs.{IsRepair}
 use Rattle.cqa_model.specs.Blocks.{IsPick}
 use Rattle.cqa_model.specs.Query.{atom_at, atom_key, rows_of, IsWitness}
 use Rattle.repair_back.specs.Flags.{places_from}
-
--- the rows of a table at some places, by name
-abbrev pub names_in : ℕ → List ℕ → List RowId
-names_in table places = map (λ p. record { table = table; place = p }) places
-
--- and themselves
-abbrev pub rows_in : List (List Value) → List ℕ → List (List Value)
-rows_in rows places = map (λ p. slice_index_or rows p []) places
+use Rattle.table_blocks.specs.Tables.{rows_in, names_in}
 
 -- the names of the rows whose flags are set, atom by atom
 abbrev pub names_kept : List Atom → List (List Bool) → List RowId

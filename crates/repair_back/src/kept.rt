@@ -3,7 +3,7 @@
 ghost use Rattle.std.specs.Prelude.{◌≡◌, ◌≤◌, ◌<◌, ℕ, IfOk, OnOk, length, [], slice_index_or};
 ghost use Rattle.cqa_model.specs.Database.{stored};
 ghost use Rattle.cqa_model.specs.Query.{atom_at, atom_key, rows_of};
-ghost use Rattle.repair_back.specs.Flags.{IsFlagged, flags_of, AreLong, AreBlank, AreChosen};
+ghost use Rattle.repair_back.specs.Flags.{IsFlagged, flags_of, AreLong, AreBlank, AreRepairFlags};
 ghost use Rattle.cqa_model.specs.Blocks.{IsPick};
 
 use crate::atoms::is_used;
@@ -56,7 +56,7 @@ pub(crate) fn blank(setting: &Setting<'_>) -> Result<Vec<Choice>, NoMemory>
 /// Keeps of each block of the query's tables the first row whose flag is set, or else the first row.
 pub(crate) fn settle_all(setting: &Setting<'_>, kept: &mut [Choice])
     requires { AreLong setting.now.bound.now.query.now setting.now.bound.now.db.now kept.old }
-    ensures chosen { AreChosen setting.now.bound.now.query.now setting.now.bound.now.db.now kept.new }
+    ensures chosen { AreRepairFlags setting.now.bound.now.query.now setting.now.bound.now.db.now kept.new }
     ensures picks { (F : ℕ) → F < length setting.now.bound.now.query.now.atoms → (p : ℕ) → IsFlagged (flags_of setting.now.bound.now.query.now kept.new F) p → IsPick (atom_key setting.now.bound.now.query.now F) (rows_of setting.now.bound.now.query.now (stored setting.now.bound.now.db.now) F) (IsFlagged (flags_of setting.now.bound.now.query.now kept.old F)) p }
 {
     let query = setting.bound.query;

@@ -13,11 +13,11 @@ ghost use Rattle.cqa_model.specs.Certain.{IsCertain};
 ghost use Rattle.cqa_model.specs.Plan.{IsPlanOf};
 ghost use Rattle.plan_rows.specs.Taking.{placed};
 ghost use Rattle.join_access.specs.Spots.{ArePaths};
-ghost use Rattle.plan_rows.specs.Underway.{IsKey, IsRight};
+ghost use Rattle.plan_rows.specs.Underway.{IsMemoKey, IsRight};
 ghost use Rattle.plan_rows.specs.Links.{AreWays};
-ghost use Rattle.repair_back.specs.Flags.{IsFlagged, flags_of, AreBlank, AreChosen};
+ghost use Rattle.repair_back.specs.Flags.{IsFlagged, flags_of, AreBlank, AreRepairFlags};
 ghost use Rattle.repair_back.specs.Mending.{IsHere, IsNextAtom};
-ghost use Rattle.repair_back.specs.Along.{rows_on, kept_on, AreLed, KeepsOne, KeepsNoWitness, HoldsWith, RestHolds, Mends, MendsBlock};
+ghost use Rattle.repair_back.specs.Along.{rows_on, kept_on, AreLed, KeepsOne, KeepsNoWitness, WayHoldsWith, WayRestHolds, Mends, MendsBlock};
 ghost use Rattle.repair_back.specs.Results.{Rejects, AreStored};
 ghost use Rattle.repair_back.specs.Walking.{IsBlockBetween};
 
@@ -40,7 +40,7 @@ use table_blocks::Bound;
 /// The place that is kept of a block.
 fn kept_of(setting: &Setting<'_>, atom: u32, start: usize, end: usize, kept: &[Choice]) -> usize
     requires atom { atom < length setting.now.bound.now.query.now.atoms }
-    requires chosen { AreChosen setting.now.bound.now.query.now setting.now.bound.now.db.now kept.now }
+    requires chosen { AreRepairFlags setting.now.bound.now.query.now setting.now.bound.now.db.now kept.now }
     requires block { IsBlockBetween (atom_key setting.now.bound.now.query.now atom) (rows_of setting.now.bound.now.query.now (stored setting.now.bound.now.db.now) atom) start end }
     ensures after { start ≤ result }
     ensures before { result < end }
@@ -102,7 +102,7 @@ fn remembered<'x>(
     requires here { IsHere way.now (placed taken.now) plan.now }
     requires chosen { KeepsOne way.now kept.old }
     requires memo { IsRight way.now.course.now memo.old }
-    requires key { IsKey way.now.course.now (placed taken.now) plan.now way.now.row.now key }
+    requires key { IsMemoKey way.now.course.now (placed taken.now) plan.now way.now.row.now key }
     ensures memo { IsRight way.now.course.now memo.new }
     ensures mends { Mends way.now (placed taken.now) plan.now kept.old kept.new result }
 {
@@ -244,7 +244,7 @@ fn mend_block<'x>(
     requires rows { rows.now ≡ rows_on way.now atom }
     requires block { IsBlockBetween (atom_key way.now.course.now.setting.bound.now.query.now atom) rows.now start end }
     ensures memo { IsRight way.now.course.now memo.new }
-    ensures mends { MendsBlock way.now (placed taken.now) atom (slice_index_or rows.now start []) ((i : ℕ) → start ≤ i → i < end → HoldsWith way.now (placed taken.now) atom rest.now (slice_index_or rows.now i [])) kept.old kept.new result }
+    ensures mends { MendsBlock way.now (placed taken.now) atom (slice_index_or rows.now start []) ((i : ℕ) → start ≤ i → i < end → WayHoldsWith way.now (placed taken.now) atom rest.now (slice_index_or rows.now i [])) kept.old kept.new result }
 {
     let course = way.course;
     let setting = &course.setting;
@@ -284,7 +284,7 @@ fn row_mended<'x>(
     requires kept { Contains (kept_on way.now kept.old atom) y.now }
     ensures memo { IsRight way.now.course.now memo.new }
     ensures same { flags_of way.now.course.now.setting.bound.now.query.now kept.new atom ≡ flags_of way.now.course.now.setting.bound.now.query.now kept.old atom }
-    ensures mends { MendsBlock way.now (placed taken.now) atom y.now (HoldsWith way.now (placed taken.now) atom rest.now y.now) kept.old kept.new result }
+    ensures mends { MendsBlock way.now (placed taken.now) atom y.now (WayHoldsWith way.now (placed taken.now) atom rest.now y.now) kept.old kept.new result }
 {
     memo.turn();
     let course = way.course;
@@ -305,7 +305,7 @@ fn mend_all(way: &Way<'_>, kept: &mut [Choice]) -> bool
     requires chosen { KeepsOne way.now kept.old }
     ensures chosen { KeepsOne way.now kept.new }
     ensures mended { IsTrue result → KeepsNoWitness way.now [] kept.new }
-    ensures holds { result ≡ false → RestHolds way.now [] way.now.course.now.order.now }
+    ensures holds { result ≡ false → WayRestHolds way.now [] way.now.course.now.order.now }
 {
     let course = way.course;
     let mut memo = Memo::over(&course.setting, Candidates::One);

@@ -1,8 +1,9 @@
 //! Repairs as names of rows.
 
 ghost use Rattle.std.specs.Prelude.{◌≡◌, ◌<◌, ◌≤◌, ◌++◌, IfOk, OnOk, length};
-ghost use Rattle.repair_back.specs.Flags.{places_from, AreChosen};
-ghost use Rattle.repair_back.specs.Results.{names_in, names_kept};
+ghost use Rattle.repair_back.specs.Flags.{places_from, AreRepairFlags};
+ghost use Rattle.repair_back.specs.Results.{names_kept};
+ghost use Rattle.table_blocks.specs.Tables.{names_in};
 
 use crate::choice::Choice;
 use cqa_model::{MOST_ROWS, RowId};
@@ -40,7 +41,7 @@ fn add_names(
 
 /// Adds the names of the rows that are kept of the query's tables.
 fn add_all(setting: &Setting<'_>, kept: &[Choice], names: &mut Vec<RowId>) -> Result<(), NoMemory>
-    requires { AreChosen setting.now.bound.now.query.now setting.now.bound.now.db.now kept.now }
+    requires { AreRepairFlags setting.now.bound.now.query.now setting.now.bound.now.db.now kept.now }
     ensures { OnOk result (names.new.items ≡ names.old.items ++ names_kept setting.now.bound.now.query.now.atoms kept.now) }
 {
     for atom in setting.bound.query.atoms.as_slice() {
@@ -56,7 +57,7 @@ fn add_all(setting: &Setting<'_>, kept: &[Choice], names: &mut Vec<RowId>) -> Re
 ///
 /// `NoMemory` where memory is refused.
 pub(crate) fn named(setting: &Setting<'_>, kept: &[Choice]) -> Result<Repair, NoMemory>
-    requires { AreChosen setting.now.bound.now.query.now setting.now.bound.now.db.now kept.now }
+    requires { AreRepairFlags setting.now.bound.now.query.now setting.now.bound.now.db.now kept.now }
     ensures { IfOk result (λ repair. repair.kept ≡ names_kept setting.now.bound.now.query.now.atoms kept.now) }
 {
     let mut names = Vec::new(setting.alloc);

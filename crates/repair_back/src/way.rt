@@ -2,8 +2,8 @@
 
 ghost use Rattle.std.specs.Prelude.{◌≡◌, ◌<◌, ◌≤◌, ℕ, IfOk, IsFalse, length, slice_index_or, take, drop};
 ghost use Rattle.cqa_model.specs.Shape.{IsInRange};
-ghost use Rattle.plan_rows.specs.Left.{AreAtoms};
-ghost use Rattle.repair_back.specs.Apart.{BringsNone, IsApart, AreApart, AreEnough};
+ghost use Rattle.plan_rows.specs.Left.{AreQueryAtoms};
+ghost use Rattle.repair_back.specs.Apart.{BringsNone, IsAtomApart, ArePartsApart, AreEnough};
 
 use cqa_model::ColRef;
 use cqa_value::{NoMemory, Row};
@@ -23,9 +23,9 @@ pub(crate) struct Way<'a> {
 
 /// Whether a column is linked to one of the rest's, and to none of the atoms before.
 fn brings_column(setting: &Setting<'_>, before: &[u32], column: ColRef, rest: &[u32]) -> bool
-    requires before { AreAtoms setting.now.bound.now.query.now before.now }
+    requires before { AreQueryAtoms setting.now.bound.now.query.now before.now }
     requires column { IsInRange setting.now.bound.now.query.now.atoms column }
-    requires rest { AreAtoms setting.now.bound.now.query.now rest.now }
+    requires rest { AreQueryAtoms setting.now.bound.now.query.now rest.now }
     ensures { IsFalse result → BringsNone setting.now.bound.now.query.now before.now column rest.now }
 {
     if !is_told(setting, rest, column) {
@@ -36,10 +36,10 @@ fn brings_column(setting: &Setting<'_>, before: &[u32], column: ColRef, rest: &[
 
 /// Whether an atom has such a column.
 fn brings(setting: &Setting<'_>, before: &[u32], atom: u32, rest: &[u32]) -> bool
-    requires before { AreAtoms setting.now.bound.now.query.now before.now }
+    requires before { AreQueryAtoms setting.now.bound.now.query.now before.now }
     requires atom { atom < length setting.now.bound.now.query.now.atoms }
-    requires rest { AreAtoms setting.now.bound.now.query.now rest.now }
-    ensures { IsFalse result → IsApart setting.now.bound.now.query.now before.now atom rest.now }
+    requires rest { AreQueryAtoms setting.now.bound.now.query.now rest.now }
+    ensures { IsFalse result → IsAtomApart setting.now.bound.now.query.now before.now atom rest.now }
 {
     for col in 0..width_of(setting.bound.query, atom) {
         if brings_column(setting, before, ColRef { atom, col }, rest) {
@@ -51,9 +51,9 @@ fn brings(setting: &Setting<'_>, before: &[u32], atom: u32, rest: &[u32]) -> boo
 
 /// How many first atoms of an order are enough for those from a place on.
 fn enough_at(setting: &Setting<'_>, order: &[u32], place: usize) -> usize
-    requires order { AreAtoms setting.now.bound.now.query.now order.now }
+    requires order { AreQueryAtoms setting.now.bound.now.query.now order.now }
     requires place { place ≤ length order.now }
-    ensures { (k : ℕ) → result ≤ k → k < place → IsApart setting.now.bound.now.query.now (take k order.now) (slice_index_or order.now k 0) (drop place order.now) }
+    ensures { (k : ℕ) → result ≤ k → k < place → IsAtomApart setting.now.bound.now.query.now (take k order.now) (slice_index_or order.now k 0) (drop place order.now) }
 {
     let (_, rest) = order.split_at(place);
     let mut enough = place;
@@ -73,7 +73,7 @@ fn enough_at(setting: &Setting<'_>, order: &[u32], place: usize) -> usize
 ///
 /// `NoMemory` where memory is refused.
 pub(crate) fn enough_of(setting: &Setting<'_>, order: &[u32]) -> Result<Vec<usize>, NoMemory>
-    requires { AreAtoms setting.now.bound.now.query.now order.now }
+    requires { AreQueryAtoms setting.now.bound.now.query.now order.now }
     ensures { IfOk result (λ enough. AreEnough setting.now.bound.now.query.now order.now enough.items) }
 {
     let mut enough = Vec::new(setting.alloc);
@@ -86,7 +86,7 @@ pub(crate) fn enough_of(setting: &Setting<'_>, order: &[u32]) -> Result<Vec<usiz
 /// How many of the rows taken are enough for the rest of a plan.
 pub(crate) fn enough_for(way: &Way<'_>, plan: &[u32]) -> usize
     requires { length plan.now ≤ length way.now.course.now.order.now }
-    ensures { ∥ AreApart way.now.course.now.setting.bound.now.query.now way.now.course.now.order.now plan.now result ∥₁ }
+    ensures { ∥ ArePartsApart way.now.course.now.setting.bound.now.query.now way.now.course.now.order.now plan.now result ∥₁ }
 {
     let course = way.course;
     let place = course.order.len() - plan.len();

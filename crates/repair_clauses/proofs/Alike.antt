@@ -18,7 +18,7 @@ use Rattle.cqa_model.proofs.Classic.{mem-head, mem-tail, dec_both, dec_each, dec
 use Rattle.cqa_model.proofs.Values.{dec_by, value_discrete, row_discrete}
 use Rattle.cqa_model.proofs.Repairs.{shares-self, shares-eq, dec_shares}
 use Rattle.cqa_model.proofs.Witnesses.{dec_lists, dec_cond}
-use Rattle.repair_clauses.specs.Alike.{IsSpokenOf, AreAlike, AreClasses, IsInWitness, IsCovered, SatisfiesClasses}
+use Rattle.repair_clauses.specs.Alike.{IsSpokenOf, AreAlikeRows, AreRowClasses, IsInWitness, IsCovered, SatisfiesClasses}
 use Rattle.repair_clauses.specs.Laws.{ClassesAreExact}
 
 -- whether a row is in a witness
@@ -33,7 +33,7 @@ module _ (q : Query) (tables : List (List (List Value))) (row : List Value) wher
   -- a witness stays one where its rows are exchanged for rows that are alike
   pub alike_witness : (w u : List (List Value)) → IsWitness q tables row w → length u ≡ length q.atoms →
       ((F : ℕ) → F < length q.atoms → Contains (rows_of q tables F) (row_at u F)) →
-      ((F : ℕ) → F < length q.atoms → AreAlike q F (row_at w F) (row_at u F)) → IsWitness q tables row u
+      ((F : ℕ) → F < length q.atoms → AreAlikeRows q F (row_at w F) (row_at u F)) → IsWitness q tables row u
   alike_witness w u h size kept alike = record {
     size = size;
     kept = kept;
@@ -52,7 +52,7 @@ module _ (q : Query) (tables : List (List (List Value))) (row : List Value) wher
           sym (in_cond (Join c d) m c (mem-head c (d ∷ []))) ∙ e ∙ in_cond (Join c d) m d (mem-tail d c (d ∷ []) (mem-head d []))
       cond (Test c op x) m e = subst (λ y. OpHolds op y x) (in_cond (Test c op x) m c (mem-head c [])) e
 
-  module _ (class : ℕ → List Value → ℕ) (apart : AreClasses q tables row class) where
+  module _ (class : ℕ → List Value → ℕ) (apart : AreRowClasses q tables row class) where
     -- from classes to rows: a row is as its class, and a row in no witness is true
     abbrev unless_in : {A : Type 0} → Dec A → Bool → Bool
     unless_in (yes p) b = b
@@ -119,7 +119,7 @@ module _ (q : Query) (tables : List (List (List Value))) (row : List Value) wher
             (p.0, p.1, p.2, yes_of (dec_class a (class F p.0)) (F, l, (p.0, p.1, (refl, (cov p.0 p.1 p.2, p.3)))))
 
         Good : List (List Value) → ℕ → List Value → Type 0
-        Good w F x = Contains (rows_of q tables F) x × AreAlike q F (row_at w F) x × (a F x ≡ true)
+        Good w F x = Contains (rows_of q tables F) x × AreAlikeRows q F (row_at w F) x × (a F x ≡ true)
 
         pick : (w : List (List Value)) → IsWitness q tables row w → (F : ℕ) → F < length q.atoms → IsTrueClass a (class F (row_at w F)) → (x : List Value) × Good w F x
         pick w hw F lF (G, l, (x, m, (e, (i, at)))) =

@@ -14,8 +14,8 @@ use Rattle.cqa_model.specs.Formula.{IsRelevant}
 use Rattle.cqa_model.proofs.Classic.{mem-nil, choose}
 use Rattle.cqa_model.proofs.Repairs.{shares-sym, shares-trans}
 use Rattle.repair_clauses.specs.declared.span.Span.{Span}
-use Rattle.repair_clauses.specs.Clauses.{Variable, AreAll, row_of, IsStoredVariable}
-use Rattle.repair_clauses.specs.Spans.{at, Covers, IsIn, IsSpan, IsWholeBlock, span_cmp, AreBased, AreBasedTo, AreSpans, AreSpansTo, IsPlaced}
+use Rattle.repair_clauses.specs.Clauses.{Variable, AreAllLists, variable_row, IsStoredVariable}
+use Rattle.repair_clauses.specs.Spans.{at, Covers, IsInSpan, IsRelevantSpan, IsWholeBlock, span_cmp, AreBased, AreBasedTo, AreSpans, AreSpansTo, IsPlacedWitness}
 use Rattle.repair_clauses.specs.Runs.{IsRun, AreRuns}
 use Rattle.repair_clauses.proofs.Numbers.{place_of}
 use Rattle.repair_clauses.proofs.Order.{less_then}
@@ -44,17 +44,17 @@ module _ (q : Query) (db : List Table) (row : List Value) where
   pub spans-all : (m : ℕ) (spans : List Span) → AreSpansTo q db row (length q.atoms) m spans → AreSpans q db row spans
   spans-all m spans h = record { in_order = h.in_order; based = based-whole 0 m spans h.based; each = λ s k. (h.each s k).1; every = λ x s r. h.every x s.0 s r }
 
-  module _ (places : List (List ℕ)) (all : AreAll (IsPlaced q db row) places) (n m k : ℕ) (spans runs : List Span) (h : AreSpansTo q db row n m spans) (here : n < length q.atoms)
+  module _ (places : List (List ℕ)) (all : AreAllLists (IsPlacedWitness q db row) places) (n m k : ℕ) (spans runs : List Span) (h : AreSpansTo q db row n m spans) (here : n < length q.atoms)
       (column : List ℕ) (from : (p : ℕ) → Contains column p → (ps : List ℕ) × Contains places ps × (get_or ps n 0 ≡ p)) (to : (ps : List ℕ) → Contains places ps → Contains column (get_or ps n 0))
       (r : AreRuns (atom_key q n) (rows_of q (stored db) n) n m column k runs) where
     abbrev row_n : ℕ → List Value
-    row_n p = row_of q db (at n p)
+    row_n p = variable_row q db (at n p)
 
-    of_run : (s : Span) → IsRun (atom_key q n) (rows_of q (stored db) n) n column s → IsSpan q db row s
+    of_run : (s : Span) → IsRun (atom_key q n) (rows_of q (stored db) n) n column s → IsRelevantSpan q db row s
     of_run s g = record {
       there = subst (λ F. F < length q.atoms) (sym g.of_atom) here;
       whole = subst (λ F. IsWholeBlock (atom_key q F) (rows_of q (stored db) F) s) (sym g.of_atom) g.whole;
-      relevant = subst (λ F. IsRelevant q (stored db) row F (row_of q db (at F s.start))) (sym g.of_atom) relevant;
+      relevant = subst (λ F. IsRelevant q (stored db) row F (variable_row q db (at F s.start))) (sym g.of_atom) relevant;
     }
       where
         relevant : IsRelevant q (stored db) row n (row_n s.start)
@@ -69,7 +69,7 @@ module _ (q : Query) (db : List Table) (row : List Value) where
             (w.rows, w.witness, subst (λ z. SharesKey (atom_key q n) (row_n s.start) z) is ((g.whole.block p inside).1 i.2))
 
     abbrev IsPlace : List (List Value) → ℕ → ℕ → Type 0
-    IsPlace w F p = (p < length (rows_of q (stored db) F)) × (row_of q db (at F p) ≡ row_at w F)
+    IsPlace w F p = (p < length (rows_of q (stored db) F)) × (variable_row q db (at F p) ≡ row_at w F)
 
     -- the span of a relevant row of the atom
     found : (p : ℕ) → p < length (rows_of q (stored db) n) → IsRelevant q (stored db) row n (row_n p) → (s : Span) × Contains runs s × Covers s p
@@ -105,10 +105,10 @@ module _ (q : Query) (db : List Table) (row : List Value) where
       every = λ x l st rel. every x (cases_next x.atom n l) st rel;
     }
       where
-        every : (x : Variable) → (x.atom < n) ⊎ (x.atom ≡ n) → IsStoredVariable q db x → IsRelevant q (stored db) row x.atom (row_of q db x) → (s : Span) × Contains (spans ++ runs) s × IsIn s x
+        every : (x : Variable) → (x.atom < n) ⊎ (x.atom ≡ n) → IsStoredVariable q db x → IsRelevant q (stored db) row x.atom (variable_row q db x) → (s : Span) × Contains (spans ++ runs) s × IsInSpan s x
         every x (inl l) st rel = let s = h.every x l st rel in (s.0, Contains-append_left spans runs s.0 s.1, s.2)
         every x (inr e) st rel =
             let inside : x.place < length (rows_of q (stored db) n) = subst (λ F. x.place < length (rows_of q (stored db) F)) e st.1 in
-            let there : IsRelevant q (stored db) row n (row_n x.place) = subst (λ F. IsRelevant q (stored db) row F (row_of q db (at F x.place))) e rel in
+            let there : IsRelevant q (stored db) row n (row_n x.place) = subst (λ F. IsRelevant q (stored db) row F (variable_row q db (at F x.place))) e rel in
             let s = found x.place inside there in
             (s.0, Contains-append_right spans runs s.0 s.1, (e ∙ sym (r.each s.0 s.1).of_atom, s.2.0, s.2.1))

@@ -23,10 +23,10 @@ use Rattle.join_access.specs.Listing.{AreAllNames, names_of, places_of}
 use Rattle.join_access.proofs.Naming.{name, zip-push}
 use Rattle.repair_clauses.specs.declared.span.Span.{Span}
 use Rattle.repair_clauses.specs.declared.formula.Encoded.{Encoded}
-use Rattle.repair_clauses.specs.Clauses.{positive, negative, name_of, row_of}
-use Rattle.repair_clauses.specs.Spans.{at, place_at, AreBased, AreBasedTo, AreSpansTo, AreCovered, AreNumbers, IsAt, IsIn, IsNumbering, IsWitnessClause, variables_in, variables_of, numbers_in, formula_of, IsPlaced}
+use Rattle.repair_clauses.specs.Clauses.{positive, negative, variable_name, variable_row}
+use Rattle.repair_clauses.specs.Spans.{at, place_at, AreBased, AreBasedTo, AreSpansTo, AreCovered, AreNumbers, IsAt, IsInSpan, IsSpanNumbering, IsWitnessClause, variables_in, variables_of_spans, numbers_in, formula_of_spans, IsPlacedWitness}
 use Rattle.repair_clauses.specs.Runs.{AreColumn, AreRuns}
-use Rattle.repair_clauses.specs.Encodings.{AddsWitnesses, AreOfAtoms, AreTold, IsEncoded}
+use Rattle.repair_clauses.specs.Encodings.{AddsWitnesses, AreSpansOfAtoms, AreTold, IsEncoded}
 use Rattle.repair_clauses.proofs.Spans.{spans_give_formula}
 use Rattle.repair_clauses.proofs.Atoms.{spans-more, spans-all}
 use Rattle.repair_clauses.proofs.Placing.{AreNumbersTo, are_apart, numbers-none, numbers-more, numbers-all}
@@ -50,14 +50,14 @@ based-below n m (t ∷ ss) h s k = elim (mem-cases s t ss k) [
   | inr i ↦ based-below (n + t.count) m ss h.1 s i
 ]
 
-pub numbers-small : (spans : List Span) (vars : ℕ) → IsNumbering spans vars → (s : Span) → Contains spans s → s.base + s.count < 2 ^ 32
+pub numbers-small : (spans : List Span) (vars : ℕ) → IsSpanNumbering spans vars → (s : Span) → Contains spans s → s.base + s.count < 2 ^ 32
 numbers-small spans vars h s k = let b = based-below 0 vars spans h.based s k in let f = h.few in omega (arith, b, f)
 
-pub variables-length : (n m : ℕ) (ss : List Span) → AreBasedTo n ss m → n + length (variables_of ss) ≡ m
+pub variables-length : (n m : ℕ) (ss : List Span) → AreBasedTo n ss m → n + length (variables_of_spans ss) ≡ m
 variables-length n m [] h = omega (arith, h)
 variables-length n m (s ∷ ss) h =
     let ih = variables-length (n + s.count) m ss h.1 in
-    let long = length-append (variables_in s) (variables_of ss) in
+    let long = length-append (variables_in s) (variables_of_spans ss) in
     let here = length-map-range_with_len (at s.atom) s.start s.count in
     omega (arith, ih, long, here)
 
@@ -72,10 +72,10 @@ place_read names F l = sym (get_or-map (λ (y : RowId). y.place) names F (name 0
 pub read_in : (spans items : List Span) (k : ℕ) → items ≡ spans → k < length items → Contains spans (get_or items k no_span)
 read_in spans items k e l = subst (λ ss. Contains ss (get_or items k no_span)) e (Contains-get_or items k no_span l)
 
-pub span_read : (spans : List Span) (F p k : ℕ) → IsAt spans F p k → (k < length spans) × Contains spans (get_or spans k no_span) × IsIn (get_or spans k no_span) (at F p)
+pub span_read : (spans : List Span) (F p k : ℕ) → IsAt spans F p k → (k < length spans) × Contains spans (get_or spans k no_span) × IsInSpan (get_or spans k no_span) (at F p)
 span_read spans F p k (s, e, i) =
     let l = slice_get_within spans k s e in
-    (l, Contains-get_or spans k no_span l, subst (λ (u : Span). IsIn u (at F p)) (sym (get_or_from_slice_get spans k s no_span e)) i)
+    (l, Contains-get_or spans k no_span l, subst (λ (u : Span). IsInSpan u (at F p)) (sym (get_or_from_slice_get spans k s no_span e)) i)
 
 -- ---- the formula
 
@@ -100,7 +100,7 @@ module _ (q : Query) (db : List Table) (row : List Value) where
       r_atom
 
   module _ (m : ℕ) (spans : List Span) (h : AreSpansTo q db row (length q.atoms) m spans) where
-    pub numbering : IsDatabase db → m ≤ MOST_ATOMS * MOST_ROWS → IsNumbering spans m
+    pub numbering : IsDatabase db → m ≤ MOST_ATOMS * MOST_ROWS → IsSpanNumbering spans m
     numbering d few = record {
       apart = are_apart q db row spans (spans-all q db row m spans h);
       based = h.based;
@@ -108,7 +108,7 @@ module _ (q : Query) (db : List Table) (row : List Value) where
       within = λ s k. let w = (h.each s k).1.whole.within in let t = rows-few db (atom_at q s.atom).table in let f = d.few_rows in omega (arith, w, t, f);
     }
 
-    pub of_atoms : AreOfAtoms q spans
+    pub of_atoms : AreSpansOfAtoms q spans
     of_atoms s k = (h.each s k).0
 
     pub told : (ws : List Witness) → AreAllNames q db row (names_of ws) → AreTold spans ws
@@ -116,21 +116,21 @@ module _ (q : Query) (db : List Table) (row : List Value) where
         let n = (all.exactly w.rows).0 (Contains-map (λ (x : Witness). x.rows) ws w k) in
         let size = named-size db q.atoms w.rows n.0 n.2 in
         let few = q.kept.size.1 in
-        let p : IsPlaced q db row (places_of w.rows) = of_names q db row w.rows n in
+        let p : IsPlacedWitness q db row (places_of w.rows) = of_names q db row w.rows n in
         record {
           few = omega (arith, size, few);
           each = λ F l.
               let lF : F < length q.atoms = omega (arith, l, size) in
               let each = p.each F lF in
-              let same : SharesKey (atom_key q F) (row_of q db (at F (place_at w.rows F))) (row_at p.rows F) =
-              subst (λ x. SharesKey (atom_key q F) (row_of q db (at F (place_at w.rows F))) x) each.1 (shares-self (atom_key q F) (row_of q db (at F (place_at w.rows F)))) in
+              let same : SharesKey (atom_key q F) (variable_row q db (at F (place_at w.rows F))) (row_at p.rows F) =
+              subst (λ x. SharesKey (atom_key q F) (variable_row q db (at F (place_at w.rows F))) x) each.1 (shares-self (atom_key q F) (variable_row q db (at F (place_at w.rows F)))) in
               h.every (at F (place_at w.rows F)) lF (lF, each.0) (p.rows, p.witness, same);
         }
 
-    pub encoded : (all : List (List RowId)) → AreAllNames q db row all → (e : Encoded) → e.cnf.vars ≡ m → e.rows ≡ map (name_of q) (variables_of spans) →
+    pub encoded : (all : List (List RowId)) → AreAllNames q db row all → (e : Encoded) → e.cnf.vars ≡ m → e.rows ≡ map (variable_name q) (variables_of_spans spans) →
         AddsWitnesses spans (map places_of all) (map (map positive) (map numbers_in spans)) (literals e.cnf.clauses) → IsEncoded q db row e
     encoded all a e vars rows c = record {
-      formula = formula_of spans c.numbers;
+      formula = formula_of_spans spans c.numbers;
       is = spans_give_formula db q row spans (map places_of all) c.numbers (spans-all q db row m spans h) (placed q db row all a) c.numbered;
       vars = let long = variables-length 0 m spans h.based in omega (arith, vars, long);
       are = c.is;
@@ -149,7 +149,7 @@ pub negatives-none : (spans : List Span) (names : List RowId) (lits : List Lit) 
 negatives-none spans names lits e = record { numbers = []; so_far = numbers-none spans (places_of names); is = e }
 
 pub negatives-more : (spans : List Span) (names : List RowId) (i : ℕ) (old new : List Lit) (n : ℕ) → AreBased 0 spans → AreCovered spans names → AreNegativesTo spans names i old → i < length names →
-    ((s : Span) → Contains spans s → IsIn s (at i (place_at names i)) → n ≡ suc (s.base + (place_at names i - s.start))) → new ≡ old ++ negative n ∷ [] → AreNegativesTo spans names (i + 1) new
+    ((s : Span) → Contains spans s → IsInSpan s (at i (place_at names i)) → n ≡ suc (s.base + (place_at names i - s.start))) → new ≡ old ++ negative n ∷ [] → AreNegativesTo spans names (i + 1) new
 negatives-more spans names i old new n based covered h l is e =
     let s = covered.each i l in
     record {
@@ -169,7 +169,7 @@ pub adds-more : (spans : List Span) (places : List (List ℕ)) (old mid new : Li
     new ≡ mid ++ lits ∷ [] → AddsWitnesses spans (places ++ places_of names ∷ []) old new
 adds-more spans places old mid new names lits h c e = record {
   numbers = h.numbers ++ c.0 ∷ [];
-  numbered = zip-push (AreNumbers (variables_of spans) 0) places h.numbers (places_of names) c.0 h.numbered c.1;
+  numbered = zip-push (AreNumbers (variables_of_spans spans) 0) places h.numbers (places_of names) c.0 h.numbered c.1;
   is = e ∙ (ap (λ ls. ls ++ lits ∷ []) h.is ∙ (append_assoc old (map (map negative) h.numbers) (lits ∷ [])
       ∙ (ap (λ l. old ++ (map (map negative) h.numbers ++ l ∷ [])) c.2 ∙ ap (λ ls. old ++ ls) (sym (map_push (map negative) h.numbers c.0)))));
 }

@@ -18,7 +18,7 @@ use Rattle.cqa_model.proofs.Repairs.{shares-self}
 use Rattle.cqa_model.proofs.Databases as databases
 use Rattle.join_access.specs.Listing.{AreAllNames, places_of}
 use Rattle.join_access.proofs.Naming.{stand-once}
-use Rattle.repair_clauses.specs.Clauses.{Variable, row_of}
+use Rattle.repair_clauses.specs.Clauses.{Variable, variable_row}
 use Rattle.repair_clauses.specs.Spans.{at, place_at}
 use Rattle.repair_clauses.specs.Runs.{AreColumn}
 use Rattle.repair_clauses.specs.Avoiding.{HasFree, IsAvoidable}
@@ -41,11 +41,11 @@ module _ (q : Query) (db : List Table) (row : List Value) (all : List (List RowI
   loose_of i a = (at a.atom (place_at (get_or all i []) a.atom), record { there = a.there; is = refl; places = a.places; column = a.column; free = a.free })
 
   abbrev pub IsPlace : List (List Value) → ℕ → ℕ → Type 0
-  IsPlace w F p = (p < length (rows_of q (stored db) F)) × (row_of q db (at F p) ≡ row_at w F)
+  IsPlace w F p = (p < length (rows_of q (stored db) F)) × (variable_row q db (at F p) ≡ row_at w F)
 
   -- the names of a witness
   abbrev pub IsNamed : List (List Value) → ℕ → Type 0
-  IsNamed w i = (i < length all) × ((F : ℕ) → F < length q.atoms → row_of q db (at F (place_at (get_or all i []) F)) ≡ row_at w F)
+  IsNamed w i = (i < length all) × ((F : ℕ) → F < length q.atoms → variable_row q db (at F (place_at (get_or all i []) F)) ≡ row_at w F)
 
   pub named : (w : List (List Value)) → IsWitness q (stored db) row w → (i : ℕ) × IsNamed w i
   named w hw = go (choose 0 (length q.atoms) (IsPlace w) (λ F lF. there F (place_of (rows_of q (stored db) F) (row_at w F) (hw.kept F lF))))
@@ -58,22 +58,22 @@ module _ (q : Query) (db : List Table) (row : List Value) (all : List (List RowI
           let f = Contains-from_map places_of all ps (((placed q db row all h).exactly ps).1 (record { rows = w; witness = hw; size = size; each = each })) in
           let i = place_of all f.0 f.1 in
           let e : places_of (get_or all i.0 []) ≡ ps = ap places_of (get_or_from_slice_get all i.0 f.0 [] i.2) ∙ f.2 in
-          (i.0, (i.1, λ F l. ap (λ ns. row_of q db (at F (get_or ns F 0))) e ∙ (each F l).1))
+          (i.0, (i.1, λ F l. ap (λ ns. variable_row q db (at F (get_or ns F 0))) e ∙ (each F l).1))
 
   -- a row at two places of an atom stands at one
-  pub one_place : (F p r : ℕ) → p < length (rows_of q (stored db) F) → r < length (rows_of q (stored db) F) → row_of q db (at F p) ≡ row_of q db (at F r) → p ≡ r
+  pub one_place : (F p r : ℕ) → p < length (rows_of q (stored db) F) → r < length (rows_of q (stored db) F) → variable_row q db (at F p) ≡ variable_row q db (at F r) → p ≡ r
   one_place F p r lp lr e =
-      stand-once db d (atom_at q F).table p r (row_of q db (at F r))
+      stand-once db d (atom_at q F).table p r (variable_row q db (at F r))
       (slice_get-get_or (rows_of q (stored db) F) p [] lp ∙ ap Some e) (slice_get-get_or (rows_of q (stored db) F) r [] lr)
 
   module _ (loose : List Variable) (size : length loose ≡ length all) (each : (i : ℕ) → i < length all → IsLooseOf i (get_or loose i no_row)) where
     -- the row is one of the loose rows
     abbrev IsOut : ℕ → List Value → Type 0
-    IsOut F x = (k : ℕ) × (k < length all) × (((get_or loose k no_row).atom ≡ F) × (row_of q db (get_or loose k no_row) ≡ x))
+    IsOut F x = (k : ℕ) × (k < length all) × (((get_or loose k no_row).atom ≡ F) × (variable_row q db (get_or loose k no_row) ≡ x))
 
     dec_out : (F : ℕ) (x : List Value) → Dec (IsOut F x)
-    dec_out F x = dec_one_below (λ k. ((get_or loose k no_row).atom ≡ F) × (row_of q db (get_or loose k no_row) ≡ x))
-        (λ k. dec_both (ℕ_discrete (get_or loose k no_row).atom F) (row_discrete (row_of q db (get_or loose k no_row)) x)) (length all)
+    dec_out F x = dec_one_below (λ k. ((get_or loose k no_row).atom ≡ F) × (variable_row q db (get_or loose k no_row) ≡ x))
+        (λ k. dec_both (ℕ_discrete (get_or loose k no_row).atom F) (row_discrete (variable_row q db (get_or loose k no_row)) x)) (length all)
 
     -- all others stay
     abbrev stays : ℕ → List Value → Bool
@@ -83,7 +83,7 @@ module _ (q : Query) (db : List Table) (row : List Value) (all : List (List RowI
     Stays F x = (y : List Value) × Contains (rows_of q (stored db) F) y × SharesKey (atom_key q F) x y × (stays F y ≡ true)
 
     -- a row that is free is none of them
-    free_stays : (k : ℕ) (l : k < length all) → IsOut (get_or loose k no_row).atom (row_of q db (at (get_or loose k no_row).atom (each k l).free.free)) → ⊥
+    free_stays : (k : ℕ) (l : k < length all) → IsOut (get_or loose k no_row).atom (variable_row q db (at (get_or loose k no_row).atom (each k l).free.free)) → ⊥
     free_stays k l (j, lj, (ea, er)) = x.free.apart (subst (Contains x.places) (ap (place_at names) (sym ea) ∙ (u.is ∙ same)) (x.column.to names member))
       where
         x : IsLooseOf k (get_or loose k no_row)
@@ -104,13 +104,13 @@ module _ (q : Query) (db : List Table) (row : List Value) (all : List (List RowI
 
         same : (get_or loose j no_row).place ≡ x.free.free
         same = one_place (get_or loose k no_row).atom (get_or loose j no_row).place x.free.free (stored_at (get_or loose k no_row).atom ea) x.free.there
-            (subst (λ F. row_of q db (at F (get_or loose j no_row).place) ≡ row_of q db (at (get_or loose k no_row).atom x.free.free)) ea er)
+            (subst (λ F. variable_row q db (at F (get_or loose j no_row).place) ≡ variable_row q db (at (get_or loose k no_row).atom x.free.free)) ea er)
 
-    beside : (k : ℕ) → k < length all → Stays (get_or loose k no_row).atom (row_of q db (get_or loose k no_row))
+    beside : (k : ℕ) → k < length all → Stays (get_or loose k no_row).atom (variable_row q db (get_or loose k no_row))
     beside k l =
         let F = (get_or loose k no_row).atom in
         let f = (each k l).free in
-        let y = row_of q db (at F f.free) in
+        let y = variable_row q db (at F f.free) in
         (y, Contains-get_or (rows_of q (stored db) F) f.free [] f.there, f.shares, yes_of (dec_not (dec_out F y)) (free_stays k l))
 
     block : (F : ℕ) (x : List Value) → Contains (rows_of q (stored db) F) x → Stays F x
@@ -126,7 +126,7 @@ module _ (q : Query) (db : List Table) (row : List Value) (all : List (List RowI
         let k = n.0 in
         let x = each k n.1.0 in
         let F = (get_or loose k no_row).atom in
-        let is : row_of q db (get_or loose k no_row) ≡ row_at w F = ap (λ p. row_of q db (at F p)) (sym x.is) ∙ n.1.1 F x.there in
+        let is : variable_row q db (get_or loose k no_row) ≡ row_at w F = ap (λ p. variable_row q db (at F p)) (sym x.is) ∙ n.1.1 F x.there in
         (F, x.there, no_of (dec_not (dec_out F (row_at w F))) (λ f. f (k, n.1.0, (refl, is))))
 
     satisfied : Satisfies q (stored db) row stays

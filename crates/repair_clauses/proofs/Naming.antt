@@ -11,16 +11,16 @@ use Rattle.cqa_model.specs.declared.query.RowId.{RowId}
 use Rattle.cqa_model.specs.Shape.{nth_atom}
 use Rattle.cqa_model.specs.Database.{Table, stored}
 use Rattle.cqa_model.specs.Query.{rows_of, row_at}
-use Rattle.join_access.specs.Witnesses.{AreNamed}
+use Rattle.join_access.specs.Witnesses.{AreNamedRows}
 use Rattle.join_access.specs.Listing.{AreNamesOf, AreAllNames, places_of}
 use Rattle.join_access.proofs.Naming.{name}
 pub use Rattle.row_witnesses.proofs.Columns.{named-size}
-use Rattle.repair_clauses.specs.Clauses.{AreAll}
-use Rattle.repair_clauses.specs.Spans.{place_at, IsPlaced}
+use Rattle.repair_clauses.specs.Clauses.{AreAllLists}
+use Rattle.repair_clauses.specs.Spans.{place_at, IsPlacedWitness}
 use Rattle.repair_clauses.specs.Runs.{AreRowPlaces, AreColumn}
 
 module _ (db : List Table) where
-  pub named-each : (atoms : List Atom) (names : List RowId) (w : List (List Value)) → AreNamed db atoms names w → (F : ℕ) → F < length atoms →
+  pub named-each : (atoms : List Atom) (names : List RowId) (w : List (List Value)) → AreNamedRows db atoms names w → (F : ℕ) → F < length atoms →
       slice_get (slice_index_or (stored db) (nth_atom atoms F).table []) (get_or (places_of names) F 0) ≡ Some (get_or w F [])
   named-each [] names w h F l = absurd (omega (arith, l))
   named-each (a ∷ atoms) [] [] h F l = absurd h
@@ -42,7 +42,7 @@ module _ (db : List Table) where
   made-places (a ∷ atoms) (p ∷ ps) e = ap (λ qs. p ∷ qs) (made-places atoms ps (omega (arith, e)))
 
   made-named : (atoms : List Atom) (ps : List ℕ) (w : List (List Value)) → length ps ≡ length atoms → length w ≡ length atoms →
-      ((F : ℕ) → F < length atoms → slice_get (slice_index_or (stored db) (nth_atom atoms F).table []) (get_or ps F 0) ≡ Some (get_or w F [])) → AreNamed db atoms (made atoms ps) w
+      ((F : ℕ) → F < length atoms → slice_get (slice_index_or (stored db) (nth_atom atoms F).table []) (get_or ps F 0) ≡ Some (get_or w F [])) → AreNamedRows db atoms (made atoms ps) w
   made-named [] ps [] e l h = tt
   made-named [] ps (r ∷ w) e l h = absurd (omega (arith, l))
   made-named (a ∷ atoms) [] w e l h = absurd (omega (arith, e))
@@ -50,7 +50,7 @@ module _ (db : List Table) where
   made-named (a ∷ atoms) (p ∷ ps) (r ∷ w) e l h = (refl, h 0 (omega arith), made-named atoms ps w (omega (arith, e)) (omega (arith, l)) (λ F k. h (suc F) (suc-le-suc k)))
 
 module _ (q : Query) (db : List Table) (row : List Value) where
-  pub of_names : (names : List RowId) → AreNamesOf q db row names → IsPlaced q db row (places_of names)
+  pub of_names : (names : List RowId) → AreNamesOf q db row names → IsPlacedWitness q db row (places_of names)
   of_names names n = record {
     rows = n.0;
     witness = n.1;
@@ -61,13 +61,13 @@ module _ (q : Query) (db : List Table) (row : List Value) where
   }
 
   module _ (all : List (List RowId)) (h : AreAllNames q db row all) where
-    pub placed : AreAll (IsPlaced q db row) (map places_of all)
+    pub placed : AreAllLists (IsPlacedWitness q db row) (map places_of all)
     placed = record {
       in_order = h.in_order;
       exactly = λ ps. (
-        λ m. let p = Contains-from_map places_of all ps m in subst (IsPlaced q db row) p.2 (of_names p.0 ((h.exactly p.0).0 p.1)),
+        λ m. let p = Contains-from_map places_of all ps m in subst (IsPlacedWitness q db row) p.2 (of_names p.0 ((h.exactly p.0).0 p.1)),
         λ p.
-            let n : AreNamed db q.atoms (made db q.atoms ps) p.rows = made-named db q.atoms ps p.rows p.size p.witness.size
+            let n : AreNamedRows db q.atoms (made db q.atoms ps) p.rows = made-named db q.atoms ps p.rows p.size p.witness.size
             (λ F l. slice_get-get_or (rows_of q (stored db) F) (get_or ps F 0) [] (p.each F l).0 ∙ ap Some (p.each F l).1) in
             subst (λ qs. Contains (map places_of all) qs) (made-places db q.atoms ps p.size) (Contains-map places_of all (made db q.atoms ps) ((h.exactly (made db q.atoms ps)).1 (p.rows, p.witness, n))),
       );

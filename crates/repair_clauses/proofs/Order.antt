@@ -14,7 +14,7 @@ use Rattle.cqa_value.proofs.Words.{Contains-from_map}
 use Rattle.cqa_model.specs.declared.query.Query.{Query}
 use Rattle.cqa_model.specs.Database.{Table}
 use Rattle.cnf_form.specs.declared.formula.Lit.{Lit}
-use Rattle.repair_clauses.specs.Clauses.{Variable, variable_cmp, HasNumber, AreBlockNumbers, IsOfWitness, AreAll, Formula, positive, negative}
+use Rattle.repair_clauses.specs.Clauses.{Variable, variable_cmp, HasNumber, AreBlockNumbers, IsOfWitness, AreAllLists, Formula, positive, negative}
 use Rattle.repair_clauses.specs.Laws.{OneFormula, ClausesRise, Rises}
 use Rattle.repair_clauses.proofs.Numbers.{place_of}
 use Rattle.repair_clauses.proofs.Rows.{number_below, one_variable}
@@ -23,12 +23,12 @@ use Rattle.join_access.proofs.Sorted.{one_sorted, sorted-from, not_less, not_bot
 pub variable_total : IsTotalOrder variable_cmp
 variable_total = then_total (on_total (λ (x : Variable). x.atom) nat_cmp_total) (on_total (λ (x : Variable). x.place) nat_cmp_total)
 
-one_list : (P : List ℕ → Type 0) (xs ys : List (List ℕ)) → AreAll P xs → AreAll P ys → xs ≡ ys
+one_list : (P : List ℕ → Type 0) (xs ys : List (List ℕ)) → AreAllLists P xs → AreAllLists P ys → xs ≡ ys
 one_list P xs ys h k = one_sorted (slice_cmp nat_cmp) nat_list_cmp_total xs ys h.in_order k.in_order (λ z m. (k.exactly z).1 ((h.exactly z).0 m)) (λ z m. (h.exactly z).1 ((k.exactly z).0 m))
 
 pub one_formula : OneFormula
-one_formula db q row f g h k = whole variables (one_list (AreBlockNumbers q db g.variables) f.blocks g.blocks (subst (λ xs. AreAll (AreBlockNumbers q db xs) f.blocks) variables h.blocks) k.blocks)
-    (one_list (IsOfWitness q db row g.variables) f.witnesses g.witnesses (subst (λ xs. AreAll (IsOfWitness q db row xs) f.witnesses) variables h.witnesses) k.witnesses)
+one_formula db q row f g h k = whole variables (one_list (AreBlockNumbers q db g.variables) f.blocks g.blocks (subst (λ xs. AreAllLists (AreBlockNumbers q db xs) f.blocks) variables h.blocks) k.blocks)
+    (one_list (IsOfWitness q db row g.variables) f.witnesses g.witnesses (subst (λ xs. AreAllLists (IsOfWitness q db row xs) f.witnesses) variables h.witnesses) k.witnesses)
   where
     variables : f.variables ≡ g.variables
     variables = one_sorted variable_cmp variable_total f.variables g.variables h.variables.in_order k.variables.in_order

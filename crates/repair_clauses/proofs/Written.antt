@@ -15,7 +15,7 @@ use Rattle.cqa_model.specs.Database.{Table, stored, row_total}
 use Rattle.cqa_model.specs.Query.{atom_at}
 use Rattle.cnf_form.specs.Literals.{AreVarsInRange}
 use Rattle.join_access.proofs.Sorted.{not_less}
-use Rattle.repair_clauses.specs.Clauses.{Variable, variable_cmp, AreVariables}
+use Rattle.repair_clauses.specs.Clauses.{Variable, variable_cmp, AreRowVariables}
 use Rattle.repair_clauses.specs.Laws.{FormulaIsWritable}
 use Rattle.repair_clauses.proofs.Order.{variable_total, clauses_rise}
 
@@ -43,7 +43,7 @@ row-apart (table ∷ db) (suc t) p (suc u) r l m e = ap suc (row-apart db t p u 
 unequal : (x y : ℕ) → x ≢ y → eqb x y ≡ false
 unequal x y n = elim (cases_Bool (eqb x y)) [ inl e ↦ absurd (n ((Decides-eqb x y).0 e)) | inr e ↦ e ]
 
-module _ (db : List Table) (q : Query) (row : List Value) (variables : List Variable) (h : AreVariables q db row variables) where
+module _ (db : List Table) (q : Query) (row : List Value) (variables : List Variable) (h : AreRowVariables q db row variables) where
   table_of : Variable → ℕ
   table_of x = (atom_at q x.atom).table
 

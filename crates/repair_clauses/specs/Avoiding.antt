@@ -33,5 +33,5 @@ pub record IsAvoidable (q : Query) (db : List Table) (all : List (List RowId)) (
   pub free : HasFree (atom_key q atom) (rows_of q (stored db) atom) places (place_at names atom)
 
 -- the marked witnesses are such witnesses
-abbrev pub AreMarked : Query → List Table → List (List RowId) → List Bool → Type 0
-AreMarked q db all marks = (i : ℕ) → i < length all → slice_index_or marks i false ≡ true → IsAvoidable q db all (slice_index_or all i [])
+abbrev pub AreMarkedWitnesses : Query → List Table → List (List RowId) → List Bool → Type 0
+AreMarkedWitnesses q db all marks = (i : ℕ) → i < length all → slice_index_or marks i false ≡ true → IsAvoidable q db all (slice_index_or all i [])

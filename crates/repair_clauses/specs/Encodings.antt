@@ -10,22 +10,22 @@ use Rattle.join_access.specs.declared.witness.Witness.{Witness}
 use Rattle.repair_clauses.specs.declared.span.Span.{Span}
 use Rattle.repair_clauses.specs.declared.numbering.Numbering.{Numbering}
 use Rattle.repair_clauses.specs.declared.formula.Encoded.{Encoded}
-use Rattle.repair_clauses.specs.Clauses.{Formula, IsFormula, negative, clauses, name_of}
-use Rattle.repair_clauses.specs.Spans.{AreCovered, AreNumbers, AreSpansTo, variables_of}
+use Rattle.repair_clauses.specs.Clauses.{Formula, IsFormula, negative, clauses, variable_name}
+use Rattle.repair_clauses.specs.Spans.{AreCovered, AreNumbers, AreSpansTo, variables_of_spans}
 
 -- the clauses of witnesses are added, one for each list of places
 pub record AddsWitnesses (spans : List Span) (places : List (List ℕ)) (old new : List (List Lit)) : Type 0 where
   pub numbers : List (List ℕ)
-  pub numbered : AllZip (AreNumbers (variables_of spans) 0) places numbers
+  pub numbered : AllZip (AreNumbers (variables_of_spans spans) 0) places numbers
   pub is : new ≡ old ++ map (map negative) numbers
 
 -- exactly the relevant blocks of a row have numbers
-abbrev pub AreBlocksOf : Query → List Table → List Value → Numbering → Type 0
-AreBlocksOf q db row blocks = AreSpansTo q db row (length q.atoms) blocks.vars blocks.spans
+abbrev pub AreRelevantBlocks : Query → List Table → List Value → Numbering → Type 0
+AreRelevantBlocks q db row blocks = AreSpansTo q db row (length q.atoms) blocks.vars blocks.spans
 
 -- the spans are of atoms of the query
-abbrev pub AreOfAtoms : Query → List Span → Type 0
-AreOfAtoms q spans = (s : Span) → Contains spans s → s.atom < length q.atoms
+abbrev pub AreSpansOfAtoms : Query → List Span → Type 0
+AreSpansOfAtoms q spans = (s : Span) → Contains spans s → s.atom < length q.atoms
 
 -- the rows of the witnesses are in the blocks
 abbrev pub AreTold : List Span → List Witness → Type 0
@@ -37,4 +37,4 @@ pub record IsEncoded (q : Query) (db : List Table) (row : List Value) (e : Encod
   pub is : IsFormula q db row formula
   pub vars : e.cnf.vars ≡ length formula.variables
   pub are : literals e.cnf.clauses ≡ clauses formula
-  pub rows : e.rows ≡ map (name_of q) formula.variables
+  pub rows : e.rows ≡ map (variable_name q) formula.variables

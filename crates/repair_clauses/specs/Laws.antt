@@ -16,11 +16,11 @@ use Rattle.cnf_form.specs.Literals.{SatisfiesAll}
 use Rattle.cnf_form.specs.Writing.{IsWritable}
 use Rattle.repair_clauses.specs.declared.formula.Encoded.{Encoded}
 use Rattle.repair_clauses.specs.Encodings.{IsEncoded}
-use Rattle.repair_clauses.specs.Clauses.{Formula, IsFormula, AreAll, clauses}
-use Rattle.repair_clauses.specs.Alike.{AreClasses, SatisfiesClasses}
+use Rattle.repair_clauses.specs.Clauses.{Formula, IsFormula, AreAllLists, clauses}
+use Rattle.repair_clauses.specs.Alike.{AreRowClasses, SatisfiesClasses}
 use Rattle.repair_clauses.specs.Models.{IsPicked}
 use Rattle.repair_clauses.specs.declared.span.Span.{Span}
-use Rattle.repair_clauses.specs.Spans.{AreSpans, IsPlaced, AreNumbers, variables_of, formula_of}
+use Rattle.repair_clauses.specs.Spans.{AreSpans, IsPlacedWitness, AreNumbers, variables_of_spans, formula_of_spans}
 
 -- some assignment satisfies the clauses
 abbrev pub IsSatisfiable : Formula → Type 0
@@ -41,7 +41,7 @@ ClausesDecide =
 -- The formula over classes of rows that are alike has a satisfying assignment exactly where the rows have one.
 abbrev pub ClassesAreExact : Type 0
 ClassesAreExact =
-    (db : List Table) (q : Query) (row : List Value) (class : ℕ → List Value → ℕ) → AreClasses q (stored db) row class →
+    (db : List Table) (q : Query) (row : List Value) (class : ℕ → List Value → ℕ) → AreRowClasses q (stored db) row class →
     ((t : ℕ → Bool) × SatisfiesClasses q (stored db) row class t) ↔ ((a : ℕ → List Value → Bool) × Satisfies q (stored db) row a)
 
 -- The repair of a satisfying assignment holds no witness of the row.
@@ -69,8 +69,8 @@ ClausesRise = (db : List Table) (q : Query) (row : List Value) (f : Formula) →
 abbrev pub SpansGiveFormula : Type 0
 SpansGiveFormula =
     (db : List Table) (q : Query) (row : List Value) (spans : List Span) (places numbers : List (List ℕ)) →
-    AreSpans q db row spans → AreAll (IsPlaced q db row) places → AllZip (AreNumbers (variables_of spans) 0) places numbers →
-    IsFormula q db row (formula_of spans numbers)
+    AreSpans q db row spans → AreAllLists (IsPlacedWitness q db row) places → AllZip (AreNumbers (variables_of_spans spans) 0) places numbers →
+    IsFormula q db row (formula_of_spans spans numbers)
 
 -- The formula of a row over a database can be written, if it has no more clauses than a text may name.
 abbrev pub FormulaIsWritable : Type 0

@@ -7,7 +7,7 @@ ghost use Rattle.cqa_model.specs.Certain.{IsCertain};
 ghost use Rattle.cqa_model.specs.Repairs.{SharesKey};
 ghost use Rattle.join_access.specs.Listing.{names_of};
 ghost use Rattle.join_access.specs.declared.witness.Witness.{Witness as Named};
-ghost use Rattle.repair_clauses.specs.Avoiding.{AreLoose, AreMarked, IsLooseAt};
+ghost use Rattle.repair_clauses.specs.Avoiding.{AreLoose, AreMarkedWitnesses, IsLooseAt};
 ghost use Rattle.repair_clauses.specs.Runs.{AreRowPlaces};
 ghost use Rattle.repair_clauses.specs.Spans.{place_at};
 
@@ -149,9 +149,9 @@ fn mark_atom(
 ) -> Result<(), NoMemory>
     requires there { at < length witnesses.now.bound.now.query.now.atoms }
     requires size { length marks.old.items ≡ length witnesses.now.list }
-    requires marks { AreMarked witnesses.now.bound.now.query.now witnesses.now.bound.now.db.now (names_of witnesses.now.list) marks.old.items }
+    requires marks { AreMarkedWitnesses witnesses.now.bound.now.query.now witnesses.now.bound.now.db.now (names_of witnesses.now.list) marks.old.items }
     ensures size { IfOk result (λ done. length marks.new.items ≡ length witnesses.now.list) }
-    ensures marks { IfOk result (λ done. AreMarked witnesses.now.bound.now.query.now witnesses.now.bound.now.db.now (names_of witnesses.now.list) marks.new.items) }
+    ensures marks { IfOk result (λ done. AreMarkedWitnesses witnesses.now.bound.now.query.now witnesses.now.bound.now.db.now (names_of witnesses.now.list) marks.new.items) }
 {
     let atom = atom_of(witnesses.bound.query, at);
     let places = witnesses.column(at);

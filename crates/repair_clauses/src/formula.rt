@@ -5,9 +5,9 @@ ghost use Rattle.std.specs.Prelude.{◌≡◌, ◌+◌, ◌++◌, ◌<◌, ◌�
 ghost use Rattle.cqa_model.specs.declared.limits.TheConstants.{MOST_ROWS};
 ghost use Rattle.cnf_form.specs.Literals.{literals};
 ghost use Rattle.join_access.specs.Listing.{names_of, places_of};
-ghost use Rattle.repair_clauses.specs.Clauses.{name_of, positive};
-ghost use Rattle.repair_clauses.specs.Spans.{numbers_in, variables_in, variables_of};
-ghost use Rattle.repair_clauses.specs.Encodings.{AddsWitnesses, AreBlocksOf, AreOfAtoms, AreTold, IsEncoded};
+ghost use Rattle.repair_clauses.specs.Clauses.{variable_name, positive};
+ghost use Rattle.repair_clauses.specs.Spans.{numbers_in, variables_in, variables_of_spans};
+ghost use Rattle.repair_clauses.specs.Encodings.{AddsWitnesses, AreRelevantBlocks, AreSpansOfAtoms, AreTold, IsEncoded};
 
 use crate::clauses::{add_blocks, add_witnesses};
 use crate::numbering::Numbering;
@@ -31,7 +31,7 @@ pub struct Encoded {
 fn add_names(query: &Query, span: &Span, rows: &mut Vec<RowId>) -> Result<(), NoMemory>
     requires there { span.now.atom < length query.now.atoms }
     requires within { span.now.start + span.now.count ≤ MOST_ROWS }
-    ensures { IfOk result (λ done. rows.new.items ≡ rows.old.items ++ map (name_of query.now) (variables_in span.now)) }
+    ensures { IfOk result (λ done. rows.new.items ≡ rows.old.items ++ map (variable_name query.now) (variables_in span.now)) }
 {
     let table = atom_of(query, span.atom as usize).table;
     for at in 0..span.count {
@@ -45,8 +45,8 @@ fn add_names(query: &Query, span: &Span, rows: &mut Vec<RowId>) -> Result<(), No
 
 /// The names of the rows of blocks.
 fn names(alloc: Global, query: &Query, blocks: &Numbering) -> Result<Items<RowId>, NoMemory>
-    requires { AreOfAtoms query.now blocks.now.spans }
-    ensures { IfOk result (λ rows. rows ≡ map (name_of query.now) (variables_of blocks.now.spans)) }
+    requires { AreSpansOfAtoms query.now blocks.now.spans }
+    ensures { IfOk result (λ rows. rows ≡ map (variable_name query.now) (variables_of_spans blocks.now.spans)) }
 {
     let mut rows = Vec::with_capacity(alloc, blocks.vars as usize)?;
     for span in blocks.spans.as_slice() {
@@ -80,7 +80,7 @@ pub fn formula_over(
     blocks: &Numbering,
     witnesses: &RowWitnesses<'_>,
 ) -> Result<Encoded, NoMemory>
-    requires { AreBlocksOf witnesses.now.bound.now.query.now witnesses.now.bound.now.db.now witnesses.now.row.now blocks.now }
+    requires { AreRelevantBlocks witnesses.now.bound.now.query.now witnesses.now.bound.now.db.now witnesses.now.row.now blocks.now }
     ensures { IfOk result (IsEncoded witnesses.now.bound.now.query.now witnesses.now.bound.now.db.now witnesses.now.row.now) }
 {
     let rows = names(alloc, witnesses.bound.query, blocks)?;

@@ -4,7 +4,7 @@
 ghost use Rattle.std.specs.Prelude.{◌≡◌, ◌↔◌, ◌+◌, ◌-◌, ℕ, suc, Some, IsTrue, Contains};
 ghost use Rattle.std.proofs.Props.{props};
 ghost use Rattle.repair_clauses.specs.declared.span.Span.{Span as Run};
-ghost use Rattle.repair_clauses.specs.Spans.{at, AreSpansApart, AreBasedTo-prop, BeginsAtOrBefore, HasSpan, IsAt, IsIn, IsNumbering, IsOnlyAt};
+ghost use Rattle.repair_clauses.specs.Spans.{at, AreSpansApart, AreBasedTo-prop, BeginsAtOrBefore, HasSpan, IsAt, IsInSpan, IsSpanNumbering, IsOnlyAt};
 
 use crate::span::Span;
 use cqa_value::Items;
@@ -14,7 +14,7 @@ use cqa_value::Items;
 pub struct Numbering {
     pub spans: Items<Span>,
     pub vars: u32,
-    pub ghost kept: { IsNumbering spans vars } by { Prim.hlevel (AreBasedTo-prop, props) },
+    pub ghost kept: { IsSpanNumbering spans vars } by { Prim.hlevel (AreBasedTo-prop, props) },
 }
 
 /// Whether a span begins at the place of an atom, or before it.
@@ -26,7 +26,7 @@ fn begins(span: &Span, atom: u32, place: u32) -> bool
 
 /// Whether a span has the place of an atom.
 fn covers(span: &Span, atom: u32, place: u32) -> bool
-    ensures { IsTrue result ↔ IsIn span.now (at atom place) }
+    ensures { IsTrue result ↔ IsInSpan span.now (at atom place) }
 {
     span.atom == atom && span.start <= place && place - span.start < span.count
 }
@@ -66,7 +66,7 @@ pub fn find_span(numbering: &Numbering, atom: u32, place: u32) -> Option<usize>
 /// The number of a row that is in one of the spans.
 pub fn number(numbering: &Numbering, atom: u32, place: u32) -> u32
     requires { HasSpan numbering.now.spans atom place }
-    ensures { (s : Run) → Contains numbering.now.spans s → IsIn s (at atom place) → result ≡ suc (s.base + (place - s.start)) }
+    ensures { (s : Run) → Contains numbering.now.spans s → IsInSpan s (at atom place) → result ≡ suc (s.base + (place - s.start)) }
 {
     let spans = numbering.spans.as_slice();
     let span = spans[last_begun(spans, atom, place)];

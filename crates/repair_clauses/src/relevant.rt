@@ -6,7 +6,7 @@ ghost use Rattle.cqa_model.specs.Query.{atom_at};
 ghost use Rattle.cqa_model.specs.declared.limits.TheConstants.{MOST_ROWS};
 ghost use Rattle.repair_clauses.specs.declared.span.Span.{Span as Run};
 ghost use Rattle.repair_clauses.specs.Spans.{AreSpansTo};
-ghost use Rattle.repair_clauses.specs.Encodings.{AreBlocksOf};
+ghost use Rattle.repair_clauses.specs.Encodings.{AreRelevantBlocks};
 
 use crate::numbering::Numbering;
 use crate::run::{Spans, runs};
@@ -48,7 +48,7 @@ fn runs_of(
 ///
 /// `NoMemory` where memory is refused.
 pub fn relevant_blocks(alloc: Global, witnesses: &RowWitnesses<'_>) -> Result<Numbering, NoMemory>
-    ensures { IfOk result (AreBlocksOf witnesses.now.bound.now.query.now witnesses.now.bound.now.db.now witnesses.now.row.now) }
+    ensures { IfOk result (AreRelevantBlocks witnesses.now.bound.now.query.now witnesses.now.bound.now.db.now witnesses.now.row.now) }
 {
     let mut spans = Vec::new(alloc);
     let mut vars = 0;

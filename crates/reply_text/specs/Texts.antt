@@ -220,8 +220,8 @@ reply_parts NoLog = (codes "no log", [])
 reply_parts (Refused refusal) = ([], refusal_text refusal)
 
 -- the lines of a reply, without what ends the last of them
-abbrev pub lines_text : Reply → List ℕ
-lines_text reply = (reply_parts reply).0 ++ (reply_parts reply).1
+abbrev pub reply_lines : Reply → List ℕ
+reply_lines reply = (reply_parts reply).0 ++ (reply_parts reply).1
 
 -- what ends the last line of a reply: a line feed, but of a query in SQL, a dump and a proof, whose lines have theirs
 abbrev pub last_end : Reply → List ℕ
@@ -233,7 +233,7 @@ last_end _ = codes "\n"
 
 -- the lines of a reply, each with a line feed at its end
 abbrev pub reply_text : Reply → List ℕ
-reply_text reply = lines_text reply ++ last_end reply
+reply_text reply = reply_lines reply ++ last_end reply
 
 -- the reply says that the statement was refused
 abbrev pub is_refusal : Reply → Bool

@@ -1,7 +1,7 @@
 //! The text of a reply, a line at a time.
 
 ghost use Rattle.std.specs.Prelude.{◌≡◌, ◌++◌, IfOk, OnOk, codes};
-ghost use Rattle.reply_text.specs.Texts.{last_end, lines_text, reply_parts, reply_text, rows_text, table_text, tables_text};
+ghost use Rattle.reply_text.specs.Texts.{last_end, reply_lines, reply_parts, reply_text, rows_text, table_text, tables_text};
 
 use crate::append::{append_bytes, append_counted, append_named, append_numbered, append_words};
 use crate::classified::append_classified;
@@ -49,7 +49,7 @@ fn last_end(reply: &Reply) -> &'static str
 
 /// Appends the lines of a reply without what ends the last of them.
 fn append_lines(alloc: Global, reply: &Reply, out: &mut Vec<u8>) -> Result<(), NoMemory>
-    ensures { OnOk result (out.new.items ≡ out.old.items ++ lines_text reply.now) }
+    ensures { OnOk result (out.new.items ≡ out.old.items ++ reply_lines reply.now) }
 {
     append_short(reply, out)?;
     append_long(alloc, reply, out)

@@ -4,7 +4,7 @@
 ghost use Rattle.std.specs.Prelude.{◌≡◌, ◌<◌, Contains, IfOk, length};
 ghost use Rattle.join_access.specs.Listing.{names_of};
 ghost use Rattle.join_access.specs.declared.witness.Witness.{Witness as Named};
-ghost use Rattle.row_witnesses.specs.Columns.{place_at, AreColumn, AreColumns};
+ghost use Rattle.row_witnesses.specs.Columns.{place_at, AreColumn, AreColumnsOfAtoms};
 
 use crate::rising::put_in_order;
 use cqa_value::{Items, NoMemory};
@@ -44,7 +44,7 @@ pub(crate) fn columns_of(
 ) -> Result<Items<Items<u32>>, NoMemory>
     requires { (w : Named) → Contains witnesses.now w → length w.rows ≡ atoms }
     ensures size { IfOk result (λ columns. length columns ≡ atoms) }
-    ensures columns { IfOk result (AreColumns (names_of witnesses.now)) }
+    ensures columns { IfOk result (AreColumnsOfAtoms (names_of witnesses.now)) }
 {
     let mut columns = Vec::with_capacity(alloc, atoms)?;
     for atom in 0..atoms {

@@ -3,7 +3,7 @@
 ghost use Rattle.std.specs.Prelude.{◌≡◌, ◌≤◌, length};
 ghost use Rattle.join_access.specs.Listing.{AreAllNames, HasTooMany, names_of};
 ghost use Rattle.join_access.specs.declared.witness.TheConstants.{MOST_WITNESSES};
-ghost use Rattle.row_witnesses.specs.Columns.{AreColumns};
+ghost use Rattle.row_witnesses.specs.Columns.{AreColumnsOfAtoms};
 
 use crate::column::columns_of;
 use cqa_value::{Items, NoMemory, Row};
@@ -24,7 +24,7 @@ pub struct RowWitnesses<'a> {
     pub ghost few: { length list ≤ MOST_WITNESSES },
     pub ghost within: { HasTooMany bound.now.query.now bound.now.db.now row.now → ⊥ },
     pub ghost wide: { length columns ≡ length bound.now.query.now.atoms },
-    pub ghost sorted: { ∥ AreColumns (names_of list) columns ∥₁ },
+    pub ghost sorted: { ∥ AreColumnsOfAtoms (names_of list) columns ∥₁ },
 }
 
 impl<'a> RowWitnesses<'a> {

@@ -17,11 +17,11 @@ use Rattle.cqa_model.proofs.Repairs.{dec_shares, one_of_block, shares-sym}
 use Rattle.cqa_model.proofs.Values.{dec_not}
 use Rattle.cqa_model.proofs.Witnesses.{witness-stored}
 use Rattle.join_access.specs.Listing.{AreAllNames, AreNamesOf}
-use Rattle.join_access.specs.Witnesses.{AreNamed}
+use Rattle.join_access.specs.Witnesses.{AreNamedRows}
 use Rattle.join_access.proofs.Naming.{same-name, stand-once}
 use Rattle.repair_back.specs.Results.{AreStored}
 use Rattle.row_witnesses.specs.Columns.{place_at}
-use Rattle.rows_against.specs.Against.{row_named, Keeps, Excludes, AreOfBlock, AreOfDifferentBlocks}
+use Rattle.rows_against.specs.Against.{row_named, KeepsName, Excludes, AreOfOneBlock, AreOfDifferentBlocks}
 use Rattle.rows_against.specs.Hits.{IsRival, Hits, AreHit}
 use Rattle.rows_against.specs.Laws.{AgainstIsUncertain, RowsExcludeByHits}
 use Rattle.rows_against.proofs.Own.{IsOwn, own_of, own_at, named, row_read, row_there, kept_together}
@@ -32,7 +32,7 @@ dec_rival db a b = dec_both (dec_both (ℕ_discrete a.table b.table) (dec_shares
 dec_hits : (db : List Table) (name : RowId) (ids : List RowId) → Dec (Hits db name ids)
 dec_hits db name ids = dec_some (IsRival db name) (dec_rival db name) ids
 
-pub block_sym : (db : List Table) (a b : RowId) → AreOfBlock db a b → AreOfBlock db b a
+pub block_sym : (db : List Table) (a b : RowId) → AreOfOneBlock db a b → AreOfOneBlock db b a
 block_sym db a b h = (
   sym h.0,
   shares-sym (get_or (keys_of db) b.table []) (row_named db a) (row_named db b) (subst (λ t. SharesKey (get_or (keys_of db) t []) (row_named db a) (row_named db b)) h.0 h.1),
@@ -51,8 +51,8 @@ module _ (db : List Table) (q : Query) (row : List Value) (valid : IsDatabase db
   tables = length-map db (λ (table : Table). table.rows)
 
   -- a repair that keeps a row holds no witness that the row hits
-  missed : (kept : List (List (List Value))) → IsRepair db kept → (w : List (List Value)) → IsWitness q kept row w → (ids : List RowId) → AreNamed db q.atoms ids w →
-      (name : RowId) → slice_get (get_or (stored db) name.table []) name.place ≡ Some (row_named db name) → name.table < length (stored db) → Keeps db kept name → Hits db name ids → ⊥
+  missed : (kept : List (List (List Value))) → IsRepair db kept → (w : List (List Value)) → IsWitness q kept row w → (ids : List RowId) → AreNamedRows db q.atoms ids w →
+      (name : RowId) → slice_get (get_or (stored db) name.table []) name.place ≡ Some (row_named db name) → name.table < length (stored db) → KeepsName db kept name → Hits db name ids → ⊥
   missed kept repair w is ids named name read there keeps (own, mo, rival) =
       let o = own_of db q.atoms ids w named own mo in
       let F = o.0 in
@@ -90,14 +90,14 @@ module _ (db : List Table) (q : Query) (row : List Value) (valid : IsDatabase db
         )
       ]
 
-      both-own : (a b : RowId) → Contains ids a → Contains ids b → AreOfBlock db a b → a ≡ b
+      both-own : (a b : RowId) → Contains ids a → Contains ids b → AreOfOneBlock db a b → a ≡ b
       both-own a b ma mb block =
           let oa = own a ma in
           let ob = own b mb in
           let atoms : oa.0 ≡ ob.0 = q.kept.apart oa.0 ob.0 oa.1.there ob.1.there (sym oa.1.table ∙ block.0 ∙ ob.1.table) in
           same-name a b block.0 (oa.1.place ∙ ap (place_at ids) atoms ∙ sym ob.1.place)
 
-      name-own : (a b : RowId) → Contains names a → Contains ids b → AreOfBlock db a b → a ≡ b
+      name-own : (a b : RowId) → Contains names a → Contains ids b → AreOfOneBlock db a b → a ≡ b
       name-own a b ma mb block = go (ℕ_discrete a.place b.place)
         where
           go : Dec (a.place ≡ b.place) → a ≡ b
@@ -114,11 +114,11 @@ module _ (db : List Table) (q : Query) (row : List Value) (valid : IsDatabase db
           go (inr ia) (inr ib) = both-own a b ia ib block
 
       -- a repair keeps the rows and holds a witness that they don't hit
-      pub kept_with : (kept : List (List (List Value))) × IsRepair db kept × ((name : RowId) → Contains names name → Keeps db kept name) × ((w : List (List Value)) × IsWitness q kept row w)
+      pub kept_with : (kept : List (List (List Value))) × IsRepair db kept × ((name : RowId) → Contains names name → KeepsName db kept name) × ((w : List (List Value)) × IsWitness q kept row w)
       kept_with = held (kept_together db (names ++ ids) both-stored both-apart)
         where
-          held : (kept : List (List (List Value))) × IsRepair db kept × ((name : RowId) → Contains (names ++ ids) name → Keeps db kept name) →
-              (kept : List (List (List Value))) × IsRepair db kept × ((name : RowId) → Contains names name → Keeps db kept name) × ((w : List (List Value)) × IsWitness q kept row w)
+          held : (kept : List (List (List Value))) × IsRepair db kept × ((name : RowId) → Contains (names ++ ids) name → KeepsName db kept name) →
+              (kept : List (List (List Value))) × IsRepair db kept × ((name : RowId) → Contains names name → KeepsName db kept name) × ((w : List (List Value)) × IsWitness q kept row w)
           held (kept, repair, keeps) = (kept, repair, (λ name n. keeps name (Contains-append_left names ids name n)), (w, record { size = its.1.size; kept = stays; holds = its.1.holds; answers = its.1.answers }))
             where
               stays : (F : ℕ) → F < length q.atoms → Contains (rows_of q kept F) (row_at w F)

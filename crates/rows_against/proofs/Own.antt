@@ -15,10 +15,10 @@ use Rattle.cqa_model.proofs.Classic.{mem-eq, dec_some}
 use Rattle.cqa_model.proofs.Values.{row_discrete}
 use Rattle.cqa_model.proofs.Repairs.{shares-sym}
 use Rattle.cqa_model.proofs.Preferring.{preferring}
-use Rattle.join_access.specs.Witnesses.{AreNamed}
+use Rattle.join_access.specs.Witnesses.{AreNamedRows}
 use Rattle.repair_back.specs.Results.{AreStored}
 use Rattle.row_witnesses.specs.Columns.{place_at}
-use Rattle.rows_against.specs.Against.{row_named, Keeps, AreOfDifferentBlocks}
+use Rattle.rows_against.specs.Against.{row_named, KeepsName, AreOfDifferentBlocks}
 
 -- the row of an atom of a witness has a name
 pub record IsOwn (db : List Table) (atoms : List Atom) (ids : List RowId) (w : List (List Value)) (F : ℕ) (own : RowId) : Type 0 where
@@ -31,11 +31,11 @@ module _ (db : List Table) where
   later : (a : Atom) (atoms : List Atom) (x : RowId) (ids : List RowId) (r : List Value) (w : List (List Value)) (F : ℕ) (own : RowId) → IsOwn db atoms ids w F own → IsOwn db (a ∷ atoms) (x ∷ ids) (r ∷ w) (suc F) own
   later a atoms x ids r w F own h = record { there = let l = h.there in omega (arith, l); table = h.table; place = h.place; row = h.row }
 
-  first : (a : Atom) (atoms : List Atom) (x : RowId) (ids : List RowId) (r : List Value) (w : List (List Value)) → AreNamed db (a ∷ atoms) (x ∷ ids) (r ∷ w) → IsOwn db (a ∷ atoms) (x ∷ ids) (r ∷ w) 0 x
+  first : (a : Atom) (atoms : List Atom) (x : RowId) (ids : List RowId) (r : List Value) (w : List (List Value)) → AreNamedRows db (a ∷ atoms) (x ∷ ids) (r ∷ w) → IsOwn db (a ∷ atoms) (x ∷ ids) (r ∷ w) 0 x
   first a atoms x ids r w h = record { there = omega arith; table = h.0; place = refl; row = h.1 }
 
   -- each name is that of an atom's row
-  pub own_of : (atoms : List Atom) (ids : List RowId) (w : List (List Value)) → AreNamed db atoms ids w → (own : RowId) → Contains ids own → (F : ℕ) × IsOwn db atoms ids w F own
+  pub own_of : (atoms : List Atom) (ids : List RowId) (w : List (List Value)) → AreNamedRows db atoms ids w → (own : RowId) → Contains ids own → (F : ℕ) × IsOwn db atoms ids w F own
   own_of [] [] w h own m = absurd (mem-nil own m)
   own_of [] (x ∷ ids) [] h own m = absurd h
   own_of [] (x ∷ ids) (r ∷ w) h own m = absurd h
@@ -48,7 +48,7 @@ module _ (db : List Table) where
   ]
 
   -- each atom's row has a name
-  pub own_at : (atoms : List Atom) (ids : List RowId) (w : List (List Value)) → AreNamed db atoms ids w → (F : ℕ) → F < length atoms → (own : RowId) × Contains ids own × IsOwn db atoms ids w F own
+  pub own_at : (atoms : List Atom) (ids : List RowId) (w : List (List Value)) → AreNamedRows db atoms ids w → (F : ℕ) → F < length atoms → (own : RowId) × Contains ids own × IsOwn db atoms ids w F own
   own_at [] ids w h F l = absurd (omega (arith, l))
   own_at (a ∷ atoms) [] [] h F l = absurd h
   own_at (a ∷ atoms) [] (r ∷ w) h F l = absurd h
@@ -57,14 +57,14 @@ module _ (db : List Table) where
   own_at (a ∷ atoms) (x ∷ ids) (r ∷ w) h (suc F) l = let o = own_at atoms ids w h.2 F (le_of_suc-le-suc l) in (o.0, mem-tail o.0 x ids o.1, later a atoms x ids r w F o.0 o.2)
 
   -- the place of an atom's row is within its table
-  pub own_there : (atoms : List Atom) (ids : List RowId) (w : List (List Value)) → AreNamed db atoms ids w → (F : ℕ) → F < length atoms → place_at ids F < length (get_or (stored db) (nth_atom atoms F).table [])
+  pub own_there : (atoms : List Atom) (ids : List RowId) (w : List (List Value)) → AreNamedRows db atoms ids w → (F : ℕ) → F < length atoms → place_at ids F < length (get_or (stored db) (nth_atom atoms F).table [])
   own_there atoms ids w h F l =
       let o = own_at atoms ids w h F l in
       let there = slice_get_within (get_or (stored db) o.0.table []) o.0.place (get_or w F []) o.2.row in
       subst (λ p. p < length (get_or (stored db) (nth_atom atoms F).table [])) o.2.place (subst (λ t. o.0.place < length (get_or (stored db) t [])) o.2.table there)
 
   -- stored rows of the atoms' tables have names
-  pub named : (atoms : List Atom) (w : List (List Value)) → length w ≡ length atoms → ((F : ℕ) → F < length atoms → Contains (get_or (stored db) (nth_atom atoms F).table []) (get_or w F [])) → (ids : List RowId) × AreNamed db atoms ids w
+  pub named : (atoms : List Atom) (w : List (List Value)) → length w ≡ length atoms → ((F : ℕ) → F < length atoms → Contains (get_or (stored db) (nth_atom atoms F).table []) (get_or w F [])) → (ids : List RowId) × AreNamedRows db atoms ids w
   named [] [] size h = ([], tt)
   named [] (r ∷ w) size h = absurd (omega (arith, size))
   named (a ∷ atoms) [] size h = absurd (omega (arith, size))
@@ -89,17 +89,17 @@ module _ (db : List Table) where
     dec_named : (t : ℕ) (x : List Value) → Dec (IsNamed t x)
     dec_named t x = dec_some (λ (name : RowId). (name.table ≡ t) × (row_named db name ≡ x)) (λ name. dec_both (ℕ_discrete name.table t) (row_discrete (row_named db name) x)) names
 
-    pub kept_together : (kept : List (List (List Value))) × IsRepair db kept × ((name : RowId) → Contains names name → Keeps db kept name)
+    pub kept_together : (kept : List (List (List Value))) × IsRepair db kept × ((name : RowId) → Contains names name → KeepsName db kept name)
     kept_together = together (preferring (keys_of db) (stored db) IsNamed dec_named)
       where
         together : (r : List (List (List Value))) × IsRepair db r × ((t : ℕ) → t < length (stored db) → (x z : List Value) → Contains (get_or (stored db) t []) x → IsNamed t x →
-            Contains (get_or r t []) z → SharesKey (get_or (keys_of db) t []) z x → IsNamed t z) → (kept : List (List (List Value))) × IsRepair db kept × ((name : RowId) → Contains names name → Keeps db kept name)
+            Contains (get_or r t []) z → SharesKey (get_or (keys_of db) t []) z x → IsNamed t z) → (kept : List (List (List Value))) × IsRepair db kept × ((name : RowId) → Contains names name → KeepsName db kept name)
         together (r, repair, prefers) = (r, repair, λ name m. one name m (there name m) ((repair.each name.table (there name m)).one (row_named db name) (Contains-get_or (get_or (stored db) name.table []) name.place [] (s name m).1)))
           where
             there : (name : RowId) → Contains names name → name.table < length (stored db)
             there name m = let size = length-map db (λ (table : Table). table.rows) in let l = (s name m).0 in omega (arith, size, l)
 
-            one : (name : RowId) → Contains names name → name.table < length (stored db) → HasOne (get_or (keys_of db) name.table []) (get_or r name.table []) (row_named db name) → Keeps db r name
+            one : (name : RowId) → Contains names name → name.table < length (stored db) → HasOne (get_or (keys_of db) name.table []) (get_or r name.table []) (row_named db name) → KeepsName db r name
             one name m l o =
                 let key = get_or (keys_of db) name.table [] in
                 let other = prefers name.table l (row_named db name) o.row (Contains-get_or (get_or (stored db) name.table []) name.place [] (s name m).1) (name, m, (refl, refl)) o.is_kept (shares-sym key (row_named db name) o.row o.shares) in

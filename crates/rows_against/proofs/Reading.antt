@@ -13,7 +13,7 @@ use Rattle.join_access.specs.Listing.{AreAllNames, names_of}
 use Rattle.row_witnesses.specs.Columns.{place_at, AreColumn}
 use Rattle.row_witnesses.proofs.Columns.{rows_many}
 use Rattle.rows_against.specs.Hits.{IsHitBy}
-use Rattle.rows_against.specs.Numbers.{name_of, AreRivals}
+use Rattle.rows_against.specs.Numbers.{row_name, AreRivals}
 use Rattle.rows_against.proofs.Own.{own_there}
 
 -- a number among rising ones is found
@@ -53,7 +53,7 @@ module _ (q : Query) (db : List Table) (row : List Value) (list : List Witness) 
     its_place places column p e = subst (Contains places) (sym e) (column.to one.rows (Contains-map (λ (w : Witness). w.rows) list one one_in))
 
     pub its_hit : (names : List RowId) (places : List ℕ) (found : List (Option ℕ)) → AreRivals db q names F places found → (p : ℕ) (hit : Option ℕ) → p ≡ place_at one.rows F →
-        ((i : ℕ) × (i < length places) × (get_or places i 0 ≡ p) × (get_or found i None ≡ hit)) → IsHitBy db names (name_of q F (place_at (get_or (names_of list) at []) F)) hit
+        ((i : ℕ) × (i < length places) × (get_or places i 0 ≡ p) × (get_or found i None ≡ hit)) → IsHitBy db names (row_name q F (place_at (get_or (names_of list) at []) F)) hit
     its_hit names places found rivals p hit e (i, li, at-place, is-hit) =
         let place : get_or places i 0 ≡ place_at (get_or (names_of list) at []) F = at-place ∙ e ∙ ap (λ ids. place_at ids F) (sym its_names) in
-        subst (λ h. IsHitBy db names (name_of q F (place_at (get_or (names_of list) at []) F)) h) is-hit (subst (λ x. IsHitBy db names (name_of q F x) (get_or found i None)) place (rivals i li))
+        subst (λ h. IsHitBy db names (row_name q F (place_at (get_or (names_of list) at []) F)) h) is-hit (subst (λ x. IsHitBy db names (row_name q F x) (get_or found i None)) place (rivals i li))

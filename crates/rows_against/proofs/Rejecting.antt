@@ -26,13 +26,14 @@ use Rattle.cqa_model.proofs.Repairs.{shares-sym}
 use Rattle.cqa_model.proofs.Witnesses.{at_table}
 use Rattle.join_access.specs.Listing.{AreAllNames, AreNamesOf, no_name}
 use Rattle.join_access.proofs.Naming.{same-name}
-use Rattle.repair_back.specs.Results.{AreStored, names_in, rows_in, is_of_block, is_contested_in, contested_of}
+use Rattle.repair_back.specs.Results.{AreStored, is_of_block, is_contested_in, contested_of}
 use Rattle.repair_back.specs.Rejected.{AreRejectingRows}
-use Rattle.rows_against.specs.Against.{row_named, Keeps, AreOfBlock, ComesBefore}
+use Rattle.rows_against.specs.Against.{row_named, KeepsName, AreOfOneBlock, ComesBefore}
 use Rattle.rows_against.specs.Hits.{Hits}
-use Rattle.rows_against.specs.Chosen.{AreChosen}
+use Rattle.rows_against.specs.Chosen.{AreChosenAgainst}
 use Rattle.rows_against.proofs.Own.{own_at, row_read, row_there}
 use Rattle.rows_against.proofs.Hitting.{one_place}
+use Rattle.table_blocks.specs.Tables.{rows_in, names_in}
 
 -- ---- lists of which each item comes before those behind it
 
@@ -124,7 +125,7 @@ module _ (db : List Table) (q : Query) (row : List Value) (valid : IsDatabase db
         subst (λ t. name.place < length (get_or (stored db) t [])) w.table (there w.atom w.here name.place (subst (λ t. Contains (places t) name.place) (sym w.table) w.place)),
       )
 
-  keeps : (name : RowId) → Contains flat name → Keeps db kept name
+  keeps : (name : RowId) → Contains flat name → KeepsName db kept name
   keeps name m =
       let w = placed name m in
       let F = w.atom in
@@ -133,7 +134,7 @@ module _ (db : List Table) (q : Query) (row : List Value) (valid : IsDatabase db
       (Contains-map (λ p. get_or (rows_of q (stored db) F) p []) (places (atom_at q F).table) name.place p) in
       subst (λ t. Contains (get_or kept t []) (get_or (get_or (stored db) t []) name.place [])) w.table of_atom
 
-  flat_apart : (a b : RowId) → Contains flat a → Contains flat b → AreOfBlock db a b → a ≡ b
+  flat_apart : (a b : RowId) → Contains flat a → Contains flat b → AreOfOneBlock db a b → a ≡ b
   flat_apart a b ma mb block =
       let l : a.table < length (stored db) = subst (λ n. a.table < n) (sym tables) (flat_stored a ma).0 in
       let kb : Contains (get_or kept a.table []) (row_named db b) = subst (λ t. Contains (get_or kept t []) (row_named db b)) (sym block.0) (keeps b mb) in
@@ -184,7 +185,7 @@ module _ (db : List Table) (q : Query) (row : List Value) (valid : IsDatabase db
 
   -- ---- each witness is hit
 
-  contested : (name own : RowId) (y : List Value) → slice_get (get_or (stored db) own.table []) own.place ≡ Some y → AreOfBlock db name own → (row_named db name ≡ y → ⊥) → is_contested_in db name ≡ true
+  contested : (name own : RowId) (y : List Value) → slice_get (get_or (stored db) own.table []) own.place ≡ Some y → AreOfOneBlock db name own → (row_named db name ≡ y → ⊥) → is_contested_in db name ≡ true
   contested name own y read block ne =
       let key = get_or (keys_of db) name.table [] in
       let x = row_named db name in
@@ -222,7 +223,7 @@ module _ (db : List Table) (q : Query) (row : List Value) (valid : IsDatabase db
                     let own = own_at db q.atoms ids w its.2 F l in
                     let read = row_read db own.0 (row_at w F) own.2.row in
                     let shares : SharesKey (get_or (keys_of db) (atom_at q F).table []) o.row (row_at w F) = subst (λ key. SharesKey key o.row (row_at w F)) (fits.keyed F l) (shares-sym (atom_key q F) (row_at w F) o.row o.shares) in
-                    let block : AreOfBlock db name own.0 = (
+                    let block : AreOfOneBlock db name own.0 = (
                       sym own.2.table,
                       subst (λ y. SharesKey (get_or (keys_of db) (atom_at q F).table []) (row_named db name) y) (sym read) (subst (λ x. SharesKey (get_or (keys_of db) (atom_at q F).table []) x (row_at w F)) (sym is) shares),
                     ) in
@@ -233,7 +234,7 @@ module _ (db : List Table) (q : Query) (row : List Value) (valid : IsDatabase db
   in_chosen : (name : RowId) → Contains chosen name → Contains flat name × (is_contested_in db name ≡ true)
   in_chosen name m = (Contains-filter (is_contested_in db) flat name).0 m
 
-  pub are_chosen : AreChosen db q all chosen
+  pub are_chosen : AreChosenAgainst db q all chosen
   are_chosen = record {
     stored = λ name m. flat_stored name (in_chosen name m).0;
     contested = λ name m. (in_chosen name m).1;
@@ -243,6 +244,6 @@ module _ (db : List Table) (q : Query) (row : List Value) (valid : IsDatabase db
     hit = hit;
   }
 
-pub rejecting_chosen : (db : List Table) (q : Query) (row : List Value) → IsDatabase db → FitsDatabase q db → (all : List (List RowId)) → AreAllNames q db row all → (names : List RowId) → AreRejectingRows db q row names → AreChosen db q all names
+pub rejecting_chosen : (db : List Table) (q : Query) (row : List Value) → IsDatabase db → FitsDatabase q db → (all : List (List RowId)) → AreAllNames q db row all → (names : List RowId) → AreRejectingRows db q row names → AreChosenAgainst db q all names
 rejecting_chosen db q row valid fits all h names (ns, (kept, repair, are, none), is) =
-    subst (AreChosen db q all) (ap (contested_of db) (sym are.are) ∙ sym is) (are_chosen db q row valid fits all h kept repair are.places are.rises are.there are.rows none)
+    subst (AreChosenAgainst db q all) (ap (contested_of db) (sym are.are) ∙ sym is) (are_chosen db q row valid fits all h kept repair are.places are.rises are.there are.rows none)

@@ -14,36 +14,36 @@ use Rattle.join_access.specs.Listing.{no_name}
 use Rattle.table_blocks.specs.Tables.{rows_at}
 use Rattle.rows_against.specs.Against.{row_named, ComesBefore}
 use Rattle.rows_against.specs.Hits.{IsRival, IsHitBy}
-use Rattle.rows_against.specs.Parts.{name_at, IsOf, IsBelow, IsPart, AreApart, IsOtherIn, AreOthers}
-use Rattle.rows_against.specs.Chosen.{AreChosen}
-use Rattle.rows_against.specs.Numbers.{name_of, IsFrom, BeginsAt, AreRivals}
+use Rattle.rows_against.specs.Parts.{kept_name_at, IsOfTable, IsBelow, IsTablePart, AreOfOwnBlocks, IsOtherIn, AreOthers}
+use Rattle.rows_against.specs.Chosen.{AreChosenAgainst}
+use Rattle.rows_against.specs.Numbers.{row_name, IsFrom, TableBeginsAt, AreRivals}
 
-module _ (db : List Table) (q : Query) (fits : FitsDatabase q db) (all : List (List RowId)) (names : List RowId) (chosen : AreChosen db q all names) where
-  its : (k : ℕ) → k < length names → Contains names (name_at names k)
+module _ (db : List Table) (q : Query) (fits : FitsDatabase q db) (all : List (List RowId)) (names : List RowId) (chosen : AreChosenAgainst db q all names) where
+  its : (k : ℕ) → k < length names → Contains names (kept_name_at names k)
   its k l = Contains-get_or names k no_name l
 
-  pub begins_first : BeginsAt q names 0 0
+  pub begins_first : TableBeginsAt q names 0 0
   begins_first = record {
     within = omega arith;
     before = λ k l. absurd (omega (arith, l));
-    behind = λ k f l. let a = chosen.of_atoms (name_at names k) (its k l) in (a.0, omega arith, a.1, a.2);
+    behind = λ k f l. let a = chosen.of_atoms (kept_name_at names k) (its k l) in (a.0, omega arith, a.1, a.2);
   }
 
   -- no name stands there twice
-  later : (j k : ℕ) → j < k → k < length names → name_at names j ≡ name_at names k → ⊥
+  later : (j k : ℕ) → j < k → k < length names → kept_name_at names j ≡ kept_name_at names k → ⊥
   later j k jk l same = go b.before
     where
-      b : ComesBefore q (name_at names j) (name_at names k)
+      b : ComesBefore q (kept_name_at names j) (kept_name_at names k)
       b = chosen.in_order j k jk l
 
       atoms : b.first ≡ b.second
       atoms = q.kept.apart b.first b.second b.of_first.0 b.of_second.0 (b.of_first.1 ∙ ap (λ (x : RowId). x.table) same ∙ sym b.of_second.1)
 
-      go : (b.first < b.second) ⊎ ((b.first ≡ b.second) × ((name_at names j).place < (name_at names k).place)) → ⊥
+      go : (b.first < b.second) ⊎ ((b.first ≡ b.second) × ((kept_name_at names j).place < (kept_name_at names k).place)) → ⊥
       go (inl less) = let e = atoms in omega (arith, less, e)
       go (inr at) = let less = at.1 in let e = ap (λ (x : RowId). x.place) same in omega (arith, less, e)
 
-  pub distinct : (j k : ℕ) → j < length names → k < length names → name_at names j ≡ name_at names k → j ≡ k
+  pub distinct : (j k : ℕ) → j < length names → k < length names → kept_name_at names j ≡ kept_name_at names k → j ≡ k
   distinct j k lj lk same = go (ℕ_discrete j k) (cases_le j k)
     where
       go : Dec (j ≡ k) → (j ≤ k) ⊎ (k < j) → j ≡ k
@@ -51,17 +51,17 @@ module _ (db : List Table) (q : Query) (fits : FitsDatabase q db) (all : List (L
       go (no ne) (inl up) = absurd (later j k (omega (arith, up, ne)) lk same)
       go (no ne) (inr less) = absurd (later k j less lj (sym same))
 
-  module _ (F from : ℕ) (here : F < length q.atoms) (begins : BeginsAt q names F from) where
+  module _ (F from : ℕ) (here : F < length q.atoms) (begins : TableBeginsAt q names F from) where
     abbrev table : ℕ
     table = (atom_at q F).table
 
-    pub part : IsPart names from table
+    pub part : IsTablePart names from table
     part = record { within = begins.within; rising = rising }
       where
-        rising : (j k : ℕ) → from ≤ j → j < k → IsOf names from table k → IsBelow names table (name_at names k).place j
+        rising : (j k : ℕ) → from ≤ j → j < k → IsOfTable names from table k → IsBelow names table (kept_name_at names k).place j
         rising j k fj jk of = go b.before
           where
-            b : ComesBefore q (name_at names j) (name_at names k)
+            b : ComesBefore q (kept_name_at names j) (kept_name_at names k)
             b = chosen.in_order j k jk of.1
 
             second : b.second ≡ F
@@ -74,32 +74,32 @@ module _ (db : List Table) (q : Query) (fits : FitsDatabase q db) (all : List (L
                 let up = g.1 in
                 omega (arith, e, up)
 
-            go : (b.first < b.second) ⊎ ((b.first ≡ b.second) × ((name_at names j).place < (name_at names k).place)) → IsBelow names table (name_at names k).place j
+            go : (b.first < b.second) ⊎ ((b.first ≡ b.second) × ((kept_name_at names j).place < (kept_name_at names k).place)) → IsBelow names table (kept_name_at names k).place j
             go (inl less) = absurd (let s = second in let up = low in omega (arith, less, s, up))
             go (inr at) = (sym b.of_first.1 ∙ ap (λ G. (atom_at q G).table) (at.0 ∙ second), at.1)
 
-    row_is : (k : ℕ) → (name_at names k).table ≡ table → row_named db (name_at names k) ≡ get_or (rows_of q (stored db) F) (name_at names k).place []
-    row_is k e = ap (λ t. get_or (get_or (stored db) t []) (name_at names k).place []) e
+    row_is : (k : ℕ) → (kept_name_at names k).table ≡ table → row_named db (kept_name_at names k) ≡ get_or (rows_of q (stored db) F) (kept_name_at names k).place []
+    row_is k e = ap (λ t. get_or (get_or (stored db) t []) (kept_name_at names k).place []) e
 
-    own_is : (p : ℕ) → row_named db (name_of q F p) ≡ get_or (rows_of q (stored db) F) p []
+    own_is : (p : ℕ) → row_named db (row_name q F p) ≡ get_or (rows_of q (stored db) F) p []
     own_is p = refl
 
     shares_is : (key : List ℕ) (a b x y : List Value) → key ≡ get_or (keys_of db) table [] → x ≡ a → y ≡ b → SharesKey key a b → SharesKey (get_or (keys_of db) table []) x y
     shares_is key a b x y ek ex ey s = subst (λ k. SharesKey k x y) ek (subst (λ z. SharesKey key x z) (sym ey) (subst (λ z. SharesKey key z b) (sym ex) s))
 
-    pub apart : AreApart (atom_key q F) (rows_of q (stored db) F) names from table
+    pub apart : AreOfOwnBlocks (atom_key q F) (rows_of q (stored db) F) names from table
     apart = record {
-      there = λ k of. subst (λ t. (name_at names k).place < length (get_or (stored db) t [])) of.2 (chosen.stored (name_at names k) (its k of.1)).1;
-      apart = λ j k oj ok shares. distinct j k oj.1 ok.1 (chosen.apart (name_at names j) (name_at names k) (its j oj.1) (its k ok.1) (
+      there = λ k of. subst (λ t. (kept_name_at names k).place < length (get_or (stored db) t [])) of.2 (chosen.stored (kept_name_at names k) (its k of.1)).1;
+      apart = λ j k oj ok shares. distinct j k oj.1 ok.1 (chosen.apart (kept_name_at names j) (kept_name_at names k) (its j oj.1) (its k ok.1) (
         oj.2 ∙ sym ok.2,
-        subst (λ t. SharesKey (get_or (keys_of db) t []) (row_named db (name_at names j)) (row_named db (name_at names k))) (sym oj.2)
-            (shares_is (atom_key q F) (get_or (rows_of q (stored db) F) (name_at names j).place []) (get_or (rows_of q (stored db) F) (name_at names k).place [])
-            (row_named db (name_at names j)) (row_named db (name_at names k)) (fits.keyed F here) (row_is j oj.2) (row_is k ok.2) shares),
+        subst (λ t. SharesKey (get_or (keys_of db) t []) (row_named db (kept_name_at names j)) (row_named db (kept_name_at names k))) (sym oj.2)
+            (shares_is (atom_key q F) (get_or (rows_of q (stored db) F) (kept_name_at names j).place []) (get_or (rows_of q (stored db) F) (kept_name_at names k).place [])
+            (row_named db (kept_name_at names j)) (row_named db (kept_name_at names k)) (fits.keyed F here) (row_is j oj.2) (row_is k ok.2) shares),
       ));
     }
 
     -- a name of the table isn't before the first of the part
-    not_before : (k : ℕ) → k < length names → (name_at names k).table ≡ table → from ≤ k
+    not_before : (k : ℕ) → k < length names → (kept_name_at names k).table ≡ table → from ≤ k
     not_before k l e = go (cases_le from k)
       where
         go : (from ≤ k) ⊎ (k < from) → from ≤ k
@@ -110,15 +110,15 @@ module _ (db : List Table) (q : Query) (fits : FitsDatabase q db) (all : List (L
             let same : b.0 ≡ F = q.kept.apart b.0 F (omega (arith, below, here)) here (b.2 ∙ e) in
             absurd (omega (arith, below, same))
 
-    pub hit_by : (p : ℕ) (found : Option ℕ) → IsOtherIn (atom_key q F) (rows_of q (stored db) F) names from (name_of q F p) found → IsHitBy db names (name_of q F p) found
+    pub hit_by : (p : ℕ) (found : Option ℕ) → IsOtherIn (atom_key q F) (rows_of q (stored db) F) names from (row_name q F p) found → IsHitBy db names (row_name q F p) found
     hit_by p (Some k) (up, (l, e, shares), ne) = (
       l,
       (
         (
           e,
-          subst (λ t. SharesKey (get_or (keys_of db) t []) (row_named db (name_at names k)) (row_named db (name_of q F p))) (sym e)
-              (shares_is (atom_key q F) (get_or (rows_of q (stored db) F) (name_at names k).place []) (get_or (rows_of q (stored db) F) p [])
-              (row_named db (name_at names k)) (row_named db (name_of q F p)) (fits.keyed F here) (row_is k e) refl shares),
+          subst (λ t. SharesKey (get_or (keys_of db) t []) (row_named db (kept_name_at names k)) (row_named db (row_name q F p))) (sym e)
+              (shares_is (atom_key q F) (get_or (rows_of q (stored db) F) (kept_name_at names k).place []) (get_or (rows_of q (stored db) F) p [])
+              (row_named db (kept_name_at names k)) (row_named db (row_name q F p)) (fits.keyed F here) (row_is k e) refl shares),
         ),
         ne,
       ),
@@ -127,32 +127,32 @@ module _ (db : List Table) (q : Query) (fits : FitsDatabase q db) (all : List (L
         let k = member_place names name no_name m in
         none_at name (k.0) k.1 k.2 rival
       where
-        none_at : (name : RowId) (k : ℕ) → k < length names → name_at names k ≡ name → IsRival db name (name_of q F p) → ⊥
-        none_at name k l is rival = at (subst (λ x. IsRival db x (name_of q F p)) (sym is) rival)
+        none_at : (name : RowId) (k : ℕ) → k < length names → kept_name_at names k ≡ name → IsRival db name (row_name q F p) → ⊥
+        none_at name k l is rival = at (subst (λ x. IsRival db x (row_name q F p)) (sym is) rival)
           where
-            at : IsRival db (name_at names k) (name_of q F p) → ⊥
+            at : IsRival db (kept_name_at names k) (row_name q F p) → ⊥
             at ((e, shares), ne) = none k (
               not_before k l e,
               (
                 l,
                 e,
                 subst (λ z. SharesKey (atom_key q F) z (get_or (rows_of q (stored db) F) p [])) (row_is k e)
-                    (subst (λ key. SharesKey key (row_named db (name_at names k)) (get_or (rows_of q (stored db) F) p [])) (sym (fits.keyed F here))
-                    (subst (λ t. SharesKey (get_or (keys_of db) t []) (row_named db (name_at names k)) (get_or (rows_of q (stored db) F) p [])) e shares)),
+                    (subst (λ key. SharesKey key (row_named db (kept_name_at names k)) (get_or (rows_of q (stored db) F) p [])) (sym (fits.keyed F here))
+                    (subst (λ t. SharesKey (get_or (keys_of db) t []) (row_named db (kept_name_at names k)) (get_or (rows_of q (stored db) F) p [])) e shares)),
               ),
               ne,
             )
 
     -- behind the names of the table
     pub begins_next : (to : ℕ) → from ≤ to → to ≤ length names → ((k : ℕ) → from ≤ k → k < to → IsBelow names table (length (rows_of q (stored db) F)) k) →
-        ((k : ℕ) → to ≤ k → k < length names → IsBelow names table (length (rows_of q (stored db) F)) k → ⊥) → BeginsAt q names (F + 1) to
+        ((k : ℕ) → to ≤ k → k < length names → IsBelow names table (length (rows_of q (stored db) F)) k → ⊥) → TableBeginsAt q names (F + 1) to
     begins_next to up within before behind = record {
       within = within;
       before = λ k l. go k l (cases_le from k);
       behind = λ k f l. next k f l (begins.behind k (omega (arith, up, f)) l);
     }
       where
-        go : (k : ℕ) → k < to → (from ≤ k) ⊎ (k < from) → (G : ℕ) × (G < F + 1) × ((atom_at q G).table ≡ (name_at names k).table)
+        go : (k : ℕ) → k < to → (from ≤ k) ⊎ (k < from) → (G : ℕ) × (G < F + 1) × ((atom_at q G).table ≡ (kept_name_at names k).table)
         go k l (inl f) = (F, omega arith, sym (before k f l).0)
         go k l (inr less) = let b = begins.before k less in let below = b.1 in (b.0, omega (arith, below), b.2)
 
@@ -162,13 +162,13 @@ module _ (db : List Table) (q : Query) (fits : FitsDatabase q db) (all : List (L
             at : Dec (G ≡ F) → IsFrom q names (F + 1) k
             at (no ne) = (G, omega (arith, low, ne), there, e)
             at (yes same) =
-                let its-table : (name_at names k).table ≡ table = sym e ∙ ap (λ H. (atom_at q H).table) same in
-                absurd (behind k f l (its-table, subst (λ t. (name_at names k).place < length (get_or (stored db) t [])) its-table (chosen.stored (name_at names k) (its k l)).1))
+                let its-table : (kept_name_at names k).table ≡ table = sym e ∙ ap (λ H. (atom_at q H).table) same in
+                absurd (behind k f l (its-table, subst (λ t. (kept_name_at names k).place < length (get_or (stored db) t [])) its-table (chosen.stored (kept_name_at names k) (its k l)).1))
 
     -- the same at the atom, the key and the rows that are read
     module _ (atom : Atom) (ea : atom ≡ atom_at q F) where
-      pub part_at : IsPart names from atom.table
-      part_at = subst (λ (a : Atom). IsPart names from a.table) (sym ea) part
+      pub part_at : IsTablePart names from atom.table
+      part_at = subst (λ (a : Atom). IsTablePart names from a.table) (sym ea) part
 
       module _ (key : List ℕ) (ek : key ≡ atom.key) (rows : List (List Value)) (er : rows ≡ rows_at db atom.table) where
         key_is : key ≡ atom_key q F
@@ -177,18 +177,18 @@ module _ (db : List Table) (q : Query) (fits : FitsDatabase q db) (all : List (L
         pub rows_are : rows ≡ rows_of q (stored db) F
         rows_are = er ∙ ap (λ (a : Atom). rows_at db a.table) ea
 
-        pub apart_at : AreApart key rows names from atom.table
-        apart_at = subst (λ (a : Atom). AreApart key rows names from a.table) (sym ea)
-            (subst (λ k. AreApart k rows names from table) (sym key_is) (subst (λ rs. AreApart (atom_key q F) rs names from table) (sym rows_are) apart))
+        pub apart_at : AreOfOwnBlocks key rows names from atom.table
+        apart_at = subst (λ (a : Atom). AreOfOwnBlocks key rows names from a.table) (sym ea)
+            (subst (λ k. AreOfOwnBlocks k rows names from table) (sym key_is) (subst (λ rs. AreOfOwnBlocks (atom_key q F) rs names from table) (sym rows_are) apart))
 
         pub rivals_at : (places : List ℕ) (found : List (Option ℕ)) → AreOthers key rows names from atom.table places found → AreRivals db q names F places found
         rivals_at places found others i l = hit_by (get_or places i 0) (get_or found i None)
-            (subst (λ k. IsOtherIn k (rows_of q (stored db) F) names from (name_of q F (get_or places i 0)) (get_or found i None)) key_is
-            (subst (λ rs. IsOtherIn key rs names from (name_of q F (get_or places i 0)) (get_or found i None)) rows_are
+            (subst (λ k. IsOtherIn k (rows_of q (stored db) F) names from (row_name q F (get_or places i 0)) (get_or found i None)) key_is
+            (subst (λ rs. IsOtherIn key rs names from (row_name q F (get_or places i 0)) (get_or found i None)) rows_are
             (subst (λ (a : Atom). IsOtherIn key rows names from (record { table = a.table; place = get_or places i 0 }) (get_or found i None)) ea (others i l))))
 
       pub begins_behind : (count : ℕ) → count ≡ length (rows_at db atom.table) → (to : ℕ) → from ≤ to → to ≤ length names → ((k : ℕ) → from ≤ k → k < to → IsBelow names atom.table count k) →
-          ((k : ℕ) → to ≤ k → k < length names → IsBelow names atom.table count k → ⊥) → BeginsAt q names (F + 1) to
+          ((k : ℕ) → to ≤ k → k < length names → IsBelow names atom.table count k → ⊥) → TableBeginsAt q names (F + 1) to
       begins_behind count ec to up within before behind = begins_next to up within (λ k f l. subst (λ n. IsBelow names table n k) size (at k (before k f l))) (λ k f l below. behind k f l (back k (subst (λ n. IsBelow names table n k) (sym size) below)))
         where
           size : count ≡ length (rows_of q (stored db) F)

@@ -14,21 +14,21 @@ abbrev pub row_named : List Table → RowId → List Value
 row_named db name = slice_index_or (slice_index_or (stored db) name.table []) name.place []
 
 -- the row of a name is among the rows that are kept of its table
-abbrev pub Keeps : List Table → List (List (List Value)) → RowId → Type 0
-Keeps db kept name = Contains (slice_index_or kept name.table []) (row_named db name)
+abbrev pub KeepsName : List Table → List (List (List Value)) → RowId → Type 0
+KeepsName db kept name = Contains (slice_index_or kept name.table []) (row_named db name)
 
 -- no repair of the database that keeps these rows holds a witness of the row
 abbrev pub Excludes : List Table → Query → List Value → List RowId → Type 0
-Excludes db q row names = (kept : List (List (List Value))) → IsRepair db kept → ((name : RowId) → Contains names name → Keeps db kept name) → (w : List (List Value)) → IsWitness q kept row w → ⊥
+Excludes db q row names = (kept : List (List (List Value))) → IsRepair db kept → ((name : RowId) → Contains names name → KeepsName db kept name) → (w : List (List Value)) → IsWitness q kept row w → ⊥
 
 -- none of these rows can be left out: a repair that keeps the others holds a witness of the row
 abbrev pub IsMinimal : List Table → Query → List Value → List RowId → Type 0
 IsMinimal db q row names = (name : RowId) → Contains names name →
-    (kept : List (List (List Value))) × IsRepair db kept × ((other : RowId) → Contains names other → other ≢ name → Keeps db kept other) × ((w : List (List Value)) × IsWitness q kept row w)
+    (kept : List (List (List Value))) × IsRepair db kept × ((other : RowId) → Contains names other → other ≢ name → KeepsName db kept other) × ((w : List (List Value)) × IsWitness q kept row w)
 
 -- the rows of two names are of one block
-abbrev pub AreOfBlock : List Table → RowId → RowId → Type 0
-AreOfBlock db a b = (a.table ≡ b.table) × SharesKey (slice_index_or (keys_of db) a.table []) (row_named db a) (row_named db b)
+abbrev pub AreOfOneBlock : List Table → RowId → RowId → Type 0
+AreOfOneBlock db a b = (a.table ≡ b.table) × SharesKey (slice_index_or (keys_of db) a.table []) (row_named db a) (row_named db b)
 
 -- a name comes before another: its table is that of an earlier atom, or the same one and its row comes earlier there
 pub record ComesBefore (q : Query) (a b : RowId) : Type 0 where
@@ -44,7 +44,7 @@ AreInOrder q names = (i j : ℕ) → i < j → j < length names → ComesBefore 
 
 -- no two of these rows are of one block
 abbrev pub AreOfDifferentBlocks : List Table → List RowId → Type 0
-AreOfDifferentBlocks db names = (a b : RowId) → Contains names a → Contains names b → AreOfBlock db a b → a ≡ b
+AreOfDifferentBlocks db names = (a b : RowId) → Contains names a → Contains names b → AreOfOneBlock db a b → a ≡ b
 
 -- Stored rows of blocks of two or more rows, no two of one block, that tell why a row isn't certain: no repair that keeps
 -- them holds a witness of it, and none of them can be left out.

@@ -10,7 +10,7 @@ use Rattle.rows_against.specs.Hits.{AreHit}
 
 -- stored rows of the query's tables and of blocks of two or more rows, in order and no two of one block, that hit each of
 -- these witnesses
-pub record AreChosen (db : List Table) (q : Query) (all : List (List RowId)) (names : List RowId) : Type 0 where
+pub record AreChosenAgainst (db : List Table) (q : Query) (all : List (List RowId)) (names : List RowId) : Type 0 where
   pub stored : AreStored db names
   pub contested : (name : RowId) → Contains names name → IsTrue (is_contested_in db name)
   pub of_atoms : (name : RowId) → Contains names name → (F : ℕ) × (F < length q.atoms) × ((atom_at q F).table ≡ name.table)

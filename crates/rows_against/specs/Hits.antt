@@ -3,11 +3,11 @@ use Rattle.std.specs.Prelude.{◌≢◌, ℕ, ◌<◌, List, length, Contains, O
 use Rattle.cqa_model.specs.declared.query.RowId.{RowId}
 use Rattle.cqa_model.specs.Database.{Table}
 use Rattle.join_access.specs.Listing.{no_name}
-use Rattle.rows_against.specs.Against.{AreOfBlock}
+use Rattle.rows_against.specs.Against.{AreOfOneBlock}
 
 -- a row is another row of a row's block
 abbrev pub IsRival : List Table → RowId → RowId → Type 0
-IsRival db a b = AreOfBlock db a b × (a.place ≢ b.place)
+IsRival db a b = AreOfOneBlock db a b × (a.place ≢ b.place)
 
 -- a row hits a witness: it is another row of the block of one of the witness's rows
 abbrev pub Hits : List Table → RowId → List RowId → Type 0

@@ -4,8 +4,8 @@
 ghost use Rattle.std.specs.Prelude.{◌≡◌, ◌<◌, ◌+◌, ℕ, [], Contains, IfOk, None, length, slice_index, slice_index_or};
 ghost use Rattle.cqa_model.specs.Query.{atom_at};
 ghost use Rattle.join_access.specs.Listing.{names_of};
-ghost use Rattle.rows_against.specs.Chosen.{AreChosen};
-ghost use Rattle.rows_against.specs.Numbers.{AreHits, AreHitsAt, AreRivals, BeginsAt};
+ghost use Rattle.rows_against.specs.Chosen.{AreChosenAgainst};
+ghost use Rattle.rows_against.specs.Numbers.{AreHits, AreHitsAt, AreRivals, TableBeginsAt};
 
 use crate::rival::{first_from, rivals_of};
 use cqa_model::{Atom, Query, RowId};
@@ -30,8 +30,8 @@ fn rivals(
     from: usize,
 ) -> Result<Vec<Option<usize>>, NoMemory>
     requires there { at < length witnesses.now.bound.now.query.now.atoms }
-    requires chosen { AreChosen witnesses.now.bound.now.db.now witnesses.now.bound.now.query.now (names_of witnesses.now.list) names.now }
-    requires begins { BeginsAt witnesses.now.bound.now.query.now names.now at from }
+    requires chosen { AreChosenAgainst witnesses.now.bound.now.db.now witnesses.now.bound.now.query.now (names_of witnesses.now.list) names.now }
+    requires begins { TableBeginsAt witnesses.now.bound.now.query.now names.now at from }
     ensures size { IfOk result (λ found. length found.items ≡ length (slice_index_or witnesses.now.columns at [])) }
     ensures rivals { IfOk result (λ found. AreRivals witnesses.now.bound.now.db.now witnesses.now.bound.now.query.now names.now at (slice_index_or witnesses.now.columns at []) found.items) }
 {
@@ -64,8 +64,8 @@ fn hits_at(
     from: usize,
 ) -> Result<Vec<Option<usize>>, NoMemory>
     requires there { at < length witnesses.now.bound.now.query.now.atoms }
-    requires chosen { AreChosen witnesses.now.bound.now.db.now witnesses.now.bound.now.query.now (names_of witnesses.now.list) names.now }
-    requires begins { BeginsAt witnesses.now.bound.now.query.now names.now at from }
+    requires chosen { AreChosenAgainst witnesses.now.bound.now.db.now witnesses.now.bound.now.query.now (names_of witnesses.now.list) names.now }
+    requires begins { TableBeginsAt witnesses.now.bound.now.query.now names.now at from }
     ensures size { IfOk result (λ hits. length hits.items ≡ length witnesses.now.list) }
     ensures hits { IfOk result (λ hits. AreHitsAt witnesses.now.bound.now.db.now witnesses.now.bound.now.query.now (names_of witnesses.now.list) names.now at hits.items) }
 {
@@ -83,9 +83,9 @@ fn hits_at(
 /// The index behind the names of an atom's table.
 fn behind(witnesses: &RowWitnesses<'_>, at: usize, names: &[RowId], from: usize) -> usize
     requires there { at < length witnesses.now.bound.now.query.now.atoms }
-    requires chosen { AreChosen witnesses.now.bound.now.db.now witnesses.now.bound.now.query.now (names_of witnesses.now.list) names.now }
-    requires begins { BeginsAt witnesses.now.bound.now.query.now names.now at from }
-    ensures { BeginsAt witnesses.now.bound.now.query.now names.now (at + 1) result }
+    requires chosen { AreChosenAgainst witnesses.now.bound.now.db.now witnesses.now.bound.now.query.now (names_of witnesses.now.list) names.now }
+    requires begins { TableBeginsAt witnesses.now.bound.now.query.now names.now at from }
+    ensures { TableBeginsAt witnesses.now.bound.now.query.now names.now (at + 1) result }
 {
     let table = atom_of(witnesses.bound.query, at).table;
     let count = witnesses.bound.db.rows(table).len();
@@ -102,7 +102,7 @@ pub(crate) fn all_hits(
     witnesses: &RowWitnesses<'_>,
     names: &[RowId],
 ) -> Result<Items<Items<Option<usize>>>, NoMemory>
-    requires { AreChosen witnesses.now.bound.now.db.now witnesses.now.bound.now.query.now (names_of witnesses.now.list) names.now }
+    requires { AreChosenAgainst witnesses.now.bound.now.db.now witnesses.now.bound.now.query.now (names_of witnesses.now.list) names.now }
     ensures atoms { IfOk result (λ hits. length hits ≡ length witnesses.now.bound.now.query.now.atoms) }
     ensures sizes { IfOk result (λ hits. (F : ℕ) → F < length hits → length (slice_index_or hits F []) ≡ length witnesses.now.list) }
     ensures hits { IfOk result (AreHits witnesses.now.bound.now.db.now witnesses.now.bound.now.query.now (names_of witnesses.now.list) names.now) }

@@ -4,7 +4,7 @@
 ghost use Rattle.std.specs.Prelude.{◌≡◌, ◌≤◌, ◌<◌, ◌↔◌, ℕ, IfOk, IsTrue, length, slice_index};
 ghost use Rattle.std.specs.List.Sorted.{IsStrictlySortedBy};
 ghost use Rattle.cqa_model.specs.Database.{block_cmp};
-ghost use Rattle.rows_against.specs.Parts.{AreApart, AreOthers, IsBelow, IsInBlock, IsOtherIn, IsPart, name_at};
+ghost use Rattle.rows_against.specs.Parts.{AreOfOwnBlocks, AreOthers, IsBelow, IsInBlock, IsOtherIn, IsTablePart, kept_name_at};
 
 use cqa_model::RowId;
 use cqa_value::NoMemory;
@@ -24,7 +24,7 @@ fn is_below(names: &[RowId], at: usize, table: u32, place: u32) -> bool
 /// The index behind the names of a table that are at places before another, where those of the table come first from an
 /// index on.
 pub(crate) fn first_from(names: &[RowId], from: usize, table: u32, place: u32) -> usize
-    requires { IsPart names.now from table }
+    requires { IsTablePart names.now from table }
     ensures after { from ≤ result }
     ensures within { result ≤ length names.now }
     ensures before { (k : ℕ) → from ≤ k → k < result → IsBelow names.now table place k }
@@ -46,7 +46,7 @@ pub(crate) fn first_from(names: &[RowId], from: usize, table: u32, place: u32) -
 /// Whether a name is of the block of a row.
 fn is_in_block(rows: &Rows<'_>, key: &[u32], names: &[RowId], at: usize, own: RowId) -> bool
     requires there { own.place < length rows.now }
-    requires stored { at < length names.now → (name_at names.now at).table ≡ own.table → (name_at names.now at).place < length rows.now }
+    requires stored { at < length names.now → (kept_name_at names.now at).table ≡ own.table → (kept_name_at names.now at).place < length rows.now }
     ensures { IsTrue result ↔ IsInBlock key.now rows.now names.now own at }
 {
     at < names.len()
@@ -58,8 +58,8 @@ fn is_in_block(rows: &Rows<'_>, key: &[u32], names: &[RowId], at: usize, own: Ro
 fn rival_of(rows: &Rows<'_>, key: &[u32], names: &[RowId], from: usize, own: RowId) -> Option<usize>
     requires order { IsStrictlySortedBy (block_cmp key.now) rows.now }
     requires there { own.place < length rows.now }
-    requires part { IsPart names.now from own.table }
-    requires apart { AreApart key.now rows.now names.now from own.table }
+    requires part { IsTablePart names.now from own.table }
+    requires apart { AreOfOwnBlocks key.now rows.now names.now from own.table }
     ensures { IsOtherIn key.now rows.now names.now from own result }
 {
     let at = first_from(names, from, own.table, own.place);
@@ -93,8 +93,8 @@ pub(crate) fn rivals_of(
 ) -> Result<Vec<Option<usize>>, NoMemory>
     requires order { IsStrictlySortedBy (block_cmp key.now) rows.now }
     requires there { (i : ℕ) → i < length places.now → slice_index places.now i < length rows.now }
-    requires part { IsPart names.now from table }
-    requires apart { AreApart key.now rows.now names.now from table }
+    requires part { IsTablePart names.now from table }
+    requires apart { AreOfOwnBlocks key.now rows.now names.now from table }
     ensures size { IfOk result (λ found. length found.items ≡ length places.now) }
     ensures others { IfOk result (λ found. AreOthers key.now rows.now names.now from table places.now found.items) }
 {

@@ -16,7 +16,7 @@ use Rattle.join_access.proofs.Sorted.{one_place}
 use Rattle.repair_clauses.specs.declared.span.Span.{Span}
 use Rattle.repair_clauses.specs.Clauses.{Variable, variable_cmp}
 use Rattle.repair_clauses.specs.Spans.{at, place_at}
-use Rattle.search_answers.specs.Classing.{HasClass, AreRange, HasAllClasses, AreOfBlock, AreOfNames, AreBlockLists, AreNameLists}
+use Rattle.search_answers.specs.Classing.{HasClass, AreRange, HasAllClasses, AreClassesOfBlock, AreOfNames, AreBlockLists, AreNameLists}
 use Rattle.repair_clauses.proofs.Order.{variable_total}
 
 pub some_some : (m n : ℕ) → Some (Some m) ≡ Some (Some n) → m ≡ n
@@ -60,7 +60,7 @@ module _ (vars : List Variable) (sorted : IsStrictlySortedBy variable_cmp vars) 
   -- ---- blocks
 
   pub of_range : (s : Span) → (raw numbers : List ℕ) → AreRange vars classes s.atom s.start (s.start + s.count) raw → IsStrictlySortedBy nat_cmp numbers →
-      ((n : ℕ) → Contains numbers n ↔ Contains raw n) → AreOfBlock vars classes s numbers
+      ((n : ℕ) → Contains numbers n ↔ Contains raw n) → AreClassesOfBlock vars classes s numbers
   of_range s raw numbers r rises same = record {
     rises = rises;
     whole = λ p i. let f = r.every p i.1 i.2 in (f.0, f.2);
@@ -89,11 +89,11 @@ module _ (vars : List Variable) (sorted : IsStrictlySortedBy variable_cmp vars) 
       lists-push raw numbers new r rises same e = subst (AreBlockLists vars classes (take (i + 1) spans)) (sym e) (record {
         each = λ ns m. elim (Contains-push_cases old numbers ns m) [
           | inl o ↦ let b = h.each ns o in (b.0, before b.0 b.1, b.2)
-          | inr q ↦ (s, last, subst (AreOfBlock vars classes s) q (of_range s raw numbers r rises same))
+          | inr q ↦ (s, last, subst (AreClassesOfBlock vars classes s) q (of_range s raw numbers r rises same))
         ];
         every = λ t mt w. elim (taken spans i s t l is mt) [
           | inl o ↦ let b = h.every t o w in (b.0, Contains-append_left old (numbers ∷ []) b.0 b.1, b.2)
-          | inr q ↦ (numbers, Contains-push old numbers, subst (λ z. AreOfBlock vars classes z numbers) q (of_range s raw numbers r rises same))
+          | inr q ↦ (numbers, Contains-push old numbers, subst (λ z. AreClassesOfBlock vars classes z numbers) q (of_range s raw numbers r rises same))
         ];
       })
 

@@ -19,7 +19,7 @@ use Rattle.join_access.specs.Listing.{AreAllNames, places_of}
 use Rattle.join_access.proofs.Naming.{zip-right}
 use Rattle.repair_clauses.specs.declared.span.Span.{Span}
 use Rattle.repair_clauses.specs.Clauses.{Variable, HasNumber, IsFormula, positive, negative}
-use Rattle.repair_clauses.specs.Spans.{AreBasedTo, AreSpansTo, AreNumbers, numbers_in, variables_of, formula_of}
+use Rattle.repair_clauses.specs.Spans.{AreBasedTo, AreSpansTo, AreNumbers, numbers_in, variables_of_spans, formula_of_spans}
 use Rattle.search_answers.specs.Classing.{FoundSays}
 use Rattle.search_answers.specs.Looking.{AreClausesOf}
 use Rattle.repair_clauses.proofs.Rows.{number_below}
@@ -57,10 +57,10 @@ all_below spans m places cs based h c mc l ml = elim (Contains-append_cases (map
 
     of_witness : ((ns : List ℕ) × Contains h.numbers ns × (map negative ns ≡ c)) → l.var < m + 1
     of_witness (ns, i, e) =
-        let z = zip-right (AreNumbers (variables_of spans) 0) places h.numbers h.numbered ns i in
+        let z = zip-right (AreNumbers (variables_of_spans spans) 0) places h.numbers h.numbered ns i in
         let n = Contains-from_map negative ns l (subst (λ d. Contains d l) (sym e) ml) in
-        let x = numbered_place (variables_of spans) 0 z.0 ns n.0 z.2 n.1 in
-        let b = number_below (variables_of spans) n.0 x.0 x.1 in
+        let x = numbered_place (variables_of_spans spans) 0 z.0 ns n.0 z.2 n.1 in
+        let b = number_below (variables_of_spans spans) n.0 x.0 x.1 in
         let high = b.1 in
         let long = variables-length 0 m spans based in
         let v : l.var ≡ n.0 = ap (λ (k : Lit). k.var) (sym n.2) in
@@ -70,14 +70,14 @@ all_below spans m places cs based h c mc l ml = elim (Contains-append_cases (map
 
 module _ (q : Query) (db : List Table) (row : List Value) (m : ℕ) (spans : List Span) (h : AreSpansTo q db row (length q.atoms) m spans) (all : List (List RowId)) (a : AreAllNames q db row all) (fits : FitsDatabase q db)
     (cs : List (List Lit)) (c : AreClausesOf spans (map places_of all) cs) where
-  pub of_row : IsFormula q db row (formula_of spans c.numbers)
+  pub of_row : IsFormula q db row (formula_of_spans spans c.numbers)
   of_row = spans_give_formula db q row spans (map places_of all) c.numbers (spans-all q db row m spans h) (placed q db row all a) c.numbered
 
   rejected : ((v : ℕ → Bool) × SatisfiesAll v cs) → IsCertain db q row → ⊥
-  rejected s certain = (clauses_decide db q row (formula_of spans c.numbers) fits of_row).0 certain s.0 (subst (SatisfiesAll s.0) c.is s.1)
+  rejected s certain = (clauses_decide db q row (formula_of_spans spans c.numbers) fits of_row).0 certain s.0 (subst (SatisfiesAll s.0) c.is s.1)
 
   certain : ((v : ℕ → Bool) → SatisfiesAll v cs → ⊥) → IsCertain db q row
-  certain none = (clauses_decide db q row (formula_of spans c.numbers) fits of_row).1 (λ v sat. none v (subst (SatisfiesAll v) (sym c.is) sat))
+  certain none = (clauses_decide db q row (formula_of_spans spans c.numbers) fits of_row).1 (λ v sat. none v (subst (SatisfiesAll v) (sym c.is) sat))
 
   -- what is found of them says it
   pub found_says : (f : Found) → FoundIs cs f → FoundSays q db row f

@@ -12,8 +12,8 @@ use Rattle.cqa_model.specs.declared.query.RowId.{RowId}
 use Rattle.cqa_model.specs.Database.{Table, stored}
 use Rattle.cqa_model.specs.Repairs.{SharesKey}
 use Rattle.cqa_model.specs.Query.{rows_of}
-use Rattle.repair_clauses.specs.Alike.{AreAlike, IsSpokenOf}
-use Rattle.repair_clauses.specs.Clauses.{Variable, HasNumber, row_of}
+use Rattle.repair_clauses.specs.Alike.{AreAlikeRows, IsSpokenOf}
+use Rattle.repair_clauses.specs.Clauses.{Variable, HasNumber, variable_row}
 use Rattle.repair_clauses.specs.Spans.{at, IsNamed}
 use Rattle.search_answers.specs.Classing.{HasColumn, HasClass, AreClassedTo, Marks}
 
@@ -105,6 +105,6 @@ module _ (q : Query) (db : List Table) (variables : List Variable) (all : List (
       go F p b (inl l) = let o = h.to F p (l, b) in m.kept F p o.0 o.1
       go F p b (inr e) = subst (λ G. (i : ℕ) × HasClass variables new G p i) (sym e) (m.added p (to p (subst (λ G. IsNamed all G p) e b)))
 
-      alike : (F p r : ℕ) → F ≡ n → SharesKey columns (slice_index_or rows r []) (slice_index_or rows p []) → AreAlike q F (row_of q db (at F r)) (row_of q db (at F p))
-      alike F p r e sh = subst (λ G. AreAlike q G (row_of q db (at G r)) (row_of q db (at G p))) (sym e)
+      alike : (F p r : ℕ) → F ≡ n → SharesKey columns (slice_index_or rows r []) (slice_index_or rows p []) → AreAlikeRows q F (variable_row q db (at F r)) (variable_row q db (at F p))
+      alike F p r e sh = subst (λ G. AreAlikeRows q G (variable_row q db (at G r)) (variable_row q db (at G p))) (sym e)
           (λ c s ec. subst (λ xs. slice_index_or (slice_index_or xs r []) c.col Rattle.cqa_model.specs.Database.nothing ≡ slice_index_or (slice_index_or xs p []) c.col Rattle.cqa_model.specs.Database.nothing) is (sh c.col (spoken c s ec)))

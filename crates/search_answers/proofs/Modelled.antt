@@ -14,11 +14,12 @@ use Rattle.cqa_model.specs.Query.{atom_at, atom_key, rows_of, FitsDatabase}
 use Rattle.cnf_form.specs.Literals.{SatisfiesAll}
 use Rattle.cdcl.specs.Outcomes.{assignment, IsModel}
 use Rattle.repair_clauses.specs.declared.formula.Encoded.{Encoded}
-use Rattle.repair_clauses.specs.Clauses.{Variable, IsStoredVariable, name_of}
+use Rattle.repair_clauses.specs.Clauses.{Variable, IsStoredVariable, variable_name}
 use Rattle.repair_clauses.specs.Encodings.{IsEncoded}
 use Rattle.repair_clauses.specs.Models.{IsTrueVariable, IsPicked}
 use Rattle.repair_clauses.proofs.Models.{models_reject}
-use Rattle.repair_back.specs.Results.{names_in, AreKept, AreStored, IsTrueName, ArePicks, Rejects}
+use Rattle.repair_back.specs.Results.{AreKept, AreStored, IsTrueName, ArePicks, Rejects}
+use Rattle.table_blocks.specs.Tables.{names_in}
 
 module _ {A B : Type 0} (g : A → B) where
   get-map : (xs : List A) (k : ℕ) (x : A) → slice_get xs k ≡ Some x → slice_get (map g xs) k ≡ Some (g x)
@@ -48,7 +49,7 @@ module _ (q : Query) (db : List Table) (row : List Value) (e : Encoded) (model :
 
   pub names-stored : AreStored db e.rows
   names-stored name c =
-      let x = Contains-from_map (name_of q) h.formula.variables name (subst (λ ns. Contains ns name) h.rows c) in
+      let x = Contains-from_map (variable_name q) h.formula.variables name (subst (λ ns. Contains ns name) h.rows c) in
       let s = variable-stored x.0 x.1 in
       (subst (λ (n : RowId). n.table < length db) x.2 (fits.there x.0.atom s.0), subst (λ (n : RowId). n.place < length (get_or (stored db) n.table [])) x.2 s.1)
 
@@ -58,7 +59,7 @@ module _ (q : Query) (db : List Table) (row : List Value) (e : Encoded) (model :
   -- a name is listed with true exactly where its variable is true
   listed-true : (F i : ℕ) → F < length q.atoms → IsTrueName e.rows model (name_at F i) → IsTrueVariable h.formula.variables (assignment model) (record { atom = F; place = i })
   listed-true F i l (k, nk, mk) =
-      let x = of-map (name_of q) h.formula.variables k (name_at F i) (subst (λ ns. slice_get ns k ≡ Some (name_at F i)) h.rows nk) in
+      let x = of-map (variable_name q) h.formula.variables k (name_at F i) (subst (λ ns. slice_get ns k ≡ Some (name_at F i)) h.rows nk) in
       let s = variable-stored x.0 (Contains-slice_get h.formula.variables k x.0 x.1) in
       let atom : x.0.atom ≡ F = q.kept.apart x.0.atom F s.0 l (ap (λ (n : RowId). n.table) x.2) in
       let same = same-variable x.0 F i atom (ap (λ (n : RowId). n.place) x.2) in
@@ -68,7 +69,7 @@ module _ (q : Query) (db : List Table) (row : List Value) (e : Encoded) (model :
   true-listed F i (zero, hn, vn) = absurd hn
   true-listed F i (suc k, hn, vn) = (
     k,
-    subst (λ ns. slice_get ns k ≡ Some (name_at F i)) (sym h.rows) (get-map (name_of q) h.formula.variables k (record { atom = F; place = i }) hn),
+    subst (λ ns. slice_get ns k ≡ Some (name_at F i)) (sym h.rows) (get-map (variable_name q) h.formula.variables k (record { atom = F; place = i }) hn),
     true-there model k (subst (λ n. get_or model n false ≡ true) (let z : suc k - 1 ≡ k = omega arith in z) vn),
   )
 

@@ -29,10 +29,10 @@ use Rattle.join_access.specs.Listing.{AreAllNames, places_of}
 use Rattle.join_access.proofs.Naming.{stand-once}
 use Rattle.join_access.proofs.Sorted.{one_place}
 use Rattle.repair_clauses.specs.declared.span.Span.{Span}
-use Rattle.repair_clauses.specs.Alike.{AreClasses, IsInWitness, IsCovered, SatisfiesClasses}
-use Rattle.repair_clauses.specs.Clauses.{Variable, HasNumber, IsStoredVariable, row_of, positive, negative, variable_cmp}
-use Rattle.repair_clauses.specs.Spans.{at, place_at, IsIn, IsNamed, AreSpansTo, variables_of}
-use Rattle.search_answers.specs.Classing.{HasClass, AreClassedTo, AreNumberedTo, HasAllClasses, AreOfBlock, AreOfNames, AreClassClauses, AreQuotient, FoundSays}
+use Rattle.repair_clauses.specs.Alike.{AreRowClasses, IsInWitness, IsCovered, SatisfiesClasses}
+use Rattle.repair_clauses.specs.Clauses.{Variable, HasNumber, IsStoredVariable, variable_row, positive, negative, variable_cmp}
+use Rattle.repair_clauses.specs.Spans.{at, place_at, IsInSpan, IsNamed, AreSpansTo, variables_of_spans}
+use Rattle.search_answers.specs.Classing.{HasClass, AreClassedTo, AreNumberedTo, HasAllClasses, AreClassesOfBlock, AreOfNames, AreClassClauses, AreQuotient, FoundSays}
 use Rattle.repair_clauses.proofs.Numbers.{place_of}
 use Rattle.repair_clauses.proofs.Spans.{as_at}
 use Rattle.repair_clauses.proofs.Rows.{number_below, one_variable, dec_number}
@@ -54,20 +54,20 @@ dec_class (Some (Some n)) = yes (n, refl)
 module _ (q : Query) (db : List Table) (d : IsDatabase db) (fits : FitsDatabase q db) (row : List Value) (m : ℕ) (spans : List Span) (h : AreSpansTo q db row (length q.atoms) m spans)
     (all : List (List RowId)) (a : AreAllNames q db row all) (numbered : List Span) (rows : AreNumberedTo all (length q.atoms) numbered) where
   abbrev vars : List Variable
-  vars = variables_of numbered
+  vars = variables_of_spans numbered
 
   sorted : IsStrictlySortedBy variable_cmp vars
   sorted = rising numbered rows.single
 
   -- a row stands at one place
-  one_row : (F p r : ℕ) → F < length q.atoms → p < length (rows_of q (stored db) F) → r < length (rows_of q (stored db) F) → row_of q db (at F p) ≡ row_of q db (at F r) → p ≡ r
+  one_row : (F p r : ℕ) → F < length q.atoms → p < length (rows_of q (stored db) F) → r < length (rows_of q (stored db) F) → variable_row q db (at F p) ≡ variable_row q db (at F r) → p ≡ r
   one_row F p r l lp lr e =
       let rows = rows_of q (stored db) F in
-      stand-once db d (atom_at q F).table p r (row_of q db (at F r)) (slice_get-get_or rows p [] lp ∙ ap Some e) (slice_get-get_or rows r [] lr)
+      stand-once db d (atom_at q F).table p r (variable_row q db (at F r)) (slice_get-get_or rows p [] lp ∙ ap Some e) (slice_get-get_or rows r [] lr)
 
   -- the names of a witness
   abbrev HasPlaceOf : List (List Value) → ℕ → ℕ → Type 0
-  HasPlaceOf w F p = (p < length (rows_of q (stored db) F)) × (row_of q db (at F p) ≡ row_at w F)
+  HasPlaceOf w F p = (p < length (rows_of q (stored db) F)) × (variable_row q db (at F p) ≡ row_at w F)
 
   names_for : (w : List (List Value)) → IsWitness q (stored db) row w → (names : List RowId) × Contains all names × ((F : ℕ) → F < length q.atoms → HasPlaceOf w F (place_at names F))
   names_for w hw = go (choose 0 (length q.atoms) (HasPlaceOf w) (λ F l. place F (place_of (rows_of q (stored db) F) (row_at w F) (hw.kept F l))))
@@ -82,29 +82,29 @@ module _ (q : Query) (db : List Table) (d : IsDatabase db) (fits : FitsDatabase 
           let n = Contains-from_map places_of all ps mp in
           (n.0, n.1, λ F l. subst (λ xs. HasPlaceOf w F (get_or xs F 0)) (sym n.2) (each F l))
 
-  named : (F : ℕ) → F < length q.atoms → (x : List Value) → IsInWitness q (stored db) row F x → (p : ℕ) × (p < length (rows_of q (stored db) F)) × (row_of q db (at F p) ≡ x) × IsNamed all F p
+  named : (F : ℕ) → F < length q.atoms → (x : List Value) → IsInWitness q (stored db) row F x → (p : ℕ) × (p < length (rows_of q (stored db) F)) × (variable_row q db (at F p) ≡ x) × IsNamed all F p
   named F l x (w, hw, e) =
       let n = names_for w hw in
       let b = n.2 F l in
       (place_at n.0 F, b.0, b.1 ∙ e, (n.0, n.1, refl))
 
-  in_witness : (F : ℕ) → F < length q.atoms → (p : ℕ) → IsNamed all F p → (p < length (rows_of q (stored db) F)) × IsInWitness q (stored db) row F (row_of q db (at F p))
+  in_witness : (F : ℕ) → F < length q.atoms → (p : ℕ) → IsNamed all F p → (p < length (rows_of q (stored db) F)) × IsInWitness q (stored db) row F (variable_row q db (at F p))
   in_witness F l p (names, mn, e) =
       let b = of_names q db row names ((a.exactly names).0 mn) in
       let c = b.each F l in
-      (subst (λ r. r < length (rows_of q (stored db) F)) e c.0, (b.rows, b.witness, sym c.1 ∙ ap (λ r. row_of q db (at F r)) e))
+      (subst (λ r. r < length (rows_of q (stored db) F)) e c.0, (b.rows, b.witness, sym c.1 ∙ ap (λ r. variable_row q db (at F r)) e))
 
   module _ (classes : List (Option ℕ)) (c : AreClassedTo q db vars all (length q.atoms) classes) where
     -- the class of a row
     abbrev IsOf : ℕ → List Value → Variable → Type 0
-    IsOf F x y = (y.atom ≡ F) × (row_of q db y ≡ x)
+    IsOf F x y = (y.atom ≡ F) × (variable_row q db y ≡ x)
 
     abbrev IsHit : ℕ → List Value → ℕ → Type 0
     IsHit F x k = ((y : Variable) × HasNumber vars (suc k) y × IsOf F x y) × ((n : ℕ) × (slice_get classes k ≡ Some (Some n)))
 
     dec_hit : (F : ℕ) (x : List Value) → Dec ((k : ℕ) × (k < length vars) × IsHit F x k)
     dec_hit F x = dec_one_below (IsHit F x)
-        (λ k. dec_both (dec_number vars (IsOf F x) (λ y. dec_both (ℕ_discrete y.atom F) (row_discrete (row_of q db y) x)) (suc k)) (dec_class (slice_get classes k))) (length vars)
+        (λ k. dec_both (dec_number vars (IsOf F x) (λ y. dec_both (ℕ_discrete y.atom F) (row_discrete (variable_row q db y) x)) (suc k)) (dec_class (slice_get classes k))) (length vars)
 
     abbrev chosen : (F : ℕ) (x : List Value) → Dec ((k : ℕ) × (k < length vars) × IsHit F x k) → ℕ
     chosen F x (yes p) = p.2.1.0
@@ -113,8 +113,8 @@ module _ (q : Query) (db : List Table) (d : IsDatabase db) (fits : FitsDatabase 
     abbrev class : ℕ → List Value → ℕ
     class F x = chosen F x (dec_hit F x)
 
-    is_class : (F p n : ℕ) → HasClass vars classes F p n → class F (row_of q db (at F p)) ≡ n
-    is_class F p n (k, ek, en) = go (dec_hit F (row_of q db (at F p)))
+    is_class : (F p n : ℕ) → HasClass vars classes F p n → class F (variable_row q db (at F p)) ≡ n
+    is_class F p n (k, ek, en) = go (dec_hit F (variable_row q db (at F p)))
       where
         st : (y : Variable) (j : ℕ) → HasNumber vars (suc j) y → IsStoredVariable q db y
         st y j e =
@@ -122,19 +122,19 @@ module _ (q : Query) (db : List Table) (d : IsDatabase db) (fits : FitsDatabase 
             let b = rows.from s.0 (Contains-slice_get numbered j s.0 s.1) in
             subst (IsStoredVariable q db) s.2 (b.0, (in_witness s.0.atom b.0 s.0.start b.1).0)
 
-        go : (dec : Dec ((j : ℕ) × (j < length vars) × IsHit F (row_of q db (at F p)) j)) → chosen F (row_of q db (at F p)) dec ≡ n
+        go : (dec : Dec ((j : ℕ) × (j < length vars) × IsHit F (variable_row q db (at F p)) j)) → chosen F (variable_row q db (at F p)) dec ≡ n
         go (yes (j, l, ((y, ey, (ya, yr)), (i, ei)))) =
             let sp = st (at F p) k ek in
             let sy = st y j ey in
             let is : y ≡ at F y.place = as_at y F ya in
             let ly : y.place < length (rows_of q (stored db) F) = subst (λ G. y.place < length (rows_of q (stored db) G)) ya sy.1 in
-            let same : y.place ≡ p = one_row F y.place p sp.0 ly sp.1 (ap (row_of q db) (sym is) ∙ yr) in
+            let same : y.place ≡ p = one_row F y.place p sp.0 ly sp.1 (ap (variable_row q db) (sym is) ∙ yr) in
             let whole : y ≡ at F p = is ∙ ap (at F) same in
             let jk : j ≡ k = one_place variable_cmp variable_total vars j k (at F p) sorted (subst (λ z. slice_get vars j ≡ Some z) whole ey) ek in
             some_some i n (sym ei ∙ (ap (slice_get classes) jk ∙ en))
         go (no f) = absurd (f (k, slice_get_within vars k (at F p) ek, ((at F p, ek, (refl, refl)), (n, en))))
 
-    are_classes : AreClasses q (stored db) row class
+    are_classes : AreRowClasses q (stored db) row class
     are_classes F G lF lG x y ix iy e =
         let p = named F lF x ix in
         let r = named G lG y iy in
@@ -149,32 +149,32 @@ module _ (q : Query) (db : List Table) (d : IsDatabase db) (fits : FitsDatabase 
         let FG : F ≡ G = ap (λ (z : Variable). z.atom) one in (
           FG,
           λ col s ea.
-              ap (λ z. slice_index_or z col.col nothing) (sym p.2) ∙ (sym (ap1.2 col s ea) ∙ (ap (λ z. slice_index_or (row_of q db z) col.col nothing) one
+              ap (λ z. slice_index_or z col.col nothing) (sym p.2) ∙ (sym (ap1.2 col s ea) ∙ (ap (λ z. slice_index_or (variable_row q db z) col.col nothing) one
               ∙ (ar1.2 col s (ea ∙ FG) ∙ ap (λ z. slice_index_or z col.col nothing) r.2))),
         )
 
     -- the rows of a span are those of its block
-    in_block : (s : Span) → Contains spans s → (p r : ℕ) → IsIn s (at s.atom p) → r < length (rows_of q (stored db) s.atom) → SharesKey (atom_key q s.atom) (row_of q db (at s.atom p)) (row_of q db (at s.atom r)) → IsIn s (at s.atom r)
+    in_block : (s : Span) → Contains spans s → (p r : ℕ) → IsInSpan s (at s.atom p) → r < length (rows_of q (stored db) s.atom) → SharesKey (atom_key q s.atom) (variable_row q db (at s.atom p)) (variable_row q db (at s.atom r)) → IsInSpan s (at s.atom r)
     in_block s ms p r i l sh =
         let t = (h.each s ms).1 in
         let w = t.whole.within in
         let u = i.2 in
         let key = atom_key q s.atom in
         let first = (t.whole.block p (omega (arith, u, w))).1 (i.1, i.2) in
-        let b = (t.whole.block r l).0 (shares-trans key (row_of q db (at s.atom s.start)) (row_of q db (at s.atom p)) (row_of q db (at s.atom r)) first sh) in
+        let b = (t.whole.block r l).0 (shares-trans key (variable_row q db (at s.atom s.start)) (variable_row q db (at s.atom p)) (variable_row q db (at s.atom r)) first sh) in
         (refl, b.0, b.1)
 
-    of_block : (s : Span) → Contains spans s → (p r : ℕ) → IsIn s (at s.atom p) → IsIn s (at s.atom r) → SharesKey (atom_key q s.atom) (row_of q db (at s.atom p)) (row_of q db (at s.atom r))
+    of_block : (s : Span) → Contains spans s → (p r : ℕ) → IsInSpan s (at s.atom p) → IsInSpan s (at s.atom r) → SharesKey (atom_key q s.atom) (variable_row q db (at s.atom p)) (variable_row q db (at s.atom r))
     of_block s ms p r i j =
         let t = (h.each s ms).1 in
         let w = t.whole.within in
         let u = i.2 in
         let v = j.2 in
         let key = atom_key q s.atom in
-        shares-trans key (row_of q db (at s.atom p)) (row_of q db (at s.atom s.start)) (row_of q db (at s.atom r))
-        (shares-sym key (row_of q db (at s.atom s.start)) (row_of q db (at s.atom p)) ((t.whole.block p (omega (arith, u, w))).1 (i.1, i.2))) ((t.whole.block r (omega (arith, v, w))).1 (j.1, j.2))
+        shares-trans key (variable_row q db (at s.atom p)) (variable_row q db (at s.atom s.start)) (variable_row q db (at s.atom r))
+        (shares-sym key (variable_row q db (at s.atom s.start)) (variable_row q db (at s.atom p)) ((t.whole.block p (omega (arith, u, w))).1 (i.1, i.2))) ((t.whole.block r (omega (arith, v, w))).1 (j.1, j.2))
 
-    in_rows : (s : Span) → Contains spans s → (p : ℕ) → IsIn s (at s.atom p) → (p < length (rows_of q (stored db) s.atom)) × Contains (rows_of q (stored db) s.atom) (row_of q db (at s.atom p))
+    in_rows : (s : Span) → Contains spans s → (p : ℕ) → IsInSpan s (at s.atom p) → (p < length (rows_of q (stored db) s.atom)) × Contains (rows_of q (stored db) s.atom) (variable_row q db (at s.atom p))
     in_rows s ms p i =
         let w = (h.each s ms).1.whole.within in
         let u = i.2 in
@@ -203,29 +203,29 @@ module _ (q : Query) (db : List Table) (d : IsDatabase db) (fits : FitsDatabase 
           Goal : ℕ → List Value → Type 0
           Goal F x = (y : List Value) × Contains (rows_of q (stored db) F) y × SharesKey (atom_key q F) x y × (v (class F y) ≡ true)
 
-          whole : (s : Span) → Contains spans s → (p : ℕ) → IsIn s (at s.atom p) → IsCovered q (stored db) row s.atom (row_of q db (at s.atom p)) → HasAllClasses vars classes s
+          whole : (s : Span) → Contains spans s → (p : ℕ) → IsInSpan s (at s.atom p) → IsCovered q (stored db) row s.atom (variable_row q db (at s.atom p)) → HasAllClasses vars classes s
           whole s ms p i cov r j =
               let l = (h.each s ms).0 in
               let b = in_rows s ms r j in
-              let g = named s.atom l (row_of q db (at s.atom r)) (cov (row_of q db (at s.atom r)) b.1 (of_block s ms p r i j)) in
+              let g = named s.atom l (variable_row q db (at s.atom r)) (cov (variable_row q db (at s.atom r)) b.1 (of_block s ms p r i j)) in
               let same : g.0 ≡ r = one_row s.atom g.0 r l g.1 b.0 g.2 in
               c.to s.atom r (l, subst (IsNamed all s.atom) same g.3)
 
-          of_span : (s : Span) → Contains spans s → (p : ℕ) → IsIn s (at s.atom p) → IsCovered q (stored db) row s.atom (row_of q db (at s.atom p)) → Goal s.atom (row_of q db (at s.atom p))
+          of_span : (s : Span) → Contains spans s → (p : ℕ) → IsInSpan s (at s.atom p) → IsCovered q (stored db) row s.atom (variable_row q db (at s.atom p)) → Goal s.atom (variable_row q db (at s.atom p))
           of_span s ms p i cov =
               let lst = k.of_blocks.every s ms (whole s ms p i cov) in
               let n = some_true lst.0 (sat (map positive lst.0) (block_in lst.0 lst.1)) in
               let f = (lst.2.exactly n.0).0 n.1 in
-              (row_of q db (at s.atom f.0), (in_rows s ms f.0 f.1).1, of_block s ms p f.0 i f.1, ap v (is_class s.atom f.0 n.0 f.2) ∙ n.2)
+              (variable_row q db (at s.atom f.0), (in_rows s ms f.0 f.1).1, of_block s ms p f.0 i f.1, ap v (is_class s.atom f.0 n.0 f.2) ∙ n.2)
 
           blocks : (F : ℕ) → F < length q.atoms → (x : List Value) → Contains (rows_of q (stored db) F) x → IsCovered q (stored db) row F x → Goal F x
           blocks F l x mx cov =
               let ix = cov x mx (shares-self (atom_key q F) x) in
               let p = named F l x ix in
-              let rel : IsRelevant q (stored db) row F (row_of q db (at F p.0)) = (ix.0, ix.1, shares-eq (atom_key q F) (row_of q db (at F p.0)) (row_at ix.0 F) (p.2 ∙ sym ix.2)) in
+              let rel : IsRelevant q (stored db) row F (variable_row q db (at F p.0)) = (ix.0, ix.1, shares-eq (atom_key q F) (variable_row q db (at F p.0)) (row_at ix.0 F) (p.2 ∙ sym ix.2)) in
               let s = h.every (at F p.0) l (l, p.1) rel in
               let e : F ≡ s.0.atom = s.2.0 in
-              subst (Goal F) p.2 (subst (λ G. IsCovered q (stored db) row G (row_of q db (at G p.0)) → Goal G (row_of q db (at G p.0))) (sym e) (of_span s.0 s.1 p.0 (refl, s.2.1, s.2.2))
+              subst (Goal F) p.2 (subst (λ G. IsCovered q (stored db) row G (variable_row q db (at G p.0)) → Goal G (variable_row q db (at G p.0))) (sym e) (of_span s.0 s.1 p.0 (refl, s.2.1, s.2.2))
               (subst (IsCovered q (stored db) row F) (sym p.2) cov))
 
           witnesses : (w : List (List Value)) → IsWitness q (stored db) row w → (F : ℕ) × (F < length q.atoms) × (v (class F (row_at w F)) ≡ false)
@@ -247,29 +247,29 @@ module _ (q : Query) (db : List Table) (d : IsDatabase db) (fits : FitsDatabase 
         ],
       )
         where
-          of_list : (numbers : List ℕ) → ((b : Span) × Contains spans b × AreOfBlock vars classes b numbers) → Satisfies t (map positive numbers)
-          of_list numbers (b, mb, o) = go (s.blocks b.atom l (row_of q db (at b.atom b.start)) (in_rows b mb b.start first).1 covered)
+          of_list : (numbers : List ℕ) → ((b : Span) × Contains spans b × AreClassesOfBlock vars classes b numbers) → Satisfies t (map positive numbers)
+          of_list numbers (b, mb, o) = go (s.blocks b.atom l (variable_row q db (at b.atom b.start)) (in_rows b mb b.start first).1 covered)
             where
               l : b.atom < length q.atoms
               l = (h.each b mb).0
 
-              first : IsIn b (at b.atom b.start)
+              first : IsInSpan b (at b.atom b.start)
               first = let n = (h.each b mb).1.whole.some in (refl, omega arith, omega (arith, n))
 
-              place : (y : List Value) → Contains (rows_of q (stored db) b.atom) y → SharesKey (atom_key q b.atom) (row_of q db (at b.atom b.start)) y →
-                  (r : ℕ) × IsIn b (at b.atom r) × (row_of q db (at b.atom r) ≡ y)
+              place : (y : List Value) → Contains (rows_of q (stored db) b.atom) y → SharesKey (atom_key q b.atom) (variable_row q db (at b.atom b.start)) y →
+                  (r : ℕ) × IsInSpan b (at b.atom r) × (variable_row q db (at b.atom r) ≡ y)
               place y my sh =
                   let r = place_of (rows_of q (stored db) b.atom) y my in
-                  let e : row_of q db (at b.atom r.0) ≡ y = get_or_from_slice_get (rows_of q (stored db) b.atom) r.0 y [] r.2 in
-                  (r.0, in_block b mb b.start r.0 first r.1 (subst (λ z. SharesKey (atom_key q b.atom) (row_of q db (at b.atom b.start)) z) (sym e) sh), e)
+                  let e : variable_row q db (at b.atom r.0) ≡ y = get_or_from_slice_get (rows_of q (stored db) b.atom) r.0 y [] r.2 in
+                  (r.0, in_block b mb b.start r.0 first r.1 (subst (λ z. SharesKey (atom_key q b.atom) (variable_row q db (at b.atom b.start)) z) (sym e) sh), e)
 
-              covered : IsCovered q (stored db) row b.atom (row_of q db (at b.atom b.start))
+              covered : IsCovered q (stored db) row b.atom (variable_row q db (at b.atom b.start))
               covered y my sh =
                   let r = place y my sh in
                   let n = o.whole r.0 r.1 in
                   subst (IsInWitness q (stored db) row b.atom) r.2 (in_witness b.atom l r.0 (c.from b.atom r.0 n.0 n.1).1).1
 
-              go : ((y : List Value) × Contains (rows_of q (stored db) b.atom) y × SharesKey (atom_key q b.atom) (row_of q db (at b.atom b.start)) y × (t (class b.atom y) ≡ true)) → Satisfies t (map positive numbers)
+              go : ((y : List Value) × Contains (rows_of q (stored db) b.atom) y × SharesKey (atom_key q b.atom) (variable_row q db (at b.atom b.start)) y × (t (class b.atom y) ≡ true)) → Satisfies t (map positive numbers)
               go (y, my, sh, e) =
                   let r = place y my sh in
                   let n = o.whole r.0 r.1 in
@@ -302,21 +302,21 @@ module _ (q : Query) (db : List Table) (d : IsDatabase db) (fits : FitsDatabase 
 -- ---- the clauses are well formed
 
 module _ (q : Query) (db : List Table) (numbered spans : List Span) (all : List (List RowId)) (cs : List (List Lit)) where
-  class_number : (classes : List (Option ℕ)) → AreClassedTo q db (variables_of numbered) all (length q.atoms) classes → (F p n : ℕ) → HasClass (variables_of numbered) classes F p n → (1 ≤ n) × (n < 1 + length (variables_of numbered))
-  class_number classes c F p n hc = let r = c.alike F p n hc in number_below (variables_of numbered) n (at F r.0) r.1
+  class_number : (classes : List (Option ℕ)) → AreClassedTo q db (variables_of_spans numbered) all (length q.atoms) classes → (F p n : ℕ) → HasClass (variables_of_spans numbered) classes F p n → (1 ≤ n) × (n < 1 + length (variables_of_spans numbered))
+  class_number classes c F p n hc = let r = c.alike F p n hc in number_below (variables_of_spans numbered) n (at F r.0) r.1
 
   -- the numbers of a clause rise, and are those of variables
   pub record RisesTo (cl : List Lit) : Type 0 where
     pub rises : IsStrictlySortedBy nat_cmp (map (λ (l : Lit). l.var) cl)
-    pub in_range : (l : Lit) → Contains cl l → (1 ≤ l.var) × (l.var < 1 + length (variables_of numbered))
+    pub in_range : (l : Lit) → Contains cl l → (1 ≤ l.var) × (l.var < 1 + length (variables_of_spans numbered))
 
   of_numbers : (lit : ℕ → Lit) → ((n : ℕ) → (lit n).var ≡ n) → (numbers : List ℕ) (cl : List Lit) → map lit numbers ≡ cl → IsStrictlySortedBy nat_cmp numbers →
-      ((n : ℕ) → Contains numbers n → (1 ≤ n) × (n < 1 + length (variables_of numbered))) → RisesTo cl
+      ((n : ℕ) → Contains numbers n → (1 ≤ n) × (n < 1 + length (variables_of_spans numbered))) → RisesTo cl
   of_numbers lit is numbers cl e s b = subst RisesTo e (record {
     rises = subst (IsStrictlySortedBy nat_cmp) (sym (map_var lit is numbers)) s;
     in_range = λ l ml. let p = Contains-from_map lit numbers l ml in
         let v : l.var ≡ p.0 = ap (λ (z : Lit). z.var) (sym p.2) ∙ is p.0 in
-        subst (λ n. (1 ≤ n) × (n < 1 + length (variables_of numbered))) (sym v) (b p.0 p.1);
+        subst (λ n. (1 ≤ n) × (n < 1 + length (variables_of_spans numbered))) (sym v) (b p.0 p.1);
   })
 
   pub rises_to : AreQuotient q db numbered spans all cs → (cl : List Lit) → Contains cs cl → RisesTo cl
@@ -329,7 +329,7 @@ module _ (q : Query) (db : List Table) (numbered spans : List Span) (all : List 
         of_numbers negative (λ n. refl) p.0 cl p.2 o.2.rises (λ n mn. let f = (o.2.exactly n).0 mn in class_number classes c f.0 (place_at o.0 f.0) n f.2)
   ]
 
-  pub quotient_range : (cnf : Cnf) → literals cnf.clauses ≡ cs → cnf.vars ≡ length (variables_of numbered) → AreQuotient q db numbered spans all cs → AreVarsInRange cnf
+  pub quotient_range : (cnf : Cnf) → literals cnf.clauses ≡ cs → cnf.vars ≡ length (variables_of_spans numbered) → AreQuotient q db numbered spans all cs → AreVarsInRange cnf
   quotient_range cnf e v h cl mc l ml =
       let r = (rises_to h cl (subst (λ ds. Contains ds cl) e mc)).in_range l ml in
       let low = r.0 in

@@ -15,7 +15,7 @@ use Rattle.join_access.specs.declared.witness.Witness.{Witness}
 use Rattle.join_access.specs.Listing.{AreAllNames, names_of}
 use Rattle.repair_clauses.specs.declared.span.Span.{Span}
 use Rattle.repair_clauses.specs.Clauses.{Variable, variable_cmp}
-use Rattle.repair_clauses.specs.Spans.{at, IsIn, IsAt, IsNamed, IsBefore, IsNumbering, AreSpansApart, AreBased, AreBasedTo, variables_of}
+use Rattle.repair_clauses.specs.Spans.{at, IsInSpan, IsAt, IsNamed, IsEarlierSpan, IsSpanNumbering, AreSpansApart, AreBased, AreBasedTo, variables_of_spans}
 use Rattle.repair_clauses.specs.Runs.{AreColumn}
 use Rattle.search_answers.specs.Classing.{AreSingle, AreNumberedTo, rows_from}
 use Rattle.join_access.proofs.Sorted.{sorted-from}
@@ -49,25 +49,25 @@ module _ (spans : List Span) (h : AreSingle spans) where
   pub based : AreBased 0 spans
   based = based-from 0 spans (λ k s e. let b = h.each k s e in let i = b.1 in (b.0, omega (arith, i)))
 
-  pub long : length (variables_of spans) ≡ length spans
+  pub long : length (variables_of_spans spans) ≡ length spans
   long = let e = variables-length 0 (length spans) spans (based-to 0 spans (λ k s e. let b = h.each k s e in let i = b.1 in (b.0, omega (arith, i))) (length spans) (omega arith)) in omega (arith, e)
 
-  pub variable : (k : ℕ) (s : Span) → slice_get spans k ≡ Some s → slice_get (variables_of spans) k ≡ Some (at s.atom s.start)
+  pub variable : (k : ℕ) (s : Span) → slice_get spans k ≡ Some s → slice_get (variables_of_spans spans) k ≡ Some (at s.atom s.start)
   variable k s e =
       let one = (h.each k s e).0 in
       let base = (h.each k s e).1 in
       let i : s.base + (s.start - s.start) ≡ k = omega (arith, base) in
-      subst (λ j. slice_get (variables_of spans) j ≡ Some (at s.atom s.start)) i (has_number spans based s (Contains-slice_get spans k s e) (at s.atom s.start) (refl, omega arith, omega (arith, one)))
+      subst (λ j. slice_get (variables_of_spans spans) j ≡ Some (at s.atom s.start)) i (has_number spans based s (Contains-slice_get spans k s e) (at s.atom s.start) (refl, omega arith, omega (arith, one)))
 
-  pub span_at : (k : ℕ) (x : Variable) → slice_get (variables_of spans) k ≡ Some x → (s : Span) × (slice_get spans k ≡ Some s) × (at s.atom s.start ≡ x)
+  pub span_at : (k : ℕ) (x : Variable) → slice_get (variables_of_spans spans) k ≡ Some x → (s : Span) × (slice_get spans k ≡ Some s) × (at s.atom s.start ≡ x)
   span_at k x e =
-      let l = slice_get_within (variables_of spans) k x e in
+      let l = slice_get_within (variables_of_spans spans) k x e in
       let same = long in
       let s = get_or spans k (record { atom = 0; start = 0; count = 0; base = 0 }) in
       let es = slice_get-get_or spans k (record { atom = 0; start = 0; count = 0; base = 0 }) (omega (arith, l, same)) in
       (s, es, same_Some (at s.atom s.start) x (sym (variable k s es) ∙ e))
 
-  before_less : (s t : Span) → s.count ≡ 1 → IsBefore s t → variable_cmp (at s.atom s.start) (at t.atom t.start) ≡ Less
+  before_less : (s t : Span) → s.count ≡ 1 → IsEarlierSpan s t → variable_cmp (at s.atom s.start) (at t.atom t.start) ≡ Less
   before_less s t one b = elim (cases_lt s.atom t.atom) [
     | inl l ↦ atom_less (at s.atom s.start) (at t.atom t.start) l
     | inr u ↦ let le = b.0 in
@@ -76,8 +76,8 @@ module _ (spans : List Span) (h : AreSingle spans) where
         place_less (at s.atom s.start) (at t.atom t.start) same (omega (arith, one, ends))
   ]
 
-  pub rising : IsStrictlySortedBy variable_cmp (variables_of spans)
-  rising = sorted-from variable_cmp (variables_of spans) (at 0 0) (λ i j l lj.
+  pub rising : IsStrictlySortedBy variable_cmp (variables_of_spans spans)
+  rising = sorted-from variable_cmp (variables_of_spans spans) (at 0 0) (λ i j l lj.
       let same = long in
       let none : Span = record { atom = 0; start = 0; count = 0; base = 0 } in
       let es = slice_get-get_or spans i none (omega (arith, l, lj, same)) in
@@ -85,20 +85,20 @@ module _ (spans : List Span) (h : AreSingle spans) where
       let s = get_or spans i none in
       let t = get_or spans j none in
       let less = before_less s t (h.each i s es).0 (h.apart i j s t l es et) in
-      subst (λ x. variable_cmp x (get_or (variables_of spans) j (at 0 0)) ≡ Less) (sym (get_or_from_slice_get (variables_of spans) i (at s.atom s.start) (at 0 0) (variable i s es)))
-      (subst (λ y. variable_cmp (at s.atom s.start) y ≡ Less) (sym (get_or_from_slice_get (variables_of spans) j (at t.atom t.start) (at 0 0) (variable j t et))) less))
+      subst (λ x. variable_cmp x (get_or (variables_of_spans spans) j (at 0 0)) ≡ Less) (sym (get_or_from_slice_get (variables_of_spans spans) i (at s.atom s.start) (at 0 0) (variable i s es)))
+      (subst (λ y. variable_cmp (at s.atom s.start) y ≡ Less) (sym (get_or_from_slice_get (variables_of_spans spans) j (at t.atom t.start) (at 0 0) (variable j t et))) less))
 
 -- the row of a span has the span's number
-pub stands : (spans : List Span) → AreSingle spans → (F p k : ℕ) → IsAt spans F p k → slice_get (variables_of spans) k ≡ Some (at F p)
+pub stands : (spans : List Span) → AreSingle spans → (F p k : ℕ) → IsAt spans F p k → slice_get (variables_of_spans spans) k ≡ Some (at F p)
 stands spans h F p k (s, e, i) =
     let one = (h.each k s e).0 in
     let low = i.1 in
     let high = i.2 in
     let place : s.start ≡ p = omega (arith, one, low, high) in
-    subst (λ G. slice_get (variables_of spans) k ≡ Some (at G p)) (sym i.0) (subst (λ r. slice_get (variables_of spans) k ≡ Some (at s.atom r)) place (variable spans h k s e))
+    subst (λ G. slice_get (variables_of_spans spans) k ≡ Some (at G p)) (sym i.0) (subst (λ r. slice_get (variables_of_spans spans) k ≡ Some (at s.atom r)) place (variable spans h k s e))
 
 -- the span of a number covers its row
-pub held : (spans : List Span) → AreSingle spans → (F p k : ℕ) → slice_get (variables_of spans) k ≡ Some (at F p) → IsAt spans F p k
+pub held : (spans : List Span) → AreSingle spans → (F p k : ℕ) → slice_get (variables_of_spans spans) k ≡ Some (at F p) → IsAt spans F p k
 held spans h F p k e =
     let s = span_at spans h k (at F p) e in
     let one = (h.each k s.0 s.1).0 in
@@ -111,7 +111,7 @@ module _ (q : Query) (db : List Table) (row : List Value) (all : List (List RowI
   pub named_there : (F : ℕ) → F < length q.atoms → (p : ℕ) → IsNamed all F p → p < length (rows_of q (stored db) F)
   named_there F l p (names, mn, e) = subst (λ r. r < length (rows_of q (stored db) F)) e ((of_names q db row names ((a.exactly names).0 mn)).each F l).0
 
-  pub numbering : IsDatabase db → (spans : List Span) → AreNumberedTo all (length q.atoms) spans → (m : ℕ) → m ≡ length spans → IsNumbering spans m
+  pub numbering : IsDatabase db → (spans : List Span) → AreNumberedTo all (length q.atoms) spans → (m : ℕ) → m ≡ length spans → IsSpanNumbering spans m
   numbering d spans h m e = record {
     apart = h.single.apart;
     based = based-to 0 spans (λ k s g. let b = h.single.each k s g in let i = b.1 in (b.0, omega (arith, i))) m (omega (arith, e));
@@ -209,12 +209,12 @@ module _ (all : List (List RowId)) (F : ℕ) (old : List Span) (h : AreNumberedT
   apart_new i j u v l eu ev = go (split old (rows_from F (length old) ps) i u eu) (split old (rows_from F (length old) ps) j v ev)
     where
       go : ((i < length old) × (slice_get old i ≡ Some u)) ⊎ ((a : ℕ) × (i ≡ length old + a) × (slice_get (rows_from F (length old) ps) a ≡ Some u)) →
-          ((j < length old) × (slice_get old j ≡ Some v)) ⊎ ((b : ℕ) × (j ≡ length old + b) × (slice_get (rows_from F (length old) ps) b ≡ Some v)) → IsBefore u v
+          ((j < length old) × (slice_get old j ≡ Some v)) ⊎ ((b : ℕ) × (j ≡ length old + b) × (slice_get (rows_from F (length old) ps) b ≡ Some v)) → IsEarlierSpan u v
       go (inl o) (inl p) = h.single.apart i j u v l o.1 p.1
       go (inl o) (inr p) =
           let r = from_row F (length old) ps p.0 v p.2 in
           let b = (h.from u (Contains-slice_get old i u o.1)).0 in
-          subst (IsBefore u) r.2 (omega (arith, b), λ same. absurd (omega (arith, b, same)))
+          subst (IsEarlierSpan u) r.2 (omega (arith, b), λ same. absurd (omega (arith, b, same)))
       go (inr o) (inl p) = let i_is = o.1 in let high = p.0 in absurd (omega (arith, i_is, high, l))
       go (inr o) (inr p) =
           let r = from_row F (length old) ps o.0 u o.2 in
@@ -225,7 +225,7 @@ module _ (all : List (List RowId)) (F : ℕ) (old : List Span) (h : AreNumberedT
           let less = c.in_order o.0 p.0 (omega (arith, i_is, j_is, l)) within in
           let eu = get_or_from_slice_get ps o.0 r.0 0 r.1 in
           let ev = get_or_from_slice_get ps p.0 t.0 0 t.1 in
-          subst (λ (w : Span). IsBefore w v) r.2 (subst (λ (w : Span). IsBefore (row_from F (length old + o.0) r.0) w) t.2 (omega arith, λ _. omega (arith, less, eu, ev)))
+          subst (λ (w : Span). IsEarlierSpan w v) r.2 (subst (λ (w : Span). IsEarlierSpan (row_from F (length old + o.0) r.0) w) t.2 (omega arith, λ _. omega (arith, less, eu, ev)))
 
   pub numbered-more : AreNumberedTo all (F + 1) new
   numbered-more = record {
@@ -242,7 +242,7 @@ module _ (all : List (List RowId)) (F : ℕ) (old : List Span) (h : AreNumberedT
     to = λ G p b. go G p b.1 (cases_next G F b.0);
   }
     where
-      go : (G p : ℕ) → IsNamed all G p → (G < F) ⊎ (G ≡ F) → (t : Span) × Contains new t × IsIn t (at G p)
+      go : (G p : ℕ) → IsNamed all G p → (G < F) ⊎ (G ≡ F) → (t : Span) × Contains new t × IsInSpan t (at G p)
       go G p named (inl l) = let t = h.to G p (l, named) in (t.0, Rattle.std.proofs.lemmas.List.Elements.Contains-append_left old (rows_from F (length old) ps) t.0 t.1, t.2)
       go G p named (inr e) =
           let n = subst (λ H. IsNamed all H p) e named in

@@ -18,9 +18,9 @@ use Rattle.cdcl.specs.declared.outcome.Outcome.TheVariants as outcome
 use Rattle.flat_formula.specs.declared.guess.Found.{Found}
 use Rattle.flat_formula.specs.declared.guess.Found.TheVariants.{Satisfiable, Unsatisfiable, Unclear}
 use Rattle.repair_clauses.specs.declared.span.Span.{Span}
-use Rattle.repair_clauses.specs.Alike.{AreAlike}
-use Rattle.repair_clauses.specs.Clauses.{Variable, HasNumber, row_of, positive, negative}
-use Rattle.repair_clauses.specs.Spans.{at, place_at, HasSpan, IsIn, IsNamed, AreSpansApart, variables_of}
+use Rattle.repair_clauses.specs.Alike.{AreAlikeRows}
+use Rattle.repair_clauses.specs.Clauses.{Variable, HasNumber, variable_row, positive, negative}
+use Rattle.repair_clauses.specs.Spans.{at, place_at, HasSpan, IsInSpan, IsNamed, AreSpansApart, variables_of_spans}
 
 -- nothing is lost from a list
 abbrev pub LosesNone : List ℕ → List ℕ → Type 0
@@ -37,7 +37,7 @@ HasClass variables classes F p n = (k : ℕ) × (slice_get variables k ≡ Some 
 -- exactly the rows with a property have a class, and it is the number of a row of the same atom that is alike
 pub record AreClassed (q : Query) (db : List Table) (variables : List Variable) (P : ℕ → ℕ → Type 0) (classes : List (Option ℕ)) : Type 0 where
   pub size : length classes ≡ length variables
-  pub alike : (F p n : ℕ) → HasClass variables classes F p n → (r : ℕ) × HasNumber variables n (at F r) × AreAlike q F (row_of q db (at F r)) (row_of q db (at F p))
+  pub alike : (F p n : ℕ) → HasClass variables classes F p n → (r : ℕ) × HasNumber variables n (at F r) × AreAlikeRows q F (variable_row q db (at F r)) (variable_row q db (at F p))
   pub from : (F p n : ℕ) → HasClass variables classes F p n → P F p
   pub to : (F p : ℕ) → P F p → (n : ℕ) × HasClass variables classes F p n
 
@@ -80,18 +80,18 @@ pub record AreRange (variables : List Variable) (classes : List (Option ℕ)) (F
   pub every : (p : ℕ) → a ≤ p → p < b → (n : ℕ) × Contains numbers n × HasClass variables classes F p n
 
 -- a literal
-abbrev pub signed : Bool → ℕ → Lit
-signed b n = record { var = n; positive = b }
+abbrev pub literal_of : Bool → ℕ → Lit
+literal_of b n = record { var = n; positive = b }
 
 -- all rows of a block have a class
 abbrev pub HasAllClasses : List Variable → List (Option ℕ) → Span → Type 0
-HasAllClasses variables classes s = (p : ℕ) → IsIn s (at s.atom p) → (n : ℕ) × HasClass variables classes s.atom p n
+HasAllClasses variables classes s = (p : ℕ) → IsInSpan s (at s.atom p) → (n : ℕ) × HasClass variables classes s.atom p n
 
 -- the classes of the rows of a block, all of which have one
-pub record AreOfBlock (variables : List Variable) (classes : List (Option ℕ)) (s : Span) (numbers : List ℕ) : Type 0 where
+pub record AreClassesOfBlock (variables : List Variable) (classes : List (Option ℕ)) (s : Span) (numbers : List ℕ) : Type 0 where
   pub rises : IsStrictlySortedBy nat_cmp numbers
   pub whole : HasAllClasses variables classes s
-  pub exactly : (n : ℕ) → Contains numbers n ↔ ((p : ℕ) × IsIn s (at s.atom p) × HasClass variables classes s.atom p n)
+  pub exactly : (n : ℕ) → Contains numbers n ↔ ((p : ℕ) × IsInSpan s (at s.atom p) × HasClass variables classes s.atom p n)
 
 -- the classes of the rows of a witness
 pub record AreOfNames (variables : List Variable) (classes : List (Option ℕ)) (names : List RowId) (numbers : List ℕ) : Type 0 where
@@ -100,8 +100,8 @@ pub record AreOfNames (variables : List Variable) (classes : List (Option ℕ)) 
 
 -- the classes of exactly the blocks of which all rows have one
 pub record AreBlockLists (variables : List Variable) (classes : List (Option ℕ)) (spans : List Span) (lists : List (List ℕ)) : Type 0 where
-  pub each : (numbers : List ℕ) → Contains lists numbers → (s : Span) × Contains spans s × AreOfBlock variables classes s numbers
-  pub every : (s : Span) → Contains spans s → HasAllClasses variables classes s → (numbers : List ℕ) × Contains lists numbers × AreOfBlock variables classes s numbers
+  pub each : (numbers : List ℕ) → Contains lists numbers → (s : Span) × Contains spans s × AreClassesOfBlock variables classes s numbers
+  pub every : (s : Span) → Contains spans s → HasAllClasses variables classes s → (numbers : List ℕ) × Contains lists numbers × AreClassesOfBlock variables classes s numbers
 
 -- the classes of exactly these witnesses
 pub record AreNameLists (variables : List Variable) (classes : List (Option ℕ)) (all : List (List RowId)) (lists : List (List ℕ)) : Type 0 where
@@ -119,12 +119,12 @@ pub record AreClassClauses (variables : List Variable) (classes : List (Option �
 -- the clauses of some classes of the numbered rows
 abbrev pub AreQuotient : Query → List Table → List Span → List Span → List (List RowId) → List (List Lit) → Type 0
 AreQuotient q db numbered spans all cs =
-    (classes : List (Option ℕ)) × AreClassedTo q db (variables_of numbered) all (length q.atoms) classes × AreClassClauses (variables_of numbered) classes spans all cs
+    (classes : List (Option ℕ)) × AreClassedTo q db (variables_of_spans numbered) all (length q.atoms) classes × AreClassClauses (variables_of_spans numbered) classes spans all cs
 
 -- the formula of some classes of the rows that are in the witnesses
 abbrev pub IsQuotient : Query → List Table → List Span → List (List RowId) → Cnf → Type 0
 IsQuotient q db spans all cnf =
-    (numbered : List Span) × AreNumberedTo all (length q.atoms) numbered × (cnf.vars ≡ length (variables_of numbered)) × AreQuotient q db numbered spans all (literals cnf.clauses)
+    (numbered : List Span) × AreNumberedTo all (length q.atoms) numbered × (cnf.vars ≡ length (variables_of_spans numbered)) × AreQuotient q db numbered spans all (literals cnf.clauses)
 
 -- what an outcome finds out
 abbrev pub FoundOf : Outcome → Found → Type 0

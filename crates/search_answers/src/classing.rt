@@ -4,7 +4,7 @@
 ghost use Rattle.std.specs.Prelude.{◌≡◌, ◌+◌, ◌<◌, ◌↔◌, ◌⊎◌, ℕ, IfOk, Contains, length, slice_index_or, []};
 ghost use Rattle.cqa_model.specs.Repairs.{SharesKey};
 ghost use Rattle.join_access.specs.Listing.{names_of};
-ghost use Rattle.repair_clauses.specs.Spans.{HasSpan, variables_of};
+ghost use Rattle.repair_clauses.specs.Spans.{HasSpan, variables_of_spans};
 ghost use Rattle.search_answers.specs.Classing.{AreClassedTo, AreNumberedTo, AreSingle, Marks};
 
 use crate::spoken::spoken_columns;
@@ -24,7 +24,7 @@ pub struct Classed {
     pub rows: Numbering,
     pub classes: Vec<Option<u32>>,
     pub ghost single: { AreSingle rows.spans },
-    pub ghost size: { length classes.items ≡ length (variables_of rows.spans) },
+    pub ghost size: { length classes.items ≡ length (variables_of_spans rows.spans) },
 }
 
 /// Compares two rows in some columns.
@@ -80,8 +80,8 @@ fn mark_rows(
 )
     requires there { (p : ℕ) → Contains places.now p → p < length rows.now }
     requires covered { (p : ℕ) → Contains places.now p → HasSpan numbered.now.spans atom p }
-    requires size { length classes.old ≡ length (variables_of numbered.now.spans) }
-    ensures { Marks (variables_of numbered.now.spans) columns.now rows.now atom places.now classes.old classes.new }
+    requires size { length classes.old ≡ length (variables_of_spans numbered.now.spans) }
+    ensures { Marks (variables_of_spans numbered.now.spans) columns.now rows.now atom places.now classes.old classes.new }
 {
     if places.is_empty() {
         return;
@@ -104,8 +104,8 @@ fn mark_atom(
 ) -> Result<(), NoMemory>
     requires there { at < length witnesses.now.bound.now.query.now.atoms }
     requires rows { AreNumberedTo (names_of witnesses.now.list) (length witnesses.now.bound.now.query.now.atoms) numbered.now.spans }
-    requires so_far { AreClassedTo witnesses.now.bound.now.query.now witnesses.now.bound.now.db.now (variables_of numbered.now.spans) (names_of witnesses.now.list) at classes.old }
-    ensures { IfOk result (λ done. AreClassedTo witnesses.now.bound.now.query.now witnesses.now.bound.now.db.now (variables_of numbered.now.spans) (names_of witnesses.now.list) (at + 1) classes.new) }
+    requires so_far { AreClassedTo witnesses.now.bound.now.query.now witnesses.now.bound.now.db.now (variables_of_spans numbered.now.spans) (names_of witnesses.now.list) at classes.old }
+    ensures { IfOk result (λ done. AreClassedTo witnesses.now.bound.now.query.now witnesses.now.bound.now.db.now (variables_of_spans numbered.now.spans) (names_of witnesses.now.list) (at + 1) classes.new) }
 {
     let query = witnesses.bound.query;
     let columns = spoken_columns(alloc, query, at)?;
@@ -130,7 +130,7 @@ fn classes_of(
     witnesses: &RowWitnesses<'_>,
 ) -> Result<Vec<Option<u32>>, NoMemory>
     requires { AreNumberedTo (names_of witnesses.now.list) (length witnesses.now.bound.now.query.now.atoms) numbered.now.spans }
-    ensures { IfOk result (λ classes. AreClassedTo witnesses.now.bound.now.query.now witnesses.now.bound.now.db.now (variables_of numbered.now.spans) (names_of witnesses.now.list) (length witnesses.now.bound.now.query.now.atoms) classes.items) }
+    ensures { IfOk result (λ classes. AreClassedTo witnesses.now.bound.now.query.now witnesses.now.bound.now.db.now (variables_of_spans numbered.now.spans) (names_of witnesses.now.list) (length witnesses.now.bound.now.query.now.atoms) classes.items) }
 {
     let mut classes = Vec::new(alloc);
     classes.resize(numbered.spans.len(), None)?;
@@ -147,7 +147,7 @@ fn classes_of(
 /// `NoMemory` where memory is refused.
 pub fn classed_rows(alloc: Global, witnesses: &RowWitnesses<'_>) -> Result<Classed, NoMemory>
     ensures rows { IfOk result (λ classed. AreNumberedTo (names_of witnesses.now.list) (length witnesses.now.bound.now.query.now.atoms) classed.rows.spans) }
-    ensures classes { IfOk result (λ classed. AreClassedTo witnesses.now.bound.now.query.now witnesses.now.bound.now.db.now (variables_of classed.rows.spans) (names_of witnesses.now.list) (length witnesses.now.bound.now.query.now.atoms) classed.classes.items) }
+    ensures classes { IfOk result (λ classed. AreClassedTo witnesses.now.bound.now.query.now witnesses.now.bound.now.db.now (variables_of_spans classed.rows.spans) (names_of witnesses.now.list) (length witnesses.now.bound.now.query.now.atoms) classed.classes.items) }
 {
     let rows = witness_rows(alloc, witnesses)?;
     let classes = classes_of(alloc, &rows, witnesses)?;

@@ -5,7 +5,7 @@ ghost use Rattle.std.specs.Prelude.{◌≡◌, [], IfOk, map};
 ghost use Rattle.join_access.specs.Listing.{names_of, places_of};
 ghost use Rattle.repair_clauses.specs.Clauses.{positive};
 ghost use Rattle.repair_clauses.specs.Spans.{numbers_in};
-ghost use Rattle.repair_clauses.specs.Encodings.{AddsWitnesses, AreBlocksOf, AreTold};
+ghost use Rattle.repair_clauses.specs.Encodings.{AddsWitnesses, AreRelevantBlocks, AreTold};
 ghost use Rattle.search_answers.specs.Classing.{FoundSays};
 ghost use Rattle.search_answers.specs.Looking.{AreClausesOf};
 
@@ -109,7 +109,7 @@ pub fn first_look(
     budget: u32,
     room: &mut Room,
 ) -> Result<Found, NoMemory>
-    requires { AreBlocksOf witnesses.now.bound.now.query.now witnesses.now.bound.now.db.now witnesses.now.row.now blocks.now }
+    requires { AreRelevantBlocks witnesses.now.bound.now.query.now witnesses.now.bound.now.db.now witnesses.now.row.now blocks.now }
     ensures { IfOk result (FoundSays witnesses.now.bound.now.query.now witnesses.now.bound.now.db.now witnesses.now.row.now) }
 {
     let list = witnesses.list.as_slice();

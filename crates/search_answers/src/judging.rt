@@ -3,7 +3,7 @@
 //! left.
 
 ghost use Rattle.std.specs.Prelude.{◌≡◌, IfOk, length};
-ghost use Rattle.repair_clauses.specs.Encodings.{AreBlocksOf};
+ghost use Rattle.repair_clauses.specs.Encodings.{AreRelevantBlocks};
 ghost use Rattle.search_answers.specs.Searching.{IsJudged, Judges};
 
 use crate::decision::{Decided, solved};
@@ -69,7 +69,7 @@ fn judge_blocks(
     witnesses: &RowWitnesses<'_>,
     budget: u32,
 ) -> Result<Verdict, NoMemory>
-    requires { AreBlocksOf witnesses.now.bound.now.query.now witnesses.now.bound.now.db.now witnesses.now.row.now blocks.now }
+    requires { AreRelevantBlocks witnesses.now.bound.now.query.now witnesses.now.bound.now.db.now witnesses.now.row.now blocks.now }
     ensures { IfOk result (IsJudged witnesses.now.bound.now.query.now witnesses.now.bound.now.db.now witnesses.now.row.now budget) }
 {
     let formula = formula_over(alloc, blocks, witnesses)?;
@@ -85,7 +85,7 @@ fn judge_classes(
     witnesses: &RowWitnesses<'_>,
     budget: u32,
 ) -> Result<Verdict, NoMemory>
-    requires { AreBlocksOf witnesses.now.bound.now.query.now witnesses.now.bound.now.db.now witnesses.now.row.now blocks.now }
+    requires { AreRelevantBlocks witnesses.now.bound.now.query.now witnesses.now.bound.now.db.now witnesses.now.row.now blocks.now }
     ensures { IfOk result (IsJudged witnesses.now.bound.now.query.now witnesses.now.bound.now.db.now witnesses.now.row.now budget) }
 {
     match second_look(alloc, blocks, witnesses, budget)? {

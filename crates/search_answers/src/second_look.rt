@@ -5,7 +5,7 @@ ghost use Rattle.cnf_form.specs.Literals.{AreVarsInRange, literals};
 ghost use Rattle.cdcl.specs.Outcomes.{IsOnce};
 ghost use Rattle.flat_formula.specs.Findings.{FoundIs};
 ghost use Rattle.join_access.specs.Listing.{names_of};
-ghost use Rattle.repair_clauses.specs.Encodings.{AreBlocksOf};
+ghost use Rattle.repair_clauses.specs.Encodings.{AreRelevantBlocks};
 ghost use Rattle.search_answers.specs.Classing.{FoundOf, FoundSays, IsQuotient};
 
 use crate::class_clauses::class_clauses;
@@ -78,7 +78,7 @@ pub fn second_look(
     witnesses: &RowWitnesses<'_>,
     budget: u32,
 ) -> Result<Found, NoMemory>
-    requires { AreBlocksOf witnesses.now.bound.now.query.now witnesses.now.bound.now.db.now witnesses.now.row.now blocks.now }
+    requires { AreRelevantBlocks witnesses.now.bound.now.query.now witnesses.now.bound.now.db.now witnesses.now.row.now blocks.now }
     ensures { IfOk result (FoundSays witnesses.now.bound.now.query.now witnesses.now.bound.now.db.now witnesses.now.row.now) }
 {
     let cnf = formula_of_classes(alloc, blocks, witnesses)?;

@@ -1,5 +1,5 @@
 -- How the tables of a database are found and changed.
-use Rattle.std.specs.Prelude.{◌≡◌, ◌⊎◌, ◌↔◌, ◌+◌, ℕ, Bool, false, if◌then◌else◌, List, [], ◌∷◌, length, Contains, Option, Some, None, position, nat_eq, slice_index_or, slice_get, slice_set, IfSome, take, zero, suc, ◌≤◌, ◌≢◌}
+use Rattle.std.specs.Prelude.{◌≡◌, ◌⊎◌, ◌↔◌, ◌+◌, ℕ, Bool, false, if◌then◌else◌, List, [], ◌∷◌, length, Contains, Option, Some, None, position, nat_eq, slice_index_or, slice_get, slice_set, IfSome, take, zero, suc, ◌≤◌, ◌≢◌, map}
 use Rattle.std.specs.List.{AllByRecursion}
 use Rattle.std.specs.declared.cmp.Ordering.{Ordering}
 use Rattle.std.specs.declared.cmp.Ordering.TheVariants.{Less}
@@ -9,6 +9,7 @@ use Rattle.cqa_value.specs.declared.value.Kind.{Kind}
 use Rattle.cqa_value.specs.declared.value.Value.{Value}
 use Rattle.cqa_value.specs.Valid.{IsValidRow}
 use Rattle.cqa_model.specs.Database.{Table, IsDatabase, block_cmp, names_of, stored, keys_of, marks_of, column_kinds, nothing}
+use Rattle.cqa_model.specs.declared.query.RowId.{RowId}
 use Rattle.cqa_model.specs.Query.{OpHolds}
 use Rattle.row_order.specs.Ordered.{block_order}
 use Rattle.table_blocks.specs.Keys.{first_clash}
@@ -31,6 +32,14 @@ mark_at db table = slice_index_or (marks_of db) table false
 
 abbrev pub kinds_at : List Table → ℕ → List Kind
 kinds_at db table = slice_index_or (column_kinds db) table []
+
+-- the rows at some places
+abbrev pub rows_in : List (List Value) → List ℕ → List (List Value)
+rows_in rows places = map (λ p. slice_index_or rows p []) places
+
+-- and their names, as rows of the table at a place
+abbrev pub names_in : ℕ → List ℕ → List RowId
+names_in table places = map (λ p. record { table = table; place = p }) places
 
 -- the database with other rows in the table at a place
 abbrev pub with_rows : List Table → ℕ → List (List Value) → List Table

@@ -42,9 +42,9 @@ IsDecision db q row None = IsCertain db q row × (NeedsSearch q → HasTooMany q
 IsDecision db q row (Some names) = AreRejectingRows db q row names × AreStored db names
 
 -- the same of a pair, of which no witnesses are listed
-abbrev pub IsPairDecision : List Table → Query → List Value → Option (List RowId) → Type 0
-IsPairDecision db q row None = IsCertain db q row
-IsPairDecision db q row (Some names) = AreRejectingRows db q row names × AreStored db names
+abbrev pub IsAgainstPair : List Table → Query → List Value → Option (List RowId) → Type 0
+IsAgainstPair db q row None = IsCertain db q row
+IsAgainstPair db q row (Some names) = AreRejectingRows db q row names × AreStored db names
 
 -- What is told of a row: that it is certain, or the rows that are kept against it.
 abbrev pub IsToldOf : List Table → Query → List Value → Option (List RowId) → Type 0

@@ -7,7 +7,7 @@ use Rattle.spj_syntax.specs.declared.tree.Change.{Change}
 use Rattle.spj_syntax.specs.declared.tree.Change.TheVariants.{SetStrict, DropStrict, SetKey}
 use Rattle.table_blocks.specs.Tables.{table_named, with_mark, Rekeys}
 use Rattle.table_changes.specs.Changes.{strict_fault, rekey_fault}
-use Rattle.query_resolve.specs.Names.{columns_at, places_of}
+use Rattle.query_resolve.specs.Names.{columns_at, column_places}
 use Rattle.query_resolve.specs.Checks.{new_key_fault}
 use Rattle.query_resolve.specs.Resolved.{IsKeyOf}
 use Rattle.reply_text.specs.declared.reply.Reply.{Reply}
@@ -20,7 +20,7 @@ use Rattle.cqa_session.specs.Replying.{on_table}
 abbrev pub change_fault : List Table → Change → ℕ → Option Refusal
 change_fault db SetStrict table = strict_fault db table
 change_fault db DropStrict table = None
-change_fault db (SetKey names) table = first_of (new_key_fault db table names) (rekey_fault db table (places_of (columns_at db table) names))
+change_fault db (SetKey names) table = first_of (new_key_fault db table names) (rekey_fault db table (column_places (columns_at db table) names))
 
 abbrev pub alter_fault : List Table → List ℕ → Change → Option Refusal
 alter_fault db name change = on_table db name (change_fault db change)

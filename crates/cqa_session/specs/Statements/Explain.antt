@@ -17,7 +17,7 @@ use Rattle.cqa_session.specs.State.{State}
 use Rattle.cqa_session.specs.Reasons.{IsReason, IsOverLimit}
 use Rattle.cqa_session.specs.Replying.{Replies}
 use Rattle.cqa_session.specs.Statements.Spent.{SpendsAt}
-use Rattle.cqa_session.specs.Statements.Kept.{name_at, kept_line}
+use Rattle.cqa_session.specs.Statements.Kept.{table_name_at, kept_line}
 
 -- What is refused: the row has too many witnesses to be told by its formula; or there is a search, and the budget is used up
 -- for it.
@@ -29,7 +29,7 @@ StopsFor old q row _ new = ⊥
 -- The reason that is told of a row: a block by the name of its table; a formula with a refutation, which are kept as the last
 -- log; or a repair by the lines of its rows.
 abbrev pub MayTell : State → Query → List Value → Reply → State → Type 0
-MayTell old q row (ByBlock name key) new = ((table : ℕ) × IsReason old.tables q row (reasons.ByBlock table key) × (name ≡ name_at old.tables table)) × (new ≡ old)
+MayTell old q row (ByBlock name key) new = ((table : ℕ) × IsReason old.tables q row (reasons.ByBlock table key) × (name ≡ table_name_at old.tables table)) × (new ≡ old)
 MayTell old q row (ByRefutation proof) new = IsReason old.tables q row (reasons.Refuted proof.cnf proof.log) × (new ≡ record old { last_log = Some proof })
 MayTell old q row (Rejected lines) new = ((names : List RowId) × IsReason old.tables q row (reasons.Rejected names) × (lines ≡ map (kept_line old.tables) names)) × (new ≡ old)
 MayTell old q row (Refused refusal) new = StopsFor old q row refusal new

@@ -5,9 +5,9 @@ use Rattle.cqa_model.specs.Database.{Table, stored, names_of}
 use Rattle.reply_text.specs.declared.reply.KeptRow.{KeptRow}
 
 -- the name of the table at a place
-abbrev pub name_at : List Table → ℕ → List ℕ
-name_at db table = slice_index_or (names_of db) table []
+abbrev pub table_name_at : List Table → ℕ → List ℕ
+table_name_at db table = slice_index_or (names_of db) table []
 
 -- the line of a row that a repair keeps
 abbrev pub kept_line : List Table → RowId → KeptRow
-kept_line db name = record { table = name_at db name.table; row = slice_index_or (slice_index_or (stored db) name.table []) name.place [] }
+kept_line db name = record { table = table_name_at db name.table; row = slice_index_or (slice_index_or (stored db) name.table []) name.place [] }

@@ -21,13 +21,13 @@ use Rattle.cqa_session.specs.State.{State}
 use Rattle.cqa_session.specs.Statements.Spent.{SpendsAt}
 
 -- no candidate has more witnesses than a search takes
-abbrev pub IsWithin : List Table → Query → Type 0
-IsWithin db q = (row : List Value) → IsCandidate db q row → HasTooMany q db row → ⊥
+abbrev pub IsWithinWitnesses : List Table → Query → Type 0
+IsWithinWitnesses db q = (row : List Value) → IsCandidate db q row → HasTooMany q db row → ⊥
 
 -- What the method of a query comes to: the rows of the side, where it needs search, only while no candidate has too many
 -- witnesses; or where a search stopped.
 abbrev pub FindsRows : Query → List Table → Side → ℕ → Searched → Type 0
-FindsRows q db side budget (All rows) = IsAnswerOf db q side rows × (NeedsSearch q → IsWithin db q)
+FindsRows q db side budget (All rows) = IsAnswerOf db q side rows × (NeedsSearch q → IsWithinWitnesses db q)
 FindsRows q db side budget (Stopped why) = NeedsSearch q × IsStop q db budget why
 
 -- the row is the first candidate with too many witnesses
@@ -36,16 +36,16 @@ IsFirstOver db q row = IsCandidate db q row × HasTooMany q db row × NoneBefore
 
 -- What is refused to a query that needs search: the first candidate with too many witnesses, or a candidate for which
 -- the budget is used up, where none up to it has too many.
-abbrev pub StopsAt : State → Query → Refusal → State → Type 0
-StopsAt old q (WitnessLimit row) new = IsFirstOver old.tables q row × (new ≡ old)
-StopsAt old q (Spent row conflicts) new = SpendsAt old q row conflicts new × (HasTooMany q old.tables row → ⊥) × NoneBefore q old.tables row
-StopsAt old q _ new = ⊥
+abbrev pub StopsSearch : State → Query → Refusal → State → Type 0
+StopsSearch old q (WitnessLimit row) new = IsFirstOver old.tables q row × (new ≡ old)
+StopsSearch old q (Spent row conflicts) new = SpendsAt old q row conflicts new × (HasTooMany q old.tables row → ⊥) × NoneBefore q old.tables row
+StopsSearch old q _ new = ⊥
 
 -- What is answered to a query: the rows of the side, and where it needs search, only while no candidate has too many
 -- witnesses; else the refusal. A query that needs none is never refused so.
 abbrev pub TellsSide : State → Query → Side → Reply → State → Type 0
-TellsSide old q side (Rows rows) new = IsAnswerOf old.tables q side rows × (NeedsSearch q → IsWithin old.tables q) × (new ≡ old)
-TellsSide old q side (Refused refusal) new = NeedsSearch q × StopsAt old q refusal new
+TellsSide old q side (Rows rows) new = IsAnswerOf old.tables q side rows × (NeedsSearch q → IsWithinWitnesses old.tables q) × (new ≡ old)
+TellsSide old q side (Refused refusal) new = NeedsSearch q × StopsSearch old q refusal new
 TellsSide old q side _ new = ⊥
 
 -- The reply is the rows of the side of the query, or says where a search stopped.

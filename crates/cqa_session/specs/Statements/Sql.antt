@@ -23,8 +23,8 @@ abbrev pub column_names : List Table → ℕ → List (List ℕ)
 column_names db table = map (λ (column : Column). column.name) (columns_at db table)
 
 -- the names of a query's tables, and those of their columns
-abbrev pub names_in : List Table → List (List ℕ) → Query → Names
-names_in db tables q = record { tables = tables; columns = map (λ (atom : Atom). column_names db atom.table) q.atoms }
+abbrev pub query_names : List Table → List (List ℕ) → Query → Names
+query_names db tables q = record { tables = tables; columns = map (λ (atom : Atom). column_names db atom.table) q.atoms }
 
 -- what is told of a query: the text of its plan in SQL, which means exactly its certain rows; or that there is none, since the
 -- attacks have a cycle
@@ -37,5 +37,5 @@ TellsSql q names _ = ⊥
 pub record WritesSql (state : State) (select : Select) (reply : Reply) (new : State) : Type 0 where
   pub query : Query
   pub resolved : IsQueryOf state.tables select query
-  pub told : TellsSql query (names_in state.tables select.tables query) reply
+  pub told : TellsSql query (query_names state.tables select.tables query) reply
   pub keeps : new ≡ state

@@ -7,9 +7,9 @@ ghost use Rattle.repair_back.specs.Results.{AreStored};
 ghost use Rattle.repair_back.specs.Rejected.{AreRejectingRows};
 ghost use Rattle.rows_against.specs.Against.{IsAgainst};
 ghost use Rattle.query_resolve.specs.Checks.{query_fault, answer_fault};
-ghost use Rattle.cqa_session.specs.Replying.{Replies, IsOutcome};
+ghost use Rattle.cqa_session.specs.Replying.{Replies, IsReplyOutcome};
 ghost use Rattle.cqa_session.specs.Statements.Kept.{kept_line};
-ghost use Rattle.cqa_session.specs.Statements.Against.{AnswersAgainst, IsDecision, IsPairDecision, IsToldOf, IsUndecidedBy, TellsAgainst, rejecting_of};
+ghost use Rattle.cqa_session.specs.Statements.Against.{AnswersAgainst, IsDecision, IsAgainstPair, IsToldOf, IsUndecidedBy, TellsAgainst, rejecting_of};
 
 use crate::Session;
 use crate::statements::kept::kept_rows;
@@ -48,7 +48,7 @@ fn rejecting(reason: Reason) -> Option<Items<RowId>>
 /// The rows that a repair without a witness had to choose, for a row of a pair. No formula is made.
 fn by_pair(alloc: Global, pair: &PairQuery<'_>, row: &Row) -> Result<Option<Items<RowId>>, NoMemory>
     requires { length row.now ≡ length pair.now.bound.now.query.now.answer }
-    ensures { IfOk result (IsPairDecision pair.now.bound.now.db.now pair.now.bound.now.query.now row.now) }
+    ensures { IfOk result (IsAgainstPair pair.now.bound.now.db.now pair.now.bound.now.query.now row.now) }
 {
     match decide(alloc, pair, row)? {
         Some(kept) => {
@@ -151,7 +151,7 @@ fn reply_to(
     against: Option<Items<RowId>>,
 ) -> Result<Reply, Fail<Refusal>>
     requires { IsToldOf session.old.tables _query.now _row.now against }
-    ensures { IsOutcome result session.old (TellsAgainst session.old _query.now _row.now) session.new }
+    ensures { IsReplyOutcome result session.old (TellsAgainst session.old _query.now _row.now) session.new }
 {
     match against {
         None => Ok(Reply::Certain),
@@ -169,7 +169,7 @@ fn tell(
 ) -> Result<Reply, Fail<Refusal>>
     requires told { IfOk found (IsToldOf session.old.tables query.now row.now) }
     requires undecided { IfErr found (IsUndecidedBy session.old.tables query.now row.now session.old.budget) }
-    ensures { IsOutcome result session.old (TellsAgainst session.old query.now row.now) session.new }
+    ensures { IsReplyOutcome result session.old (TellsAgainst session.old query.now row.now) session.new }
 {
     match found {
         Ok(against) => reply_to(alloc, session, query, row, against),
@@ -186,7 +186,7 @@ fn check_and_tell(
     row: &Row,
 ) -> Result<Reply, Fail<Refusal>>
     requires { FitsDatabase query.now session.old.tables }
-    ensures { IsOutcome result session.old (Replies (answer_fault session.old.tables query.now row.now) session.old (TellsAgainst session.old query.now row.now)) session.new }
+    ensures { IsReplyOutcome result session.old (Replies (answer_fault session.old.tables query.now row.now) session.old (TellsAgainst session.old query.now row.now)) session.new }
 {
     let bound = Bound::new(session.database(), query);
     if let Err(refusal) = check_row(&bound, row) {
@@ -211,7 +211,7 @@ pub fn against(
     row: &Row,
     select: &Select,
 ) -> Result<Reply, Fail<Refusal>>
-    ensures { IsOutcome result session.old (Replies (query_fault session.old.tables select.now) session.old (AnswersAgainst session.old row.now select.now)) session.new }
+    ensures { IsReplyOutcome result session.old (Replies (query_fault session.old.tables select.now) session.old (AnswersAgainst session.old row.now select.now)) session.new }
 {
     let query = resolve(alloc, session.database(), select)?;
     let reply = check_and_tell(alloc, session, &query, row);

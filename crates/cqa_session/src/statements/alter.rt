@@ -4,7 +4,7 @@ ghost use Rattle.std.specs.Prelude.{◌≡◌, ◌<◌, OnOk, OnErr, length};
 ghost use Rattle.refusals.specs.Refusal.{Checked};
 ghost use Rattle.spj_syntax.specs.Written.{HasKey};
 ghost use Rattle.table_blocks.specs.Tables.{AreValidTables};
-ghost use Rattle.cqa_session.specs.Replying.{Replies, IsOutcome};
+ghost use Rattle.cqa_session.specs.Replying.{Replies, IsReplyOutcome};
 ghost use Rattle.cqa_session.specs.Statements.Alter.{change_fault, alter_fault, Changes, Alters};
 
 use crate::Session;
@@ -30,7 +30,7 @@ pub fn alter(
     change: &Change,
 ) -> Result<Reply, Fail<Refusal>>
     requires { HasKey change.now }
-    ensures { IsOutcome result session.old (Replies (alter_fault session.old.tables name.now change.now) session.old (Alters session.old name.now change.now)) session.new }
+    ensures { IsReplyOutcome result session.old (Replies (alter_fault session.old.tables name.now change.now) session.old (Alters session.old name.now change.now)) session.new }
 {
     let table = table_place(alloc, &session.database, name)?;
     let altered = name.copy(alloc)?;

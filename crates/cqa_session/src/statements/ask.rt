@@ -1,7 +1,7 @@
 //! `ask`: the certain rows of a query.
 
 ghost use Rattle.query_resolve.specs.Checks.{query_fault};
-ghost use Rattle.cqa_session.specs.Replying.{Replies, IsOutcome};
+ghost use Rattle.cqa_session.specs.Replying.{Replies, IsReplyOutcome};
 ghost use Rattle.cqa_session.specs.Statements.Ask.{AnswersCertain};
 
 use crate::Session;
@@ -20,7 +20,7 @@ use std::alloc::Global;
 /// The first check of the query that fails. Where it needs search, also `WitnessLimit` at the first candidate
 /// with too many witnesses, and `Spent` at a candidate before it for which the budget doesn't suffice.
 pub fn ask(alloc: Global, session: &mut Session, select: &Select) -> Result<Reply, Fail<Refusal>>
-    ensures { IsOutcome result session.old (Replies (query_fault session.old.tables select.now) session.old (AnswersCertain session.old select.now)) session.new }
+    ensures { IsReplyOutcome result session.old (Replies (query_fault session.old.tables select.now) session.old (AnswersCertain session.old select.now)) session.new }
 {
     tell_side(alloc, session, select, Side::Certain)
 }

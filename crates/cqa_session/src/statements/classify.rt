@@ -7,7 +7,7 @@ ghost use Rattle.cqa_model.specs.Variables.{whole};
 ghost use Rattle.attack_graph.specs.Attacking.{AreAttacks, HasAttack, HasWeakAttack};
 ghost use Rattle.cqa_session.specs.AttackLines.{AreAttackLines, IsLineOf};
 ghost use Rattle.query_resolve.specs.Checks.{query_fault};
-ghost use Rattle.cqa_session.specs.Replying.{Replies, IsOutcome};
+ghost use Rattle.cqa_session.specs.Replying.{Replies, IsReplyOutcome};
 ghost use Rattle.cqa_session.specs.Statements.Classify.{Classifies};
 
 use crate::Session;
@@ -28,7 +28,7 @@ use std::alloc::Global;
 ///
 /// The first check of the query that fails.
 pub fn classify(alloc: Global, session: &Session, select: &Select) -> Result<Reply, Fail<Refusal>>
-    ensures { IsOutcome result session.now (Replies (query_fault session.now.tables select.now) session.now (Classifies session.now select.now)) session.now }
+    ensures { IsReplyOutcome result session.now (Replies (query_fault session.now.tables select.now) session.now (Classifies session.now select.now)) session.now }
 {
     let query = resolve(alloc, session.database(), select)?;
     let graph = attacks(&query, &View::whole(&query));

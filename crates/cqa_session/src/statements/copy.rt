@@ -2,7 +2,7 @@
 
 ghost use Rattle.std.specs.Prelude.{◌≡◌};
 ghost use Rattle.std.specs.Option.{option_copied};
-ghost use Rattle.cqa_session.specs.Replying.{Replies, IsOutcome};
+ghost use Rattle.cqa_session.specs.Replying.{Replies, IsReplyOutcome};
 ghost use Rattle.cqa_session.specs.Statements.Copy.{block_bytes, copy_into_fault, CopiesInto};
 
 use crate::Session;
@@ -34,7 +34,7 @@ pub fn copy(
     name: &Name,
     block: Option<&[u8]>,
 ) -> Result<Reply, Fail<Refusal>>
-    ensures { IsOutcome result session.old (Replies (copy_into_fault session.old.tables name.now) session.old (CopiesInto session.old name.now (option_copied block.entry))) session.new }
+    ensures { IsReplyOutcome result session.old (Replies (copy_into_fault session.old.tables name.now) session.old (CopiesInto session.old name.now (option_copied block.entry))) session.new }
 {
     let table = table_place(alloc, &session.database, name)?;
     let rows = read_rows(alloc, session.database.schema(table), bytes_of(block))?;

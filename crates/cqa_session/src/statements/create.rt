@@ -1,7 +1,7 @@
 //! `create`: a table without rows.
 
 ghost use Rattle.query_resolve.specs.Checks.{schema_fault};
-ghost use Rattle.cqa_session.specs.Replying.{Replies, IsOutcome};
+ghost use Rattle.cqa_session.specs.Replying.{Replies, IsReplyOutcome};
 ghost use Rattle.cqa_session.specs.Statements.Create.{Creates};
 
 use crate::Session;
@@ -18,7 +18,7 @@ use std::alloc::Global;
 ///
 /// The first check of a schema that fails.
 pub fn create(alloc: Global, session: &mut Session, raw: &RawSchema) -> Result<Reply, Fail<Refusal>>
-    ensures { IsOutcome result session.old (Replies (schema_fault session.old.tables raw.now) session.old (Creates session.old raw.now)) session.new }
+    ensures { IsReplyOutcome result session.old (Replies (schema_fault session.old.tables raw.now) session.old (Creates session.old raw.now)) session.new }
 {
     let name = raw.name.copy(alloc)?;
     let schema = resolve_schema(alloc, &session.database, raw)?;

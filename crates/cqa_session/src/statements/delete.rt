@@ -2,7 +2,7 @@
 
 ghost use Rattle.std.specs.Prelude.{◌≤◌, length};
 ghost use Rattle.spj_syntax.specs.Limits.{most_items};
-ghost use Rattle.cqa_session.specs.Replying.{Replies, IsOutcome};
+ghost use Rattle.cqa_session.specs.Replying.{Replies, IsReplyOutcome};
 ghost use Rattle.cqa_session.specs.Statements.Delete.{delete_from_fault, DeletesFrom};
 
 use crate::Session;
@@ -26,7 +26,7 @@ pub fn delete(
     tests: &[RawTest],
 ) -> Result<Reply, Fail<Refusal>>
     requires { length tests.now ≤ most_items }
-    ensures { IsOutcome result session.old (Replies (delete_from_fault session.old.tables name.now tests.now) session.old (DeletesFrom session.old name.now tests.now)) session.new }
+    ensures { IsReplyOutcome result session.old (Replies (delete_from_fault session.old.tables name.now tests.now) session.old (DeletesFrom session.old name.now tests.now)) session.new }
 {
     let table = table_place(alloc, &session.database, name)?;
     let tests = resolve_tests(alloc, &session.database, table, tests)?;

@@ -1,7 +1,7 @@
 //! `disputed`: the rows of a query that are possible and not certain.
 
 ghost use Rattle.query_resolve.specs.Checks.{query_fault};
-ghost use Rattle.cqa_session.specs.Replying.{Replies, IsOutcome};
+ghost use Rattle.cqa_session.specs.Replying.{Replies, IsReplyOutcome};
 ghost use Rattle.cqa_session.specs.Statements.Disputed.{AnswersDisputed};
 
 use crate::Session;
@@ -24,7 +24,7 @@ pub fn disputed(
     session: &mut Session,
     select: &Select,
 ) -> Result<Reply, Fail<Refusal>>
-    ensures { IsOutcome result session.old (Replies (query_fault session.old.tables select.now) session.old (AnswersDisputed session.old select.now)) session.new }
+    ensures { IsReplyOutcome result session.old (Replies (query_fault session.old.tables select.now) session.old (AnswersDisputed session.old select.now)) session.new }
 {
     tell_side(alloc, session, select, Side::Disputed)
 }

@@ -1,7 +1,7 @@
 //! `dump`: the script that makes the tables with their rows.
 
 ghost use Rattle.std.specs.Prelude.{None};
-ghost use Rattle.cqa_session.specs.Replying.{Replies, IsOutcome};
+ghost use Rattle.cqa_session.specs.Replying.{Replies, IsReplyOutcome};
 ghost use Rattle.cqa_session.specs.Statements.Dump.{Dumps};
 
 use crate::Session;
@@ -13,7 +13,7 @@ use std::alloc::Global;
 
 /// Answers the script that makes the tables with their rows.
 pub fn dump(alloc: Global, session: &Session) -> Result<Reply, Fail<Refusal>>
-    ensures { IsOutcome result session.now (Replies None session.now (Dumps session.now)) session.now }
+    ensures { IsReplyOutcome result session.now (Replies None session.now (Dumps session.now)) session.now }
 {
     let database = session.database();
     let mut script = Vec::new(alloc);

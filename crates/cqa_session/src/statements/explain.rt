@@ -7,8 +7,8 @@ ghost use Rattle.weak_pairs.specs.Pairs.{IsPair};
 ghost use Rattle.query_strategy.specs.Strategies.{HasNoPlan};
 ghost use Rattle.query_resolve.specs.Checks.{query_fault, answer_fault};
 ghost use Rattle.cqa_session.specs.Reasons.{IsReason, IsStopped};
-ghost use Rattle.cqa_session.specs.Replying.{Replies, IsOutcome};
-ghost use Rattle.cqa_session.specs.Statements.Kept.{name_at, kept_line};
+ghost use Rattle.cqa_session.specs.Replying.{Replies, IsReplyOutcome};
+ghost use Rattle.cqa_session.specs.Statements.Kept.{table_name_at, kept_line};
 ghost use Rattle.cqa_session.specs.Statements.Explain.{MayTell, Explains};
 
 use crate::Session;
@@ -71,7 +71,7 @@ fn reason_of(
 /// The reply that tells the block by which a row is certain.
 fn by_block(alloc: Global, db: &Database, table: u32, key: Row) -> Result<Reply, NoMemory>
     requires { table < length db.now }
-    ensures { IfOk result (λ reply. reply ≡ Reply.ByBlock (name_at db.now table) key) }
+    ensures { IfOk result (λ reply. reply ≡ Reply.ByBlock (table_name_at db.now table) key) }
 {
     match name_of(alloc, db, table) {
         Ok(table) => Ok(Reply::ByBlock { table, key }),
@@ -119,7 +119,7 @@ fn reply_to(
     reason: Reason,
 ) -> Result<Reply, Fail<Refusal>>
     requires { IsReason session.old.tables _query.now _row.now reason }
-    ensures { IsOutcome result session.old (MayTell session.old _query.now _row.now) session.new }
+    ensures { IsReplyOutcome result session.old (MayTell session.old _query.now _row.now) session.new }
 {
     match reason {
         Reason::ByBlock { table, key } => Ok(by_block(alloc, session.database(), table, key)?),
@@ -138,7 +138,7 @@ fn tell(
 ) -> Result<Reply, Fail<Refusal>>
     requires told { IfOk found (IsReason session.old.tables query.now row.now) }
     requires stopped { IfErr found (IsStopped session.old.tables query.now row.now session.old.budget) }
-    ensures { IsOutcome result session.old (MayTell session.old query.now row.now) session.new }
+    ensures { IsReplyOutcome result session.old (MayTell session.old query.now row.now) session.new }
 {
     match found {
         Ok(reason) => reply_to(alloc, session, query, row, reason),
@@ -155,7 +155,7 @@ fn check_and_tell(
     row: &Row,
 ) -> Result<Reply, Fail<Refusal>>
     requires { FitsDatabase query.now session.old.tables }
-    ensures { IsOutcome result session.old (Replies (answer_fault session.old.tables query.now row.now) session.old (MayTell session.old query.now row.now)) session.new }
+    ensures { IsReplyOutcome result session.old (Replies (answer_fault session.old.tables query.now row.now) session.old (MayTell session.old query.now row.now)) session.new }
 {
     let bound = Bound::new(session.database(), query);
     if let Err(refusal) = check_row(&bound, row) {
@@ -180,7 +180,7 @@ pub fn explain(
     row: &Row,
     select: &Select,
 ) -> Result<Reply, Fail<Refusal>>
-    ensures { IsOutcome result session.old (Replies (query_fault session.old.tables select.now) session.old (Explains session.old row.now select.now)) session.new }
+    ensures { IsReplyOutcome result session.old (Replies (query_fault session.old.tables select.now) session.old (Explains session.old row.now select.now)) session.new }
 {
     let query = resolve(alloc, session.database(), select)?;
     let reply = check_and_tell(alloc, session, &query, row);

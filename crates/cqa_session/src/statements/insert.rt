@@ -2,7 +2,7 @@
 
 ghost use Rattle.std.specs.Prelude.{◌≤◌, length};
 ghost use Rattle.spj_syntax.specs.Limits.{most_items};
-ghost use Rattle.cqa_session.specs.Replying.{Replies, IsOutcome};
+ghost use Rattle.cqa_session.specs.Replying.{Replies, IsReplyOutcome};
 ghost use Rattle.cqa_session.specs.Statements.Insert.{insert_into_fault, InsertsInto};
 
 use crate::Session;
@@ -24,7 +24,7 @@ pub fn insert(
     rows: Items<Row>,
 ) -> Result<Reply, Fail<Refusal>>
     requires { length rows ≤ most_items }
-    ensures { IsOutcome result session.old (Replies (insert_into_fault session.old.tables name.now rows) session.old (InsertsInto session.old name.now rows)) session.new }
+    ensures { IsReplyOutcome result session.old (Replies (insert_into_fault session.old.tables name.now rows) session.old (InsertsInto session.old name.now rows)) session.new }
 {
     let table = table_place(alloc, &session.database, name)?;
     let count = table_changes::insert(&mut session.database, table, rows)?;

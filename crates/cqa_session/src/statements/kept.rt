@@ -3,7 +3,7 @@
 ghost use Rattle.std.specs.Prelude.{◌≡◌, ◌<◌, IfOk, [], length, map, slice_index_or};
 ghost use Rattle.cqa_model.specs.Database.{stored};
 ghost use Rattle.repair_back.specs.Results.{AreStored};
-ghost use Rattle.cqa_session.specs.Statements.Kept.{name_at, kept_line};
+ghost use Rattle.cqa_session.specs.Statements.Kept.{table_name_at, kept_line};
 
 use cqa_model::RowId;
 use cqa_value::{Items, Name, NoMemory};
@@ -18,7 +18,7 @@ use table_blocks::Database;
 /// `NoMemory` where memory is refused.
 pub fn name_of(alloc: Global, db: &Database, table: u32) -> Result<Name, NoMemory>
     requires { table < length db.now }
-    ensures { IfOk result (λ name. name ≡ name_at db.now table) }
+    ensures { IfOk result (λ name. name ≡ table_name_at db.now table) }
 {
     db.schema(table).name.copy(alloc)
 }

@@ -2,7 +2,7 @@
 
 ghost use Rattle.std.specs.Prelude.{◌≡◌, ◌<◌, ℕ, [], IfOk, Contains, length, slice_index_or};
 ghost use Rattle.query_resolve.specs.Checks.{query_fault};
-ghost use Rattle.cqa_session.specs.Replying.{Replies, IsOutcome};
+ghost use Rattle.cqa_session.specs.Replying.{Replies, IsReplyOutcome};
 ghost use Rattle.cqa_session.specs.Statements.Plan.{names_at, ShowsPlan};
 
 use crate::Session;
@@ -20,7 +20,7 @@ use std::alloc::Global;
 ///
 /// The first check of the query that fails.
 pub fn plan(alloc: Global, session: &Session, select: &Select) -> Result<Reply, Fail<Refusal>>
-    ensures { IsOutcome result session.now (Replies (query_fault session.now.tables select.now) session.now (ShowsPlan session.now select.now)) session.now }
+    ensures { IsReplyOutcome result session.now (Replies (query_fault session.now.tables select.now) session.now (ShowsPlan session.now select.now)) session.now }
 {
     let query = resolve(alloc, session.database(), select)?;
     let found = plan_of(alloc, &query);

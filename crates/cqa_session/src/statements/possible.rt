@@ -1,7 +1,7 @@
 //! `possible`: the possible rows of a query.
 
 ghost use Rattle.query_resolve.specs.Checks.{query_fault};
-ghost use Rattle.cqa_session.specs.Replying.{Replies, IsOutcome};
+ghost use Rattle.cqa_session.specs.Replying.{Replies, IsReplyOutcome};
 ghost use Rattle.cqa_session.specs.Statements.Possible.{AnswersPossible};
 
 use crate::Session;
@@ -20,7 +20,7 @@ use table_blocks::Bound;
 ///
 /// The first check of the query that fails.
 pub fn possible(alloc: Global, session: &Session, select: &Select) -> Result<Reply, Fail<Refusal>>
-    ensures { IsOutcome result session.now (Replies (query_fault session.now.tables select.now) session.now (AnswersPossible session.now select.now)) session.now }
+    ensures { IsReplyOutcome result session.now (Replies (query_fault session.now.tables select.now) session.now (AnswersPossible session.now select.now)) session.now }
 {
     let database = session.database();
     let query = resolve(alloc, database, select)?;

@@ -7,7 +7,7 @@ ghost use Rattle.spj_syntax.specs.Limits.{most_items};
 ghost use Rattle.query_resolve.specs.Names.{columns_at};
 ghost use Rattle.query_resolve.specs.Checks.{group_fault};
 ghost use Rattle.repair_back.specs.Results.{AreStored};
-ghost use Rattle.cqa_session.specs.Replying.{Replies, IsOutcome};
+ghost use Rattle.cqa_session.specs.Replying.{Replies, IsReplyOutcome};
 ghost use Rattle.cqa_session.specs.Statements.Kept.{kept_line};
 ghost use Rattle.cqa_session.specs.Statements.Range.{range_fault, group_line, TellsEnds, TellsGroups, TellsBy, TellsRange};
 
@@ -120,7 +120,7 @@ pub fn range(
     group: &Option<Name>,
 ) -> Result<Reply, Fail<Refusal>>
     requires { length tests.now ≤ most_items }
-    ensures { IsOutcome result session.now (Replies (range_fault session.now.tables name.now goal.now tests.now group.now) session.now (TellsRange session.now name.now goal.now tests.now group.now)) session.now }
+    ensures { IsReplyOutcome result session.now (Replies (range_fault session.now.tables name.now goal.now tests.now group.now) session.now (TellsRange session.now name.now goal.now tests.now group.now)) session.now }
 {
     let db = session.database();
     let table = table_place(alloc, db, name)?;

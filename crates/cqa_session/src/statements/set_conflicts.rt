@@ -1,7 +1,7 @@
 //! `set conflicts`: how many conflicts a search may take.
 
 ghost use Rattle.std.specs.Prelude.{None};
-ghost use Rattle.cqa_session.specs.Replying.{Replies, IsOutcome};
+ghost use Rattle.cqa_session.specs.Replying.{Replies, IsReplyOutcome};
 ghost use Rattle.cqa_session.specs.Statements.SetConflicts.{SetsConflicts};
 
 use crate::Session;
@@ -11,7 +11,7 @@ use reply_text::Reply;
 
 /// Sets the budget of the searches that follow.
 pub fn set_conflicts(session: &mut Session, conflicts: u32) -> Result<Reply, Fail<Refusal>>
-    ensures { IsOutcome result session.old (Replies None session.old (SetsConflicts session.old conflicts)) session.new }
+    ensures { IsReplyOutcome result session.old (Replies None session.old (SetsConflicts session.old conflicts)) session.new }
 {
     session.set_budget(conflicts);
     Ok(Reply::Conflicts(conflicts))

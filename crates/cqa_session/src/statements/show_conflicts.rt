@@ -1,7 +1,7 @@
 //! `show conflicts`: how much of each table breaks its key.
 
 ghost use Rattle.std.specs.Prelude.{◌<◌, None, IfOk, IfSome, length, slice_get};
-ghost use Rattle.cqa_session.specs.Replying.{Replies, IsOutcome};
+ghost use Rattle.cqa_session.specs.Replying.{Replies, IsReplyOutcome};
 ghost use Rattle.cqa_session.specs.Statements.ShowConflicts.{IsConflictLine, ShowsConflicts};
 
 use crate::Session;
@@ -30,7 +30,7 @@ fn conflict_line(alloc: Global, database: &Database, table: u32) -> Result<Confl
 
 /// Answers a line for each table.
 pub fn show_conflicts(alloc: Global, session: &Session) -> Result<Reply, Fail<Refusal>>
-    ensures { IsOutcome result session.now (Replies None session.now (ShowsConflicts session.now)) session.now }
+    ensures { IsReplyOutcome result session.now (Replies None session.now (ShowsConflicts session.now)) session.now }
 {
     let database = session.database();
     let mut lines = Items::new(alloc);

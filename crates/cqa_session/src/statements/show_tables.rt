@@ -1,7 +1,7 @@
 //! `show tables`: each table's schema with its numbers of rows and blocks.
 
 ghost use Rattle.std.specs.Prelude.{◌<◌, None, IfOk, IfSome, length, slice_get};
-ghost use Rattle.cqa_session.specs.Replying.{Replies, IsOutcome};
+ghost use Rattle.cqa_session.specs.Replying.{Replies, IsReplyOutcome};
 ghost use Rattle.cqa_session.specs.Statements.ShowTables.{IsTableLine, ShowsTables};
 
 use crate::Session;
@@ -29,7 +29,7 @@ fn table_line(alloc: Global, database: &Database, table: u32) -> Result<TableLin
 
 /// Answers a line for each table.
 pub fn show_tables(alloc: Global, session: &Session) -> Result<Reply, Fail<Refusal>>
-    ensures { IsOutcome result session.now (Replies None session.now (ShowsTables session.now)) session.now }
+    ensures { IsReplyOutcome result session.now (Replies None session.now (ShowsTables session.now)) session.now }
 {
     let database = session.database();
     let mut lines = Items::new(alloc);

@@ -10,8 +10,8 @@ ghost use Rattle.row_sides.specs.Sides.{IsAnswerOf, IsDisputedAnswer};
 ghost use Rattle.query_resolve.specs.Checks.{query_fault};
 ghost use Rattle.search_answers.specs.Searching.{IsStop};
 ghost use Rattle.query_strategy.specs.Strategies.{IsStrategyOf};
-ghost use Rattle.cqa_session.specs.Replying.{Replies, IsOutcome};
-ghost use Rattle.cqa_session.specs.Statements.Sides.{AnswersSide, FindsRows, StopsAt, TellsSide};
+ghost use Rattle.cqa_session.specs.Replying.{Replies, IsReplyOutcome};
+ghost use Rattle.cqa_session.specs.Statements.Sides.{AnswersSide, FindsRows, StopsSearch, TellsSide};
 
 use crate::Session;
 use cqa_model::{MOST_ATOMS, Plan, Query};
@@ -110,7 +110,7 @@ fn find_rows(
 /// Says why a search stopped. Where its budget is used up, the row's formula is kept with the spent log.
 fn stopped(session: &mut Session, query: &Query, stop: Stop) -> Refusal
     requires { IsStop query.now session.old.tables session.old.budget stop }
-    ensures { StopsAt session.old query.now result session.new }
+    ensures { StopsSearch session.old query.now result session.new }
 {
     match stop {
         Stop::Over(row) => Refusal::WitnessLimit { row },
@@ -130,7 +130,7 @@ fn reply_to(
     found: Searched,
 ) -> Result<Reply, Fail<Refusal>>
     requires { FindsRows query.now session.old.tables _side session.old.budget found }
-    ensures { IsOutcome result session.old (TellsSide session.old query.now _side) session.new }
+    ensures { IsReplyOutcome result session.old (TellsSide session.old query.now _side) session.new }
 {
     match found {
         Searched::All(rows) => Ok(Reply::Rows(rows)),
@@ -146,7 +146,7 @@ fn tell_rows(
     side: Side,
 ) -> Result<Reply, Fail<Refusal>>
     requires { FitsDatabase query.now session.old.tables }
-    ensures { IsOutcome result session.old (TellsSide session.old query.now side) session.new }
+    ensures { IsReplyOutcome result session.old (TellsSide session.old query.now side) session.new }
 {
     let bound = Bound::new(session.database(), query);
     let found = find_rows(alloc, &bound, side, session.budget())?;
@@ -165,7 +165,7 @@ pub fn tell_side(
     select: &Select,
     side: Side,
 ) -> Result<Reply, Fail<Refusal>>
-    ensures { IsOutcome result session.old (Replies (query_fault session.old.tables select.now) session.old (AnswersSide session.old select.now side)) session.new }
+    ensures { IsReplyOutcome result session.old (Replies (query_fault session.old.tables select.now) session.old (AnswersSide session.old select.now side)) session.new }
 {
     let query = resolve(alloc, session.database(), select)?;
     let reply = tell_rows(alloc, session, &query, side);

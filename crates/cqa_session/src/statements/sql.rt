@@ -7,8 +7,8 @@ ghost use Rattle.cqa_model.specs.Plan.{IsPlanOf};
 ghost use Rattle.plan_sql.specs.Statement.{sql_of as sql_by};
 ghost use Rattle.sql_text.specs.Texts.{sql_bytes};
 ghost use Rattle.query_resolve.specs.Checks.{query_fault};
-ghost use Rattle.cqa_session.specs.Replying.{Replies, IsOutcome};
-ghost use Rattle.cqa_session.specs.Statements.Sql.{column_names, names_in, TellsSql, WritesSql};
+ghost use Rattle.cqa_session.specs.Replying.{Replies, IsReplyOutcome};
+ghost use Rattle.cqa_session.specs.Statements.Sql.{column_names, query_names, TellsSql, WritesSql};
 
 use crate::Session;
 use cqa_model::{Column, Plan, Query};
@@ -30,7 +30,7 @@ use table_blocks::{Bound, Database};
 ///
 /// The first check of the query that fails.
 pub fn sql(alloc: Global, session: &Session, select: &Select) -> Result<Reply, Fail<Refusal>>
-    ensures { IsOutcome result session.now (Replies (query_fault session.now.tables select.now) session.now (WritesSql session.now select.now)) session.now }
+    ensures { IsReplyOutcome result session.now (Replies (query_fault session.now.tables select.now) session.now (WritesSql session.now select.now)) session.now }
 {
     let database = session.database();
     let query = resolve(alloc, database, select)?;
@@ -42,7 +42,7 @@ pub fn sql(alloc: Global, session: &Session, select: &Select) -> Result<Reply, F
 
 /// What is told of a query whose tables have these names.
 fn told(alloc: Global, bound: &Bound<'_>, tables: &[Name]) -> Result<Reply, NoMemory>
-    ensures { IfOk result (TellsSql bound.now.query.now (names_in bound.now.db.now tables.now bound.now.query.now)) }
+    ensures { IfOk result (TellsSql bound.now.query.now (query_names bound.now.db.now tables.now bound.now.query.now)) }
 {
     let named = Named {
         query: bound.query,
@@ -65,7 +65,7 @@ fn text_of(
     plan: &Plan,
 ) -> Result<Items<u8>, NoMemory>
     requires { IsPlanOf bound.now.query.now plan.now.order }
-    ensures { IfOk result (λ text. text ≡ sql_bytes bound.now.query.now (names_in bound.now.db.now tables.now bound.now.query.now) (sql_by bound.now.query.now plan.now.order)) }
+    ensures { IfOk result (λ text. text ≡ sql_bytes bound.now.query.now (query_names bound.now.db.now tables.now bound.now.query.now) (sql_by bound.now.query.now plan.now.order)) }
 {
     let columns = columns_of(alloc, bound)?;
     let tables = copied(alloc, tables)?;

@@ -1,6 +1,6 @@
 use Rattle.std.proofs.Common.{subst, sym, Contains, MatchOption}
 use Rattle.cqa_model.specs.Plan.{HoldsOver}
-use Rattle.plan_rows.specs.Left.{AreAtoms}
+use Rattle.plan_rows.specs.Left.{AreQueryAtoms}
 use Rattle.plan_rows.specs.Links.{AreWays}
 use Rattle.plan_rows.specs.Grouping.{IsRegrouped}
 use Rattle.fo_plan.specs.FirstBlock.{IsFirstBlock}
@@ -8,7 +8,7 @@ use Rattle.fo_plan.proofs.Regrouped.{regrouped-first, regrouped-atoms}
 use Rattle.fo_plan.proofs.block.block_of.Goals as goal
 
 pub grouped_along-requires-clause-order : goal.grouped_along-requires-clause-order
-grouped_along-requires-clause-order c = subst (AreAtoms c.args.bound.now.query.now) (sym c.as_slice-order.ensures) c.requires.plan
+grouped_along-requires-clause-order c = subst (AreQueryAtoms c.args.bound.now.query.now) (sym c.as_slice-order.ensures) c.requires.plan
 
 pub grouped_along-requires-clause-ways : goal.grouped_along-requires-clause-ways
 grouped_along-requires-clause-ways c = subst (λ order. AreWays c.args.bound.now.query.now c.args.bound.now.db.now order c.args.ways.now) (sym c.as_slice-order.ensures) c.requires.ways
@@ -26,7 +26,7 @@ block_along-requires-clause-all c = λ F l.
     subst (λ p. Contains p F) (sym c.as_slice.ensures.value) (same.0 (subst (λ p. Contains p F) (sym c.as_slice-order.ensures) (c.requires.all F l)))
 
 pub block_along-requires-in-None-clause-order : goal.block_along-requires-in-None-clause-order
-block_along-requires-in-None-clause-order c = subst (AreAtoms c.args.bound.now.query.now) (sym c.as_slice-order.ensures) c.requires.plan
+block_along-requires-in-None-clause-order c = subst (AreQueryAtoms c.args.bound.now.query.now) (sym c.as_slice-order.ensures) c.requires.plan
 
 pub block_along-requires-in-None-clause-all : goal.block_along-requires-in-None-clause-all
 block_along-requires-in-None-clause-all c = λ F l. subst (λ p. Contains p F) (sym c.as_slice-order.ensures) (c.requires.all F l)

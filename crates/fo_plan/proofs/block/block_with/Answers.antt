@@ -5,7 +5,7 @@ use Rattle.std.proofs.lemmas.Option.{slice_get_within, get_or_from_slice_get}
 use Rattle.cqa_model.specs.Database.{block_cmp}
 use Rattle.table_blocks.specs.Tables.{rows_at, key_at}
 use Rattle.table_blocks.proofs.Spanning.{sorted-drop}
-use Rattle.fo_plan.specs.FirstBlock.{IsBlockOf}
+use Rattle.fo_plan.specs.FirstBlock.{IsBlockOfRow}
 use Rattle.fo_plan.proofs.BlockOf.{cut-block}
 use Rattle.fo_plan.proofs.block.block_with.Goals as goal
 
@@ -41,5 +41,5 @@ returns c =
     let end = c.block_end.ensures in
     let block = c.split_at-block.result.0 in
     let cut = cut-block key rows sorted at (omega (arith, there, same)) c.block_start.result start.before start.block c.split_at-rest.result.1 c.split_at-rest.ensures.rest c.block_end.result end.within end.block block c.split_at-block.ensures.front in
-    subst (λ y. IsBlockOf (key_at c.args.db.now c.args.table) stored y block) (get_or_from_slice_get stored at x [] c.in-Some.ensures)
-    (subst (λ l. IsBlockOf (key_at c.args.db.now c.args.table) l (slice_index_or l at []) block) is (subst (λ k. IsBlockOf k rows (slice_index_or rows at []) block) key_is cut))
+    subst (λ y. IsBlockOfRow (key_at c.args.db.now c.args.table) stored y block) (get_or_from_slice_get stored at x [] c.in-Some.ensures)
+    (subst (λ l. IsBlockOfRow (key_at c.args.db.now c.args.table) l (slice_index_or l at []) block) is (subst (λ k. IsBlockOfRow k rows (slice_index_or rows at []) block) key_is cut))

@@ -3,9 +3,9 @@ use Rattle.std.proofs.lemmas.Option.{get_or_from_slice_get}
 use Rattle.cqa_model.specs.OneTable.{SomeBlockFits}
 use Rattle.cqa_model.specs.Query.{atom_key, rows_of}
 use Rattle.table_blocks.specs.Tables.{rows_at, key_at}
-use Rattle.plan_rows.specs.Over.{query_of, tables_of}
-use Rattle.fo_plan.specs.FirstBlock.{IsBlockOf, IsFirstWith}
-use Rattle.fo_plan.specs.Holding.{HoldsWith}
+use Rattle.plan_rows.specs.Over.{query_of, stored_rows}
+use Rattle.fo_plan.specs.FirstBlock.{IsBlockOfRow, IsFirstWith}
+use Rattle.fo_plan.specs.Holding.{PlanHoldsWith}
 use Rattle.fo_plan.proofs.Spanned.{rows-of-atom}
 use Rattle.fo_plan.proofs.Reached.{held-reached}
 use Rattle.fo_plan.proofs.BlockOf.{block-of-atom}
@@ -19,8 +19,8 @@ pub returns-in_err-block : goal.returns-in_err-block
 returns-in_err-block c =
     let step = c.args.step.now in
     let key = atom_key (query_of step) step.atom in
-    let rows = rows_of (query_of step) (tables_of step) step.atom in
-    let P = HoldsWith step c.args.row.now in
+    let rows = rows_of (query_of step) (stored_rows step) step.atom in
+    let P = PlanHoldsWith step c.args.row.now in
     let there = (held-reached step c.new-blocks.result c.args.row.now c.new-blocks.ensures).1 in
     subst (λ o. MatchOption o (SomeBlockFits key rows P → ⊥) (λ block. SomeBlockFits key rows P × IsFirstWith key rows P block)) (sym c.from_residual.ensures) (λ s. c.in_err-block.ensures.first (there.1 s))
 
@@ -33,7 +33,7 @@ block_with-requires-clause-stored c =
     let x = c.get.result.now in
     let stored = first-stored step c.new-blocks.result c.args.row.now c.new-blocks.ensures found c.in_ok-block.ensures.first in
     let is = rows-of-atom setting.bound.now.query.now setting.bound.now.db.now step.atom table (key_at setting.bound.now.db.now table) setting.bound.now.fits step.there c.table_of-table.ensures refl (rows_at setting.bound.now.db.now table) refl in
-    subst (λ db. Contains (rows_at db table) x) c.requires.db (subst (λ rows. Contains rows x) (sym is) (subst (Contains (rows_of (query_of step) (tables_of step) step.atom)) (get_or_from_slice_get found 0 x [] c.get.ensures) stored))
+    subst (λ db. Contains (rows_at db table) x) c.requires.db (subst (λ rows. Contains rows x) (sym is) (subst (Contains (rows_of (query_of step) (stored_rows step) step.atom)) (get_or_from_slice_get found 0 x [] c.get.ensures) stored))
 
 pub returns : goal.returns
 returns c =
@@ -43,6 +43,6 @@ returns c =
     let found = c.in_ok-block.block in
     let x = c.get.result.now in
     let block = c.block_with.result in
-    let here = block-of-atom setting.bound.now.query.now setting.bound.now.db.now step.atom table setting.bound.now.fits step.there c.table_of-table.ensures x block (subst (λ db. IsBlockOf (key_at db table) (rows_at db table) x block) (sym c.requires.db) c.block_with.ensures) in
+    let here = block-of-atom setting.bound.now.query.now setting.bound.now.db.now step.atom table setting.bound.now.fits step.there c.table_of-table.ensures x block (subst (λ db. IsBlockOfRow (key_at db table) (rows_at db table) x block) (sym c.requires.db) c.block_with.ensures) in
     first-holds step c.new-blocks.result c.args.row.now c.new-blocks.ensures found c.in_ok-block.ensures.first block
-    (subst (λ y. IsBlockOf (atom_key (query_of step) step.atom) (rows_of (query_of step) (tables_of step) step.atom) y block) (sym (get_or_from_slice_get found 0 x [] c.get.ensures)) here)
+    (subst (λ y. IsBlockOfRow (atom_key (query_of step) step.atom) (rows_of (query_of step) (stored_rows step) step.atom) y block) (sym (get_or_from_slice_get found 0 x [] c.get.ensures)) here)

@@ -1,19 +1,19 @@
 use Rattle.std.proofs.Common.{subst, sym, inl, Contains, []}
 use Rattle.cqa_model.specs.Database.{stored}
-use Rattle.plan_rows.specs.Left.{AreAtoms, AreShared}
+use Rattle.plan_rows.specs.Left.{AreQueryAtoms, AreSharedInParts}
 use Rattle.plan_rows.specs.Links.{AreWays}
-use Rattle.fo_plan.specs.Giving.{Gives, IsAdded}
+use Rattle.fo_plan.specs.Giving.{PlanGives, IsAdded}
 use Rattle.fo_plan.proofs.Gathered.{gives-all}
 use Rattle.plan_rows.proofs.Sharing.{underway-starts, none-right}
 use Rattle.fo_plan.proofs.certain.answers.Goals as goal
 
 pub shared_columns-requires : goal.shared_columns-requires
-shared_columns-requires c = subst (AreAtoms c.args.bound.now.query.now) (sym c.as_slice-order.ensures) c.requires.plan
+shared_columns-requires c = subst (AreQueryAtoms c.args.bound.now.query.now) (sym c.as_slice-order.ensures) c.requires.plan
 
 pub invariant_of-course : goal.invariant_of-course
 invariant_of-course c = record {
-  atoms = subst (AreAtoms c.args.bound.now.query.now) (sym c.as_slice-order.ensures) c.requires.plan;
-  shares = ∣ subst (AreShared c.args.bound.now.query.now c.as_slice-order.result.now) (sym c.as_slice.ensures.value) c.in_ok-shared.ensures ∣₁;
+  atoms = subst (AreQueryAtoms c.args.bound.now.query.now) (sym c.as_slice-order.ensures) c.requires.plan;
+  shares = ∣ subst (AreSharedInParts c.args.bound.now.query.now c.as_slice-order.result.now) (sym c.as_slice.ensures.value) c.in_ok-shared.ensures ∣₁;
   linked = ∣ subst (λ order. AreWays c.args.bound.now.query.now c.args.bound.now.db.now order c.args.ways.now) (sym c.as_slice-order.ensures) c.requires.ways ∣₁;
 }
 
@@ -32,6 +32,6 @@ returns-in-Ok-clause-exactly c row =
     let tables = stored c.args.bound.now.db.now in
     let order = c.args.plan.now.order in
     let found = c.add_given-added.new.found in
-    let all = gives-all q tables order found (subst (λ p. IsAdded (Gives q tables [] p) [] found) c.as_slice-order.ensures (subst (λ old. IsAdded (Gives q tables [] c.as_slice-order.result.now) old found) c.new-found.ensures c.in-Ok.ensures.added)) row in
+    let all = gives-all q tables order found (subst (λ p. IsAdded (PlanGives q tables [] p) [] found) c.as_slice-order.ensures (subst (λ old. IsAdded (PlanGives q tables [] c.as_slice-order.result.now) old found) c.new-found.ensures c.in-Ok.ensures.added)) row in
     let same = c.listed.ensures.same row in
     ((λ m. all.0 (same.0 m)), (λ h. same.1 (all.1 h)))

@@ -5,11 +5,11 @@ use Rattle.std.proofs.lemmas.List.Elements.{Contains-get_or}
 use Rattle.cqa_model.specs.Database.{stored}
 use Rattle.plan_rows.specs.Taking.{placed}
 use Rattle.plan_rows.specs.Fitting.{Suits}
-use Rattle.plan_rows.specs.Over.{query_of, tables_of, rows_before}
+use Rattle.plan_rows.specs.Over.{query_of, stored_rows, rows_before}
 use Rattle.plan_rows.specs.Underway.{IsUnderway}
-use Rattle.fo_plan.specs.Holding.{HoldsWith, AllHoldWith}
+use Rattle.fo_plan.specs.Holding.{PlanHoldsWith, AllHoldWith}
 use Rattle.fo_plan.specs.Noted.{GivesNone}
-use Rattle.fo_plan.specs.Giving.{AreAll, IsAnswerRow, Gives, BlockGives, StepGives, IsAdded}
+use Rattle.fo_plan.specs.Giving.{AreAllAtoms, IsAnswerRow, PlanGives, BlockGives, StepGives, IsAdded}
 use Rattle.plan_rows.proofs.PlanParts.{rest-shorter, plan-split}
 use Rattle.fo_plan.proofs.Gathered.{all-more, block-fails, first-gives, block-one, block-split, some-plan, adds-none, add-block, add-one, none-given, moved-on, on-ok}
 use Rattle.plan_rows.proofs.Sharing.{first-atom, underway-more}
@@ -21,8 +21,8 @@ use Rattle.fo_plan.proofs.giving.+giving.Goals as goal
 pub add_block-returns-then-not-all_suit-clause-added : goal.add_block-returns-then-not-all_suit-clause-added
 add_block-returns-then-not-all_suit-clause-added t c =
     let step = c.args.step.now in
-    adds-none (BlockGives (query_of step) (tables_of step) (rows_before step) step.atom step.rest.now c.args.block.now) c.args.found.now
-    (block-fails (query_of step) (tables_of step) (rows_before step) step.atom step.rest.now c.args.block.now (λ s. false≢true (sym c.if-not-all_suit.true ∙ c.all_suit.ensures.1 s)))
+    adds-none (BlockGives (query_of step) (stored_rows step) (rows_before step) step.atom step.rest.now c.args.block.now) c.args.found.now
+    (block-fails (query_of step) (stored_rows step) (rows_before step) step.atom step.rest.now c.args.block.now (λ s. false≢true (sym c.if-not-all_suit.true ∙ c.all_suit.ensures.1 s)))
 
 pub add_block-invariant_of-rest : goal.add_block-invariant_of-rest
 add_block-invariant_of-rest t c =
@@ -37,13 +37,13 @@ add_block-invariant_of-rest t c =
 pub add_block-add_given-requires : goal.add_block-add_given-requires
 add_block-add_given-requires t c =
     let step = c.args.step.now in
-    (omega (arith, c.decreases), (all-more (query_of step) (tables_of step) (rows_before step) step.atom step.rest.now c.get.result.now c.requires.all, c.requires.notes))
+    (omega (arith, c.decreases), (all-more (query_of step) (stored_rows step) (rows_before step) step.atom step.rest.now c.get.result.now c.requires.all, c.requires.notes))
 
 pub add_block-returns-then-len-eq1-clause-added : goal.add_block-returns-then-len-eq1-clause-added
 add_block-returns-then-len-eq1-clause-added t c =
     let step = c.args.step.now in
     let q = query_of step in
-    let tables = tables_of step in
+    let tables = stored_rows step in
     let taken = rows_before step in
     let block = c.args.block.now in
     let first = c.get.result.now in
@@ -83,14 +83,14 @@ add_given-invariant_of-step-else-may_be_barren t c =
 pub add_given-returns-then-give_none-clause-added : goal.add_given-returns-then-give_none-clause-added
 add_given-returns-then-give_none-clause-added t c =
     let rest = c.args.rest.now in
-    adds-none (Gives rest.course.now.setting.bound.now.query.now (stored rest.course.now.setting.bound.now.db.now) (placed rest.taken.now) rest.plan.now) c.args.found.now
+    adds-none (PlanGives rest.course.now.setting.bound.now.query.now (stored rest.course.now.setting.bound.now.db.now) (placed rest.taken.now) rest.plan.now) c.args.found.now
     (λ row g. noted-none rest.course.now c.args.notes.now.barren (placed rest.taken.now) rest.plan.now row c.requires.notes.barren (c.give_none.ensures.0 c.if-give_none.true) rest.underway g)
 
 pub add_given-returns-else-may_be_barren-clause-added : goal.add_given-returns-else-may_be_barren-clause-added
 add_given-returns-else-may_be_barren-clause-added t c =
     let rest = c.args.rest.now in
     let q = rest.course.now.setting.bound.now.query.now in
-    subst (λ p. OnOk c.add_blocks.result (IsAdded (Gives q (stored rest.course.now.setting.bound.now.db.now) (placed rest.taken.now) p) c.args.found.now c.add_blocks.new.found))
+    subst (λ p. OnOk c.add_blocks.result (IsAdded (PlanGives q (stored rest.course.now.setting.bound.now.db.now) (placed rest.taken.now) p) c.args.found.now c.add_blocks.new.found))
     (sym (plan-split rest.plan.now (some-plan q rest.plan.now c.are_settled.result c.are_settled.ensures c.if-are_settled.false))) c.add_blocks.ensures.added
 
 pub add_given-add_blocks-requires : goal.add_given-add_blocks-requires
@@ -99,7 +99,7 @@ add_given-add_blocks-requires t c =
     let plan = rest.plan.now in
     let l = c.in-len1-up.len_at_least in (
       omega (arith, rest-shorter plan l, c.decreases),
-      (subst (AreAll rest.course.now.setting.bound.now.query.now (placed rest.taken.now)) (plan-split plan l) c.requires.all, c.requires.notes),
+      (subst (AreAllAtoms rest.course.now.setting.bound.now.query.now (placed rest.taken.now)) (plan-split plan l) c.requires.all, c.requires.notes),
     )
 
 pub add_given-add_apart-requires : goal.add_given-add_apart-requires
@@ -108,14 +108,14 @@ add_given-add_apart-requires t c =
     let plan = rest.plan.now in
     let l = c.in-len1-up.len_at_least in (
       omega (arith, rest-shorter plan l, c.decreases),
-      (subst (AreAll rest.course.now.setting.bound.now.query.now (placed rest.taken.now)) (plan-split plan l) c.requires.all, (c.may_be_barren.ensures c.if-may_be_barren.true, c.requires.notes)),
+      (subst (AreAllAtoms rest.course.now.setting.bound.now.query.now (placed rest.taken.now)) (plan-split plan l) c.requires.all, (c.may_be_barren.ensures c.if-may_be_barren.true, c.requires.notes)),
     )
 
 pub add_given-returns-then-may_be_barren-clause-added : goal.add_given-returns-then-may_be_barren-clause-added
 add_given-returns-then-may_be_barren-clause-added t c =
     let rest = c.args.rest.now in
     let q = rest.course.now.setting.bound.now.query.now in
-    subst (λ p. OnOk c.add_apart.result (IsAdded (Gives q (stored rest.course.now.setting.bound.now.db.now) (placed rest.taken.now) p) c.args.found.now c.add_apart.new.found))
+    subst (λ p. OnOk c.add_apart.result (IsAdded (PlanGives q (stored rest.course.now.setting.bound.now.db.now) (placed rest.taken.now) p) c.args.found.now c.add_apart.new.found))
     (sym (plan-split rest.plan.now (some-plan q rest.plan.now c.are_settled.result c.are_settled.ensures c.if-are_settled.false))) c.add_apart.ensures.added
 
 pub add_or_note-returns-then-is_empty-clause-added : goal.add_or_note-returns-then-is_empty-clause-added
@@ -150,13 +150,13 @@ add_tested-invariant_of-rest t c =
 pub add_tested-add_given-requires : goal.add_tested-add_given-requires
 add_tested-add_given-requires t c =
     let step = c.args.step.now in
-    (omega (arith, c.decreases), (all-more (query_of step) (tables_of step) (rows_before step) step.atom step.rest.now c.get.result.now c.requires.all, c.requires.notes))
+    (omega (arith, c.decreases), (all-more (query_of step) (stored_rows step) (rows_before step) step.atom step.rest.now c.get.result.now c.requires.all, c.requires.notes))
 
 pub add_tested-returns-clause-added : goal.add_tested-returns-clause-added
 add_tested-returns-clause-added t c =
     let step = c.args.step.now in
     let q = query_of step in
-    let tables = tables_of step in
+    let tables = stored_rows step in
     let taken = rows_before step in
     let F = step.atom in
     let rest = step.rest.now in
@@ -165,7 +165,7 @@ add_tested-returns-clause-added t c =
     let others = c.split_at-others.result.1 in
     let suits = subst (Suits q taken F) (get_or_from_slice_get block 0 first [] c.get.ensures) c.requires.first in
     on-ok c.keep_all.result
-    (λ kept. add-block (Gives q tables (record { atom = F; row = first } ∷ taken) rest) (λ row. AllHoldWith step row others) (BlockGives q tables taken F rest block)
+    (λ kept. add-block (PlanGives q tables (record { atom = F; row = first } ∷ taken) rest) (λ row. AllHoldWith step row others) (BlockGives q tables taken F rest block)
     c.args.found.now c.args.part.now c.add_given.new.found c.keep_all.new.found c.requires.none c.in_ok-add_given.ensures.added kept
     (first-gives q tables taken F rest first others block (block-split block first c.requires.some (sym (get_or_from_slice_get block 0 first first c.get.ensures)) ∙ ap (λ z. first ∷ z) (sym c.split_at-others.ensures.rest)) suits))
     c.keep_all.ensures.added
@@ -183,7 +183,7 @@ pub add_all_of-loop-block-init : goal.add_all_of-loop-block-init
 add_all_of-loop-block-init t c =
     let step = c.args.step.now in
     record {
-      added = added-starts c.args.blocks.now (IsAnswerRow (query_of step) (rows_before step)) (HoldsWith step) c.requires.sought
+      added = added-starts c.args.blocks.now (IsAnswerRow (query_of step) (rows_before step)) (PlanHoldsWith step) c.requires.sought
           c.start-spot.result.place c.args.found.now c.start-spot.ensures.passed;
       spot = c.start-spot.ensures.spot;
       right = c.requires.notes;
@@ -196,7 +196,7 @@ pub add_all_of-loop-block-preserved : goal.add_all_of-loop-block-preserved
 add_all_of-loop-block-preserved t c =
     let step = c.args.step.now in
     record {
-      added = added-on c.args.blocks.now (IsAnswerRow (query_of step) (rows_before step)) (HoldsWith step) c.requires.sought
+      added = added-on c.args.blocks.now (IsAnswerRow (query_of step) (rows_before step)) (PlanHoldsWith step) c.requires.sought
           c.loop-block.spot.place c.next.new.spot.place c.in-Some.block c.args.found.now c.loop-block.found c.add_block.new.found
           c.loop-block.invariant.added c.in-Some.ensures.next c.in_ok-add_block.ensures.added;
       spot = c.next.ensures.spot;
@@ -206,5 +206,5 @@ add_all_of-loop-block-preserved t c =
 pub add_all_of-returns-clause-added : goal.add_all_of-returns-clause-added
 add_all_of-returns-clause-added t c =
     let step = c.args.step.now in
-    added-ends c.args.blocks.now (IsAnswerRow (query_of step) (rows_before step)) (HoldsWith step) c.requires.sought
+    added-ends c.args.blocks.now (IsAnswerRow (query_of step) (rows_before step)) (PlanHoldsWith step) c.requires.sought
     c.loop-block.spot.place c.args.found.now c.loop-block.found c.loop-block.invariant.added c.in_default.ensures.next

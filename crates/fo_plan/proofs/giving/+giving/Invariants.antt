@@ -1,7 +1,7 @@
 use Rattle.std.proofs.Common.{◌+◌, ◌-◌, ◌*◌, length}
 use Rattle.plan_rows.specs.Over.{query_of, rows_before}
 use Rattle.fo_plan.specs.Enough.{IsSpot}
-use Rattle.fo_plan.specs.Holding.{HoldsWith}
+use Rattle.fo_plan.specs.Holding.{PlanHoldsWith}
 use Rattle.fo_plan.specs.Giving.{IsAnswerRow}
 use Rattle.fo_plan.specs.Noted.{AreRight}
 use Rattle.fo_plan.proofs.Adding.{AddedBefore}
@@ -31,7 +31,7 @@ decreases-add_tested l = 7 * length l.step.now.rest.now + 1
 -- what the blocks so far give has come
 abbrev pub invariant-add_all_of-loop-block : goal.invariant-add_all_of-loop-block
 invariant-add_all_of-loop-block l = record {
-  added : AddedBefore l.blocks (IsAnswerRow (query_of l.step) (rows_before l.step)) (HoldsWith l.step) l.spot.place l.fn.found l.found;
+  added : AddedBefore l.blocks (IsAnswerRow (query_of l.step) (rows_before l.step)) (PlanHoldsWith l.step) l.spot.place l.fn.found l.found;
   spot : IsSpot l.blocks l.spot;
   right : AreRight l.step.course.now l.notes;
 }

@@ -2,7 +2,7 @@ use Rattle.std.proofs.Common.{◌∙◌, sym, ap, map}
 use Rattle.std.proofs.lemmas.Bool.{false≢true}
 use Rattle.cqa_model.specs.Database.{stored}
 use Rattle.plan_rows.specs.Taking.{placed, taken_value}
-use Rattle.fo_plan.specs.Giving.{Gives}
+use Rattle.fo_plan.specs.Giving.{PlanGives}
 use Rattle.fo_plan.proofs.Gathered.{add-answer, adds-none}
 use Rattle.plan_rows.proofs.Sharing.{settled-plan}
 use Rattle.fo_plan.proofs.giving.add_settled.Goals as goal
@@ -23,5 +23,5 @@ returns-else-held-clause-added c =
     let q = rest.course.now.setting.bound.now.query.now in
     let tables = stored rest.course.now.setting.bound.now.db.now in
     let taken = placed rest.taken.now in
-    adds-none (Gives q tables taken rest.plan.now) c.args.found.now
+    adds-none (PlanGives q tables taken rest.plan.now) c.args.found.now
     (λ row g. false≢true (sym c.if-held.false ∙ c.holds_with-held.ensures.holds.1 (settled-plan q tables row c.new-none.result taken rest.plan.now c.requires.settled g.1)))

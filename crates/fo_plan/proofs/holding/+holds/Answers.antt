@@ -4,11 +4,11 @@ use Rattle.cqa_model.specs.Database.{stored}
 use Rattle.cqa_model.specs.Plan.{Fits, PlanHolds}
 use Rattle.plan_rows.specs.Taking.{placed}
 use Rattle.plan_rows.specs.Over.{query_of, rows_before}
-use Rattle.plan_rows.specs.Underway.{IsUnderway, IsKey}
+use Rattle.plan_rows.specs.Underway.{IsUnderway, IsMemoKey}
 use Rattle.plan_rows.proofs.Suiting.{suits-from}
 use Rattle.plan_rows.proofs.PlanParts.{rest-shorter, plan-split}
 use Rattle.plan_rows.proofs.Sharing.{first-atom, underway-more, still-right, keeps-right}
-use Rattle.fo_plan.specs.Holding.{HoldsWith}
+use Rattle.fo_plan.specs.Holding.{PlanHoldsWith}
 use Rattle.fo_plan.proofs.Looks.{of-look}
 use Rattle.fo_plan.proofs.Passing.{next-first, none-starts, none-on, none-ends}
 use Rattle.fo_plan.proofs.Reached.{held-reached}
@@ -34,7 +34,7 @@ holds_with-remembered-requires t c =
     let plan = rest.plan.now in
     let l = c.in-len1-up.len_at_least in (
       omega (arith, rest-shorter plan l, c.decreases),
-      (c.requires, subst (λ p. IsKey rest.course.now (placed rest.taken.now) p c.args.row.now c.in-Some.key) (plan-split plan l) c.in-Some.ensures),
+      (c.requires, subst (λ p. IsMemoKey rest.course.now (placed rest.taken.now) p c.args.row.now c.in-Some.key) (plan-split plan l) c.in-Some.ensures),
     )
 
 pub holds_with-returns-in-Some-clause-holds : goal.holds_with-returns-in-Some-clause-holds
@@ -67,25 +67,25 @@ remembered-returns-clause-memo t c =
 
 pub all_hold-loop-y-init : goal.all_hold-loop-y-init
 all_hold-loop-y-init t c = record {
-  held = held-starts (HoldsWith c.args.step.now c.args.row.now) c.args.block.now c.into_iter-y-iterator.result (search rules);
+  held = held-starts (PlanHoldsWith c.args.step.now c.args.row.now) c.args.block.now c.into_iter-y-iterator.result (search rules);
   right = c.requires;
 }
 
 pub all_hold-returns-then-not-row_holds-clause-holds : goal.all_hold-returns-then-not-row_holds-clause-holds
 all_hold-returns-then-not-row_holds-clause-holds t c = (
   (λ e. absurd (false≢true e)),
-  (λ all. absurd (held-not (HoldsWith c.args.step.now c.args.row.now) c.args.block.now c.loop-y.y-iterator c.next.new.self c.in-Some.y.now c.loop-y.invariant.held c.in-Some.ensures.steps (λ p. false≢true (sym c.if-not-row_holds.true ∙ c.row_holds.ensures.holds.1 p)) all)),
+  (λ all. absurd (held-not (PlanHoldsWith c.args.step.now c.args.row.now) c.args.block.now c.loop-y.y-iterator c.next.new.self c.in-Some.y.now c.loop-y.invariant.held c.in-Some.ensures.steps (λ p. false≢true (sym c.if-not-row_holds.true ∙ c.row_holds.ensures.holds.1 p)) all)),
 )
 
 pub all_hold-loop-y-preserved : goal.all_hold-loop-y-preserved
 all_hold-loop-y-preserved t c = record {
-  held = held-on (HoldsWith c.args.step.now c.args.row.now) c.args.block.now c.loop-y.y-iterator c.next.new.self c.in-Some.y.now c.loop-y.invariant.held c.in-Some.ensures.steps (c.row_holds.ensures.holds.0 c.if-not-row_holds.false);
+  held = held-on (PlanHoldsWith c.args.step.now c.args.row.now) c.args.block.now c.loop-y.y-iterator c.next.new.self c.in-Some.y.now c.loop-y.invariant.held c.in-Some.ensures.steps (c.row_holds.ensures.holds.0 c.if-not-row_holds.false);
   right = c.row_holds.ensures.memo;
 }
 
 pub all_hold-returns-clause-holds : goal.all_hold-returns-clause-holds
 all_hold-returns-clause-holds t c = (
-  (λ e. held-ends (HoldsWith c.args.step.now c.args.row.now) c.args.block.now c.loop-y.y-iterator c.loop-y.invariant.held c.in-None.ensures.steps.0),
+  (λ e. held-ends (PlanHoldsWith c.args.step.now c.args.row.now) c.args.block.now c.loop-y.y-iterator c.loop-y.invariant.held c.in-None.ensures.steps.0),
   (λ all. refl),
 )
 
@@ -118,25 +118,25 @@ pub some_block-returns-clause-holds : goal.some_block-returns-clause-holds
 some_block-returns-clause-holds t c =
     let blocks = c.new-blocks.result in
     let there = (held-reached c.args.step.now blocks c.args.row.now c.new-blocks.ensures).1 in
-    let some = first-some blocks.key.now blocks.rows (HoldsWith c.args.step.now c.args.row.now) c.first_of.result c.first_of.ensures.first in (
+    let some = first-some blocks.key.now blocks.rows (PlanHoldsWith c.args.step.now c.args.row.now) c.first_of.result c.first_of.ensures.first in (
       (λ e. there.0 (some.0 (sym c.is_some-held.ensures ∙ e))),
       (λ h. c.is_some-held.ensures ∙ some.1 (there.1 h)),
     )
 
 pub first_of-loop-block-init : goal.first_of-loop-block-init
 first_of-loop-block-init t c = record {
-  none = none-starts c.args.blocks.now (HoldsWith c.args.step.now c.args.row.now) c.requires.sought c.start-spot.result.place c.start-spot.ensures.passed;
+  none = none-starts c.args.blocks.now (PlanHoldsWith c.args.step.now c.args.row.now) c.requires.sought c.start-spot.result.place c.start-spot.ensures.passed;
   spot = c.start-spot.ensures.spot;
   right = c.requires.memo;
 }
 
 pub first_of-returns-then-all_hold-clause-first : goal.first_of-returns-then-all_hold-clause-first
 first_of-returns-then-all_hold-clause-first t c =
-    next-first c.args.blocks.now (HoldsWith c.args.step.now c.args.row.now) c.requires.sought c.loop-block.spot.place c.next.new.spot.place c.in-Some.block c.loop-block.invariant.none c.in-Some.ensures.next (c.all_hold.ensures.holds.0 c.if-all_hold.true)
+    next-first c.args.blocks.now (PlanHoldsWith c.args.step.now c.args.row.now) c.requires.sought c.loop-block.spot.place c.next.new.spot.place c.in-Some.block c.loop-block.invariant.none c.in-Some.ensures.next (c.all_hold.ensures.holds.0 c.if-all_hold.true)
 
 pub first_of-loop-block-preserved : goal.first_of-loop-block-preserved
 first_of-loop-block-preserved t c = record {
-  none = none-on c.args.blocks.now (HoldsWith c.args.step.now c.args.row.now) c.requires.sought c.loop-block.spot.place c.next.new.spot.place c.in-Some.block c.loop-block.invariant.none c.in-Some.ensures.next
+  none = none-on c.args.blocks.now (PlanHoldsWith c.args.step.now c.args.row.now) c.requires.sought c.loop-block.spot.place c.next.new.spot.place c.in-Some.block c.loop-block.invariant.none c.in-Some.ensures.next
       (λ h. false≢true (sym c.if-all_hold.false ∙ c.all_hold.ensures.holds.1 h));
   spot = c.next.ensures.spot;
   right = c.all_hold.ensures.memo;
@@ -144,4 +144,4 @@ first_of-loop-block-preserved t c = record {
 
 pub first_of-returns-clause-first : goal.first_of-returns-clause-first
 first_of-returns-clause-first t c =
-    none-ends c.args.blocks.now (HoldsWith c.args.step.now c.args.row.now) c.requires.sought c.loop-block.spot.place c.loop-block.invariant.none c.in_default.ensures.next
+    none-ends c.args.blocks.now (PlanHoldsWith c.args.step.now c.args.row.now) c.requires.sought c.loop-block.spot.place c.loop-block.invariant.none c.in_default.ensures.next

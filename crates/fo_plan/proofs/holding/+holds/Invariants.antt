@@ -1,6 +1,6 @@
 use Rattle.std.proofs.Common.{◌+◌, ◌-◌, ◌*◌, length}
 use Rattle.fo_plan.specs.Enough.{IsSpot}
-use Rattle.fo_plan.specs.Holding.{HoldsWith}
+use Rattle.fo_plan.specs.Holding.{PlanHoldsWith}
 use Rattle.plan_rows.specs.Underway.{IsRight}
 use Rattle.fo_plan.proofs.Passing.{NoneBefore}
 use Rattle.fo_plan.proofs.Gathered.{HeldSoFar}
@@ -27,14 +27,14 @@ decreases-first_of l = 6 * length l.step.now.rest.now + 3
 -- the rows so far hold
 abbrev pub invariant-all_hold-loop-y : goal.invariant-all_hold-loop-y
 invariant-all_hold-loop-y l = record {
-  held : HeldSoFar (HoldsWith l.step l.row) l.block l.y-iterator;
+  held : HeldSoFar (PlanHoldsWith l.step l.row) l.block l.y-iterator;
   right : IsRight l.step.course.now l.memo;
 }
 
 -- none of the blocks so far holds
 abbrev pub invariant-first_of-loop-block : goal.invariant-first_of-loop-block
 invariant-first_of-loop-block l = record {
-  none : NoneBefore l.blocks (HoldsWith l.step l.row) l.spot.place;
+  none : NoneBefore l.blocks (PlanHoldsWith l.step l.row) l.spot.place;
   spot : IsSpot l.blocks l.spot;
   right : IsRight l.step.course.now l.memo;
 }

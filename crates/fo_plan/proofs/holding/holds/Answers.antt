@@ -1,13 +1,13 @@
 use Rattle.std.proofs.Common.{◌↔◌, IsTrue, subst, sym, arith}
 use Rattle.cqa_model.specs.Plan.{HoldsOver}
 use Rattle.cqa_model.proofs.Classic.{mem-nil}
-use Rattle.plan_rows.specs.Left.{AreAtoms}
+use Rattle.plan_rows.specs.Left.{AreQueryAtoms}
 use Rattle.plan_rows.proofs.Sharing.{underway-starts, none-right}
 use Rattle.fo_plan.proofs.holding.holds.Goals as goal
 
 pub invariant_of-course : goal.invariant_of-course
 invariant_of-course c = record {
-  atoms = subst (AreAtoms c.args.bound.now.query.now) (sym c.as_slice-order.ensures) c.requires;
+  atoms = subst (AreQueryAtoms c.args.bound.now.query.now) (sym c.as_slice-order.ensures) c.requires;
   shares = ∣ (λ front rest e l. absurd (omega (arith, l))) ∣₁;
   linked = ∣ record { links = λ F l m. absurd (mem-nil l m); behind = λ front rest F e G m. absurd (mem-nil G m) } ∣₁;
 }

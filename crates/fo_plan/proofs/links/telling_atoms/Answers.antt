@@ -2,7 +2,7 @@ use Rattle.std.proofs.Common.{◌≡◌, ◌∙◌, ℕ, ◌+◌, get_or, take, 
 use Rattle.std.specs.declared.alloc.Global.{Global}
 use Rattle.std.proofs.lemmas.List.Elements.{Contains-get_or}
 use Rattle.cqa_value.proofs.Words.{Contains-from_take}
-use Rattle.plan_rows.specs.Left.{AreAtoms}
+use Rattle.plan_rows.specs.Left.{AreQueryAtoms}
 use Rattle.fo_plan.specs.Chaining.{GoesOn}
 use Rattle.fo_plan.proofs.Chained.{goes-nowhere, atoms-further, Contains-from_drop, drop-next}
 use Rattle.fo_plan.proofs.links.telling_atoms.Goals.{then-needs_links+in_ok-add_chain, else-needs_links}
@@ -29,14 +29,14 @@ add_chain-requires-clause-taken c = λ F m.
 pub returns-clause-atoms : goal.returns-clause-atoms
 returns-clause-atoms c =
     let q = c.args.setting.now.bound.now.query.now in
-    let taken : AreAtoms q c.in_ok-atoms.atoms.items = λ F m.
+    let taken : AreQueryAtoms q c.in_ok-atoms.atoms.items = λ F m.
     c.requires.order F (Contains-from_take c.args.place c.args.order.now F (subst (λ z. Contains z F) (c.in_ok-atoms.ensures.items ∙ c.split_at.ensures.front) m)) in
-    let later : AreAtoms q c.split_at-2.result.1.now = λ F m.
+    let later : AreQueryAtoms q c.split_at-2.result.1.now = λ F m.
     c.requires.order F (Contains-from_drop c.args.place c.args.order.now F (subst (λ z. Contains z F) c.split_at.ensures.back (Contains-from_drop 1 c.split_at.result.1.now F (subst (λ z. Contains z F) c.split_at-2.ensures.back m)))) in
     elim c.if-needs_links.branch [
       | then-needs_links+in_ok-add_chain w ↦
-          subst (λ (v : Vec ℕ Global). AreAtoms q v.items) (sym w.atoms-is) (atoms-further q c.split_at-2.result.1.now c.in_ok-atoms.atoms.items w.add_chain.new.taken.items later taken w.in_ok-add_chain.ensures)
-      | else-needs_links w ↦ subst (λ (v : Vec ℕ Global). AreAtoms q v.items) (sym w.atoms-is) taken
+          subst (λ (v : Vec ℕ Global). AreQueryAtoms q v.items) (sym w.atoms-is) (atoms-further q c.split_at-2.result.1.now c.in_ok-atoms.atoms.items w.add_chain.new.taken.items later taken w.in_ok-add_chain.ensures)
+      | else-needs_links w ↦ subst (λ (v : Vec ℕ Global). AreQueryAtoms q v.items) (sym w.atoms-is) taken
     ]
 
 pub returns-clause-behind : goal.returns-clause-behind

@@ -1,16 +1,16 @@
 use Rattle.std.proofs.Common.{◌≡◌, ◌<◌, ℕ, None, Some, length, get_or, Contains, sym, subst, ◌∙◌, arith}
-use Rattle.repair_clauses.specs.Spans.{IsIn, at}
+use Rattle.repair_clauses.specs.Spans.{IsInSpan, at}
 use Rattle.repair_clauses.proofs.Encoding.{no_span, numbers-small, span_read}
 use Rattle.pair_formula.proofs.Pairing.{number-none}
 use Rattle.pair_formula.proofs.formula.number_of.Goals as goal
 
 -- the span that is read has the place
 read : (c : goal.In-Some) → (c.in-Some.found < length c.as_slice-spans.result.now) × Contains c.args.blocks.now.spans (get_or c.as_slice-spans.result.now c.in-Some.found no_span) ×
-    IsIn (get_or c.as_slice-spans.result.now c.in-Some.found no_span) (at c.args.atom c.args.place)
+    IsInSpan (get_or c.as_slice-spans.result.now c.in-Some.found no_span) (at c.args.atom c.args.place)
 read c =
     let spans = c.args.blocks.now.spans in
     let k = c.in-Some.found in
-    subst (λ ss. (k < length ss) × Contains spans (get_or ss k no_span) × IsIn (get_or ss k no_span) (at c.args.atom c.args.place)) (sym c.as_slice-spans.ensures)
+    subst (λ ss. (k < length ss) × Contains spans (get_or ss k no_span) × IsInSpan (get_or ss k no_span) (at c.args.atom c.args.place)) (sym c.as_slice-spans.ensures)
     (span_read spans c.args.atom c.args.place k ((c.find_span.ensures k).0 c.in-Some.is))
 
 pub offset_bounds-spans-found : goal.offset_bounds-spans-found
@@ -34,7 +34,7 @@ pub returns-in-Some : goal.returns-in-Some
 returns-in-Some c =
     let spans = c.args.blocks.now.spans in
     let k = c.in-Some.found in
-    let r = subst (λ ss. (k < length ss) × Contains spans (get_or ss k no_span) × IsIn (get_or ss k no_span) (at c.args.atom c.args.place)) (sym c.as_slice-spans.ensures)
+    let r = subst (λ ss. (k < length ss) × Contains spans (get_or ss k no_span) × IsInSpan (get_or ss k no_span) (at c.args.atom c.args.place)) (sym c.as_slice-spans.ensures)
     (span_read spans c.args.atom c.args.place k ((c.find_span.ensures k).0 c.in-Some.is)) in
     (get_or c.as_slice-spans.result.now k no_span, r.1, r.2, c.number_in.ensures)
 

@@ -1,7 +1,7 @@
 use Rattle.std.proofs.Common.{sym, subst, arith}
 use Rattle.join_access.specs.Listing.{names_of}
 use Rattle.row_witnesses.proofs.Told.{all_names}
-use Rattle.repair_clauses.specs.Spans.{IsNumbering}
+use Rattle.repair_clauses.specs.Spans.{IsSpanNumbering}
 use Rattle.pair_formula.specs.Full.{AreFullSpans}
 use Rattle.pair_formula.proofs.FullSpans.{full-joined, full-numbering}
 use Rattle.pair_formula.proofs.full.full_blocks.Goals as goal
@@ -17,7 +17,7 @@ invariant_of-result c =
     let b = c.in_ok-vars.ensures.small in
     let full = full-joined q db all c.requires c.in_ok-first.first vars c.full_of_atom.new.spans.items c.full_of_atom-2.new.spans.items c.in_ok-first.ensures.blocks c.in_ok-vars.ensures.blocks (omega (arith, a, b)) in
     record {
-      kept = subst (λ ss. IsNumbering ss vars) (sym c.from_vec.ensures) (subst (λ ss. IsNumbering ss vars) (sym c.in_ok-append.ensures.items)
+      kept = subst (λ ss. IsSpanNumbering ss vars) (sym c.from_vec.ensures) (subst (λ ss. IsSpanNumbering ss vars) (sym c.in_ok-append.ensures.items)
           (full-numbering q db w.row.now all (all_names w) vars _ full w.bound.now.database));
     }
 

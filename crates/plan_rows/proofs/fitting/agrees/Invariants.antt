@@ -1,6 +1,6 @@
-use Rattle.plan_rows.specs.Fitting.{Agrees}
+use Rattle.plan_rows.specs.Fitting.{AgreesInFirst}
 use Rattle.plan_rows.proofs.fitting.agrees.Given as goal
 
 -- the columns so far
 abbrev pub invariant-loop-i : goal.invariant-loop-i
-invariant-loop-i l = Agrees l.setting.bound.now.query.now l.atom l.x l.other l.y l.i
+invariant-loop-i l = AgreesInFirst l.setting.bound.now.query.now l.atom l.x l.other l.y l.i

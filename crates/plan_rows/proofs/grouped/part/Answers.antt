@@ -1,7 +1,7 @@
 use Rattle.std.proofs.Common.{◌∙◌, ◌+◌, get_or, take, sym, subst, arith}
 use Rattle.std.proofs.lemmas.Bool.{false≢true}
 use Rattle.std.proofs.lemmas.List.Elements.{Contains-get_or}
-use Rattle.plan_rows.specs.Grouping.{IsParted}
+use Rattle.plan_rows.specs.Grouping.{IsGroupParted}
 use Rattle.plan_rows.proofs.Grouping.{parted-none, parted-left, parted-right, parted-all}
 use Rattle.plan_rows.proofs.grouped.part.Goals.{then-has+in_ok-push, else-has+in_ok-push-2}
 use Rattle.plan_rows.proofs.grouped.part.Goals as goal
@@ -22,10 +22,10 @@ loop-atom-preserved c =
     let others = c.loop-atom.others.items in
     elim c.if-has.branch [
       | then-has+in_ok-push w ↦
-          subst (λ v. IsParted group (take (at + 1) atoms) old v.items c.if-has.others.items) (sym w.order-is) (subst (λ v. IsParted group (take (at + 1) atoms) old w.push.new.self.items v.items) (sym w.others-is)
+          subst (λ v. IsGroupParted group (take (at + 1) atoms) old v.items c.if-has.others.items) (sym w.order-is) (subst (λ v. IsGroupParted group (take (at + 1) atoms) old w.push.new.self.items v.items) (sym w.others-is)
           (parted-left group atoms old order others w.push.new.self.items at c.loop-atom-test.true c.loop-atom.invariant (c.has.ensures.0 w.if-has.true) w.in_ok-push.ensures.items))
       | else-has+in_ok-push-2 w ↦
-          subst (λ v. IsParted group (take (at + 1) atoms) old v.items c.if-has.others.items) (sym w.order-is) (subst (λ v. IsParted group (take (at + 1) atoms) old order v.items) (sym w.others-is)
+          subst (λ v. IsGroupParted group (take (at + 1) atoms) old v.items c.if-has.others.items) (sym w.order-is) (subst (λ v. IsGroupParted group (take (at + 1) atoms) old order v.items) (sym w.others-is)
           (parted-right group atoms old order others w.push-else-has.new.self.items at c.loop-atom-test.true c.loop-atom.invariant (λ h. false≢true (sym w.if-has.false ∙ c.has.ensures.1 h)) w.in_ok-push-2.ensures.items))
     ]
 

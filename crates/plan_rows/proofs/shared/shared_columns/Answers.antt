@@ -1,7 +1,7 @@
 use Rattle.std.proofs.Common.{◌∷◌, [], length, ap, sym, subst, arith, Contains}
 use Rattle.std.proofs.lemmas.List.{length-append}
 use Rattle.cqa_value.proofs.Words.{Contains-from_take}
-use Rattle.plan_rows.specs.Left.{AreShared}
+use Rattle.plan_rows.specs.Left.{AreSharedInParts}
 use Rattle.plan_rows.proofs.Columns.{drop-member, shared-more}
 use Rattle.plan_rows.proofs.shared.shared_columns.Goals as goal
 
@@ -20,6 +20,6 @@ loop-count-preserved c =
     let s = c.loop-count.invariant.size in
     record {
       size = omega (arith, e, l, s);
-      shared = subst (AreShared c.args.setting.now.bound.now.query.now c.args.order.now) (sym c.in_ok-push.ensures.items)
+      shared = subst (AreSharedInParts c.args.setting.now.bound.now.query.now c.args.order.now) (sym c.in_ok-push.ensures.items)
           (shared-more c.args.setting.now.bound.now.query.now c.args.order.now shared columns c.loop-count.count c.split_at.result.0.now c.split_at.result.1.now c.loop-count.invariant.size c.split_at.ensures.front c.split_at.ensures.back c.loop-count.invariant.shared c.in_ok-shared_of.ensures);
     }

@@ -1,9 +1,9 @@
 use Rattle.std.proofs.Common.{ℕ, [], length, map, get_or, Contains, refl, ◌∙◌, ap, subst, arith}
 use Rattle.cqa_model.specs.declared.query.RowId.{RowId}
-use Rattle.range_ask.specs.Ranges.{names_in}
 use Rattle.range_ask.specs.Walking.{wide_of}
 use Rattle.range_ask.proofs.Numbered.{wide-below, wide-picks}
 use Rattle.range_ask.proofs.ends.ends_of.Goals as goal
+use Rattle.table_blocks.specs.Tables.{names_in}
 
 pub picked-requires : goal.picked-requires
 picked-requires c =

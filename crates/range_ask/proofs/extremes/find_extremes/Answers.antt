@@ -5,7 +5,7 @@ use Rattle.row_cursor.specs.Blocks.{blocks_of}
 use Rattle.table_blocks.specs.Tables.{rows_at, key_at}
 use Rattle.range_ask.specs.Ranges.{meets}
 use Rattle.range_ask.specs.Picks.{turned}
-use Rattle.range_ask.specs.Finding.{IsMet}
+use Rattle.range_ask.specs.Finding.{IsMetSoFar}
 use Rattle.range_ask.specs.Reaching.{AreExtremes}
 use Rattle.range_ask.proofs.Blocked.{parted}
 use Rattle.range_ask.proofs.Chosen.{avoided-in, spot-in, near-fits}
@@ -34,7 +34,7 @@ loop-row-init c =
     let all = blocks_of key rows in
     let whole = parted c.args.db.now c.args.table c.rows-left.result c.rows-left.ensures.is c.rows-left.ensures.in_order in
     let are = whole.blocks_are in
-    read-first key rows all are (λ front. AreExtremes look.way p look.col rows front c.blank-ends.result) (λ block n. IsMet look.way p look.col block n c.begun-held.result) c.in-Some.first.now c.next.new.self c.begun-held.result.start c.begun-held.result.read
+    read-first key rows all are (λ front. AreExtremes look.way p look.col rows front c.blank-ends.result) (λ block n. IsMetSoFar look.way p look.col block n c.begun-held.result) c.in-Some.first.now c.next.new.self c.begun-held.result.start c.begun-held.result.read
     (sym c.rows-left.ensures.is ∙ c.in-Some.ensures.steps) c.begun-held.ensures.start c.begun-held.ensures.read
     (extremes-none look.way p look.col rows c.blank-ends.result c.blank-ends.ensures.avoids c.blank-ends.ensures.none_avoids c.blank-ends.ensures.meets c.blank-ends.ensures.none_meets c.blank-ends.ensures.top c.blank-ends.ensures.wide) (λ block e. c.begun-held.ensures.met block e)
 
@@ -177,7 +177,7 @@ loop-row-preserved-then-same_key c =
     let are = whole.blocks_are in
     let i = c.loop-row.invariant in
     let same_key_is = c.as_slice-key.ensures ∙ c.schema.ensures.key in
-    read-on key rows all are _ _ _ _ _ _ i c.in-Some-next.row.now c.next-in-loop-row.new.self c.in-Some-next.ensures.steps (λ block n. IsMet look.way p look.col block n c.read_row-held.result) c.read_row-held.result.start c.read_row-held.result.read
+    read-on key rows all are _ _ _ _ _ _ i c.in-Some-next.row.now c.next-in-loop-row.new.self c.in-Some-next.ensures.steps (λ block n. IsMetSoFar look.way p look.col block n c.read_row-held.result) c.read_row-held.result.start c.read_row-held.result.read
     c.read_row-held.ensures.start c.read_row-held.ensures.read (λ block b e. c.read_row-held.ensures.met block b e)
     (subst (λ k. SharesKey k c.loop-row.last.now c.in-Some-next.row.now) same_key_is (c.same_key.ensures.0 c.if-same_key.true))
 
@@ -192,7 +192,7 @@ loop-row-preserved c =
     let are = whole.blocks_are in
     let i = c.loop-row.invariant in
     let same_key_is = c.as_slice-key.ensures ∙ c.schema.ensures.key in
-    read-closed key rows all are _ _ _ _ _ _ i c.in-Some-next.row.now c.next-in-loop-row.new.self c.in-Some-next.ensures.steps (λ front. AreExtremes look.way p look.col rows front c.close.new.ends) (λ block n. IsMet look.way p look.col block n c.begun-held-else-same_key.result)
+    read-closed key rows all are _ _ _ _ _ _ i c.in-Some-next.row.now c.next-in-loop-row.new.self c.in-Some-next.ensures.steps (λ front. AreExtremes look.way p look.col rows front c.close.new.ends) (λ block n. IsMetSoFar look.way p look.col block n c.begun-held-else-same_key.result)
     c.begun-held-else-same_key.result.start c.begun-held-else-same_key.result.read c.begun-held-else-same_key.ensures.start c.begun-held-else-same_key.ensures.read (c.in_ok-close.ensures p rows)
     (λ block e. c.begun-held-else-same_key.ensures.met block e)
     (λ s. absurd (clash c.same_key.result (c.same_key.ensures.1 (subst (λ k. SharesKey k c.loop-row.last.now c.in-Some-next.row.now) (sym same_key_is) s)) c.if-same_key.false))

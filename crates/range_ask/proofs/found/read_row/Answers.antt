@@ -1,6 +1,6 @@
 use Rattle.std.proofs.Common.{◌≡◌, ◌+◌, true, refl, sym, ◌∙◌, ap, subst}
 use Rattle.range_ask.specs.Ranges.{meets}
-use Rattle.range_ask.specs.Finding.{row_at, IsFurthest}
+use Rattle.range_ask.specs.Finding.{row_in_block, IsFurthest}
 use Rattle.range_ask.proofs.Further.{missing-more}
 use Rattle.range_ask.proofs.found.read_row.Goals as goal
 
@@ -11,7 +11,7 @@ returns-then-meets-clause-met c =
     let n = c.args.held.read in
     let turn = c.turned-back.ensures in
     λ block met e.
-    let t : p (row_at block n) ≡ true = ap p (sym e) ∙ (sym c.meets.ensures ∙ c.if-meets.true) in
+    let t : p (row_in_block block n) ≡ true = ap p (sym e) ∙ (sym c.meets.ensures ∙ c.if-meets.true) in
     record {
       read_is = refl;
       missing = missing-more p block n c.args.held.missing t met.missing;

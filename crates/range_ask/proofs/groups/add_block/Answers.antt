@@ -2,7 +2,7 @@ use Rattle.std.proofs.Common.{◌≡◌, ◌+◌, ◌<◌, inl, inr, suc, false,
 use Rattle.std.proofs.lemmas.Option.{get_or_from_slice_get}
 use Rattle.cqa_value.proofs.Words.{Contains-slice_get}
 use Rattle.range_ask.specs.Ranges.{cell, meets}
-use Rattle.range_ask.specs.Finding.{row_at}
+use Rattle.range_ask.specs.Finding.{row_in_block}
 use Rattle.range_ask.proofs.Membership.{AreTallying, all-begin, all-end, all-miss, all-more}
 use Rattle.range_ask.proofs.groups.add_block.Goals as goal
 
@@ -25,7 +25,7 @@ loop-at-preserved c =
     let here = Contains-slice_get block 0 first c.get.ensures in
     let n = c.loop-at.at in
     let row = c.get-in-loop-at.result.now in
-    let there : row_at block n ≡ row = get_or_from_slice_get block n row [] c.get-in-loop-at.ensures in
+    let there : row_in_block block n ≡ row = get_or_from_slice_get block n row [] c.get-in-loop-at.ensures in
     let within : n < length block = omega (arith, c.loop-at-test.true, c.len-at-end.ensures) in
     let next : suc n ≡ n + 1 = omega arith in
     let new = c.add_met.new.groups in

@@ -2,7 +2,7 @@ use Rattle.std.proofs.Common.{◌≡◌, refl, sym, ◌∙◌, ap, subst, Some, 
 use Rattle.std.specs.Option.{IsSome, option_copied_mut}
 use Rattle.std.specs.BTreeMap.{get, UpdatesBy}
 use Rattle.cqa_value.specs.contracts.value.ValueOrd.TheImpl.{cmp-value as derived_cmp}
-use Rattle.range_ask.specs.Tallying.{IsMore, HasMore}
+use Rattle.range_ask.specs.Tallying.{IsMore, HasRowMore}
 use Rattle.range_ask.proofs.Keyed.{more-updates}
 use Rattle.range_ask.proofs.groups.add_row.Goals as goal
 
@@ -25,7 +25,7 @@ returns c =
     let same : key ≡ value = c.in_ok-copy.ensures in
     let updates : UpdatesBy derived_cmp.it (derived_cmp.it key) old new (Some tally) = c.in_ok-insert.ensures.updates in
     let none : get derived_cmp.it c.args.groups.now value ≡ None = sym c.get_mut.ensures.value ∙ ap option_copied_mut c.in_default.is in
-    subst (λ m. HasMore c.args.goal.now c.args.turn c.args.row.now value m new) c.get_mut.follows.holds-at-none
+    subst (λ m. HasRowMore c.args.goal.now c.args.turn c.args.row.now value m new) c.get_mut.follows.holds-at-none
     (more-updates c.args.goal.now c.args.turn c.args.row.now value old new tally
     (subst (λ o. IsMore c.args.goal.now c.args.turn c.args.row.now o tally) (sym (ap (λ m. get derived_cmp.it m value) c.get_mut.follows.holds-at-none ∙ none)) c.more-2.ensures)
     (subst (λ k. UpdatesBy derived_cmp.it (derived_cmp.it k) old new (Some tally)) same updates))

@@ -1,6 +1,7 @@
 use Rattle.std.proofs.Common.{sym, ◌∙◌, ap, subst}
-use Rattle.range_ask.specs.Ranges.{names_in, IsRange}
+use Rattle.range_ask.specs.Ranges.{IsRange}
 use Rattle.range_ask.proofs.range.range_of.Goals as goal
+use Rattle.table_blocks.specs.Tables.{names_in}
 
 pub returns : goal.returns
 returns c =

@@ -7,7 +7,7 @@ use Rattle.cqa_model.specs.declared.aggregate.End.TheVariants.{Number}
 use Rattle.range_ask.specs.declared.total.Total.{Total}
 use Rattle.range_ask.specs.Picks.{worth}
 use Rattle.range_ask.specs.Finding.{added}
-use Rattle.range_ask.specs.Walking.{IsTotal, IsWithin}
+use Rattle.range_ask.specs.Walking.{IsTotal, IsWithinBlocks}
 use Rattle.range_ask.specs.Tallying.{AreSums}
 use Rattle.range_ask.proofs.Adding.{passed-sum}
 use Rattle.range_ask.proofs.Grouped.{whole-sums, total-ends}
@@ -30,5 +30,5 @@ returns-in-Count c =
     λ p blocks few w.
     let sums : AreSums (worth p (added c.args.goal.now)) blocks t = subst (AreSums (worth p (added c.args.goal.now)) blocks) (sym is) (whole-sums c.args.goal.now adds p blocks c.args.tally w) in
     total-ends c.args.goal.now adds c.args.tally _ _
-    (ap Number (to_z-of_z w128 c.sum_of-low.result lows ∙ (c.sum_of-low.ensures (length blocks) few (subst (IsWithin (length blocks)) (sym from) sums.low.within) ∙ (from ∙ ap (λ (s : Total). s.low +ℤ s.least) is))))
-    (ap Number (to_z-of_z w128 c.sum_of-high.result highs ∙ (c.sum_of-high.ensures (length blocks) few (subst (IsWithin (length blocks)) (sym to) sums.high.within) ∙ (to ∙ ap (λ (s : Total). s.high +ℤ s.most) is))))
+    (ap Number (to_z-of_z w128 c.sum_of-low.result lows ∙ (c.sum_of-low.ensures (length blocks) few (subst (IsWithinBlocks (length blocks)) (sym from) sums.low.within) ∙ (from ∙ ap (λ (s : Total). s.low +ℤ s.least) is))))
+    (ap Number (to_z-of_z w128 c.sum_of-high.result highs ∙ (c.sum_of-high.ensures (length blocks) few (subst (IsWithinBlocks (length blocks)) (sym to) sums.high.within) ∙ (to ∙ ap (λ (s : Total). s.high +ℤ s.most) is))))

@@ -2,7 +2,7 @@ use Rattle.std.proofs.Common.{◌^◌, ◌<◌, rules, arith, refl, sym, ◌∙�
 use mir.Val.{SFits, Fits}
 use mir.Syntax.{w32, w64, w128}
 use Rattle.std.proofs.lemmas.Int.{to_z-of_z}
-use Rattle.range_ask.specs.Walking.{IsWithin}
+use Rattle.range_ask.specs.Walking.{IsWithinBlocks}
 use Rattle.range_ask.specs.Tallying.{AtMostℤ, AtLeastℤ}
 use Rattle.range_ask.proofs.Walked.{within-one}
 use Rattle.range_ask.proofs.Adding.{adding-more, adding-open, either-is, saturated-sum}
@@ -21,7 +21,7 @@ returns-then-total-turn c =
     adding-more f p adds c.args.turn.sure front block h n l t c.args.turn.number is c.args.worth e c.args.total _ c.if-total-turn.true refl (to_z-of_z w128 c.args.total.low low) (to_z-of_z w128 c.args.total.high high)
     (either-is AtMostℤ _ _ _ _ _ _ (to_z-of_z w64 c.args.total.least least) (to_z-of_z w64 c.args.worth worth) (sym (to_z-of_z w64 c.lesser.result lesser)) c.lesser.ensures)
     (either-is AtLeastℤ _ _ _ _ _ _ (to_z-of_z w64 c.args.total.most most) (to_z-of_z w64 c.args.worth worth) (sym (to_z-of_z w64 c.greater.result greater)) c.greater.ensures)
-    (subst (IsWithin 1) (sym (to_z-of_z w64 c.lesser.result lesser)) (within-one c.lesser.result lesser)) (subst (IsWithin 1) (sym (to_z-of_z w64 c.greater.result greater)) (within-one c.greater.result greater)) a
+    (subst (IsWithinBlocks 1) (sym (to_z-of_z w64 c.lesser.result lesser)) (within-one c.lesser.result lesser)) (subst (IsWithinBlocks 1) (sym (to_z-of_z w64 c.greater.result greater)) (within-one c.greater.result greater)) a
 
 pub returns : goal.returns
 returns c =
@@ -45,4 +45,4 @@ returns c =
     (λ w. saturated-sum (length front) few c.args.total.high c.args.total.most c.saturating_add-2.result high most highs c.saturating_add-2.ensures w)
     (either-is AtMostℤ _ _ _ _ _ _ (to_z-of_z w64 c.beside-other.result other) same (sym (to_z-of_z w64 c.lesser-2.result lesser)) c.lesser-2.ensures)
     (either-is AtLeastℤ _ _ _ _ _ _ (to_z-of_z w64 c.beside-other.result other) same (sym (to_z-of_z w64 c.greater-2.result greater)) c.greater-2.ensures)
-    (subst (IsWithin 1) (sym (to_z-of_z w64 c.lesser-2.result lesser)) (within-one c.lesser-2.result lesser)) (subst (IsWithin 1) (sym (to_z-of_z w64 c.greater-2.result greater)) (within-one c.greater-2.result greater)) a
+    (subst (IsWithinBlocks 1) (sym (to_z-of_z w64 c.lesser-2.result lesser)) (within-one c.lesser-2.result lesser)) (subst (IsWithinBlocks 1) (sym (to_z-of_z w64 c.greater-2.result greater)) (within-one c.greater-2.result greater)) a

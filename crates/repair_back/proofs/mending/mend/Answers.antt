@@ -1,21 +1,21 @@
 use Rattle.std.proofs.Common.{sym, subst}
 use Rattle.cqa_model.specs.Plan.{IsPlanOf}
-use Rattle.plan_rows.specs.Left.{AreAtoms, AreShared}
+use Rattle.plan_rows.specs.Left.{AreQueryAtoms, AreSharedInParts}
 use Rattle.plan_rows.specs.Links.{AreWays}
 use Rattle.repair_back.specs.Apart.{AreEnough}
 use Rattle.repair_back.proofs.Apart.{plan-atoms}
 use Rattle.repair_back.proofs.mending.mend.Goals as goal
 
 pub enough_of-requires : goal.enough_of-requires
-enough_of-requires c = subst (AreAtoms c.args.bound.now.query.now) (sym c.as_slice-order.ensures) (plan-atoms c.args.bound.now.query.now c.args.plan.now.order c.requires.plan)
+enough_of-requires c = subst (AreQueryAtoms c.args.bound.now.query.now) (sym c.as_slice-order.ensures) (plan-atoms c.args.bound.now.query.now c.args.plan.now.order c.requires.plan)
 
 pub shared_or_none-shared-requires : goal.shared_or_none-shared-requires
-shared_or_none-shared-requires c = subst (AreAtoms c.args.bound.now.query.now) (sym c.as_slice-order.ensures) (plan-atoms c.args.bound.now.query.now c.args.plan.now.order c.requires.plan)
+shared_or_none-shared-requires c = subst (AreQueryAtoms c.args.bound.now.query.now) (sym c.as_slice-order.ensures) (plan-atoms c.args.bound.now.query.now c.args.plan.now.order c.requires.plan)
 
 pub invariant_of-course : goal.invariant_of-course
 invariant_of-course c = record {
-  atoms = subst (AreAtoms c.args.bound.now.query.now) (sym c.as_slice-order.ensures) (plan-atoms c.args.bound.now.query.now c.args.plan.now.order c.requires.plan);
-  shares = ∣ subst (AreShared c.args.bound.now.query.now c.as_slice-order.result.now) (sym c.as_slice.ensures.value) c.shared_or_none-shared.ensures ∣₁;
+  atoms = subst (AreQueryAtoms c.args.bound.now.query.now) (sym c.as_slice-order.ensures) (plan-atoms c.args.bound.now.query.now c.args.plan.now.order c.requires.plan);
+  shares = ∣ subst (AreSharedInParts c.args.bound.now.query.now c.as_slice-order.result.now) (sym c.as_slice.ensures.value) c.shared_or_none-shared.ensures ∣₁;
   linked = ∣ subst (λ order. AreWays c.args.bound.now.query.now c.args.bound.now.db.now order c.args.ways.now) (sym c.as_slice-order.ensures) c.requires.ways ∣₁;
 }
 

@@ -1,7 +1,7 @@
 use Rattle.std.proofs.Common.{◌≡◌, ◌++◌, take}
 use Rattle.repair_back.specs.Flags.{places_from}
-use Rattle.repair_back.specs.Results.{names_in}
 use Rattle.repair_back.proofs.repair.add_names.Given as goal
+use Rattle.table_blocks.specs.Tables.{names_in}
 
 -- the names of the rows so far
 abbrev pub invariant-loop-place : goal.invariant-loop-place

@@ -1,5 +1,5 @@
 use Rattle.std.proofs.Common.{◌≡◌, ◌+◌, ◌-◌, ◌<◌, suc, length, sym, subst, arith}
-use Rattle.repair_clauses.specs.Spans.{at, HasSpan, IsIn}
+use Rattle.repair_clauses.specs.Spans.{at, HasSpan, IsInSpan}
 use Rattle.repair_clauses.proofs.Atoms.{based-whole}
 use Rattle.repair_clauses.proofs.Encoding.{negatives-more, place_read}
 use Rattle.repair_clauses.proofs.clauses.fill_witness.Goals as goal
@@ -16,5 +16,5 @@ loop-at-preserved c =
     let blocks = c.args.blocks.now in
     let there : i < length c.args.names.now = omega arith in
     negatives-more blocks.spans c.args.names.now i c.loop-at.lits.items c.push.new.self.items c.number.result (based-whole 0 blocks.vars blocks.spans blocks.kept.based) c.requires.covered c.loop-at.invariant there
-    (λ s m. subst (λ p. IsIn s (at i p) → c.number.result ≡ suc (s.base + (p - s.start))) (place_read c.args.names.now i there) (c.number.ensures s m))
+    (λ s m. subst (λ p. IsInSpan s (at i p) → c.number.result ≡ suc (s.base + (p - s.start))) (place_read c.args.names.now i there) (c.number.ensures s m))
     c.in_ok-push.ensures.items

@@ -1,6 +1,6 @@
 use Rattle.std.proofs.Common.{◌≡◌, ◌≤◌, ◌+◌, ◌*◌, ◌++◌, ◌∙◌, length, ap, sym, subst, arith}
 use Rattle.cqa_model.specs.declared.limits.TheConstants.{MOST_ATOMS, MOST_ROWS}
-use Rattle.repair_clauses.specs.Spans.{AreSpansTo, IsNumbering}
+use Rattle.repair_clauses.specs.Spans.{AreSpansTo, IsSpanNumbering}
 use Rattle.repair_clauses.proofs.Atoms.{spans-none}
 use Rattle.repair_clauses.proofs.Encoding.{numbering}
 use Rattle.repair_clauses.proofs.relevant.relevant_blocks.Goals as goal
@@ -36,7 +36,7 @@ invariant_of-result c =
     let small = c.loop-at.invariant.small in
     let atoms = q.kept.size.1 in
     let few : c.loop-at.vars ≤ MOST_ATOMS * MOST_ROWS = omega (arith, small, atoms, ended) in
-    record { kept = subst (λ ss. IsNumbering ss c.loop-at.vars) (sym c.from_vec.ensures) (numbering q b.db.now w.row.now c.loop-at.vars spans blocks b.database few) }
+    record { kept = subst (λ ss. IsSpanNumbering ss c.loop-at.vars) (sym c.from_vec.ensures) (numbering q b.db.now w.row.now c.loop-at.vars spans blocks b.database few) }
 
 pub returns : goal.returns
 returns c =

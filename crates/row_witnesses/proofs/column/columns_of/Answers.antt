@@ -1,6 +1,6 @@
 use Rattle.std.proofs.Common.{◌<◌, ◌++◌, ◌∷◌, [], ◌∙◌, List, ℕ, ap, length, length-append, sym, subst, arith}
 use Rattle.join_access.specs.Listing.{names_of}
-use Rattle.row_witnesses.specs.Columns.{AreColumns}
+use Rattle.row_witnesses.specs.Columns.{AreColumnsOfAtoms}
 use Rattle.row_witnesses.proofs.Columns.{columns_more}
 use Rattle.row_witnesses.proofs.column.columns_of.Goals as goal
 
@@ -22,11 +22,11 @@ loop-atom-preserved c =
     let pushed = c.in_ok-push.ensures.items ∙ ap (λ ps. old ++ ps ∷ []) c.from_vec.ensures in
     record {
       size = let long = ap length pushed in let more = length-append old (places ∷ []) in let size = i.size in omega (arith, long, more, size);
-      columns = subst (AreColumns all) (sym pushed) (columns_more all old places c.loop-atom.atom i.size i.columns c.in_ok-column.ensures);
+      columns = subst (AreColumnsOfAtoms all) (sym pushed) (columns_more all old places c.loop-atom.atom i.size i.columns c.in_ok-column.ensures);
     }
 
 pub returns-clause-size : goal.returns-clause-size
 returns-clause-size c = let size = c.loop-atom.invariant.size in let same = ap length c.from_vec-2.ensures in omega (arith, size, same)
 
 pub returns-clause-columns : goal.returns-clause-columns
-returns-clause-columns c = subst (AreColumns (names_of c.args.witnesses.now)) (sym c.from_vec-2.ensures) c.loop-atom.invariant.columns
+returns-clause-columns c = subst (AreColumnsOfAtoms (names_of c.args.witnesses.now)) (sym c.from_vec-2.ensures) c.loop-atom.invariant.columns

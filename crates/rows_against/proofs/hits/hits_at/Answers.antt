@@ -4,7 +4,7 @@ use Rattle.join_access.specs.Listing.{names_of}
 use Rattle.row_witnesses.specs.Columns.{place_at}
 use Rattle.row_witnesses.proofs.Told.{all_names}
 use Rattle.rows_against.specs.Hits.{IsHitBy}
-use Rattle.rows_against.specs.Numbers.{AreRivals, name_of}
+use Rattle.rows_against.specs.Numbers.{AreRivals, row_name}
 use Rattle.rows_against.proofs.Pushing.{pushed}
 use Rattle.rows_against.proofs.Reading.{its_hit, its_long, its_place}
 use Rattle.rows_against.proofs.hits.hits_at.Goals as goal
@@ -49,6 +49,6 @@ loop-witness-preserved c =
     (c.witness-item.is ∙ ap (λ ws. get_or ws at one) e) c.args.names.now places found rivals c.place_of-place.result hit c.place_of-place.ensures c.rival_at.ensures in
     record {
       size = let long = ap length items in let more = length-append hits (hit ∷ []) in omega (arith, long, more, size);
-      hits = λ i l. subst (λ (xs : List (Option ℕ)). IsHitBy b.db.now c.args.names.now (name_of q c.args.at (place_at (get_or (names_of w.list) i []) c.args.at)) (get_or xs i None)) (sym items)
-          (pushed None (λ i r. IsHitBy b.db.now c.args.names.now (name_of q c.args.at (place_at (get_or (names_of w.list) i []) c.args.at)) r) hits hit at size c.loop-witness.invariant.hits its i l);
+      hits = λ i l. subst (λ (xs : List (Option ℕ)). IsHitBy b.db.now c.args.names.now (row_name q c.args.at (place_at (get_or (names_of w.list) i []) c.args.at)) (get_or xs i None)) (sym items)
+          (pushed None (λ i r. IsHitBy b.db.now c.args.names.now (row_name q c.args.at (place_at (get_or (names_of w.list) i []) c.args.at)) r) hits hit at size c.loop-witness.invariant.hits its i l);
     }

@@ -1,7 +1,7 @@
 use Rattle.std.proofs.Common.{◌≡◌, ◌<◌, ◌++◌, ◌∷◌, [], ◌∙◌, ℕ, List, length, ap, get_or, sym, subst}
 use Rattle.std.proofs.lemmas.List.{get_or_default}
 use Rattle.repair_clauses.specs.declared.span.Span.{Span}
-use Rattle.repair_clauses.specs.Spans.{variables_of}
+use Rattle.repair_clauses.specs.Spans.{variables_of_spans}
 use Rattle.repair_clauses.proofs.Encoding.{no_span, read_in}
 use Rattle.search_answers.proofs.ClassLists.{lists-push, lists-skip}
 use Rattle.search_answers.proofs.WitnessRows.{rising}
@@ -22,7 +22,7 @@ returns-in_ok-push c =
     let classed = c.args.classed.now in
     let spans = c.args.blocks.now.spans in
     let items = c.as_slice.result.now in
-    lists-push (variables_of classed.rows.spans) (rising classed.rows.spans classed.single) classed.classes.items spans c.args.at (get_or items c.args.at no_span) c.requires.there
+    lists-push (variables_of_spans classed.rows.spans) (rising classed.rows.spans classed.single) classed.classes.items spans c.args.at (get_or items c.args.at no_span) c.requires.there
     (read spans items c.args.at c.as_slice.ensures c.requires.there) c.args.lists.now.items c.requires.so_far
     c.gather_block.new.numbers.items c.put_in_order.new.numbers.items c.push.new.self.items (c.in_ok-gather_block.ensures.all c.if-branch.true) c.put_in_order.ensures.rises c.put_in_order.ensures.same
     (c.in_ok-push.ensures.items ∙ ap (λ ns. c.args.lists.now.items ++ ns ∷ []) c.from_vec.ensures)
@@ -32,5 +32,5 @@ returns-else-branch c =
     let classed = c.args.classed.now in
     let spans = c.args.blocks.now.spans in
     let items = c.as_slice.result.now in
-    lists-skip (variables_of classed.rows.spans) (rising classed.rows.spans classed.single) classed.classes.items spans c.args.at (get_or items c.args.at no_span) c.requires.there
+    lists-skip (variables_of_spans classed.rows.spans) (rising classed.rows.spans classed.single) classed.classes.items spans c.args.at (get_or items c.args.at no_span) c.requires.there
     (read spans items c.args.at c.as_slice.ensures c.requires.there) c.args.lists.now.items c.requires.so_far (c.in_ok-gather_block.ensures.some c.if-branch.false)

@@ -2,18 +2,18 @@ use Rattle.std.proofs.Common.{◌≡◌, ◌<◌, ◌∙◌, ℕ, None, Some, le
 use Rattle.std.proofs.lemmas.Option.{get_or_from_slice_get, slice_get_within, slice_get-get_or}
 use Rattle.join_access.proofs.Sorted.{one_place}
 use Rattle.repair_clauses.specs.Clauses.{variable_cmp}
-use Rattle.repair_clauses.specs.Spans.{at, variables_of}
+use Rattle.repair_clauses.specs.Spans.{at, variables_of_spans}
 use Rattle.repair_clauses.proofs.Order.{variable_total}
 use Rattle.search_answers.proofs.WitnessRows.{held, rising, stands}
 use Rattle.search_answers.proofs.class_clauses.class_at.Goals as goal
 
 -- the row has a number
-here : (c : goal.In-Some) → slice_get (variables_of c.args.classed.now.rows.spans) c.in-Some.index ≡ Some (at c.args.atom c.args.place)
+here : (c : goal.In-Some) → slice_get (variables_of_spans c.args.classed.now.rows.spans) c.in-Some.index ≡ Some (at c.args.atom c.args.place)
 here c = stands c.args.classed.now.rows.spans c.args.classed.now.single c.args.atom c.args.place c.in-Some.index ((c.find_span.ensures c.in-Some.index).0 c.in-Some.is)
 
 pub index-requires : goal.index-requires
 index-requires c =
-    let below = slice_get_within (variables_of c.args.classed.now.rows.spans) c.in-Some.index (at c.args.atom c.args.place) (here c) in
+    let below = slice_get_within (variables_of_spans c.args.classed.now.rows.spans) c.in-Some.index (at c.args.atom c.args.place) (here c) in
     let size = c.args.classed.now.size in
     omega (arith, below, size)
 
@@ -22,7 +22,7 @@ no_class n e = cc
 
 pub returns-in-Some : goal.returns-in-Some
 returns-in-Some c = λ n.
-    let vars = variables_of c.args.classed.now.rows.spans in
+    let vars = variables_of_spans c.args.classed.now.rows.spans in
     let classes = c.args.classed.now.classes.items in
     let x = at c.args.atom c.args.place in
     let k = c.in-Some.index in

@@ -4,7 +4,7 @@ use Rattle.cqa_model.specs.declared.limits.TheConstants.{MOST_ATOMS}
 use Rattle.join_access.specs.declared.witness.Witness.{Witness}
 use Rattle.join_access.specs.Listing.{names_of}
 use Rattle.repair_clauses.specs.Clauses.{negative, positive}
-use Rattle.repair_clauses.specs.Spans.{variables_of}
+use Rattle.repair_clauses.specs.Spans.{variables_of_spans}
 use Rattle.search_answers.specs.Classing.{AreNameLists}
 use Rattle.row_witnesses.proofs.Told.{all_names}
 use Rattle.search_answers.proofs.ClassLists.{names-same}
@@ -19,7 +19,7 @@ witness_lists-requires c =
 pub returns : goal.returns
 returns c =
     let ws = c.args.witnesses.now.list in
-    let vars = variables_of c.args.classed.now.rows.spans in
+    let vars = variables_of_spans c.args.classed.now.rows.spans in
     let blocks = c.in_ok-whole.whole.items in
     let found = c.each_once.new.lists.items in
     IfOk-weaker c.clauses_of-clauses.result _ _ (λ clauses is. record {

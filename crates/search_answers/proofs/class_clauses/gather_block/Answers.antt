@@ -1,15 +1,15 @@
 use Rattle.std.proofs.Common.{◌≡◌, ◌+◌, ℕ, None, Some, refl, sym, ◌∙◌, arith}
-use Rattle.repair_clauses.specs.Spans.{variables_of}
+use Rattle.repair_clauses.specs.Spans.{variables_of_spans}
 use Rattle.search_answers.proofs.ClassLists.{range-none, range-more}
 use Rattle.search_answers.proofs.WitnessRows.{rising}
 use Rattle.search_answers.proofs.class_clauses.gather_block.Goals as goal
 
 pub loop-at-init : goal.loop-at-init
-loop-at-init c = range-none (variables_of c.args.classed.now.rows.spans) (rising c.args.classed.now.rows.spans c.args.classed.now.single) c.args.classed.now.classes.items c.args.span.now.atom c.args.span.now.start c.args.numbers.now.items c.requires.none
+loop-at-init c = range-none (variables_of_spans c.args.classed.now.rows.spans) (rising c.args.classed.now.rows.spans c.args.classed.now.single) c.args.classed.now.classes.items c.args.span.now.atom c.args.span.now.start c.args.numbers.now.items c.requires.none
 
 pub loop-at-preserved : goal.loop-at-preserved
 loop-at-preserved c =
-    range-more (variables_of c.args.classed.now.rows.spans) (rising c.args.classed.now.rows.spans c.args.classed.now.single) c.args.classed.now.classes.items c.args.span.now.atom c.args.span.now.start c.loop-at.at c.in-Some.class
+    range-more (variables_of_spans c.args.classed.now.rows.spans) (rising c.args.classed.now.rows.spans c.args.classed.now.single) c.args.classed.now.classes.items c.args.span.now.atom c.args.span.now.start c.loop-at.at c.in-Some.class
     c.loop-at.numbers.items c.push.new.self.items c.loop-at.invariant ((c.class_at.ensures c.in-Some.class).0 c.in-Some.is) c.in_ok-push-in-Some.ensures.items
 
 no_class : (n : ℕ) → None ≡ Some n → ⊥

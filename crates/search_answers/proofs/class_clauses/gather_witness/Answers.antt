@@ -1,17 +1,17 @@
 use Rattle.std.proofs.Common.{◌≡◌, ◌<◌, ◌↔◌, inl, inr, Some, length, subst, arith}
-use Rattle.repair_clauses.specs.Spans.{variables_of}
+use Rattle.repair_clauses.specs.Spans.{variables_of_spans}
 use Rattle.repair_clauses.proofs.Encoding.{place_read}
 use Rattle.search_answers.specs.Classing.{HasClass}
 use Rattle.search_answers.proofs.ClassLists.{AreGathered, gathered-none, gathered-more}
 use Rattle.search_answers.proofs.class_clauses.gather_witness.Goals as goal
 
 pub loop-at-init : goal.loop-at-init
-loop-at-init c = gathered-none (variables_of c.args.classed.now.rows.spans) c.args.classed.now.classes.items c.args.names.now c.args.numbers.now.items c.requires.none
+loop-at-init c = gathered-none (variables_of_spans c.args.classed.now.rows.spans) c.args.classed.now.classes.items c.args.names.now c.args.numbers.now.items c.requires.none
 
 pub loop-at-preserved : goal.loop-at-preserved
 loop-at-preserved c =
     let i = c.loop-at.at in
-    let vars = variables_of c.args.classed.now.rows.spans in
+    let vars = variables_of_spans c.args.classed.now.rows.spans in
     let classes = c.args.classed.now.classes.items in
     let there : i < length c.args.names.now = omega arith in
     let read = place_read c.args.names.now i there in
@@ -32,4 +32,4 @@ loop-at-preserved c =
 pub returns : goal.returns
 returns c =
     let e : c.loop-at.at ≡ length c.args.names.now = omega arith in
-    subst (λ i. AreGathered (variables_of c.args.classed.now.rows.spans) c.args.classed.now.classes.items c.args.names.now i c.loop-at.numbers.items) e c.loop-at.invariant
+    subst (λ i. AreGathered (variables_of_spans c.args.classed.now.rows.spans) c.args.classed.now.classes.items c.args.names.now i c.loop-at.numbers.items) e c.loop-at.invariant

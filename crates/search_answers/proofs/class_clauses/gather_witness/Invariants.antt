@@ -1,8 +1,8 @@
 use Rattle.std.proofs.Common.{◌↔◌, ◌<◌, ℕ, Contains}
 use Rattle.search_answers.specs.Classing.{HasClass}
-use Rattle.repair_clauses.specs.Spans.{place_at, variables_of}
+use Rattle.repair_clauses.specs.Spans.{place_at, variables_of_spans}
 use Rattle.search_answers.proofs.class_clauses.gather_witness.Given as goal
 
 -- the classes of the rows so far
 abbrev pub invariant-loop-at : goal.invariant-loop-at
-invariant-loop-at l = (n : ℕ) → Contains l.numbers.items n ↔ ((F : ℕ) × (F < l.at) × HasClass (variables_of l.classed.rows.spans) l.classed.classes.items F (place_at l.names F) n)
+invariant-loop-at l = (n : ℕ) → Contains l.numbers.items n ↔ ((F : ℕ) × (F < l.at) × HasClass (variables_of_spans l.classed.rows.spans) l.classed.classes.items F (place_at l.names F) n)

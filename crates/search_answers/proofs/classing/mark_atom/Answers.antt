@@ -4,7 +4,7 @@ use Rattle.cqa_model.specs.declared.query.Atom.{Atom}
 use Rattle.table_blocks.specs.Tables.{rows_at}
 use Rattle.join_access.specs.Listing.{names_of}
 use Rattle.row_witnesses.proofs.Told.{all_names}
-use Rattle.repair_clauses.specs.Spans.{variables_of}
+use Rattle.repair_clauses.specs.Spans.{variables_of_spans}
 use Rattle.search_answers.proofs.Marking.{classed-more}
 use Rattle.search_answers.proofs.WitnessRows.{named_there}
 use Rattle.search_answers.proofs.classing.mark_atom.Goals as goal
@@ -30,7 +30,7 @@ returns c =
     let all = names_of w.list in
     let places = c.as_slice-3.result.now in
     let is = c.rows-rows.ensures.is ∙ ap (λ (a : Atom). rows_at db a.table) c.atom_of.ensures in
-    classed-more q db (variables_of c.args.numbered.now.spans) all c.args.at c.as_slice-2.result.now places c.rows-rows.result c.args.classes.now c.mark_rows.new.classes c.requires.so_far is
+    classed-more q db (variables_of_spans c.args.numbered.now.spans) all c.args.at c.as_slice-2.result.now places c.rows-rows.result c.args.classes.now c.mark_rows.new.classes c.requires.so_far is
     (λ col s e. subst (λ cs. Contains cs col.col) (sym c.as_slice-2.ensures.value) (c.in_ok-columns.ensures col s e))
     (λ p m. c.column.ensures.column.from p (subst (λ ps. Contains ps p) c.in_ok-places.ensures.items ((c.put_by_columns.ensures p).0 (subst (λ ps. Contains ps p) c.as_slice-3.ensures.value m))))
     (λ p n. subst (λ ps. Contains ps p) (sym c.as_slice-3.ensures.value)

@@ -4,7 +4,7 @@ use Rattle.std.proofs.lemmas.Option.{slice_get_within}
 use Rattle.std.proofs.lemmas.List.{take_all, take_more}
 use Rattle.std.proofs.lemmas.List.Elements.{Contains-get_or}
 use Rattle.repair_clauses.specs.Clauses.{HasNumber}
-use Rattle.repair_clauses.specs.Spans.{at, variables_of}
+use Rattle.repair_clauses.specs.Spans.{at, variables_of_spans}
 use Rattle.search_answers.specs.Classing.{Marks}
 use Rattle.repair_clauses.proofs.Atoms.{based-whole}
 use Rattle.repair_clauses.proofs.Spans.{has_number}
@@ -22,13 +22,13 @@ some-is (x ∷ xs) e = omega arith
 pub returns-then-is_empty : goal.returns-then-is_empty
 returns-then-is_empty c =
     let e : c.args.places.now ≡ [] = empty-is c.args.places.now (sym c.is_empty.ensures ∙ c.if-is_empty.true) in
-    subst (λ ps. Marks (variables_of c.args.numbered.now.spans) c.args.columns.now c.args.rows.now c.args.atom ps c.args.classes.now c.args.classes.now) (sym e)
-    (marks-none (variables_of c.args.numbered.now.spans) c.args.columns.now c.args.rows.now c.args.atom c.args.classes.now)
+    subst (λ ps. Marks (variables_of_spans c.args.numbered.now.spans) c.args.columns.now c.args.rows.now c.args.atom ps c.args.classes.now c.args.classes.now) (sym e)
+    (marks-none (variables_of_spans c.args.numbered.now.spans) c.args.columns.now c.args.rows.now c.args.atom c.args.classes.now)
 
 pub loop-place-init : goal.loop-place-init
 loop-place-init c = record {
   first = Contains-get_or c.args.places.now 0 0 (some-is c.args.places.now (sym c.is_empty.ensures ∙ c.if-is_empty.false));
-  marks = marks-none (variables_of c.args.numbered.now.spans) c.args.columns.now c.args.rows.now c.args.atom c.args.classes.now;
+  marks = marks-none (variables_of_spans c.args.numbered.now.spans) c.args.columns.now c.args.rows.now c.args.atom c.args.classes.now;
 }
 
 pub first_alike-first-requires-clause-first : goal.first_alike-first-requires-clause-first
@@ -62,7 +62,7 @@ bounds-classes-at c =
     let place = get_or c.args.places.now c.loop-place.place-index 0 in
     let s = c.requires.covered place (Contains-get_or c.args.places.now c.loop-place.place-index 0 (omega arith)) in
     let e = c.number-at.ensures s.0 s.1 s.2 in
-    let l = slice_get_within (variables_of c.args.numbered.now.spans) (s.0.base + (place - s.0.start)) (at c.args.atom place) (has_number c.args.numbered.now.spans (based-whole 0 c.args.numbered.now.vars c.args.numbered.now.spans c.args.numbered.now.kept.based) s.0 s.1 (at c.args.atom place) s.2) in
+    let l = slice_get_within (variables_of_spans c.args.numbered.now.spans) (s.0.base + (place - s.0.start)) (at c.args.atom place) (has_number c.args.numbered.now.spans (based-whole 0 c.args.numbered.now.vars c.args.numbered.now.spans c.args.numbered.now.kept.based) s.0 s.1 (at c.args.atom place) s.2) in
     let size = c.requires.size in
     let same = c.loop-place.invariant.marks.size in
     omega (arith, e, l, size, same)
@@ -73,7 +73,7 @@ loop-place-preserved c =
     let i = c.loop-place.place-index in
     let place = get_or places i 0 in
     let there = Contains-get_or places i 0 (omega arith) in
-    let vars = variables_of c.args.numbered.now.spans in
+    let vars = variables_of_spans c.args.numbered.now.spans in
     let r = c.first_alike-first.result in
     let mr : Contains places r = one_of (Contains places) r c.loop-place.first place c.first_alike-first.ensures.one c.loop-place.invariant.first there in
     let s = c.requires.covered place there in
@@ -95,4 +95,4 @@ loop-place-preserved c =
     }
 
 pub returns : goal.returns
-returns c = subst (λ ps. Marks (variables_of c.args.numbered.now.spans) c.args.columns.now c.args.rows.now c.args.atom ps c.args.classes.now c.loop-place.classes) (take_all c.loop-place.place-index c.args.places.now (omega arith)) c.loop-place.invariant.marks
+returns c = subst (λ ps. Marks (variables_of_spans c.args.numbered.now.spans) c.args.columns.now c.args.rows.now c.args.atom ps c.args.classes.now c.loop-place.classes) (take_all c.loop-place.place-index c.args.places.now (omega arith)) c.loop-place.invariant.marks

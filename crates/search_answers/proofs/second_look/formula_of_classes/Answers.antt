@@ -1,5 +1,5 @@
 use Rattle.std.proofs.Common.{◌≡◌, length, arith}
-use Rattle.repair_clauses.specs.Spans.{variables_of}
+use Rattle.repair_clauses.specs.Spans.{variables_of_spans}
 use Rattle.repair_clauses.proofs.Encoding.{variables-length}
 use Rattle.search_answers.proofs.second_look.formula_of_classes.Goals as goal
 
@@ -7,5 +7,5 @@ pub returns : goal.returns
 returns c =
     let classed = c.in_ok-classed.classed in
     let long = variables-length 0 classed.rows.vars classed.rows.spans classed.rows.kept.based in
-    let vars : classed.rows.vars ≡ length (variables_of classed.rows.spans) = omega (arith, long) in
+    let vars : classed.rows.vars ≡ length (variables_of_spans classed.rows.spans) = omega (arith, long) in
     (classed.rows.spans, c.in_ok-classed.ensures.rows, vars, (classed.classes.items, c.in_ok-classed.ensures.classes, c.in_ok-clauses.ensures))

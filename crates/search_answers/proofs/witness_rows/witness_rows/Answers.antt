@@ -1,7 +1,7 @@
 use Rattle.std.proofs.Common.{◌≡◌, length, sym, subst, arith}
 use Rattle.join_access.specs.Listing.{names_of}
 use Rattle.row_witnesses.proofs.Told.{all_names}
-use Rattle.repair_clauses.specs.Spans.{IsNumbering}
+use Rattle.repair_clauses.specs.Spans.{IsSpanNumbering}
 use Rattle.search_answers.specs.Classing.{AreNumberedTo}
 use Rattle.search_answers.proofs.WitnessRows.{numbering}
 use Rattle.search_answers.proofs.witness_rows.witness_rows.Goals as goal
@@ -17,7 +17,7 @@ invariant_of-result c =
     let len = c.len-vars.ensures in
     let long : c.len-vars.result ≡ length spans = omega (arith, len, c.loop-at.numbered.ok.0) in
     record {
-      kept = subst (λ ss. IsNumbering ss c.len-vars.result) (sym c.from_vec.ensures)
+      kept = subst (λ ss. IsSpanNumbering ss c.len-vars.result) (sym c.from_vec.ensures)
           (numbering q w.bound.now.db.now w.row.now all (all_names w) w.bound.now.database spans rows c.len-vars.result long);
     }
 

@@ -1,7 +1,7 @@
 use Rattle.std.proofs.Common.{◌≡◌, length, subst, sym}
 use Rattle.table_blocks.specs.declared.bound.Bound.{Bound}
 use Rattle.query_strategy.specs.Strategies.{IsStrategyOf}
-use Rattle.cqa_session.specs.Statements.Against.{IsDecision, IsPairDecision}
+use Rattle.cqa_session.specs.Statements.Against.{IsDecision, IsAgainstPair}
 use Rattle.cqa_session.proofs.Opposing.{pair_decides, plan_decides, search_decides}
 use Rattle.cqa_session.proofs.statements.against.by_method.Goals as goal
 
@@ -21,7 +21,7 @@ returns-in_ok-names-in-Pair-clause-decided c =
     let strategy = subst (IsStrategyOf b.query.now) c.in-Pair.is c.in_ok-plan.ensures.is in
     let names = c.in_ok-names-in-Pair.names in
     pair_decides b.db.now b.query.now c.args.row.now names strategy.1
-    (subst (λ (z : Bound). IsPairDecision z.db.now z.query.now c.args.row.now names) c.new-pair.ensures c.in_ok-names-in-Pair.ensures)
+    (subst (λ (z : Bound). IsAgainstPair z.db.now z.query.now c.args.row.now names) c.new-pair.ensures c.in_ok-names-in-Pair.ensures)
 
 pub returns-in-Ok-clause-decided : goal.returns-in-Ok-clause-decided
 returns-in-Ok-clause-decided c =

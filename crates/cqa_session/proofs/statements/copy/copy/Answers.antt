@@ -3,7 +3,7 @@ use Rattle.std.specs.Option.{option_copied}
 use Rattle.refusals.specs.Refusal.{IsRefusedAs}
 use Rattle.reply_text.specs.declared.reply.Reply.TheVariants.{Copied}
 use Rattle.cqa_session.specs.State.{State}
-use Rattle.cqa_session.specs.Replying.{Replies, IsOutcome}
+use Rattle.cqa_session.specs.Replying.{Replies, IsReplyOutcome}
 use Rattle.cqa_session.specs.Statements.Copy.{copy_into_fault, CopiesInto}
 use Rattle.cqa_session.proofs.Copying.{bad_record, bad_rows}
 use Rattle.cqa_session.proofs.Doing.{refused_out, on_table-there}
@@ -39,7 +39,7 @@ returns-in_err-rows c =
     let inside : State = record { tables = kept.database; budget = kept.budget; last_log = kept.last_log } in
     let fail = c.in_err-rows.field-0.0 in
     let refused = rw (c.schema.ensures.kinds, c.bytes_of.ensures) at c.in_err-rows.ensures.refused in
-    subst (λ (s : State). IsOutcome c.from_residual-in_err-rows.result s (Replies (copy_into_fault s.tables name) s (CopiesInto s name block)) s) c.session.view_is
+    subst (λ (s : State). IsReplyOutcome c.from_residual-in_err-rows.result s (Replies (copy_into_fault s.tables name) s (CopiesInto s name block)) s) c.session.view_is
     (bad_record inside inside name block c.in_ok-table.table c.in_ok-table.ensures.found refl c.from_residual-in_err-rows.result fail c.from_residual-in_err-rows.ensures.1 refused)
 
 pub returns-in_err-count : goal.returns-in_err-count
@@ -52,7 +52,7 @@ returns-in_err-count c =
     let fail = c.in_err-count.field-0.0 in
     let held = rw (c.schema.ensures.kinds, c.bytes_of.ensures) at c.in_ok-rows.ensures.rows in
     let keeps : new ≡ inside = ap (λ tables. record { tables = tables; budget = kept.budget; last_log = kept.last_log }) c.in_err-count.ensures.err in
-    subst (λ (s : State). IsOutcome c.from_residual-in_err-count.result s (Replies (copy_into_fault s.tables name) s (CopiesInto s name block)) new) c.session.view_is
+    subst (λ (s : State). IsReplyOutcome c.from_residual-in_err-count.result s (Replies (copy_into_fault s.tables name) s (CopiesInto s name block)) new) c.session.view_is
     (bad_rows inside new name block c.in_ok-table.table c.in_ok-table.ensures.found keeps c.in_ok-rows.rows held c.from_residual-in_err-count.result fail c.from_residual-in_err-count.ensures.1 c.in_err-count.ensures.refused)
 
 pub returns : goal.returns

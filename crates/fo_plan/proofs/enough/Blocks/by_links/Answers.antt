@@ -4,7 +4,7 @@ use Rattle.cqa_model.specs.Database.{stored}
 use Rattle.cqa_model.specs.Query.{rows_of}
 use Rattle.plan_rows.specs.Links.{LeadsTo, AreLinks, atoms_on}
 use Rattle.plan_rows.specs.Wanted.{IsWanted}
-use Rattle.fo_plan.specs.Enough.{row_of}
+use Rattle.fo_plan.specs.Enough.{row_at_place}
 use Rattle.fo_plan.proofs.Looks.{of-look, to-look}
 use Rattle.fo_plan.proofs.Reached.{whole-reached}
 use Rattle.fo_plan.proofs.enough.Blocks.by_links.Goals as goal
@@ -30,7 +30,7 @@ returns c =
     let links = atoms_on c.links-links.result.now in
     let places = c.in_ok-places.places.items in
     let all = of-look step c.look.result look.setting look.taken look.atom
-    (λ s taken F. (i : ℕ) → i < length (rows_of s.bound.now.query.now (stored s.bound.now.db.now) F) → LeadsTo s.bound.now.query.now (stored s.bound.now.db.now) given taken links F (row_of (rows_of s.bound.now.query.now (stored s.bound.now.db.now) F) i) → Contains places i)
+    (λ s taken F. (i : ℕ) → i < length (rows_of s.bound.now.query.now (stored s.bound.now.db.now) F) → LeadsTo s.bound.now.query.now (stored s.bound.now.db.now) given taken links F (row_at_place (rows_of s.bound.now.query.now (stored s.bound.now.db.now) F) i) → Contains places i)
     c.in_ok-places.ensures.all in
     whole-reached step given c.whole.result links c.links-links.ensures.behind c.whole.ensures.key c.whole.ensures.rows
     (λ at there leads. subst (λ w. IsWanted w at) (sym c.whole.ensures.same) (all at there leads))
