@@ -13,7 +13,13 @@ use std::cmp::Ordering;
 /// Up to so many rows, arranging them costs more than it spares.
 const FEW: usize = 32;
 
-/// Puts rows mostly in block order, each moved once, if they aren't few. Nothing is promised but that they are the same rows.
+/// Whether rows stand in block order already. Nothing is promised of it.
+fn stand_in_order(rows: &[Row], key: &[u32]) -> bool {
+    rows.is_sorted_by(|a, b| -> bool { block_compare(key, a, b).is_le() })
+}
+
+/// Puts rows mostly in block order, each moved once, if they aren't few and don't stand so already. Nothing is promised but that they
+/// are the same rows.
 ///
 /// # Errors
 ///
@@ -21,7 +27,7 @@ const FEW: usize = 32;
 fn arrange(alloc: Global, rows: &mut [Row], key: &[u32]) -> Result<(), NoMemory>
     ensures { IsPermutation rows.old rows.new }
 {
-    if rows.len() <= FEW {
+    if rows.len() <= FEW || stand_in_order(rows, key) {
         return Ok(());
     }
     let mut items = flat_sorted(alloc, rows, key)?;
