@@ -16,6 +16,8 @@ mod many;
 #[cfg(test)]
 mod pieces;
 #[cfg(test)]
+mod preferred;
+#[cfg(test)]
 mod ranges;
 #[cfg(test)]
 mod replies;

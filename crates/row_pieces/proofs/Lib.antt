@@ -3,6 +3,7 @@ pub mod Joining
 pub mod Opening
 pub mod Putting
 pub mod Retaining
+pub mod Telling
 pub mod Answering
 pub mod Halving
 pub mod Marking

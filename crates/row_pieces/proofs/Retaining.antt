@@ -96,7 +96,7 @@ module _ {A : Type 0} (p : A → Bool) where
 module _ (ps : List Piece) (at : ℕ) (old new : Piece) (there : at < length ps) (is : old ≡ get_or ps at old) where
   -- the stretch goes on behind a piece
   pub retained_next : (p : List Cell → Bool) (low high lower higher : ℕ) (all : List (List Cell)) → lower ≡ low - length old.rows → higher ≡ high - length old.rows
-      → ((behind : List (List Cell)) → retained p low high (old.rows ++ behind) ≡ new.rows ++ retained p (low - length old.rows) (high - length old.rows) behind)
+      → retained p low high (old.rows ++ joined (drop (at + 1) ps)) ≡ new.rows ++ retained p (low - length old.rows) (high - length old.rows) (joined (drop (at + 1) ps))
       → all ≡ joined (take at ps) ++ retained p low high (joined (drop at ps))
       → all ≡ joined (take (at + 1) (set ps at new)) ++ retained p lower higher (joined (drop (at + 1) (set ps at new)))
   retained_next p low high lower higher all e f step so_far =
@@ -110,7 +110,7 @@ module _ (ps : List Piece) (at : ℕ) (old new : Piece) (there : at < length ps)
       in
       so_far
       ∙ ap (λ xs. before ++ retained p low high xs) (joined_rest ps at old there ∙ ap (λ z. z.rows ++ behind) (sym is))
-      ∙ ap (λ xs. before ++ xs) (step behind)
+      ∙ ap (λ xs. before ++ xs) step
       ∙ ap (λ n. before ++ (new.rows ++ retained p n (high - length old.rows) behind)) (sym e)
       ∙ ap (λ n. before ++ (new.rows ++ retained p lower n behind)) (sym f)
       ∙ sym (append_assoc before new.rows last)

@@ -28,7 +28,26 @@ fn keep<P: FnMut(&Row) -> bool>(rows: &mut [Row], marks: &mut [u64], mut stays: 
     (kept, stays)
 }
 
-/// The same within a range.
+/// Moves the rows that are told to stay to the front, with their marks and in the order that they had, and gives their number.
+fn keep_told(rows: &mut [Row], marks: &mut [u64], stays: &[bool]) -> usize
+    requires each { length stays.now ≡ length rows.old }
+    requires marked { marks.old ≡ map row_mark rows.old }
+    ensures marked { marks.new ≡ map row_mark rows.new }
+    ensures within { result ≤ length rows.old }
+    ensures kept { (p : List Cell → Bool) → stays.now ≡ map p rows.old → take result rows.new ≡ filter p rows.old }
+{
+    let mut kept = 0;
+    for at in 0..rows.len() {
+        if stays[at] {
+            rows.swap(kept, at);
+            marks.swap(kept, at);
+            kept += 1;
+        }
+    }
+    kept
+}
+
+/// Moves the rows of a range that pass a test to its front.
 pub fn keep_in<P: FnMut(&Row) -> bool>(
     rows: &mut [Row],
     marks: &mut [u64],
@@ -48,4 +67,25 @@ pub fn keep_in<P: FnMut(&Row) -> bool>(
     ensures behind { drop to rows.new ≡ drop to rows.old }
 {
     keep(&mut rows[from..to], &mut marks[from..to], stays)
+}
+
+/// Moves the rows of a range that are told to stay to its front.
+pub fn keep_told_in(
+    rows: &mut [Row],
+    marks: &mut [u64],
+    from: usize,
+    to: usize,
+    stays: &[bool],
+) -> usize
+    requires marked { marks.old ≡ map row_mark rows.old }
+    requires order { from ≤ to }
+    requires within { to ≤ length rows.old }
+    requires each { length stays.now ≡ to - from }
+    ensures within { from + result ≤ to }
+    ensures long { length rows.new ≡ length rows.old }
+    ensures marked { marks.new ≡ map row_mark rows.new }
+    ensures kept { (p : List Cell → Bool) → stays.now ≡ map p (take (to - from) (drop from rows.old)) → take (from + result) rows.new ≡ take from rows.old ++ filter p (take (to - from) (drop from rows.old)) }
+    ensures behind { drop to rows.new ≡ drop to rows.old }
+{
+    keep_told(&mut rows[from..to], &mut marks[from..to], stays)
 }

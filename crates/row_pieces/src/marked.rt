@@ -9,7 +9,7 @@ ghost use Rattle.row_pieces.specs.Marks.{row_mark};
 ghost use Rattle.row_pieces.specs.Retained.{retained};
 
 use crate::guess::{comes_before, first_of, first_with, place_among};
-use crate::keep::keep_in;
+use crate::keep::{keep_in, keep_told_in};
 use crate::mark::mark_of_row;
 use cqa_value::{NoMemory, Row};
 use std::alloc::Global;
@@ -262,6 +262,21 @@ impl MarkedRows {
         cut_out(&mut self.marks, from + kept, to);
         self.first = first_of(self.marks.as_slice());
         stays
+    }
+
+    /// Takes the rows of a range away that aren't told to stay.
+    pub fn retain_told(&mut self, from: usize, to: usize, stays: &[bool])
+        requires order { from ≤ to }
+        requires within { to ≤ length self.old }
+        requires each { length stays.now ≡ to - from }
+        ensures retained { (p : List Cell → Bool) → stays.now ≡ map p (take (to - from) (drop from self.old)) → self.new ≡ retained p from to self.old }
+        ensures fewer { length self.new ≤ length self.old }
+    {
+        let rows = self.rows.as_mut_slice();
+        let kept = keep_told_in(rows, self.marks.as_mut_slice(), from, to, stays);
+        cut_out(&mut self.rows, from + kept, to);
+        cut_out(&mut self.marks, from + kept, to);
+        self.first = first_of(self.marks.as_slice());
     }
 
     /// Exchanges the rows for as many others, from a place on among these.

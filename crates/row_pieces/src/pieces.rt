@@ -1,6 +1,6 @@
 //! Rows that are held, in the order in which they were put.
 
-ghost use Rattle.std.specs.Prelude.{◌≡◌, ◌-◌, ◌≤◌, ◌++◌, Bool, List, OnOk, OnErr, [], length, filter, take, drop};
+ghost use Rattle.std.specs.Prelude.{◌≡◌, ◌+◌, ◌-◌, ◌≤◌, ◌++◌, Bool, List, OnOk, OnErr, [], length, map, filter, take, drop};
 ghost use Rattle.std.specs.Fn.{ComputesKey};
 ghost use Rattle.cqa_value.specs.declared.value.Value.{Value as Cell};
 ghost use Rattle.row_pieces.specs.Inserted.{with_items, AreRising};
@@ -8,7 +8,7 @@ ghost use Rattle.row_pieces.specs.Inserted.{with_items, AreRising};
 use crate::piece::{Piece, renumber};
 use crate::put::put;
 use crate::rows::Rows;
-use crate::take::{drop_emptied, exchange_each, retain_each};
+use crate::take::{exchange_each, retain_each, retain_told_each, settle};
 use cqa_value::{NoMemory, Row};
 use std::alloc::Global;
 use std::marker::Model;
@@ -88,8 +88,20 @@ impl Pieces {
         ensures fewer { length self.new ≤ length self.old }
     {
         let (first, emptied) = retain_each(self.pieces.as_mut_slice(), from, to, stays);
-        let kept = drop_emptied(&mut self.pieces, first, emptied);
-        self.count = renumber(self.pieces.as_mut_slice(), kept);
+        self.count = settle(&mut self.pieces, first, emptied);
+    }
+
+    /// Takes the rows of a stretch away that aren't told to stay.
+    pub fn retain_told(&mut self, from: usize, stays: &[bool])
+        requires within { from + length stays.now ≤ length self.old }
+        ensures retained { (p : List Cell → Bool) → stays.now ≡ map p (take (length stays.now) (drop from self.old)) → self.new ≡ (take from self.old ++ filter p (take (length stays.now) (drop from self.old))) ++ drop (from + length stays.now) self.old }
+        ensures fewer { length self.new ≤ length self.old }
+    {
+        let count = self.rows().len();
+        prove!(from <= count);
+        let to = from + stays.len();
+        let (first, emptied) = retain_told_each(self.pieces.as_mut_slice(), from, to, stays);
+        self.count = settle(&mut self.pieces, first, emptied);
     }
 
     /// Exchanges all rows for as many others.

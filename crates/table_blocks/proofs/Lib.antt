@@ -10,3 +10,4 @@ pub mod Naming
 pub mod Inserting
 pub mod Spanning
 pub mod Sharing
+pub mod Keeping

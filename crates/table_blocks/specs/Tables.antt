@@ -12,6 +12,7 @@ use Rattle.cqa_model.specs.Database.{Table, IsDatabase, block_cmp, names_of, sto
 use Rattle.cqa_model.specs.declared.query.RowId.{RowId}
 use Rattle.cqa_model.specs.Query.{OpHolds}
 use Rattle.row_order.specs.Ordered.{block_order}
+use Rattle.row_order.specs.Spans.{first_key, IsSpan}
 use Rattle.table_blocks.specs.Keys.{first_clash}
 use Rattle.table_blocks.specs.declared.clash.Clash.{Clash}
 use Rattle.table_blocks.specs.declared.test.ColumnTest.{ColumnTest}
@@ -75,6 +76,14 @@ TestsHold tests row = AllByRecursion (λ test. OpHolds test.op (slice_index_or r
 pub record IsSpared (key : List ℕ) (stored : List (List Value)) (tests : List ColumnTest) (rows : List (List Value)) : Type 0 where
   pub in_order : IsStrictlySortedBy (block_cmp key) rows
   pub members : (row : List Value) → Contains rows row ↔ (Contains stored row × (TestsHold tests row → ⊥))
+
+-- the rows from one place on up to another have some first key values, and each row for which all tests hold has these
+pub record IsToldStretch (key : List ℕ) (rows : List (List Value)) (tests : List ColumnTest) (from to : ℕ) : Type 0 where
+  pub values : List Value
+  pub stretch : List (List Value)
+  pub is : IsSpan key rows values from stretch
+  pub end : to ≡ from + length stretch
+  pub known : (row : List Value) → TestsHold tests row → first_key key values row ≡ values
 
 -- the rows for which all tests hold are taken from a table, so many of them
 pub record Deletes (old : List Table) (table : ℕ) (tests : List ColumnTest) (new : List Table) (count : ℕ) : Type 0 where

@@ -1,13 +1,13 @@
 //! The tables of a database by their names: how they are made, looked through, filled and emptied.
 //! What always holds of them is the invariant of `Database`.
-ghost use Rattle.std.specs.Prelude.{◌≡◌, ◌≤◌, ◌<◌, ◌^◌, ◌++◌, ◌∷◌, [], Some, Contains, IsTrue, true, false, OnOk, OnErr, IfOk, IfSome, MatchOption, length, map, slice_get, List, ◌+◌, ◌*◌, ℕ};
+ghost use Rattle.std.specs.Prelude.{◌≡◌, ◌≤◌, ◌<◌, ◌^◌, ◌++◌, ◌∷◌, [], Some, Bool, Contains, IsTrue, true, false, OnOk, OnErr, IfOk, IfSome, MatchOption, length, map, filter, take, drop, slice_get, List, ◌+◌, ◌*◌, ℕ};
 ghost use Rattle.cqa_model.specs.Database.{Table as StoredTable, AreConsistent, IsDatabase, names_of, row_total, kinds_of, block_cmp};
 ghost use Rattle.std.specs.List.Sorted.{IsStrictlySortedBy};
 ghost use Rattle.cqa_value.specs.declared.value.Value.{Value};
 ghost use Rattle.cqa_value.specs.Values.{kind_of};
 ghost use Rattle.row_order.specs.Spans.{IsSpan};
 ghost use Rattle.table_blocks.specs.Keys.{IsKey, first_clash};
-ghost use Rattle.table_blocks.specs.Tables.{table_named, rows_at, key_at, mark_at, kinds_at, with_rows, with_mark, rekey_clash, Deletes, Rekeys, AreMergeable, AreValidRows, AreValidTables, IsMerged, IsSpared};
+ghost use Rattle.table_blocks.specs.Tables.{table_named, rows_at, key_at, mark_at, kinds_at, with_rows, with_mark, rekey_clash, Deletes, IsToldStretch, Rekeys, AreMergeable, AreValidRows, AreValidTables, IsMerged, IsSpared};
 
 use crate::clash::Clash;
 use crate::rows::{Fresh, find_in};
@@ -61,6 +61,11 @@ impl Database {
         ensures stored { AreValidTables self.now }
     {
         self.tables.len() as u32
+    }
+
+    /// The allocator that it takes memory from.
+    pub fn allocator(&self) -> Global {
+        *self.tables.allocator()
     }
 
     /// The place of the table with a name.
@@ -223,6 +228,29 @@ impl Database {
                 found.add(fresh)?;
                 Ok(())
             }
+            None => unreachable!(),
+        }
+    }
+
+    /// The places from which on and up to which rows of a table stand that have the first key values which tests tell.
+    pub fn told_places(&self, table: u32, tests: &[ColumnTest]) -> (usize, usize)
+        requires { table < length self.now }
+        ensures told { IsToldStretch (key_at self.now table) (rows_at self.now table) tests.now result.0 result.1 }
+        ensures within { result.1 ≤ length (rows_at self.now table) }
+    {
+        self.table(table).told_places(tests)
+    }
+
+    /// Takes the rows of a stretch of a table away that aren't told to stay: `told` says that equal rows are told the same.
+    pub fn keep_told(&mut self, table: u32, from: usize, stays: &[bool])
+        requires there { table < length self.old }
+        requires within { from + length stays.now ≤ length (rows_at self.old table) }
+        requires told { (p : List Value → Bool) × (stays.now ≡ map p (take (length stays.now) (drop from (rows_at self.old table)))) }
+        ensures kept { (p : List Value → Bool) → stays.now ≡ map p (take (length stays.now) (drop from (rows_at self.old table))) → self.new ≡ with_rows self.old table ((take from (rows_at self.old table) ++ filter p (take (length stays.now) (drop from (rows_at self.old table)))) ++ drop (from + length stays.now) (rows_at self.old table)) }
+        ensures stored { AreValidTables self.new }
+    {
+        match self.tables.get_index_mut(table as usize) {
+            Some(found) => found.keep_told(from, stays),
             None => unreachable!(),
         }
     }

@@ -19,4 +19,4 @@ pub use row_order::{Probe, cell, passes};
 pub use rows::{Fresh, place_in};
 pub use search::{first_keyed, leading, parted, second_keyed};
 pub use steps::Steps;
-pub use test::ColumnTest;
+pub use test::{ColumnTest, passes_all};

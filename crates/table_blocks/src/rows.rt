@@ -7,15 +7,14 @@ ghost use Rattle.cqa_value.specs.declared.value.Value.{Value as Cell};
 ghost use Rattle.cqa_model.specs.Database.{AreConsistent, block_cmp};
 ghost use Rattle.row_order.specs.Ordered.{block_order};
 ghost use Rattle.table_blocks.specs.Keys.{first_clash};
-ghost use Rattle.row_order.specs.Spans.{IsSpan};
-ghost use Rattle.table_blocks.specs.Tables.{IsPlace, IsSpared, TestsHold};
+ghost use Rattle.table_blocks.specs.Tables.{IsPlace, IsSpared, IsToldStretch, TestsHold};
 
 use crate::clash::{Clash, clash_of};
 use crate::search::{first_keyed, parted, second_keyed};
 use crate::span::rows_with;
 use crate::test::{ColumnTest, known_key, passes_all};
 use cqa_value::{NoMemory, Row};
-use row_order::{Probe, block_compare, put_in_order};
+use row_order::{block_compare, put_in_order};
 use row_pieces::{Pieces, Rows};
 use std::alloc::Global;
 
@@ -123,14 +122,20 @@ pub struct Fresh {
     pub places: Vec<usize>,
 }
 
-/// The places from which on and up to which rows stand that have some first key values.
-fn told_places(rows: &Rows<'_>, key: &[u32], probe: &Probe<'_>) -> (usize, usize)
-    requires few { length probe.now ≤ length key.now }
+/// The places from which on and up to which rows stand that have the first key values which tests tell.
+pub fn told_places(
+    alloc: Global,
+    rows: &Rows<'_>,
+    key: &[u32],
+    tests: &[ColumnTest],
+) -> (usize, usize)
     requires in_order { IsStrictlySortedBy (block_cmp key.now) rows.now }
-    ensures told { (told : List (List Cell)) × IsSpan key.now rows.now probe.now result.0 told × (result.1 ≡ result.0 + length told) }
+    ensures told { IsToldStretch key.now rows.now tests.now result.0 result.1 }
     ensures within { result.1 ≤ length rows.now }
 {
-    let (from, told) = rows_with(rows, key, probe);
+    let probe = known_key(alloc, key, tests);
+    let (from, told) = rows_with(rows, key, &probe);
+    drop(probe);
     prove!(from <= rows.len());
     (from, from + told.len())
 }
@@ -141,9 +146,7 @@ pub fn remove(rows: &mut Pieces, key: &[u32], tests: &[ColumnTest])
     ensures spared { IsSpared key.now rows.old tests.now rows.new }
     ensures fewer { length rows.new ≤ length rows.old }
 {
-    let probe = known_key(rows.allocator(), key, tests);
-    let (from, to) = told_places(&rows.rows(), key, &probe);
-    drop(probe);
+    let (from, to) = told_places(rows.allocator(), &rows.rows(), key, tests);
     rows.retain_in(
         from,
         to,

@@ -1,15 +1,15 @@
 //! One table: a schema, and rows of it in block order.
 //! Only its own methods change its rows.
-ghost use Rattle.std.specs.Prelude.{◌≡◌, ◌+◌, ◌≤◌, ◌++◌, [], List, Contains, length, true, false, IsTrue, None, if◌then◌else◌, OnOk, OnErr, IfOk, MatchOption};
+ghost use Rattle.std.specs.Prelude.{◌≡◌, ◌+◌, ◌≤◌, ◌++◌, [], Bool, List, Contains, length, map, filter, take, drop, true, false, IsTrue, None, if◌then◌else◌, OnOk, OnErr, IfOk, MatchOption};
 ghost use Rattle.std.specs.List.Sorted.{IsStrictlySortedBy};
 ghost use Rattle.cqa_value.specs.declared.value.Value.{Value};
 ghost use Rattle.cqa_model.specs.Database.{AreConsistent, IsTable, IsRowOf, block_cmp};
 ghost use Rattle.row_order.specs.Ordered.{block_order};
 ghost use Rattle.table_blocks.specs.Keys.{IsKey, first_clash};
-ghost use Rattle.table_blocks.specs.Tables.{AreMergeable, AreValidRows, IsMerged, IsSpared, IsRekeyed};
+ghost use Rattle.table_blocks.specs.Tables.{AreMergeable, AreValidRows, IsMerged, IsSpared, IsRekeyed, IsToldStretch};
 
 use crate::clash::{Clash, clash_of};
-use crate::rows::{Fresh, put_in_order_of, remove};
+use crate::rows::{Fresh, put_in_order_of, remove, told_places};
 use crate::test::ColumnTest;
 use cqa_model::Schema;
 use cqa_value::{Items, NoMemory};
@@ -175,5 +175,27 @@ impl Table {
         ensures fewer { length self.new.rows ≤ length self.old.rows }
     {
         remove(&mut self.rows, key_places(&self.schema), tests);
+    }
+
+    /// The places from which on and up to which its rows stand that have the first key values which tests tell.
+    pub fn told_places(&self, tests: &[ColumnTest]) -> (usize, usize)
+        ensures told { IsToldStretch self.now.schema.key self.now.rows tests.now result.0 result.1 }
+        ensures within { result.1 ≤ length self.now.rows }
+    {
+        let key = key_places(&self.schema);
+        told_places(self.rows.allocator(), &self.rows.rows(), key, tests)
+    }
+
+    /// Takes the rows of a stretch away that aren't told to stay.
+    pub fn keep_told(&mut self, from: usize, stays: &[bool])
+        requires within { from + length stays.now ≤ length self.old.rows }
+        requires told { (p : List Value → Bool) × (stays.now ≡ map p (take (length stays.now) (drop from self.old.rows))) }
+        ensures table { IsTable self.new }
+        ensures valid { AreValidRows self.new.rows }
+        ensures schema { self.new.schema ≡ self.old.schema }
+        ensures kept { (p : List Value → Bool) → stays.now ≡ map p (take (length stays.now) (drop from self.old.rows)) → self.new.rows ≡ (take from self.old.rows ++ filter p (take (length stays.now) (drop from self.old.rows))) ++ drop (from + length stays.now) self.old.rows }
+        ensures fewer { length self.new.rows ≤ length self.old.rows }
+    {
+        self.rows.retain_told(from, stays);
     }
 }

@@ -7,3 +7,5 @@ pub mod ByKey
 pub mod Taking
 pub mod Inserting
 pub mod Columns
+pub mod Preferring
+pub mod PreferredLaws

@@ -1,2 +1,4 @@
 pub mod Taken
 pub mod Changes
+pub mod Preferred
+pub mod Laws

@@ -19,7 +19,7 @@ use std::alloc::Global;
 use table_blocks::{Clash, Database};
 
 /// The places of a table's key columns.
-fn key_of(db: &Database, table: u32) -> &[u32]
+pub fn key_of(db: &Database, table: u32) -> &[u32]
     requires { table < length db.now }
     ensures { result.now ≡ key_at db.now table }
 {

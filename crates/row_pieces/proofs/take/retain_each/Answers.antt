@@ -23,7 +23,7 @@ returns-then-high-eq0-clause-kept g c p k =
     let high = c.saturating_sub-high.ensures in
     let order = c.loop-at.invariant.order in
     let none = c.if-high-eq0.true in
-    let next = retained_next ps at old new there is p c.loop-at.low c.loop-at.high c.saturating_sub-low.result c.saturating_sub-high.result _ (omega (arith, low, len)) (omega (arith, high, len)) (λ behind. (c.retain_some-stays.ensures.kept p behind i.0).1) i.1 in
+    let next = retained_next ps at old new there is p c.loop-at.low c.loop-at.high c.saturating_sub-low.result c.saturating_sub-high.result _ (omega (arith, low, len)) (omega (arith, high, len)) (c.retain_some-stays.ensures.kept p (joined (drop (at + 1) ps)) i.0).1 i.1 in
     sym (
     next
     ∙ ap (λ xs. joined (take (at + 1) (set ps at new)) ++ xs) (retained_none p c.saturating_sub-low.result c.saturating_sub-high.result (joined (drop (at + 1) (set ps at new))) (omega (arith, none, low, high, order)) none)
@@ -81,7 +81,7 @@ loop-at-preserved g c =
       callable = c.retain_some-stays.ensures.callable;
       fewer = omega (arith, so_far, less);
       kept = λ p k. (let i = c.loop-at.invariant.kept p k in
-          ((c.retain_some-stays.ensures.kept p [] i.0).0, retained_next ps at old new there is p c.loop-at.low c.loop-at.high c.saturating_sub-low.result c.saturating_sub-high.result _ (omega (arith, low, len)) (omega (arith, high, len)) (λ behind. (c.retain_some-stays.ensures.kept p behind i.0).1) i.1));
+          ((c.retain_some-stays.ensures.kept p [] i.0).0, retained_next ps at old new there is p c.loop-at.low c.loop-at.high c.saturating_sub-low.result c.saturating_sub-high.result _ (omega (arith, low, len)) (omega (arith, high, len)) (c.retain_some-stays.ensures.kept p (joined (drop (at + 1) ps)) i.0).1 i.1));
     }
 
 pub overflow_sub-low : goal.overflow_sub-low

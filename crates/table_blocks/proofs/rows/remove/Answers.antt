@@ -6,8 +6,7 @@ use Rattle.std.proofs.lemmas.List.Filters.{length-filter_both}
 use Rattle.cqa_value.specs.declared.value.Value.{Value}
 use Rattle.cqa_value.proofs.Words.{Contains-filter}
 use Rattle.cqa_model.specs.Database.{block_cmp}
-use Rattle.row_order.specs.Spans.{IsSpan}
-use Rattle.table_blocks.specs.Tables.{TestsHold}
+use Rattle.table_blocks.specs.Tables.{IsToldStretch, TestsHold}
 use Rattle.table_blocks.proofs.Passing.{dec_tests, is_yes, is_no, turned_round}
 use Rattle.std.proofs.lemmas.Fn.{always_returns_same}
 use Rattle.table_blocks.proofs.Sparing.{spared_all}
@@ -19,17 +18,15 @@ left : (c : After-retain_in) → c.retain_in.new.self ≡ filter (λ row. not (i
 left c =
     let key = c.args.key.now in
     let rows = c.args.rows.now in
-    let probe = c.known_key-probe.result in
     let from = c.told_places-from.result.0 in
-    let told = c.told_places-from.ensures.told in
+    let told = subst (λ xs. IsToldStretch key xs c.args.tests.now from c.told_places-from.result.1) c.rows.ensures c.told_places-from.ensures.told in
     let stays : List Value → Bool = λ row. not (is_yes (dec_tests c.args.tests.now row)) in
     c.retain_in.ensures.retained stays (always_returns_same _ _ _ (λ a r f k. let both : IsTrue r ↔ (TestsHold c.args.tests.now a.0.now → ⊥) = search rules in (turned_round (dec_tests c.args.tests.now a.0.now) r both.0 both.1, search rules)))
-    ∙ ap (λ to. (take from rows ++ filter stays (take (to - from) (drop from rows))) ++ drop to rows) told.2
-    ∙ spared_all stays key rows probe from told.0 (subst (λ xs. IsSpan key xs probe from told.0) c.rows.ensures told.1)
-    (λ row n. (is_no (dec_tests c.args.tests.now row)).1 (λ t. n (c.known_key-probe.ensures.known row t)))
+    ∙ ap (λ to. (take from rows ++ filter stays (take (to - from) (drop from rows))) ++ drop to rows) told.end
+    ∙ spared_all stays key rows told.values from told.stretch told.is (λ row n. (is_no (dec_tests c.args.tests.now row)).1 (λ t. n (told.known row t)))
 
 pub retain_in-requires-clause-order : goal.retain_in-requires-clause-order
-retain_in-requires-clause-order c = let to = c.told_places-from.ensures.told.2 in omega (arith, to)
+retain_in-requires-clause-order c = let to = c.told_places-from.ensures.told.end in omega (arith, to)
 
 pub returns-clause-spared : goal.returns-clause-spared
 returns-clause-spared c = record {
