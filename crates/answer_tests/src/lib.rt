@@ -1,7 +1,9 @@
-//! Tests of what no clause says of answers: searches, weak pairs, repairs and orders of atoms. Each call succeeds with ample
-//! memory, and with the answer that was worked out by hand, or by another program.
+//! Tests of what no clause says of answers: searches, weak pairs, repairs, ranges over joins and orders of atoms. Each
+//! call succeeds with ample memory, and with the answer that was worked out by hand, or by another program.
 #![tactic(auto)]
 
+#[cfg(test)]
+mod joins;
 #[cfg(test)]
 mod making;
 #[cfg(test)]

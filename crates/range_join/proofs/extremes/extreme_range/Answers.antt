@@ -1,0 +1,18 @@
+use Rattle.std.proofs.Common.{[], subst}
+use Rattle.std.proofs.lemmas.Result.{IfOk-weaker}
+use Rattle.join_access.specs.Listing.{names_of, AreAllNames}
+use Rattle.row_witnesses.proofs.Told.{all_names}
+use Rattle.range_join.specs.Extremes.{IsRangeOfPeaks}
+use Rattle.range_join.proofs.Peaked.{peaked}
+use Rattle.range_join.proofs.extremes.extreme_range.Goals as goal
+
+pub returns : goal.returns
+returns c =
+    let w = c.args.found.now in
+    let db = w.bound.now.db.now in
+    let q = w.bound.now.query.now in
+    let look = c.args.look in
+    let peaks = c.in_ok-peaks.peaks in
+    let all : AreAllNames q db [] (names_of w.list) = subst (λ row. AreAllNames q db row (names_of w.list)) c.requires.row (all_names w) in
+    IfOk-weaker c.range_of.result _ _ (λ range r. peaked db q w.bound.now.fits w.bound.now.database look.lax c.requires.strict c.requires.lax (names_of w.list) all look.atom c.requires.atom look.col look.way peaks c.in_ok-peaks.ensures range
+    (subst (λ t. IsRangeOfPeaks t peaks range) c.table_of.ensures r)) c.range_of.ensures

@@ -1,0 +1,11 @@
+use Rattle.std.proofs.Common.{◌<◌, Contains, sym, subst}
+use Rattle.range_join.proofs.Spans.{firsts-below}
+use Rattle.range_join.proofs.peaks.greatest_peaks.Goals as goal
+
+pub peak-requires : goal.peak-requires
+peak-requires c p m =
+    subst (λ n. p < n) (sym c.requires.size) (firsts-below _ c.args.db.now c.args.table c.in_ok-low.low.items c.in_ok-low.ensures p (subst (λ xs. Contains xs p) c.deref.ensures.value m))
+
+pub peak-requires-2 : goal.peak-requires-2
+peak-requires-2 c p m =
+    subst (λ n. p < n) (sym c.requires.size) (firsts-below _ c.args.db.now c.args.table c.in_ok-high.high.items c.in_ok-high.ensures p (subst (λ xs. Contains xs p) c.deref-2.ensures.value m))
