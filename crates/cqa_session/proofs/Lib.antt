@@ -5,6 +5,8 @@ pub mod Doing
 pub mod Dumping
 pub mod Explaining
 pub mod Opposing
+mod Joining
+mod JoinGoals
 mod Naming
 mod LineSteps
 mod Contesting

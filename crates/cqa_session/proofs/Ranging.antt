@@ -59,7 +59,7 @@ inside rows p none m = elim (cases_lt p (length rows)) [
 ]
 
 -- the names of the rows of a repair of a table are those of stored rows
-repair-stored : (db : List Table) (table : ℕ) (places : List ℕ) → IsDatabase db → table < length db → IsTableRepair (key_at db table) (rows_at db table) (rows_in (rows_at db table) places) → AreStored db (names_in table places)
+pub repair-stored : (db : List Table) (table : ℕ) (places : List ℕ) → IsDatabase db → table < length db → IsTableRepair (key_at db table) (rows_at db table) (rows_in (rows_at db table) places) → AreStored db (names_in table places)
 repair-stored db table places database there repair name m =
     let found = placed table places name m in
     let rows = rows_at db table in

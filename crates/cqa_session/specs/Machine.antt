@@ -5,7 +5,7 @@ use Rattle.spj_syntax.specs.declared.tree.Statement.TheVariants as statements
 use Rattle.spj_syntax.specs.declared.tree.Select.{Select}
 use Rattle.spj_syntax.specs.declared.tree.Verb.{Verb}
 use Rattle.spj_syntax.specs.declared.tree.Verb.TheVariants as verbs
-use Rattle.query_resolve.specs.Checks.{schema_fault, query_fault}
+use Rattle.query_resolve.specs.Checks.{schema_fault, query_fault, range_join_fault}
 use Rattle.refusals.specs.declared.refusal.Refusal.{Refusal}
 use Rattle.reply_text.specs.declared.reply.Reply.{Reply}
 use Rattle.reply_text.specs.declared.reply.Reply.TheVariants.{Refused}
@@ -16,8 +16,10 @@ use Rattle.cqa_session.specs.Statements.Create.{Creates}
 use Rattle.cqa_session.specs.Statements.Alter.{alter_fault, Alters}
 use Rattle.cqa_session.specs.Statements.Insert.{insert_into_fault, InsertsInto}
 use Rattle.cqa_session.specs.Statements.Delete.{delete_from_fault, DeletesFrom}
+use Rattle.cqa_session.specs.Statements.Prefer.{prefer_fault, PrefersIn}
 use Rattle.cqa_session.specs.Statements.Copy.{copy_into_fault, CopiesInto}
 use Rattle.cqa_session.specs.Statements.Range.{range_fault, TellsRange}
+use Rattle.cqa_session.specs.Statements.RangeOfJoin.{TellsRangeJoin}
 use Rattle.cqa_session.specs.Statements.Ask.{AnswersCertain}
 use Rattle.cqa_session.specs.Statements.Possible.{AnswersPossible}
 use Rattle.cqa_session.specs.Statements.Disputed.{AnswersDisputed}
@@ -51,8 +53,10 @@ fault_in old (statements.Create raw) block = schema_fault old.tables raw
 fault_in old (statements.Alter name change) block = alter_fault old.tables name change
 fault_in old (statements.Insert name rows) block = insert_into_fault old.tables name rows
 fault_in old (statements.Delete name tests) block = delete_from_fault old.tables name tests
+fault_in old (statements.Prefer name tests) block = prefer_fault old.tables name tests
 fault_in old (statements.Copy name) block = copy_into_fault old.tables name
 fault_in old (statements.Range goal name tests group) block = range_fault old.tables name goal tests group
+fault_in old (statements.RangeJoin range) block = range_join_fault old.tables range
 fault_in old (statements.Asking verb select) block = query_fault old.tables select
 fault_in old (statements.SetConflicts conflicts) block = None
 fault_in old statements.ShowTables block = None
@@ -65,8 +69,10 @@ Executes old (statements.Create raw) block reply new = Creates old raw reply new
 Executes old (statements.Alter name change) block reply new = Alters old name change reply new
 Executes old (statements.Insert name rows) block reply new = InsertsInto old name rows reply new
 Executes old (statements.Delete name tests) block reply new = DeletesFrom old name tests reply new
+Executes old (statements.Prefer name tests) block reply new = PrefersIn old name tests reply new
 Executes old (statements.Copy name) block reply new = CopiesInto old name block reply new
 Executes old (statements.Range goal name tests group) block reply new = TellsRange old name goal tests group reply new
+Executes old (statements.RangeJoin range) block reply new = TellsRangeJoin old range reply new
 Executes old (statements.Asking verb select) block reply new = Asks old verb select reply new
 Executes old (statements.SetConflicts conflicts) block reply new = SetsConflicts old conflicts reply new
 Executes old statements.ShowTables block reply new = ShowsTables old reply new

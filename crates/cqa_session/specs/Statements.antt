@@ -3,6 +3,7 @@ pub mod Create
 pub mod Alter
 pub mod Insert
 pub mod Delete
+pub mod Prefer
 pub mod Copy
 pub mod Spent
 pub mod Kept
@@ -17,6 +18,7 @@ pub mod Untold
 pub mod Explain
 pub mod Against
 pub mod Range
+pub mod RangeOfJoin
 pub mod SetConflicts
 pub mod ShowTables
 pub mod ShowConflicts

@@ -21,7 +21,9 @@ use crate::statements::explain::explain;
 use crate::statements::insert::insert;
 use crate::statements::plan::plan;
 use crate::statements::possible::possible;
+use crate::statements::prefer::prefer;
 use crate::statements::range::range;
+use crate::statements::range_of_join::range_of_join;
 use crate::statements::set_conflicts::set_conflicts;
 use crate::statements::show_conflicts::show_conflicts;
 use crate::statements::show_log::show_log;
@@ -73,6 +75,7 @@ fn done(
             insert(alloc, session, table, rows)
         }
         Statement::Delete { table, tests } => delete(alloc, session, table, tests.as_slice()),
+        Statement::Prefer { table, tests } => prefer(alloc, session, table, tests.as_slice()),
         Statement::Copy { table } => copy(alloc, session, table, block),
         Statement::Range {
             goal,
@@ -80,6 +83,7 @@ fn done(
             tests,
             group,
         } => range(alloc, session, table, goal, tests.as_slice(), group),
+        Statement::RangeJoin { range } => range_of_join(alloc, session, range),
         Statement::Asking { verb, select } => asked(alloc, session, verb, select),
         Statement::SetConflicts(conflicts) => set_conflicts(session, *conflicts),
         Statement::ShowTables => show_tables(alloc, session),

@@ -124,4 +124,4 @@ insert_generated table r h some =
     (one_then (word (codes "values")) (listed row) (Word (codes "values")) _ refl (list_is row row_tokens (λ r. 0 < length r) row_generated (r ∷ []) (omega arith) (some, tt)))))))))
 
 pub copy_generated : (table : List ℕ) → IsName table → Generates statement (statement_tokens (statements.Copy table))
-copy_generated table h = inr (inr (inr (inr (inr (inl (one_then (word (codes "copy")) a_name (Word (codes "copy")) (Word table ∷ []) refl (name_generated table h)))))))
+copy_generated table h = inr (inr (inr (inr (inr (inr (inl (one_then (word (codes "copy")) a_name (Word (codes "copy")) (Word table ∷ []) refl (name_generated table h))))))))

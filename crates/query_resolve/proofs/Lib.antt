@@ -4,3 +4,4 @@ pub mod Schemas
 pub mod Scopes
 pub mod Queries
 pub mod AnswerColumns
+pub mod Ranges

@@ -36,7 +36,7 @@ pub not_some : {A : Type 0} (o : Option A) → not (is_some o) ≡ true → o �
 not_some None e = refl
 not_some (Some x) e = absurd (true≢false (sym e))
 
-position-None : {A : Type 0} (p : A → Bool) (xs : List A) (k : ℕ) (d : A) → position p xs ≡ None → k < length xs → p (get_or xs k d) ≡ false
+pub position-None : {A : Type 0} (p : A → Bool) (xs : List A) (k : ℕ) (d : A) → position p xs ≡ None → k < length xs → p (get_or xs k d) ≡ false
 position-None p xs k d e inside = fails_before_first p xs k d (let past : length xs ≤ position_or_len p xs = grind (arith, common_steps) in omega (arith, past, inside))
 
 -- members with names

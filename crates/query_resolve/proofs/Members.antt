@@ -87,3 +87,23 @@ pub numbered : {A T : Type 0} (check : ℕ → A → Option Refusal) (xs : List 
     at < length xs → Checked r (check (at + 1) x) P → Checked r (fault_by_number check (take at xs) x) P
 numbered check xs at x {r = r} {P = P} inside checked =
     subst (λ n. Checked r (check (n + 1) x) P) (sym (length-take-le at xs (omega (arith, inside)))) checked
+
+-- the members before a place pass their checks
+pub record Passed {A : Type 0} (check : List A → A → Option Refusal) (xs : List A) (at : ℕ) : Type 0 where
+  pub fault : first_fault check [] xs ≡ first_fault check (take at xs) (drop at xs)
+
+pub passed_more : {A : Type 0} {check : List A → A → Option Refusal} {xs : List A} {at : ℕ} {x : A} → Passed check xs at → at < length xs → x ≡ get_or xs at x → check (take at xs) x ≡ None → Passed check xs (at + 1)
+passed_more {check = check} {xs = xs} {at = at} {x = x} so inside is passes = record {
+  fault = so.fault ∙ fault_next check xs at x (slice_get_read xs (length xs) at x refl inside is) ∙ ap (λ o. first_of o (first_fault check (take (at + 1) xs) (drop (at + 1) xs))) passes;
+}
+
+-- or the fault of one is the list's
+pub passed_stopped : {A T : Type 0} {check : List A → A → Option Refusal} {xs : List A} {at : ℕ} {x : A} {P : T → Type 0} {r : Result T (Fail Refusal)} (e : Fail Refusal) →
+    Passed check xs at → at < length xs → x ≡ get_or xs at x → IsRefusedAs e (check (take at xs) x) → IsErrAnd r (λ f. f ≡ e) → Checked r (first_fault check [] xs) P
+passed_stopped {check = check} {xs = xs} {at = at} {x = x} {P = P} {r = r} e so inside is refused same =
+    handed_on r e (first_fault check [] xs) P same
+    (subst (IsRefusedAs e) (sym (so.fault ∙ fault_next check xs at x (slice_get_read xs (length xs) at x refl inside is))) (refused_first e (check (take at xs) x) (first_fault check (take (at + 1) xs) (drop (at + 1) xs)) refused))
+
+-- all members pass their checks
+pub passed_all : {A : Type 0} {check : List A → A → Option Refusal} {xs : List A} {at : ℕ} → Passed check xs at → length xs ≤ at → first_fault check [] xs ≡ None
+passed_all {check = check} {xs = xs} {at = at} so over = so.fault ∙ ap (first_fault check (take at xs)) (drop_all at xs over)

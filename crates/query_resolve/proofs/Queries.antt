@@ -64,7 +64,7 @@ atom_is db name atom is =
     }
 
 module _ (db : List Table) (names : List (List ℕ)) (atoms : List Atom) (are : AllZip (IsAtomOf db) names atoms) where
-  atom_of_name : (F : ℕ) → F < length atoms → IsAtomOf db (get_or names F []) (nth_atom atoms F)
+  pub atom_of_name : (F : ℕ) → F < length atoms → IsAtomOf db (get_or names F []) (nth_atom atoms F)
   unfolding no_atom
   atom_of_name F inside = (zip_at (IsAtomOf db) names atoms F [] no_atom are inside).1
 

@@ -1,13 +1,14 @@
--- The first failing check of a schema, of the key of an `alter`, of the tests of rows, of the goal and the groups of a `range`, and
--- of a query.
-use Rattle.std.specs.Prelude.{ℕ, ◌+◌, Bool, nat_lt, nat_le, not, ◌&&◌, if◌then◌else◌, List, [], ◌∷◌, ◌++◌, length, map, Option, Some, None, is_some, is_none, slice_index_or}
+-- The first failing check of a schema, of the key of an `alter`, of the tests of rows, of the goal and the groups of a `range`, of
+-- a query, and of a `range` over several tables.
+use Rattle.std.specs.Prelude.{ℕ, ◌+◌, Bool, nat_lt, nat_le, not, ◌&&◌, ◌||◌, if◌then◌else◌, List, [], ◌∷◌, ◌++◌, length, map, Option, Some, None, is_some, is_none, slice_index_or}
+use Rattle.std.specs.List.{list_all}
 use Rattle.cqa_value.specs.declared.value.Kind.{Kind}
 use Rattle.cqa_value.specs.declared.value.Kind.TheVariants as kinds
 use Rattle.cqa_value.specs.declared.value.Value.{Value}
 use Rattle.cqa_value.specs.Values.{kind_of}
 use Rattle.cqa_model.specs.declared.schema.Column.{Column}
 use Rattle.refusals.specs.declared.refusal.Refusal.{Refusal}
-use Rattle.refusals.specs.declared.refusal.Refusal.TheVariants.{UnknownTable, TableExists, UnknownColumn, AmbiguousColumn, SelfJoin, TypeMismatch, DuplicateColumn, BadKey, Limit}
+use Rattle.refusals.specs.declared.refusal.Refusal.TheVariants.{UnknownTable, TableExists, UnknownColumn, AmbiguousColumn, SelfJoin, TypeMismatch, DuplicateColumn, BadKey, Limit, NotStrict}
 use Rattle.refusals.specs.declared.refusal.Place.TheVariants.{Condition}
 use Rattle.refusals.specs.declared.refusal.LimitKind.TheVariants.{Tables, Columns, Atoms, Answer}
 use Rattle.cqa_model.specs.declared.limits.TheConstants.{MOST_TABLES, MOST_COLUMNS, MOST_ATOMS, MOST_ANSWER_COLUMNS}
@@ -16,6 +17,9 @@ use Rattle.spj_syntax.specs.declared.tree.RawSchema.{RawSchema}
 use Rattle.spj_syntax.specs.declared.tree.RawTest.{RawTest}
 use Rattle.spj_syntax.specs.declared.tree.RawGoal.{RawGoal}
 use Rattle.spj_syntax.specs.declared.tree.RawGoal.TheVariants as goals
+use Rattle.spj_syntax.specs.declared.tree.RawJoinGoal.{RawJoinGoal}
+use Rattle.spj_syntax.specs.declared.tree.RawJoinGoal.TheVariants as join_goals
+use Rattle.spj_syntax.specs.declared.tree.RawRange.{RawRange}
 use Rattle.spj_syntax.specs.declared.tree.RawCol.{RawCol}
 use Rattle.spj_syntax.specs.declared.tree.RawCond.{RawCond}
 use Rattle.spj_syntax.specs.declared.tree.RawCond.TheVariants.{Join, Test}
@@ -25,7 +29,7 @@ use Rattle.cqa_model.specs.Query.{kind_at}
 use Rattle.refusals.specs.Refusal.{first_of}
 use Rattle.table_blocks.specs.Tables.{table_named}
 use Rattle.refusals.specs.Kinds.{same_kind, row_fault}
-use Rattle.query_resolve.specs.Names.{name_place, has_column, kind_named, columns_at, columns_named, owners}
+use Rattle.query_resolve.specs.Names.{name_place, has_column, kind_named, columns_at, columns_named, strict_named, owners}
 
 -- the refusal of a check that fails
 abbrev pub fault_unless : Bool → Refusal → Option Refusal
@@ -138,6 +142,31 @@ abbrev pub query_fault : List Table → Select → Option Refusal
 query_fault db select =
     first_of (size_fault select)
     (first_of (first_fault (from_fault db) [] select.tables) (first_of (select_fault db select.tables select.columns) (where_fault db select.tables select.conds)))
+
+-- a range over several tables names at most `MOST_ATOMS` of them
+abbrev pub tables_fault : List (List ℕ) → Option Refusal
+tables_fault names = fault_unless (nat_le (length names) MOST_ATOMS) (Limit Atoms)
+
+-- the column of a goal over several tables is there, and that of a sum is one of integers: else it is refused with the number 0,
+-- since conditions have those from 1
+abbrev pub join_goal_fault : List Table → List (List ℕ) → RawJoinGoal → Option Refusal
+join_goal_fault db names join_goals.Count = None
+join_goal_fault db names (join_goals.Sum col) = first_of (column_fault db names col.table col.name) (kinds_fault 0 (column_kind db names col) kinds.Int)
+join_goal_fault db names (join_goals.Min col) = column_fault db names col.table col.name
+join_goal_fault db names (join_goals.Max col) = column_fault db names col.table col.name
+
+-- a table is strict, or those before it are
+abbrev pub lax_fault : List Table → List (List ℕ) → List ℕ → Option Refusal
+lax_fault db before name = fault_unless (strict_named db name || list_all (strict_named db) before) (NotStrict name)
+
+-- a range over several tables: its tables, its goal and its conditions, as those of one table; and then that all tables are strict
+-- but for one at most
+abbrev pub range_join_fault : List Table → RawRange → Option Refusal
+range_join_fault db range =
+    first_of (tables_fault range.tables)
+    (first_of (first_fault (from_fault db) [] range.tables)
+    (first_of (join_goal_fault db range.tables range.goal)
+    (first_of (where_fault db range.tables range.conds) (first_fault (lax_fault db) [] range.tables))))
 
 -- the kinds of a query's answer columns
 abbrev pub answer_kinds : List Table → Query → List Kind

@@ -1,5 +1,5 @@
 -- What names stand for: columns of a table, and tables of a query.
-use Rattle.std.specs.Prelude.{◌≡◌, ℕ, ◌+◌, Bool, List, [], ◌∷◌, map, drop, Option, Some, position, nat_eq, slice_index_or, unwrap_or, option_map, is_some}
+use Rattle.std.specs.Prelude.{◌≡◌, ℕ, ◌+◌, Bool, true, List, [], ◌∷◌, map, drop, Option, Some, position, nat_eq, slice_index_or, unwrap_or, option_map, is_some}
 use Rattle.std.specs.List.{filter}
 use Rattle.std.specs.Cmp.Lexicographic.{pointwise}
 use Rattle.cqa_value.specs.declared.value.Kind.{Kind}
@@ -8,7 +8,7 @@ use Rattle.cqa_model.specs.declared.query.Atom.{Atom}
 use Rattle.cqa_model.specs.declared.query.ColRef.{ColRef}
 use Rattle.cqa_model.specs.Database.{Table}
 use Rattle.cqa_model.specs.Shape.{column_at}
-use Rattle.table_blocks.specs.Tables.{table_named}
+use Rattle.table_blocks.specs.Tables.{table_named, mark_at}
 
 -- the first place of a name in a list
 abbrev pub name_place : List (List ℕ) → List ℕ → Option ℕ
@@ -36,6 +36,10 @@ columns_at db table = slice_index_or (map (λ (t : Table). t.schema.columns) db)
 -- the columns of the table with a name; a table that isn't there has none
 abbrev pub columns_named : List Table → List ℕ → List Column
 columns_named db name = unwrap_or (option_map (columns_at db) (table_named db name)) []
+
+-- whether the table with a name is strict; where none is there, nothing breaks its key
+abbrev pub strict_named : List Table → List ℕ → Bool
+strict_named db name = unwrap_or (option_map (mark_at db) (table_named db name)) true
 
 -- the columns of each table that a query names
 abbrev pub scope : List Table → List (List ℕ) → List (List Column)

@@ -1,5 +1,5 @@
 -- What schemas, tests, goals, groups and queries are once each name is resolved.
-use Rattle.std.specs.Prelude.{◌≡◌, ℕ, IsTrue, List, length, Option, Some, None}
+use Rattle.std.specs.Prelude.{◌≡◌, ◌<◌, ℕ, IsTrue, not, true, List, [], length, position, Option, Some, None, unwrap_or}
 use Rattle.std.specs.List.{AllZip}
 use Rattle.cqa_model.specs.declared.schema.Schema.{Schema}
 use Rattle.cqa_model.specs.declared.schema.Column.{Column}
@@ -12,16 +12,21 @@ use Rattle.cqa_model.specs.declared.aggregate.Goal.{Goal}
 use Rattle.cqa_model.specs.declared.aggregate.Goal.TheVariants as goals
 use Rattle.cqa_model.specs.Database.{Table}
 use Rattle.cqa_model.specs.Query.{FitsDatabase}
+use Rattle.cqa_model.specs.Shape.{nth_atom}
 use Rattle.spj_syntax.specs.declared.tree.RawSchema.{RawSchema}
 use Rattle.spj_syntax.specs.declared.tree.RawTest.{RawTest}
 use Rattle.spj_syntax.specs.declared.tree.RawGoal.{RawGoal}
 use Rattle.spj_syntax.specs.declared.tree.RawGoal.TheVariants as written
+use Rattle.spj_syntax.specs.declared.tree.RawJoinGoal.{RawJoinGoal}
+use Rattle.spj_syntax.specs.declared.tree.RawJoinGoal.TheVariants as join_goals
+use Rattle.spj_syntax.specs.declared.tree.RawRange.{RawRange}
 use Rattle.spj_syntax.specs.declared.tree.RawCol.{RawCol}
 use Rattle.spj_syntax.specs.declared.tree.RawCond.{RawCond}
 use Rattle.spj_syntax.specs.declared.tree.RawCond.TheVariants.{Join as WrittenJoin, Test as WrittenTest}
 use Rattle.spj_syntax.specs.declared.tree.Select.{Select}
 use Rattle.table_blocks.specs.declared.test.ColumnTest.{ColumnTest}
 use Rattle.table_blocks.specs.Tables.{table_named, key_at, mark_at}
+use Rattle.query_resolve.specs.declared.range.RangeQuery.{RangeQuery}
 use Rattle.query_resolve.specs.Names.{name_place, column_named, has_column, columns_at, atom_columns}
 
 -- one place for each name, in order: that of the column so named
@@ -93,3 +98,25 @@ pub record IsQueryOf (db : List Table) (select : Select) (query : Query) : Type 
   pub conds : AllZip (IsCondOf db select.tables) select.conds query.conds
   pub answer : AllZip (IsColumnOf db select.tables) select.columns query.answer
   pub fits : FitsDatabase query db
+
+-- the column of a goal over several tables is that of an atom, at a place; what is asked of it is kept, and a count has the first atom
+abbrev pub IsJoinGoalOf : List Table → List (List ℕ) → RawJoinGoal → Goal → ℕ → Type 0
+IsJoinGoalOf db names join_goals.Count goals.Count atom = atom ≡ 0
+IsJoinGoalOf db names (join_goals.Sum col) (goals.Sum place) atom = IsColumnOf db names col (record { atom = atom; col = place })
+IsJoinGoalOf db names (join_goals.Min col) (goals.Min place) atom = IsColumnOf db names col (record { atom = atom; col = place })
+IsJoinGoalOf db names (join_goals.Max col) (goals.Max place) atom = IsColumnOf db names col (record { atom = atom; col = place })
+IsJoinGoalOf db names raw goal atom = ⊥
+
+-- the first atom whose table isn't strict, or the first one
+abbrev pub lax_of : List Atom → ℕ
+lax_of atoms = unwrap_or (position (λ (atom : Atom). not atom.strict) atoms) 0
+
+-- a query with no answer column, with the goal over its atoms; the tables of all atoms but one are strict
+pub record IsRangeOf (db : List Table) (raw : RawRange) (range : RangeQuery) : Type 0 where
+  pub atoms : AllZip (IsAtomOf db) raw.tables range.query.atoms
+  pub conds : AllZip (IsCondOf db raw.tables) raw.conds range.query.conds
+  pub answer : range.query.answer ≡ []
+  pub goal : IsJoinGoalOf db raw.tables raw.goal range.goal range.atom
+  pub inside : range.lax < length range.query.atoms
+  pub strict : (atom : ℕ) → atom < length range.query.atoms → (atom ≡ range.lax → ⊥) → (nth_atom range.query.atoms atom).strict ≡ true
+  pub fits : FitsDatabase range.query db

@@ -38,7 +38,7 @@ pub fn columns_of(
 }
 
 /// The atom and the place of a column.
-fn column_of(
+pub fn column_of(
     alloc: Global,
     db: &Database,
     names: &[Name],

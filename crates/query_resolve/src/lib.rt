@@ -12,6 +12,7 @@ mod goal;
 mod key;
 mod names;
 mod query;
+mod range;
 mod schema;
 
 pub use answer::check_row;
@@ -20,4 +21,5 @@ pub use faults::unknown_table;
 pub use goal::{resolve_goal, resolve_group};
 pub use key::resolve_key;
 pub use query::resolve;
+pub use range::{RangeQuery, resolve_range};
 pub use schema::resolve_schema;

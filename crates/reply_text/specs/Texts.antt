@@ -8,7 +8,7 @@ use Rattle.cnf_form.specs.Writing.{proof_bytes}
 use Rattle.lrat_check.specs.Writing.{log_bytes}
 use Rattle.cqa_model.specs.Text.{schema_bytes}
 use Rattle.refusals.specs.declared.refusal.Refusal.{Refusal}
-use Rattle.refusals.specs.declared.refusal.Refusal.TheVariants.{BadByte, Syntax, StatementTooLong, UnknownTable, TableExists, UnknownColumn, AmbiguousColumn, SelfJoin, TypeMismatch, WrongArity, DuplicateColumn, BadKey, OutOfRange, TextTooLong, Unfinished, Limit, WitnessLimit, Spent, BadCsv, KeyTaken, KeyBroken}
+use Rattle.refusals.specs.declared.refusal.Refusal.TheVariants.{BadByte, Syntax, StatementTooLong, UnknownTable, TableExists, UnknownColumn, AmbiguousColumn, SelfJoin, TypeMismatch, WrongArity, DuplicateColumn, BadKey, OutOfRange, TextTooLong, Unfinished, Limit, WitnessLimit, Spent, BadCsv, KeyTaken, KeyBroken, NotStrict}
 use Rattle.refusals.specs.declared.refusal.Place.{Place}
 use Rattle.refusals.specs.declared.refusal.Place.TheVariants.{Cell, Condition}
 use Rattle.refusals.specs.declared.refusal.LimitKind.{LimitKind}
@@ -81,6 +81,7 @@ refusal_parts (Spent row conflicts) = (codes "error 18 Spent ", row_bytes row ++
 refusal_parts (BadCsv number) = (codes "error 19 BadCsv record ", decimal number)
 refusal_parts (KeyTaken number kept fresh) = (codes "error 20 KeyTaken row ", decimal number ++ codes " " ++ row_bytes kept ++ codes " " ++ row_bytes fresh)
 refusal_parts (KeyBroken first second) = (codes "error 21 KeyBroken ", row_bytes first ++ codes " " ++ row_bytes second)
+refusal_parts (NotStrict name) = (codes "error 23 NotStrict ", name)
 
 -- the line of a refusal, without its line feed
 abbrev pub refusal_text : Refusal → List ℕ

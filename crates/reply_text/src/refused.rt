@@ -48,6 +48,7 @@ fn refusal_words(refusal: &Refusal) -> &'static str
         Refusal::BadCsv { .. } => "error 19 BadCsv record ",
         Refusal::KeyTaken { .. } => "error 20 KeyTaken row ",
         Refusal::KeyBroken { .. } => "error 21 KeyBroken ",
+        Refusal::NotStrict { .. } => "error 23 NotStrict ",
     }
 }
 
@@ -68,7 +69,8 @@ fn append_subject(refusal: &Refusal, out: &mut Vec<u8>) -> Result<(), NoMemory>
         | Refusal::AmbiguousColumn { name }
         | Refusal::SelfJoin { name }
         | Refusal::DuplicateColumn { name }
-        | Refusal::BadKey { name } => append_name(name, out),
+        | Refusal::BadKey { name }
+        | Refusal::NotStrict { name } => append_name(name, out),
         Refusal::UnknownColumn { table, name } => append_column(table, name, out),
         Refusal::TypeMismatch { place } => append_place(place, out),
         Refusal::Unfinished => Ok(()),

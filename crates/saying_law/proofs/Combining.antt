@@ -9,7 +9,7 @@ use Rattle.script_lex.specs.Tokens.{IsToken}
 use Rattle.spj_syntax.specs.Lexemes.{Lexeme, Word, Number, Quoted, Mark}
 use Rattle.spj_syntax.specs.Limits.{most_items}
 use Rattle.spj_syntax.specs.Shapes.{Terminal, word, mark, matches, Shape, one, ◌⨾◌, ◌∣◌, many, nothing, Generates, joined}
-use Rattle.spj_syntax.specs.Grammar.{separated, filtered, anded}
+use Rattle.spj_syntax.specs.Grammar.{separated, filtered}
 use Rattle.spj_syntax.specs.Walk.{has, only_if}
 use Rattle.spj_syntax.specs.Written.{each_after, between, filtered_tokens}
 use Rattle.spj_syntax.proofs.Steps.{mark_taken}

@@ -18,6 +18,11 @@ use Rattle.spj_syntax.specs.declared.tree.RawCond.{RawCond}
 use Rattle.spj_syntax.specs.declared.tree.RawCond.TheVariants.{Join, Test}
 use Rattle.spj_syntax.specs.declared.tree.RawGoal.{RawGoal}
 use Rattle.spj_syntax.specs.declared.tree.RawGoal.TheVariants as goals
+use Rattle.spj_syntax.specs.declared.tree.RawJoinGoal.{RawJoinGoal}
+use Rattle.spj_syntax.specs.declared.tree.RawJoinGoal.TheVariants as join_goals
+use Rattle.spj_syntax.specs.declared.range_parts.Asked.{Asked}
+use Rattle.spj_syntax.specs.declared.range_parts.Asked.TheVariants as aggregates
+use Rattle.spj_syntax.specs.Reading.{aggregate_tokens}
 use Rattle.spj_syntax.specs.declared.tree.RawTest.{RawTest}
 use Rattle.spj_syntax.specs.declared.tree.Select.{Select}
 use Rattle.spj_syntax.specs.declared.tree.Verb.{Verb}
@@ -25,9 +30,9 @@ use Rattle.spj_syntax.specs.declared.tree.Verb.TheVariants as verbs
 use Rattle.spj_syntax.specs.Grammar as grammar
 use Rattle.spj_syntax.specs.Lexemes.{Lexeme, Word, Number, Quoted, Mark}
 use Rattle.spj_syntax.specs.Shapes.{int, text, name, mark, matches, Shape, one, ◌⨾◌}
-use Rattle.spj_syntax.specs.Written.{name_tokens, literal_tokens, column_tokens, listed_tokens, filtered_tokens, op_symbol, test_tokens, col_tokens, cond_tokens, row_tokens, head_tokens, select_tokens, strict_tokens, key_tokens, change_tokens, row_for_tokens, verb_tokens, goal_tokens, grouped_tokens}
+use Rattle.spj_syntax.specs.Written.{name_tokens, literal_tokens, column_tokens, listed_tokens, filtered_tokens, op_symbol, test_tokens, col_tokens, cond_tokens, row_tokens, head_tokens, select_tokens, strict_tokens, key_tokens, change_tokens, row_for_tokens, verb_tokens, goal_tokens, grouped_tokens, anded_tokens, join_goal_tokens}
 use Rattle.spj_syntax.proofs.Naming.{is_name}
-use Rattle.saying_law.proofs.Combining.{IsLegal, AreLegal, HasTrees, Anything, turned, counts_as, both, either, none, a_word, a_mark, after_word, after_mark, with_marks, of_filter}
+use Rattle.saying_law.proofs.Combining.{IsLegal, AreLegal, HasTrees, Anything, turned, counts_as, both, either, none, a_word, a_mark, after_word, after_mark, with_marks, with_words, of_filter}
 
 pub a_name : HasTrees grammar.a_name name_tokens IsName
 a_name = record { tree = λ ls legal s. go s.0 s.1 ls s.2 legal }
@@ -127,7 +132,7 @@ a_col = counts_as (λ x v. go x.0 x.1) (both a_name dotted)
     go n None = (record { table = None; name = n }, refl)
     go n (Some m) = (record { table = Some n; name = m }, refl)
 
-a_cond : HasTrees grammar.cond cond_tokens (Anything RawCond)
+pub a_cond : HasTrees grammar.cond cond_tokens (Anything RawCond)
 a_cond =
     either (counts_as (λ x v. (Join x.0 x.1, refl)) (both a_col (after_mark s.Eq a_col)))
     (counts_as (λ x v. (Test x.0 x.1.0 x.1.1, refl)) (both a_col (both an_operator a_literal)))
@@ -155,9 +160,28 @@ a_verb =
     (either (counts_as (λ row v. (verbs.Explain row, refl)) (after_word (codes "explain") row_for))
     (counts_as (λ row v. (verbs.Against row, refl)) (after_word (codes "against") row_for))))))))
 
+-- one test or more
+pub more_tests : HasTrees (grammar.anded grammar.test) (anded_tokens test_tokens) (Anything (List RawTest))
+more_tests = counts_as (λ xs v. (xs, refl)) (with_words (codes "and") a_test)
+
+an_aggregate : HasTrees grammar.aggregate aggregate_tokens (Anything Asked)
+an_aggregate =
+    either (counts_as (λ u v. (aggregates.Sum, refl)) (a_word (codes "sum")))
+    (either (counts_as (λ u v. (aggregates.Min, refl)) (a_word (codes "min")))
+    (counts_as (λ u v. (aggregates.Max, refl)) (a_word (codes "max"))))
+
 pub a_goal : HasTrees grammar.goal goal_tokens (Anything RawGoal)
-a_goal =
-    either (counts_as (λ u v. (goals.Count, refl)) (a_word (codes "count")))
-    (either (counts_as (λ n v. (goals.Sum n, refl)) (after_word (codes "sum") a_name))
-    (either (counts_as (λ n v. (goals.Min n, refl)) (after_word (codes "min") a_name))
-    (counts_as (λ n v. (goals.Max n, refl)) (after_word (codes "max") a_name))))
+a_goal = either (counts_as (λ u v. (goals.Count, refl)) (a_word (codes "count"))) (counts_as (λ x v. go x.0 x.1) (both an_aggregate a_name))
+  where
+    go : (a : Asked) (n : List ℕ) → (g : RawGoal) × (aggregate_tokens a ++ name_tokens n ≡ goal_tokens g)
+    go aggregates.Sum n = (goals.Sum n, refl)
+    go aggregates.Min n = (goals.Min n, refl)
+    go aggregates.Max n = (goals.Max n, refl)
+
+pub a_join_goal : HasTrees grammar.join_goal join_goal_tokens (Anything RawJoinGoal)
+a_join_goal = either (counts_as (λ u v. (join_goals.Count, refl)) (a_word (codes "count"))) (counts_as (λ x v. go x.0 x.1) (both an_aggregate a_col))
+  where
+    go : (a : Asked) (c : RawCol) → (g : RawJoinGoal) × (aggregate_tokens a ++ col_tokens c ≡ join_goal_tokens g)
+    go aggregates.Sum c = (join_goals.Sum c, refl)
+    go aggregates.Min c = (join_goals.Min c, refl)
+    go aggregates.Max c = (join_goals.Max c, refl)

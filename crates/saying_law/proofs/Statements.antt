@@ -1,5 +1,5 @@
 -- Each statement of the grammar has a tree.
-use Rattle.std.proofs.Common.{◌≡◌, inl, inr, ◌<◌, ℕ, ℤ, pos, negsuc, Bool, true, List, [], ◌∷◌, ◌++◌, length, codes, refl, ◌∙◌, ap, subst, append_assoc, arith}
+use Rattle.std.proofs.Common.{◌≡◌, inl, inr, ◌<◌, ◌≤◌, ℕ, ℤ, pos, negsuc, Bool, true, List, [], ◌∷◌, ◌++◌, Option, length, codes, refl, ◌∙◌, ap, subst, append_assoc, arith}
 use Rattle.std.specs.List.{AllByRecursion}
 use Rattle.std.proofs.lemmas.Int.{ints}
 use Rattle.std.proofs.lemmas.List.Elements.{All-from_recursion}
@@ -7,15 +7,18 @@ use Rattle.cqa_model.specs.declared.schema.Column.{Column}
 use Rattle.cqa_model.specs.Valid.{IsName}
 use Rattle.script_lex.specs.declared.kinds.Symbol.TheVariants as s
 use Rattle.spj_syntax.specs.declared.tree.RawSchema.{RawSchema}
+use Rattle.spj_syntax.specs.declared.tree.RawCond.{RawCond}
+use Rattle.spj_syntax.specs.declared.tree.RawJoinGoal.{RawJoinGoal}
 use Rattle.spj_syntax.specs.declared.tree.Statement.{Statement}
 use Rattle.spj_syntax.specs.declared.tree.Statement.TheVariants as statements
 use Rattle.spj_syntax.specs.Grammar as grammar
 use Rattle.spj_syntax.specs.Lexemes.{Lexeme, Word, Number, Mark}
+use Rattle.spj_syntax.specs.Limits.{most_items}
 use Rattle.spj_syntax.specs.Parsed.{IsStatement, IsIntInRange, AllLexemesFit}
 use Rattle.spj_syntax.specs.Shapes.{◌∣◌}
-use Rattle.spj_syntax.specs.Written.{name_tokens, column_tokens, strict_tokens, key_tokens, each_after, statement_tokens, IsWrittenAs}
-use Rattle.saying_law.proofs.Combining.{AreLegal, HasTrees, Anything, counts_as, both, either, a_word, a_mark, after_word, after_mark, each_after_mark}
-use Rattle.saying_law.proofs.Parts.{a_name, a_number, listed, a_column, a_key, a_strict, a_change, a_row, some_tests, a_group, a_query, a_verb, a_goal}
+use Rattle.spj_syntax.specs.Written.{name_tokens, column_tokens, cond_tokens, filtered_tokens, join_goal_tokens, listed_tokens, strict_tokens, key_tokens, each_after, statement_tokens, IsWrittenAs}
+use Rattle.saying_law.proofs.Combining.{AreLegal, HasTrees, Anything, counts_as, both, either, a_word, a_mark, after_word, after_mark, each_after_mark, of_filter}
+use Rattle.saying_law.proofs.Parts.{a_name, a_number, listed, a_column, a_key, a_strict, a_change, a_row, some_tests, a_group, more_tests, a_cond, a_query, a_verb, a_goal, a_join_goal}
 
 -- the tokens of a schema, from the parts as the grammar has them
 schema : (strict : Bool) (table : List ℕ) (column : Column) (columns : List Column) (key : List (List ℕ)) → IsName table → IsName column.name → AllByRecursion (λ (c : Column). IsName c.name) columns → 0 < length key → AllByRecursion IsName key
@@ -53,6 +56,24 @@ copy = counts_as (λ x v. (statements.Copy x, refl)) (after_word (codes "copy") 
 range : HasTrees grammar.range statement_tokens (Anything Statement)
 range = counts_as (λ x v. (statements.Range x.0 x.1.0 x.1.1.0 x.1.1.1, refl)) (after_word (codes "range") (both a_goal (after_word (codes "from") (both a_name (both some_tests a_group)))))
 
+-- a range over several tables, from the parts as the grammar has them
+joined : (goal : RawJoinGoal) (first : List ℕ) (others : List (List ℕ)) (conds : List RawCond) → 0 < length others → length conds ≤ most_items
+    → (statement : Statement)
+    × (Word (codes "range") ∷ (join_goal_tokens goal ++ (Word (codes "from") ∷ (name_tokens first ++ (Mark s.Comma ∷ (listed_tokens name_tokens others ++ filtered_tokens cond_tokens conds))))) ≡ statement_tokens statement)
+joined goal first [] conds some few = absurd (omega arith)
+joined goal first (other ∷ others) conds some few = (
+  statements.RangeJoin (record { goal = goal; tables = first ∷ other ∷ others; conds = conds; some_other = omega arith; few = few }),
+  simp append_assoc refl,
+)
+
+range_join : HasTrees grammar.range_join statement_tokens (Anything Statement)
+range_join =
+    counts_as (λ x v. joined x.0 x.1.0 x.1.1.0 x.1.1.1 v.1.1.0.0 v.1.1.1.1)
+    (after_word (codes "range") (both a_join_goal (after_word (codes "from") (both a_name (after_mark s.Comma (both (listed a_name) (of_filter a_cond)))))))
+
+prefer : HasTrees grammar.prefer statement_tokens (Anything Statement)
+prefer = counts_as (λ x v. (statements.Prefer x.0 x.1, refl)) (after_word (codes "prefer") (both a_name (after_word (codes "where") more_tests)))
+
 show : HasTrees grammar.show statement_tokens (Anything Statement)
 show =
     either (counts_as (λ u v. (statements.ShowTables, refl)) (after_word (codes "show") (a_word (codes "tables"))))
@@ -63,11 +84,11 @@ asking : HasTrees grammar.asking statement_tokens (Anything Statement)
 asking = counts_as (λ x v. (statements.Asking x.0 x.1, refl)) (both a_verb a_query)
 
 -- all statements but `set`
-any_other : HasTrees (grammar.create ∣ grammar.alter ∣ grammar.one_of grammar.direct (grammar.show ∣ grammar.asking)) statement_tokens (Anything Statement)
+any_other : HasTrees (grammar.create ∣ grammar.alter ∣ grammar.one_of grammar.direct (grammar.show ∣ (grammar.range ∣ grammar.range_join) ∣ grammar.asking)) statement_tokens (Anything Statement)
 any_other =
     either create (either alter
-    (either insert (either delete (either copy (either range (either (counts_as (λ u v. (statements.Dump, refl)) (a_word (codes "dump")))
-    (either show asking)))))))
+    (either insert (either delete (either prefer (either copy (either (counts_as (λ u v. (statements.Dump, refl)) (a_word (codes "dump")))
+    (either show (either (either range range_join) asking))))))))
 
 -- the int of a `set` is a number
 set_to : (z : ℤ) → IsIntInRange true z → (n : ℕ) × (z ≡ pos n)

@@ -2,7 +2,7 @@
 use Rattle.std.proofs.Common.{◌≡◌, inl, inr, List, [], ◌∷◌, ◌++◌, refl, sym, ◌∙◌, ap, append_assoc, codes}
 use Rattle.std.specs.List.{AllByRecursion}
 use Rattle.spj_syntax.specs.Lexemes.{Lexeme}
-use Rattle.script_lex.specs.declared.kinds.Symbol.TheVariants.{Open, Close, Comma, Eq}
+use Rattle.script_lex.specs.declared.kinds.Symbol.TheVariants.{Open, Close, Comma, Dot, Eq}
 use Rattle.spj_syntax.specs.Shapes.{word, mark, Shape, one, ◌⨾◌, ◌∣◌, many, nothing, Generates, joined, FirstFault, Stuck}
 use Rattle.spj_syntax.specs.Grammar as grammar
 use Rattle.spj_syntax.specs.Factored as factored
@@ -158,12 +158,86 @@ same_show =
     let conflicts = one (word (codes "conflicts")) in
     then (either (same (begin ⨾ one (word (codes "tables")))) (drawn begin log conflicts)) (drawn begin (one (word (codes "tables"))) (log ∣ conflicts))
 
+-- c or e and n, or c or e and n with d or nothing behind it
+undotted : (c e n d j s : Shape) → Same ((c ∣ e ⨾ n) ⨾ s ∣ (c ∣ e ⨾ n ⨾ (d ∣ nothing)) ⨾ j) (c ⨾ (j ∣ s) ∣ e ⨾ n ⨾ (d ⨾ j ∣ (j ∣ s)))
+undotted c e n d j s = record {
+  to = λ ls g. elim g [
+    | inl x ↦ let p = x.2 in elim p [
+      | inl k ↦ inl (x.0, x.1, k, inr x.3, x.4)
+      | inr k ↦ inr (k.0, k.1 ++ x.1, k.2, (k.1, x.1, k.3, inr (inr x.3), refl), x.4 ∙ ap (λ z. z ++ x.1) k.4 ∙ append_assoc k.0 k.1 x.1)
+    ]
+    | inr x ↦ let p = x.2 in elim p [
+      | inl k ↦ inl (x.0, x.1, k, inl x.3, x.4)
+      | inr k ↦ let m = k.3 in let q = m.3 in elim q [
+        | inl w ↦ inr (
+          k.0,
+          m.0 ++ (m.1 ++ x.1),
+          k.2,
+          (m.0, m.1 ++ x.1, m.2, inl (m.1, x.1, w, x.3, refl), refl),
+          x.4 ∙ ap (λ z. z ++ x.1) (k.4 ∙ ap (λ z. k.0 ++ z) m.4) ∙ append_assoc k.0 (m.0 ++ m.1) x.1 ∙ ap (λ z. k.0 ++ z) (append_assoc m.0 m.1 x.1),
+        )
+        | inr w ↦ inr (
+          k.0,
+          m.0 ++ x.1,
+          k.2,
+          (m.0, x.1, m.2, inr (inl x.3), refl),
+          x.4 ∙ ap (λ z. z ++ x.1) (k.4 ∙ ap (λ z. k.0 ++ z) (m.4 ∙ ap (λ z. m.0 ++ z) w ∙ append-nil m.0)) ∙ append_assoc k.0 m.0 x.1,
+        )
+      ]
+    ]
+  ];
+  from = λ ls g. elim g [
+    | inl x ↦ let p = x.3 in elim p [
+      | inl k ↦ inr (x.0, x.1, inl x.2, k, x.4)
+      | inr k ↦ inl (x.0, x.1, inl x.2, k, x.4)
+    ]
+    | inr x ↦ let m = x.3 in let q = m.3 in elim q [
+      | inl w ↦ inr (
+        x.0 ++ (m.0 ++ w.0),
+        w.1,
+        inr (x.0, m.0 ++ w.0, x.2, (m.0, w.0, m.2, inl w.2, refl), refl),
+        w.3,
+        x.4 ∙ ap (λ z. x.0 ++ z) (m.4 ∙ ap (λ z. m.0 ++ z) w.4 ∙ sym (append_assoc m.0 w.0 w.1)) ∙ sym (append_assoc x.0 (m.0 ++ w.0) w.1),
+      )
+      | inr w ↦ elim w [
+        | inl k ↦ inr (
+          x.0 ++ m.0,
+          m.1,
+          inr (x.0, m.0, x.2, (m.0, [], m.2, inr refl, sym (append-nil m.0)), refl),
+          k,
+          x.4 ∙ ap (λ z. x.0 ++ z) m.4 ∙ sym (append_assoc x.0 m.0 m.1),
+        )
+        | inr k ↦ inl (x.0 ++ m.0, m.1, inr (x.0, m.0, x.2, m.2, refl), k, x.4 ∙ ap (λ z. x.0 ++ z) m.4 ∙ sym (append_assoc x.0 m.0 m.1))
+      ]
+    ]
+  ];
+}
+
+same_behind : Same grammar.behind factored.behind
+same_behind =
+    let a = often (both (same (one (word (codes "and")))) same_cond) in
+    both (same (one (mark Comma))) (both (same (grammar.listed grammar.a_name)) (either (both (same (one (word (codes "where")))) (both same_cond a)) (same nothing)))
+
+same_range : Same (grammar.range ∣ grammar.range_join) factored.range
+same_range =
+    let begin = one (word (codes "range")) in
+    let count = one (word (codes "count")) in
+    let from = one (word (codes "from")) in
+    let dotted = one (mark Dot) ⨾ grammar.a_name in
+    let alone = grammar.filtered grammar.test ⨾ grammar.grouped in
+    let several : Same (from ⨾ grammar.a_name ⨾ grammar.behind) factored.from_several = both (same from) (both (same grammar.a_name) same_behind) in
+    let tables : Same (from ⨾ grammar.a_name ⨾ grammar.behind ∣ from ⨾ grammar.a_name ⨾ alone) factored.from_tables =
+    then (either several (same (from ⨾ grammar.a_name ⨾ alone))) (then (drawn from (grammar.a_name ⨾ factored.behind) (grammar.a_name ⨾ alone)) (both (same from) (drawn grammar.a_name factored.behind alone))) in
+    then (drawn begin (grammar.goal ⨾ from ⨾ grammar.a_name ⨾ alone) (grammar.join_goal ⨾ from ⨾ grammar.a_name ⨾ grammar.behind))
+    (both (same begin) (then (undotted count grammar.aggregate grammar.a_name dotted (from ⨾ grammar.a_name ⨾ grammar.behind) (from ⨾ grammar.a_name ⨾ alone))
+    (either (both (same count) tables) (both (same grammar.aggregate) (both (same grammar.a_name) (either (both (same dotted) several) tables))))))
+
 same_rest : (ps : List Shape) {p q : Shape} → Same p q → Same (grammar.one_of ps p) (grammar.one_of ps q)
 same_rest [] f = f
 same_rest (r ∷ ps) f = either (same r) (same_rest ps f)
 
 same_statement : Same grammar.statement factored.statement
-same_statement = either (same grammar.set) (either same_create (either same_alter (same_rest grammar.direct (either same_show same_asking))))
+same_statement = either (same grammar.set) (either same_create (either same_alter (same_rest grammar.direct (either same_show (either same_range same_asking)))))
 
 pub from_factored : (ls : List Lexeme) → Generates factored.statement ls → Generates grammar.statement ls
 from_factored ls g = same_statement.from ls g

@@ -123,6 +123,10 @@ took_both {p = p} {q = q} {w = w} {u = u} {v = v} {s = s} {r = r} {z = z} h k e 
       (b.0 ∙ ap (λ x. w ++ x) d.0 ∙ sym (append_assoc w u z) ∙ ap (λ x. x ++ z) (sym e), d.1);
 }
 
+-- what is written of both begins a whole that goes on
+pub took_before : {p q : Shape} {g a s r z : List Lexeme} (n f : List Lexeme) → g ≡ a ++ n → Took p a s r → Took q (n ++ f) r z → Took (p ⨾ q) (g ++ f) s z
+took_before {a = a} n f e h k = took_both h k (ap (λ x. x ++ f) e ∙ append_assoc a n f)
+
 -- the first of two
 pub left_is : (p q : Shape) (s : List Lexeme) (o : Outcome) → opens p s ≡ true → read p s ≡ o → read (p ∣ q) s ≡ o
 left_is p q [] o h e = (cc)

@@ -23,7 +23,7 @@ use Rattle.spj_syntax.specs.declared.tree.RawCol.{RawCol}
 use Rattle.spj_syntax.specs.declared.tree.RawCond.{RawCond}
 use Rattle.spj_syntax.specs.declared.tree.RawCond.TheVariants.{Join, Test}
 use Rattle.spj_syntax.specs.Lexemes.{Lexeme, Word, Number, Quoted, Mark}
-use Rattle.spj_syntax.specs.Written.{name_tokens, literal_tokens, column_tokens, listed_tokens, row_tokens, schema_tokens, op_symbol, test_tokens, col_tokens_of, col_tokens, cond_tokens, each_after, between, filtered_tokens, head_tokens, select_tokens, row_for_tokens, verb_tokens, strict_tokens, change_tokens, goal_tokens, grouped_tokens, statement_tokens}
+use Rattle.spj_syntax.specs.Written.{name_tokens, literal_tokens, column_tokens, listed_tokens, row_tokens, schema_tokens, op_symbol, test_tokens, col_tokens_of, col_tokens, cond_tokens, each_after, between, filtered_tokens, head_tokens, select_tokens, row_for_tokens, verb_tokens, strict_tokens, change_tokens, goal_tokens, grouped_tokens, anded_tokens, join_goal_tokens, range_tokens, statement_tokens}
 use Rattle.spj_syntax.specs.declared.tree.Change.{Change}
 use Rattle.spj_syntax.specs.declared.tree.Change.TheVariants as changes
 use Rattle.spj_syntax.specs.declared.tree.Select.{Select}
@@ -31,6 +31,9 @@ use Rattle.spj_syntax.specs.declared.tree.Verb.{Verb}
 use Rattle.spj_syntax.specs.declared.tree.Verb.TheVariants as verbs
 use Rattle.spj_syntax.specs.declared.tree.RawGoal.{RawGoal}
 use Rattle.spj_syntax.specs.declared.tree.RawGoal.TheVariants as goals
+use Rattle.spj_syntax.specs.declared.tree.RawJoinGoal.{RawJoinGoal}
+use Rattle.spj_syntax.specs.declared.tree.RawJoinGoal.TheVariants as join_goals
+use Rattle.spj_syntax.specs.declared.tree.RawRange.{RawRange}
 use Rattle.spj_syntax.specs.declared.tree.Statement.{Statement}
 use Rattle.spj_syntax.specs.declared.tree.Statement.TheVariants as statements
 
@@ -433,6 +436,85 @@ grouped_same None (Some d) e = absurd (cc)
 grouped_same (Some c) None e = absurd (cc)
 grouped_same (Some c) (Some d) e = let h : c ≡ d = cc in ap Some h
 
+tests_decode : (xs ys : List RawTest) → anded_tokens test_tokens xs ≡ anded_tokens test_tokens ys → xs ≡ ys
+tests_decode [] [] e = refl
+tests_decode [] (y ∷ ys) e = absurd (cc)
+tests_decode (x ∷ xs) [] e = absurd (cc)
+tests_decode (x ∷ xs) (y ∷ ys) e = (between_decodes (Word (codes "and")) Never test_tokens (λ x. x) (λ a b u v f g h. test_decodes a b u v h) (x ∷ xs) (y ∷ ys) [] [] (omega arith) (omega arith) tt tt (ap (λ w. w ++ []) e)).0
+
+from_no_dot : (r : List Lexeme) → Fine IsDot (Word (codes "from") ∷ r)
+from_no_dot r = λ e. absurd (cc)
+
+-- the goals over several tables differ in their first word
+join_goal_decodes : (a b : RawJoinGoal) (r z : List Lexeme) → Fine IsDot r → Fine IsDot z → join_goal_tokens a ++ r ≡ join_goal_tokens b ++ z → (a ≡ b) × (r ≡ z)
+unfolding mark_of
+join_goal_decodes join_goals.Count join_goals.Count r z f g e = (refl, (cc))
+join_goal_decodes (join_goals.Sum c) (join_goals.Sum d) r z f g e = let i = cols_decode c d r z f g (cc) in (ap join_goals.Sum i.0, i.1)
+join_goal_decodes (join_goals.Min c) (join_goals.Min d) r z f g e = let i = cols_decode c d r z f g (cc) in (ap join_goals.Min i.0, i.1)
+join_goal_decodes (join_goals.Max c) (join_goals.Max d) r z f g e = let i = cols_decode c d r z f g (cc) in (ap join_goals.Max i.0, i.1)
+join_goal_decodes _ _ r z f g e = absurd (omega (arith, ap mark_of e))
+
+-- a goal over one table, as one over several
+lifted : RawGoal → RawJoinGoal
+lifted goals.Count = join_goals.Count
+lifted (goals.Sum c) = join_goals.Sum (record { table = None; name = c })
+lifted (goals.Min c) = join_goals.Min (record { table = None; name = c })
+lifted (goals.Max c) = join_goals.Max (record { table = None; name = c })
+
+lifted_same : (g : RawGoal) → goal_tokens g ≡ join_goal_tokens (lifted g)
+unfolding lifted
+lifted_same goals.Count = refl
+lifted_same (goals.Sum c) = refl
+lifted_same (goals.Min c) = refl
+lifted_same (goals.Max c) = refl
+
+-- what stands behind the tables goes on no list of names
+fine_behind : (cs : List RawCond) → Fine (OrAlso (Mark s.Comma) Never) (filtered_tokens cond_tokens cs)
+fine_behind [] = tt
+fine_behind (x ∷ cs) = λ h. elim h [ inl e ↦ absurd (cc) | inr b ↦ b ]
+
+range_same : (p q : RawRange) → range_tokens p ≡ range_tokens q → p ≡ q
+range_same p q e =
+    let r : List Lexeme = listed_tokens name_tokens p.tables ++ filtered_tokens cond_tokens p.conds in
+    let z : List Lexeme = listed_tokens name_tokens q.tables ++ filtered_tokens cond_tokens q.conds in
+    let g : join_goal_tokens p.goal ++ (Word (codes "from") ∷ r) ≡ join_goal_tokens q.goal ++ (Word (codes "from") ∷ z) = cc in
+    let a = join_goal_decodes p.goal q.goal (Word (codes "from") ∷ r) (Word (codes "from") ∷ z) (from_no_dot r) (from_no_dot z) g in
+    let h : r ≡ z = cc (a.1) in
+    let b = between_decodes (Mark s.Comma) Never name_tokens (λ x. x) (λ x y r z f g e. name_decodes x y r z e) p.tables q.tables _ _ (omega (arith, p.some_other)) (omega (arith, q.some_other)) (fine_behind p.conds) (fine_behind q.conds) h in
+    let c = filtered_decode IsDot cond_tokens (λ x. absurd (cc)) cond_decodes p.conds q.conds [] [] tt tt (ap (λ w. w ++ []) b.1) in
+    let w = a.0 in
+    let x = b.0 in
+    let y = c.0 in
+    λ i. record {
+      goal = w i;
+      tables = x i;
+      conds = y i;
+      some_other = is_prop→PathP (λ j. 2 ≤ length (x j)) (λ j. le_prop) p.some_other q.some_other i;
+      few = is_prop→PathP (λ j. length (y j) ≤ most_items) (λ j. le_prop) p.few q.few i;
+    }
+
+-- no comma follows the only table
+no_comma : (xs : List RawTest) (a : Option (List ℕ)) (r : List Lexeme) → filtered_tokens test_tokens xs ++ grouped_tokens a ≡ Mark s.Comma ∷ r → ⊥
+no_comma [] None r e = absurd (cc)
+no_comma [] (Some c) r e = absurd (cc)
+no_comma (x ∷ xs) a r e = absurd (cc)
+
+behind_first : (t : List ℕ) (ts : List (List ℕ)) (r z : List Lexeme) → 2 ≤ length ts → Word t ∷ r ≡ listed_tokens name_tokens ts ++ z → (l : List Lexeme) × (r ≡ Mark s.Comma ∷ l)
+behind_first t [] r z h e = absurd (omega arith)
+behind_first t (u ∷ []) r z h e = absurd (omega arith)
+behind_first t (u ∷ v ∷ ts) r z h e = (Word v ∷ (each_after (Mark s.Comma) name_tokens ts ++ z), (cc))
+
+-- one table isn't several
+one_not_several : (g : RawGoal) (t : List ℕ) (xs : List RawTest) (a : Option (List ℕ)) (q : RawRange) → statement_tokens (statements.Range g t xs a) ≡ range_tokens q → ⊥
+one_not_several g t xs a q e =
+    let rest : List Lexeme = Word t ∷ (filtered_tokens test_tokens xs ++ grouped_tokens a) in
+    let others : List Lexeme = listed_tokens name_tokens q.tables ++ filtered_tokens cond_tokens q.conds in
+    let h : goal_tokens g ++ (Word (codes "from") ∷ rest) ≡ join_goal_tokens q.goal ++ (Word (codes "from") ∷ others) = cc in
+    let i = join_goal_decodes (lifted g) q.goal (Word (codes "from") ∷ rest) (Word (codes "from") ∷ others) (from_no_dot rest) (from_no_dot others) (ap (λ w. w ++ (Word (codes "from") ∷ rest)) (sym (lifted_same g)) ∙ h) in
+    let j : rest ≡ others = cc (i.1) in
+    let k = behind_first t q.tables _ _ q.some_other j in
+    no_comma xs a k.0 k.1
+
 -- no tokens are written by two statements
 pub statement_same : (a b : Statement) → statement_tokens a ≡ statement_tokens b → a ≡ b
 unfolding mark_of second_mark is_verb verb_marks
@@ -455,6 +537,11 @@ statement_same (statements.Delete t xs) (statements.Delete u ys) e =
     let g : filtered_tokens test_tokens xs ≡ filtered_tokens test_tokens ys = cc in
     let c = filtered_decodes Never test_tokens (λ x. x) (λ x y r z f g e. test_decodes x y r z e) xs ys g in
     λ i. statements.Delete (h i) (c i)
+statement_same (statements.Prefer t xs) (statements.Prefer u ys) e =
+    let h : t ≡ u = cc in
+    let g : anded_tokens test_tokens xs ≡ anded_tokens test_tokens ys = cc in
+    let c = tests_decode xs ys g in
+    λ i. statements.Prefer (h i) (c i)
 statement_same (statements.Asking v c) (statements.Asking w d) e =
     let i = verb_decodes v w (select_tokens c) (select_tokens d) e in
     let g = select_same c d i.1 in
@@ -472,6 +559,9 @@ statement_same (statements.Range f t xs a) (statements.Range g u ys b) e =
     let tests = parts.0 in
     let group = grouped_same a b parts.1 in
     λ i. statements.Range (goal i) (table i) (tests i) (group i)
+statement_same (statements.RangeJoin p) (statements.RangeJoin q) e = ap statements.RangeJoin (range_same p q e)
+statement_same (statements.Range g t xs a) (statements.RangeJoin q) e = absurd (one_not_several g t xs a q e)
+statement_same (statements.RangeJoin p) (statements.Range g t xs a) e = absurd (one_not_several g t xs a p (sym e))
 statement_same statements.Dump statements.Dump e = refl
 statement_same statements.ShowTables statements.ShowTables e = refl
 statement_same statements.ShowLog statements.ShowLog e = refl

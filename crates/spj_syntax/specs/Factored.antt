@@ -1,8 +1,8 @@
 -- The grammar of statements with common beginnings drawn out, so that one token ahead decides each step.
 use Rattle.std.specs.Prelude.{codes}
-use Rattle.script_lex.specs.declared.kinds.Symbol.TheVariants.{Open, Close, Comma, Eq}
+use Rattle.script_lex.specs.declared.kinds.Symbol.TheVariants.{Open, Close, Comma, Dot, Eq}
 use Rattle.spj_syntax.specs.Shapes.{word, mark, Shape, one, ◌⨾◌, ◌∣◌, many}
-use Rattle.spj_syntax.specs.Grammar.{a_name, listed, filtered, literal, strict, column, key, col, op_but_equal, head, verb, range, set, one_of, direct}
+use Rattle.spj_syntax.specs.Grammar.{a_name, listed, filtered, literal, strict, column, key, test, col, op_but_equal, head, verb, aggregate, grouped, set, one_of, direct}
 
 -- Each column has its comma behind it.
 abbrev pub columns : Shape
@@ -38,13 +38,34 @@ asking = verb ⨾ query
 abbrev pub show : Shape
 show = one (word (codes "show")) ⨾ (one (word (codes "tables")) ∣ one (word (codes "log")) ∣ one (word (codes "conflicts")))
 
+-- what stands behind the first of several tables
+abbrev pub behind : Shape
+behind = one (mark Comma) ⨾ listed a_name ⨾ filtered cond
+
+-- what stands behind the first table of a range: that of several, or the tests and the group of one
+abbrev pub tail : Shape
+tail = behind ∣ filtered test ⨾ grouped
+
+abbrev pub from_tables : Shape
+from_tables = one (word (codes "from")) ⨾ a_name ⨾ tail
+
+abbrev pub from_several : Shape
+from_several = one (word (codes "from")) ⨾ a_name ⨾ behind
+
+-- A column that is written with its table takes several.
+abbrev pub ranged : Shape
+ranged = one (word (codes "count")) ⨾ from_tables ∣ aggregate ⨾ a_name ⨾ ((one (mark Dot) ⨾ a_name) ⨾ from_several ∣ from_tables)
+
+abbrev pub range : Shape
+range = one (word (codes "range")) ⨾ ranged
+
 -- statements that change nothing
 abbrev pub telling : Shape
-telling = range ∣ one (word (codes "dump")) ∣ show ∣ asking
+telling = one (word (codes "dump")) ∣ show ∣ range ∣ asking
 
 -- all statements but `set`
 abbrev pub plain : Shape
-plain = create ∣ alter ∣ one_of direct (show ∣ asking)
+plain = create ∣ alter ∣ one_of direct (show ∣ range ∣ asking)
 
 abbrev pub statement : Shape
 statement = set ∣ plain

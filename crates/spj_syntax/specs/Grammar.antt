@@ -71,6 +71,10 @@ test = a_name ⨾ op ⨾ literal
 abbrev pub delete : Shape
 delete = one (word (codes "delete")) ⨾ one (word (codes "from")) ⨾ a_name ⨾ filtered test
 
+-- the rows that pass tests, which win over the others of their blocks
+abbrev pub prefer : Shape
+prefer = one (word (codes "prefer")) ⨾ a_name ⨾ one (word (codes "where")) ⨾ anded test
+
 abbrev pub col : Shape
 col = a_name ⨾ optional (one (mark Dot) ⨾ a_name)
 
@@ -107,16 +111,33 @@ copy = one (word (codes "copy")) ⨾ a_name
 abbrev pub set : Shape
 set = one (word (codes "set")) ⨾ one (word (codes "conflicts")) ⨾ one int
 
+-- what is asked of the values of a column
+abbrev pub aggregate : Shape
+aggregate = one (word (codes "sum")) ∣ one (word (codes "min")) ∣ one (word (codes "max"))
+
 -- what is asked of the rows of a table: their number, or the sum, the least or the greatest value of a column
 abbrev pub goal : Shape
-goal = one (word (codes "count")) ∣ one (word (codes "sum")) ⨾ a_name ∣ one (word (codes "min")) ⨾ a_name ∣ one (word (codes "max")) ⨾ a_name
+goal = one (word (codes "count")) ∣ aggregate ⨾ a_name
 
 -- nothing, or "group by" and the column by whose values rows are grouped
 abbrev pub grouped : Shape
 grouped = optional (one (word (codes "group")) ⨾ one (word (codes "by")) ⨾ a_name)
 
+-- a range over the rows of one table
 abbrev pub range : Shape
 range = one (word (codes "range")) ⨾ goal ⨾ one (word (codes "from")) ⨾ a_name ⨾ filtered test ⨾ grouped
+
+-- what is asked of the witnesses of a query: their number, or the sum, the least or the greatest value of a column
+abbrev pub join_goal : Shape
+join_goal = one (word (codes "count")) ∣ aggregate ⨾ col
+
+-- what stands behind the first of several tables
+abbrev pub behind : Shape
+behind = one (mark Comma) ⨾ listed a_name ⨾ filtered cond
+
+-- a range over the witnesses of a query of two tables or more
+abbrev pub range_join : Shape
+range_join = one (word (codes "range")) ⨾ join_goal ⨾ one (word (codes "from")) ⨾ a_name ⨾ behind
 
 abbrev pub show : Shape
 show = one (word (codes "show")) ⨾ one (word (codes "tables")) ∣ one (word (codes "show")) ⨾ one (word (codes "log")) ∣ one (word (codes "show")) ⨾ one (word (codes "conflicts"))
@@ -128,7 +149,7 @@ one_of (p ∷ ps) rest = p ∣ one_of ps rest
 
 -- the statements that begin as no other does, and are read as they are written here
 abbrev pub direct : List Shape
-direct = insert ∷ delete ∷ copy ∷ range ∷ one (word (codes "dump")) ∷ []
+direct = insert ∷ delete ∷ prefer ∷ copy ∷ one (word (codes "dump")) ∷ []
 
 abbrev pub statement : Shape
-statement = set ∣ create ∣ alter ∣ one_of direct (show ∣ asking)
+statement = set ∣ create ∣ alter ∣ one_of direct (show ∣ (range ∣ range_join) ∣ asking)

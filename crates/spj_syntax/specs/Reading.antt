@@ -18,7 +18,15 @@ use Rattle.script_lex.specs.declared.kinds.Symbol.TheVariants as s
 use Rattle.spj_syntax.specs.Shapes.{Terminal, word, mark, Shape}
 use Rattle.spj_syntax.specs.Parsed.{Fits, AllLexemesFit, IsStatement, RefusesTokens, fault_of, lexemes, place_of}
 use Rattle.cqa_model.specs.declared.schema.Column.{Column}
-use Rattle.spj_syntax.specs.Written.{IsWrittenAs, column_tokens, key_tokens}
+use Rattle.spj_syntax.specs.Written.{IsWrittenAs, column_tokens, cond_tokens, filtered_tokens, goal_tokens, grouped_tokens, join_goal_tokens, key_tokens, listed_tokens, name_tokens, test_tokens}
+use Rattle.spj_syntax.specs.declared.range_parts.Asked.{Asked}
+use Rattle.spj_syntax.specs.declared.range_parts.Asked.TheVariants as aggregates
+use Rattle.spj_syntax.specs.declared.range_parts.Tested.{Tested}
+use Rattle.spj_syntax.specs.declared.range_parts.Several.{Several}
+use Rattle.spj_syntax.specs.declared.range_parts.Rest.{Rest}
+use Rattle.spj_syntax.specs.declared.range_parts.Rest.TheVariants as tails
+use Rattle.spj_syntax.specs.declared.range_parts.Parts.{Parts}
+use Rattle.spj_syntax.specs.declared.range_parts.Parts.TheVariants.{Plain, Dotted}
 use Rattle.spj_syntax.specs.declared.tree.Statement.{Statement}
 use Rattle.spj_syntax.specs.declared.fault.SyntaxFault.{SyntaxFault}
 use Rattle.spj_syntax.specs.declared.fault.SyntaxFault.TheVariants.{At}
@@ -79,6 +87,37 @@ each_before l f (x ∷ xs) = (f x ++ l ∷ []) ++ each_before l f xs
 -- the columns and the key of a table
 abbrev pub body_tokens : List Column × List (List ℕ) → List Lexeme
 body_tokens (columns, key) = Mark s.Open ∷ (each_before (Mark s.Comma) column_tokens columns ++ (key_tokens key ++ Mark s.Close ∷ []))
+
+-- what is asked of the values of a column
+abbrev pub aggregate_tokens : Asked → List Lexeme
+aggregate_tokens aggregates.Sum = Word (codes "sum") ∷ []
+aggregate_tokens aggregates.Min = Word (codes "min") ∷ []
+aggregate_tokens aggregates.Max = Word (codes "max") ∷ []
+
+-- what stands behind the first of several tables
+abbrev pub behind_tokens : Several → List Lexeme
+behind_tokens b = Mark s.Comma ∷ (listed_tokens name_tokens b.others ++ filtered_tokens cond_tokens b.conds)
+
+-- what stands behind the only table
+abbrev pub alone_tokens : Tested → List Lexeme
+alone_tokens a = filtered_tokens test_tokens a.tests ++ grouped_tokens a.group
+
+-- what stands behind the first table
+abbrev pub tail_tokens : Rest → List Lexeme
+tail_tokens (tails.Several behind) = behind_tokens behind
+tail_tokens (tails.Tested alone) = alone_tokens alone
+
+-- the tables of a range, with all behind them
+abbrev pub from_tokens : List ℕ × Rest → List Lexeme
+from_tokens (first, tail) = Word (codes "from") ∷ (name_tokens first ++ tail_tokens tail)
+
+abbrev pub from_behind_tokens : List ℕ × Several → List Lexeme
+from_behind_tokens (first, behind) = Word (codes "from") ∷ (name_tokens first ++ behind_tokens behind)
+
+-- a range without its first word
+abbrev pub ranged_tokens : Parts → List Lexeme
+ranged_tokens (Plain goal first tail) = goal_tokens goal ++ from_tokens (first, tail)
+ranged_tokens (Dotted goal first behind) = join_goal_tokens goal ++ from_behind_tokens (first, behind)
 
 abbrev pub front_of : List Lexeme → Option Lexeme
 front_of [] = None

@@ -22,6 +22,9 @@ use Rattle.spj_syntax.specs.declared.tree.Verb.{Verb}
 use Rattle.spj_syntax.specs.declared.tree.Verb.TheVariants as verbs
 use Rattle.spj_syntax.specs.declared.tree.RawGoal.{RawGoal}
 use Rattle.spj_syntax.specs.declared.tree.RawGoal.TheVariants as goals
+use Rattle.spj_syntax.specs.declared.tree.RawJoinGoal.{RawJoinGoal}
+use Rattle.spj_syntax.specs.declared.tree.RawJoinGoal.TheVariants as join_goals
+use Rattle.spj_syntax.specs.declared.tree.RawRange.{RawRange}
 use Rattle.spj_syntax.specs.declared.tree.Statement.{Statement}
 use Rattle.spj_syntax.specs.declared.tree.Statement.TheVariants as statements
 use Rattle.spj_syntax.specs.Limits.{most_items}
@@ -144,15 +147,28 @@ abbrev pub grouped_tokens : Option (List ℕ) → List Lexeme
 grouped_tokens None = []
 grouped_tokens (Some column) = Word (codes "group") ∷ Word (codes "by") ∷ name_tokens column
 
+-- what is asked of the witnesses of a query
+abbrev pub join_goal_tokens : RawJoinGoal → List Lexeme
+join_goal_tokens join_goals.Count = Word (codes "count") ∷ []
+join_goal_tokens (join_goals.Sum column) = Word (codes "sum") ∷ col_tokens column
+join_goal_tokens (join_goals.Min column) = Word (codes "min") ∷ col_tokens column
+join_goal_tokens (join_goals.Max column) = Word (codes "max") ∷ col_tokens column
+
+-- a range over several tables
+abbrev pub range_tokens : RawRange → List Lexeme
+range_tokens r = Word (codes "range") ∷ (join_goal_tokens r.goal ++ (Word (codes "from") ∷ (listed_tokens name_tokens r.tables ++ filtered_tokens cond_tokens r.conds)))
+
 abbrev pub statement_tokens : Statement → List Lexeme
 statement_tokens (statements.Create r) = Word (codes "create") ∷ (strict_tokens r.strict ++ (Word (codes "table") ∷ schema_tokens r))
 statement_tokens (statements.Alter table change) = Word (codes "alter") ∷ Word (codes "table") ∷ (name_tokens table ++ change_tokens change)
 statement_tokens (statements.Insert table rows) = Word (codes "insert") ∷ Word (codes "into") ∷ (name_tokens table ++ (Word (codes "values") ∷ listed_tokens row_tokens rows))
 statement_tokens (statements.Delete table tests) = Word (codes "delete") ∷ Word (codes "from") ∷ (name_tokens table ++ filtered_tokens test_tokens tests)
+statement_tokens (statements.Prefer table tests) = Word (codes "prefer") ∷ (name_tokens table ++ (Word (codes "where") ∷ anded_tokens test_tokens tests))
 statement_tokens (statements.Asking verb q) = verb_tokens verb ++ select_tokens q
 statement_tokens (statements.SetConflicts n) = Word (codes "set") ∷ Word (codes "conflicts") ∷ Number (pos n) ∷ []
 statement_tokens (statements.Copy table) = Word (codes "copy") ∷ name_tokens table
 statement_tokens (statements.Range goal table tests group) = Word (codes "range") ∷ (goal_tokens goal ++ (Word (codes "from") ∷ (name_tokens table ++ (filtered_tokens test_tokens tests ++ grouped_tokens group))))
+statement_tokens (statements.RangeJoin range) = range_tokens range
 statement_tokens statements.Dump = Word (codes "dump") ∷ []
 statement_tokens statements.ShowTables = Word (codes "show") ∷ Word (codes "tables") ∷ []
 statement_tokens statements.ShowLog = Word (codes "show") ∷ Word (codes "log") ∷ []
@@ -171,6 +187,7 @@ abbrev pub IsSmall : Statement → Type 0
 IsSmall (statements.Alter table change) = HasKey change
 IsSmall (statements.Insert table rows) = length rows ≤ most_items
 IsSmall (statements.Delete table tests) = length tests ≤ most_items
+IsSmall (statements.Prefer table tests) = length tests ≤ most_items
 IsSmall (statements.Range goal table tests group) = length tests ≤ most_items
 IsSmall _ = Unit {0}
 

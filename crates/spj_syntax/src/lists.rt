@@ -108,7 +108,7 @@ pub fn listed<P: Piece>(alloc: Global, reader: &mut Reader<'_>) -> Result<Items<
 }
 
 /// One or more with `and` between them.
-fn anded<P: Piece>(alloc: Global, reader: &mut Reader<'_>) -> Result<Items<P>, Stop>
+pub fn anded<P: Piece>(alloc: Global, reader: &mut Reader<'_>) -> Result<Items<P>, Stop>
     ensures reads { Reads (grammar.anded P.shape) (anded_tokens P.tokens) result reader.old reader.new }
     ensures some { IfOk result (λ v. 0 < length v) }
     ensures few { IfOk result (λ v. length v ≤ most_items) }

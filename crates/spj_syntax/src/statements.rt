@@ -5,15 +5,15 @@ ghost use Rattle.cqa_value.specs.Literals.{integer_of, are_digits, without_minus
 ghost use Rattle.spj_syntax.specs.Lexemes.{Word, Number, Mark};
 ghost use Rattle.spj_syntax.specs.Limits.{most_items};
 ghost use Rattle.spj_syntax.specs.Reading.{Reads, Took, body_tokens};
-ghost use Rattle.spj_syntax.specs.Shapes.{◌⨾◌};
-ghost use Rattle.spj_syntax.specs.Written.{strict_tokens, key_tokens, change_tokens, HasKey, head_tokens, select_tokens, row_for_tokens, verb_tokens, goal_tokens, filtered_tokens, test_tokens, grouped_tokens, statement_tokens, listed_tokens, literal_tokens, name_tokens, row_tokens, IsSmall};
+ghost use Rattle.spj_syntax.specs.Written.{strict_tokens, key_tokens, change_tokens, HasKey, head_tokens, select_tokens, row_for_tokens, verb_tokens, statement_tokens, listed_tokens, literal_tokens, name_tokens, row_tokens, IsSmall};
 ghost use Rattle.cqa_model.specs.Valid.{IsName};
 ghost use Rattle.spj_syntax.specs.Grammar as grammar;
 ghost use Rattle.spj_syntax.specs.Factored as factored;
 
-use crate::lists::{columns, filtered, listed, literals};
+use crate::lists::{anded, columns, filtered, listed, literals};
+use crate::ranges::range;
 use crate::reader::{Reader, Stop};
-use crate::{Change, RawCol, RawGoal, RawSchema, RawTest, Select, Statement, Verb};
+use crate::{Change, RawCol, RawSchema, Select, Statement, Verb};
 use cqa_model::Column;
 use cqa_value::{Items, Name, Row};
 use script_lex::Symbol;
@@ -159,6 +159,18 @@ fn delete(alloc: Global, reader: &mut Reader<'_>) -> Result<Statement, Stop>
     Ok(Statement::Delete { table, tests })
 }
 
+/// `prefer NAME where TEST and ..`.
+fn prefer(alloc: Global, reader: &mut Reader<'_>) -> Result<Statement, Stop>
+    ensures reads { Reads grammar.prefer statement_tokens result reader.old reader.new }
+    ensures small { IfOk result (λ s. IsSmall s) }
+{
+    reader.word(b"prefer")?;
+    let table = reader.name(alloc)?;
+    reader.word(b"where")?;
+    let tests = anded(alloc, reader)?;
+    Ok(Statement::Prefer { table, tests })
+}
+
 /// The literals of a row, or none before its `)`.
 fn optional_literals(alloc: Global, reader: &mut Reader<'_>) -> Result<Row, Stop>
     ensures { Reads (grammar.optional (grammar.listed grammar.literal)) (listed_tokens literal_tokens) result reader.old reader.new }
@@ -254,73 +266,6 @@ fn copy(alloc: Global, reader: &mut Reader<'_>) -> Result<Statement, Stop>
     Ok(Statement::Copy { table })
 }
 
-/// `count`, or `sum NAME`, `min NAME` or `max NAME`.
-fn goal(alloc: Global, reader: &mut Reader<'_>) -> Result<RawGoal, Stop>
-    ensures { Reads grammar.goal goal_tokens result reader.old reader.new }
-{
-    if reader.sees_word(b"count") {
-        reader.advance();
-        return Ok(RawGoal::Count);
-    }
-    if reader.sees_word(b"sum") {
-        reader.advance();
-        let summed = reader.name(alloc)?;
-        return Ok(RawGoal::Sum(summed));
-    }
-    if reader.sees_word(b"min") {
-        reader.advance();
-        let least = reader.name(alloc)?;
-        return Ok(RawGoal::Min(least));
-    }
-    reader.word(b"max")?;
-    let greatest = reader.name(alloc)?;
-    Ok(RawGoal::Max(greatest))
-}
-
-/// `group by NAME`, or nothing.
-fn grouped(alloc: Global, reader: &mut Reader<'_>) -> Result<Option<Name>, Stop>
-    ensures { Reads grammar.grouped grouped_tokens result reader.old reader.new }
-{
-    if reader.sees_word(b"group") {
-        reader.advance();
-        reader.word(b"by")?;
-        let column = reader.name(alloc)?;
-        return Ok(Some(column));
-    }
-    Ok(None)
-}
-
-/// `[where TEST and ..] [group by NAME]`.
-fn tests_and_group(
-    alloc: Global,
-    reader: &mut Reader<'_>,
-) -> Result<(Items<RawTest>, Option<Name>), Stop>
-    ensures reads { Reads (grammar.filtered grammar.test ⨾ grammar.grouped) (λ parts. filtered_tokens test_tokens parts.0 ++ grouped_tokens parts.1) result reader.old reader.new }
-    ensures few { IfOk result (λ parts. length parts.0 ≤ most_items) }
-{
-    let tests = filtered(alloc, reader)?;
-    let group = grouped(alloc, reader)?;
-    Ok((tests, group))
-}
-
-/// `range GOAL from NAME [where TEST and ..] [group by NAME]`.
-fn range(alloc: Global, reader: &mut Reader<'_>) -> Result<Statement, Stop>
-    ensures reads { Reads grammar.range statement_tokens result reader.old reader.new }
-    ensures small { IfOk result (λ s. IsSmall s) }
-{
-    reader.word(b"range")?;
-    let goal = goal(alloc, reader)?;
-    reader.word(b"from")?;
-    let table = reader.name(alloc)?;
-    let parts = tests_and_group(alloc, reader)?;
-    Ok(Statement::Range {
-        goal,
-        table,
-        tests: parts.0,
-        group: parts.1,
-    })
-}
-
 /// `show tables`, `show log` or `show conflicts`.
 fn show(reader: &mut Reader<'_>) -> Result<Statement, Stop>
     ensures reads { Reads factored.show statement_tokens result reader.old reader.new }
@@ -355,15 +300,15 @@ fn telling(alloc: Global, reader: &mut Reader<'_>) -> Result<Statement, Stop>
     ensures reads { Reads factored.telling statement_tokens result reader.old reader.new }
     ensures small { IfOk result (λ s. IsSmall s) }
 {
-    if reader.sees_word(b"range") {
-        return range(alloc, reader);
-    }
     if reader.sees_word(b"dump") {
         reader.advance();
         return Ok(Statement::Dump);
     }
     if reader.sees_word(b"show") {
         return show(reader);
+    }
+    if reader.sees_word(b"range") {
+        return range(alloc, reader);
     }
     asking(alloc, reader)
 }
@@ -384,6 +329,9 @@ pub fn plain(alloc: Global, reader: &mut Reader<'_>) -> Result<Statement, Stop>
     }
     if reader.sees_word(b"delete") {
         return delete(alloc, reader);
+    }
+    if reader.sees_word(b"prefer") {
+        return prefer(alloc, reader);
     }
     if reader.sees_word(b"copy") {
         return copy(alloc, reader);

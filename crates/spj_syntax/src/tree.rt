@@ -83,6 +83,26 @@ pub enum RawGoal {
     Max(Name),
 }
 
+/// What a `range` asks of the witnesses of a query over several tables: their number, or the sum, the least or the greatest
+/// value of a column.
+#[derive(Drop)]
+pub enum RawJoinGoal {
+    Count,
+    Sum(RawCol),
+    Min(RawCol),
+    Max(RawCol),
+}
+
+/// A `range` over two tables or more, as it is written: what is asked, the tables, and the conditions.
+#[derive(Drop)]
+pub struct RawRange {
+    pub goal: RawJoinGoal,
+    pub tables: Items<Name>,
+    pub conds: Items<RawCond>,
+    pub ghost some_other: { 2 ≤ length tables },
+    pub ghost few: { length conds ≤ most_items },
+}
+
 /// A statement of the script language.
 #[derive(Drop)]
 pub enum Statement {
@@ -101,6 +121,10 @@ pub enum Statement {
         table: Name,
         tests: Items<RawTest>,
     },
+    Prefer {
+        table: Name,
+        tests: Items<RawTest>,
+    },
     Asking {
         verb: Verb,
         select: Select,
@@ -114,6 +138,9 @@ pub enum Statement {
         table: Name,
         tests: Items<RawTest>,
         group: Option<Name>,
+    },
+    RangeJoin {
+        range: RawRange,
     },
     Dump,
     ShowTables,

@@ -25,7 +25,7 @@ use std::alloc::Global;
 use table_blocks::{ColumnTest, Database};
 
 /// The reply that tells both ends, each with the lines of the rows that a repair which has it chose.
-fn told(alloc: Global, db: &Database, ends: Ends) -> Result<Reply, NoMemory>
+pub fn told(alloc: Global, db: &Database, ends: Ends) -> Result<Reply, NoMemory>
     requires low { AreStored db.now ends.low }
     requires high { AreStored db.now ends.high }
     ensures { IfOk result (λ reply. reply ≡ Reply.Range ends.least (map (kept_line db.now) ends.low) ends.greatest (map (kept_line db.now) ends.high)) }

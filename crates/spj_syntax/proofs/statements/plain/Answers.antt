@@ -16,7 +16,10 @@ pub returns-then-sees_word-4-clause-reads : goal.returns-then-sees_word-4-clause
 returns-then-sees_word-4-clause-reads c = reads_right _ statement_tokens c.delete.result _ refl (opens_then refl c.if-sees_word.ensures) (reads_right _ statement_tokens c.delete.result _ refl (opens_then refl c.if-sees_word-2.ensures) (reads_right _ statement_tokens c.delete.result _ refl (opens_then refl c.if-sees_word-3.ensures) (reads_left _ statement_tokens c.delete.result _ (opens_then refl c.if-sees_word-4.ensures) c.delete.ensures.reads)))
 
 pub returns-then-sees_word-5-clause-reads : goal.returns-then-sees_word-5-clause-reads
-returns-then-sees_word-5-clause-reads c = reads_right _ statement_tokens c.copy.result _ refl (opens_then refl c.if-sees_word.ensures) (reads_right _ statement_tokens c.copy.result _ refl (opens_then refl c.if-sees_word-2.ensures) (reads_right _ statement_tokens c.copy.result _ refl (opens_then refl c.if-sees_word-3.ensures) (reads_right _ statement_tokens c.copy.result _ refl (opens_then refl c.if-sees_word-4.ensures) (reads_left _ statement_tokens c.copy.result _ (opens_then refl c.if-sees_word-5.ensures) c.copy.ensures.reads))))
+returns-then-sees_word-5-clause-reads c = reads_right _ statement_tokens c.prefer.result _ refl (opens_then refl c.if-sees_word.ensures) (reads_right _ statement_tokens c.prefer.result _ refl (opens_then refl c.if-sees_word-2.ensures) (reads_right _ statement_tokens c.prefer.result _ refl (opens_then refl c.if-sees_word-3.ensures) (reads_right _ statement_tokens c.prefer.result _ refl (opens_then refl c.if-sees_word-4.ensures) (reads_left _ statement_tokens c.prefer.result _ (opens_then refl c.if-sees_word-5.ensures) c.prefer.ensures.reads))))
+
+pub returns-then-sees_word-6-clause-reads : goal.returns-then-sees_word-6-clause-reads
+returns-then-sees_word-6-clause-reads c = reads_right _ statement_tokens c.copy.result _ refl (opens_then refl c.if-sees_word.ensures) (reads_right _ statement_tokens c.copy.result _ refl (opens_then refl c.if-sees_word-2.ensures) (reads_right _ statement_tokens c.copy.result _ refl (opens_then refl c.if-sees_word-3.ensures) (reads_right _ statement_tokens c.copy.result _ refl (opens_then refl c.if-sees_word-4.ensures) (reads_right _ statement_tokens c.copy.result _ refl (opens_then refl c.if-sees_word-5.ensures) (reads_left _ statement_tokens c.copy.result _ (opens_then refl c.if-sees_word-6.ensures) c.copy.ensures.reads)))))
 
 pub returns-clause-reads : goal.returns-clause-reads
-returns-clause-reads c = reads_right _ statement_tokens c.telling.result _ refl (opens_then refl c.if-sees_word.ensures) (reads_right _ statement_tokens c.telling.result _ refl (opens_then refl c.if-sees_word-2.ensures) (reads_right _ statement_tokens c.telling.result _ refl (opens_then refl c.if-sees_word-3.ensures) (reads_right _ statement_tokens c.telling.result _ refl (opens_then refl c.if-sees_word-4.ensures) (reads_right _ statement_tokens c.telling.result _ refl (opens_then refl c.if-sees_word-5.ensures) c.telling.ensures.reads))))
+returns-clause-reads c = reads_right _ statement_tokens c.telling.result _ refl (opens_then refl c.if-sees_word.ensures) (reads_right _ statement_tokens c.telling.result _ refl (opens_then refl c.if-sees_word-2.ensures) (reads_right _ statement_tokens c.telling.result _ refl (opens_then refl c.if-sees_word-3.ensures) (reads_right _ statement_tokens c.telling.result _ refl (opens_then refl c.if-sees_word-4.ensures) (reads_right _ statement_tokens c.telling.result _ refl (opens_then refl c.if-sees_word-5.ensures) (reads_right _ statement_tokens c.telling.result _ refl (opens_then refl c.if-sees_word-6.ensures) c.telling.ensures.reads)))))

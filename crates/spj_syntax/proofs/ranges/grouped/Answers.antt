@@ -1,6 +1,6 @@
 use Rattle.std.proofs.Common.{refl}
 use Rattle.spj_syntax.proofs.Steps.{took_both, took_left, took_right, took_nothing, word_took, opens_then, fails_first, fails_then, fails_left, exit}
-use Rattle.spj_syntax.proofs.statements.grouped.Goals as goal
+use Rattle.spj_syntax.proofs.ranges.grouped.Goals as goal
 
 pub returns-in_err-word : goal.returns-in_err-word
 returns-in_err-word c =

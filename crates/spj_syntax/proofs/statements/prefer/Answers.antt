@@ -1,0 +1,18 @@
+use Rattle.std.proofs.Common.{refl}
+use Rattle.spj_syntax.proofs.Steps.{took_both, fails_first, fails_then, exit}
+use Rattle.spj_syntax.proofs.statements.prefer.Goals as goal
+
+pub returns-in_err-word-clause-reads : goal.returns-in_err-word-clause-reads
+returns-in_err-word-clause-reads c = exit _ _ c.from_residual.ensures.1 (fails_first c.in_err-word.ensures)
+
+pub returns-in_err-table-clause-reads : goal.returns-in_err-table-clause-reads
+returns-in_err-table-clause-reads c = exit _ _ c.from_residual-in_err-table.ensures.1 (fails_then c.in_ok-word.ensures (fails_first c.in_err-table.ensures.reads))
+
+pub returns-in_err-word-2-clause-reads : goal.returns-in_err-word-2-clause-reads
+returns-in_err-word-2-clause-reads c = exit _ _ c.from_residual-in_err-word-2.ensures.1 (fails_then c.in_ok-word.ensures (fails_then c.in_ok-table.ensures.reads (fails_first c.in_err-word-2.ensures)))
+
+pub returns-in_err-tests-clause-reads : goal.returns-in_err-tests-clause-reads
+returns-in_err-tests-clause-reads c = exit _ _ c.from_residual-in_err-tests.ensures.1 (fails_then c.in_ok-word.ensures (fails_then c.in_ok-table.ensures.reads (fails_then c.in_ok-word-2.ensures c.in_err-tests.ensures.reads)))
+
+pub returns-clause-reads : goal.returns-clause-reads
+returns-clause-reads c = took_both c.in_ok-word.ensures (took_both c.in_ok-table.ensures.reads (took_both c.in_ok-word-2.ensures c.in_ok-tests.ensures.reads refl) refl) refl
