@@ -118,14 +118,24 @@ class Script:
             table.rows |= fresh
             self.replied(text, "%s %d" % ("copied" if copy else "inserted", len(fresh)))
 
+    def tests_of(self, table):
+        """Tests of one or more columns of a table."""
+        return [(place, self.random.choice(sorted(OPS)), self.kind_of_value(table.columns[place][1]))
+                for place in self.random.sample(range(len(table.columns)), self.random.randint(1, len(table.columns)))]
+
     def delete(self):
         table = self.random.choice(self.tables)
-        tests = []
-        for place in self.random.sample(range(len(table.columns)), self.random.randint(1, len(table.columns))):
-            tests.append((place, self.random.choice(sorted(OPS)), self.kind_of_value(table.columns[place][1])))
+        tests = self.tests_of(table)
         gone = {row for row in table.rows if table.meets(row, tests)}
         table.rows -= gone
         self.replied("delete from %s where %s;" % (table.name, tests_text(table, tests)), "deleted %d" % len(gone))
+
+    def prefer(self):
+        table = self.random.choice(self.tables)
+        tests = self.tests_of(table)
+        left = table.preferred(tests)
+        deleted, table.rows = len(table.rows) - len(left), left
+        self.replied("prefer %s where %s;" % (table.name, tests_text(table, tests)), "deleted %d" % deleted)
 
     def alter(self):
         table, pick = self.random.choice(self.tables), self.random
@@ -229,6 +239,35 @@ class Script:
         told = next((line for what, line, can in first if can and (what == "sum" or what in wrong)), None)
         if told:
             self.replied("range %s;" % text, told)
+
+    def joined(self):
+        """A range over a join. Mostly all tables but one are made strict before, where they break no key."""
+        pick, query = self.random, self.query()
+        if len(query.tables) < 2:
+            return
+        for table in pick.sample(query.tables, len(query.tables) - 1) if pick.random() < 0.8 else []:
+            stored = next(one for one in self.tables if one.name == table.name)
+            if not table.strict and not table.conflicts():
+                table.strict = stored.strict = True
+                self.replied("alter table %s set strict;" % table.name, "altered " + table.name)
+        if query.number_of_repairs() <= MOST_RANGED:
+            self.range_over(query)
+
+    def range_over(self, query):
+        pick = self.random
+        columns = [(atom, place) for atom, table in enumerate(query.tables) for place in range(len(table.columns))]
+        word = pick.choice(["count", "sum", "sum", "min", "max"])
+        column = pick.choice(columns) if word != "count" else None
+        lax = [table for table in query.tables if not table.strict]
+        text = "range %s" % joined_text(query, word, column)
+        if pick.random() < 0.05:
+            return self.replied("%s group by %s;" % (text, query.name(pick.choice(columns))), "error 2 Syntax at %d" % (len(text.encode()) + 1))
+        text += ";"
+        if word == "sum" and query.tables[column[0]].columns[column[1]][1] == "text":
+            return self.replied(text, "error 9 TypeMismatch condition 0")
+        if len(lax) > 1:
+            return self.replied(text, "error 23 NotStrict " + lax[1].name)
+        return self.say(text, lambda out: is_joined_range(out, query, (word, column), lax))
 
     # Queries.
 
@@ -382,7 +421,8 @@ class Script:
         self.create_linked(kind)
         for table in self.tables:
             self.fill_linked(table, values)
-        rare = [self.delete, self.show, self.show_conflicts, self.ranged, lambda: self.fill_linked(self.random.choice(self.tables), values)]
+        rare = [self.delete, self.prefer, self.show, self.show_conflicts, self.ranged]
+        rare.append(lambda: self.fill_linked(self.random.choice(self.tables), values))
         length += len(self.statements)
         while len(self.statements) < length:
             if self.random.random() < 0.1:
@@ -492,8 +532,9 @@ class Script:
 
     def make(self, length):
         steps = [self.insert] * 8 + [lambda: self.insert(copy=True)] * 2 + [self.asked] * 6
-        steps += [self.delete, self.alter, self.show, self.show_conflicts, self.set_conflicts, self.show_log, self.crossed, self.turned]
-        steps += [self.ranged, self.ranged, self.amounts]
+        steps += [self.delete, self.prefer, self.alter, self.show, self.show_conflicts, self.set_conflicts, self.show_log]
+        steps += [self.crossed, self.turned]
+        steps += [self.ranged, self.ranged, self.amounts, self.joined]
         for _ in range(self.random.randint(1, 4)):
             self.create()
         while len(self.statements) < length:
@@ -540,6 +581,12 @@ def aggregate_text(table, word, place, tests):
     return "%s from %s%s" % (what, table.name, " where " + tests_text(table, tests) if tests else "")
 
 
+def joined_text(query, word, column):
+    """What stands behind `range`, over the witnesses of a query."""
+    what = word if column is None else "%s %s" % (word, query.name(column))
+    return what + query.source()
+
+
 def end_text(end):
     return "none" if end is None else literal(end)
 
@@ -555,6 +602,16 @@ def is_range(out, table, goal, tests):
     for word, end in zip(("least", "greatest"), table.range(goal, tests)):
         out.expect("%s %s" % (word, end_text(end)))
         value = table.aggregate(goal, tests, kept_rows(out, [table])[0])
+        if value != end:
+            raise Differs("the repair behind %s has %s" % (word, value))
+
+
+def is_joined_range(out, query, goal, lax):
+    """Both ends, each with the kept rows of a repair that has it. lax: the table that may break its key, if there is one."""
+    for word, end in zip(("least", "greatest"), query.range(goal)):
+        out.expect("%s %s" % (word, end_text(end)))
+        kept = dict(zip([table.name for table in lax], kept_rows(out, lax)))
+        value = query.aggregate(goal, [kept.get(table.name, table.sorted()) for table in query.tables])
         if value != end:
             raise Differs("the repair behind %s has %s" % (word, value))
 

@@ -19,6 +19,8 @@ STATEMENTS: Tuple[Help, ...] = (
     Help("insert", "insert into NAME values (1, 'a'), (2, 'b');", "puts rows in, beside those of their key"),
     Help("copy", "copy NAME;", "takes the records of CSV on the lines behind it, up to a line \\.; `cqa load` makes it from a file"),
     Help("delete", "delete from NAME [where COLUMN = 1 and COLUMN <> 'a'];", "deletes the rows that pass all tests"),
+    Help("prefer", "prefer NAME where COLUMN = 'a' and COLUMN <> 1;",
+         "of each key with a row that passes all tests, deletes the rows that don't; run it again behind each load"),
     Help("alter", "alter table NAME set strict | drop strict | set primary key (COLUMN);", "makes a table strict, or gives it another key"),
     Help("ask", "ask select COLUMN from NAME, NAME where COLUMN = COLUMN;", "the certain rows: those that hold whichever row of each key is right"),
     Help("possible", "possible select COLUMN from NAME;", "the possible rows: those that hold for some choice of rows"),

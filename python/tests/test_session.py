@@ -93,7 +93,7 @@ class Questions(ProgramCase):
         self.assertEqual(caught.exception.fields, "row 2 (1, 'a\nb''c') (1, 'x')")
 
     def test_statements_of_newer_programs_are_sent_and_told(self) -> None:
-        calls = {"prove": lambda: self.db.prove(("Ida",), "select name from staff"), "prefer": lambda: self.db.prefer("staff", "room = 12")}
+        calls = {"prove": lambda: self.db.prove(("Ida",), "select name from staff")}
         for word, call in calls.items():
             with self.subTest(word):
                 try:
@@ -109,6 +109,23 @@ class Questions(ProgramCase):
         self.assertEqual(self.db.against(("Eli", 501), joined), cqa.Explanation("against"))
         self.assertEqual(self.db.tell("show conflicts"), ["staff rows 3 blocks 2 conflicts 1", "door rows 3 blocks 2 conflicts 1", "2 tables"])
         self.assertEqual(self.db.disputed("exists from door where code = 733"), [()])
+
+    def test_rows_that_are_preferred(self) -> None:
+        self.assertEqual(self.db.prefer("staff", "room = 12 and id = 7"), 1)
+        self.assertEqual(self.db.prefer("staff", "room = 0"), 0)
+        self.assertEqual(self.db.certain("select room from staff where id = 7"), [(12,)])
+        with self.assertRaises(cqa.Refused):
+            self.db.prefer("staff", "floor = 1")
+
+    def test_ranges_over_joins(self) -> None:
+        self.db.run("create strict table floor (room int, level int, primary key (room)); insert into floor values (12, 1), (14, 4);")
+        joined = "staff, floor where staff.room = floor.room"
+        found = self.db.range("sum level from " + joined)
+        self.assertEqual((found.least, found.greatest, [row for _, row in found.low]), (2, 5, [(7, "Ida", 12)]))
+        self.assertEqual(self.db.range("max floor.level from %s and id = 7" % joined)[:2], (1, 4))
+        with self.assertRaises(cqa.Refused) as caught:
+            self.db.range("count from staff, door where staff.room = door.room")
+        self.assertEqual((caught.exception.number, caught.exception.fields), (23, "door"))
 
     def test_ranges(self) -> None:
         self.db.run("create table r (x int, y int, primary key (x)); insert into r values (1, 5), (1, -2), (2, 7), (3, 1), (3, 9);")
