@@ -1,24 +1,27 @@
 -- Which rows tests prefer, told block by block.
-use Rattle.std.proofs.Common.{◌≡◌, ◌⊎◌, ◌↔◌, inl, inr, ◌||◌, ◌&&◌, not, IsTrue, ℕ, ◌+◌, ◌-◌, ◌<◌, ◌≤◌, Bool, true, false, List, [], ◌∷◌, ◌++◌, length, map, take, drop, get_or, replicate, Contains, refl, sym, ap, subst, ◌∙◌, arith, true≢false}
+use Rattle.std.proofs.Common.{◌≡◌, ◌⊎◌, ◌↔◌, inl, inr, ◌||◌, ◌&&◌, not, IsTrue, ℕ, ◌+◌, ◌-◌, ◌<◌, ◌≤◌, Bool, true, false, List, [], ◌∷◌, ◌++◌, length, map, take, drop, set, get_or, replicate, Contains, refl, sym, ap, subst, ◌∙◌, arith, append_assoc, length-append, true≢false, if◌then◌else◌}
 use Rattle.std.specs.List.{list_any, filter}
 use Rattle.std.specs.List.Sorted.{IsStrictlySortedBy}
 use Rattle.std.proofs.Math.Seq.{take-add, take-append_seam, drop-append_seam}
-use Rattle.std.proofs.lemmas.List.{get_or-take, get_or-drop, take-append-drop, drop-drop, length-take-le, length-drop}
-use Rattle.std.proofs.lemmas.List.Elements.{Contains-append_cases, Contains-append_left, Contains-append_right, recursion_from_All}
+use Rattle.std.proofs.lemmas.List.{append-nil, drop-drop, get_or-take, get_or-drop, get_or_default, length-drop, length-map, length-take-le, map-append, take-take, take_all, take_more_set}
+use Rattle.std.proofs.lemmas.List.Elements.{Contains-append_cases, Contains-append_left, Contains-append_right, Contains-get_or, recursion_from_All}
+use Rattle.std.proofs.lemmas.List.Folds.{list_any_more}
 use Rattle.std.proofs.lemmas.List.Kept.{IsStrictlySortedBy-filter}
 use Rattle.cqa_value.specs.declared.value.Value.{Value}
-use Rattle.cqa_value.proofs.Words.{mem-head, mem-tail, mem-nil, mem-cases, member_place, member_by_recursion, Contains-filter, Contains-from_take}
+use Rattle.cqa_value.proofs.Words.{mem-head, mem-tail, mem-nil, mem-cases, member_place, member_by_recursion, map_alike, cases_le, Contains-filter, Contains-from_take}
 use Rattle.cqa_model.specs.Database.{SharesKey, block_cmp}
-use Rattle.cqa_model.proofs.BlockOrder.{key-from_shares}
-use Rattle.cqa_model.proofs.Repairs.{shares-sym, shares-trans}
+use Rattle.cqa_model.proofs.BlockOrder.{grouped, key-from_shares}
+use Rattle.cqa_model.proofs.Repairs.{shares-eq, shares-sym, shares-trans}
+use Rattle.row_blocks.proofs.BlockEnds.{shares-before}
 use Rattle.row_order.specs.Spans.{first_key}
+use Rattle.row_pieces.proofs.Marking.{map-more}
 use Rattle.table_blocks.specs.Keys.{same_key}
 use Rattle.table_blocks.specs.Tables.{TestsHold, IsToldStretch}
 use Rattle.table_blocks.specs.declared.test.ColumnTest.{ColumnTest}
 use Rattle.table_blocks.proofs.Passing.{dec_tests, is_yes, is_no}
 use Rattle.table_blocks.proofs.Sharing.{same_decides}
 use Rattle.table_blocks.proofs.Sparing.{spared_all}
-use Rattle.table_changes.specs.Preferred.{IsPreferred, DecidesTests, stays_in, stays_among}
+use Rattle.table_changes.specs.Preferred.{IsPreferred, DecidesTests, stays_among}
 
 -- ---- truth values
 
@@ -70,9 +73,9 @@ none_is false h = refl
 
 -- ---- lists
 
-pub map_alike : {A B : Type 0} (f g : A → B) (xs : List A) → ((x : A) → Contains xs x → f x ≡ g x) → map f xs ≡ map g xs
-map_alike f g [] h = refl
-map_alike f g (x ∷ xs) h = ap (λ z. z ∷ map f xs) (h x (mem-head x xs)) ∙ ap (λ zs. g x ∷ zs) (map_alike f g xs (λ y m. h y (mem-tail y x xs m)))
+-- a row stays beside some rows: it passes, or none of them passes
+abbrev stays_in : (List Value → Bool) → List (List Value) → List Value → Bool
+stays_in passes block row = passes row || not (list_any passes block)
 
 -- where no row passes, each stays
 pub all_stay : (passes : List Value → Bool) (all rows : List (List Value)) → list_any passes all ≡ false → replicate (length rows) true ≡ map (stays_in passes all) rows
@@ -85,71 +88,300 @@ these_stay passes all rows e = map_alike passes (stays_in passes all) rows (λ r
 
 -- ---- one block after the other
 
--- the rows from a place on begin with a block, and the rows before share no key with these
-module _ (key : List ℕ) (rows : List (List Value)) (at count : ℕ)
-    (apart : (x y : List Value) → Contains (take at rows) x → Contains (drop at rows) y → SharesKey key x y → ⊥)
-    (within : count ≤ length (drop at rows))
-    (block : (i : ℕ) → 0 ≤ i → i < length (drop at rows) → SharesKey key (get_or (drop at rows) 0 []) (get_or (drop at rows) i []) ↔ (i < count)) where
+-- a row shares the key of a first row just where it stands in the block
+module _ (key : List ℕ) (rows : List (List Value)) (start count : ℕ) (within : start + count ≤ length rows)
+    (block : (i : ℕ) → i < length rows → SharesKey key (get_or rows start []) (get_or rows i []) ↔ ((start ≤ i) × (i < start + count))) where
   abbrev first : List Value
-  first = get_or (drop at rows) 0 []
+  first = get_or rows start []
 
-  in_block : (x : List Value) → Contains (take count (drop at rows)) x → SharesKey key first x
+  abbrev these : List (List Value)
+  these = take count (drop start rows)
+
+  as_wide : length these ≡ count
+  as_wide = let behind = length-drop start rows in length-take-le count (drop start rows) (omega (arith, within, behind))
+
+  place-in : (i : ℕ) → i < count → get_or these i [] ≡ get_or rows (start + i) []
+  place-in i early = get_or-take count (drop start rows) i [] early ∙ get_or-drop start rows i []
+
+  in_block : (x : List Value) → Contains these x → SharesKey key first x
   in_block x m =
-      let there = member_place (take count (drop at rows)) x [] m in
+      let there = member_place these x [] m in
       let place = there.1 in
-      let size = length-take-le count (drop at rows) within in
-      let early : there.0 < count = omega (arith, place, size) in
-      subst (SharesKey key first) (sym (get_or-take count (drop at rows) there.0 [] early) ∙ there.2) ((block there.0 (omega arith) (omega (arith, early, within))).1 early)
+      let long = as_wide in
+      let early : there.0 < count = omega (arith, place, long) in
+      subst (SharesKey key first) (sym (place-in there.0 early) ∙ there.2) ((block (start + there.0) (omega (arith, early, within))).1 (omega arith, omega (arith, early)))
 
-  behind_block : (y : List Value) → Contains (drop count (drop at rows)) y → SharesKey key first y → ⊥
-  behind_block y m s =
-      let there = member_place (drop count (drop at rows)) y [] m in
+  to_block : (x : List Value) → Contains rows x → SharesKey key first x → Contains these x
+  to_block x m s =
+      let there = member_place rows x [] m in
+      let bounds = (block there.0 there.1).0 (subst (SharesKey key first) (sym there.2) s) in
+      let low = bounds.0 in
+      let high = bounds.1 in
+      let long = as_wide in
+      let early : there.0 - start < count = omega (arith, low, high) in
+      let back : start + (there.0 - start) ≡ there.0 = omega (arith, low) in
+      subst (Contains these) (place-in (there.0 - start) early ∙ ap (λ n. get_or rows n []) back ∙ there.2) (Contains-get_or these (there.0 - start) [] (omega (arith, early, long)))
+
+  in_rows : (x : List Value) → Contains these x → Contains rows x
+  in_rows x m =
+      let there = member_place these x [] m in
       let place = there.1 in
-      let size = length-drop count (drop at rows) in
-      let seen : y ≡ get_or (drop at rows) (count + there.0) [] = sym there.2 ∙ get_or-drop count (drop at rows) there.0 [] in
-      let late = (block (count + there.0) (omega arith) (omega (arith, place, size, within))).0 (subst (SharesKey key first) seen s) in
-      omega (arith, late)
-
-  parts : take count (drop at rows) ++ drop count (drop at rows) ≡ drop at rows
-  parts = take-append-drop count (drop at rows)
-
-  in_rest : (x : List Value) → Contains (take count (drop at rows)) x → Contains (drop at rows) x
-  in_rest x m = subst (λ xs. Contains xs x) parts (Contains-append_left (take count (drop at rows)) (drop count (drop at rows)) x m)
-
-  in_rows : (x : List Value) → Contains (drop at rows) x → Contains rows x
-  in_rows x m = subst (λ xs. Contains xs x) (take-append-drop at rows) (Contains-append_right (take at rows) (drop at rows) x m)
-
-  -- the rows up to the block's end share no key with those behind
-  pub apart_next : (x y : List Value) → Contains (take (at + count) rows) x → Contains (drop (at + count) rows) y → SharesKey key x y → ⊥
-  apart_next x y m n s =
-      let late : Contains (drop count (drop at rows)) y = subst (λ xs. Contains xs y) (sym (drop-drop count at rows)) n in
-      elim (Contains-append_cases (take at rows) (take count (drop at rows)) x (subst (λ xs. Contains xs x) (take-add at count rows) m)) [
-        | inl l ↦ apart x y l (subst (λ xs. Contains xs y) parts (Contains-append_right (take count (drop at rows)) (drop count (drop at rows)) y late)) s
-        | inr r ↦ behind_block y late (shares-trans key first x y (in_block x r) s)
-      ]
+      let long = as_wide in
+      let early : there.0 < count = omega (arith, place, long) in
+      subst (Contains rows) (sym (place-in there.0 early) ∙ there.2) (Contains-get_or rows (start + there.0) [] (omega (arith, early, within)))
 
   -- a row of the block stays in it just as among all rows
-  pub stays_alike : (passes : List Value → Bool) (x : List Value) → Contains (take count (drop at rows)) x → stays_in passes (take count (drop at rows)) x ≡ stays_among key passes rows x
+  stays_alike : (passes : List Value → Bool) (x : List Value) → Contains these x → stays_in passes these x ≡ stays_among key passes rows x
   stays_alike passes x m = ap (λ b. passes x || not b) (same_truth _ _ to from)
     where
-      to : IsTrue (list_any passes (take count (drop at rows))) → IsTrue (list_any (λ other. same_key key x other && passes other) rows)
+      to : IsTrue (list_any passes these) → IsTrue (list_any (λ other. same_key key x other && passes other) rows)
       to e =
-          let r = any_from passes (take count (drop at rows)) e in
+          let r = any_from passes these e in
           let shares = shares-trans key x first r.0 (shares-sym key first x (in_block x m)) (in_block r.0 r.1) in
-          any_to (λ other. same_key key x other && passes other) rows r.0 (in_rows r.0 (in_rest r.0 r.1)) (and_both (same_key key x r.0) (passes r.0) ((same_decides key x r.0).1 shares) r.2)
+          any_to (λ other. same_key key x other && passes other) rows r.0 (in_rows r.0 r.1) (and_both (same_key key x r.0) (passes r.0) ((same_decides key x r.0).1 shares) r.2)
 
-      from : IsTrue (list_any (λ other. same_key key x other && passes other) rows) → IsTrue (list_any passes (take count (drop at rows)))
+      from : IsTrue (list_any (λ other. same_key key x other && passes other) rows) → IsTrue (list_any passes these)
       from e =
           let r = any_from (λ other. same_key key x other && passes other) rows e in
           let w = both (same_key key x r.0) (passes r.0) r.2 in
-          let shares = (same_decides key x r.0).0 w.0 in
-          elim (Contains-append_cases (take at rows) (drop at rows) r.0 (subst (λ xs. Contains xs r.0) (sym (take-append-drop at rows)) r.1)) [
-            | inl l ↦ absurd (apart r.0 x l (in_rest x m) (shares-sym key x r.0 shares))
-            | inr k ↦ elim (Contains-append_cases (take count (drop at rows)) (drop count (drop at rows)) r.0 (subst (λ xs. Contains xs r.0) (sym parts) k)) [
-              | inl b ↦ any_to passes (take count (drop at rows)) r.0 b w.1
-              | inr l ↦ absurd (behind_block r.0 l (shares-trans key first x r.0 (in_block x m) shares))
-            ]
-          ]
+          any_to passes these r.0 (to_block r.0 r.1 (shares-trans key first x r.0 (in_block x m) ((same_decides key x r.0).0 w.0))) w.1
+
+  -- what stays of the rows of a block is told by which of them pass
+  pub told-block : (passes : List Value → Bool) (flags before after : List Bool) (some : Bool) → length flags ≡ length rows →
+      some ≡ list_any passes these → take (start + count) flags ≡ before ++ map passes these → length before ≡ start →
+      after ≡ (if some then flags else (take start flags ++ replicate count true ++ drop (start + count) flags)) →
+      take (start + count) after ≡ before ++ map (stays_among key passes rows) these
+  told-block passes flags before after some long any told as_many is = go some any is
+    where
+      here : map (stays_in passes these) these ≡ map (stays_among key passes rows) these
+      here = map_alike (stays_in passes these) (stays_among key passes rows) these (stays_alike passes)
+
+      go : (b : Bool) → b ≡ list_any passes these → after ≡ (if b then flags else (take start flags ++ replicate count true ++ drop (start + count) flags)) → take (start + count) after ≡ before ++ map (stays_among key passes rows) these
+      go true e same = ap (take (start + count)) same ∙ told ∙ ap (λ fs. before ++ fs) (these_stay passes these these (sym e) ∙ here)
+      go false e same =
+          let front : take start flags ≡ before =
+          sym (take-take start (start + count) flags (omega arith)) ∙ ap (take start) told ∙ ap (λ n. take n (before ++ map passes these)) (sym as_many) ∙ take-append_seam before (map passes these)
+          in
+          let flat : take start flags ++ replicate count true ≡ before ++ map (stays_in passes these) these =
+          ap (λ fs. fs ++ replicate count true) front ∙ ap (λ n. before ++ replicate n true) (sym as_wide) ∙ ap (λ fs. before ++ fs) (all_stay passes these these (sym e))
+          in
+          let both_long : length (before ++ map (stays_in passes these) these) ≡ start + count =
+          length-append before (map (stays_in passes these) these) ∙ ap (λ n. n + length (map (stays_in passes these) these)) as_many ∙ ap (λ n. start + n) (length-map these (stays_in passes these) ∙ as_wide)
+          in
+          ap (take (start + count)) same
+          ∙ ap (λ fs. take (start + count) (fs ++ drop (start + count) flags)) flat
+          ∙ ap (λ n. take n ((before ++ map (stays_in passes these) these) ++ drop (start + count) flags)) (sym both_long)
+          ∙ take-append_seam (before ++ map (stays_in passes these) these) (drop (start + count) flags)
+          ∙ ap (λ fs. before ++ fs) here
+
+-- it is told of the rows of earlier blocks whether they stay, and of so many of the block that is being read whether they pass
+pub record AreToldSoFar (key : List ℕ) (rows : List (List Value)) (tests : List ColumnTest) (stays : List Bool) (start read : ℕ) (some : Bool) : Type 0 where
+  pub within : start + read ≤ length rows
+  pub before : (i : ℕ) → i < start → SharesKey key (get_or rows start []) (get_or rows i []) → ⊥
+  pub alike : (i : ℕ) → start ≤ i → i < start + read → SharesKey key (get_or rows start []) (get_or rows i [])
+  pub told : (passes : List Value → Bool) → DecidesTests tests passes → take (start + read) stays ≡ map (stays_among key passes rows) (take start rows) ++ map passes (take read (drop start rows))
+  pub some_is : (passes : List Value → Bool) → DecidesTests tests passes → some ≡ list_any passes (take read (drop start rows))
+
+module _ (key : List ℕ) (rows : List (List Value)) (tests : List ColumnTest) where
+  -- of no row it is told
+  told-none : (stays : List Bool) (some : Bool) → some ≡ false → AreToldSoFar key rows tests stays 0 0 some
+  told-none stays some e = record {
+    within = omega arith;
+    before = λ i l. absurd (omega (arith, l));
+    alike = λ i l h. absurd (omega (arith, h));
+    told = λ passes k. refl;
+    some_is = λ passes k. e;
+  }
+
+  -- no block was read
+  pub told-first : (stays : List Bool) (start read : ℕ) (some : Bool) → start ≡ 0 → read ≡ 0 → some ≡ false → AreToldSoFar key rows tests stays start read some
+  told-first stays start read some s r e =
+      subst (λ n. AreToldSoFar key rows tests stays n read some) (sym s) (subst (λ n. AreToldSoFar key rows tests stays 0 n some) (sym r) (told-none stays some e))
+
+  module _ (stays : List Bool) (start read : ℕ) (some : Bool) (far : AreToldSoFar key rows tests stays start read some) (long : length stays ≡ length rows) where
+    rest_long : length (drop start rows) + start ≡ length rows
+    rest_long = let behind = length-drop start rows in let within = far.within in omega (arith, behind, within)
+
+    module _ (row : List Value) (there : start + read < length rows) (is : get_or rows (start + read) [] ≡ row) where
+      abbrev at : ℕ
+      at = start + read
+
+      inside : read < length (drop start rows)
+      inside = let behind = rest_long in omega (arith, behind, there)
+
+      is_here : get_or (drop start rows) read [] ≡ row
+      is_here = get_or-drop start rows read [] ∙ is
+
+      more-passing : (p : List Value → Bool) → map p (take read (drop start rows)) ++ p row ∷ [] ≡ map p (take (read + 1) (drop start rows))
+      more-passing p = map-more p (drop start rows) read row inside (sym is_here ∙ get_or_default (drop start rows) read [] row inside)
+
+      -- one row of the block more
+      pub told-more : (after : List Bool) (start' read' : ℕ) (some' : Bool) → start' ≡ start → read' ≡ read + 1 → SharesKey key (get_or rows start []) row →
+          ((passes : List Value → Bool) → DecidesTests tests passes → after ≡ set stays (start + read) (passes row)) →
+          ((passes : List Value → Bool) → DecidesTests tests passes → some' ≡ (some || passes row)) →
+          AreToldSoFar key rows tests after start' read' some'
+      told-more after start' read' some' s r shares flags any =
+          subst (λ n. AreToldSoFar key rows tests after n read' some') (sym s) (subst (λ n. AreToldSoFar key rows tests after start n some') (sym r) next)
+        where
+          next : AreToldSoFar key rows tests after start (read + 1) some'
+          next = record {
+            within = omega (arith, there);
+            before = far.before;
+            alike = λ i l h. elim (cases_le at i) [
+              | inl late ↦ (let e : at ≡ i = omega (arith, late, h) in subst (SharesKey key (get_or rows start [])) (sym is ∙ ap (λ n. get_or rows n []) e) shares)
+              | inr early ↦ far.alike i l early
+            ];
+            told = λ p k.
+                let e : start + (read + 1) ≡ start + read + 1 = omega arith in
+                ap (λ n. take n after) e
+                ∙ ap (take (start + read + 1)) (flags p k)
+                ∙ take_more_set stays (start + read) (p row) (omega (arith, there, long))
+                ∙ ap (λ fs. fs ++ p row ∷ []) (far.told p k)
+                ∙ append_assoc (map (stays_among key p rows) (take start rows)) (map p (take read (drop start rows))) (p row ∷ [])
+                ∙ ap (λ fs. map (stays_among key p rows) (take start rows) ++ fs) (more-passing p);
+            some_is = λ p k.
+                any p k
+                ∙ ap (λ b. b || p row) (far.some_is p k)
+                ∙ ap (λ x. list_any p (take read (drop start rows)) || p x) (sym is_here)
+                ∙ sym (list_any_more p (drop start rows) read [] inside);
+          }
+
+    -- what is told of the block's rows once it ends
+    abbrev pub Ended : List Bool → Type 0
+    Ended after = after ≡ (if some then stays else (take start stays ++ replicate read true ++ drop (start + read) stays))
+
+    module _ (ends : (i : ℕ) → start + read ≤ i → i < length rows → SharesKey key (get_or rows start []) (get_or rows i []) → ⊥) (after : List Bool) (flags : Ended after) where
+      block : (i : ℕ) → i < length rows → SharesKey key (get_or rows start []) (get_or rows i []) ↔ ((start ≤ i) × (i < start + read))
+      block i there = (λ s. go s (cases_le start i) (cases_le (start + read) i), λ b. far.alike i b.0 b.1)
+        where
+          go : SharesKey key (get_or rows start []) (get_or rows i []) → (start ≤ i) ⊎ (i < start) → (start + read ≤ i) ⊎ (i < start + read) → (start ≤ i) × (i < start + read)
+          go s (inl low) (inr high) = (low, high)
+          go s (inr early) d = absurd (far.before i early s)
+          go s (inl low) (inl late) = absurd (ends i late there s)
+
+      told-here : (passes : List Value → Bool) → DecidesTests tests passes → take (start + read) after ≡ map (stays_among key passes rows) (take (start + read) rows)
+      told-here passes k =
+          let front = length-take-le start rows (let within = far.within in omega (arith, within)) in
+          told-block key rows start read far.within block passes stays (map (stays_among key passes rows) (take start rows)) after some long (far.some_is passes k) (far.told passes k)
+          (length-map (take start rows) (stays_among key passes rows) ∙ front) flags
+          ∙ sym (map-append (stays_among key passes rows) (take start rows) (take read (drop start rows)))
+          ∙ ap (map (stays_among key passes rows)) (sym (take-add start read rows))
+
+    -- behind the last block it is told of all rows
+    pub told-all : start + read ≡ length rows → (after : List Bool) → length after ≡ length stays → Ended after → (passes : List Value → Bool) → DecidesTests tests passes → after ≡ map (stays_among key passes rows) rows
+    told-all all after as_long flags passes k =
+        let none : (i : ℕ) → start + read ≤ i → i < length rows → SharesKey key (get_or rows start []) (get_or rows i []) → ⊥ = λ i l u s. omega (arith, all, l, u) in
+        sym (take_all (start + read) after (omega (arith, all, as_long, long))) ∙ told-here none after flags passes k ∙ ap (map (stays_among key passes rows)) (take_all (start + read) rows (omega (arith, all)))
+
+    -- the next block begins with a row that doesn't share the key of the one before
+    pub told-next : IsStrictlySortedBy (block_cmp key) rows → start + read < length rows → (SharesKey key (get_or rows start []) (get_or rows (start + read) []) → ⊥) → (after : List Bool) → Ended after →
+        (start' read' : ℕ) (some' : Bool) → start' ≡ start + read → read' ≡ 0 → some' ≡ false → AreToldSoFar key rows tests after start' read' some'
+    told-next order there apart after flags start' read' some' s r e =
+        subst (λ n. AreToldSoFar key rows tests after n read' some') (sym s) (subst (λ n. AreToldSoFar key rows tests after (start + read) n some') (sym r) next)
+      where
+        ends : (i : ℕ) → start + read ≤ i → i < length rows → SharesKey key (get_or rows start []) (get_or rows i []) → ⊥
+        ends i l u shares = apart (shares-before key rows order start i (start + read) (omega arith) l u shares)
+
+        next : AreToldSoFar key rows tests after (start + read) 0 some'
+        next = record {
+          within = omega (arith, there);
+          before = λ i l shares. elim (cases_le start i) [
+            | inl low ↦ apart (shares-trans key (get_or rows start []) (get_or rows i []) (get_or rows (start + read) []) (far.alike i low l) (shares-sym key (get_or rows (start + read) []) (get_or rows i []) shares))
+            | inr early ↦ far.before i early (shares-sym key (get_or rows i []) (get_or rows start []) (grouped key rows order i start (start + read) (omega (arith, early)) (omega arith) there (shares-sym key (get_or rows (start + read) []) (get_or rows i []) shares)))
+          ];
+          alike = λ i l h. absurd (omega (arith, l, h));
+          told = λ passes k. ap (λ n. take n after) (let e : start + read + 0 ≡ start + read = omega arith in e) ∙ told-here ends after flags passes k ∙ sym (append-nil (map (stays_among key passes rows) (take (start + read) rows)));
+          some_is = λ passes k. e;
+        }
+
+-- ---- a walk over the rows
+
+-- the rows up to a place were read: it is told of them, those from there on are left, and the one before is of the block
+pub record AreRead (key : List ℕ) (rows : List (List Value)) (tests : List ColumnTest) (stays : List Bool) (start read : ℕ) (some : Bool) (left : List (List Value)) (last : List Value) : Type 0 where
+  pub so_far : AreToldSoFar key rows tests stays start read some
+  pub left_is : left ≡ drop (start + read) rows
+  pub last_is : SharesKey key (get_or rows start []) last
+
+-- the next row, and those behind it
+pub next_row : (rows : List (List Value)) (at : ℕ) (row : List Value) (rest : List (List Value)) → drop at rows ≡ row ∷ rest → (at < length rows) × (get_or rows at [] ≡ row) × (rest ≡ drop (at + 1) rows)
+next_row rows at row rest e =
+    let long = ap length e in
+    let behind = length-drop at rows in
+    let none : at + 0 ≡ at = omega arith in (
+      omega (arith, long, behind),
+      ap (λ n. get_or rows n []) (sym none) ∙ sym (get_or-drop at rows 0 []) ∙ ap (λ xs. get_or xs 0 []) e,
+      sym (ap (drop 1) e) ∙ drop-drop 1 at rows,
+    )
+
+module _ (key : List ℕ) (rows : List (List Value)) (tests : List ColumnTest) (stays : List Bool) (start read : ℕ) (some : Bool) (long : length stays ≡ length rows) where
+  -- one row of a block is read
+  read_one : AreToldSoFar key rows tests stays start read some → (row : List Value) (rest : List (List Value)) → drop (start + read) rows ≡ row ∷ rest → SharesKey key (get_or rows start []) row →
+      (after : List Bool) (start' read' : ℕ) (some' : Bool) → start' ≡ start → read' ≡ read + 1 →
+      ((passes : List Value → Bool) → DecidesTests tests passes → some' ≡ (some || passes row)) →
+      ((passes : List Value → Bool) → DecidesTests tests passes → after ≡ set stays (start + read) (passes row)) →
+      AreRead key rows tests after start' read' some' rest row
+  read_one far row rest e shares after start' read' some' s r any flags =
+      let next = next_row rows (start + read) row rest e in
+      let behind : start + read + 1 ≡ start' + read' = omega (arith, s, r) in
+      record {
+        so_far = told-more key rows tests stays start read some far long row next.0 next.1 after start' read' some' s r shares flags any;
+        left_is = next.2 ∙ ap (λ n. drop n rows) behind;
+        last_is = subst (λ n. SharesKey key (get_or rows n []) row) (sym s) shares;
+      }
+
+  -- the first row
+  pub read_first : start ≡ 0 → read ≡ 0 → some ≡ false → (row : List Value) (rest : List (List Value)) → rows ≡ row ∷ rest →
+      (after : List Bool) (start' read' : ℕ) (some' : Bool) → start' ≡ start → read' ≡ read + 1 →
+      ((passes : List Value → Bool) → DecidesTests tests passes → some' ≡ (some || passes row)) →
+      ((passes : List Value → Bool) → DecidesTests tests passes → after ≡ set stays (start + read) (passes row)) →
+      AreRead key rows tests after start' read' some' rest row
+  read_first none unread never row rest e =
+      let all : start + read ≡ 0 = omega (arith, none, unread) in
+      read_one (told-first key rows tests stays start read some none unread never) row rest (ap (λ n. drop n rows) all ∙ e)
+      (shares-eq key (get_or rows start []) row (ap (λ n. get_or rows n []) none ∙ ap (λ xs. get_or xs 0 []) e))
+
+  module _ (left : List (List Value)) (last : List Value) (are : AreRead key rows tests stays start read some left last) where
+    -- one row more
+    module _ (row : List Value) (rest : List (List Value)) (steps : left ≡ row ∷ rest) where
+      pub next_there : start + read < length rows
+      next_there = (next_row rows (start + read) row rest (sym are.left_is ∙ steps)).0
+
+      -- it is of the block
+      pub read_more : SharesKey key last row →
+          (after : List Bool) (start' read' : ℕ) (some' : Bool) → start' ≡ start → read' ≡ read + 1 →
+          ((passes : List Value → Bool) → DecidesTests tests passes → some' ≡ (some || passes row)) →
+          ((passes : List Value → Bool) → DecidesTests tests passes → after ≡ set stays (start + read) (passes row)) →
+          AreRead key rows tests after start' read' some' rest row
+      read_more same = read_one are.so_far row rest (sym are.left_is ∙ steps) (shares-trans key (get_or rows start []) last row are.last_is same)
+
+      -- the block ends before it
+      pub ended_before : IsStrictlySortedBy (block_cmp key) rows → (SharesKey key last row → ⊥) → (after : List Bool) → Ended key rows tests stays start read some are.so_far long after →
+          (start' read' : ℕ) (some' : Bool) → start' ≡ start + read → read' ≡ 0 → some' ≡ false → AreToldSoFar key rows tests after start' read' some'
+      ended_before order apart =
+          let next = next_row rows (start + read) row rest (sym are.left_is ∙ steps) in
+          told-next key rows tests stays start read some are.so_far long order next.0
+          (λ s. apart (shares-trans key last (get_or rows start []) row (shares-sym key (get_or rows start []) last are.last_is) (subst (SharesKey key (get_or rows start [])) next.1 s)))
+
+    -- no row is left
+    pub read_all : left ≡ [] → (after : List Bool) → length after ≡ length stays → Ended key rows tests stays start read some are.so_far long after →
+        (passes : List Value → Bool) → DecidesTests tests passes → after ≡ map (stays_among key passes rows) rows
+    read_all none =
+        let within = are.so_far.within in
+        let behind = length-drop (start + read) rows in
+        let empty = ap length (sym are.left_is ∙ none) in
+        told-all key rows tests stays start read some are.so_far long (omega (arith, within, behind, empty))
+
+-- the first row of the next block
+pub read_next : (key : List ℕ) (rows : List (List Value)) (tests : List ColumnTest) (stays : List Bool) (start read : ℕ) (some : Bool) → length stays ≡ length rows → (at : ℕ) → start ≡ at → read ≡ 0 →
+    AreToldSoFar key rows tests stays start read some → (row : List Value) (rest : List (List Value)) → drop at rows ≡ row ∷ rest →
+    (after : List Bool) (start' read' : ℕ) (some' : Bool) → start' ≡ start → read' ≡ read + 1 →
+    ((passes : List Value → Bool) → DecidesTests tests passes → some' ≡ (some || passes row)) →
+    ((passes : List Value → Bool) → DecidesTests tests passes → after ≡ set stays (start + read) (passes row)) →
+    AreRead key rows tests after start' read' some' rest row
+read_next key rows tests stays start read some long at begins unread far row rest e =
+    let here : start + read ≡ at = omega (arith, begins, unread) in
+    read_one key rows tests stays start read some long far row rest (ap (λ n. drop n rows) here ∙ e)
+    (shares-eq key (get_or rows start []) row (ap (λ n. get_or rows n []) begins ∙ (next_row rows at row rest e).1))
 
 -- ---- the stretch that the tests tell
 

@@ -24,10 +24,6 @@ pub record Prefers (old : List Table) (table : ℕ) (tests : List ColumnTest) (n
 abbrev pub DecidesTests : List ColumnTest → (List Value → Bool) → Type 0
 DecidesTests tests passes = (row : List Value) → IsTrue (passes row) ↔ TestsHold tests row
 
--- a row stays beside some rows: it passes, or none of them passes
-abbrev pub stays_in : (List Value → Bool) → List (List Value) → List Value → Bool
-stays_in passes block row = passes row || not (list_any passes block)
-
 -- a row stays beside some rows: it passes, or none of those that share its key passes
 abbrev pub stays_among : List ℕ → (List Value → Bool) → List (List Value) → List Value → Bool
 stays_among key passes rows row = passes row || not (list_any (λ other. same_key key row other && passes other) rows)

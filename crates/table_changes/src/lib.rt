@@ -10,4 +10,5 @@ mod preferred;
 mod taken;
 
 pub use changes::{insert, set_key, set_strict};
+pub use check::rows_fault_of;
 pub use preferred::prefer;

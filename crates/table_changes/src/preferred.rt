@@ -1,59 +1,94 @@
 //! Rows that are preferred by tests: of each block in which some row passes them, the others are taken out.
 //! Only the rows that have the first key values which the tests tell are looked at, each once.
-ghost use Rattle.std.specs.Prelude.{◌≡◌, ◌<◌, ◌+◌, OnErr, IfOk, Bool, List, length, map, take, drop};
-ghost use Rattle.std.specs.List.{list_any};
+ghost use Rattle.std.specs.Prelude.{◌≡◌, ◌<◌, ◌≤◌, ◌+◌, ◌++◌, ◌||◌, OnErr, IfOk, Bool, true, false, if◌then◌else◌, List, length, map, take, drop, replicate, slice_set};
 ghost use Rattle.std.specs.List.Sorted.{IsStrictlySortedBy};
 ghost use Rattle.cqa_value.specs.declared.value.Value.{Value as Cell};
 ghost use Rattle.cqa_model.specs.Database.{block_cmp};
 ghost use Rattle.table_blocks.specs.Tables.{rows_at, key_at, IsToldStretch, AreValidTables};
-ghost use Rattle.table_changes.specs.Preferred.{DecidesTests, Prefers, stays_in, stays_among};
+ghost use Rattle.table_changes.specs.Preferred.{DecidesTests, Prefers, stays_among};
 
 use crate::changes::key_of;
-use cqa_value::NoMemory;
-use row_blocks::block_end;
+use cqa_value::{NoMemory, Row};
+use row_blocks::same_key;
 use row_pieces::Rows;
 use table_blocks::{ColumnTest, Database, passes_all};
 
-/// Tells of each row whether it passes all tests, and whether some row does.
-fn tell_each(passed: &mut [bool], rows: &Rows<'_>, tests: &[ColumnTest]) -> bool
-    requires { length passed.old ≡ length rows.now }
-    ensures each { (passes : List Cell → Bool) → DecidesTests tests.now passes → passed.new ≡ map passes rows.now }
-    ensures some { (passes : List Cell → Bool) → DecidesTests tests.now passes → result ≡ list_any passes rows.now }
-{
-    let mut some = false;
-    for at in 0..rows.len() {
-        let passes = passes_all(rows.get(at), tests);
-        passed[at] = passes;
-        some |= passes;
-    }
-    some
+/// A block that is being read: the place of its first row, how many of its rows were read, and whether one of these passes
+/// all tests.
+#[derive(Clone, Copy)]
+struct OpenBlock {
+    start: usize,
+    read: usize,
+    passes: bool,
 }
 
-/// Tells of each row of a block whether it stays: it passes all tests, or none of them does.
-fn tell_block(stays: &mut [bool], block: &Rows<'_>, tests: &[ColumnTest])
-    requires { length stays.old ≡ length block.now }
-    ensures { (passes : List Cell → Bool) → DecidesTests tests.now passes → stays.new ≡ map (stays_in passes block.now) block.now }
+/// A block of which no row was read.
+fn block_from(start: usize) -> OpenBlock
+    ensures start { result.start ≡ start }
+    ensures read { result.read ≡ 0 }
+    ensures passes { result.passes ≡ false }
 {
-    if !tell_each(stays, block, tests) {
-        stays.fill(true);
+    OpenBlock {
+        start,
+        read: 0,
+        passes: false,
     }
 }
 
-/// Tells of each of some rows whether it stays: it passes all tests, or none of those of its key does.
+/// Reads one row of a block more, and tells of it whether it passes all tests.
+fn read_row(stays: &mut [bool], block: OpenBlock, row: &Row, tests: &[ColumnTest]) -> OpenBlock
+    requires { block.start + block.read < length stays.old }
+    ensures start { result.start ≡ block.start }
+    ensures read { result.read ≡ block.read + 1 }
+    ensures passes { (passes : List Cell → Bool) → DecidesTests tests.now passes → result.passes ≡ (block.passes || passes row.now) }
+    ensures told { (passes : List Cell → Bool) → DecidesTests tests.now passes → stays.new ≡ slice_set stays.old (block.start + block.read) (passes row.now) }
+{
+    let passes = passes_all(row, tests);
+    stays[block.start + block.read] = passes;
+    OpenBlock {
+        start: block.start,
+        read: block.read + 1,
+        passes: block.passes || passes,
+    }
+}
+
+/// Tells of the rows of a block that they stay where none of them passes all tests, and gives the block behind it.
+fn end_block(stays: &mut [bool], block: OpenBlock) -> OpenBlock
+    requires { block.start + block.read ≤ length stays.old }
+    ensures start { result.start ≡ block.start + block.read }
+    ensures read { result.read ≡ 0 }
+    ensures passes { result.passes ≡ false }
+    ensures told { stays.new ≡ if block.passes then stays.old else (take block.start stays.old ++ replicate block.read true ++ drop (block.start + block.read) stays.old) }
+{
+    let end = block.start + block.read;
+    if !block.passes {
+        stays[block.start..end].fill(true);
+    }
+    block_from(end)
+}
+
+/// Tells of each of some rows whether it stays: it passes all tests, or none of those of its key does. One walk over the rows.
 fn tell_blocks(stays: &mut [bool], rows: &Rows<'_>, key: &[u32], tests: &[ColumnTest])
     requires each { length stays.old ≡ length rows.now }
     requires in_order { IsStrictlySortedBy (block_cmp key.now) rows.now }
     ensures { (passes : List Cell → Bool) → DecidesTests tests.now passes → stays.new ≡ map (stays_among key.now passes rows.now) rows.now }
 {
-    let mut at = 0;
-    while at < rows.len() {
-        let (_, rest) = rows.split_at(at);
-        let count = block_end(&rest, key, 0);
-        let (block, _) = rest.split_at(count);
-        let end = at + count;
-        tell_block(&mut stays[at..end], &block, tests);
-        at = end;
+    let mut left = rows.again();
+    let Some(first) = left.next() else {
+        return;
+    };
+    let mut last = first;
+    let mut block = read_row(stays, block_from(0), first, tests);
+    while let Some(row) = left.next() {
+        if same_key(key, last, row) {
+            block = read_row(stays, block, row, tests);
+        } else {
+            let next = end_block(stays, block);
+            block = read_row(stays, next, row, tests);
+        }
+        last = row;
     }
+    let _ = end_block(stays, block);
 }
 
 /// From which row of a table on rows may go, and whether each of them stays.

@@ -1,56 +1,82 @@
-use Rattle.std.proofs.Common.{◌≡◌, ◌↔◌, ◌≤◌, ◌<◌, ◌+◌, ◌-◌, ◌++◌, ℕ, [], length, map, take, drop, get_or, sym, ap, subst, ◌∙◌, arith}
-use Rattle.std.specs.List.Sorted.{IsStrictlySortedBy}
-use Rattle.std.proofs.lemmas.List.{length-take-le, length-drop, length-map, map-append, take-append-le, take_all}
-use Rattle.std.proofs.Math.Seq.{take-add, take-append-add}
-use borrow.Rule.Slice.PartMut.{put_mid, post_of}
-use Rattle.cqa_model.specs.Database.{SharesKey, block_cmp}
-use Rattle.table_blocks.proofs.Spanning.{sorted-drop}
-use Rattle.table_changes.specs.Preferred.{stays_in, stays_among}
-use Rattle.table_changes.proofs.Preferring.{apart_next, map_alike, stays_alike}
+use Rattle.std.proofs.Common.{◌+◌, length, sym, ap, ◌∙◌, arith}
+use Rattle.cqa_value.proofs.Words.{clash}
+use Rattle.table_changes.proofs.Preferring.{read_first, read_more, read_next, read_all, next_there, ended_before}
 use Rattle.table_changes.proofs.preferred.tell_blocks.Goals as goal
 
-pub block_end-count-requires-clause-order : goal.block_end-count-requires-clause-order
-block_end-count-requires-clause-order c =
-    subst (IsStrictlySortedBy (block_cmp c.args.key.now)) (sym c.split_at-rest.ensures.rest) (sorted-drop c.args.key.now c.args.rows.now c.loop-at.at c.requires.in_order)
+pub read_row-block-requires : goal.read_row-block-requires
+read_row-block-requires c =
+    let more = ap length (sym c.again-left.ensures ∙ c.in-Some.ensures.steps) in
+    let begins = c.block_from.ensures.start in
+    let unread = c.block_from.ensures.read in
+    let long = c.requires.each in
+    omega (arith, more, begins, unread, long)
 
-pub loop-at-preserved : goal.loop-at-preserved
-loop-at-preserved c =
+pub loop-row-init : goal.loop-row-init
+loop-row-init c =
+    let block = c.block_from in
+    let read = c.read_row-block in
+    read_first c.args.key.now c.args.rows.now c.args.tests.now c.args.stays.now block.result.start block.result.read block.result.passes c.requires.each block.ensures.start block.ensures.read block.ensures.passes
+    c.in-Some.first.now c.next.new.self (sym c.again-left.ensures ∙ c.in-Some.ensures.steps) read.new.stays read.result.start read.result.read read.result.passes read.ensures.start read.ensures.read read.ensures.passes read.ensures.told
+
+pub read_row-block-requires-then-same_key : goal.read_row-block-requires-then-same_key
+read_row-block-requires-then-same_key c =
+    let block = c.loop-row.block in
+    let long = c.loop-row.auto.stays ∙ c.read_row-block.auto.stays ∙ c.requires.each in
+    let there = next_there c.args.key.now c.args.rows.now c.args.tests.now c.loop-row.stays block.start block.read block.passes long c.loop-row.left c.loop-row.last.now c.loop-row.invariant c.in-Some-next.row.now c.next-in-loop-row.new.self c.in-Some-next.ensures.steps in
+    omega (arith, there, long)
+
+pub end_block-next-requires : goal.end_block-next-requires
+end_block-next-requires c =
+    let long = c.loop-row.auto.stays ∙ c.read_row-block.auto.stays ∙ c.requires.each in
+    let within = c.loop-row.invariant.so_far.within in
+    omega (arith, within, long)
+
+pub read_row-block-requires-else-same_key : goal.read_row-block-requires-else-same_key
+read_row-block-requires-else-same_key c =
+    let block = c.loop-row.block in
+    let long = c.loop-row.auto.stays ∙ c.read_row-block.auto.stays ∙ c.requires.each in
+    let as_long = c.end_block-next.auto.stays in
+    let begins = c.end_block-next.ensures.start in
+    let unread = c.end_block-next.ensures.read in
+    let there = next_there c.args.key.now c.args.rows.now c.args.tests.now c.loop-row.stays block.start block.read block.passes long c.loop-row.left c.loop-row.last.now c.loop-row.invariant c.in-Some-next.row.now c.next-in-loop-row.new.self c.in-Some-next.ensures.steps in
+    omega (arith, there, long, as_long, begins, unread)
+
+pub loop-row-preserved-then-same_key : goal.loop-row-preserved-then-same_key
+loop-row-preserved-then-same_key c =
+    let block = c.loop-row.block in
+    let long = c.loop-row.auto.stays ∙ c.read_row-block.auto.stays ∙ c.requires.each in
+    let read = c.read_row-block-then-same_key in
+    read_more c.args.key.now c.args.rows.now c.args.tests.now c.loop-row.stays block.start block.read block.passes long c.loop-row.left c.loop-row.last.now c.loop-row.invariant c.in-Some-next.row.now c.next-in-loop-row.new.self c.in-Some-next.ensures.steps
+    (c.same_key.ensures.0 c.if-same_key.true) read.new.stays read.result.start read.result.read read.result.passes read.ensures.start read.ensures.read read.ensures.passes read.ensures.told
+
+pub loop-row-preserved : goal.loop-row-preserved
+loop-row-preserved c =
     let key = c.args.key.now in
     let rows = c.args.rows.now in
-    let at = c.loop-at.at in
-    let count = c.block_end-count.result in
-    let i = c.loop-at.invariant in
-    let rest = c.split_at-rest.ensures.rest in
-    let there : count ≤ length (drop at rows) = subst (λ xs. count ≤ length xs) rest c.block_end-count.ensures.within in
-    let block : (k : ℕ) → 0 ≤ k → k < length (drop at rows) → SharesKey key (get_or (drop at rows) 0 []) (get_or (drop at rows) k []) ↔ (k < count) =
-    subst (λ xs. (k : ℕ) → 0 ≤ k → k < length xs → SharesKey key (get_or xs 0 []) (get_or xs k []) ↔ (k < count)) rest c.block_end-count.ensures.block
+    let tests = c.args.tests.now in
+    let block = c.loop-row.block in
+    let long = c.loop-row.auto.stays ∙ c.read_row-block.auto.stays ∙ c.requires.each in
+    let i = c.loop-row.invariant in
+    let row = c.in-Some-next.row.now in
+    let rest = c.next-in-loop-row.new.self in
+    let steps = c.in-Some-next.ensures.steps in
+    let next = c.end_block-next in
+    let read = c.read_row-block-else-same_key in
+    let far =
+    ended_before key rows tests c.loop-row.stays block.start block.read block.passes long c.loop-row.left c.loop-row.last.now i row rest steps c.requires.in_order
+    (λ s. absurd (clash c.same_key.result (c.same_key.ensures.1 s) c.if-same_key.false)) next.new.stays next.ensures.told next.result.start next.result.read next.result.passes next.ensures.start next.ensures.read next.ensures.passes
     in
-    let within = i.within in
-    let behind = length-drop at rows in
-    let long = c.loop-at.auto.stays in
-    let each = c.requires.each in
-    let new = c.tell_block.new.stays in
-    let stays = c.loop-at.stays in
-    let size = at + count - at in
-    let front = length-take-le at stays (omega (arith, within, long, each)) in
-    let taken = length-take-le count (drop at rows) there in
-    record {
-      within = omega (arith, there, within, behind);
-      apart = apart_next key rows at count i.apart there block;
-      told = λ p k. (
-          let s = stays_among key p rows in
-          let here = take count (drop at rows) in
-          let flags : new ≡ map s here =
-          c.tell_block.ensures p k
-          ∙ ap (λ xs. map (stays_in p xs) xs) (c.split_at-block.ensures.front ∙ ap (take count) rest)
-          ∙ map_alike (stays_in p here) s here (stays_alike key rows at count i.apart there block p)
-          in
-          let as_many = ap length flags ∙ length-map here s in
-          ap (λ n. take (n + count) (put_mid at size stays new)) (sym front)
-          ∙ take-append-add (take at stays) (new ++ post_of at size stays) count
-          ∙ ap (λ zs. take at stays ++ zs) (take-append-le count new (post_of at size stays) (omega (arith, as_many, taken)) ∙ take_all count new (omega (arith, as_many, taken)))
-          ∙ ap (λ zs. zs ++ new) (i.told p k)
-          ∙ ap (λ zs. map s (take at rows) ++ zs) flags
-          ∙ sym (map-append s (take at rows) here)
-          ∙ ap (map s) (sym (take-add at count rows)));
-    }
+    read_next key rows tests next.new.stays next.result.start next.result.read next.result.passes (next.auto.stays ∙ long) (block.start + block.read) next.ensures.start next.ensures.read far row rest (sym i.left_is ∙ steps)
+    read.new.stays read.result.start read.result.read read.result.passes read.ensures.start read.ensures.read read.ensures.passes read.ensures.told
+
+pub end_block-requires : goal.end_block-requires
+end_block-requires c =
+    let long = c.loop-row.auto.stays ∙ c.read_row-block.auto.stays ∙ c.requires.each in
+    let within = c.loop-row.invariant.so_far.within in
+    omega (arith, within, long)
+
+pub returns : goal.returns
+returns c =
+    let block = c.loop-row.block in
+    let long = c.loop-row.auto.stays ∙ c.read_row-block.auto.stays ∙ c.requires.each in
+    read_all c.args.key.now c.args.rows.now c.args.tests.now c.loop-row.stays block.start block.read block.passes long c.loop-row.left c.loop-row.last.now c.loop-row.invariant c.in_default-next.ensures.steps.0 c.end_block.new.stays c.end_block.auto.stays c.end_block.ensures.told
