@@ -4,4 +4,5 @@ pub mod Schemas
 pub mod Scopes
 pub mod Queries
 pub mod AnswerColumns
+mod JoinGoals
 pub mod Ranges

@@ -20,7 +20,7 @@ use Rattle.spj_syntax.specs.declared.tree.RawRange.{RawRange}
 use Rattle.spj_syntax.specs.declared.tree.Select.{Select}
 use Rattle.table_blocks.specs.Tables.{mark_at}
 use Rattle.query_resolve.specs.Names.{strict_named}
-use Rattle.query_resolve.specs.Checks.{first_fault, from_fault, where_fault, tables_fault, join_goal_fault, lax_fault, range_join_fault}
+use Rattle.query_resolve.specs.Checks.{first_fault, from_fault, where_fault, tables_fault, join_goal_fault, join_group_fault, lax_fault, range_join_fault}
 use Rattle.query_resolve.specs.Resolved.{IsAtomOf, IsColumnOf, IsCondOf, lax_of}
 use Rattle.query_resolve.proofs.Lookups.{passes, passes_at, position-None, zip_length}
 use Rattle.query_resolve.proofs.Members.{neither}
@@ -37,15 +37,16 @@ module _ (db : List Table) (raw : RawRange) where
       first_of (tables_fault names)
       (first_of (first_fault (from_fault db) [] names)
       (first_of (join_goal_fault db names raw.goal)
-      (first_of (where_fault db names written) (first_fault (lax_fault db) [] names))))
+      (first_of (where_fault db names written)
+      (first_of (join_group_fault db names raw.group) (first_fault (lax_fault db) [] names)))))
 
   pub sound : (names : List (List ℕ)) (written : List RawCond) → names ≡ raw.tables → written ≡ raw.conds
       → tables_fault names ≡ None → first_fault (from_fault db) [] names ≡ None → join_goal_fault db names raw.goal ≡ None → where_fault db names written ≡ None
-      → first_fault (lax_fault db) [] names ≡ None → range_join_fault db raw ≡ None
+      → join_group_fault db names raw.group ≡ None → first_fault (lax_fault db) [] names ≡ None → range_join_fault db raw ≡ None
   unfolding fault_at
-  sound names written n w few from goal conds strict =
+  sound names written n w few from goal conds group strict =
       subst (λ l. fault_at l raw.conds ≡ None) n (subst (λ l. fault_at names l ≡ None) w
-      (neither _ _ few (neither _ _ from (neither _ _ goal (neither _ _ conds strict)))))
+      (neither _ _ few (neither _ _ from (neither _ _ goal (neither _ _ conds (neither _ _ group strict))))))
 
   -- the parts of the query of a range
   module _ (names : List (List ℕ)) (written : List RawCond) (atoms : List Atom) (conds : List Cond) (answer : List ColRef)

@@ -159,14 +159,20 @@ join_goal_fault db names (join_goals.Max col) = column_fault db names col.table 
 abbrev pub lax_fault : List Table → List (List ℕ) → List ℕ → Option Refusal
 lax_fault db before name = fault_unless (strict_named db name || list_all (strict_named db) before) (NotStrict name)
 
--- a range over several tables: its tables, its goal and its conditions, as those of one table; and then that all tables are strict
--- but for one at most
+-- the column by whose values witnesses are grouped, where one is named, is there
+abbrev pub join_group_fault : List Table → List (List ℕ) → Option RawCol → Option Refusal
+join_group_fault db names None = None
+join_group_fault db names (Some col) = column_fault db names col.table col.name
+
+-- a range over several tables: its tables, its goal, its conditions and the column of its groups; and then that all tables are
+-- strict but for one at most
 abbrev pub range_join_fault : List Table → RawRange → Option Refusal
 range_join_fault db range =
     first_of (tables_fault range.tables)
     (first_of (first_fault (from_fault db) [] range.tables)
     (first_of (join_goal_fault db range.tables range.goal)
-    (first_of (where_fault db range.tables range.conds) (first_fault (lax_fault db) [] range.tables))))
+    (first_of (where_fault db range.tables range.conds)
+    (first_of (join_group_fault db range.tables range.group) (first_fault (lax_fault db) [] range.tables)))))
 
 -- the kinds of a query's answer columns
 abbrev pub answer_kinds : List Table → Query → List Kind

@@ -1,5 +1,5 @@
 -- What schemas, tests, goals, groups and queries are once each name is resolved.
-use Rattle.std.specs.Prelude.{◌≡◌, ◌<◌, ℕ, IsTrue, not, true, List, [], length, position, Option, Some, None, unwrap_or}
+use Rattle.std.specs.Prelude.{◌≡◌, ◌<◌, ℕ, IsTrue, not, true, List, [], length, position, Option, Some, None, IfSome, unwrap_or}
 use Rattle.std.specs.List.{AllZip}
 use Rattle.cqa_model.specs.declared.schema.Schema.{Schema}
 use Rattle.cqa_model.specs.declared.schema.Column.{Column}
@@ -111,12 +111,22 @@ IsJoinGoalOf db names raw goal atom = ⊥
 abbrev pub lax_of : List Atom → ℕ
 lax_of atoms = unwrap_or (position (λ (atom : Atom). not atom.strict) atoms) 0
 
--- a query with no answer column, with the goal over its atoms; the tables of all atoms but one are strict
+-- the column by whose values witnesses are grouped is one of an atom, where one is named
+abbrev pub IsJoinGroupOf : List Table → List (List ℕ) → Option RawCol → Option ColRef → Type 0
+IsJoinGroupOf db names None None = Unit {0}
+IsJoinGroupOf db names (Some col) (Some found) = IsColumnOf db names col found
+IsJoinGroupOf db names col found = ⊥
+
+-- a query with no answer column, with the goal and the column of the groups over its atoms; the tables of all atoms but one are
+-- strict
 pub record IsRangeOf (db : List Table) (raw : RawRange) (range : RangeQuery) : Type 0 where
   pub atoms : AllZip (IsAtomOf db) raw.tables range.query.atoms
   pub conds : AllZip (IsCondOf db raw.tables) raw.conds range.query.conds
   pub answer : range.query.answer ≡ []
   pub goal : IsJoinGoalOf db raw.tables raw.goal range.goal range.atom
+  pub goal_inside : range.atom < length range.query.atoms
+  pub group : IsJoinGroupOf db raw.tables raw.group range.group
+  pub group_inside : IfSome range.group (λ col. col.atom < length range.query.atoms)
   pub inside : range.lax < length range.query.atoms
   pub strict : (atom : ℕ) → atom < length range.query.atoms → (atom ≡ range.lax → ⊥) → (nth_atom range.query.atoms atom).strict ≡ true
   pub fits : FitsDatabase range.query db

@@ -1,5 +1,5 @@
-//! A `range` over several tables against a database, check by check: its query, its goal, and which of its tables isn't
-//! strict.
+//! A `range` over several tables against a database, check by check: its query, its goal, the column of its groups, and which
+//! of its tables isn't strict.
 
 ghost use Rattle.std.specs.Prelude.{◌≡◌, ◌≤◌, ⊤, Some, None, [], not, position, length};
 ghost use Rattle.std.specs.List.{AllZip, list_all};
@@ -9,8 +9,8 @@ ghost use Rattle.cqa_model.specs.declared.query.Atom.{Atom};
 ghost use Rattle.refusals.specs.declared.refusal.Refusal.TheVariants.{NotStrict};
 ghost use Rattle.refusals.specs.Refusal.{Checked, IsRefusedAs, first_of};
 ghost use Rattle.query_resolve.specs.Names.{strict_named};
-ghost use Rattle.query_resolve.specs.Checks.{column_fault, column_kind, kinds_fault, join_goal_fault, tables_fault, lax_fault, first_fault, range_join_fault};
-ghost use Rattle.query_resolve.specs.Resolved.{IsAtomOf, IsColumnOf, IsJoinGoalOf, IsRangeOf, lax_of};
+ghost use Rattle.query_resolve.specs.Checks.{column_fault, column_kind, kinds_fault, join_goal_fault, join_group_fault, tables_fault, lax_fault, first_fault, range_join_fault};
+ghost use Rattle.query_resolve.specs.Resolved.{IsAtomOf, IsColumnOf, IsJoinGoalOf, IsJoinGroupOf, IsRangeOf, lax_of};
 
 use crate::column::{column_of, typed_column};
 use crate::condition::{check_kinds, conds_of};
@@ -24,12 +24,14 @@ use std::alloc::Global;
 use table_blocks::Database;
 
 /// A `range` over several tables with its names resolved: the query, with no answer column, of whose witnesses something is
-/// asked; what that is, of which atom's column; and the atom beside which each table is strict.
+/// asked; what that is, of which atom's column; the column by whose values witnesses are grouped, if any; and the atom beside
+/// which each table is strict.
 #[derive(Drop)]
 pub struct RangeQuery {
     pub query: Query,
     pub goal: Goal,
     pub atom: u32,
+    pub group: Option<ColRef>,
     pub lax: u32,
 }
 
@@ -39,7 +41,8 @@ pub struct RangeQuery {
 ///
 /// The first that applies: `Limit` with the atoms; for each table `UnknownTable` or `SelfJoin`; for the goal's column
 /// `UnknownTable`, `UnknownColumn` or `AmbiguousColumn`, and `TypeMismatch` with condition 0 for a sum of texts; for each
-/// condition what a query's has; and `NotStrict` with the second table that isn't strict.
+/// condition what a query's has; for the column of the groups what the goal's has; and `NotStrict` with the second table that
+/// isn't strict.
 /// `NoMemory` where memory is refused.
 pub fn resolve_range(
     alloc: Global,
@@ -53,6 +56,7 @@ pub fn resolve_range(
     let atoms = atoms_of(alloc, db, names)?;
     let (goal, atom) = join_goal(alloc, db, names, atoms.as_slice(), &range.goal)?;
     let conds = conds_of(alloc, db, names, atoms.as_slice(), range.conds.as_slice())?;
+    let group = join_group(alloc, db, names, atoms.as_slice(), &range.group)?;
     check_strict(alloc, db, names)?;
     let lax = lax_atom(atoms.as_slice());
     let query = Query {
@@ -64,6 +68,7 @@ pub fn resolve_range(
         query,
         goal,
         atom,
+        group,
         lax,
     })
 }
@@ -122,6 +127,24 @@ fn summed_column(
     let (col, kind) = typed_column(alloc, db, names, atoms, column)?;
     check_kinds(0, kind, Kind::Int)?;
     Ok(col)
+}
+
+/// The column by whose values witnesses are grouped, where one is named.
+fn join_group(
+    alloc: Global,
+    db: &Database,
+    names: &[Name],
+    atoms: &[Atom],
+    column: &Option<RawCol>,
+) -> Result<Option<ColRef>, Fail<Refusal>>
+    requires atoms { AllZip (IsAtomOf db.now) names.now atoms.now }
+    requires few { length names.now ≤ MOST_ATOMS }
+    ensures { Checked result (join_group_fault db.now names.now column.now) (IsJoinGroupOf db.now names.now column.now) }
+{
+    match column {
+        None => Ok(None),
+        Some(column) => Ok(Some(column_of(alloc, db, names, atoms, column)?)),
+    }
 }
 
 /// Whether the table of a name is strict; where none is there, nothing breaks its key.

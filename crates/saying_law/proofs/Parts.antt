@@ -30,7 +30,7 @@ use Rattle.spj_syntax.specs.declared.tree.Verb.TheVariants as verbs
 use Rattle.spj_syntax.specs.Grammar as grammar
 use Rattle.spj_syntax.specs.Lexemes.{Lexeme, Word, Number, Quoted, Mark}
 use Rattle.spj_syntax.specs.Shapes.{int, text, name, mark, matches, Shape, one, ◌⨾◌}
-use Rattle.spj_syntax.specs.Written.{name_tokens, literal_tokens, column_tokens, listed_tokens, filtered_tokens, op_symbol, test_tokens, col_tokens, cond_tokens, row_tokens, head_tokens, select_tokens, strict_tokens, key_tokens, change_tokens, row_for_tokens, verb_tokens, goal_tokens, grouped_tokens, anded_tokens, join_goal_tokens}
+use Rattle.spj_syntax.specs.Written.{name_tokens, literal_tokens, column_tokens, listed_tokens, filtered_tokens, op_symbol, test_tokens, col_tokens, cond_tokens, row_tokens, head_tokens, select_tokens, strict_tokens, key_tokens, change_tokens, row_for_tokens, verb_tokens, goal_tokens, grouped_tokens, anded_tokens, join_goal_tokens, join_grouped_tokens}
 use Rattle.spj_syntax.proofs.Naming.{is_name}
 use Rattle.saying_law.proofs.Combining.{IsLegal, AreLegal, HasTrees, Anything, turned, counts_as, both, either, none, a_word, a_mark, after_word, after_mark, with_marks, with_words, of_filter}
 
@@ -132,6 +132,9 @@ a_col = counts_as (λ x v. go x.0 x.1) (both a_name dotted)
     go n None = (record { table = None; name = n }, refl)
     go n (Some m) = (record { table = Some n; name = m }, refl)
 
+pub a_join_group : HasTrees grammar.join_grouped join_grouped_tokens (Anything (Option RawCol))
+a_join_group = either (counts_as (λ c v. (Some c, refl)) (after_word (codes "group") (after_word (codes "by") a_col))) (counts_as (λ u v. (None, refl)) none)
+
 pub a_cond : HasTrees grammar.cond cond_tokens (Anything RawCond)
 a_cond =
     either (counts_as (λ x v. (Join x.0 x.1, refl)) (both a_col (after_mark s.Eq a_col)))
@@ -158,7 +161,8 @@ a_verb =
     (either (counts_as (λ u v. (verbs.Plan, refl)) (a_word (codes "plan")))
     (either (counts_as (λ u v. (verbs.Sql, refl)) (a_word (codes "sql")))
     (either (counts_as (λ row v. (verbs.Explain row, refl)) (after_word (codes "explain") row_for))
-    (counts_as (λ row v. (verbs.Against row, refl)) (after_word (codes "against") row_for))))))))
+    (either (counts_as (λ row v. (verbs.Against row, refl)) (after_word (codes "against") row_for))
+    (counts_as (λ row v. (verbs.Prove row, refl)) (after_word (codes "prove") row_for)))))))))
 
 -- one test or more
 pub more_tests : HasTrees (grammar.anded grammar.test) (anded_tokens test_tokens) (Anything (List RawTest))

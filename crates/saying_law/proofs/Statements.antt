@@ -7,6 +7,7 @@ use Rattle.cqa_model.specs.declared.schema.Column.{Column}
 use Rattle.cqa_model.specs.Valid.{IsName}
 use Rattle.script_lex.specs.declared.kinds.Symbol.TheVariants as s
 use Rattle.spj_syntax.specs.declared.tree.RawSchema.{RawSchema}
+use Rattle.spj_syntax.specs.declared.tree.RawCol.{RawCol}
 use Rattle.spj_syntax.specs.declared.tree.RawCond.{RawCond}
 use Rattle.spj_syntax.specs.declared.tree.RawJoinGoal.{RawJoinGoal}
 use Rattle.spj_syntax.specs.declared.tree.Statement.{Statement}
@@ -16,9 +17,9 @@ use Rattle.spj_syntax.specs.Lexemes.{Lexeme, Word, Number, Mark}
 use Rattle.spj_syntax.specs.Limits.{most_items}
 use Rattle.spj_syntax.specs.Parsed.{IsStatement, IsIntInRange, AllLexemesFit}
 use Rattle.spj_syntax.specs.Shapes.{◌∣◌}
-use Rattle.spj_syntax.specs.Written.{name_tokens, column_tokens, cond_tokens, filtered_tokens, join_goal_tokens, listed_tokens, strict_tokens, key_tokens, each_after, statement_tokens, IsWrittenAs}
+use Rattle.spj_syntax.specs.Written.{name_tokens, column_tokens, cond_tokens, filtered_tokens, join_goal_tokens, join_grouped_tokens, listed_tokens, strict_tokens, key_tokens, each_after, statement_tokens, IsWrittenAs}
 use Rattle.saying_law.proofs.Combining.{AreLegal, HasTrees, Anything, counts_as, both, either, a_word, a_mark, after_word, after_mark, each_after_mark, of_filter}
-use Rattle.saying_law.proofs.Parts.{a_name, a_number, listed, a_column, a_key, a_strict, a_change, a_row, some_tests, a_group, more_tests, a_cond, a_query, a_verb, a_goal, a_join_goal}
+use Rattle.saying_law.proofs.Parts.{a_name, a_number, listed, a_column, a_key, a_strict, a_change, a_row, some_tests, a_group, more_tests, a_cond, a_query, a_verb, a_goal, a_join_goal, a_join_group}
 
 -- the tokens of a schema, from the parts as the grammar has them
 schema : (strict : Bool) (table : List ℕ) (column : Column) (columns : List Column) (key : List (List ℕ)) → IsName table → IsName column.name → AllByRecursion (λ (c : Column). IsName c.name) columns → 0 < length key → AllByRecursion IsName key
@@ -57,19 +58,19 @@ range : HasTrees grammar.range statement_tokens (Anything Statement)
 range = counts_as (λ x v. (statements.Range x.0 x.1.0 x.1.1.0 x.1.1.1, refl)) (after_word (codes "range") (both a_goal (after_word (codes "from") (both a_name (both some_tests a_group)))))
 
 -- a range over several tables, from the parts as the grammar has them
-joined : (goal : RawJoinGoal) (first : List ℕ) (others : List (List ℕ)) (conds : List RawCond) → 0 < length others → length conds ≤ most_items
+joined : (goal : RawJoinGoal) (first : List ℕ) (others : List (List ℕ)) (conds : List RawCond) (group : Option RawCol) → 0 < length others → length conds ≤ most_items
     → (statement : Statement)
-    × (Word (codes "range") ∷ (join_goal_tokens goal ++ (Word (codes "from") ∷ (name_tokens first ++ (Mark s.Comma ∷ (listed_tokens name_tokens others ++ filtered_tokens cond_tokens conds))))) ≡ statement_tokens statement)
-joined goal first [] conds some few = absurd (omega arith)
-joined goal first (other ∷ others) conds some few = (
-  statements.RangeJoin (record { goal = goal; tables = first ∷ other ∷ others; conds = conds; some_other = omega arith; few = few }),
+    × (Word (codes "range") ∷ (join_goal_tokens goal ++ (Word (codes "from") ∷ (name_tokens first ++ (Mark s.Comma ∷ (listed_tokens name_tokens others ++ (filtered_tokens cond_tokens conds ++ join_grouped_tokens group)))))) ≡ statement_tokens statement)
+joined goal first [] conds group some few = absurd (omega arith)
+joined goal first (other ∷ others) conds group some few = (
+  statements.RangeJoin (record { goal = goal; tables = first ∷ other ∷ others; conds = conds; group = group; some_other = omega arith; few = few }),
   simp append_assoc refl,
 )
 
 range_join : HasTrees grammar.range_join statement_tokens (Anything Statement)
 range_join =
-    counts_as (λ x v. joined x.0 x.1.0 x.1.1.0 x.1.1.1 v.1.1.0.0 v.1.1.1.1)
-    (after_word (codes "range") (both a_join_goal (after_word (codes "from") (both a_name (after_mark s.Comma (both (listed a_name) (of_filter a_cond)))))))
+    counts_as (λ x v. joined x.0 x.1.0 x.1.1.0 x.1.1.1.0 x.1.1.1.1 v.1.1.0.0 v.1.1.1.0.1)
+    (after_word (codes "range") (both a_join_goal (after_word (codes "from") (both a_name (after_mark s.Comma (both (listed a_name) (both (of_filter a_cond) a_join_group)))))))
 
 prefer : HasTrees grammar.prefer statement_tokens (Anything Statement)
 prefer = counts_as (λ x v. (statements.Prefer x.0 x.1, refl)) (after_word (codes "prefer") (both a_name (after_word (codes "where") more_tests)))

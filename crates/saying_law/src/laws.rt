@@ -1,5 +1,6 @@
 //! Laws of texts, over the definitions alone. Each is what its function ensures, so the build proves it.
 
+ghost use Rattle.spj_syntax.specs.Texts.{StatementOnce, OrderOnce, BlockOnce};
 ghost use Rattle.saying_law.specs.Laws.{TextsHaveTokens, ShapesDecide, TokensAreDecided, StatementsHaveTrees, StatementsAreStorable};
 
 /// Tokens spell a text, or it has a fault.
@@ -20,6 +21,21 @@ pub fn tokens_are_decided()
 /// A statement whose tokens spell a text, and each fit, has a tree.
 pub fn statements_have_trees()
     ensures { StatementsHaveTrees }
+{}
+
+/// A text is one statement at most.
+pub fn text_is_one_statement()
+    ensures { StatementOnce }
+{}
+
+/// A text is one order at most.
+pub fn text_is_one_order()
+    ensures { OrderOnce }
+{}
+
+/// A text is one block at most.
+pub fn text_is_one_block()
+    ensures { BlockOnce }
 {}
 
 /// What a statement puts into a state can stand there, if its tokens spell a text and each fit.

@@ -1,5 +1,5 @@
 -- What follows from the parser's answer.
-use Rattle.std.proofs.Common.{◌≡◌, ◌⊎◌, inl, inr, ◌-◌, ℕ, Bool, List, [], ◌∷◌, ◌++◌, length, drop, arith, sym, ◌∙◌, ap, subst, refl, append_assoc, Result, Ok, Err, MatchResult, OnOk, IfOk}
+use Rattle.std.proofs.Common.{◌≡◌, ◌⊎◌, inl, inr, ◌-◌, ℕ, Bool, List, [], ◌∷◌, ◌++◌, ◌≤◌, false, length, drop, arith, sym, ◌∙◌, ap, subst, refl, append_assoc, Result, Ok, Err, MatchResult, OnOk, IfOk}
 use Rattle.std.proofs.lemmas.Bool.{cases_lt}
 use Rattle.std.proofs.lemmas.List.{length-map, length-drop, drop_all, append-nil}
 use Rattle.std.specs.List.{AllByRecursion}
@@ -12,14 +12,17 @@ use Rattle.spj_syntax.specs.declared.fault.SyntaxFault.TheVariants.{At, OutOfRan
 use Rattle.spj_syntax.specs.Lexemes.{Lexeme, lexeme}
 use Rattle.spj_syntax.specs.Shapes.{Shape, FirstFault, Generates, BeginsShape, Stuck}
 use Rattle.spj_syntax.specs.Grammar as grammar
-use Rattle.spj_syntax.specs.Parsed.{IsStatement, IsSyntaxFault, Fits, AllLexemesFit, IsFirstUnfit, RefusesTokens, fault_of, is_set, lexemes, place_of}
-use Rattle.spj_syntax.specs.Reading.{Parses}
+use Rattle.spj_syntax.specs.Parsed.{IsStatement, IsFaultOf, Fits, AllLexemesFit, IsFirstUnfit, RefusesForm, RefusesTokens, fault_of, is_set, lexemes, place_of}
+use Rattle.script_lex.specs.Tokens.{Spells, longest_text}
+use Rattle.script_lex.proofs.Spelling.{spells_same}
+use Rattle.spj_syntax.specs.Reading.{Parses, ParsesForm}
+use Rattle.spj_syntax.specs.Texts.{IsFormOf}
 use Rattle.spj_syntax.specs.Written.{IsWrittenAs}
 use Rattle.spj_syntax.proofs.Trees.{statement_same}
 
-fault_not : (ls rest : List Lexeme) → FirstFault grammar.statement ls rest → IsStatement ls → ⊥
-fault_not ls [] f s = f.stuck (subst (λ z. Generates grammar.statement z) (f.split ∙ append-nil f.front) s.generated)
-fault_not ls (t ∷ rest) f s = f.stuck (rest, subst (λ z. Generates grammar.statement z) (f.split ∙ sym (append_assoc f.front (t ∷ []) rest)) s.generated)
+fault_not : (p : Shape) (ls rest : List Lexeme) → FirstFault p ls rest → Generates p ls → ⊥
+fault_not p ls [] f g = f.stuck (subst (λ z. Generates p z) (f.split ∙ append-nil f.front) g)
+fault_not p ls (t ∷ rest) f g = f.stuck (rest, subst (λ z. Generates p z) (f.split ∙ sym (append_assoc f.front (t ∷ []) rest)) g)
 
 fit_there : (set : Bool) (text : List ℕ) (front : List Token) (token : Token) (rest : List Token) → AllByRecursion (Fits set) (lexemes text (front ++ token ∷ rest)) → Fits set (lexeme text token)
 fit_there set text [] token rest a = a.0
@@ -29,23 +32,32 @@ unfit_absurd : (set : Bool) (text : List ℕ) (tokens : List Token) (fault : Syn
 unfit_absurd set text tokens fault f a = f.unfit (fit_there set text f.front f.token f.rest (subst (λ z. AllByRecursion (Fits set) (lexemes text z)) f.split a))
 
 -- why tokens are refused, with the two kinds of causes apart
-abbrev Cause : List ℕ → List Token → SyntaxFault → Type 0
-Cause text tokens fault = ((at : ℕ) × (fault ≡ At at) × IsSyntaxFault text tokens at) ⊎ (IsStatement (lexemes text tokens) × IsFirstUnfit (is_set (lexemes text tokens)) text tokens fault)
+abbrev Cause : Shape → Bool → List ℕ → List Token → SyntaxFault → Type 0
+Cause p set text tokens fault = ((at : ℕ) × (fault ≡ At at) × IsFaultOf p text tokens at) ⊎ (Generates p (lexemes text tokens) × IsFirstUnfit set text tokens fault)
 
-cause : (text : List ℕ) (tokens : List Token) (fault : SyntaxFault) → RefusesTokens text tokens fault → Cause text tokens fault
+cause : (text : List ℕ) (tokens : List Token) (fault : SyntaxFault) → RefusesTokens text tokens fault → Cause grammar.statement (is_set (lexemes text tokens)) text tokens fault
 cause text tokens (At at) h = inl (at, refl, h)
-cause text tokens (OutOfRange at) h = inr h
-cause text tokens (TextTooLong at) h = inr h
-cause text tokens (LongName at) h = inr h
+cause text tokens (OutOfRange at) h = let s = h.0 in inr (s.generated, h.1)
+cause text tokens (TextTooLong at) h = let s = h.0 in inr (s.generated, h.1)
+cause text tokens (LongName at) h = let s = h.0 in inr (s.generated, h.1)
 
-at_not : (text : List ℕ) (tokens : List Token) (at : ℕ) → IsSyntaxFault text tokens at → IsStatement (lexemes text tokens) → ⊥
-at_not text tokens at h s = fault_not (lexemes text tokens) (drop h.count (lexemes text tokens)) h.first s
+form_cause : (p : Shape) (text : List ℕ) (tokens : List Token) (fault : SyntaxFault) → RefusesForm p text tokens fault → Cause p false text tokens fault
+form_cause p text tokens (At at) h = inl (at, refl, h)
+form_cause p text tokens (OutOfRange at) h = inr h
+form_cause p text tokens (TextTooLong at) h = inr h
+form_cause p text tokens (LongName at) h = inr h
+
+at_not : (p : Shape) (text : List ℕ) (tokens : List Token) (at : ℕ) → IsFaultOf p text tokens at → Generates p (lexemes text tokens) → ⊥
+at_not p text tokens at h g = fault_not p (lexemes text tokens) (drop h.count (lexemes text tokens)) h.first g
+
+cause_not : (p : Shape) (set : Bool) (text : List ℕ) (tokens : List Token) (fault : SyntaxFault) → Cause p set text tokens fault → Generates p (lexemes text tokens) → AllByRecursion (Fits set) (lexemes text tokens) → ⊥
+cause_not p set text tokens fault h g a = elim h [
+  | inl k ↦ at_not p text tokens k.0 k.2 g
+  | inr k ↦ unfit_absurd set text tokens fault k.1 a
+]
 
 not_refused : (text : List ℕ) (tokens : List Token) (fault : SyntaxFault) → RefusesTokens text tokens fault → IsStatement (lexemes text tokens) → AllLexemesFit (lexemes text tokens) → ⊥
-not_refused text tokens fault h s a = elim (cause text tokens fault h) [
-  | inl k ↦ at_not text tokens k.0 k.2 s
-  | inr k ↦ unfit_absurd (is_set (lexemes text tokens)) text tokens fault k.1 a
-]
+not_refused text tokens fault h s a = cause_not grammar.statement (is_set (lexemes text tokens)) text tokens fault (cause text tokens fault h) s.generated a
 
 pub ok_statement : (text : List ℕ) (tokens : List Token) (r : Result Statement (Fail SyntaxFault)) → Parses text tokens r → OnOk r (IsStatement (lexemes text tokens))
 ok_statement text tokens (Ok v) h = h.0
@@ -117,10 +129,10 @@ drops_same c d xs e = elim (cases_lt c (length xs)) [
   | inr h ↦ drop_all c xs h ∙ sym (drop_all d xs (omega arith))
 ]
 
-at_same : (text : List ℕ) (tokens : List Token) (a b : ℕ) → IsSyntaxFault text tokens a → IsSyntaxFault text tokens b → a ≡ b
-at_same text tokens a b f g =
+at_same : (p : Shape) (text : List ℕ) (tokens : List Token) (a b : ℕ) → IsFaultOf p text tokens a → IsFaultOf p text tokens b → a ≡ b
+at_same p text tokens a b f g =
     let ls = lexemes text tokens in
-    let e : drop f.count ls ≡ drop g.count ls = rest_same grammar.statement ls (drop f.count ls) (drop g.count ls) f.first g.first in
+    let e : drop f.count ls ≡ drop g.count ls = rest_same p ls (drop f.count ls) (drop g.count ls) f.first g.first in
     let n : length tokens - f.count ≡ length tokens - g.count = omega (arith, ap length e, length-drop f.count ls, length-drop g.count ls, length-map tokens (lexeme text)) in
     f.place ∙ ap (λ z. place_of text z) (drops_same f.count g.count tokens n) ∙ sym g.place
 
@@ -139,20 +151,43 @@ unfit_same set text tokens a b f g = elim (compared f.front (f.token ∷ f.rest)
   ]
 ]
 
+cause_same : (p : Shape) (set : Bool) (text : List ℕ) (tokens : List Token) (a b : SyntaxFault) → Cause p set text tokens a → Cause p set text tokens b → a ≡ b
+cause_same p set text tokens a b (inl h) (inl k) = h.1 ∙ ap At (at_same p text tokens h.0 k.0 h.2 k.2) ∙ sym k.1
+cause_same p set text tokens a b (inl h) (inr k) = absurd (at_not p text tokens h.0 h.2 k.0)
+cause_same p set text tokens a b (inr h) (inl k) = absurd (at_not p text tokens k.0 k.2 h.0)
+cause_same p set text tokens a b (inr h) (inr k) = unfit_same set text tokens a b h.1 k.1
+
 fault_same : (text : List ℕ) (tokens : List Token) (a b : SyntaxFault) → RefusesTokens text tokens a → RefusesTokens text tokens b → a ≡ b
-fault_same text tokens a b f g = elim (cause text tokens a f) [
-  | inl h ↦ elim (cause text tokens b g) [
-    | inl k ↦ h.1 ∙ ap At (at_same text tokens h.0 k.0 h.2 k.2) ∙ sym k.1
-    | inr k ↦ absurd (at_not text tokens h.0 h.2 k.0)
-  ]
-  | inr h ↦ elim (cause text tokens b g) [
-    | inl k ↦ absurd (at_not text tokens k.0 k.2 h.0)
-    | inr k ↦ unfit_same (is_set (lexemes text tokens)) text tokens a b h.1 k.1
-  ]
-]
+fault_same text tokens a b f g = cause_same grammar.statement (is_set (lexemes text tokens)) text tokens a b (cause text tokens a f) (cause text tokens b g)
 
 pub only_fault : (text : List ℕ) (tokens : List Token) (r : Result Statement (Fail SyntaxFault)) → Parses text tokens r → (fault : SyntaxFault) → RefusesTokens text tokens fault
     → MatchResult r (λ _. ⊥) (λ e. (e ≡ Refused fault) ⊎ (e ≡ FailNoMemory))
 only_fault text tokens (Ok v) h fault f = not_refused text tokens fault f h.0 h.1
 only_fault text tokens (Err FailNoMemory) h fault f = inr refl
 only_fault text tokens (Err (Refused g)) h fault f = inl (ap Refused (fault_same text tokens g fault h f))
+
+-- What follows from the answer of the parser of a form.
+
+pub form_read : {A : Type 0} (p : Shape) (w : A → List Lexeme) (text : List ℕ) (tokens : List Token) (r : Result A (Fail SyntaxFault)) → length text ≤ longest_text → Spells text tokens → ParsesForm p w text tokens r
+    → IfOk r (λ v. IsFormOf p text (w v))
+form_read p w text tokens (Ok v) short spelled h = record { tokens = tokens; short = short; spelled = spelled; allowed = h.0; fit = h.1; is = h.2 }
+form_read p w text tokens (Err e) short spelled h = tt
+
+pub form_refuses : {A : Type 0} (p : Shape) (w : A → List Lexeme) (text : List ℕ) (tokens : List Token) (r : Result A (Fail SyntaxFault)) → ParsesForm p w text tokens r → (fault : SyntaxFault) → r ≡ Err (Refused fault) → RefusesForm p text tokens fault
+form_refuses p w text tokens (Ok v) h fault e = absurd (cc)
+form_refuses p w text tokens (Err FailNoMemory) h fault e = absurd (cc)
+form_refuses p w text tokens (Err (Refused f)) h fault e = let g : f ≡ fault = cc in subst (λ z. RefusesForm p text tokens z) g h
+
+pub form_complete : {A : Type 0} (p : Shape) (w : A → List Lexeme) → ((a b : A) → w a ≡ w b → a ≡ b) → (text : List ℕ) (tokens : List Token) (r : Result A (Fail SyntaxFault)) → Spells text tokens → ParsesForm p w text tokens r
+    → (v : A) → IsFormOf p text (w v) → MatchResult r (λ u. u ≡ v) (λ e. e ≡ FailNoMemory)
+form_complete p w same text tokens (Ok u) spelled h v f = same u v (sym h.2 ∙ ap (lexemes text) (spells_same spelled f.spelled) ∙ f.is)
+form_complete p w same text tokens (Err FailNoMemory) spelled h v f = refl
+form_complete p w same text tokens (Err (Refused fault)) spelled h v f =
+    let e = ap (lexemes text) (spells_same f.spelled spelled) in
+    absurd (cause_not p false text tokens fault (form_cause p text tokens fault h) (subst (Generates p) e f.allowed) (subst (AllByRecursion (Fits false)) e f.fit))
+
+pub form_only_fault : {A : Type 0} (p : Shape) (w : A → List Lexeme) (text : List ℕ) (tokens : List Token) (r : Result A (Fail SyntaxFault)) → ParsesForm p w text tokens r → (fault : SyntaxFault) → RefusesForm p text tokens fault
+    → MatchResult r (λ _. ⊥) (λ e. (e ≡ Refused fault) ⊎ (e ≡ FailNoMemory))
+form_only_fault p w text tokens (Ok v) h fault f = cause_not p false text tokens fault (form_cause p text tokens fault f) h.0 h.1
+form_only_fault p w text tokens (Err FailNoMemory) h fault f = inr refl
+form_only_fault p w text tokens (Err (Refused g)) h fault f = inl (ap Refused (cause_same p false text tokens g fault (form_cause p text tokens g h) (form_cause p text tokens fault f)))

@@ -216,7 +216,8 @@ undotted c e n d j s = record {
 same_behind : Same grammar.behind factored.behind
 same_behind =
     let a = often (both (same (one (word (codes "and")))) same_cond) in
-    both (same (one (mark Comma))) (both (same (grammar.listed grammar.a_name)) (either (both (same (one (word (codes "where")))) (both same_cond a)) (same nothing)))
+    both (same (one (mark Comma))) (both (same (grammar.listed grammar.a_name))
+    (both (either (both (same (one (word (codes "where")))) (both same_cond a)) (same nothing)) (same grammar.join_grouped)))
 
 same_range : Same (grammar.range ∣ grammar.range_join) factored.range
 same_range =

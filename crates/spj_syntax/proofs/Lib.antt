@@ -10,3 +10,4 @@ pub mod Trees
 pub mod Spelled
 pub mod Whole
 pub mod Answered
+pub mod Once

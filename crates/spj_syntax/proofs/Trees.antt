@@ -23,7 +23,7 @@ use Rattle.spj_syntax.specs.declared.tree.RawCol.{RawCol}
 use Rattle.spj_syntax.specs.declared.tree.RawCond.{RawCond}
 use Rattle.spj_syntax.specs.declared.tree.RawCond.TheVariants.{Join, Test}
 use Rattle.spj_syntax.specs.Lexemes.{Lexeme, Word, Number, Quoted, Mark}
-use Rattle.spj_syntax.specs.Written.{name_tokens, literal_tokens, column_tokens, listed_tokens, row_tokens, schema_tokens, op_symbol, test_tokens, col_tokens_of, col_tokens, cond_tokens, each_after, between, filtered_tokens, head_tokens, select_tokens, row_for_tokens, verb_tokens, strict_tokens, change_tokens, goal_tokens, grouped_tokens, anded_tokens, join_goal_tokens, range_tokens, statement_tokens}
+use Rattle.spj_syntax.specs.Written.{name_tokens, literal_tokens, column_tokens, listed_tokens, row_tokens, schema_tokens, op_symbol, test_tokens, col_tokens_of, col_tokens, cond_tokens, each_after, between, filtered_tokens, head_tokens, select_tokens, row_for_tokens, verb_tokens, strict_tokens, change_tokens, order_tokens, block_tokens, goal_tokens, grouped_tokens, anded_tokens, join_goal_tokens, join_grouped_tokens, range_tokens, statement_tokens}
 use Rattle.spj_syntax.specs.declared.tree.Change.{Change}
 use Rattle.spj_syntax.specs.declared.tree.Change.TheVariants as changes
 use Rattle.spj_syntax.specs.declared.tree.Select.{Select}
@@ -34,6 +34,7 @@ use Rattle.spj_syntax.specs.declared.tree.RawGoal.TheVariants as goals
 use Rattle.spj_syntax.specs.declared.tree.RawJoinGoal.{RawJoinGoal}
 use Rattle.spj_syntax.specs.declared.tree.RawJoinGoal.TheVariants as join_goals
 use Rattle.spj_syntax.specs.declared.tree.RawRange.{RawRange}
+use Rattle.spj_syntax.specs.declared.tree.RawBlock.{RawBlock}
 use Rattle.spj_syntax.specs.declared.tree.Statement.{Statement}
 use Rattle.spj_syntax.specs.declared.tree.Statement.TheVariants as statements
 
@@ -328,10 +329,10 @@ rows_same [] (y ∷ ys) e = absurd (cc)
 rows_same (x ∷ xs) [] e = absurd (cc)
 rows_same (x ∷ xs) (y ∷ ys) e = (between_decodes (Mark s.Comma) Never row_tokens (λ x. x) (λ a b u v f g h. row_decodes a b u v h) (x ∷ xs) (y ∷ ys) [] [] (omega arith) (omega arith) tt tt (ap (λ w. w ++ []) e)).0
 
--- the first two bytes of the first word, in one number
+-- the first three bytes of the first word, in one number
 mark_of : List Lexeme → ℕ
 mark_of [] = 0
-mark_of (Word v ∷ ls) = get_or v 0 0 * 256 + get_or v 1 0
+mark_of (Word v ∷ ls) = (get_or v 0 0 * 256 + get_or v 1 0) * 256 + get_or v 2 0
 mark_of (Number z ∷ ls) = 0
 mark_of (Quoted t ∷ ls) = 0
 mark_of (Mark y ∷ ls) = 0
@@ -357,10 +358,11 @@ verb_decodes verbs.Plan verbs.Plan r z e = (refl, (cc))
 verb_decodes verbs.Sql verbs.Sql r z e = (refl, (cc))
 verb_decodes (verbs.Explain a) (verbs.Explain b) r z e = let i = row_for_decodes a b r z (cc) in (ap verbs.Explain i.0, i.1)
 verb_decodes (verbs.Against a) (verbs.Against b) r z e = let i = row_for_decodes a b r z (cc) in (ap verbs.Against i.0, i.1)
+verb_decodes (verbs.Prove a) (verbs.Prove b) r z e = let i = row_for_decodes a b r z (cc) in (ap verbs.Prove i.0, i.1)
 verb_decodes _ _ r z e = absurd (omega (arith, ap mark_of e))
 
 verb_marks : List ℕ
-verb_marks = mark_of (verb_tokens verbs.Ask) ∷ mark_of (verb_tokens verbs.Possible) ∷ mark_of (verb_tokens verbs.Disputed) ∷ mark_of (verb_tokens verbs.Classify) ∷ mark_of (verb_tokens verbs.Plan) ∷ mark_of (verb_tokens verbs.Sql) ∷ mark_of (verb_tokens (verbs.Explain [])) ∷ mark_of (verb_tokens (verbs.Against [])) ∷ []
+verb_marks = mark_of (verb_tokens verbs.Ask) ∷ mark_of (verb_tokens verbs.Possible) ∷ mark_of (verb_tokens verbs.Disputed) ∷ mark_of (verb_tokens verbs.Classify) ∷ mark_of (verb_tokens verbs.Plan) ∷ mark_of (verb_tokens verbs.Sql) ∷ mark_of (verb_tokens (verbs.Explain [])) ∷ mark_of (verb_tokens (verbs.Against [])) ∷ mark_of (verb_tokens (verbs.Prove [])) ∷ []
 
 is_verb : List Lexeme → Bool
 is_verb ls = list_any (λ m. nat_eq m (mark_of ls)) verb_marks
@@ -375,6 +377,7 @@ opens_verb verbs.Plan r = refl
 opens_verb verbs.Sql r = refl
 opens_verb (verbs.Explain row) r = refl
 opens_verb (verbs.Against row) r = refl
+opens_verb (verbs.Prove row) r = refl
 
 -- what is told apart from each verb begins with none
 no_verb : (v : Verb) (r ls : List Lexeme) → verb_tokens v ++ r ≡ ls → is_verb ls ≡ false → ⊥
@@ -468,27 +471,45 @@ lifted_same (goals.Sum c) = refl
 lifted_same (goals.Min c) = refl
 lifted_same (goals.Max c) = refl
 
+-- "group" goes on no list of conditions
+fine_join_grouped : (g : Option RawCol) → Fine (After IsDot) (join_grouped_tokens g)
+unfolding initial
+fine_join_grouped None = tt
+fine_join_grouped (Some c) = λ h. elim h [
+  | inl e ↦ absurd (omega (arith, ap (λ l. initial (l ∷ [])) e))
+  | inr h ↦ elim h [ inl e ↦ absurd (omega (arith, ap (λ l. initial (l ∷ [])) e)) | inr e ↦ absurd (cc) ]
+]
+
+join_grouped_same : (a b : Option RawCol) → join_grouped_tokens a ≡ join_grouped_tokens b → a ≡ b
+join_grouped_same None None e = refl
+join_grouped_same None (Some d) e = absurd (cc)
+join_grouped_same (Some c) None e = absurd (cc)
+join_grouped_same (Some c) (Some d) e = let h : col_tokens c ≡ col_tokens d = cc in ap Some (cols_decode c d [] [] tt tt (ap (λ w. w ++ []) h)).0
+
 -- what stands behind the tables goes on no list of names
-fine_behind : (cs : List RawCond) → Fine (OrAlso (Mark s.Comma) Never) (filtered_tokens cond_tokens cs)
-fine_behind [] = tt
-fine_behind (x ∷ cs) = λ h. elim h [ inl e ↦ absurd (cc) | inr b ↦ b ]
+fine_behind : (cs : List RawCond) (g : Option RawCol) → Fine (OrAlso (Mark s.Comma) Never) (filtered_tokens cond_tokens cs ++ join_grouped_tokens g)
+fine_behind [] None = tt
+fine_behind [] (Some c) = λ h. elim h [ inl e ↦ absurd (cc) | inr b ↦ b ]
+fine_behind (x ∷ cs) g = λ h. elim h [ inl e ↦ absurd (cc) | inr b ↦ b ]
 
 range_same : (p q : RawRange) → range_tokens p ≡ range_tokens q → p ≡ q
 range_same p q e =
-    let r : List Lexeme = listed_tokens name_tokens p.tables ++ filtered_tokens cond_tokens p.conds in
-    let z : List Lexeme = listed_tokens name_tokens q.tables ++ filtered_tokens cond_tokens q.conds in
+    let r : List Lexeme = listed_tokens name_tokens p.tables ++ (filtered_tokens cond_tokens p.conds ++ join_grouped_tokens p.group) in
+    let z : List Lexeme = listed_tokens name_tokens q.tables ++ (filtered_tokens cond_tokens q.conds ++ join_grouped_tokens q.group) in
     let g : join_goal_tokens p.goal ++ (Word (codes "from") ∷ r) ≡ join_goal_tokens q.goal ++ (Word (codes "from") ∷ z) = cc in
     let a = join_goal_decodes p.goal q.goal (Word (codes "from") ∷ r) (Word (codes "from") ∷ z) (from_no_dot r) (from_no_dot z) g in
     let h : r ≡ z = cc (a.1) in
-    let b = between_decodes (Mark s.Comma) Never name_tokens (λ x. x) (λ x y r z f g e. name_decodes x y r z e) p.tables q.tables _ _ (omega (arith, p.some_other)) (omega (arith, q.some_other)) (fine_behind p.conds) (fine_behind q.conds) h in
-    let c = filtered_decode IsDot cond_tokens (λ x. absurd (cc)) cond_decodes p.conds q.conds [] [] tt tt (ap (λ w. w ++ []) b.1) in
+    let b = between_decodes (Mark s.Comma) Never name_tokens (λ x. x) (λ x y r z f g e. name_decodes x y r z e) p.tables q.tables _ _ (omega (arith, p.some_other)) (omega (arith, q.some_other)) (fine_behind p.conds p.group) (fine_behind q.conds q.group) h in
+    let c = filtered_decode IsDot cond_tokens (λ x. absurd (cc)) cond_decodes p.conds q.conds (join_grouped_tokens p.group) (join_grouped_tokens q.group) (fine_join_grouped p.group) (fine_join_grouped q.group) b.1 in
     let w = a.0 in
     let x = b.0 in
     let y = c.0 in
+    let v = join_grouped_same p.group q.group c.1 in
     λ i. record {
       goal = w i;
       tables = x i;
       conds = y i;
+      group = v i;
       some_other = is_prop→PathP (λ j. 2 ≤ length (x j)) (λ j. le_prop) p.some_other q.some_other i;
       few = is_prop→PathP (λ j. length (y j) ≤ most_items) (λ j. le_prop) p.few q.few i;
     }
@@ -508,7 +529,7 @@ behind_first t (u ∷ v ∷ ts) r z h e = (Word v ∷ (each_after (Mark s.Comma)
 one_not_several : (g : RawGoal) (t : List ℕ) (xs : List RawTest) (a : Option (List ℕ)) (q : RawRange) → statement_tokens (statements.Range g t xs a) ≡ range_tokens q → ⊥
 one_not_several g t xs a q e =
     let rest : List Lexeme = Word t ∷ (filtered_tokens test_tokens xs ++ grouped_tokens a) in
-    let others : List Lexeme = listed_tokens name_tokens q.tables ++ filtered_tokens cond_tokens q.conds in
+    let others : List Lexeme = listed_tokens name_tokens q.tables ++ (filtered_tokens cond_tokens q.conds ++ join_grouped_tokens q.group) in
     let h : goal_tokens g ++ (Word (codes "from") ∷ rest) ≡ join_goal_tokens q.goal ++ (Word (codes "from") ∷ others) = cc in
     let i = join_goal_decodes (lifted g) q.goal (Word (codes "from") ∷ rest) (Word (codes "from") ∷ others) (from_no_dot rest) (from_no_dot others) (ap (λ w. w ++ (Word (codes "from") ∷ rest)) (sym (lifted_same g)) ∙ h) in
     let j : rest ≡ others = cc (i.1) in
@@ -575,3 +596,21 @@ statement_same statements.ShowConflicts statements.ShowLog e = absurd (omega (ar
 statement_same (statements.Asking v c) _ e = absurd (no_verb v (select_tokens c) _ e refl)
 statement_same _ (statements.Asking w d) e = absurd (no_verb w (select_tokens d) _ (sym e) refl)
 statement_same _ _ e = absurd (omega (arith, ap mark_of e))
+
+names_same : (xs ys : List (List ℕ)) → listed_tokens name_tokens xs ≡ listed_tokens name_tokens ys → xs ≡ ys
+names_same [] [] e = refl
+names_same [] (y ∷ ys) e = absurd (cc)
+names_same (x ∷ xs) [] e = absurd (cc)
+names_same (x ∷ xs) (y ∷ ys) e = (between_decodes (Mark s.Comma) Never name_tokens (λ x. x) (λ a b u v f g h. name_decodes a b u v h) (x ∷ xs) (y ∷ ys) [] [] (omega arith) (omega arith) tt tt (ap (λ w. w ++ []) e)).0
+
+-- no tokens are written by two orders
+pub order_same : (a b : List (List ℕ)) → order_tokens a ≡ order_tokens b → a ≡ b
+order_same a b e = let g : listed_tokens name_tokens a ≡ listed_tokens name_tokens b = cc in names_same a b g
+
+-- no tokens are written by two blocks
+pub block_same : (a b : RawBlock) → block_tokens a ≡ block_tokens b → a ≡ b
+block_same a b e =
+    let table : a.table ≡ b.table = cc in
+    let g : listed_tokens row_tokens a.rows ≡ listed_tokens row_tokens b.rows = cc in
+    let rows = rows_same a.rows b.rows g in
+    λ i. record { table = table i; rows = rows i }

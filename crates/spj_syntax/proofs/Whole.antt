@@ -10,15 +10,17 @@ use Rattle.spj_syntax.specs.declared.tree.Statement.{Statement}
 use Rattle.spj_syntax.specs.declared.tree.Statement.TheVariants.{SetConflicts}
 use Rattle.spj_syntax.specs.declared.fault.SyntaxFault.{SyntaxFault}
 use Rattle.spj_syntax.specs.declared.fault.SyntaxFault.TheVariants.{At, OutOfRange, TextTooLong, LongName}
+use Rattle.cqa_value.specs.declared.memory.Fail.TheVariants.{Refused}
 use Rattle.spj_syntax.specs.declared.reader.Stop.{Stop}
 use Rattle.spj_syntax.specs.declared.reader.Stop.TheVariants.{NoMemory, Syntax}
 use Rattle.spj_syntax.specs.Lexemes.{Lexeme, Word, Number, Quoted, Mark, lexeme}
-use Rattle.spj_syntax.specs.Shapes.{one, word, FirstFault}
+use Rattle.spj_syntax.specs.First.{decided}
+use Rattle.spj_syntax.specs.Shapes.{Shape, one, word, FirstFault, Generates}
 use Rattle.spj_syntax.specs.Grammar as grammar
 use Rattle.spj_syntax.specs.Factored.{statement, plain}
 use Rattle.spj_syntax.specs.Walk.{Past, read, Opens, opens, has, only_if}
-use Rattle.spj_syntax.specs.Parsed.{IsStatement, IsSyntaxFault, IsIntInRange, Fits, AllLexemesFit, IsFirstUnfit, RefusesTokens, fault_of, is_set, lexemes, place_of}
-use Rattle.spj_syntax.specs.Reading.{PlainFit, Took, Failed, IsUnfit, Parses, failure_of}
+use Rattle.spj_syntax.specs.Parsed.{IsStatement, IsFaultOf, IsSyntaxFault, IsIntInRange, PlainFit, Fits, AllLexemesFit, IsFirstUnfit, RefusesTokens, fault_of, is_set, lexemes, place_of}
+use Rattle.spj_syntax.specs.Reading.{Took, Failed, IsUnfit, Parses, ParsesForm, failure_of}
 use Rattle.spj_syntax.specs.Written.{statement_tokens}
 use Rattle.spj_syntax.proofs.Steps.{opens_then, took_left, took_right, fails_left, fails_right}
 use Rattle.spj_syntax.proofs.Exact.{whole, too_many, stopped}
@@ -55,10 +57,10 @@ set_took e h = took_left (opens_set e) h
 pub set_failed : {s z : List Lexeme} → is_set s ≡ true → Failed grammar.set Syntax s z → Failed statement Syntax s z
 set_failed e h = fails_left (opens_set e) h
 
-pub fault_at : (text : List ℕ) (tokens : List Token) (rest : List Lexeme) (left at : ℕ) → FirstFault statement (lexemes text tokens) rest → left ≡ length rest
-    → at ≡ place_of text (drop (length tokens - left) tokens) → IsSyntaxFault text tokens at
-fault_at text tokens rest left at g e p =
-    let f = same_fault (lexemes text tokens) rest g in
+-- a fault of a shape stands where so many tokens are left
+shape_fault_at : (p : Shape) (text : List ℕ) (tokens : List Token) (rest : List Lexeme) (left at : ℕ) → FirstFault p (lexemes text tokens) rest → left ≡ length rest
+    → at ≡ place_of text (drop (length tokens - left) tokens) → IsFaultOf p text tokens at
+shape_fault_at shape text tokens rest left at f e p =
     let n : length (lexemes text tokens) ≡ length tokens = length-map tokens (lexeme text) in
     let m : length (lexemes text tokens) ≡ length f.front + length rest = ap length f.split ∙ length-append f.front rest in
     let k : length f.front ≡ length tokens - left = omega arith in
@@ -66,29 +68,43 @@ fault_at text tokens rest left at g e p =
     record {
       count = length tokens - left;
       place = p;
-      first = subst (λ z. FirstFault grammar.statement (lexemes text tokens) z) (sym r) f;
+      first = subst (λ z. FirstFault shape (lexemes text tokens) z) (sym r) f;
     }
+
+pub fault_at : (text : List ℕ) (tokens : List Token) (rest : List Lexeme) (left at : ℕ) → FirstFault statement (lexemes text tokens) rest → left ≡ length rest
+    → at ≡ place_of text (drop (length tokens - left) tokens) → IsSyntaxFault text tokens at
+fault_at text tokens rest left at g e p = shape_fault_at grammar.statement text tokens rest left at (same_fault (lexemes text tokens) rest g) e p
 
 empty : (rest : List Lexeme) → length rest ≡ 0 → rest ≡ []
 empty [] e = refl
 empty (t ∷ rest) e = absurd (omega arith)
 
-pub is_statement : {w s z : List Lexeme} → Took statement w s z → length z ≡ 0 → IsStatement s × (PlainFit s → s ≡ w)
-is_statement {w = w} {s = s} {z = z} h e =
+-- a shape of which one token ahead decides each step is read to its end, further than that, or up to its first fault
+pub form_whole : {p : Shape} {w s z : List Lexeme} → decided p ≡ true → Took p w s z → length z ≡ 0 → Generates p s × (PlainFit s → s ≡ w)
+form_whole {p = p} {w = w} {s = s} {z = z} one_ahead h e =
     let n : z ≡ [] = empty z e in
-    (record { generated = from_factored s (whole statement s statement_decided (h.way ∙ ap Past n)) }, λ a. (h.takes a).0 ∙ ap (λ x. w ++ x) n ∙ append-nil w)
+    (whole p s one_ahead (h.way ∙ ap Past n), λ a. (h.takes a).0 ∙ ap (λ x. w ++ x) n ∙ append-nil w)
+
+pub more_than_form : {p : Shape} {w s z : List Lexeme} → decided p ≡ true → Took p w s z → (length z ≡ 0 → ⊥) → FirstFault p s z
+more_than_form {p = p} {w = w} {s = s} {z = z} one_ahead h n = go z h.way n
+  where
+    go : (z : List Lexeme) → read p s ≡ Past z → (length z ≡ 0 → ⊥) → FirstFault p s z
+    go [] e n = absurd (n refl)
+    go (t ∷ z) e n = too_many p s t z one_ahead e
+
+pub form_stops : {p : Shape} {s z : List Lexeme} → decided p ≡ true → Failed p Syntax s z → FirstFault p s z
+form_stops {p = p} {s = s} {z = z} one_ahead h = stopped p s z one_ahead h.way
+
+pub is_statement : {w s z : List Lexeme} → Took statement w s z → length z ≡ 0 → IsStatement s × (PlainFit s → s ≡ w)
+is_statement {s = s} h e = let f = form_whole statement_decided h e in (record { generated = from_factored s f.0 }, f.1)
 
 pub more_is_fault : {w s z : List Lexeme} → Took statement w s z → (length z ≡ 0 → ⊥) → FirstFault statement s z
-more_is_fault {w = w} {s = s} {z = z} h n = go z h.way n
-  where
-    go : (z : List Lexeme) → read statement s ≡ Past z → (length z ≡ 0 → ⊥) → FirstFault statement s z
-    go [] e n = absurd (n refl)
-    go (t ∷ z) e n = too_many statement s t z statement_decided e
+more_is_fault h n = more_than_form statement_decided h n
 
 pub stop_is_fault : {s z : List Lexeme} → Failed statement Syntax s z → FirstFault statement s z
-stop_is_fault {s = s} {z = z} h = stopped statement s z statement_decided h.way
+stop_is_fault h = form_stops statement_decided h
 
-pub fault_shorter : {s z : List Lexeme} → FirstFault statement s z → length z ≤ length s
+pub fault_shorter : {p : Shape} {s z : List Lexeme} → FirstFault p s z → length z ≤ length s
 fault_shorter {s = s} {z = z} f = let m : length s ≡ length f.front + length z = ap length f.split ∙ length-append f.front z in omega arith
 
 -- A parse that stopped has failed as it should, where a want of syntax stands at the tokens left.
@@ -96,6 +112,12 @@ pub stop_refused : (text : List ℕ) (tokens : List Token) (stop : Stop) (rest :
     → Parses text tokens (Err (failure_of stop text (drop (length tokens - left) tokens)))
 stop_refused text tokens Syntax rest left f e = fault_at text tokens rest left _ (f refl) e refl
 stop_refused text tokens NoMemory rest left f e = tt
+
+-- so has that of a form
+pub form_stopped : {A : Type 0} (p : Shape) (w : A → List Lexeme) (text : List ℕ) (tokens : List Token) (stop : Stop) (rest : List Lexeme) (left : ℕ)
+    → (stop ≡ Syntax → FirstFault p (lexemes text tokens) rest) → left ≡ length rest → ParsesForm p w text tokens (Err (failure_of stop text (drop (length tokens - left) tokens)))
+form_stopped p w text tokens Syntax rest left f e = shape_fault_at p text tokens rest left _ (f refl) e refl
+form_stopped p w text tokens NoMemory rest left f e = tt
 
 -- A symbol always fits.
 unfit_not : (set : Bool) (l : Lexeme) (at k : ℕ) → ¬ Fits set l → At k ≡ fault_of l at → ⊥
@@ -109,6 +131,13 @@ refused {set = set} text tokens (At k) e f s = absurd (unfit_not set (lexeme tex
 refused text tokens (OutOfRange k) e f s = (s, subst (λ b. IsFirstUnfit b text tokens (OutOfRange k)) (sym e) f)
 refused text tokens (TextTooLong k) e f s = (s, subst (λ b. IsFirstUnfit b text tokens (TextTooLong k)) (sym e) f)
 refused text tokens (LongName k) e f s = (s, subst (λ b. IsFirstUnfit b text tokens (LongName k)) (sym e) f)
+
+pub form_refused : {A : Type 0} (p : Shape) (w : A → List Lexeme) (text : List ℕ) (tokens : List Token) (fault : SyntaxFault) → IsFirstUnfit false text tokens fault → Generates p (lexemes text tokens)
+    → ParsesForm p w text tokens (Err (Refused fault))
+form_refused p w text tokens (At k) f g = absurd (unfit_not false (lexeme text f.token) f.token.span.from k f.unfit f.fault_is)
+form_refused p w text tokens (OutOfRange k) f g = (g, f)
+form_refused p w text tokens (TextTooLong k) f g = (g, f)
+form_refused p w text tokens (LongName k) f g = (g, f)
 
 pub all_fit : {set : Bool} (ls : List Lexeme) → is_set ls ≡ set → AllByRecursion (Fits set) ls → AllLexemesFit ls
 all_fit ls e a = subst (λ b. AllByRecursion (Fits b) ls) (sym e) a

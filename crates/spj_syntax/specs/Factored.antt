@@ -2,7 +2,7 @@
 use Rattle.std.specs.Prelude.{codes}
 use Rattle.script_lex.specs.declared.kinds.Symbol.TheVariants.{Open, Close, Comma, Dot, Eq}
 use Rattle.spj_syntax.specs.Shapes.{word, mark, Shape, one, ◌⨾◌, ◌∣◌, many}
-use Rattle.spj_syntax.specs.Grammar.{a_name, listed, filtered, literal, strict, column, key, test, col, op_but_equal, head, verb, aggregate, grouped, set, one_of, direct}
+use Rattle.spj_syntax.specs.Grammar.{a_name, listed, filtered, literal, strict, column, key, test, col, op_but_equal, head, verb, aggregate, grouped, join_grouped, set, one_of, direct}
 
 -- Each column has its comma behind it.
 abbrev pub columns : Shape
@@ -40,7 +40,7 @@ show = one (word (codes "show")) ⨾ (one (word (codes "tables")) ∣ one (word 
 
 -- what stands behind the first of several tables
 abbrev pub behind : Shape
-behind = one (mark Comma) ⨾ listed a_name ⨾ filtered cond
+behind = one (mark Comma) ⨾ listed a_name ⨾ filtered cond ⨾ join_grouped
 
 -- what stands behind the first table of a range: that of several, or the tests and the group of one
 abbrev pub tail : Shape

@@ -56,8 +56,12 @@ alter = one (word (codes "alter")) ⨾ one (word (codes "table")) ⨾ a_name ⨾
 abbrev pub row : Shape
 row = one (mark Open) ⨾ listed literal ⨾ one (mark Close)
 
+-- a table, and rows
+abbrev pub table_rows : Shape
+table_rows = a_name ⨾ one (word (codes "values")) ⨾ listed row
+
 abbrev pub insert : Shape
-insert = one (word (codes "insert")) ⨾ one (word (codes "into")) ⨾ a_name ⨾ one (word (codes "values")) ⨾ listed row
+insert = one (word (codes "insert")) ⨾ one (word (codes "into")) ⨾ table_rows
 
 abbrev pub op_but_equal : Shape
 op_but_equal = one (mark Ne) ∣ one (mark Lt) ∣ one (mark Le) ∣ one (mark Gt) ∣ one (mark Ge)
@@ -96,7 +100,7 @@ row_for = one (word (codes "row")) ⨾ any_row ⨾ one (word (codes "for"))
 
 -- what is asked of a row
 abbrev pub row_verb : Shape
-row_verb = one (word (codes "explain")) ⨾ row_for ∣ one (word (codes "against")) ⨾ row_for
+row_verb = one (word (codes "explain")) ⨾ row_for ∣ one (word (codes "against")) ⨾ row_for ∣ one (word (codes "prove")) ⨾ row_for
 
 -- what is asked of a query
 abbrev pub verb : Shape
@@ -131,9 +135,13 @@ range = one (word (codes "range")) ⨾ goal ⨾ one (word (codes "from")) ⨾ a_
 abbrev pub join_goal : Shape
 join_goal = one (word (codes "count")) ∣ aggregate ⨾ col
 
+-- nothing, or "group by" and the column by whose values witnesses are grouped
+abbrev pub join_grouped : Shape
+join_grouped = optional (one (word (codes "group")) ⨾ one (word (codes "by")) ⨾ col)
+
 -- what stands behind the first of several tables
 abbrev pub behind : Shape
-behind = one (mark Comma) ⨾ listed a_name ⨾ filtered cond
+behind = one (mark Comma) ⨾ listed a_name ⨾ filtered cond ⨾ join_grouped
 
 -- a range over the witnesses of a query of two tables or more
 abbrev pub range_join : Shape
@@ -153,3 +161,11 @@ direct = insert ∷ delete ∷ prefer ∷ copy ∷ one (word (codes "dump")) ∷
 
 abbrev pub statement : Shape
 statement = set ∣ create ∣ alter ∣ one_of direct (show ∣ (range ∣ range_join) ∣ asking)
+
+-- an order of tables, which is no statement and stands in a certificate alone
+abbrev pub order : Shape
+order = one (word (codes "order")) ⨾ listed a_name
+
+-- a block of a table, by its rows, which is no statement and stands in a certificate alone
+abbrev pub block : Shape
+block = one (word (codes "block")) ⨾ table_rows

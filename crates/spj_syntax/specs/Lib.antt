@@ -9,3 +9,4 @@ pub mod Factored
 pub mod Reading
 pub mod Written
 pub mod Parsed
+pub mod Texts

@@ -10,7 +10,7 @@ use Rattle.cqa_value.specs.declared.name.TheConstants.{LONGEST_TEXT_VALUE}
 use Rattle.cqa_model.specs.declared.limits.TheConstants.{LONGEST_NAME}
 use Rattle.spj_syntax.specs.Limits.{most_conflicts}
 use Rattle.spj_syntax.specs.Lexemes.{Lexeme, Word, Number, Quoted, Mark, lexeme}
-use Rattle.spj_syntax.specs.Shapes.{Generates, FirstFault}
+use Rattle.spj_syntax.specs.Shapes.{Shape, Generates, FirstFault}
 use Rattle.spj_syntax.specs.Grammar.{statement}
 
 -- what the tokens of a text stand for
@@ -26,11 +26,16 @@ abbrev pub place_of : List ℕ → List Token → ℕ
 place_of text [] = length text
 place_of text (token ∷ tokens) = token.span.from
 
--- The first fault of syntax stands at an offset: the tokens before it begin a statement, and with the token there they begin none.
-pub record IsSyntaxFault (text : List ℕ) (tokens : List Token) (at : ℕ) : Type 0 where
+-- The first fault of a shape stands at an offset: the tokens before it begin what the shape generates, and with the token there they
+-- begin nothing.
+pub record IsFaultOf (p : Shape) (text : List ℕ) (tokens : List Token) (at : ℕ) : Type 0 where
   pub count : ℕ
   pub place : at ≡ place_of text (drop count tokens)
-  pub first : FirstFault statement (lexemes text tokens) (drop count (lexemes text tokens))
+  pub first : FirstFault p (lexemes text tokens) (drop count (lexemes text tokens))
+
+-- the first fault of syntax stands at an offset
+abbrev pub IsSyntaxFault : List ℕ → List Token → ℕ → Type 0
+IsSyntaxFault text tokens at = IsFaultOf statement text tokens at
 
 -- whether the tokens begin with `set`
 abbrev pub is_set : List Lexeme → Bool
@@ -48,6 +53,10 @@ Fits set (Word w) = length w ≤ LONGEST_NAME
 Fits set (Number z) = IsIntInRange set z
 Fits set (Quoted t) = length t ≤ LONGEST_TEXT_VALUE
 Fits set (Mark s) = Unit {0}
+
+-- All fit, where the tokens are no `set`.
+abbrev pub PlainFit : List Lexeme → Type 0
+PlainFit = AllByRecursion (Fits false)
 
 abbrev pub AllLexemesFit : List Lexeme → Type 0
 AllLexemesFit ls = AllByRecursion (Fits (is_set ls)) ls
@@ -73,3 +82,9 @@ pub record IsFirstUnfit (set : Bool) (text : List ℕ) (tokens : List Token) (fa
 abbrev pub RefusesTokens : List ℕ → List Token → SyntaxFault → Type 0
 RefusesTokens text tokens (At at) = IsSyntaxFault text tokens at
 RefusesTokens text tokens fault = IsStatement (lexemes text tokens) × IsFirstUnfit (is_set (lexemes text tokens)) text tokens fault
+
+-- why the tokens of a text are refused as a form that is no statement: the first fault of its shape, else the first token that
+-- doesn't fit
+abbrev pub RefusesForm : Shape → List ℕ → List Token → SyntaxFault → Type 0
+RefusesForm p text tokens (At at) = IsFaultOf p text tokens at
+RefusesForm p text tokens fault = Generates p (lexemes text tokens) × IsFirstUnfit false text tokens fault

@@ -15,10 +15,10 @@ use Rattle.spj_syntax.specs.Lexemes.{Lexeme, Word, Number, Quoted, Mark, undoubl
 use Rattle.spj_syntax.specs.declared.lists.Between.{Between}
 use Rattle.spj_syntax.specs.declared.lists.Between.TheVariants.{Comma, And}
 use Rattle.script_lex.specs.declared.kinds.Symbol.TheVariants as s
-use Rattle.spj_syntax.specs.Shapes.{Terminal, word, mark, Shape}
-use Rattle.spj_syntax.specs.Parsed.{Fits, AllLexemesFit, IsStatement, RefusesTokens, fault_of, lexemes, place_of}
+use Rattle.spj_syntax.specs.Shapes.{Terminal, word, mark, Shape, Generates}
+use Rattle.spj_syntax.specs.Parsed.{Fits, PlainFit, AllLexemesFit, IsStatement, RefusesForm, RefusesTokens, fault_of, lexemes, place_of}
 use Rattle.cqa_model.specs.declared.schema.Column.{Column}
-use Rattle.spj_syntax.specs.Written.{IsWrittenAs, column_tokens, cond_tokens, filtered_tokens, goal_tokens, grouped_tokens, join_goal_tokens, key_tokens, listed_tokens, name_tokens, test_tokens}
+use Rattle.spj_syntax.specs.Written.{IsWrittenAs, column_tokens, cond_tokens, filtered_tokens, goal_tokens, grouped_tokens, join_goal_tokens, join_grouped_tokens, key_tokens, listed_tokens, name_tokens, test_tokens}
 use Rattle.spj_syntax.specs.declared.range_parts.Asked.{Asked}
 use Rattle.spj_syntax.specs.declared.range_parts.Asked.TheVariants as aggregates
 use Rattle.spj_syntax.specs.declared.range_parts.Tested.{Tested}
@@ -33,10 +33,6 @@ use Rattle.spj_syntax.specs.declared.fault.SyntaxFault.TheVariants.{At}
 use Rattle.cqa_value.specs.declared.memory.Fail.{Fail}
 use Rattle.cqa_value.specs.declared.memory.Fail.TheVariants.{Refused, NoMemory as FailNoMemory}
 use Rattle.spj_syntax.specs.Walk.{read, Past, Stopped}
-
--- All fit, where the statement is no `set`.
-abbrev pub PlainFit : List Lexeme → Type 0
-PlainFit = AllByRecursion (Fits false)
 
 -- The old tokens are these and then the new ones.
 abbrev pub Takes : List Lexeme → List Lexeme → List Lexeme → Type 0
@@ -96,7 +92,7 @@ aggregate_tokens aggregates.Max = Word (codes "max") ∷ []
 
 -- what stands behind the first of several tables
 abbrev pub behind_tokens : Several → List Lexeme
-behind_tokens b = Mark s.Comma ∷ (listed_tokens name_tokens b.others ++ filtered_tokens cond_tokens b.conds)
+behind_tokens b = Mark s.Comma ∷ (listed_tokens name_tokens b.others ++ (filtered_tokens cond_tokens b.conds ++ join_grouped_tokens b.group))
 
 -- what stands behind the only table
 abbrev pub alone_tokens : Tested → List Lexeme
@@ -166,3 +162,9 @@ abbrev pub Parses : List ℕ → List Token → Result Statement (Fail SyntaxFau
 Parses text tokens (Ok statement) = IsStatement (lexemes text tokens) × AllLexemesFit (lexemes text tokens) × IsWrittenAs statement (lexemes text tokens)
 Parses text tokens (Err FailNoMemory) = Unit {0}
 Parses text tokens (Err (Refused fault)) = RefusesTokens text tokens fault
+
+-- the answer of the parser of a form that is no statement
+abbrev pub ParsesForm : {A : Type 0} → Shape → (A → List Lexeme) → List ℕ → List Token → Result A (Fail SyntaxFault) → Type 0
+ParsesForm p written text tokens (Ok v) = Generates p (lexemes text tokens) × PlainFit (lexemes text tokens) × (lexemes text tokens ≡ written v)
+ParsesForm p written text tokens (Err FailNoMemory) = Unit {0}
+ParsesForm p written text tokens (Err (Refused fault)) = RefusesForm p text tokens fault

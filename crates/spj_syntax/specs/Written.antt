@@ -25,6 +25,7 @@ use Rattle.spj_syntax.specs.declared.tree.RawGoal.TheVariants as goals
 use Rattle.spj_syntax.specs.declared.tree.RawJoinGoal.{RawJoinGoal}
 use Rattle.spj_syntax.specs.declared.tree.RawJoinGoal.TheVariants as join_goals
 use Rattle.spj_syntax.specs.declared.tree.RawRange.{RawRange}
+use Rattle.spj_syntax.specs.declared.tree.RawBlock.{RawBlock}
 use Rattle.spj_syntax.specs.declared.tree.Statement.{Statement}
 use Rattle.spj_syntax.specs.declared.tree.Statement.TheVariants as statements
 use Rattle.spj_syntax.specs.Limits.{most_items}
@@ -134,6 +135,7 @@ verb_tokens verbs.Plan = Word (codes "plan") ∷ []
 verb_tokens verbs.Sql = Word (codes "sql") ∷ []
 verb_tokens (verbs.Explain row) = Word (codes "explain") ∷ row_for_tokens row
 verb_tokens (verbs.Against row) = Word (codes "against") ∷ row_for_tokens row
+verb_tokens (verbs.Prove row) = Word (codes "prove") ∷ row_for_tokens row
 
 -- what is asked of the rows of a table
 abbrev pub goal_tokens : RawGoal → List Lexeme
@@ -154,9 +156,14 @@ join_goal_tokens (join_goals.Sum column) = Word (codes "sum") ∷ col_tokens col
 join_goal_tokens (join_goals.Min column) = Word (codes "min") ∷ col_tokens column
 join_goal_tokens (join_goals.Max column) = Word (codes "max") ∷ col_tokens column
 
+-- nothing, or "group by" and the column by whose values witnesses are grouped
+abbrev pub join_grouped_tokens : Option RawCol → List Lexeme
+join_grouped_tokens None = []
+join_grouped_tokens (Some column) = Word (codes "group") ∷ Word (codes "by") ∷ col_tokens column
+
 -- a range over several tables
 abbrev pub range_tokens : RawRange → List Lexeme
-range_tokens r = Word (codes "range") ∷ (join_goal_tokens r.goal ++ (Word (codes "from") ∷ (listed_tokens name_tokens r.tables ++ filtered_tokens cond_tokens r.conds)))
+range_tokens r = Word (codes "range") ∷ (join_goal_tokens r.goal ++ (Word (codes "from") ∷ (listed_tokens name_tokens r.tables ++ (filtered_tokens cond_tokens r.conds ++ join_grouped_tokens r.group))))
 
 abbrev pub statement_tokens : Statement → List Lexeme
 statement_tokens (statements.Create r) = Word (codes "create") ∷ (strict_tokens r.strict ++ (Word (codes "table") ∷ schema_tokens r))
@@ -173,6 +180,18 @@ statement_tokens statements.Dump = Word (codes "dump") ∷ []
 statement_tokens statements.ShowTables = Word (codes "show") ∷ Word (codes "tables") ∷ []
 statement_tokens statements.ShowLog = Word (codes "show") ∷ Word (codes "log") ∷ []
 statement_tokens statements.ShowConflicts = Word (codes "show") ∷ Word (codes "conflicts") ∷ []
+
+-- a table, and rows
+abbrev pub table_rows_tokens : RawBlock → List Lexeme
+table_rows_tokens raw = name_tokens raw.table ++ (Word (codes "values") ∷ listed_tokens row_tokens raw.rows)
+
+-- an order of tables, by their names
+abbrev pub order_tokens : List (List ℕ) → List Lexeme
+order_tokens names = Word (codes "order") ∷ listed_tokens name_tokens names
+
+-- a block of a table, by its rows
+abbrev pub block_tokens : RawBlock → List Lexeme
+block_tokens raw = Word (codes "block") ∷ table_rows_tokens raw
 
 abbrev pub IsSome : {A : Type 0} → List A → Type 0
 IsSome xs = 0 < length xs

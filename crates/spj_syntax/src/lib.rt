@@ -2,6 +2,7 @@
 #![tactic(auto)]
 
 mod fault;
+mod forms;
 mod leaf;
 mod lists;
 mod parser;
@@ -13,8 +14,9 @@ mod statements;
 mod tree;
 
 pub use fault::SyntaxFault;
+pub use forms::{parse_block, parse_order};
 pub use parser::parse;
 pub use tree::{
-    Change, RawCol, RawCond, RawGoal, RawJoinGoal, RawRange, RawSchema, RawTest, Select, Statement,
-    Verb,
+    Change, RawBlock, RawCol, RawCond, RawGoal, RawJoinGoal, RawRange, RawSchema, RawTest, Select,
+    Statement, Verb,
 };

@@ -7,8 +7,8 @@ ghost use Rattle.cqa_value.specs.declared.memory.Fail.TheVariants.{NoMemory, Ref
 ghost use Rattle.script_lex.specs.Tokens.{Spells, longest_text};
 ghost use Rattle.spj_syntax.specs.Lexemes.{Word, Number, lexeme, undoubled};
 ghost use Rattle.spj_syntax.specs.Limits.{most_tokens};
-ghost use Rattle.spj_syntax.specs.Parsed.{AllLexemesFit, Fits, IsStatement, IsFirstUnfit, IsIntInRange, RefusesTokens, is_set, lexemes, place_of};
-ghost use Rattle.spj_syntax.specs.Reading.{IsReadable, IsUnfit, Parses, PlainFit, failure_of};
+ghost use Rattle.spj_syntax.specs.Parsed.{AllLexemesFit, Fits, IsStatement, IsFirstUnfit, IsIntInRange, PlainFit, RefusesTokens, is_set, lexemes, place_of};
+ghost use Rattle.spj_syntax.specs.Reading.{IsReadable, IsUnfit, Parses, failure_of};
 ghost use Rattle.spj_syntax.specs.Written.{IsWrittenAs, IsSmall};
 ghost use Rattle.spj_syntax.specs.declared.tree.Statement.{Statement};
 ghost use Rattle.spj_syntax.specs.declared.fault.SyntaxFault.{SyntaxFault};
@@ -48,7 +48,7 @@ fn place(text: &[u8], tokens: &[Token], left: usize) -> u32
 }
 
 /// The failure of a parse whose reading stopped with so many tokens left.
-fn stopped(stop: Stop, text: &[u8], tokens: &[Token], left: usize) -> Fail<SyntaxFault>
+pub fn stopped(stop: Stop, text: &[u8], tokens: &[Token], left: usize) -> Fail<SyntaxFault>
     requires readable { All (IsReadable text.now) tokens.now }
     requires short { length text.now ≤ longest_text }
     requires there { stop ≡ Stop.Syntax → left ≤ length tokens.now }
@@ -103,7 +103,7 @@ fn unfit(text: &[u8], token: Token) -> Option<SyntaxFault>
 }
 
 /// What is wrong with the first token that doesn't fit, where the statement is no `set`.
-fn first_unfit(text: &[u8], tokens: &[Token]) -> Option<SyntaxFault>
+pub fn first_unfit(text: &[u8], tokens: &[Token]) -> Option<SyntaxFault>
     requires readable { All (IsReadable text.now) tokens.now }
     requires short { length text.now ≤ longest_text }
     ensures { MatchOption result (PlainFit (lexemes text.now tokens.now)) (λ fault. IsFirstUnfit false text.now tokens.now fault) }

@@ -3,7 +3,7 @@
 ghost use Rattle.std.specs.Prelude.{◌<◌, ◌≤◌, length};
 ghost use Rattle.spj_syntax.specs.Limits.{most_items};
 
-use crate::{RawCond, RawGoal, RawJoinGoal, RawTest};
+use crate::{RawCol, RawCond, RawGoal, RawJoinGoal, RawTest};
 use cqa_value::{Items, Name};
 
 /// What is asked of the values of a column.
@@ -14,11 +14,12 @@ pub enum Asked {
     Max,
 }
 
-/// What stands behind the first of several tables: the other ones, and the conditions.
+/// What stands behind the first of several tables: the other ones, the conditions, and the column of the groups.
 #[derive(Drop)]
 pub struct Several {
     pub others: Items<Name>,
     pub conds: Items<RawCond>,
+    pub group: Option<RawCol>,
     pub ghost some_other: { 0 < length others },
     pub ghost few: { length conds ≤ most_items },
 }

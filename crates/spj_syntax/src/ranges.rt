@@ -4,11 +4,12 @@ ghost use Rattle.std.specs.Prelude.{◌≡◌, ◌++◌, ◌∷◌, IfOk, codes}
 ghost use Rattle.spj_syntax.specs.Lexemes.{Word};
 ghost use Rattle.spj_syntax.specs.Reading.{Reads, aggregate_tokens, alone_tokens, behind_tokens, tail_tokens, from_tokens, from_behind_tokens, ranged_tokens};
 ghost use Rattle.spj_syntax.specs.Shapes.{◌⨾◌};
-ghost use Rattle.spj_syntax.specs.Written.{goal_tokens, join_goal_tokens, col_tokens, name_tokens, grouped_tokens, statement_tokens, IsSmall};
+ghost use Rattle.spj_syntax.specs.Written.{goal_tokens, join_goal_tokens, col_tokens, name_tokens, grouped_tokens, join_grouped_tokens, statement_tokens, IsSmall};
 ghost use Rattle.spj_syntax.specs.Grammar as grammar;
 ghost use Rattle.spj_syntax.specs.Factored as factored;
 
 use crate::lists::{filtered, listed};
+use crate::parts::col;
 use crate::range_parts::{Asked, Parts, Rest, Several, Tested};
 use crate::reader::{Reader, Stop};
 use crate::{RawCol, RawGoal, RawJoinGoal, RawRange, Statement};
@@ -38,14 +39,32 @@ fn alone(alloc: Global, reader: &mut Reader<'_>) -> Result<Tested, Stop>
     Ok(Tested { tests, group })
 }
 
-/// `, NAME, .. [where COND and ..]`.
+/// `group by COL`, or nothing.
+fn join_grouped(alloc: Global, reader: &mut Reader<'_>) -> Result<Option<RawCol>, Stop>
+    ensures { Reads grammar.join_grouped join_grouped_tokens result reader.old reader.new }
+{
+    if reader.sees_word(b"group") {
+        reader.advance();
+        reader.word(b"by")?;
+        let group = col(alloc, reader)?;
+        return Ok(Some(group));
+    }
+    Ok(None)
+}
+
+/// `, NAME, .. [where COND and ..] [group by COL]`.
 fn behind(alloc: Global, reader: &mut Reader<'_>) -> Result<Several, Stop>
     ensures { Reads factored.behind behind_tokens result reader.old reader.new }
 {
     reader.mark(Symbol::Comma)?;
     let others = listed(alloc, reader)?;
     let conds = filtered(alloc, reader)?;
-    Ok(Several { others, conds })
+    let group = join_grouped(alloc, reader)?;
+    Ok(Several {
+        others,
+        conds,
+        group,
+    })
 }
 
 /// What stands behind the first table.
@@ -186,6 +205,7 @@ fn joined(goal: RawJoinGoal, first: Name, behind: Several) -> Result<Statement, 
         goal,
         tables,
         conds: behind.conds,
+        group: behind.group,
     };
     Ok(Statement::RangeJoin { range })
 }
@@ -222,7 +242,7 @@ fn statement_of(ranged: Parts) -> Result<Statement, NoMemory>
 }
 
 /// `range GOAL from NAME [where TEST and ..] [group by NAME]`, or
-/// `range GOAL from NAME, NAME, .. [where COND and ..]`.
+/// `range GOAL from NAME, NAME, .. [where COND and ..] [group by COL]`.
 pub fn range(alloc: Global, reader: &mut Reader<'_>) -> Result<Statement, Stop>
     ensures reads { Reads factored.range statement_tokens result reader.old reader.new }
     ensures small { IfOk result (λ s. IsSmall s) }

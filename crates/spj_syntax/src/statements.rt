@@ -10,6 +10,7 @@ ghost use Rattle.cqa_model.specs.Valid.{IsName};
 ghost use Rattle.spj_syntax.specs.Grammar as grammar;
 ghost use Rattle.spj_syntax.specs.Factored as factored;
 
+use crate::forms::table_rows;
 use crate::lists::{anded, columns, filtered, listed, literals};
 use crate::ranges::range;
 use crate::reader::{Reader, Stop};
@@ -141,10 +142,11 @@ fn insert(alloc: Global, reader: &mut Reader<'_>) -> Result<Statement, Stop>
 {
     reader.word(b"insert")?;
     reader.word(b"into")?;
-    let table = reader.name(alloc)?;
-    reader.word(b"values")?;
-    let rows = listed(alloc, reader)?;
-    Ok(Statement::Insert { table, rows })
+    let raw = table_rows(alloc, reader)?;
+    Ok(Statement::Insert {
+        table: raw.table,
+        rows: raw.rows,
+    })
 }
 
 /// `delete from NAME [where TEST and ..]`.
@@ -201,7 +203,7 @@ fn row_for(alloc: Global, reader: &mut Reader<'_>) -> Result<Row, Stop>
     Ok(row)
 }
 
-/// `explain row ROW for` or `against row ROW for`.
+/// `explain row ROW for`, `against row ROW for` or `prove row ROW for`.
 fn row_verb(alloc: Global, reader: &mut Reader<'_>) -> Result<Verb, Stop>
     ensures { Reads grammar.row_verb verb_tokens result reader.old reader.new }
 {
@@ -210,12 +212,17 @@ fn row_verb(alloc: Global, reader: &mut Reader<'_>) -> Result<Verb, Stop>
         let explained = row_for(alloc, reader)?;
         return Ok(Verb::Explain { row: explained });
     }
-    reader.word(b"against")?;
+    if reader.sees_word(b"against") {
+        reader.advance();
+        let doubted = row_for(alloc, reader)?;
+        return Ok(Verb::Against { row: doubted });
+    }
+    reader.word(b"prove")?;
     let row = row_for(alloc, reader)?;
-    Ok(Verb::Against { row })
+    Ok(Verb::Prove { row })
 }
 
-/// `ask`, `possible`, `disputed`, `classify`, `plan`, `sql`, `explain row ROW for` or `against row ROW for`.
+/// `ask`, `possible`, `disputed`, `classify`, `plan`, `sql`, or what is asked of a row.
 fn verb(alloc: Global, reader: &mut Reader<'_>) -> Result<Verb, Stop>
     ensures { Reads grammar.verb verb_tokens result reader.old reader.new }
 {

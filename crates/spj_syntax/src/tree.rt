@@ -61,7 +61,7 @@ pub struct Select {
 }
 
 /// What is asked of a query: its certain rows, its possible rows, those of them that aren't certain, its class, its plan, its
-/// certain rows as one query in SQL, why a row isn't certain, or which rows are against it.
+/// certain rows as one query in SQL, why a row isn't certain, which rows are against it, or a certificate that it is certain.
 #[derive(Drop)]
 pub enum Verb {
     Ask,
@@ -72,6 +72,7 @@ pub enum Verb {
     Sql,
     Explain { row: Row },
     Against { row: Row },
+    Prove { row: Row },
 }
 
 /// What a `range` asks of the rows of a table: their number, or the sum, the least or the greatest value of a column.
@@ -93,14 +94,23 @@ pub enum RawJoinGoal {
     Max(RawCol),
 }
 
-/// A `range` over two tables or more, as it is written: what is asked, the tables, and the conditions.
+/// A `range` over two tables or more, as it is written: what is asked, the tables, the conditions, and the column by whose
+/// values witnesses are grouped.
 #[derive(Drop)]
 pub struct RawRange {
     pub goal: RawJoinGoal,
     pub tables: Items<Name>,
     pub conds: Items<RawCond>,
+    pub group: Option<RawCol>,
     pub ghost some_other: { 2 ≤ length tables },
     pub ghost few: { length conds ≤ most_items },
+}
+
+/// A block of a table as it is written: one row or more, by their values.
+#[derive(Drop)]
+pub struct RawBlock {
+    pub table: Name,
+    pub rows: Items<Row>,
 }
 
 /// A statement of the script language.

@@ -1,6 +1,5 @@
 use Rattle.std.proofs.Common.{take}
-use Rattle.spj_syntax.specs.Parsed.{lexemes}
-use Rattle.spj_syntax.specs.Reading.{PlainFit}
+use Rattle.spj_syntax.specs.Parsed.{lexemes, PlainFit}
 use Rattle.spj_syntax.proofs.parser.first_unfit.Given as goal
 
 abbrev pub invariant-loop-token : goal.invariant-loop-token

@@ -8,14 +8,8 @@ returns-in_err-word-clause-reads c = exit _ _ c.from_residual.ensures.1 (fails_f
 pub returns-in_err-word-2-clause-reads : goal.returns-in_err-word-2-clause-reads
 returns-in_err-word-2-clause-reads c = exit _ _ c.from_residual-in_err-word-2.ensures.1 (fails_then c.in_ok-word.ensures (fails_first c.in_err-word-2.ensures))
 
-pub returns-in_err-table-clause-reads : goal.returns-in_err-table-clause-reads
-returns-in_err-table-clause-reads c = exit _ _ c.from_residual-in_err-table.ensures.1 (fails_then c.in_ok-word.ensures (fails_then c.in_ok-word-2.ensures (fails_first c.in_err-table.ensures.reads)))
-
-pub returns-in_err-word-3-clause-reads : goal.returns-in_err-word-3-clause-reads
-returns-in_err-word-3-clause-reads c = exit _ _ c.from_residual-in_err-word-3.ensures.1 (fails_then c.in_ok-word.ensures (fails_then c.in_ok-word-2.ensures (fails_then c.in_ok-table.ensures.reads (fails_first c.in_err-word-3.ensures))))
-
-pub returns-in_err-rows-clause-reads : goal.returns-in_err-rows-clause-reads
-returns-in_err-rows-clause-reads c = exit _ _ c.from_residual-in_err-rows.ensures.1 (fails_then c.in_ok-word.ensures (fails_then c.in_ok-word-2.ensures (fails_then c.in_ok-table.ensures.reads (fails_then c.in_ok-word-3.ensures c.in_err-rows.ensures.reads))))
+pub returns-in_err-raw-clause-reads : goal.returns-in_err-raw-clause-reads
+returns-in_err-raw-clause-reads c = exit _ _ c.from_residual-in_err-raw.ensures.1 (fails_then c.in_ok-word.ensures (fails_then c.in_ok-word-2.ensures c.in_err-raw.ensures.reads))
 
 pub returns-clause-reads : goal.returns-clause-reads
-returns-clause-reads c = took_both c.in_ok-word.ensures (took_both c.in_ok-word-2.ensures (took_both c.in_ok-table.ensures.reads (took_both c.in_ok-word-3.ensures c.in_ok-rows.ensures.reads refl) refl) refl) refl
+returns-clause-reads c = took_both c.in_ok-word.ensures (took_both c.in_ok-word-2.ensures c.in_ok-raw.ensures.reads refl) refl
