@@ -3,7 +3,8 @@ use Rattle.std.proofs.Common.{ℕ, List, [], ◌∷◌, arith}
 use Rattle.std.specs.Prelude.{ℤ, ◌+ℤ◌, ◌≤ℤ◌}
 use Rattle.std.specs.List.{AllZip}
 use Rattle.std.proofs.lemmas.Int.{ints}
-use Rattle.range_join.specs.Firsts.{Span, StandsIn}
+use Rattle.range_join.specs.declared.spans.Span.{Span}
+use Rattle.range_join.specs.Firsts.{StandsIn}
 use Rattle.range_join.specs.Bounds.{IsLeastOf, IsMostOf}
 use Rattle.range_join.specs.Worths.{sum_of}
 

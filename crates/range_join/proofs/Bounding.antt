@@ -10,7 +10,8 @@ use Rattle.cqa_model.specs.Database.{Table, IsDatabase, row_total, stored}
 use Rattle.join_access.proofs.Naming.{zip-length}
 use Rattle.range_ask.proofs.Blocked.{parted-few}
 use Rattle.range_ask.proofs.Lists.{zip-map}
-use Rattle.range_join.specs.Firsts.{Span, IsFirst, IsStrictOrder, AreFirsts, spans_at, spans_from, blocks_at}
+use Rattle.range_join.specs.declared.spans.Span.{Span}
+use Rattle.range_join.specs.Firsts.{IsFirst, IsStrictOrder, AreFirsts, spans_at, spans_from, blocks_at}
 use Rattle.range_join.specs.Bounds.{IsLeastOf, IsMostOf, AreLeastPlaces, AreMostPlaces}
 
 not-itself : (a : ℤ) → lt_z a a ≡ false
@@ -48,7 +49,7 @@ spans-length : (n : ℕ) (blocks : List (List (List Value))) → length (spans_f
 spans-length n [] = refl
 spans-length n (b ∷ blocks) = ap suc (spans-length (n + length b) blocks)
 
-rows-few : (db : List Table) (t : ℕ) → length (slice_index_or (stored db) t []) ≤ row_total db
+pub rows-few : (db : List Table) (t : ℕ) → length (slice_index_or (stored db) t []) ≤ row_total db
 rows-few [] t = omega arith
 rows-few (table ∷ db) zero = omega arith
 rows-few (table ∷ db) (suc t) = let l = rows-few db t in omega (arith, l)

@@ -6,7 +6,7 @@ use Rattle.table_blocks.specs.Tables.{rows_at}
 use Rattle.range_join.specs.declared.carriers.Extreme.{Extreme}
 use Rattle.range_join.specs.declared.carriers.Extreme.TheVariants.{Least, Greatest}
 use Rattle.range_join.specs.declared.peaks.Peaks.{Peaks}
-use Rattle.range_join.specs.Peaks.{best_at, AreBest, ArePeaks, IsGreatestChoice, IsLeastChoice}
+use Rattle.range_join.specs.Peaks.{end_places, best_at, AreBest, ArePeaks, IsGreatestChoice, IsLeastChoice}
 use Rattle.range_join.proofs.Carrying.{best-there}
 use Rattle.range_join.proofs.Choosing.{greatest-peaks, least-peaks}
 
@@ -16,15 +16,15 @@ if_ok (Err e) P Q f h = tt
 
 module _ (db : List Table) (table at : ℕ) (has : ℕ → Value → Type 0) (way : Extreme) (col : ℕ) (bests slice : List (Option (Bor (List Value)))) (same : table ≡ at) where
   pub found-least : way ≡ Least → slice ≡ bests → length bests ≡ length (rows_at db at) → AreBest way has (length bests) (best_at col bests) → (peaks : Peaks) →
-      IsLeastChoice (best_at col slice) (length slice) db table peaks → ArePeaks db at way has peaks
+      IsLeastChoice (best_at col slice) (length slice) db table (end_places peaks) → ArePeaks db at way has (end_places peaks)
   found-least is read size are peaks h =
-      subst (λ w. ArePeaks db at w has peaks) (sym is)
-      (least-peaks db at has (length bests) size (best_at col bests) peaks (subst (λ w. AreBest w has (length bests) (best_at col bests)) is are) (best-there col bests)
-      (subst (λ s. IsLeastChoice (best_at col s) (length s) db at peaks) read (subst (λ t. IsLeastChoice (best_at col slice) (length slice) db t peaks) same h)))
+      subst (λ w. ArePeaks db at w has (end_places peaks)) (sym is)
+      (least-peaks db at has (length bests) size (best_at col bests) (end_places peaks) (subst (λ w. AreBest w has (length bests) (best_at col bests)) is are) (best-there col bests)
+      (subst (λ s. IsLeastChoice (best_at col s) (length s) db at (end_places peaks)) read (subst (λ t. IsLeastChoice (best_at col slice) (length slice) db t (end_places peaks)) same h)))
 
   pub found-greatest : way ≡ Greatest → slice ≡ bests → length bests ≡ length (rows_at db at) → AreBest way has (length bests) (best_at col bests) → (peaks : Peaks) →
-      IsGreatestChoice (best_at col slice) db table peaks → ArePeaks db at way has peaks
+      IsGreatestChoice (best_at col slice) db table (end_places peaks) → ArePeaks db at way has (end_places peaks)
   found-greatest is read size are peaks h =
-      subst (λ w. ArePeaks db at w has peaks) (sym is)
-      (greatest-peaks db at has (length bests) size (best_at col bests) peaks (subst (λ w. AreBest w has (length bests) (best_at col bests)) is are)
-      (subst (λ s. IsGreatestChoice (best_at col s) db at peaks) read (subst (λ t. IsGreatestChoice (best_at col slice) db t peaks) same h)))
+      subst (λ w. ArePeaks db at w has (end_places peaks)) (sym is)
+      (greatest-peaks db at has (length bests) size (best_at col bests) (end_places peaks) (subst (λ w. AreBest w has (length bests) (best_at col bests)) is are)
+      (subst (λ s. IsGreatestChoice (best_at col s) db at (end_places peaks)) read (subst (λ t. IsGreatestChoice (best_at col slice) db t (end_places peaks)) same h)))

@@ -8,8 +8,9 @@ use Rattle.std.proofs.lemmas.Grind.{flat_map-append}
 use Rattle.cqa_model.specs.Blocks.{AreBlocks}
 use Rattle.range_ask.specs.Walking.{rows_of_blocks, IsNextBlock, IsReading}
 use Rattle.range_ask.proofs.Read.{next-is}
-use Rattle.range_join.specs.Firsts.{Span, spans_from, IsStrictOrder, IsFirst}
-use Rattle.range_join.proofs.Spans.{spans-push}
+use Rattle.range_join.specs.declared.spans.Span.{Span}
+use Rattle.range_join.specs.Firsts.{spans_from, IsStrictOrder, IsFirst}
+use Rattle.range_join.proofs.Spots.{spans-push}
 
 -- of the first n places from one on none goes before that one
 pub record IsFirstOf (before : ℕ → ℕ → Bool) (start n at : ℕ) : Type 0 where

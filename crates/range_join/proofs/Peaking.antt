@@ -17,7 +17,8 @@ use Rattle.range_ask.proofs.Ordered.{before-self, before-trans, lt-before, lt-be
 use Rattle.range_ask.specs.declared.way.Way.TheVariants.{Up, Down}
 use Rattle.range_join.specs.declared.carriers.Extreme.{Extreme}
 use Rattle.range_join.specs.declared.carriers.Extreme.TheVariants.{Least, Greatest}
-use Rattle.range_join.specs.Firsts.{Span, StandsIn, IsStrictOrder, IsFirst}
+use Rattle.range_join.specs.declared.spans.Span.{Span}
+use Rattle.range_join.specs.Firsts.{StandsIn, IsStrictOrder, IsFirst}
 use Rattle.range_join.specs.Peaks.{NoFurther, lags, further, IsPeak, HasSome, value_end, HasEnd, AreBest, rank, rank_of, IsTopPlace}
 
 -- ---- the order of values
@@ -68,7 +69,7 @@ not_lt Less p e n = ap is_lt e
 not_lt Equal p e n = ap is_lt e
 not_lt Greater p e n = absurd (n refl)
 
-lags-not : (way : Extreme) (a b : Option Value) → Reaches way b a → lags way a b ≡ false
+pub lags-not : (way : Extreme) (a b : Option Value) → Reaches way b a → lags way a b ≡ false
 lags-not way a None r = refl
 lags-not way None (Some y) r = absurd r
 lags-not Least (Some x) (Some y) r = not_gt (value_cmp x y) r

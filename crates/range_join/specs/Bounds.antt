@@ -5,8 +5,9 @@ use Rattle.cqa_model.specs.Database.{Table}
 use Rattle.cqa_model.specs.declared.aggregate.End.TheVariants.{Number}
 use Rattle.range_ask.specs.declared.range.Range.{Range}
 use Rattle.range_ask.specs.Picks.{IsInBlocks}
-use Rattle.range_join.specs.Firsts.{Span, StandsIn, spans_at, blocks_at}
-use Rattle.range_join.specs.Worths.{number_at, sum_of}
+use Rattle.range_join.specs.declared.spans.Span.{Span}
+use Rattle.range_join.specs.Firsts.{StandsIn, spans_at, blocks_at}
+use Rattle.range_join.specs.Worths.{sum_of}
 use Rattle.table_blocks.specs.Tables.{names_in}
 
 -- a place of a block that adds least of its places, or most
@@ -28,8 +29,8 @@ pub record AreMostPlaces (w : ℕ → ℤ) (db : List Table) (table : ℕ) (plac
   pub each : AllZip (IsMostOf w) (spans_at db table) places
 
 -- both ends are what the places of each add up to, with the names of the rows there
-pub record IsSumRange (worths : List ℤ) (table : ℕ) (low high : List ℕ) (range : Range) : Type 0 where
-  pub least : range.least ≡ Number (sum_of (number_at worths) low)
+pub record IsSumRange (w : ℕ → ℤ) (table : ℕ) (low high : List ℕ) (range : Range) : Type 0 where
+  pub least : range.least ≡ Number (sum_of w low)
   pub low_is : range.low ≡ names_in table low
-  pub greatest : range.greatest ≡ Number (sum_of (number_at worths) high)
+  pub greatest : range.greatest ≡ Number (sum_of w high)
   pub high_is : range.high ≡ names_in table high

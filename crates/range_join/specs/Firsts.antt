@@ -6,12 +6,9 @@ use Rattle.cqa_model.specs.Database.{Table}
 use Rattle.row_cursor.specs.Blocks.{blocks_of}
 use Rattle.table_blocks.specs.Tables.{rows_at, key_at}
 use Rattle.range_ask.specs.Picks.{IsInBlocks}
+use Rattle.range_join.specs.declared.spans.Span.{Span}
 
--- the places of the rows of a block: from one on, up to the one before another
-pub record Span : Type 0 where
-  pub from : ℕ
-  pub behind : ℕ
-
+-- a place of a block
 abbrev pub StandsIn : Span → ℕ → Type 0
 StandsIn span p = (span.from ≤ p) × (p < span.behind)
 

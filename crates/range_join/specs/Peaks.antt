@@ -101,44 +101,55 @@ AreFurthest way best db table places = AreFirsts (λ p q. lags way (best q) (bes
 abbrev pub AreAlone : ℕ → (ℕ → Option Value) → List Table → ℕ → List ℕ → Type 0
 AreAlone top best db table places = AreFirsts (λ p q. nat_lt (rank top best p) (rank top best q)) db table places
 
+-- both ends, for each the places of rows, one of each block
+pub record EndPlaces : Type 0 where
+  pub least : End
+  pub low : List ℕ
+  pub greatest : End
+  pub high : List ℕ
+
+-- those that were found
+abbrev pub end_places : Peaks → EndPlaces
+end_places peaks = record { least = peaks.least; low = peaks.low.items; greatest = peaks.greatest; high = peaks.high.items }
+
 -- the least greatest value is that of the places whose values are least, and the greatest one that of those whose values are greatest
-pub record IsGreatestChoice (best : ℕ → Option Value) (db : List Table) (table : ℕ) (peaks : Peaks) : Type 0 where
-  pub low : AreNearest Greatest best db table peaks.low.items
-  pub high : AreFurthest Greatest best db table peaks.high.items
-  pub least : peaks.least ≡ value_end (peak_from Greatest None best peaks.low.items)
-  pub greatest : peaks.greatest ≡ value_end (peak_from Greatest None best peaks.high.items)
+pub record IsGreatestChoice (best : ℕ → Option Value) (db : List Table) (table : ℕ) (ends : EndPlaces) : Type 0 where
+  pub low : AreNearest Greatest best db table ends.low
+  pub high : AreFurthest Greatest best db table ends.high
+  pub least : ends.least ≡ value_end (peak_from Greatest None best ends.low)
+  pub greatest : ends.greatest ≡ value_end (peak_from Greatest None best ends.high)
 
 -- where the places whose values are greatest, or that have none, have a value together: it is the greatest least one
-pub record IsSureChoice (best : ℕ → Option Value) (db : List Table) (table : ℕ) (value : Value) (high : List ℕ) (peaks : Peaks) : Type 0 where
-  pub low : AreFurthest Least best db table peaks.low.items
-  pub high_is : peaks.high.items ≡ high
-  pub least : peaks.least ≡ value_end (peak_from Least None best peaks.low.items)
-  pub greatest : peaks.greatest ≡ Held value
+pub record IsSureChoice (best : ℕ → Option Value) (db : List Table) (table : ℕ) (value : Value) (high : List ℕ) (ends : EndPlaces) : Type 0 where
+  pub low : AreFurthest Least best db table ends.low
+  pub high_is : ends.high ≡ high
+  pub least : ends.least ≡ value_end (peak_from Least None best ends.low)
+  pub greatest : ends.greatest ≡ Held value
 
 -- where they have none there is no least value, and the greatest of all is least where no other block has one
-pub record IsLooseChoice (best : ℕ → Option Value) (n : ℕ) (db : List Table) (table : ℕ) (low : List ℕ) (peaks : Peaks) : Type 0 where
+pub record IsLooseChoice (best : ℕ → Option Value) (n : ℕ) (db : List Table) (table : ℕ) (low : List ℕ) (ends : EndPlaces) : Type 0 where
   pub top : ℕ
   pub is_top : IsTopPlace Greatest best n top
-  pub high : AreAlone top best db table peaks.high.items
-  pub low_is : peaks.low.items ≡ low
-  pub least : peaks.least ≡ Empty
-  pub greatest : peaks.greatest ≡ value_end (best top)
+  pub high : AreAlone top best db table ends.high
+  pub low_is : ends.low ≡ low
+  pub least : ends.least ≡ Empty
+  pub greatest : ends.greatest ≡ value_end (best top)
 
 -- the one or the other
-abbrev pub IsLeastBy : (ℕ → Option Value) → ℕ → List Table → ℕ → List ℕ → Option Value → Peaks → Type 0
-IsLeastBy best n db table near None peaks = IsLooseChoice best n db table near peaks
-IsLeastBy best n db table near (Some value) peaks = IsSureChoice best db table value near peaks
+abbrev pub IsLeastBy : (ℕ → Option Value) → ℕ → List Table → ℕ → List ℕ → Option Value → EndPlaces → Type 0
+IsLeastBy best n db table near None ends = IsLooseChoice best n db table near ends
+IsLeastBy best n db table near (Some value) ends = IsSureChoice best db table value near ends
 
-pub record IsLeastChoice (best : ℕ → Option Value) (n : ℕ) (db : List Table) (table : ℕ) (peaks : Peaks) : Type 0 where
+pub record IsLeastChoice (best : ℕ → Option Value) (n : ℕ) (db : List Table) (table : ℕ) (ends : EndPlaces) : Type 0 where
   pub near : List ℕ
   pub near_are : AreNearest Least best db table near
-  pub by_near : IsLeastBy best n db table near (peak_from Least None best near) peaks
+  pub by_near : IsLeastBy best n db table near (peak_from Least None best near) ends
 
 -- both ends are had by one place of each block, and whichever place is taken of each block, its end lies between them
-pub record ArePeaks (db : List Table) (table : ℕ) (way : Extreme) (has : ℕ → Value → Type 0) (peaks : Peaks) : Type 0 where
+pub record ArePeaks (db : List Table) (table : ℕ) (way : Extreme) (has : ℕ → Value → Type 0) (ends : EndPlaces) : Type 0 where
   pub parted : IsInBlocks db table (blocks_at db table)
-  pub low_there : AreSpots db table peaks.low.items
-  pub high_there : AreSpots db table peaks.high.items
-  pub least_is : HasEnd way has peaks.low.items peaks.least
-  pub greatest_is : HasEnd way has peaks.high.items peaks.greatest
-  pub between : (places : List ℕ) (end : End) → AreSpots db table places → HasEnd way has places end → IsUpTo peaks.least end × IsUpTo end peaks.greatest
+  pub low_there : AreSpots db table ends.low
+  pub high_there : AreSpots db table ends.high
+  pub least_is : HasEnd way has ends.low ends.least
+  pub greatest_is : HasEnd way has ends.high ends.greatest
+  pub between : (places : List ℕ) (end : End) → AreSpots db table places → HasEnd way has places end → IsUpTo ends.least end × IsUpTo end ends.greatest

@@ -6,7 +6,7 @@ ghost use Rattle.cqa_model.specs.Database.{stored};
 ghost use Rattle.join_access.specs.Listing.{names_of};
 ghost use Rattle.table_blocks.specs.Tables.{rows_at};
 ghost use Rattle.range_ask.specs.Ranges.{cell};
-ghost use Rattle.range_join.specs.Peaks.{value_end, best_at, lags, peak_from, rank, rank_of, held_value, AreAlone, AreFurthest, AreNearest, ArePeaks, GivesValue, IsGreatestChoice, IsLeastChoice, IsLooseChoice, IsSureChoice, IsTopPlace};
+ghost use Rattle.range_join.specs.Peaks.{end_places, value_end, best_at, lags, peak_from, rank, rank_of, held_value, AreAlone, AreFurthest, AreNearest, ArePeaks, GivesValue, IsGreatestChoice, IsLeastChoice, IsLooseChoice, IsSureChoice, IsTopPlace};
 
 use crate::carriers::{Extreme, Look, carriers, further, lags};
 use crate::firsts::firsts;
@@ -126,7 +126,7 @@ fn peak<'a>(way: Extreme, col: u32, bests: &[Option<&'a Row>], places: &[u32]) -
 }
 
 /// The value of a row in a column as an end.
-fn end_of(alloc: Global, col: u32, row: Option<&Row>) -> Result<End, NoMemory>
+pub(crate) fn end_of(alloc: Global, col: u32, row: Option<&Row>) -> Result<End, NoMemory>
     ensures { IfOk result (λ end. end ≡ value_end (held_value col row.entry)) }
 {
     match row {
@@ -155,7 +155,7 @@ fn greatest_peaks(
 ) -> Result<Peaks, NoMemory>
     requires there { table < length db.now }
     requires size { length bests.now ≡ length (rows_at db.now table) }
-    ensures { IfOk result (IsGreatestChoice (best_at col bests.now) db.now table) }
+    ensures { IfOk result (λ peaks. IsGreatestChoice (best_at col bests.now) db.now table (end_places peaks)) }
 {
     let way = Extreme::Greatest;
     let low = nearest(alloc, db, table, way, col, bests)?;
@@ -183,7 +183,7 @@ fn sure_peaks(
 ) -> Result<Peaks, NoMemory>
     requires there { table < length db.now }
     requires size { length bests.now ≡ length (rows_at db.now table) }
-    ensures { IfOk result (IsSureChoice (best_at col bests.now) db.now table (cell best.now col) high.items) }
+    ensures { IfOk result (λ peaks. IsSureChoice (best_at col bests.now) db.now table (cell best.now col) high.items (end_places peaks)) }
 {
     let low = furthest(alloc, db, table, Extreme::Least, col, bests)?;
     let least = end_of(alloc, col, peak(Extreme::Least, col, bests, &low))?;
@@ -208,7 +208,7 @@ fn loose_peaks(
 ) -> Result<Peaks, NoMemory>
     requires there { table < length db.now }
     requires size { length bests.now ≡ length (rows_at db.now table) }
-    ensures { IfOk result (IsLooseChoice (best_at col bests.now) (length bests.now) db.now table low.items) }
+    ensures { IfOk result (λ peaks. IsLooseChoice (best_at col bests.now) (length bests.now) db.now table low.items (end_places peaks)) }
 {
     let top = top_of(Extreme::Greatest, col, bests);
     let high = alone(alloc, db, table, top, bests)?;
@@ -231,7 +231,7 @@ fn least_peaks(
 ) -> Result<Peaks, NoMemory>
     requires there { table < length db.now }
     requires size { length bests.now ≡ length (rows_at db.now table) }
-    ensures { IfOk result (IsLeastChoice (best_at col bests.now) (length bests.now) db.now table) }
+    ensures { IfOk result (λ peaks. IsLeastChoice (best_at col bests.now) (length bests.now) db.now table (end_places peaks)) }
 {
     let near = nearest(alloc, db, table, Extreme::Least, col, bests)?;
     match peak(Extreme::Least, col, bests, &near) {
@@ -253,7 +253,7 @@ pub(crate) fn find_peaks(
 ) -> Result<Peaks, NoMemory>
     requires lax { look.lax < length found.now.bound.now.query.now.atoms }
     requires atom { look.atom < length found.now.bound.now.query.now.atoms }
-    ensures { IfOk result (ArePeaks found.now.bound.now.db.now (atom_at found.now.bound.now.query.now look.lax).table look.way (GivesValue (rows_of found.now.bound.now.query.now (stored found.now.bound.now.db.now) look.atom) (names_of found.now.list) look.lax look.atom look.col)) }
+    ensures { IfOk result (λ peaks. ArePeaks found.now.bound.now.db.now (atom_at found.now.bound.now.query.now look.lax).table look.way (GivesValue (rows_of found.now.bound.now.query.now (stored found.now.bound.now.db.now) look.atom) (names_of found.now.list) look.lax look.atom look.col) (end_places peaks)) }
 {
     let bests = carriers(alloc, found, look)?;
     let db = found.bound.db;

@@ -1,5 +1,5 @@
 use Rattle.std.proofs.Common.{◌<◌, Contains, sym, subst}
-use Rattle.range_join.proofs.Spans.{firsts-below}
+use Rattle.range_join.proofs.Spots.{firsts-below}
 use Rattle.range_join.proofs.peaks.least_peaks.Goals as goal
 
 pub peak-requires : goal.peak-requires

@@ -17,7 +17,8 @@ use Rattle.range_ask.specs.Walking.{rows_of_blocks}
 use Rattle.range_ask.proofs.Chosen.{place}
 use Rattle.range_ask.proofs.Lists.{single-sorted, none-sorted, zip-map}
 use Rattle.range_ask.proofs.Picked.{picks_are_repairs}
-use Rattle.range_join.specs.Firsts.{Span, StandsIn, spans_from, spans_at, blocks_at, AreSpots, AreFirsts, IsFirst}
+use Rattle.range_join.specs.declared.spans.Span.{Span}
+use Rattle.range_join.specs.Firsts.{StandsIn, spans_from, spans_at, blocks_at, AreSpots, AreFirsts, IsFirst}
 
 -- one block more
 pub spans-push : (n : ℕ) (front : List (List (List Value))) (block : List (List Value)) →
