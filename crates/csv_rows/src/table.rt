@@ -4,7 +4,8 @@ ghost use Rattle.std.specs.Prelude.{◌≡◌, ◌++◌, IfOk, OnOk, not};
 ghost use Rattle.std.specs.List.{flat_map, list_any};
 ghost use Rattle.csv_rows.specs.Ends.{other_rows, plain_rows, row_has_end};
 ghost use Rattle.csv_rows.specs.Texts.{rows_bytes};
-ghost use Rattle.csv_rows.specs.Dumps.{copy_text, create_text, create_words, insert_text, dump_of_table};
+ghost use Rattle.cqa_model.specs.Text.{schema_bytes};
+ghost use Rattle.csv_rows.specs.Dumps.{copy_text, create_words, insert_text, dump_of_table};
 
 use crate::ends::row_has_end;
 use crate::writing::append_block;
@@ -30,19 +31,22 @@ pub fn append_table(
 {
     let mut out = text;
     append_create(schema, &mut out)?;
+    out.extend_from_slice(b";\n")?;
     append_copy(alloc, &schema.name, rows, &mut out)?;
     append_inserts(&schema.name, rows, &mut out)?;
     Ok(out)
 }
 
-/// Appends the statement that makes a table.
-fn append_create(schema: &Schema, out: &mut Vec<u8>) -> Result<(), NoMemory>
-    ensures { OnOk result (out.new.items ≡ out.old.items ++ create_text schema.now) }
+/// Appends the statement that makes a table, without its end.
+///
+/// # Errors
+///
+/// `NoMemory` where memory is refused.
+pub fn append_create(schema: &Schema, out: &mut Vec<u8>) -> Result<(), NoMemory>
+    ensures { OnOk result (out.new.items ≡ out.old.items ++ (create_words schema.now.strict ++ schema_bytes schema.now)) }
 {
     out.extend_from_slice(words_of(schema.strict).as_bytes())?;
-    schema_text(schema, out)?;
-    out.extend_from_slice(b";\n")?;
-    Ok(())
+    schema_text(schema, out)
 }
 
 /// What stands before the schema of a table that is made.

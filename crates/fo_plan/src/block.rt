@@ -42,8 +42,9 @@ fn block_with<'a>(db: &'a Database, table: u32, row: &Row) -> Rows<'a>
     block
 }
 
-/// The first block of the next atom's table all of whose rows hold.
-fn first_block<'a, 'x>(
+/// The first block, in block order, of the next atom's table all of whose rows fit and have the rest of the plan hold with
+/// them; `None` exactly where there is none. What is found of rests of the plan is remembered.
+pub fn first_block<'a, 'x>(
     db: &'a Database,
     step: &Step<'x>,
     row: &'x Row,
@@ -51,7 +52,8 @@ fn first_block<'a, 'x>(
 ) -> Option<Rows<'a>>
     requires db { step.now.course.now.setting.bound.now.db.now ≡ db.now }
     requires memo { IsRight step.now.course.now memo.old }
-    ensures { MatchOption result (SomeBlockFits (atom_key (query_of step.now) step.now.atom) (rows_of (query_of step.now) (stored_rows step.now) step.now.atom) (PlanHoldsWith step.now row.now) → ⊥) (λ block. SomeBlockFits (atom_key (query_of step.now) step.now.atom) (rows_of (query_of step.now) (stored_rows step.now) step.now.atom) (PlanHoldsWith step.now row.now) × IsFirstWith (atom_key (query_of step.now) step.now.atom) (rows_of (query_of step.now) (stored_rows step.now) step.now.atom) (PlanHoldsWith step.now row.now) block) }
+    ensures memo { IsRight step.now.course.now memo.new }
+    ensures block { MatchOption result (SomeBlockFits (atom_key (query_of step.now) step.now.atom) (rows_of (query_of step.now) (stored_rows step.now) step.now.atom) (PlanHoldsWith step.now row.now) → ⊥) (λ block. SomeBlockFits (atom_key (query_of step.now) step.now.atom) (rows_of (query_of step.now) (stored_rows step.now) step.now.atom) (PlanHoldsWith step.now row.now) × IsFirstWith (atom_key (query_of step.now) step.now.atom) (rows_of (query_of step.now) (stored_rows step.now) step.now.atom) (PlanHoldsWith step.now row.now) block) }
 {
     let blocks = Blocks::new(step, Some(row));
     let found = first_of(step, row, &blocks, memo);

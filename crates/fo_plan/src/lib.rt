@@ -13,7 +13,7 @@ mod paths;
 mod planned;
 mod ways;
 
-pub use block::block_of;
+pub use block::{block_of, first_block};
 pub use certain::answers;
 pub use holding::holds;
 pub use paths::paths_of;

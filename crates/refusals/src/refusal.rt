@@ -50,6 +50,8 @@ pub enum Refusal {
     KeyTaken { row: u32, kept: Row, fresh: Row },
     /// The table would be strict, and these different rows share the key that it would have.
     KeyBroken { first: Row, second: Row },
+    /// The row is certain by a plan, and its certificate, or a statement of it, would be longer than may be.
+    CertificateLimit,
     /// Of the tables of a `range` over several, this is the second that isn't strict: at most one may be so.
     NotStrict { name: Name },
 }

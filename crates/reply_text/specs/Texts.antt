@@ -8,7 +8,7 @@ use Rattle.cnf_form.specs.Writing.{proof_bytes}
 use Rattle.lrat_check.specs.Writing.{log_bytes}
 use Rattle.cqa_model.specs.Text.{schema_bytes}
 use Rattle.refusals.specs.declared.refusal.Refusal.{Refusal}
-use Rattle.refusals.specs.declared.refusal.Refusal.TheVariants.{BadByte, Syntax, StatementTooLong, UnknownTable, TableExists, UnknownColumn, AmbiguousColumn, SelfJoin, TypeMismatch, WrongArity, DuplicateColumn, BadKey, OutOfRange, TextTooLong, Unfinished, Limit, WitnessLimit, Spent, BadCsv, KeyTaken, KeyBroken, NotStrict}
+use Rattle.refusals.specs.declared.refusal.Refusal.TheVariants.{BadByte, Syntax, StatementTooLong, UnknownTable, TableExists, UnknownColumn, AmbiguousColumn, SelfJoin, TypeMismatch, WrongArity, DuplicateColumn, BadKey, OutOfRange, TextTooLong, Unfinished, Limit, WitnessLimit, Spent, BadCsv, KeyTaken, KeyBroken, CertificateLimit, NotStrict}
 use Rattle.refusals.specs.declared.refusal.Place.{Place}
 use Rattle.refusals.specs.declared.refusal.Place.TheVariants.{Cell, Condition}
 use Rattle.refusals.specs.declared.refusal.LimitKind.{LimitKind}
@@ -25,7 +25,7 @@ use Rattle.reply_text.specs.declared.reply.TableLine.{TableLine}
 use Rattle.reply_text.specs.declared.reply.ConflictLine.{ConflictLine}
 use Rattle.reply_text.specs.declared.reply.Proof.{Proof}
 use Rattle.reply_text.specs.declared.reply.Reply.{Reply}
-use Rattle.reply_text.specs.declared.reply.Reply.TheVariants.{Created, Altered, Inserted, Deleted, Copied, Rows, Classified, Steps, Sql, NoPlan, Rejected, Certain, Against, ByBlock, ByRefutation, Range, Groups, Tables, Contested, Conflicts, KeptLog, NoLog, Dumped, Refused}
+use Rattle.reply_text.specs.declared.reply.Reply.TheVariants.{Created, Altered, Inserted, Deleted, Copied, Rows, Classified, Steps, Sql, Certificate, NoPlan, Rejected, Certain, Against, ByBlock, ByRefutation, Range, Groups, Tables, Contested, Conflicts, KeptLog, NoLog, Dumped, Refused}
 
 -- row R column C, or condition K
 abbrev pub place_text : Place → List ℕ
@@ -81,6 +81,7 @@ refusal_parts (Spent row conflicts) = (codes "error 18 Spent ", row_bytes row ++
 refusal_parts (BadCsv number) = (codes "error 19 BadCsv record ", decimal number)
 refusal_parts (KeyTaken number kept fresh) = (codes "error 20 KeyTaken row ", decimal number ++ codes " " ++ row_bytes kept ++ codes " " ++ row_bytes fresh)
 refusal_parts (KeyBroken first second) = (codes "error 21 KeyBroken ", row_bytes first ++ codes " " ++ row_bytes second)
+refusal_parts CertificateLimit = (codes "error 22 CertificateLimit", [])
 refusal_parts (NotStrict name) = (codes "error 23 NotStrict ", name)
 
 -- the line of a refusal, without its line feed
@@ -204,6 +205,7 @@ reply_parts (Rows rows) = ([], rows_text rows)
 reply_parts (Classified class lines) = ([], classified_text class lines)
 reply_parts (Steps names) = ([], steps_text 0 names)
 reply_parts (Sql text) = ([], text)
+reply_parts (Certificate text) = ([], text)
 reply_parts NoPlan = (codes "no plan", [])
 reply_parts (Rejected lines) = ([], rejected_text lines)
 reply_parts Certain = (codes "certain", [])
@@ -224,9 +226,10 @@ reply_parts (Refused refusal) = ([], refusal_text refusal)
 abbrev pub reply_lines : Reply → List ℕ
 reply_lines reply = (reply_parts reply).0 ++ (reply_parts reply).1
 
--- what ends the last line of a reply: a line feed, but of a query in SQL, a dump and a proof, whose lines have theirs
+-- what ends the last line of a reply: a line feed, but of a query in SQL, a certificate, a dump and a proof, whose lines have theirs
 abbrev pub last_end : Reply → List ℕ
 last_end (Sql text) = []
+last_end (Certificate text) = []
 last_end (Dumped script) = []
 last_end (KeptLog proof) = []
 last_end (ByRefutation proof) = []

@@ -48,6 +48,7 @@ fn refusal_words(refusal: &Refusal) -> &'static str
         Refusal::BadCsv { .. } => "error 19 BadCsv record ",
         Refusal::KeyTaken { .. } => "error 20 KeyTaken row ",
         Refusal::KeyBroken { .. } => "error 21 KeyBroken ",
+        Refusal::CertificateLimit => "error 22 CertificateLimit",
         Refusal::NotStrict { .. } => "error 23 NotStrict ",
     }
 }
@@ -73,7 +74,7 @@ fn append_subject(refusal: &Refusal, out: &mut Vec<u8>) -> Result<(), NoMemory>
         | Refusal::NotStrict { name } => append_name(name, out),
         Refusal::UnknownColumn { table, name } => append_column(table, name, out),
         Refusal::TypeMismatch { place } => append_place(place, out),
-        Refusal::Unfinished => Ok(()),
+        Refusal::Unfinished | Refusal::CertificateLimit => Ok(()),
         Refusal::Limit { what } => append_limit(what, out),
         Refusal::WitnessLimit { row } => row_text(row, out),
         Refusal::Spent { row, conflicts } => append_spent(row, *conflicts, out),

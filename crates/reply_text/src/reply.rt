@@ -32,6 +32,8 @@ pub enum Reply {
     Steps(Items<Name>),
     /// The certain rows of a query as one query in SQL.
     Sql(Items<u8>),
+    /// The row is certain: a script of blocks that shows it without the database.
+    Certificate(Items<u8>),
     /// The query has no plan.
     NoPlan,
     /// The row is not certain: a repair of the query's tables that holds no witness of it, by its rows in the blocks

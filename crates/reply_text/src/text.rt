@@ -37,12 +37,17 @@ fn append_reply(alloc: Global, reply: &Reply, out: &mut Vec<u8>) -> Result<(), N
     append_words(last_end(reply), out)
 }
 
-/// What ends the last line of a reply: a line feed, but of a query in SQL, a dump and a proof, whose lines have theirs.
+/// What ends the last line of a reply: a line feed, but of a query in SQL, a certificate, a dump and a proof, whose lines have
+/// theirs.
 fn last_end(reply: &Reply) -> &'static str
     ensures { result.now ≡ last_end reply.now }
 {
     match reply {
-        Reply::Sql(_) | Reply::Dumped(_) | Reply::KeptLog(_) | Reply::ByRefutation(_) => "",
+        Reply::Sql(_)
+        | Reply::Certificate(_)
+        | Reply::Dumped(_)
+        | Reply::KeptLog(_)
+        | Reply::ByRefutation(_) => "",
         _ => "\n",
     }
 }
@@ -73,6 +78,7 @@ fn append_short(reply: &Reply, out: &mut Vec<u8>) -> Result<(), NoMemory>
         | Reply::Classified { .. }
         | Reply::Steps(_)
         | Reply::Sql(_)
+        | Reply::Certificate(_)
         | Reply::Rejected(_)
         | Reply::Against(_)
         | Reply::ByBlock { .. }
@@ -95,7 +101,9 @@ fn append_long(alloc: Global, reply: &Reply, out: &mut Vec<u8>) -> Result<(), No
         Reply::Rows(rows) => append_rows(rows.as_slice(), out),
         Reply::Classified { class, lines } => append_classified(*class, lines.as_slice(), out),
         Reply::Steps(names) => append_steps(names.as_slice(), out),
-        Reply::Sql(bytes) | Reply::Dumped(bytes) => append_bytes(bytes.as_slice(), out),
+        Reply::Sql(bytes) | Reply::Certificate(bytes) | Reply::Dumped(bytes) => {
+            append_bytes(bytes.as_slice(), out)
+        }
         Reply::Rejected(lines) => append_rejected(lines.as_slice(), out),
         Reply::Against(lines) => append_against(lines.as_slice(), out),
         Reply::ByBlock { table, key } => append_by_block(table, key, out),

@@ -15,8 +15,8 @@ use Rattle.fo_plan.proofs.block.first_block.Goals as goal
 pub first_of-found-requires-clause-sought : goal.first_of-found-requires-clause-sought
 first_of-found-requires-clause-sought c = (held-reached c.args.step.now c.new-blocks.result c.args.row.now c.new-blocks.ensures).0
 
-pub returns-in_err-block : goal.returns-in_err-block
-returns-in_err-block c =
+pub returns-in_err-block-clause-block : goal.returns-in_err-block-clause-block
+returns-in_err-block-clause-block c =
     let step = c.args.step.now in
     let key = atom_key (query_of step) step.atom in
     let rows = rows_of (query_of step) (stored_rows step) step.atom in
@@ -35,8 +35,8 @@ block_with-requires-clause-stored c =
     let is = rows-of-atom setting.bound.now.query.now setting.bound.now.db.now step.atom table (key_at setting.bound.now.db.now table) setting.bound.now.fits step.there c.table_of-table.ensures refl (rows_at setting.bound.now.db.now table) refl in
     subst (λ db. Contains (rows_at db table) x) c.requires.db (subst (λ rows. Contains rows x) (sym is) (subst (Contains (rows_of (query_of step) (stored_rows step) step.atom)) (get_or_from_slice_get found 0 x [] c.get.ensures) stored))
 
-pub returns : goal.returns
-returns c =
+pub returns-clause-block : goal.returns-clause-block
+returns-clause-block c =
     let step = c.args.step.now in
     let setting = step.course.now.setting in
     let table = c.table_of-table.result in

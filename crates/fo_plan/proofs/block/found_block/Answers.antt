@@ -21,4 +21,4 @@ returns-in-len1-up c =
     let db = course.setting.bound.now.db.now in
     let q = course.setting.bound.now.query.now in
     let row = c.args.row.now in
-    subst (λ plan. MatchOption c.first_block-found.result (HoldsOver db q row plan → ⊥) (λ block. HoldsOver db q row plan × IsFirstBlock db q row plan block)) (sym (plan-split course.order.now c.in-len1-up.len_at_least)) c.first_block-found.ensures
+    subst (λ plan. MatchOption c.first_block-found.result (HoldsOver db q row plan → ⊥) (λ block. HoldsOver db q row plan × IsFirstBlock db q row plan block)) (sym (plan-split course.order.now c.in-len1-up.len_at_least)) c.first_block-found.ensures.block

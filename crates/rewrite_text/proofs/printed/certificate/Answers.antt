@@ -1,0 +1,17 @@
+use Rattle.cqa_model.specs.Variables.{whole}
+use Rattle.cqa_model.proofs.Elimination.{plan-eliminates}
+use Rattle.fo_rewrite.proofs.Distinct.{plan-atoms}
+use Rattle.rewrite_text.proofs.Made.{made_passes}
+use Rattle.rewrite_text.proofs.printed.certificate.Goals as goal
+
+pub paths_of-requires : goal.paths_of-requires
+paths_of-requires c = plan-atoms c.args.bound.now.query.now c.args.plan.now.order (plan-eliminates c.args.bound.now.query.now (whole c.args.bound.now.query.now) c.args.plan.now.order c.requires.plan)
+
+pub by_paths-text-requires-clause-plan : goal.by_paths-text-requires-clause-plan
+by_paths-text-requires-clause-plan c = plan-atoms c.args.bound.now.query.now c.args.plan.now.order (plan-eliminates c.args.bound.now.query.now (whole c.args.bound.now.query.now) c.args.plan.now.order c.requires.plan)
+
+pub returns-clause-passes : goal.returns-clause-passes
+returns-clause-passes c = λ nodes made. made_passes c.args.bound.now.db.now c.args.bound.now.query.now c.args.row.now c.args.plan.now.order nodes c.args.bound.now.database c.args.bound.now.fits c.requires.long c.requires.plan made
+
+pub returns-in_err-paths-clause-passes : goal.returns-in_err-paths-clause-passes
+returns-in_err-paths-clause-passes c = λ nodes made. made_passes c.args.bound.now.db.now c.args.bound.now.query.now c.args.row.now c.args.plan.now.order nodes c.args.bound.now.database c.args.bound.now.fits c.requires.long c.requires.plan made
