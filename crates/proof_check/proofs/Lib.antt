@@ -1,2 +1,2 @@
 -- Lemmas of replies.
-mod Replies
+pub mod Replies

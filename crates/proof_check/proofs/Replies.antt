@@ -21,8 +21,8 @@ use Rattle.lrat_check.specs.Failing.{Refused}
 use Rattle.lrat_check.specs.Writing.{log_bytes}
 use Rattle.lrat_check.proofs.Exact.{not_both, one_first}
 use Rattle.lrat_check.proofs.RoundTrip as logs
-use Rattle.proof_check.specs.declared.reply.CheckReply.{CheckReply}
-use Rattle.proof_check.specs.declared.reply.CheckReply.TheVariants.{Verified, BadText, BadLog}
+use Rattle.proof_check.specs.declared.reply.ProofReply.{ProofReply}
+use Rattle.proof_check.specs.declared.reply.ProofReply.TheVariants.{Verified, BadText, BadLog}
 use Rattle.proof_check.specs.Verdicts.{Checks, ChecksLog, HasFormula, IsFaulty, IsUnsatisfiable, OneReply, PrintedIsVerified, log_in}
 
 same_ok : {A B : Type 0} (r : Result A B) (a b : A) → r ≡ Ok a → r ≡ Ok b → a ≡ b
@@ -49,7 +49,7 @@ same_formula bytes a b x y =
 -- ---- one reply
 
 -- the reply to a log over a formula is the reply to the bytes
-pub as_read : (bytes : List ℕ) (cnf : Cnf) (log : Result (List Step) ℕ) → HasFormula bytes cnf → log_in bytes cnf.vars ≡ log → (reply : CheckReply) → ChecksLog cnf log reply → Checks bytes reply
+pub as_read : (bytes : List ℕ) (cnf : Cnf) (log : Result (List Step) ℕ) → HasFormula bytes cnf → log_in bytes cnf.vars ≡ log → (reply : ProofReply) → ChecksLog cnf log reply → Checks bytes reply
 as_read bytes cnf (Ok steps) formula is Verified h = (cnf, steps, record { formula = formula; log = is }, h)
 as_read bytes cnf (Ok steps) formula is (BadText fault) h = absurd h
 as_read bytes cnf (Ok steps) formula is (BadLog fault) h = (cnf, steps, record { formula = formula; log = is }, h)
@@ -61,7 +61,7 @@ by_part bytes cnf formula line part.Log (a, f, e) =
     subst (λ log. ChecksLog cnf log (BadText (record { line = line; part = part.Log }))) (sym (subst (λ f. log_in bytes f.vars ≡ Err line) (same_formula bytes a cnf f formula) e)) refl
 
 -- the reply to the bytes is the reply to their log over their formula
-by_log : (bytes : List ℕ) (cnf : Cnf) → HasFormula bytes cnf → (reply : CheckReply) → Checks bytes reply → ChecksLog cnf (log_in bytes cnf.vars) reply
+by_log : (bytes : List ℕ) (cnf : Cnf) → HasFormula bytes cnf → (reply : ProofReply) → Checks bytes reply → ChecksLog cnf (log_in bytes cnf.vars) reply
 by_log bytes cnf formula Verified (a, steps, reads, done) =
     let same = same_formula bytes a cnf reads.formula formula in
     subst (λ log. ChecksLog cnf log Verified) (sym (subst (λ f. log_in bytes f.vars ≡ Ok steps) same reads.log)) (subst (λ f. Refutes f steps) same done)
@@ -70,7 +70,7 @@ by_log bytes cnf formula (BadLog fault) (a, steps, reads, done) =
     let same = same_formula bytes a cnf reads.formula formula in
     subst (λ log. ChecksLog cnf log (BadLog fault)) (sym (subst (λ f. log_in bytes f.vars ≡ Ok steps) same reads.log)) (subst (λ f. Refused f steps fault) same done)
 
-log_reply : (cnf : Cnf) (log : Result (List Step) ℕ) (a b : CheckReply) → ChecksLog cnf log a → ChecksLog cnf log b → a ≡ b
+log_reply : (cnf : Cnf) (log : Result (List Step) ℕ) (a b : ProofReply) → ChecksLog cnf log a → ChecksLog cnf log b → a ≡ b
 log_reply cnf (Ok steps) Verified Verified x y = refl
 log_reply cnf (Ok steps) Verified (BadText fault) x y = absurd y
 log_reply cnf (Ok steps) Verified (BadLog fault) x y = absurd (not_both cnf steps fault x y)
@@ -81,14 +81,14 @@ log_reply cnf (Ok steps) (BadLog fault) (BadLog other) x y = ap BadLog (one_firs
 log_reply cnf (Err line) a b x y = x ∙ sym y
 
 -- the formula that was read, or the line at fault in it
-abbrev FormulaOr : List ℕ → CheckReply → Type 0
+abbrev FormulaOr : List ℕ → ProofReply → Type 0
 FormulaOr bytes reply = ((cnf : Cnf) × HasFormula bytes cnf) ⊎ ((line : ℕ) × (reply ≡ BadText (record { line = line; part = part.Formula })) × (formula_in (lines bytes) ≡ Err line))
 
 fault_or : (bytes : List ℕ) (line : ℕ) (p : Part) → IsFaulty bytes p line → FormulaOr bytes (BadText (record { line = line; part = p }))
 fault_or bytes line part.Formula h = inr (line, refl, h)
 fault_or bytes line part.Log h = inl (h.0, h.1)
 
-formula_or : (bytes : List ℕ) (reply : CheckReply) → Checks bytes reply → FormulaOr bytes reply
+formula_or : (bytes : List ℕ) (reply : ProofReply) → Checks bytes reply → FormulaOr bytes reply
 formula_or bytes Verified h = inl (h.0, h.2.formula)
 formula_or bytes (BadText fault) h = fault_or bytes fault.line fault.part h
 formula_or bytes (BadLog fault) h = inl (h.0, h.2.formula)
@@ -106,12 +106,12 @@ one_reply bytes a b x y = elim (formula_or bytes a x) [
 ]
 
 -- the reply of a call that has read the formula
-pub from_log : (bytes rest : List ℕ) (cnf : Cnf) → HasFormula bytes cnf → lines rest ≡ after_lrat (lines bytes) → (result : Result CheckReply NoMemory) → IfOk result (ChecksLog cnf (log_of cnf.vars 1 (lines rest))) → IfOk result (Checks bytes)
+pub from_log : (bytes rest : List ℕ) (cnf : Cnf) → HasFormula bytes cnf → lines rest ≡ after_lrat (lines bytes) → (result : Result ProofReply NoMemory) → IfOk result (ChecksLog cnf (log_of cnf.vars 1 (lines rest))) → IfOk result (Checks bytes)
 from_log bytes rest cnf formula same (Ok reply) h = as_read bytes cnf (log_in bytes cnf.vars) formula refl reply (subst (λ ls. ChecksLog cnf (log_of cnf.vars 1 ls) reply) same h)
 from_log bytes rest cnf formula same (Err e) h = h
 
 -- whatever the reply of the bytes is, this is it
-pub only_reply : (bytes : List ℕ) (result : Result CheckReply NoMemory) → IfOk result (Checks bytes) → (reply : CheckReply) → Checks bytes reply → IfOk result (λ r. r ≡ reply)
+pub only_reply : (bytes : List ℕ) (result : Result ProofReply NoMemory) → IfOk result (Checks bytes) → (reply : ProofReply) → Checks bytes reply → IfOk result (λ r. r ≡ reply)
 only_reply bytes (Ok a) h reply c = one_reply bytes a reply h c
 only_reply bytes (Err e) h reply c = h
 
@@ -121,13 +121,13 @@ text_not_verified fault is = (cc)
 log_not_verified : (fault : LogFault) → BadLog fault ≡ Verified → ⊥
 log_not_verified fault is = (cc)
 
-verified_sound : (bytes : List ℕ) (reply : CheckReply) → Checks bytes reply → reply ≡ Verified → IsUnsatisfiable bytes
+verified_sound : (bytes : List ℕ) (reply : ProofReply) → Checks bytes reply → reply ≡ Verified → IsUnsatisfiable bytes
 verified_sound bytes Verified (cnf, steps, reads, done) is other formula =
     refutation_sound other steps (subst (λ f. Refutes f steps) (same_formula bytes cnf other reads.formula formula) done)
 verified_sound bytes (BadText fault) h is other formula = absurd (text_not_verified fault is)
 verified_sound bytes (BadLog fault) h is other formula = absurd (log_not_verified fault is)
 
-pub sound_reply : (bytes : List ℕ) (result : Result CheckReply NoMemory) → IfOk result (Checks bytes) → IfOk result (λ reply. reply ≡ Verified → IsUnsatisfiable bytes)
+pub sound_reply : (bytes : List ℕ) (result : Result ProofReply NoMemory) → IfOk result (Checks bytes) → IfOk result (λ reply. reply ≡ Verified → IsUnsatisfiable bytes)
 sound_reply bytes (Ok reply) h = verified_sound bytes reply h
 sound_reply bytes (Err e) h = h
 

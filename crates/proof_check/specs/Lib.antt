@@ -1,2 +1,2 @@
--- What the checker says of an input.
+-- What is said of a formula with a log.
 pub mod Verdicts

@@ -1,5 +1,5 @@
--- What the checker says of an input: of a formula, the line `lrat` and a log.
-use Rattle.std.specs.Prelude.{◌≡◌, ℕ, Bool, true, false, List, ◌++◌, codes, take, Result, Ok, Err}
+-- What is said of an input that is a formula, the line `lrat` and a log.
+use Rattle.std.specs.Prelude.{◌≡◌, ℕ, Bool, true, false, List, ◌++◌, codes, Result, Ok, Err}
 use Rattle.std.specs.Fmt.{decimal}
 use Rattle.cnf_form.specs.declared.formula.Cnf.{Cnf}
 use Rattle.cnf_form.specs.declared.log.Step.{Step}
@@ -17,8 +17,8 @@ use Rattle.lrat_check.specs.declared.fault.LogCause.TheVariants.{UnknownId, IdNo
 use Rattle.lrat_check.specs.LogTexts.{log_of}
 use Rattle.lrat_check.specs.Failing.{Refused}
 use Rattle.lrat_check.specs.Writing.{IsWritableLog, log_bytes}
-use Rattle.proof_check.specs.declared.reply.CheckReply.{CheckReply}
-use Rattle.proof_check.specs.declared.reply.CheckReply.TheVariants.{Verified, BadText, BadLog}
+use Rattle.proof_check.specs.declared.reply.ProofReply.{ProofReply}
+use Rattle.proof_check.specs.declared.reply.ProofReply.TheVariants.{Verified, BadText, BadLog}
 
 -- ---- what is right
 
@@ -41,7 +41,7 @@ IsFaulty bytes Formula line = formula_in (lines bytes) ≡ Err line
 IsFaulty bytes Log line = (cnf : Cnf) × HasFormula bytes cnf × (log_in bytes cnf.vars ≡ Err line)
 
 -- the reply to an input
-abbrev pub Checks : List ℕ → CheckReply → Type 0
+abbrev pub Checks : List ℕ → ProofReply → Type 0
 Checks bytes Verified = (cnf : Cnf) × (steps : List Step) × ReadsAs bytes cnf steps × Refutes cnf steps
 Checks bytes (BadText fault) = IsFaulty bytes fault.part fault.line
 Checks bytes (BadLog fault) = (cnf : Cnf) × (steps : List Step) × ReadsAs bytes cnf steps × Refused cnf steps fault
@@ -51,7 +51,7 @@ abbrev pub IsUnsatisfiable : List ℕ → Type 0
 IsUnsatisfiable bytes = (cnf : Cnf) → HasFormula bytes cnf → (v : ℕ → Bool) → SatisfiesAll v (literals cnf.clauses) → ⊥
 
 -- the reply to a log over a formula
-abbrev pub ChecksLog : Cnf → Result (List Step) ℕ → CheckReply → Type 0
+abbrev pub ChecksLog : Cnf → Result (List Step) ℕ → ProofReply → Type 0
 ChecksLog cnf (Ok steps) Verified = Refutes cnf steps
 ChecksLog cnf (Ok steps) (BadText fault) = ⊥
 ChecksLog cnf (Ok steps) (BadLog fault) = Refused cnf steps fault
@@ -59,7 +59,7 @@ ChecksLog cnf (Err line) reply = reply ≡ BadText (record { line = line; part =
 
 -- The law: an input has at most one reply.
 abbrev pub OneReply : Type 0
-OneReply = (bytes : List ℕ) (a b : CheckReply) → Checks bytes a → Checks bytes b → a ≡ b
+OneReply = (bytes : List ℕ) (a b : ProofReply) → Checks bytes a → Checks bytes b → a ≡ b
 
 -- The law: what is written of a formula, the line `lrat` and a log of additions that refutes it is verified, where all
 -- numbers are in the ranges of the formats.
@@ -92,28 +92,13 @@ abbrev pub log_line : LogFault → List ℕ
 log_line fault = codes "refused step " ++ (decimal fault.step ++ (codes " " ++ (cause_word fault.cause ++ codes "\n")))
 
 -- the line of a reply
-abbrev pub line_of : CheckReply → List ℕ
+abbrev pub line_of : ProofReply → List ℕ
 line_of Verified = codes "verified\n"
 line_of (BadText fault) = text_line fault
 line_of (BadLog fault) = log_line fault
 
 -- the log refutes the formula
-abbrev pub is_verified : CheckReply → Bool
+abbrev pub is_verified : ProofReply → Bool
 is_verified Verified = true
 is_verified (BadText fault) = false
 is_verified (BadLog fault) = false
-
--- The line is that of the reply to the bytes.
-pub record IsVerdict (bytes : List ℕ) (verified : Bool) (line : List ℕ) : Type 0 where
-  pub reply : CheckReply
-  pub checks : Checks bytes reply
-  pub verified_is : verified ≡ is_verified reply
-  pub line_is : line ≡ line_of reply
-
--- what begins the line of the reply to the bytes
-pub record BeginsVerdict (bytes written : List ℕ) : Type 0 where
-  pub verified : Bool
-  pub line : List ℕ
-  pub verdict : IsVerdict bytes verified line
-  pub count : ℕ
-  pub written_is : written ≡ take count line

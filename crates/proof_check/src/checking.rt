@@ -3,25 +3,25 @@
 ghost use Rattle.std.specs.Prelude.{◌≡◌, ◌≤◌, IfOk, Ok, length, drop};
 ghost use Rattle.lrat_check.specs.LogTexts.{log_of};
 ghost use Rattle.cnf_form.specs.Lines.{lines};
-ghost use Rattle.proof_check.specs.declared.reply.CheckReply.{CheckReply as Reply};
-ghost use Rattle.proof_check.specs.declared.reply.CheckReply.TheVariants.{Verified};
+ghost use Rattle.proof_check.specs.declared.reply.ProofReply.{ProofReply as Reply};
+ghost use Rattle.proof_check.specs.declared.reply.ProofReply.TheVariants.{Verified};
 ghost use Rattle.proof_check.specs.Verdicts.{Checks, ChecksLog, IsUnsatisfiable, OneReply, PrintedIsVerified};
 
-use crate::CheckReply;
+use crate::ProofReply;
 use cnf_form::{Cnf, read_formula};
 use cqa_value::{Fail, NoMemory};
 use lrat_check::check_text;
 use std::alloc::Global;
 
 /// Reads the text of a log over a formula, and checks it.
-fn check_log(alloc: Global, cnf: &Cnf, text: &[u8]) -> Result<CheckReply, NoMemory>
+fn check_log(alloc: Global, cnf: &Cnf, text: &[u8]) -> Result<ProofReply, NoMemory>
     ensures { IfOk result (ChecksLog cnf.now (log_of cnf.now.vars 1 (lines text.now))) }
 {
     match check_text(alloc, cnf, text) {
-        Ok(None) => Ok(CheckReply::Verified),
-        Ok(Some(fault)) => Ok(CheckReply::BadLog(fault)),
+        Ok(None) => Ok(ProofReply::Verified),
+        Ok(Some(fault)) => Ok(ProofReply::BadLog(fault)),
         Err(Fail::NoMemory) => Err(NoMemory),
-        Err(Fail::Refused(fault)) => Ok(CheckReply::BadText(fault)),
+        Err(Fail::Refused(fault)) => Ok(ProofReply::BadText(fault)),
     }
 }
 
@@ -38,7 +38,7 @@ fn rest(bytes: &[u8], from: usize) -> &[u8]
 /// # Errors
 ///
 /// `NoMemory` where memory is refused.
-pub fn check_bytes(alloc: Global, bytes: &[u8]) -> Result<CheckReply, NoMemory>
+pub fn check_proof(alloc: Global, bytes: &[u8]) -> Result<ProofReply, NoMemory>
     // The reply is what the input deserves, and no other: verified exactly where the log refutes the formula, and else the first fault.
     ensures exact { IfOk result (Checks bytes.now) }
     ensures only { (reply : Reply) → Checks bytes.now reply → IfOk result (λ r. r ≡ reply) }
@@ -48,7 +48,7 @@ pub fn check_bytes(alloc: Global, bytes: &[u8]) -> Result<CheckReply, NoMemory>
     match read_formula(alloc, bytes) {
         Ok((cnf, start)) => check_log(alloc, &cnf, rest(bytes, start)),
         Err(Fail::NoMemory) => Err(NoMemory),
-        Err(Fail::Refused(fault)) => Ok(CheckReply::BadText(fault)),
+        Err(Fail::Refused(fault)) => Ok(ProofReply::BadText(fault)),
     }
 }
 

@@ -4,5 +4,5 @@
 mod checking;
 mod reply;
 
-pub use checking::{check_bytes, input_has_one_reply, printed_is_verified};
-pub use reply::CheckReply;
+pub use checking::{check_proof, input_has_one_reply, printed_is_verified};
+pub use reply::ProofReply;

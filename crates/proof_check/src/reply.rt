@@ -1,4 +1,4 @@
-//! What the checker says of an input, and the line that it writes.
+//! What is said of a formula with a log, and the line that says it.
 
 ghost use Rattle.std.specs.Prelude.{◌≡◌, IfOk, string_bytes};
 ghost use Rattle.proof_check.specs.Verdicts.{cause_word, is_verified, line_of, log_line, part_word, text_line};
@@ -8,9 +8,9 @@ use cqa_value::NoMemory;
 use lrat_check::{LogCause, LogFault};
 use std::alloc::Global;
 
-/// What the checker says of an input.
+/// What is said of a formula with a log.
 #[derive(Clone, Copy, Debug, PartialEq, Eq)]
-pub enum CheckReply {
+pub enum ProofReply {
     /// It is a formula with a log that refutes it.
     Verified,
     /// A line breaks a rule of how formulas and logs are written.
@@ -19,15 +19,15 @@ pub enum CheckReply {
     BadLog(LogFault),
 }
 
-impl CheckReply {
+impl ProofReply {
     /// Whether the log refutes the formula.
     pub fn is_verified(self) -> bool
         ensures { result ≡ is_verified self }
     {
         match self {
-            CheckReply::Verified => true,
-            CheckReply::BadText(_) => false,
-            CheckReply::BadLog(_) => false,
+            ProofReply::Verified => true,
+            ProofReply::BadText(_) => false,
+            ProofReply::BadLog(_) => false,
         }
     }
 
@@ -40,9 +40,9 @@ impl CheckReply {
         ensures { IfOk result (λ line. string_bytes line ≡ line_of self) }
     {
         match self {
-            CheckReply::Verified => Ok(format!(in alloc; "verified\n")?),
-            CheckReply::BadText(fault) => text_line(alloc, fault),
-            CheckReply::BadLog(fault) => log_line(alloc, fault),
+            ProofReply::Verified => Ok(format!(in alloc; "verified\n")?),
+            ProofReply::BadText(fault) => text_line(alloc, fault),
+            ProofReply::BadLog(fault) => log_line(alloc, fault),
         }
     }
 }

@@ -1,0 +1,3 @@
+-- What the checker says of an input.
+pub mod Inputs
+pub mod Verdicts

@@ -1,0 +1,9 @@
+pub mod Same
+pub mod Once
+pub mod Unique
+pub mod Kept
+pub mod Proving
+pub mod Moving
+pub mod Places
+pub mod Steps
+pub mod Outcome

@@ -1,0 +1,4 @@
+pub mod Queries
+pub mod Spelling
+pub mod Laws
+pub mod Reading
