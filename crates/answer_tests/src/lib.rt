@@ -3,6 +3,8 @@
 #![tactic(auto)]
 
 #[cfg(test)]
+mod join_groups;
+#[cfg(test)]
 mod joins;
 #[cfg(test)]
 mod making;

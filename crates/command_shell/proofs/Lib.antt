@@ -1,5 +1,6 @@
 pub mod Answering
 pub mod DemoEnds
+pub mod Lines
 mod Onward
 pub mod Progress
 pub mod Statuses

@@ -12,7 +12,7 @@ use Rattle.command_shell.specs.declared.ending.Stop.{Stop}
 use Rattle.command_shell.specs.declared.ending.Stop.TheVariants as stops
 use Rattle.command_shell.specs.declared.ending.Ending.{Ending}
 use Rattle.command_shell.specs.declared.ending.Ending.TheVariants as endings
-use Rattle.proof_check.specs.Verdicts.{IsVerdict, BeginsVerdict}
+use Rattle.input_check.specs.Verdicts.{IsVerdict, BeginsVerdict}
 use Rattle.cqa_session.specs.State.{State}
 use Rattle.cqa_session.specs.Machine.{Step}
 use Rattle.cqa_session.specs.Runs.{CutShort}

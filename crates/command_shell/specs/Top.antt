@@ -3,7 +3,7 @@ use Rattle.std.specs.Prelude.{◌≡◌, ◌⊎◌, ℕ, ◌+◌, ◌≤◌, Boo
 use Rattle.std.specs.Io.KnownBytes.{Consumes, Appends, IsAtEnd}
 use Rattle.std.specs.declared.alloc.Global.{Global}
 use Rattle.cqa_io.specs.Causes.{Rose}
-use Rattle.proof_check.specs.Verdicts.{IsVerdict, BeginsVerdict}
+use Rattle.input_check.specs.Verdicts.{IsVerdict, BeginsVerdict}
 use Rattle.command_shell.specs.declared.ending.Command.{Command}
 use Rattle.command_shell.specs.declared.ending.Command.TheVariants.{Run, Check, Demo}
 use Rattle.command_shell.specs.declared.ending.Ending.{Ending}

@@ -12,5 +12,5 @@ mod top;
 mod verdict;
 
 pub use cqa_session::Session;
-pub use proof_check::{CheckReply, check_bytes};
+pub use input_check::{CheckReply, check_bytes};
 pub use top::run_words;

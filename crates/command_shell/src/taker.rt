@@ -45,8 +45,8 @@ impl<K: Sink> Taker for K {
         ensures row { ReplyRow result (Rose (K.faults self.old) (K.faults self.new)) (K.held self.old) (K.held self.new) reply.now }
         ensures later { K.faults self.old ≤ K.faults self.new }
     {
-        // The script of a dump is written as it is, so that it isn't held twice.
-        if let Reply::Dumped(script) = reply {
+        // The script of a dump and a certificate are written as they are, so that they aren't held twice.
+        if let Reply::Dumped(script) | Reply::Certificate(script) = reply {
             write_all(self, script.as_slice())?;
             return Ok(false);
         }

@@ -15,7 +15,7 @@ use cqa_io::{Sink, Source};
 use cqa_session::Session;
 use std::alloc::Global;
 
-/// Reads the input and writes the line on it, as a formula with a log.
+/// Reads the input and writes the line on it, as a formula with a log or a certificate.
 fn check<S: Source, K: Sink>(alloc: Global, source: &mut S, sink: &mut K) -> Ending
     ensures row { (state : State) → Ended (Some CheckWord) result (told (S.left source.old) (K.held sink.old) (S.faults source.old) (K.faults sink.old)) (told (S.left source.new) (K.held sink.new) (S.faults source.new) (K.faults sink.new)) state state }
     ensures reads { S.faults source.old ≤ S.faults source.new }

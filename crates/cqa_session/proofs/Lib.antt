@@ -6,7 +6,6 @@ pub mod Dumping
 pub mod Explaining
 pub mod Opposing
 mod Joining
-mod JoinGoals
 mod Naming
 mod LineSteps
 mod Contesting
@@ -15,3 +14,4 @@ pub mod Sayings
 mod Spending
 pub mod TableLines
 pub mod Valid
+pub mod Proving

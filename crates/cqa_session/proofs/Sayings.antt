@@ -5,23 +5,19 @@ use Rattle.cqa_value.specs.declared.memory.Fail.TheVariants as fails
 use Rattle.script_lex.proofs.Spelling.{spells_same, fault_same, spelled_no_fault}
 use Rattle.spj_syntax.specs.declared.fault.SyntaxFault.{SyntaxFault}
 use Rattle.spj_syntax.specs.declared.tree.Statement.{Statement}
-use Rattle.spj_syntax.specs.Parsed.{lexemes, RefusesTokens}
-use Rattle.spj_syntax.specs.Written.{IsWrittenAs}
-use Rattle.spj_syntax.proofs.Answered.{only_statement, only_fault}
+use Rattle.spj_syntax.specs.Parsed.{RefusesTokens}
+use Rattle.spj_syntax.specs.Texts.{HasStatement}
+use Rattle.spj_syntax.proofs.Answered.{only_fault}
+use Rattle.spj_syntax.proofs.Once.{statement_once}
 use Rattle.refusals.specs.declared.refusal.Refusal.{Refusal}
 use Rattle.reply_text.specs.declared.reply.Reply.{Reply}
 use Rattle.saying_law.proofs.Spelling.{texts_have_tokens}
 use Rattle.saying_law.proofs.Parsing.{tokens_are_decided}
 use Rattle.saying_law.proofs.Whole.{statements_have_trees}
 use Rattle.cqa_session.specs.State.{State}
-use Rattle.cqa_session.specs.Saying.{of_lexing, of_parsing, SaysNoStatement, HasStatement, Says, IsReadAs, SaysOneThing, SaysSomething}
+use Rattle.cqa_session.specs.Saying.{of_lexing, of_parsing, SaysNoStatement, Says, IsReadAs, SaysOneThing, SaysSomething}
 use Rattle.cqa_session.specs.Replying.{IsReplyOutcome}
 use Rattle.cqa_session.specs.Machine.{Does, Step}
-
--- the tokens of one are those of the other
-same_statement : (text : List ℕ) (s t : Statement) → HasStatement text s → HasStatement text t → s ≡ t
-same_statement text s t a b =
-    only_statement text a.tokens (Ok s) (a.allowed, a.fit, a.written) t (subst (λ tokens. IsWrittenAs t (lexemes text tokens)) (spells_same b.spelled a.spelled) b.written)
 
 no_refusal : (text : List ℕ) (s : Statement) (refusal : Refusal) → HasStatement text s → SaysNoStatement text refusal → ⊥
 no_refusal text s refusal a b =
@@ -33,7 +29,7 @@ refused_once f g (inr e) = absurd (cc e)
 
 -- A text says one thing.
 pub says_same : SaysOneThing
-says_same text (Ok s) (Ok t) a b = ap Ok (same_statement text s t a b)
+says_same text (Ok s) (Ok t) a b = ap Ok (statement_once text s t a b)
 says_same text (Ok s) (Err r) a (inl b) = absurd (spelled_no_fault text a.tokens b.fault a.short a.spelled b.cause)
 says_same text (Ok s) (Err r) a (inr b) = absurd (no_refusal text s r a b)
 says_same text (Err r) (Ok t) (inl a) b = absurd (spelled_no_fault text b.tokens a.fault b.short b.spelled a.cause)

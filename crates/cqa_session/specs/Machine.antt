@@ -28,6 +28,7 @@ use Rattle.cqa_session.specs.Statements.Plan.{ShowsPlan}
 use Rattle.cqa_session.specs.Statements.Sql.{WritesSql}
 use Rattle.cqa_session.specs.Statements.Explain.{Explains}
 use Rattle.cqa_session.specs.Statements.Against.{AnswersAgainst}
+use Rattle.cqa_session.specs.Statements.Prove.{ProvesRow}
 use Rattle.cqa_session.specs.Statements.SetConflicts.{SetsConflicts}
 use Rattle.cqa_session.specs.Statements.ShowTables.{ShowsTables}
 use Rattle.cqa_session.specs.Statements.ShowConflicts.{ShowsConflicts}
@@ -45,6 +46,7 @@ Asks old verbs.Plan select reply new = ShowsPlan old select reply new
 Asks old verbs.Sql select reply new = WritesSql old select reply new
 Asks old (verbs.Explain row) select reply new = Explains old row select reply new
 Asks old (verbs.Against row) select reply new = AnswersAgainst old row select reply new
+Asks old (verbs.Prove row) select reply new = ProvesRow old row select reply new
 
 -- ---- a statement, with the block that follows it: the first of its checks that fails in a state, and what it may do where none fails
 

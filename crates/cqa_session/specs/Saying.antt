@@ -9,8 +9,8 @@ use Rattle.script_lex.specs.Tokens.{Spells, IsFault, longest_text}
 use Rattle.spj_syntax.specs.declared.fault.SyntaxFault.{SyntaxFault}
 use Rattle.spj_syntax.specs.declared.fault.SyntaxFault.TheVariants as parsing
 use Rattle.spj_syntax.specs.declared.tree.Statement.{Statement}
-use Rattle.spj_syntax.specs.Parsed.{lexemes, IsStatement, AllLexemesFit, RefusesTokens}
-use Rattle.spj_syntax.specs.Written.{IsWrittenAs}
+use Rattle.spj_syntax.specs.Parsed.{RefusesTokens}
+use Rattle.spj_syntax.specs.Texts.{HasStatement}
 use Rattle.refusals.specs.declared.refusal.Refusal.{Refusal}
 use Rattle.refusals.specs.declared.refusal.Refusal.TheVariants.{BadByte, Syntax, StatementTooLong, OutOfRange, TextTooLong, Limit}
 use Rattle.refusals.specs.declared.refusal.LimitKind.TheVariants.{Name}
@@ -40,15 +40,6 @@ pub record SaysNoStatement (text : List ℕ) (refusal : Refusal) : Type 0 where
   pub fault : SyntaxFault
   pub cause : RefusesTokens text tokens fault
   pub is : refusal ≡ of_parsing fault
-
--- its tokens are this statement
-pub record HasStatement (text : List ℕ) (statement : Statement) : Type 0 where
-  pub tokens : List Token
-  pub short : length text ≤ longest_text
-  pub spelled : Spells text tokens
-  pub allowed : IsStatement (lexemes text tokens)
-  pub fit : AllLexemesFit (lexemes text tokens)
-  pub written : IsWrittenAs statement (lexemes text tokens)
 
 -- the statement that a text is, or the first of the checks on its form that fails
 abbrev pub Says : List ℕ → Result Statement Refusal → Type 0

@@ -17,6 +17,7 @@ pub mod Sql
 pub mod Untold
 pub mod Explain
 pub mod Against
+pub mod Prove
 pub mod Range
 pub mod RangeOfJoin
 pub mod SetConflicts

@@ -22,6 +22,7 @@ use crate::statements::insert::insert;
 use crate::statements::plan::plan;
 use crate::statements::possible::possible;
 use crate::statements::prefer::prefer;
+use crate::statements::prove::prove;
 use crate::statements::range::range;
 use crate::statements::range_of_join::range_of_join;
 use crate::statements::set_conflicts::set_conflicts;
@@ -54,6 +55,7 @@ fn asked(
         Verb::Sql => sql(alloc, session, select),
         Verb::Explain { row } => explain(alloc, session, row, select),
         Verb::Against { row } => against(alloc, session, row, select),
+        Verb::Prove { row } => prove(alloc, session, row, select),
     }
 }
 

@@ -15,6 +15,7 @@ mod kept;
 pub mod plan;
 pub mod possible;
 pub mod prefer;
+pub mod prove;
 pub mod range;
 pub mod range_of_join;
 pub mod set_conflicts;

@@ -35,7 +35,7 @@ use Rattle.reply_text.specs.declared.reply.Reply.{Reply}
 use Rattle.reply_text.specs.declared.reply.Reply.TheVariants.{Created, Copied, Inserted, Refused}
 use Rattle.reply_text.specs.Texts.{is_refusal}
 use Rattle.cqa_session.specs.State.{State}
-use Rattle.cqa_session.specs.Saying.{HasStatement}
+use Rattle.spj_syntax.specs.Texts.{HasStatement}
 use Rattle.cqa_session.specs.Replying.{on_table}
 use Rattle.cqa_session.specs.Machine.{fault_in, Executes, Step}
 use Rattle.cqa_session.specs.Statements.Copy.{TellsCopied}

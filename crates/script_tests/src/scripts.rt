@@ -1,5 +1,5 @@
-//! The cases that are scripts, in this folder: `TOPIC.cqa` or `TOPIC.lrat`, and beside each the output that it has to give,
-//! `TOPIC.out`.
+//! The cases that are scripts, in this folder: `TOPIC.cqa`, and for `check` `TOPIC.lrat` or `TOPIC.rewriting`, and beside each
+//! the output that it has to give, `TOPIC.out`.
 
 use crate::comparing::ends_as_wanted;
 use crate::running::Case;
@@ -17,7 +17,7 @@ fn word_for(kind: &str) -> Option<&'static str> {
     if kind == "cqa" {
         return Some("run");
     }
-    if kind == "lrat" {
+    if kind == "lrat" || kind == "rewriting" {
         return Some("check");
     }
     None
@@ -77,7 +77,12 @@ fn has_script(rt: &HostRuntime, topic: &str) -> io::Result<bool> {
     let alloc = rt.alloc();
     let script = format!(in alloc; "{topic}.cqa")?;
     let proof = format!(in alloc; "{topic}.lrat")?;
-    Ok(fs::exists(rt, script.as_str())? || fs::exists(rt, proof.as_str())?)
+    let certificate = format!(in alloc; "{topic}.rewriting")?;
+    Ok(
+        fs::exists(rt, script.as_str())?
+            || fs::exists(rt, proof.as_str())?
+            || fs::exists(rt, certificate.as_str())?,
+    )
 }
 
 /// Whether a file is a script that gives its output, or the output of a script. A line says why it isn't.

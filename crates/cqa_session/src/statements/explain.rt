@@ -83,7 +83,7 @@ fn by_block(alloc: Global, db: &Database, table: u32, key: Row) -> Result<Reply,
 }
 
 /// The reply that tells a repair by the names of its rows.
-fn rejected(alloc: Global, db: &Database, names: Items<RowId>) -> Result<Reply, NoMemory>
+pub fn rejected(alloc: Global, db: &Database, names: Items<RowId>) -> Result<Reply, NoMemory>
     requires { AreStored db.now names }
     ensures { IfOk result (λ reply. reply ≡ Reply.Rejected (map (kept_line db.now) names)) }
 {

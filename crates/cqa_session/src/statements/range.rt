@@ -57,7 +57,7 @@ fn tell(
 }
 
 /// The lines of groups.
-fn group_lines(alloc: Global, groups: Items<Group>) -> Result<Items<GroupEnds>, NoMemory>
+pub fn group_lines(alloc: Global, groups: Items<Group>) -> Result<Items<GroupEnds>, NoMemory>
     ensures { IfOk result (λ lines. lines ≡ map group_line groups) }
 {
     let groups = groups.into_vec().into_iter();

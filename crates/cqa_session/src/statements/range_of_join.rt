@@ -1,21 +1,23 @@
-//! `range` over several tables: the least and the greatest value that an aggregate over the witnesses of a query has in a repair.
+//! `range` over several tables: the least and the greatest value that an aggregate over the witnesses of a query has in a repair,
+//! over all of them or for each group.
 
-ghost use Rattle.std.specs.Prelude.{◌≡◌, ◌<◌, [], IfErr, IfOk, length};
+ghost use Rattle.std.specs.Prelude.{◌≡◌, ◌<◌, [], IfErr, IfOk, IfSome, length};
 ghost use Rattle.cqa_model.specs.Query.{FitsDatabase};
 ghost use Rattle.join_access.specs.Listing.{HasTooMany, IsOver};
 ghost use Rattle.query_resolve.specs.Checks.{range_join_fault};
 ghost use Rattle.range_join.specs.Worths.{AreOthersStrict};
 ghost use Rattle.repair_back.specs.Results.{AreStored};
 ghost use Rattle.cqa_session.specs.Replying.{Replies, IsReplyOutcome};
-ghost use Rattle.cqa_session.specs.Statements.RangeOfJoin.{AreChosenEnds, TellsJoin, TellsJoinEnds, TellsRangeJoin};
+ghost use Rattle.cqa_session.specs.Statements.RangeOfJoin.{AreChosenEnds, TellsJoin, TellsJoinBy, TellsJoinEnds, TellsJoinGroups, TellsRangeJoin};
 
 use crate::Session;
-use crate::statements::range::told;
+use crate::statements::range::{group_lines, told};
+use cqa_model::ColRef;
 use cqa_value::{Fail, NoMemory, Row};
 use join_access::TooMany;
 use query_resolve::{RangeQuery, resolve_range};
 use range_ask::{Ends, Range};
-use range_join::{Sought, join_range};
+use range_join::{Sought, join_groups, join_range};
 use refusals::Refusal;
 use repair_back::{Repair, chosen};
 use reply_text::Reply;
@@ -54,6 +56,51 @@ fn tell(alloc: Global, bound: &Bound<'_>, lax: u32, sought: &Sought) -> Result<R
     Ok(told(alloc, bound.db, ends)?)
 }
 
+/// Tells both ends for each group of the witnesses of a query without answer columns: for each value that one has in a column.
+fn tell_groups(
+    alloc: Global,
+    bound: &Bound<'_>,
+    lax: u32,
+    sought: &Sought,
+    col: ColRef,
+) -> Result<Reply, Fail<TooMany>>
+    requires lax { lax < length bound.now.query.now.atoms }
+    requires strict { AreOthersStrict bound.now.query.now lax }
+    requires asked { bound.now.query.now.answer ≡ [] }
+    requires atom { sought.now.atom < length bound.now.query.now.atoms }
+    requires column { col.atom < length bound.now.query.now.atoms }
+    ensures told { IfOk result (TellsJoinGroups bound.now.db.now bound.now.query.now lax sought.now col) }
+    ensures within { IfOk result (λ reply. HasTooMany bound.now.query.now bound.now.db.now [] → ⊥) }
+    ensures over { IfErr result (IsOver (HasTooMany bound.now.query.now bound.now.db.now [])) }
+{
+    let groups = join_groups(alloc, bound, lax, sought, col)?;
+    let lines = group_lines(alloc, groups)?;
+    Ok(Reply::Groups(lines))
+}
+
+/// Tells both ends over all witnesses, or for each group of them by the values of a column.
+fn tell_by(
+    alloc: Global,
+    bound: &Bound<'_>,
+    lax: u32,
+    sought: &Sought,
+    group: Option<ColRef>,
+) -> Result<Reply, Fail<TooMany>>
+    requires lax { lax < length bound.now.query.now.atoms }
+    requires strict { AreOthersStrict bound.now.query.now lax }
+    requires asked { bound.now.query.now.answer ≡ [] }
+    requires atom { sought.now.atom < length bound.now.query.now.atoms }
+    requires column { IfSome group (λ col. col.atom < length bound.now.query.now.atoms) }
+    ensures told { IfOk result (TellsJoinBy bound.now.db.now bound.now.query.now lax sought.now group) }
+    ensures within { IfOk result (λ reply. HasTooMany bound.now.query.now bound.now.db.now [] → ⊥) }
+    ensures over { IfErr result (IsOver (HasTooMany bound.now.query.now bound.now.db.now [])) }
+{
+    match group {
+        None => tell(alloc, bound, lax, sought),
+        Some(col) => tell_groups(alloc, bound, lax, sought, col),
+    }
+}
+
 /// Tells both ends of what is asked of a query that fits the tables, or refuses it where it has too many witnesses.
 fn tell_within(alloc: Global, session: &Session, range: &RangeQuery) -> Result<Reply, Fail<Refusal>>
     requires fits { FitsDatabase range.now.query session.now.tables }
@@ -61,6 +108,7 @@ fn tell_within(alloc: Global, session: &Session, range: &RangeQuery) -> Result<R
     requires strict { AreOthersStrict range.now.query range.now.lax }
     requires asked { range.now.query.answer ≡ [] }
     requires atom { range.now.atom < length range.now.query.atoms }
+    requires column { IfSome range.now.group (λ col. col.atom < length range.now.query.atoms) }
     ensures { IsReplyOutcome result session.now (TellsJoin session.now range.now) session.now }
 {
     let bound = Bound::new(session.database(), &range.query);
@@ -68,7 +116,7 @@ fn tell_within(alloc: Global, session: &Session, range: &RangeQuery) -> Result<R
         goal: range.goal,
         atom: range.atom,
     };
-    match tell(alloc, &bound, range.lax, &sought) {
+    match tell_by(alloc, &bound, range.lax, &sought, range.group) {
         Ok(reply) => Ok(reply),
         Err(Fail::Refused(TooMany)) => Err(Fail::Refused(Refusal::WitnessLimit {
             row: Row::new(alloc),
@@ -78,12 +126,12 @@ fn tell_within(alloc: Global, session: &Session, range: &RangeQuery) -> Result<R
 }
 
 /// Answers the least and the greatest value that an aggregate over the witnesses of a query has in a repair, each with a repair
-/// that has it. All tables but one have to be strict, and that one's rows are told.
+/// that has it, or both values for each group of the witnesses. All tables but one have to be strict, and that one's rows are told.
 ///
 /// # Errors
 ///
-/// The first check of the tables, of the goal, of the conditions, and of which tables are strict, that fails. Then `WitnessLimit`
-/// of the row `()`, exactly where the query has too many witnesses.
+/// The first check of the tables, of the goal, of the conditions, of the column of the groups, and of which tables are strict,
+/// that fails. Then `WitnessLimit` of the row `()`, exactly where the query has too many witnesses.
 pub fn range_of_join(
     alloc: Global,
     session: &Session,

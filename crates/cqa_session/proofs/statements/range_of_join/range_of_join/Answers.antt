@@ -5,11 +5,7 @@ use Rattle.query_resolve.specs.Resolved.{IsRangeOf}
 use Rattle.cqa_session.specs.Statements.RangeOfJoin.{TellsRangeJoin}
 use Rattle.cqa_session.proofs.Doing.{refused_out}
 use Rattle.cqa_session.proofs.Joining.{join_answered}
-use Rattle.cqa_session.proofs.JoinGoals.{atom_inside}
 use Rattle.cqa_session.proofs.statements.range_of_join.range_of_join.Goals as goal
-
-pub tell_within-reply-requires-clause-atom : goal.tell_within-reply-requires-clause-atom
-tell_within-reply-requires-clause-atom c = atom_inside c.database.result.now c.args.range.now c.in_ok-resolved.resolved c.in_ok-resolved.ensures.is
 
 pub returns-in_err-resolved : goal.returns-in_err-resolved
 returns-in_err-resolved c =
