@@ -345,6 +345,43 @@ def ranges_of_ends(n):
     return ranges([(k, y) for k in range(n // 2) for y in (k % 3 - 1, k % 11 + 2)], ["count", "min y", "max y"])
 
 
+def preferred(n):
+    """A prefer that takes one row of each of n / 2 keys of two rows."""
+    ours, theirs = twos(n)
+    return ours + ["prefer r where v = 1;"], theirs + ["delete from r where v <> 1 and k in (select k from r where v = 1);"]
+
+
+JOINED = ("select sum(low), sum(high) from (select min(case when z = 1 then y else 0 end) as low, "
+          "max(case when z = 1 then y else 0 end) as high from r left join s on r.s = s.k group by r.k);")
+"""The two ends of a range over the rows of r that a row of s with z = 1 joins, found by the peer from what it finds of each key."""
+
+
+JOINED_GROUPS = ("select g, sum(low), sum(high) from (select s.k as g, min(min(y), case when count(*) < b.n then 0 else min(y) end) as low, "
+                 "max(max(y), case when count(*) < b.n then 0 else max(y) end) as high from r, s, (select k, count(*) as n from r group by k) b "
+                 "where r.s = s.k and b.k = r.k group by r.k, s.k) group by g;")
+"""The same for each row of s, whether z is 1 or not."""
+
+
+def joined_tables(n):
+    """n / 2 blocks of two rows, and a strict table of 1,000 that they join."""
+    rows = [(k, (7 * k + v) % 1000, v * (k % 9) - v) for k in range(n // 2) for v in (1, 2)]
+    ours, theirs = tables(["s"], ["k", "z"], "k")
+    strict = [line.replace("create table", "create strict table") for line in ours], theirs
+    return join(tables(["r"], ["k", "s", "y"], "k"), strict, inserts("r", rows), inserts("s", [(k, k % 2) for k in range(1000)]))
+
+
+def joined_range(n):
+    """A range over these, of whose joined rows half meet the test: n rows are printed."""
+    made = joined_tables(n)
+    return made[0] + ["range sum y from r, s where r.s = s.k and z = 1;"], made[1] + [JOINED]
+
+
+def joined_groups(n):
+    """The same by 1,000 groups."""
+    made = joined_tables(n)
+    return made[0] + ["range sum y from r, s where r.s = s.k group by s.k;"], made[1] + [JOINED_GROUPS]
+
+
 LOADS = [
     ("inserts and asks by key in turn, ascending", ascending_turns, 50000),
     ("inserts and asks by key in turn, random", random_turns, 50000),
@@ -380,11 +417,15 @@ LOADS = [
     ("a range of a sum, blocks of two rows, all printed", ranges_of_twos, 250000),
     ("ten ranges of a sum, one block", ranges_of_one_block, 250000),
     ("ranges of a count, a least and a greatest value, blocks of two rows", ranges_of_ends, 250000),
+    ("every second row taken by a prefer", preferred, 250000),
+    ("a range of a sum over a join, blocks of two rows, all printed", joined_range, 250000),
+    ("a range of a sum over a join by 1,000 groups", joined_groups, 250000),
 ]
 
 NEWER = {"range": (ranges_of_ones, ranges_of_twos, ranges_of_one_block, ranges_of_ends),
          "disputed": (persons_disputed, strong_cycle_disputed), "against": (against_one_person, against_all),
-         "show conflicts": (shown_conflicts,)}
+         "show conflicts": (shown_conflicts,), "prefer": (preferred,), "range count from r ,": (joined_range,),
+         "range count from r , s group": (joined_groups,)}
 """Loads with statements that an older program doesn't know, by their first words."""
 
 

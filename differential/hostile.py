@@ -3,7 +3,7 @@
 
     differential/hostile.py [--program FILE] [--count N] [--seed N]
 
-Random bytes, random splices of the tests' scripts and proofs, each of these cut off at each byte, ranges of aggregates with words
+Random bytes, random splices of the tests' scripts, proofs and certificates, each of these cut off at each byte, ranges of aggregates with words
 that stand wrong, over great numbers, and with 100,000 tests, and questions about conflicts with words that stand
 wrong: the program has to end by itself within a minute, with status 0 or 1, and with 1 exactly where a line of what it wrote is a refusal. The last line
 says whether all did; the status is 0 then. Python 3.9 and its library alone are needed.
@@ -145,8 +145,8 @@ def ranges_of_many_tests():
 def inputs(random_source, count, truncated):
     """Pairs of a word and an input."""
     yield "run", ranges_of_many_tests()
-    scripts, proofs = read_all("cqa"), read_all("lrat")
-    for word, texts in (("run", scripts), ("check", proofs)):
+    scripts, proofs, certificates = read_all("cqa"), read_all("lrat"), read_all("rewriting")
+    for word, texts in (("run", scripts), ("check", proofs), ("check", certificates)):
         for _ in range(count):
             yield word, random_bytes(random_source)
             yield word, spliced(random_source, texts)
@@ -159,7 +159,8 @@ def inputs(random_source, count, truncated):
         yield "run", ranges(random_source)
         yield "run", questions(random_source)
         yield "check", random_source.choice(scripts)
-        yield "run", random_source.choice(proofs)
+        yield "check", b"rewriting\n" + random_source.choice(scripts)
+        yield "run", random_source.choice(proofs + certificates)
 
 
 def main():

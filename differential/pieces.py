@@ -135,7 +135,7 @@ def main():
     parser.add_argument("--seed", type=int, default=1)
     options = parser.parse_args()
     random_source = random.Random(options.seed)
-    scripts, proofs = read_all("cqa"), read_all("lrat")
+    scripts, proofs = read_all("cqa"), read_all("lrat") + read_all("rewriting")
     cases = [("run", script) for script in scripts] + [("check", proof) for proof in proofs]
     cases += [("run", spliced(random_source, scripts)) for _ in range(options.count)]
     failed = 0

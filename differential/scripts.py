@@ -253,21 +253,65 @@ class Script:
         if query.number_of_repairs() <= MOST_RANGED:
             self.range_over(query)
 
+    def sales(self):
+        """Ranges over a table with conflicts and a strict one that it joins, which are made if they aren't there, and filled anew."""
+        pick, tables = self.random, [table for table in self.tables if table.name in ("sale", "shop")]
+        if not tables:
+            tables = [Table("sale", [("id", "int"), ("shop", "int"), ("amount", "int"), ("note", "text")], [0]),
+                      Table("shop", [("id", "int"), ("town", "text"), ("level", "int")], [0], True)]
+            for table in tables:
+                self.tables.append(table)
+                self.replied("create %stable %s;" % ("strict " if table.strict else "", table.schema()), "created " + table.name)
+        for table in tables:
+            rows = {self.row(table) for _ in range(pick.randint(2, 9))}
+            self.fill(table, {block[0] for block in table.with_rows(rows).blocks()} if table.strict else rows)
+        for _ in range(3):
+            sale, shop = (0, 1) if pick.random() < 0.5 else (1, 0)
+            column = pick.choice([(sale, 0), (sale, 2), (shop, 2)])
+            tests = [(column, pick.choice(sorted(OPS)), pick.choice(NUMBERS))] if pick.random() < 0.3 else []
+            joins = pick.choice([[]] + [[((sale, 1), (shop, 0))]] * 4 + [[((sale, 1), (shop, 2))]])
+            query = Query([table.copy() for table in (tables if sale == 0 else tables[::-1])], [], joins, tests)
+            if query.number_of_repairs() <= MOST_RANGED:
+                self.range_over(query)
+
     def range_over(self, query):
+        """A range over a join, half of them by groups."""
         pick = self.random
         columns = [(atom, place) for atom, table in enumerate(query.tables) for place in range(len(table.columns))]
         word = pick.choice(["count", "sum", "sum", "min", "max"])
         column = pick.choice(columns) if word != "count" else None
+        group = pick.choice(columns) if pick.random() < 0.5 else None
+        of_text = word == "sum" and query.tables[column[0]].columns[column[1]][1] == "text"
         lax = [table for table in query.tables if not table.strict]
-        text = "range %s" % joined_text(query, word, column)
-        if pick.random() < 0.05:
-            return self.replied("%s group by %s;" % (text, query.name(pick.choice(columns))), "error 2 Syntax at %d" % (len(text.encode()) + 1))
-        text += ";"
-        if word == "sum" and query.tables[column[0]].columns[column[1]][1] == "text":
+        written = "" if group is None else self.written(query, group)
+        fault = self.fault_of_group(query) if group is not None and pick.random() < 0.1 else None
+        text = "range %s%s;" % (joined_text(query, word, column), " group by " + (fault or (written,))[0] if group is not None else "")
+        if of_text:
             return self.replied(text, "error 9 TypeMismatch condition 0")
+        if fault:
+            return self.replied(text, "error " + fault[1])
         if len(lax) > 1:
             return self.replied(text, "error 23 NotStrict " + lax[1].name)
+        if group is not None:
+            return self.replied(text, *groups_lines(query.groups((word, column), group)))
         return self.say(text, lambda out: is_joined_range(out, query, (word, column), lax))
+
+    def owners(self, query, name):
+        """The tables of a query that have a column of a name."""
+        return [table for table in query.tables if name in dict(table.columns)]
+
+    def written(self, query, column):
+        """A column as it may be written: with its table, or alone where no other table has one of its name."""
+        name = query.tables[column[0]].columns[column[1]][0]
+        return name if len(self.owners(query, name)) == 1 and self.random.random() < 0.5 else query.name(column)
+
+    def fault_of_group(self, query):
+        """A column that makes no groups, and the refusal."""
+        table = self.random.choice(query.tables)
+        faults = [("missing", "6 UnknownColumn missing"), (table.name + ".missing", "6 UnknownColumn %s.missing" % table.name),
+                  ("nowhere.missing", "4 UnknownTable nowhere")]
+        faults += [(name, "7 AmbiguousColumn " + name) for name, _ in table.columns if len(self.owners(query, name)) > 1]
+        return self.random.choice(faults)
 
     # Queries.
 
@@ -534,7 +578,7 @@ class Script:
         steps = [self.insert] * 8 + [lambda: self.insert(copy=True)] * 2 + [self.asked] * 6
         steps += [self.delete, self.prefer, self.alter, self.show, self.show_conflicts, self.set_conflicts, self.show_log]
         steps += [self.crossed, self.turned]
-        steps += [self.ranged, self.ranged, self.amounts, self.joined]
+        steps += [self.ranged, self.ranged, self.amounts, self.joined, self.sales]
         for _ in range(self.random.randint(1, 4)):
             self.create()
         while len(self.statements) < length:
@@ -611,7 +655,7 @@ def is_joined_range(out, query, goal, lax):
     for word, end in zip(("least", "greatest"), query.range(goal)):
         out.expect("%s %s" % (word, end_text(end)))
         kept = dict(zip([table.name for table in lax], kept_rows(out, lax)))
-        value = query.aggregate(goal, [kept.get(table.name, table.sorted()) for table in query.tables])
+        value = query.aggregate(goal, query.joins_of([kept.get(table.name, table.sorted()) for table in query.tables]))
         if value != end:
             raise Differs("the repair behind %s has %s" % (word, value))
 

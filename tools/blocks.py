@@ -6,8 +6,8 @@
 A block ```cqa is a script, and the block ```reply behind it what the program has to write. In docs/ each script is a
 session of its own; in README.md all of them are one, which has to be the stored run of cqa_cli. Rows of a table whose first
 cell is a statement and whose second is its reply, both in back quotes, are run behind the table `staff`. An example is a
-script NAME.cqa or a proof NAME.lrat, with its output NAME.out beside it; the proof that search.cqa ends with has to be
-verified.
+script NAME.cqa, or a proof NAME.lrat or NAME.rewriting, with its output NAME.out beside it; the proof that search.cqa ends
+with has to be verified, and the one that certificate.cqa ends with, which is certificate.rewriting.
 """
 
 import glob
@@ -55,11 +55,14 @@ def main():
     failed += compare("crates/cqa_cli/stdin", "", read("crates", "cqa_cli", "stdin"), script)
     for path in sorted(glob.glob(os.path.join(TOP, "examples", "*.out"))):
         name = os.path.basename(path)[:-4]
-        is_script = os.path.exists(os.path.join(TOP, "examples", name + ".cqa"))
-        got = replies(read("examples", name + (".cqa" if is_script else ".lrat")), "run" if is_script else "check")
+        kind = next(kind for kind in (".cqa", ".lrat", ".rewriting") if os.path.exists(os.path.join(TOP, "examples", name + kind)))
+        got = replies(read("examples", name + kind), "run" if kind == ".cqa" else "check")
         failed += compare("examples/" + name, "", read("examples", name + ".out"), got)
     proof = replies(read("examples", "search.cqa")).partition("certain by refutation\n")[2]
     failed += compare("examples/search.cqa, its proof", proof, "verified\n", replies(proof, "check"))
+    certificate = "rewriting\n" + replies(read("examples", "certificate.cqa")).partition("rewriting\n")[2]
+    failed += compare("examples/certificate.cqa, its end", "", read("examples", "certificate.rewriting"), certificate)
+    failed += compare("examples/certificate.cqa, its certificate", certificate, "verified\n", replies(certificate, "check"))
     print("%d differ" % failed if failed else "all blocks and examples agree")
     return 1 if failed else 0
 

@@ -92,14 +92,14 @@ class Questions(ProgramCase):
             self.db.insert("note", [(1, "a\nb'c"), (1, "x")])
         self.assertEqual(caught.exception.fields, "row 2 (1, 'a\nb''c') (1, 'x')")
 
-    def test_statements_of_newer_programs_are_sent_and_told(self) -> None:
-        calls = {"prove": lambda: self.db.prove(("Ida",), "select name from staff")}
-        for word, call in calls.items():
-            with self.subTest(word):
-                try:
-                    call()
-                except cqa.UnknownStatement as unknown:
-                    self.assertIn("doesn't know `%s`" % word, str(unknown))
+    def test_certificates(self) -> None:
+        told = self.db.prove(("Ida",), "select name from staff")
+        self.assertEqual(told.kind, "rewriting")
+        self.assertEqual(told.proof.splitlines()[0], "rewriting")
+        self.assertEqual(told.proof.splitlines()[-1], "block staff values (7, 'Ida', 12), (7, 'Ida', 14);")
+        self.assertEqual(self.db.prove((12,), "select room from staff where id = 7"), cqa.Explanation("rejected", kept=(("staff", (7, "Ida", 14)),)))
+        self.db.run("create table lock (tag int, code int, primary key (tag));")
+        self.assertEqual(self.db.prove((), "exists from door, lock where door.code = lock.code"), cqa.Explanation("no plan"))
 
     def test_what_is_disputed_and_what_stands_against_it(self) -> None:
         joined = "select name, code from staff, door where staff.room = door.room"
@@ -123,6 +123,8 @@ class Questions(ProgramCase):
         found = self.db.range("sum level from " + joined)
         self.assertEqual((found.least, found.greatest, [row for _, row in found.low]), (2, 5, [(7, "Ida", 12)]))
         self.assertEqual(self.db.range("max floor.level from %s and id = 7" % joined)[:2], (1, 4))
+        self.assertEqual(self.db.ranges("count from %s group by level" % joined), [(1, 1, 2), (4, 0, 1)])
+        self.assertEqual(self.db.ranges("max name from %s group by floor.room;" % joined), [(12, "Per", "Per"), (14, None, "Ida")])
         with self.assertRaises(cqa.Refused) as caught:
             self.db.range("count from staff, door where staff.room = door.room")
         self.assertEqual((caught.exception.number, caught.exception.fields), (23, "door"))
