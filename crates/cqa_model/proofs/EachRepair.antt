@@ -11,11 +11,11 @@ use Rattle.cqa_model.proofs.Repairs.{dec_shares}
 use Rattle.cqa_model.proofs.Witnesses.{dec_lists}
 
 -- all lists of some of these rows, in their order
-sublists : List (List Value) → List (List (List Value))
+pub sublists : List (List Value) → List (List (List Value))
 sublists [] = [] ∷ []
 sublists (y ∷ ys) = map (λ xs. y ∷ xs) (sublists ys) ++ sublists ys
 
-sublists-all : (xs ys : List (List Value)) → IsSublist xs ys → Contains (sublists ys) xs
+pub sublists-all : (xs ys : List (List Value)) → IsSublist xs ys → Contains (sublists ys) xs
 unfolding sublists
 sublists-all [] [] s = mem-head [] []
 sublists-all (x ∷ xs) [] s = absurd s
@@ -27,12 +27,12 @@ sublists-all (x ∷ xs) (y ∷ ys) (inl p) =
 sublists-all (x ∷ xs) (y ∷ ys) (inr s) =
     Contains-append_right (map (λ zs. y ∷ zs) (sublists ys)) (sublists ys) (x ∷ xs) (sublists-all (x ∷ xs) ys s)
 
-dec_sublist : (xs ys : List (List Value)) → Dec (IsSublist xs ys)
+pub dec_sublist : (xs ys : List (List Value)) → Dec (IsSublist xs ys)
 dec_sublist [] ys = yes tt
 dec_sublist (x ∷ xs) [] = no (λ f. f)
 dec_sublist (x ∷ xs) (y ∷ ys) = dec_or (dec_both (row_discrete x y) (dec_sublist xs ys)) (dec_sublist (x ∷ xs) ys)
 
-dec_one : (key : List ℕ) (rows : List (List Value)) (x : List Value) → Dec (HasOne key rows x)
+pub dec_one : (key : List ℕ) (rows : List (List Value)) (x : List Value) → Dec (HasOne key rows x)
 dec_one key rows x = dec_by (λ h. record { row = h.0; is_kept = h.1; shares = h.2.0; only = h.2.1 }) (λ o. (o.row, o.is_kept, (o.shares, o.only)))
     (dec_some (λ z. SharesKey key x z × ((y : List Value) → Contains rows y → SharesKey key x y → y ≡ z))
     (λ z. dec_both (dec_shares key x z) (dec_each (λ y. SharesKey key x y → y ≡ z) (λ y. dec_if (dec_shares key x y) (row_discrete y z)) rows)) rows)

@@ -6,6 +6,7 @@ pub mod Query
 pub mod Blocks
 pub mod OneTable
 pub mod Certain
+pub mod Unions
 pub mod Variables
 pub mod Closures
 pub mod Graph

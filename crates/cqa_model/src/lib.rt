@@ -15,7 +15,7 @@ pub use aggregate::{End, Goal};
 pub use class::Class;
 pub use limits::{
     COLUMN_NUMBERS, LONGEST_INPUT, LONGEST_NAME, MOST_ANSWER_COLUMNS, MOST_ATOMS, MOST_COLUMNS,
-    MOST_ROWS, MOST_TABLES,
+    MOST_ROWS, MOST_SELECTS, MOST_TABLES,
 };
 pub use naming::variables;
 pub use query::{Atom, ColRef, Cond, Op, Plan, Query, RowId};

@@ -18,6 +18,9 @@ pub const LONGEST_NAME: usize = 64;
 /// The most atoms of a query.
 pub const MOST_ATOMS: u32 = 12;
 
+/// The most parts of a union of queries.
+pub const MOST_SELECTS: usize = 8;
+
 /// The most answer columns of a query.
 pub const MOST_ANSWER_COLUMNS: usize = 192;
 

@@ -1,9 +1,8 @@
 -- Two lists item by item, sorted lists, and lists with another item at a place.
-use Rattle.std.proofs.Common.{◌≡◌, ◌⊎◌, inl, inr, ℕ, zero, suc, ◌<◌, List, [], ◌∷◌, length, set, sym, subst, arith, Contains, Ordering, Less, Equal, Greater}
+use Rattle.std.proofs.Common.{◌≡◌, ◌⊎◌, inl, inr, ℕ, zero, suc, ◌<◌, List, [], ◌∷◌, length, set, sym, subst, arith, Contains}
 use Rattle.std.specs.List.{AllZip}
 use Rattle.std.specs.List.Sorted.{IsStrictlySortedBy}
-use Rattle.std.specs.Ordering.{nat_cmp, ordering_reverse}
-use Rattle.std.specs.Cmp.{IsTotalOrder}
+use Rattle.std.specs.Ordering.{nat_cmp}
 use Rattle.cqa_model.proofs.Classic.{mem-head, mem-tail, mem-nil, mem-cases}
 
 module _ {A B : Type 0} (R : A → B → Type 0) where
@@ -35,14 +34,6 @@ set-there (z ∷ xs) zero x l = mem-head x xs
 set-there (z ∷ xs) (suc i) x l = mem-tail x z (set xs i x) (set-there xs i x (omega (arith, l)))
 
 -- ---- sorted lists
-
-turned : (o : Ordering) → o ≡ ordering_reverse o → o ≡ Less → ⊥
-turned Less e l = cc
-turned Equal e l = cc
-turned Greater e l = cc
-
-pub not_less : {A : Type 0} (cmp : A → A → Ordering) → IsTotalOrder cmp → (x : A) → cmp x x ≡ Less → ⊥
-not_less cmp total x l = turned (cmp x x) (total.antisymm x x) l
 
 pub single-sorted : (m : ℕ) → IsStrictlySortedBy nat_cmp (m ∷ [])
 unfolding IsStrictlySortedBy

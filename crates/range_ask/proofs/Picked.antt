@@ -13,7 +13,7 @@ use Rattle.cqa_model.proofs.Repairs.{sublist-stored, sublist-drop, shares-sym}
 use Rattle.cqa_model.proofs.BlockOrder.{block_total}
 use Rattle.range_ask.specs.Picks.{ArePicked}
 use Rattle.range_ask.specs.Laws.{PicksAreRepairs}
-use Rattle.range_ask.proofs.Lists.{not_less}
+use Rattle.cqa_value.proofs.Words.{not_less}
 
 abbrev pub all_rows : List (List (List Value)) → List (List Value)
 all_rows bs = flat_map (λ b. b) bs

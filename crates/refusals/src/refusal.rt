@@ -72,4 +72,5 @@ pub enum LimitKind {
     Atoms,
     Answer,
     Rows,
+    Selects,
 }

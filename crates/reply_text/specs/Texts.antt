@@ -12,8 +12,8 @@ use Rattle.refusals.specs.declared.refusal.Refusal.TheVariants.{BadByte, Syntax,
 use Rattle.refusals.specs.declared.refusal.Place.{Place}
 use Rattle.refusals.specs.declared.refusal.Place.TheVariants.{Cell, Condition}
 use Rattle.refusals.specs.declared.refusal.LimitKind.{LimitKind}
-use Rattle.refusals.specs.declared.refusal.LimitKind.TheVariants.{Name as NameLimit, Tables as TablesLimit, Columns as ColumnsLimit, Atoms as AtomsLimit, Answer as AnswerLimit, Rows as RowsLimit}
-use Rattle.cqa_model.specs.declared.limits.TheConstants.{LONGEST_NAME, MOST_TABLES, MOST_COLUMNS, MOST_ATOMS, MOST_ANSWER_COLUMNS, MOST_ROWS}
+use Rattle.refusals.specs.declared.refusal.LimitKind.TheVariants.{Name as NameLimit, Tables as TablesLimit, Columns as ColumnsLimit, Atoms as AtomsLimit, Answer as AnswerLimit, Rows as RowsLimit, Selects as SelectsLimit}
+use Rattle.cqa_model.specs.declared.limits.TheConstants.{LONGEST_NAME, MOST_TABLES, MOST_COLUMNS, MOST_ATOMS, MOST_ANSWER_COLUMNS, MOST_ROWS, MOST_SELECTS}
 use Rattle.cqa_model.specs.declared.class.Class.{Class}
 use Rattle.cqa_model.specs.declared.class.Class.TheVariants.{FirstOrder, Polynomial, CoNp}
 use Rattle.cqa_model.specs.declared.aggregate.End.{End}
@@ -40,6 +40,7 @@ limit_word ColumnsLimit = codes "columns "
 limit_word AtomsLimit = codes "atoms "
 limit_word AnswerLimit = codes "answer "
 limit_word RowsLimit = codes "rows "
+limit_word SelectsLimit = codes "selects "
 
 -- its greatest number
 abbrev pub limit_of : LimitKind → ℕ
@@ -49,6 +50,7 @@ limit_of ColumnsLimit = MOST_COLUMNS
 limit_of AtomsLimit = MOST_ATOMS
 limit_of AnswerLimit = MOST_ANSWER_COLUMNS
 limit_of RowsLimit = MOST_ROWS
+limit_of SelectsLimit = MOST_SELECTS
 
 abbrev pub limit_text : LimitKind → List ℕ
 limit_text what = limit_word what ++ decimal (limit_of what)

@@ -9,7 +9,8 @@ use crate::append::{
     append_name, append_named, append_number, append_numbered, append_row, append_u32, append_words,
 };
 use cqa_model::{
-    LONGEST_NAME, MOST_ANSWER_COLUMNS, MOST_ATOMS, MOST_COLUMNS, MOST_ROWS, MOST_TABLES,
+    LONGEST_NAME, MOST_ANSWER_COLUMNS, MOST_ATOMS, MOST_COLUMNS, MOST_ROWS, MOST_SELECTS,
+    MOST_TABLES,
 };
 use cqa_value::{Name, NoMemory, Row, row_text};
 use refusals::{LimitKind, Place, Refusal};
@@ -128,6 +129,7 @@ fn limit_name(what: LimitKind) -> &'static str
         LimitKind::Atoms => "atoms ",
         LimitKind::Answer => "answer ",
         LimitKind::Rows => "rows ",
+        LimitKind::Selects => "selects ",
     }
 }
 
@@ -142,6 +144,7 @@ fn most(what: LimitKind) -> usize
         LimitKind::Atoms => MOST_ATOMS as usize,
         LimitKind::Answer => MOST_ANSWER_COLUMNS,
         LimitKind::Rows => MOST_ROWS,
+        LimitKind::Selects => MOST_SELECTS,
     }
 }
 

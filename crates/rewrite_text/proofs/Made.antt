@@ -2,16 +2,14 @@
 use Rattle.std.proofs.Common.{◌≡◌, inl, inr, ℕ, ◌<◌, List, [], ◌∷◌, ◌++◌, length, get_or, filter, slice_get, Some, Contains, refl, ap, sym, ◌∙◌, subst, arith}
 use Rattle.std.specs.List.{AllZip}
 use Rattle.std.specs.List.Sorted.{IsStrictlySortedBy}
-use Rattle.std.specs.Ordering.{ordering_reverse}
-use Rattle.std.specs.declared.cmp.Ordering.{Ordering}
-use Rattle.std.specs.declared.cmp.Ordering.TheVariants.{Less, Equal, Greater}
+use Rattle.std.specs.declared.cmp.Ordering.TheVariants.{Less}
 use Rattle.std.proofs.lemmas.List.Kept.{IsStrictlySortedBy-filter}
 use Rattle.std.proofs.lemmas.List.Elements.{Contains-get_or}
 use Rattle.std.proofs.lemmas.Map.Keys.{Less-from_sorted}
 use Rattle.std.proofs.lemmas.Option.{slice_get_cases}
 use Rattle.cqa_value.specs.declared.value.Value.{Value}
 use Rattle.cqa_value.specs.Values.{row_eq}
-use Rattle.cqa_value.proofs.Words.{Contains-flat_map}
+use Rattle.cqa_value.proofs.Words.{Contains-flat_map, not_less}
 use Rattle.cqa_model.specs.declared.query.Query.{Query}
 use Rattle.cqa_model.specs.Database.{Table, IsDatabase, block_cmp, key_of, keys_of, stored}
 use Rattle.cqa_model.specs.Blocks.{AreBlocks}
@@ -95,17 +93,12 @@ zip_once R f (x ∷ xs) (y ∷ ys) (z ∷ zs) h k =
     let es : ys ≡ zs = zip_once R f xs ys zs h.1 k.1 in
     cc (e, es)
 
-less_not : (o : Ordering) → o ≡ ordering_reverse o → o ≡ Less → ⊥
-less_not Less e l = cc
-less_not Equal e l = cc
-less_not Greater e l = cc
-
 -- rows that strictly ascend differ
 differ : (key : List ℕ) (rows : List (List Value)) → IsStrictlySortedBy (block_cmp key) rows → (i j : ℕ) → i < j → j < length rows → get_or rows i [] ≡ get_or rows j [] → ⊥
 differ key rows sorted i j l k e =
     let x = get_or rows i [] in
     let less : block_cmp key x x ≡ Less = subst (λ z. block_cmp key x z ≡ Less) (sym e) (Less-from_sorted (block_cmp key) rows i j [] sorted l k) in
-    less_not (block_cmp key x x) ((block_total key).antisymm x x) less
+    not_less (block_cmp key) (block_total key) x less
 
 module _ (q : Query) (tables : List (List (List Value))) (row : List Value) where
   abbrev Holds : List Placed → ℕ → List ℕ → List Value → Type 0

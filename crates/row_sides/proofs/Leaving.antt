@@ -6,18 +6,10 @@ use Rattle.std.proofs.lemmas.List.Elements.{Contains-append_right, Contains-appe
 use Rattle.std.proofs.lemmas.Option.{slice_get_within, slice_get-get_or, get_or_from_slice_get}
 use Rattle.cqa_value.specs.declared.value.Value.{Value}
 use Rattle.cqa_value.specs.Values.{row_cmp, row_cmp_total}
-use Rattle.cqa_value.proofs.Words.{member_by_recursion, cases_le, mem-head, mem-tail, mem-nil, mem-cases}
+use Rattle.cqa_value.proofs.Words.{member_by_recursion, cases_le, mem-head, mem-tail, mem-nil, mem-cases, not_less}
 use Rattle.std.specs.Ordering.{ordering_reverse}
-use Rattle.std.proofs.Common.{Ordering, Equal, Greater}
+use Rattle.std.proofs.Common.{Greater}
 use Rattle.row_sides.proofs.Sieving.{sorted-behind}
-
-turned : (o : Ordering) → o ≡ ordering_reverse o → o ≡ Less → ⊥
-turned Less e l = cc
-turned Equal e l = cc
-turned Greater e l = cc
-
-not-less : (x : List Value) → row_cmp x x ≡ Less → ⊥
-not-less x l = turned (row_cmp x x) (row_cmp_total.antisymm x x) l
 
 not-both : (x y : List Value) → row_cmp x y ≡ Less → row_cmp y x ≡ Less → ⊥
 not-both x y l m =
@@ -40,7 +32,7 @@ module _ (others : List (List Value)) (at : ℕ) (sorted : IsStrictlySortedBy ro
   module _ (row : List Value) (later : List (List Value)) (ascends : IsStrictlySortedBy row_cmp (row ∷ later))
       (to_come : (x : List Value) → Contains (drop at others) x → Contains (row ∷ later) x) (met : (x : List Value) → Contains (take at others) x → Contains (row ∷ later) x → ⊥) where
     not-later : Contains later row → ⊥
-    not-later m = not-less row (behind row row later ascends m)
+    not-later m = not_less row_cmp row_cmp_total row (behind row row later ascends m)
 
     -- the row is the next of the others
     module _ (is : slice_get others at ≡ Some row) where
@@ -49,7 +41,7 @@ module _ (others : List (List Value)) (at : ℕ) (sorted : IsStrictlySortedBy ro
 
       pub to_come-then : (x : List Value) → Contains (drop (at + 1) others) x → Contains later x
       to_come-then x m = elim (mem-cases x row later (to_come x (subst (λ xs. Contains xs x) (sym (split row is)) (mem-tail x row (drop (at + 1) others) m)))) [
-        | inl e ↦ absurd (not-less row (subst (λ z. row_cmp row z ≡ Less) (sym e) (behind row x (drop (at + 1) others) (subst (IsStrictlySortedBy row_cmp) (split row is) rest-sorted) m)))
+        | inl e ↦ absurd (not_less row_cmp row_cmp_total row (subst (λ z. row_cmp row z ≡ Less) (sym e) (behind row x (drop (at + 1) others) (subst (IsStrictlySortedBy row_cmp) (split row is) rest-sorted) m)))
         | inr n ↦ n
       ]
 
