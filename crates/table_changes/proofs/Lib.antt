@@ -9,3 +9,4 @@ pub mod Inserting
 pub mod Columns
 pub mod Preferring
 pub mod PreferredLaws
+pub mod Stretches

@@ -21,7 +21,7 @@ use Rattle.table_blocks.specs.declared.test.ColumnTest.{ColumnTest}
 use Rattle.table_blocks.proofs.Passing.{dec_tests, is_yes, is_no}
 use Rattle.table_blocks.proofs.Sharing.{same_decides}
 use Rattle.table_blocks.proofs.Sparing.{spared_all}
-use Rattle.table_changes.specs.Preferred.{IsPreferred, DecidesTests, stays_among}
+use Rattle.table_changes.specs.Preferred.{IsPreferred, DecidesTests, stays_among, staying}
 
 -- ---- truth values
 
@@ -489,15 +489,12 @@ module _ (key : List ℕ) (rows : List (List Value)) (tests : List ColumnTest) (
     ));
   }
 
--- what is told of the rows of the stretch, and the rows that stay by it
-pub preferred_by : (key : List ℕ) (stored rows : List (List Value)) (tests : List ColumnTest) (from : ℕ) (told flags : List Bool) → flags ≡ told → stored ≡ rows → IsStrictlySortedBy (block_cmp key) stored → IsToldStretch key rows tests from (from + length told)
-    → ((passes : List Value → Bool) → DecidesTests tests passes → told ≡ map (stays_among key passes (take (length told) (drop from rows))) (take (length told) (drop from rows)))
-    → (p : List Value → Bool) × (flags ≡ map p (take (length flags) (drop from rows))) × ((take from rows ++ filter p (take (length flags) (drop from rows))) ++ drop (from + length flags) rows ≡ filter p rows) × IsPreferred key rows tests (filter p rows)
-preferred_by key stored rows tests from told flags same is sorted stretch each =
-    let here = subst (λ (fs : List Bool). IsToldStretch key rows tests from (from + length fs)) (sym same) stretch in
-    let these = subst (λ (fs : List Bool). fs ≡ map (stays_among key (passing tests) (take (length fs) (drop from rows))) (take (length fs) (drop from rows))) (sym same) (each (passing tests) (passing-decides tests)) in (
-      stays key rows tests from (length flags) here,
-      these ∙ ap (λ xs. map (stays_among key (passing tests) xs) (take (length flags) (drop from rows))) (stretch_is key rows tests from (length flags) here),
-      kept_is key rows tests from (length flags) here,
-      kept_preferred key rows tests from (length flags) here (subst (IsStrictlySortedBy (block_cmp key)) is sorted),
+-- those that stay beside the others of the stretch, with all rows outside it, are the preferred ones
+pub preferred_by : (key : List ℕ) (rows : List (List Value)) (tests : List ColumnTest) (from to count : ℕ) → IsStrictlySortedBy (block_cmp key) rows → IsToldStretch key rows tests from to → from + count ≡ to →
+    (p : List Value → Bool) × ((take from rows ++ staying key (passing tests) (take count (drop from rows))) ++ drop (from + count) rows ≡ filter p rows) × IsPreferred key rows tests (filter p rows)
+preferred_by key rows tests from to count sorted told wide =
+    let here = subst (IsToldStretch key rows tests from) (sym wide) told in (
+      stays key rows tests from count here,
+      ap (λ xs. (take from rows ++ filter (stays_among key (passing tests) xs) (take count (drop from rows))) ++ drop (from + count) rows) (stretch_is key rows tests from count here) ∙ kept_is key rows tests from count here,
+      kept_preferred key rows tests from count here sorted,
     )

@@ -1,6 +1,6 @@
 -- Rows that are preferred by tests: of each block in which some row passes them, the rows that do.
-use Rattle.std.specs.Prelude.{◌≡◌, ◌⊎◌, ◌↔◌, ◌+◌, ◌||◌, ◌&&◌, not, IsTrue, ℕ, Bool, List, length, Contains}
-use Rattle.std.specs.List.{list_any}
+use Rattle.std.specs.Prelude.{◌≡◌, ◌⊎◌, ◌↔◌, ◌+◌, ◌||◌, ◌&&◌, ◌<◌, ◌≤◌, not, IsTrue, ℕ, Bool, List, [], length, slice_index_or, Contains}
+use Rattle.std.specs.List.{list_any, filter}
 use Rattle.std.specs.List.Sorted.{IsStrictlySortedBy}
 use Rattle.cqa_value.specs.declared.value.Value.{Value}
 use Rattle.cqa_model.specs.Database.{Table, SharesKey, block_cmp}
@@ -27,3 +27,11 @@ DecidesTests tests passes = (row : List Value) → IsTrue (passes row) ↔ Tests
 -- a row stays beside some rows: it passes, or none of those that share its key passes
 abbrev pub stays_among : List ℕ → (List Value → Bool) → List (List Value) → List Value → Bool
 stays_among key passes rows row = passes row || not (list_any (λ other. same_key key row other && passes other) rows)
+
+-- those of some rows that stay beside the others
+abbrev pub staying : List ℕ → (List Value → Bool) → List (List Value) → List (List Value)
+staying key passes rows = filter (stays_among key passes rows) rows
+
+-- blocks of rows begin at a place: no row before it shares its key with one from there on
+abbrev pub BlocksBegin : List ℕ → List (List Value) → ℕ → Type 0
+BlocksBegin key rows at = (i j : ℕ) → i < at → at ≤ j → j < length rows → SharesKey key (slice_index_or rows i []) (slice_index_or rows j []) → ⊥
