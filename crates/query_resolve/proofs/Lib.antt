@@ -6,3 +6,4 @@ pub mod Queries
 pub mod AnswerColumns
 mod JoinGoals
 pub mod Ranges
+pub mod Alike

@@ -60,7 +60,7 @@ module _ {A : Type 0} (f : A → List ℕ) (d : A) (xs : List A) (fresh : (j : �
   ]
 
 module _ {A : Type 0} (check : List A → A → Option Refusal) where
-  passes_from : (before xs : List A) (j : ℕ) (d : A) → first_fault check before xs ≡ None → j < length xs → check (before ++ take j xs) (get_or xs j d) ≡ None
+  pub passes_from : (before xs : List A) (j : ℕ) (d : A) → first_fault check before xs ≡ None → j < length xs → check (before ++ take j xs) (get_or xs j d) ≡ None
   passes_from before [] j d e inside = absurd (omega (arith, inside))
   passes_from before (x ∷ xs) zero d e inside = ap (λ l. check l x) (append-nil before) ∙ (both_none (check before x) (first_fault check (before ++ x ∷ []) xs) e).0
   passes_from before (x ∷ xs) (suc j) d e inside =

@@ -149,7 +149,7 @@ module _ (db : List Table) (select : Select) where
       }
 
 module _ (db : List Table) (names : List (List ℕ)) (q : Query) (are : AllZip (IsAtomOf db) names q.atoms) where
-  kind_of_column : (written : RawCol) (col : ColRef) → IsColumnOf db names written col → column_fault db names written.table written.name ≡ None → kind_at q db col ≡ column_kind db names written
+  pub kind_of_column : (written : RawCol) (col : ColRef) → IsColumnOf db names written col → column_fault db names written.table written.name ≡ None → kind_at q db col ≡ column_kind db names written
   kind_of_column written col is valid = kinds_stored db (nth_atom q.atoms col.atom).table col.col (table_of_column db names q.atoms are written col is) ∙ kind_found db names q.atoms are written col is valid
 
   kinds_agree : (number : ℕ) (written : RawCond) (cond : Cond) → IsCondOf db names written cond → cond_fault db names number written ≡ None → KindsAgree q db cond

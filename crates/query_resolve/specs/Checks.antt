@@ -1,17 +1,17 @@
 -- The first failing check of a schema, of the key of an `alter`, of the tests of rows, of the goal and the groups of a `range`, of
--- a query, and of a `range` over several tables.
-use Rattle.std.specs.Prelude.{ℕ, ◌+◌, Bool, nat_lt, nat_le, not, ◌&&◌, ◌||◌, if◌then◌else◌, List, [], ◌∷◌, ◌++◌, length, map, Option, Some, None, is_some, is_none, slice_index_or}
-use Rattle.std.specs.List.{list_all}
+-- a query, of a `range` over several tables, and of a union.
+use Rattle.std.specs.Prelude.{ℕ, ◌+◌, Bool, nat_lt, nat_le, ◌==◌, not, ◌&&◌, ◌||◌, if◌then◌else◌, List, [], ◌∷◌, ◌++◌, length, map, Option, Some, None, is_some, is_none, slice_index_or}
+use Rattle.std.specs.List.{list_all, zip}
 use Rattle.cqa_value.specs.declared.value.Kind.{Kind}
 use Rattle.cqa_value.specs.declared.value.Kind.TheVariants as kinds
 use Rattle.cqa_value.specs.declared.value.Value.{Value}
 use Rattle.cqa_value.specs.Values.{kind_of}
 use Rattle.cqa_model.specs.declared.schema.Column.{Column}
 use Rattle.refusals.specs.declared.refusal.Refusal.{Refusal}
-use Rattle.refusals.specs.declared.refusal.Refusal.TheVariants.{UnknownTable, TableExists, UnknownColumn, AmbiguousColumn, SelfJoin, TypeMismatch, DuplicateColumn, BadKey, Limit, NotStrict}
-use Rattle.refusals.specs.declared.refusal.Place.TheVariants.{Condition}
-use Rattle.refusals.specs.declared.refusal.LimitKind.TheVariants.{Tables, Columns, Atoms, Answer}
-use Rattle.cqa_model.specs.declared.limits.TheConstants.{MOST_TABLES, MOST_COLUMNS, MOST_ATOMS, MOST_ANSWER_COLUMNS}
+use Rattle.refusals.specs.declared.refusal.Refusal.TheVariants.{UnknownTable, TableExists, UnknownColumn, AmbiguousColumn, SelfJoin, TypeMismatch, WrongArity, DuplicateColumn, BadKey, Limit, NotStrict}
+use Rattle.refusals.specs.declared.refusal.Place.TheVariants.{Condition, Cell}
+use Rattle.refusals.specs.declared.refusal.LimitKind.TheVariants.{Tables, Columns, Atoms, Answer, Selects}
+use Rattle.cqa_model.specs.declared.limits.TheConstants.{MOST_TABLES, MOST_COLUMNS, MOST_ATOMS, MOST_ANSWER_COLUMNS, MOST_SELECTS}
 use Rattle.cqa_model.specs.Database.{Table}
 use Rattle.spj_syntax.specs.declared.tree.RawSchema.{RawSchema}
 use Rattle.spj_syntax.specs.declared.tree.RawTest.{RawTest}
@@ -181,3 +181,31 @@ answer_kinds db q = map (kind_at q db) q.answer
 -- the row of an `explain` has a value for each answer column, of the column's kind
 abbrev pub answer_fault : List Table → Query → List Value → Option Refusal
 answer_fault db q row = row_fault (answer_kinds db q) 1 row
+
+-- the kinds of the columns that a query selects
+abbrev pub select_kinds : List Table → Select → List Kind
+select_kinds db select = map (column_kind db select.tables) select.columns
+
+-- an answer column of the part of a number has the kind of the first part's column
+abbrev pub kinds_clash : ℕ → ℕ → Kind × Kind → Option Refusal
+kinds_clash part column (first, kind) = fault_unless (same_kind first kind) (TypeMismatch (Cell part column))
+
+-- the part of a number has as many answer columns as the first part, and of the same kinds
+abbrev pub part_fault : List Kind → ℕ → List Kind → Option Refusal
+part_fault first part kinds = first_of (fault_unless (length kinds == length first) (WrongArity part)) (first_fault (fault_by_number (kinds_clash part)) [] (zip first kinds))
+
+-- each part from the second on, by the kinds of its answer columns, has answers like the first
+abbrev pub answers_fault : List (List Kind) → Option Refusal
+answers_fault [] = None
+answers_fault (first ∷ others) = first_fault (fault_by_number (part_fault first)) (first ∷ []) others
+
+-- a union has at most `MOST_SELECTS` parts, each of them passes the checks of a query, and then they have answers like the first
+abbrev pub union_fault : List Table → List Select → Option Refusal
+union_fault db selects =
+    first_of (fault_unless (nat_le (length selects) MOST_SELECTS) (Limit Selects))
+    (first_of (first_fault (λ before select. query_fault db select) [] selects) (answers_fault (map (select_kinds db) selects)))
+
+-- the row of an `explain` of a union is checked against the first part
+abbrev pub union_row_fault : List Table → List Query → List Value → Option Refusal
+union_row_fault db [] row = None
+union_row_fault db (first ∷ others) row = answer_fault db first row

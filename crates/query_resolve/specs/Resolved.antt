@@ -13,6 +13,7 @@ use Rattle.cqa_model.specs.declared.aggregate.Goal.TheVariants as goals
 use Rattle.cqa_model.specs.Database.{Table}
 use Rattle.cqa_model.specs.Query.{FitsDatabase}
 use Rattle.cqa_model.specs.Shape.{nth_atom}
+use Rattle.cqa_model.specs.Unions.{AreParts}
 use Rattle.spj_syntax.specs.declared.tree.RawSchema.{RawSchema}
 use Rattle.spj_syntax.specs.declared.tree.RawTest.{RawTest}
 use Rattle.spj_syntax.specs.declared.tree.RawGoal.{RawGoal}
@@ -98,6 +99,11 @@ pub record IsQueryOf (db : List Table) (select : Select) (query : Query) : Type 
   pub conds : AllZip (IsCondOf db select.tables) select.conds query.conds
   pub answer : AllZip (IsColumnOf db select.tables) select.columns query.answer
   pub fits : FitsDatabase query db
+
+-- the parts of a union: one query for each written one, in order
+pub record AreQueriesOf (db : List Table) (selects : List Select) (queries : List Query) : Type 0 where
+  pub each : AllZip (IsQueryOf db) selects queries
+  pub parts : AreParts queries db
 
 -- the column of a goal over several tables is that of an atom, at a place; what is asked of it is kept, and a count has the first atom
 abbrev pub IsJoinGoalOf : List Table → List (List ℕ) → RawJoinGoal → Goal → ℕ → Type 0

@@ -45,7 +45,7 @@ fn kind_fault_of(bound: &Bound<'_>, row: &Row) -> Option<Refusal>
 }
 
 /// The kind of an answer column.
-fn answer_kind(bound: &Bound<'_>, at: usize) -> Kind
+pub fn answer_kind(bound: &Bound<'_>, at: usize) -> Kind
     requires { at < length bound.now.query.now.answer }
     ensures { slice_get (answer_kinds bound.now.db.now bound.now.query.now) at ≡ Some result }
 {

@@ -14,6 +14,7 @@ mod names;
 mod query;
 mod range;
 mod schema;
+mod unions;
 
 pub use answer::check_row;
 pub use deletion::resolve_tests;
@@ -23,3 +24,4 @@ pub use key::resolve_key;
 pub use query::resolve;
 pub use range::{RangeQuery, resolve_range};
 pub use schema::resolve_schema;
+pub use unions::{check_union_row, resolve_all};

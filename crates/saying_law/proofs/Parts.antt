@@ -30,7 +30,7 @@ use Rattle.spj_syntax.specs.declared.tree.Verb.TheVariants as verbs
 use Rattle.spj_syntax.specs.Grammar as grammar
 use Rattle.spj_syntax.specs.Lexemes.{Lexeme, Word, Number, Quoted, Mark}
 use Rattle.spj_syntax.specs.Shapes.{int, text, name, mark, matches, Shape, one, ◌⨾◌}
-use Rattle.spj_syntax.specs.Written.{name_tokens, literal_tokens, column_tokens, listed_tokens, filtered_tokens, op_symbol, test_tokens, col_tokens, cond_tokens, row_tokens, head_tokens, select_tokens, strict_tokens, key_tokens, change_tokens, row_for_tokens, verb_tokens, goal_tokens, grouped_tokens, anded_tokens, join_goal_tokens, join_grouped_tokens}
+use Rattle.spj_syntax.specs.Written.{between, name_tokens, literal_tokens, column_tokens, listed_tokens, filtered_tokens, op_symbol, test_tokens, col_tokens, cond_tokens, row_tokens, head_tokens, select_tokens, strict_tokens, key_tokens, change_tokens, row_for_tokens, verb_tokens, goal_tokens, grouped_tokens, anded_tokens, join_goal_tokens, join_grouped_tokens}
 use Rattle.spj_syntax.proofs.Naming.{is_name}
 use Rattle.saying_law.proofs.Combining.{IsLegal, AreLegal, HasTrees, Anything, turned, counts_as, both, either, none, a_word, a_mark, after_word, after_mark, with_marks, with_words, of_filter}
 
@@ -96,7 +96,7 @@ any_row =
     counts_as (λ x v. (x.0, refl))
     (after_mark s.Open (both (either (counts_as (λ x v. (x, refl)) (listed a_literal)) (counts_as {g = listed_tokens literal_tokens} (λ u v. ([], refl)) none)) (a_mark s.Close)))
 
-row_for : HasTrees grammar.row_for row_for_tokens (Anything (List Value))
+pub row_for : HasTrees grammar.row_for row_for_tokens (Anything (List Value))
 row_for = counts_as (λ x v. (x.0, refl)) (after_word (codes "row") (both any_row (a_word (codes "for"))))
 
 an_operator : HasTrees grammar.op (λ o. Mark (op_symbol o) ∷ []) (Anything Op)
@@ -152,17 +152,18 @@ a_query =
     counts_as (λ x v. (record { columns = x.0; tables = x.1.0; conds = x.1.1; some_table = v.1.0.0; few = v.1.1.1 }, refl))
     (both a_head (after_word (codes "from") (both (listed a_name) (of_filter a_cond))))
 
+-- one query or more, with "union" between them
+pub some_queries : HasTrees grammar.united (between (Word (codes "union")) select_tokens) (λ parts. 0 < length parts)
+some_queries = turned (λ parts v. (parts, refl, v.0)) (with_words (codes "union") a_query)
+
 pub a_verb : HasTrees grammar.verb verb_tokens (Anything Verb)
 a_verb =
-    either (counts_as (λ u v. (verbs.Ask, refl)) (a_word (codes "ask")))
-    (either (counts_as (λ u v. (verbs.Possible, refl)) (a_word (codes "possible")))
-    (either (counts_as (λ u v. (verbs.Disputed, refl)) (a_word (codes "disputed")))
+    either (counts_as (λ u v. (verbs.Disputed, refl)) (a_word (codes "disputed")))
     (either (counts_as (λ u v. (verbs.Classify, refl)) (a_word (codes "classify")))
     (either (counts_as (λ u v. (verbs.Plan, refl)) (a_word (codes "plan")))
     (either (counts_as (λ u v. (verbs.Sql, refl)) (a_word (codes "sql")))
-    (either (counts_as (λ row v. (verbs.Explain row, refl)) (after_word (codes "explain") row_for))
     (either (counts_as (λ row v. (verbs.Against row, refl)) (after_word (codes "against") row_for))
-    (counts_as (λ row v. (verbs.Prove row, refl)) (after_word (codes "prove") row_for)))))))))
+    (counts_as (λ row v. (verbs.Prove row, refl)) (after_word (codes "prove") row_for))))))
 
 -- one test or more
 pub more_tests : HasTrees (grammar.anded grammar.test) (anded_tokens test_tokens) (Anything (List RawTest))

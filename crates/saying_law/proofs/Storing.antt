@@ -1,6 +1,6 @@
 -- What a statement puts into a state can stand there.
 use mir.Syntax.{w64}
-use Rattle.std.proofs.Common.{◌≡◌, ◌^◌, ℤ, pos, negsuc, Bool, true, false, List, [], ◌∷◌, FitsSigned, subst, arith}
+use Rattle.std.proofs.Common.{◌≡◌, ◌^◌, ℤ, pos, negsuc, Bool, true, false, List, [], ◌∷◌, ◌++◌, codes, FitsSigned, subst, arith}
 use Rattle.std.specs.List.{AllByRecursion}
 use Rattle.std.proofs.lemmas.Bool.Decides.{Decides-ltb}
 use Rattle.std.proofs.lemmas.Int.{ints}
@@ -11,12 +11,16 @@ use Rattle.cqa_value.specs.declared.value.Value.{Value}
 use Rattle.cqa_value.specs.declared.value.Value.TheVariants as values
 use Rattle.script_lex.specs.declared.kinds.Symbol.TheVariants as s
 use Rattle.script_lex.specs.declared.kinds.TokenKind.TheVariants as kinds
+use Rattle.spj_syntax.specs.declared.tree.RawCond.{RawCond}
+use Rattle.spj_syntax.specs.declared.tree.RawCond.TheVariants as conds
+use Rattle.spj_syntax.specs.declared.tree.Select.{Select}
+use Rattle.spj_syntax.specs.declared.tree.Verb.TheVariants as verbs
 use Rattle.spj_syntax.specs.declared.tree.Statement.{Statement}
 use Rattle.spj_syntax.specs.declared.tree.Statement.TheVariants as statements
 use Rattle.spj_syntax.specs.Lexemes.{Lexeme, Word, Number, Quoted, Mark}
 use Rattle.spj_syntax.specs.Parsed.{lexemes, is_set, IsIntInRange}
-use Rattle.spj_syntax.specs.Written.{each_after, between, listed_tokens, literal_tokens, row_tokens, statement_tokens}
-use Rattle.saying_law.specs.Laws.{IsStorable, StatementsAreStorable}
+use Rattle.spj_syntax.specs.Written.{name_tokens, each_after, between, listed_tokens, filtered_tokens, literal_tokens, op_symbol, col_tokens, cond_tokens, row_tokens, head_tokens, select_tokens, verb_tokens, statement_tokens}
+use Rattle.saying_law.specs.Laws.{IsStorable, StatementsAreStorable, HasValidLiteral, ProvesOfValidValues}
 use Rattle.saying_law.proofs.Combining.{each_left, each_right}
 use Rattle.saying_law.proofs.Legal.{HoldsOfSound, each_spelled}
 
@@ -64,4 +68,28 @@ storable _ h = tt
 pub statements_are_storable : StatementsAreStorable
 statements_are_storable text tokens statement spelled fit written =
     storable statement
+    (subst (λ ls. AllByRecursion (IsValued (is_set ls)) ls) written.tokens (each_spelled (IsValued (is_set (lexemes text tokens))) text tokens (valued (is_set (lexemes text tokens))) spelled fit))
+
+-- ---- the values of a `prove`
+
+valid_literal : (k : RawCond) → AllByRecursion (IsValued false) (cond_tokens k) → HasValidLiteral k
+valid_literal (conds.Join left right) h = tt
+valid_literal (conds.Test col op value) h = valid_value value (each_right (IsValued false) (col_tokens col) (Mark (op_symbol op) ∷ literal_tokens value) h).1
+
+valid_literals : (ks : List RawCond) → AllByRecursion (IsValued false) (filtered_tokens cond_tokens ks) → AllByRecursion HasValidLiteral ks
+valid_literals [] h = tt
+valid_literals (k ∷ ks) h = each_between (IsValued false) HasValidLiteral (Word (codes "and")) cond_tokens valid_literal (k ∷ ks) h.1
+
+proves_of_valid : (row : List Value) (select : Select) → AllByRecursion (IsValued false) (statement_tokens (statements.Asking (verbs.Prove row) select)) → IsValidRow row × AllByRecursion HasValidLiteral select.conds
+proves_of_valid row select h =
+    let said = each_left (IsValued false) (verb_tokens (verbs.Prove row)) (select_tokens select) h in
+    let asked = each_right (IsValued false) (verb_tokens (verbs.Prove row)) (select_tokens select) h in
+    let behind = each_right (IsValued false) (head_tokens select.columns) (Word (codes "from") ∷ (listed_tokens name_tokens select.tables ++ filtered_tokens cond_tokens select.conds)) asked in (
+      valid_row row (each_left (IsValued false) (row_tokens row) (Word (codes "for") ∷ []) said.1.1),
+      valid_literals select.conds (each_right (IsValued false) (listed_tokens name_tokens select.tables) (filtered_tokens cond_tokens select.conds) behind.1),
+    )
+
+pub proves_of_valid_values : ProvesOfValidValues
+proves_of_valid_values text tokens row select spelled fit written =
+    proves_of_valid row select
     (subst (λ ls. AllByRecursion (IsValued (is_set ls)) ls) written.tokens (each_spelled (IsValued (is_set (lexemes text tokens))) text tokens (valued (is_set (lexemes text tokens))) spelled fit))

@@ -1,12 +1,18 @@
 -- That each text says something.
 use Rattle.std.specs.Prelude.{◌≡◌, ◌⊎◌, ◌≤◌, ℕ, List, length, true, All}
-use Rattle.cqa_value.specs.Valid.{IsValidRow}
+use Rattle.std.specs.List.{AllByRecursion}
+use Rattle.cqa_value.specs.declared.value.Value.{Value}
+use Rattle.cqa_value.specs.Valid.{IsValidValue, IsValidRow}
 use Rattle.script_lex.specs.declared.kinds.Token.{Token}
 use Rattle.script_lex.specs.declared.kinds.LexFault.{LexFault}
 use Rattle.script_lex.specs.Tokens.{Spells, IsFault, longest_text}
 use Rattle.spj_syntax.specs.declared.fault.SyntaxFault.{SyntaxFault}
+use Rattle.spj_syntax.specs.declared.tree.RawCond.{RawCond}
+use Rattle.spj_syntax.specs.declared.tree.RawCond.TheVariants.{Join, Test}
+use Rattle.spj_syntax.specs.declared.tree.Select.{Select}
 use Rattle.spj_syntax.specs.declared.tree.Statement.{Statement}
-use Rattle.spj_syntax.specs.declared.tree.Statement.TheVariants.{Insert, SetConflicts}
+use Rattle.spj_syntax.specs.declared.tree.Statement.TheVariants.{Insert, SetConflicts, Asking}
+use Rattle.spj_syntax.specs.declared.tree.Verb.TheVariants.{Prove}
 use Rattle.spj_syntax.specs.Lexemes.{Lexeme}
 use Rattle.spj_syntax.specs.Limits.{most_conflicts}
 use Rattle.spj_syntax.specs.Shapes.{Shape, Generates, FirstFault}
@@ -40,3 +46,13 @@ IsStorable _ = Unit {0}
 -- The law: what a statement puts into a state can stand there, if its tokens spell a text and each fit.
 abbrev pub StatementsAreStorable : Type 0
 StatementsAreStorable = (text : List ℕ) (tokens : List Token) (statement : Statement) → Spells text tokens → AllLexemesFit (lexemes text tokens) → IsWrittenAs statement (lexemes text tokens) → IsStorable statement
+
+-- the literal of a condition, where it has one, is valid
+abbrev pub HasValidLiteral : RawCond → Type 0
+HasValidLiteral (Join left right) = Unit {0}
+HasValidLiteral (Test col op value) = IsValidValue value
+
+-- The law: the row that is to be proved and the literals of the query are valid, if the statement's tokens spell a text and each fit.
+abbrev pub ProvesOfValidValues : Type 0
+ProvesOfValidValues = (text : List ℕ) (tokens : List Token) (row : List Value) (select : Select) → Spells text tokens → AllLexemesFit (lexemes text tokens) → IsWrittenAs (Asking (Prove row) select) (lexemes text tokens)
+    → IsValidRow row × AllByRecursion HasValidLiteral select.conds

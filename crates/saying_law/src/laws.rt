@@ -1,7 +1,7 @@
 //! Laws of texts, over the definitions alone. Each is what its function ensures, so the build proves it.
 
 ghost use Rattle.spj_syntax.specs.Texts.{StatementOnce, OrderOnce, BlockOnce};
-ghost use Rattle.saying_law.specs.Laws.{TextsHaveTokens, ShapesDecide, TokensAreDecided, StatementsHaveTrees, StatementsAreStorable};
+ghost use Rattle.saying_law.specs.Laws.{TextsHaveTokens, ShapesDecide, TokensAreDecided, StatementsHaveTrees, StatementsAreStorable, ProvesOfValidValues};
 
 /// Tokens spell a text, or it has a fault.
 pub fn texts_have_tokens()
@@ -41,4 +41,9 @@ pub fn text_is_one_block()
 /// What a statement puts into a state can stand there, if its tokens spell a text and each fit.
 pub fn statements_are_storable()
     ensures { StatementsAreStorable }
+{}
+
+/// The row that is to be proved and the literals of the query are valid, if the statement's tokens spell a text and each fit.
+pub fn proves_of_valid_values()
+    ensures { ProvesOfValidValues }
 {}

@@ -148,8 +148,14 @@ same_alter =
     both (same (one (word (codes "alter")))) (both (same (one (word (codes "table")))) (both (same grammar.a_name)
     (drawn_around (one (word (codes "drop")) ⨾ one (word (codes "strict"))) (one (word (codes "set"))) (one (word (codes "strict"))) grammar.key)))
 
+same_united : Same grammar.united factored.united
+same_united = both same_query (often (both (same (one (word (codes "union")))) same_query))
+
 same_asking : Same grammar.asking factored.asking
-same_asking = both (same grammar.verb) same_query
+same_asking =
+    either (both (same (one (word (codes "ask")))) same_united)
+    (either (both (same (one (word (codes "possible")))) same_united)
+    (either (both (same (one (word (codes "explain")))) (both (same grammar.row_for) same_united)) (both (same grammar.verb) same_query)))
 
 same_show : Same grammar.show factored.show
 same_show =

@@ -239,6 +239,7 @@ mark_took {y = y} {s = s} h e = rw e (mark_taken y s (sym h.is))
 pub separator_took : (b : Between) {s z : List Lexeme} → Opens true (one (separator b)) s → z ≡ drop 1 s → Took (one (separator b)) (separator_lexeme b ∷ []) s z
 separator_took betweens.Comma o e = mark_took o e
 separator_took betweens.And o e = word_took o e
+separator_took betweens.Union o e = word_took o e
 
 -- the shape stops where it doesn't open
 pub one_fails : {x : Terminal} {s : List Lexeme} → Opens false (one x) s → Failed (one x) Syntax s s

@@ -4,6 +4,7 @@ use Rattle.std.proofs.Common.{◌≤◌, ◌+◌, ◌*◌, Bool, true, false, na
 use Rattle.std.specs.List.{list_any}
 use Rattle.std.specs.Coded.{le_prop}
 use Rattle.std.proofs.Props.{props}
+use Rattle.std.proofs.lemmas.List.{append-nil}
 use mathlib.Core.HLevel.{is_prop→PathP}
 use Rattle.spj_syntax.specs.Limits.{most_items}
 use Rattle.spj_syntax.specs.Names.{AreNames}
@@ -23,10 +24,11 @@ use Rattle.spj_syntax.specs.declared.tree.RawCol.{RawCol}
 use Rattle.spj_syntax.specs.declared.tree.RawCond.{RawCond}
 use Rattle.spj_syntax.specs.declared.tree.RawCond.TheVariants.{Join, Test}
 use Rattle.spj_syntax.specs.Lexemes.{Lexeme, Word, Number, Quoted, Mark}
-use Rattle.spj_syntax.specs.Written.{name_tokens, literal_tokens, column_tokens, listed_tokens, row_tokens, schema_tokens, op_symbol, test_tokens, col_tokens_of, col_tokens, cond_tokens, each_after, between, filtered_tokens, head_tokens, select_tokens, row_for_tokens, verb_tokens, strict_tokens, change_tokens, order_tokens, block_tokens, goal_tokens, grouped_tokens, anded_tokens, join_goal_tokens, join_grouped_tokens, range_tokens, statement_tokens}
+use Rattle.spj_syntax.specs.Written.{name_tokens, literal_tokens, column_tokens, listed_tokens, row_tokens, schema_tokens, op_symbol, test_tokens, col_tokens_of, col_tokens, cond_tokens, each_after, between, filtered_tokens, head_tokens, select_tokens, selects_tokens, row_for_tokens, verb_tokens, strict_tokens, change_tokens, order_tokens, block_tokens, goal_tokens, grouped_tokens, anded_tokens, join_goal_tokens, join_grouped_tokens, range_tokens, statement_tokens}
 use Rattle.spj_syntax.specs.declared.tree.Change.{Change}
 use Rattle.spj_syntax.specs.declared.tree.Change.TheVariants as changes
 use Rattle.spj_syntax.specs.declared.tree.Select.{Select}
+use Rattle.spj_syntax.specs.declared.tree.Selects.{Selects}
 use Rattle.spj_syntax.specs.declared.tree.Verb.{Verb}
 use Rattle.spj_syntax.specs.declared.tree.Verb.TheVariants as verbs
 use Rattle.spj_syntax.specs.declared.tree.RawGoal.{RawGoal}
@@ -193,9 +195,9 @@ filtered_decodes : {A : Type 0} (S : Lexeme → Type 0) (f : A → List Lexeme) 
     → (xs ys : List A) → filtered_tokens f xs ≡ filtered_tokens f ys → xs ≡ ys
 filtered_decodes S f n d xs ys e = (filtered_decode S f n d xs ys [] [] tt tt (ap (λ w. w ++ []) e)).0
 
-fine_filtered : {A : Type 0} (f : A → List Lexeme) (xs : List A) → Fine (OrAlso (Mark s.Comma) Never) (filtered_tokens f xs)
-fine_filtered f [] = tt
-fine_filtered f (x ∷ xs) = λ h. elim h [ inl e ↦ absurd (cc) | inr b ↦ b ]
+fine_filtered : {A : Type 0} (f : A → List Lexeme) (xs : List A) (r : List Lexeme) → Fine (OrAlso (Mark s.Comma) Never) r → Fine (OrAlso (Mark s.Comma) Never) (filtered_tokens f xs ++ r)
+fine_filtered f [] r g = g
+fine_filtered f (x ∷ xs) r g = λ h. elim h [ inl e ↦ absurd (cc) | inr b ↦ b ]
 
 fine_from : (r : List Lexeme) → Fine (OrAlso (Mark s.Comma) IsDot) (Word (codes "from") ∷ r)
 fine_from r = λ h. elim h [ inl e ↦ absurd (cc) | inr e ↦ absurd (cc) ]
@@ -227,20 +229,69 @@ head_decodes (c ∷ cs) (d ∷ ds) r z e =
     let i = between_decodes (Mark s.Comma) IsDot col_tokens (λ x. not_dot s.Comma (λ y. (cc)) x) cols_decode (c ∷ cs) (d ∷ ds) _ _ (omega arith) (omega arith) (fine_from r) (fine_from z) g in
     (i.0, (cc (i.1)))
 
-select_same : (p q : Select) → select_tokens p ≡ select_tokens q → p ≡ q
-select_same p q e =
-    let a = head_decodes p.columns q.columns _ _ e in
-    let b = between_decodes (Mark s.Comma) Never name_tokens (λ x. x) (λ x y r z f g e. name_decodes x y r z e) p.tables q.tables _ _ p.some_table q.some_table (fine_filtered cond_tokens p.conds) (fine_filtered cond_tokens q.conds) a.1 in
-    let c = filtered_decodes IsDot cond_tokens (λ x. absurd (cc)) cond_decodes p.conds q.conds b.1 in
+-- with what a query may go on
+abbrev OfQuery : Lexeme → Type 0
+OfQuery = OrAlso (Mark s.Comma) (After IsDot)
+
+no_comma_there : (r : List Lexeme) → Fine OfQuery r → Fine (OrAlso (Mark s.Comma) Never) r
+no_comma_there [] f = tt
+no_comma_there (t ∷ r) f = λ h. elim h [ inl e ↦ f (inl e) | inr b ↦ b ]
+
+no_cond_there : (r : List Lexeme) → Fine OfQuery r → Fine (After IsDot) r
+no_cond_there [] f = tt
+no_cond_there (t ∷ r) f = λ h. f (inr h)
+
+-- a query is told apart where none of its tokens goes on it
+select_decodes : (p q : Select) (r z : List Lexeme) → Fine OfQuery r → Fine OfQuery z → select_tokens p ++ r ≡ select_tokens q ++ z → (p ≡ q) × (r ≡ z)
+select_decodes p q r z f g e =
+    let tables = λ (q : Select). listed_tokens name_tokens q.tables in
+    let conds = λ (q : Select). filtered_tokens cond_tokens q.conds in
+    let a = head_decodes p.columns q.columns ((tables p ++ conds p) ++ r) ((tables q ++ conds q) ++ z)
+    (sym (append_assoc (head_tokens p.columns) (Word (codes "from") ∷ (tables p ++ conds p)) r) ∙ e ∙ append_assoc (head_tokens q.columns) (Word (codes "from") ∷ (tables q ++ conds q)) z) in
+    let b = between_decodes (Mark s.Comma) Never name_tokens (λ x. x) (λ x y r z f g e. name_decodes x y r z e) p.tables q.tables (conds p ++ r) (conds q ++ z) p.some_table q.some_table
+    (fine_filtered cond_tokens p.conds r (no_comma_there r f)) (fine_filtered cond_tokens q.conds z (no_comma_there z g))
+    (sym (append_assoc (tables p) (conds p) r) ∙ a.1 ∙ append_assoc (tables q) (conds q) z) in
+    let c = filtered_decode IsDot cond_tokens (λ x. absurd (cc)) cond_decodes p.conds q.conds r z (no_cond_there r f) (no_cond_there z g) b.1 in
     let x = a.0 in
     let y = b.0 in
-    λ i. record {
-      columns = x i;
-      tables = y i;
-      conds = c i;
-      some_table = is_prop→PathP (λ j. 1 ≤ length (y j)) (λ j. le_prop) p.some_table q.some_table i;
-      few = is_prop→PathP (λ j. length (c j) ≤ most_items) (λ j. le_prop) p.few q.few i;
-    }
+    let w = c.0 in (
+      λ i. record {
+        columns = x i;
+        tables = y i;
+        conds = w i;
+        some_table = is_prop→PathP (λ j. 1 ≤ length (y j)) (λ j. le_prop) p.some_table q.some_table i;
+        few = is_prop→PathP (λ j. length (w j) ≤ most_items) (λ j. le_prop) p.few q.few i;
+      },
+      c.1,
+    )
+
+select_same : (p q : Select) → select_tokens p ≡ select_tokens q → p ≡ q
+select_same p q e = (select_decodes p q [] [] tt tt (ap (λ w. w ++ []) e)).0
+
+-- "union" goes on no query
+no_union : OfQuery (Word (codes "union")) → ⊥
+unfolding initial
+no_union h = elim h [
+  | inl e ↦ absurd (cc)
+  | inr h ↦ elim h [
+    | inl e ↦ absurd (omega (arith, ap (λ l. initial (l ∷ [])) e))
+    | inr h ↦ elim h [ inl e ↦ absurd (omega (arith, ap (λ l. initial (l ∷ [])) e)) | inr e ↦ absurd (cc) ]
+  ]
+]
+
+parts_same : (ps qs : List Select) → 0 < length ps → 0 < length qs → between (Word (codes "union")) select_tokens ps ≡ between (Word (codes "union")) select_tokens qs → ps ≡ qs
+parts_same ps qs m n e = (between_decodes (Word (codes "union")) OfQuery select_tokens no_union select_decodes ps qs [] [] m n tt tt (ap (λ w. w ++ []) e)).0
+
+selects_same : (a b : Selects) → selects_tokens a ≡ selects_tokens b → a ≡ b
+selects_same a b e =
+    let p = parts_same a.parts b.parts (omega (arith, a.two)) (omega (arith, b.two)) e in
+    λ i. record { parts = p i; two = is_prop→PathP (λ j. 2 ≤ length (p j)) (λ j. le_prop) a.two b.two i }
+
+-- one query is no union
+one_no_union : (q : Select) (u : Selects) → select_tokens q ≡ selects_tokens u → ⊥
+one_no_union q u e =
+    let p = parts_same (q ∷ []) u.parts (omega arith) (omega (arith, u.two)) (append-nil (select_tokens q) ∙ e) in
+    absurd (omega (arith, ap length p, u.two))
 
 -- what a list of literals goes on with, where a `)` ends it
 literals_decode : (xs ys : List Value) (r z : List Lexeme) → listed_tokens literal_tokens xs ++ Mark s.Close ∷ r ≡ listed_tokens literal_tokens ys ++ Mark s.Close ∷ z → (xs ≡ ys) × (r ≡ z)
@@ -379,6 +430,10 @@ opens_verb (verbs.Explain row) r = refl
 opens_verb (verbs.Against row) r = refl
 opens_verb (verbs.Prove row) r = refl
 
+-- what is asked of one query is asked of no union
+asked_no_union : (v w : Verb) (q : Select) (u : Selects) → verb_tokens v ++ select_tokens q ≡ verb_tokens w ++ selects_tokens u → ⊥
+asked_no_union v w q u e = one_no_union q u (verb_decodes v w (select_tokens q) (selects_tokens u) e).1
+
 -- what is told apart from each verb begins with none
 no_verb : (v : Verb) (r ls : List Lexeme) → verb_tokens v ++ r ≡ ls → is_verb ls ≡ false → ⊥
 no_verb v r ls e n = let h : true ≡ false = sym (opens_verb v r) ∙ ap is_verb e ∙ n in absurd (cc)
@@ -488,9 +543,11 @@ join_grouped_same (Some c) (Some d) e = let h : col_tokens c ≡ col_tokens d = 
 
 -- what stands behind the tables goes on no list of names
 fine_behind : (cs : List RawCond) (g : Option RawCol) → Fine (OrAlso (Mark s.Comma) Never) (filtered_tokens cond_tokens cs ++ join_grouped_tokens g)
-fine_behind [] None = tt
-fine_behind [] (Some c) = λ h. elim h [ inl e ↦ absurd (cc) | inr b ↦ b ]
-fine_behind (x ∷ cs) g = λ h. elim h [ inl e ↦ absurd (cc) | inr b ↦ b ]
+fine_behind cs g = fine_filtered cond_tokens cs (join_grouped_tokens g) (go g)
+  where
+    go : (g : Option RawCol) → Fine (OrAlso (Mark s.Comma) Never) (join_grouped_tokens g)
+    go None = tt
+    go (Some c) = λ h. elim h [ inl e ↦ absurd (cc) | inr b ↦ b ]
 
 range_same : (p q : RawRange) → range_tokens p ≡ range_tokens q → p ≡ q
 range_same p q e =
@@ -568,6 +625,19 @@ statement_same (statements.Asking v c) (statements.Asking w d) e =
     let g = select_same c d i.1 in
     let h = i.0 in
     λ l. statements.Asking (h l) (g l)
+statement_same (statements.AskUnion a) (statements.AskUnion b) e = ap statements.AskUnion (selects_same a b (cc))
+statement_same (statements.PossibleUnion a) (statements.PossibleUnion b) e = ap statements.PossibleUnion (selects_same a b (cc))
+statement_same (statements.ExplainUnion f a) (statements.ExplainUnion g b) e =
+    let i = row_for_decodes f g (selects_tokens a) (selects_tokens b) (cc) in
+    let row = i.0 in
+    let parts = selects_same a b i.1 in
+    λ l. statements.ExplainUnion (row l) (parts l)
+statement_same (statements.Asking v c) (statements.AskUnion u) e = absurd (asked_no_union v verbs.Ask c u e)
+statement_same (statements.Asking v c) (statements.PossibleUnion u) e = absurd (asked_no_union v verbs.Possible c u e)
+statement_same (statements.Asking v c) (statements.ExplainUnion row u) e = absurd (asked_no_union v (verbs.Explain row) c u e)
+statement_same (statements.AskUnion u) (statements.Asking v c) e = absurd (asked_no_union v verbs.Ask c u (sym e))
+statement_same (statements.PossibleUnion u) (statements.Asking v c) e = absurd (asked_no_union v verbs.Possible c u (sym e))
+statement_same (statements.ExplainUnion row u) (statements.Asking v c) e = absurd (asked_no_union v (verbs.Explain row) c u (sym e))
 statement_same (statements.SetConflicts n) (statements.SetConflicts m) e = ap statements.SetConflicts (cc)
 statement_same (statements.Copy t) (statements.Copy u) e = ap statements.Copy (cc)
 statement_same (statements.Range f t xs a) (statements.Range g u ys b) e =

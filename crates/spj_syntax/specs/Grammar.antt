@@ -98,16 +98,29 @@ any_row = one (mark Open) ⨾ optional (listed literal) ⨾ one (mark Close)
 abbrev pub row_for : Shape
 row_for = one (word (codes "row")) ⨾ any_row ⨾ one (word (codes "for"))
 
--- what is asked of a row
-abbrev pub row_verb : Shape
-row_verb = one (word (codes "explain")) ⨾ row_for ∣ one (word (codes "against")) ⨾ row_for ∣ one (word (codes "prove")) ⨾ row_for
+-- one query or more, with "union" between them
+abbrev pub united : Shape
+united = separated (word (codes "union")) query
 
--- what is asked of a query
+abbrev pub ask : Shape
+ask = one (word (codes "ask")) ⨾ united
+
+abbrev pub possible : Shape
+possible = one (word (codes "possible")) ⨾ united
+
+abbrev pub explain : Shape
+explain = one (word (codes "explain")) ⨾ row_for ⨾ united
+
+-- what is asked of a row of one query alone
+abbrev pub row_verb : Shape
+row_verb = one (word (codes "against")) ⨾ row_for ∣ one (word (codes "prove")) ⨾ row_for
+
+-- what is asked of one query alone
 abbrev pub verb : Shape
-verb = one (word (codes "ask")) ∣ one (word (codes "possible")) ∣ one (word (codes "disputed")) ∣ one (word (codes "classify")) ∣ one (word (codes "plan")) ∣ one (word (codes "sql")) ∣ row_verb
+verb = one (word (codes "disputed")) ∣ one (word (codes "classify")) ∣ one (word (codes "plan")) ∣ one (word (codes "sql")) ∣ row_verb
 
 abbrev pub asking : Shape
-asking = verb ⨾ query
+asking = ask ∣ possible ∣ explain ∣ verb ⨾ query
 
 abbrev pub copy : Shape
 copy = one (word (codes "copy")) ⨾ a_name

@@ -1,6 +1,6 @@
 -- What a part of the parser gives.
 use Rattle.std.specs.Prelude.{◌≡◌, ◌≤◌, ℕ, length, List, ◌++◌, Option, Some, None, Result, Ok, Err, false, IsTrue, [], ◌∷◌, codes}
-use Rattle.std.specs.List.{AllByRecursion, slice_range}
+use Rattle.std.specs.List.{slice_range}
 use Rattle.std.specs.Str.{IsUtf8}
 use Rattle.cqa_value.specs.Literals.{integer_of, are_digits, without_minus}
 use Rattle.script_lex.specs.declared.kinds.Token.{Token}
@@ -13,12 +13,14 @@ use Rattle.spj_syntax.specs.declared.reader.Seen.{Seen}
 use Rattle.spj_syntax.specs.declared.reader.Seen.TheVariants as sights
 use Rattle.spj_syntax.specs.Lexemes.{Lexeme, Word, Number, Quoted, Mark, undoubled, lexeme}
 use Rattle.spj_syntax.specs.declared.lists.Between.{Between}
-use Rattle.spj_syntax.specs.declared.lists.Between.TheVariants.{Comma, And}
+use Rattle.spj_syntax.specs.declared.lists.Between.TheVariants.{Comma, And, Union}
 use Rattle.script_lex.specs.declared.kinds.Symbol.TheVariants as s
 use Rattle.spj_syntax.specs.Shapes.{Terminal, word, mark, Shape, Generates}
 use Rattle.spj_syntax.specs.Parsed.{Fits, PlainFit, AllLexemesFit, IsStatement, RefusesForm, RefusesTokens, fault_of, lexemes, place_of}
 use Rattle.cqa_model.specs.declared.schema.Column.{Column}
-use Rattle.spj_syntax.specs.Written.{IsWrittenAs, column_tokens, cond_tokens, filtered_tokens, goal_tokens, grouped_tokens, join_goal_tokens, join_grouped_tokens, key_tokens, listed_tokens, name_tokens, test_tokens}
+use Rattle.spj_syntax.specs.Written.{IsWrittenAs, column_tokens, cond_tokens, filtered_tokens, goal_tokens, grouped_tokens, join_goal_tokens, join_grouped_tokens, key_tokens, listed_tokens, name_tokens, select_tokens, selects_tokens, test_tokens}
+use Rattle.spj_syntax.specs.declared.queries.Selected.{Selected}
+use Rattle.spj_syntax.specs.declared.queries.Selected.TheVariants as selections
 use Rattle.spj_syntax.specs.declared.range_parts.Asked.{Asked}
 use Rattle.spj_syntax.specs.declared.range_parts.Asked.TheVariants as aggregates
 use Rattle.spj_syntax.specs.declared.range_parts.Tested.{Tested}
@@ -70,10 +72,12 @@ Pushes p written kept (Err e) items new_items old new = Failed p e old new
 abbrev pub separator : Between → Terminal
 separator Comma = mark s.Comma
 separator And = word (codes "and")
+separator Union = word (codes "union")
 
 abbrev pub separator_lexeme : Between → Lexeme
 separator_lexeme Comma = Mark s.Comma
 separator_lexeme And = Word (codes "and")
+separator_lexeme Union = Word (codes "union")
 
 -- each with a token behind it
 abbrev pub each_before : {A : Type 0} → Lexeme → (A → List Lexeme) → List A → List Lexeme
@@ -83,6 +87,11 @@ each_before l f (x ∷ xs) = (f x ++ l ∷ []) ++ each_before l f xs
 -- the columns and the key of a table
 abbrev pub body_tokens : List Column × List (List ℕ) → List Lexeme
 body_tokens (columns, key) = Mark s.Open ∷ (each_before (Mark s.Comma) column_tokens columns ++ (key_tokens key ++ Mark s.Close ∷ []))
+
+-- one query, or the parts of a union
+abbrev pub selected_tokens : Selected → List Lexeme
+selected_tokens (selections.One q) = select_tokens q
+selected_tokens (selections.Union u) = selects_tokens u
 
 -- what is asked of the values of a column
 abbrev pub aggregate_tokens : Asked → List Lexeme

@@ -18,6 +18,7 @@ use Rattle.spj_syntax.specs.declared.lists.RawSide.TheVariants as sides
 use Rattle.spj_syntax.specs.declared.tree.Change.{Change}
 use Rattle.spj_syntax.specs.declared.tree.Change.TheVariants as changes
 use Rattle.spj_syntax.specs.declared.tree.Select.{Select}
+use Rattle.spj_syntax.specs.declared.tree.Selects.{Selects}
 use Rattle.spj_syntax.specs.declared.tree.Verb.{Verb}
 use Rattle.spj_syntax.specs.declared.tree.Verb.TheVariants as verbs
 use Rattle.spj_syntax.specs.declared.tree.RawGoal.{RawGoal}
@@ -137,6 +138,10 @@ verb_tokens (verbs.Explain row) = Word (codes "explain") ∷ row_for_tokens row
 verb_tokens (verbs.Against row) = Word (codes "against") ∷ row_for_tokens row
 verb_tokens (verbs.Prove row) = Word (codes "prove") ∷ row_for_tokens row
 
+-- the parts of a union, with "union" between them
+abbrev pub selects_tokens : Selects → List Lexeme
+selects_tokens u = between (Word (codes "union")) select_tokens u.parts
+
 -- what is asked of the rows of a table
 abbrev pub goal_tokens : RawGoal → List Lexeme
 goal_tokens goals.Count = Word (codes "count") ∷ []
@@ -172,6 +177,9 @@ statement_tokens (statements.Insert table rows) = Word (codes "insert") ∷ Word
 statement_tokens (statements.Delete table tests) = Word (codes "delete") ∷ Word (codes "from") ∷ (name_tokens table ++ filtered_tokens test_tokens tests)
 statement_tokens (statements.Prefer table tests) = Word (codes "prefer") ∷ (name_tokens table ++ (Word (codes "where") ∷ anded_tokens test_tokens tests))
 statement_tokens (statements.Asking verb q) = verb_tokens verb ++ select_tokens q
+statement_tokens (statements.AskUnion u) = verb_tokens verbs.Ask ++ selects_tokens u
+statement_tokens (statements.PossibleUnion u) = verb_tokens verbs.Possible ++ selects_tokens u
+statement_tokens (statements.ExplainUnion row u) = verb_tokens (verbs.Explain row) ++ selects_tokens u
 statement_tokens (statements.SetConflicts n) = Word (codes "set") ∷ Word (codes "conflicts") ∷ Number (pos n) ∷ []
 statement_tokens (statements.Copy table) = Word (codes "copy") ∷ name_tokens table
 statement_tokens (statements.Range goal table tests group) = Word (codes "range") ∷ (goal_tokens goal ++ (Word (codes "from") ∷ (name_tokens table ++ (filtered_tokens test_tokens tests ++ grouped_tokens group))))

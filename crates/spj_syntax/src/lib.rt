@@ -7,6 +7,7 @@ mod leaf;
 mod lists;
 mod parser;
 mod parts;
+mod queries;
 mod range_parts;
 mod ranges;
 mod reader;
@@ -18,5 +19,5 @@ pub use forms::{parse_block, parse_order};
 pub use parser::parse;
 pub use tree::{
     Change, RawBlock, RawCol, RawCond, RawGoal, RawJoinGoal, RawRange, RawSchema, RawTest, Select,
-    Statement, Verb,
+    Selects, Statement, Verb,
 };

@@ -24,6 +24,7 @@ use std::alloc::Global;
 pub enum Between {
     Comma,
     And,
+    Union,
 }
 
 /// An item of a list.
@@ -54,6 +55,7 @@ fn sees(reader: &Reader<'_>, between: Between) -> bool
     match between {
         Between::Comma => reader.sees_mark(Symbol::Comma),
         Between::And => reader.sees_word(b"and"),
+        Between::Union => reader.sees_word(b"union"),
     }
 }
 
@@ -75,7 +77,7 @@ fn push_piece<P: Piece>(
 
 /// One or more with a token between them, in a list with room for so many at first.
 #[inline(always)]
-fn separated<P: Piece>(
+pub fn separated<P: Piece>(
     alloc: Global,
     reader: &mut Reader<'_>,
     token: Between,

@@ -5,47 +5,21 @@ ghost use Rattle.cqa_value.specs.Literals.{integer_of, are_digits, without_minus
 ghost use Rattle.spj_syntax.specs.Lexemes.{Word, Number, Mark};
 ghost use Rattle.spj_syntax.specs.Limits.{most_items};
 ghost use Rattle.spj_syntax.specs.Reading.{Reads, Took, body_tokens};
-ghost use Rattle.spj_syntax.specs.Written.{strict_tokens, key_tokens, change_tokens, HasKey, head_tokens, select_tokens, row_for_tokens, verb_tokens, statement_tokens, listed_tokens, literal_tokens, name_tokens, row_tokens, IsSmall};
+ghost use Rattle.spj_syntax.specs.Written.{strict_tokens, key_tokens, change_tokens, HasKey, statement_tokens, IsSmall};
 ghost use Rattle.cqa_model.specs.Valid.{IsName};
 ghost use Rattle.spj_syntax.specs.Grammar as grammar;
 ghost use Rattle.spj_syntax.specs.Factored as factored;
 
 use crate::forms::table_rows;
-use crate::lists::{anded, columns, filtered, listed, literals};
+use crate::lists::{anded, columns, filtered, listed};
+use crate::queries::asking;
 use crate::ranges::range;
 use crate::reader::{Reader, Stop};
-use crate::{Change, RawCol, RawSchema, Select, Statement, Verb};
+use crate::{Change, RawSchema, Statement};
 use cqa_model::Column;
-use cqa_value::{Items, Name, Row};
+use cqa_value::{Items, Name};
 use script_lex::Symbol;
 use std::alloc::Global;
-
-/// The columns of a `select`, or none for `exists`.
-fn head(alloc: Global, reader: &mut Reader<'_>) -> Result<Items<RawCol>, Stop>
-    ensures { Reads grammar.head head_tokens result reader.old reader.new }
-{
-    if reader.sees_word(b"select") {
-        reader.advance();
-        return listed(alloc, reader);
-    }
-    reader.word(b"exists")?;
-    Ok(Items::new(alloc))
-}
-
-/// `HEAD from NAME, .. [where COND and ..]`.
-fn query(alloc: Global, reader: &mut Reader<'_>) -> Result<Select, Stop>
-    ensures { Reads factored.query select_tokens result reader.old reader.new }
-{
-    let columns = head(alloc, reader)?;
-    reader.word(b"from")?;
-    let tables = listed(alloc, reader)?;
-    let conds = filtered(alloc, reader)?;
-    Ok(Select {
-        columns,
-        tables,
-        conds,
-    })
-}
 
 /// `primary key (NAME, ..)`.
 fn key(alloc: Global, reader: &mut Reader<'_>) -> Result<Items<Name>, Stop>
@@ -171,96 +145,6 @@ fn prefer(alloc: Global, reader: &mut Reader<'_>) -> Result<Statement, Stop>
     reader.word(b"where")?;
     let tests = anded(alloc, reader)?;
     Ok(Statement::Prefer { table, tests })
-}
-
-/// The literals of a row, or none before its `)`.
-fn optional_literals(alloc: Global, reader: &mut Reader<'_>) -> Result<Row, Stop>
-    ensures { Reads (grammar.optional (grammar.listed grammar.literal)) (listed_tokens literal_tokens) result reader.old reader.new }
-{
-    if reader.sees_literal() {
-        return literals(alloc, reader);
-    }
-    Ok(Row::new(alloc))
-}
-
-/// `(LITERAL, ..)`; the row may be empty.
-fn any_row(alloc: Global, reader: &mut Reader<'_>) -> Result<Row, Stop>
-    ensures { Reads grammar.any_row row_tokens result reader.old reader.new }
-{
-    reader.mark(Symbol::Open)?;
-    let row = optional_literals(alloc, reader)?;
-    reader.mark(Symbol::Close)?;
-    Ok(row)
-}
-
-/// `row ROW for`.
-fn row_for(alloc: Global, reader: &mut Reader<'_>) -> Result<Row, Stop>
-    ensures { Reads grammar.row_for row_for_tokens result reader.old reader.new }
-{
-    reader.word(b"row")?;
-    let row = any_row(alloc, reader)?;
-    reader.word(b"for")?;
-    Ok(row)
-}
-
-/// `explain row ROW for`, `against row ROW for` or `prove row ROW for`.
-fn row_verb(alloc: Global, reader: &mut Reader<'_>) -> Result<Verb, Stop>
-    ensures { Reads grammar.row_verb verb_tokens result reader.old reader.new }
-{
-    if reader.sees_word(b"explain") {
-        reader.advance();
-        let explained = row_for(alloc, reader)?;
-        return Ok(Verb::Explain { row: explained });
-    }
-    if reader.sees_word(b"against") {
-        reader.advance();
-        let doubted = row_for(alloc, reader)?;
-        return Ok(Verb::Against { row: doubted });
-    }
-    reader.word(b"prove")?;
-    let row = row_for(alloc, reader)?;
-    Ok(Verb::Prove { row })
-}
-
-/// `ask`, `possible`, `disputed`, `classify`, `plan`, `sql`, or what is asked of a row.
-fn verb(alloc: Global, reader: &mut Reader<'_>) -> Result<Verb, Stop>
-    ensures { Reads grammar.verb verb_tokens result reader.old reader.new }
-{
-    if reader.sees_word(b"ask") {
-        reader.advance();
-        return Ok(Verb::Ask);
-    }
-    if reader.sees_word(b"possible") {
-        reader.advance();
-        return Ok(Verb::Possible);
-    }
-    if reader.sees_word(b"disputed") {
-        reader.advance();
-        return Ok(Verb::Disputed);
-    }
-    if reader.sees_word(b"classify") {
-        reader.advance();
-        return Ok(Verb::Classify);
-    }
-    if reader.sees_word(b"plan") {
-        reader.advance();
-        return Ok(Verb::Plan);
-    }
-    if reader.sees_word(b"sql") {
-        reader.advance();
-        return Ok(Verb::Sql);
-    }
-    row_verb(alloc, reader)
-}
-
-/// A verb and a query.
-fn asking(alloc: Global, reader: &mut Reader<'_>) -> Result<Statement, Stop>
-    ensures reads { Reads factored.asking statement_tokens result reader.old reader.new }
-    ensures small { IfOk result (λ s. IsSmall s) }
-{
-    let verb = verb(alloc, reader)?;
-    let select = query(alloc, reader)?;
-    Ok(Statement::Asking { verb, select })
 }
 
 /// `copy NAME`.

@@ -60,6 +60,13 @@ pub struct Select {
     pub ghost few: { length conds ≤ most_items },
 }
 
+/// Two queries or more, as they are written: the parts of a union.
+#[derive(Drop)]
+pub struct Selects {
+    pub parts: Items<Select>,
+    pub ghost two: { 2 ≤ length parts },
+}
+
 /// What is asked of a query: its certain rows, its possible rows, those of them that aren't certain, its class, its plan, its
 /// certain rows as one query in SQL, why a row isn't certain, which rows are against it, or a certificate that it is certain.
 #[derive(Drop)]
@@ -138,6 +145,12 @@ pub enum Statement {
     Asking {
         verb: Verb,
         select: Select,
+    },
+    AskUnion(Selects),
+    PossibleUnion(Selects),
+    ExplainUnion {
+        row: Row,
+        selects: Selects,
     },
     SetConflicts(u32),
     Copy {

@@ -2,7 +2,7 @@ use Rattle.std.proofs.Common.{refl}
 use Rattle.std.proofs.lemmas.Result.{IfOk-weaker}
 use Rattle.spj_syntax.specs.Written.{head_tokens, listed_tokens, col_tokens}
 use Rattle.spj_syntax.proofs.Steps.{took_right, word_took, opens_then, fails_right, exit, head_some, reads_left, reads_then}
-use Rattle.spj_syntax.proofs.statements.head.Goals as goal
+use Rattle.spj_syntax.proofs.queries.head.Goals as goal
 
 pub returns-then-sees_word : goal.returns-then-sees_word
 returns-then-sees_word c =

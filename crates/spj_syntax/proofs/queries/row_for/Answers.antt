@@ -1,6 +1,6 @@
 use Rattle.std.proofs.Common.{refl}
 use Rattle.spj_syntax.proofs.Steps.{took_both, fails_first, fails_then, exit}
-use Rattle.spj_syntax.proofs.statements.row_for.Goals as goal
+use Rattle.spj_syntax.proofs.queries.row_for.Goals as goal
 
 pub returns-in_err-word : goal.returns-in_err-word
 returns-in_err-word c = exit _ _ c.from_residual.ensures.1 (fails_first c.in_err-word.ensures)

@@ -1,6 +1,6 @@
 use Rattle.std.proofs.Common.{refl}
 use Rattle.spj_syntax.proofs.Steps.{took_both, fails_first, fails_then, exit}
-use Rattle.spj_syntax.proofs.statements.query.Goals as goal
+use Rattle.spj_syntax.proofs.queries.query.Goals as goal
 
 pub returns-in_err-columns : goal.returns-in_err-columns
 returns-in_err-columns c = exit _ _ c.from_residual.ensures.1 (fails_first c.in_err-columns.ensures)
