@@ -1,7 +1,6 @@
 -- The spans of one atom after the other.
-use Rattle.std.proofs.Common.{◌≡◌, ℕ, ◌<◌, ◌+◌, ◌⊎◌, inl, inr, List, [], ◌∷◌, ◌++◌, length, get_or, refl, sym, ◌∙◌, ap, subst, arith, Contains, slice_get, Some}
+use Rattle.std.proofs.Common.{◌≡◌, ℕ, ◌<◌, ◌+◌, ◌⊎◌, inl, inr, List, [], ◌++◌, length, get_or, refl, sym, ◌∙◌, ap, subst, arith, Contains, slice_get, Some}
 use Rattle.std.specs.Ordering.{nat_cmp}
-use Rattle.std.specs.List.Sorted.{IsStrictlySortedBy}
 use Rattle.std.proofs.lemmas.List.Elements.{Contains-append_left, Contains-append_right, Contains-append_cases, Contains-get_or}
 use Rattle.std.proofs.lemmas.Option.{get_or_from_slice_get}
 use Rattle.cqa_value.specs.declared.value.Value.{Value}
@@ -13,24 +12,15 @@ use Rattle.cqa_model.specs.Query.{atom_key, rows_of, row_at}
 use Rattle.cqa_model.specs.Formula.{IsRelevant}
 use Rattle.cqa_model.proofs.Classic.{mem-nil, choose}
 use Rattle.cqa_model.proofs.Repairs.{shares-sym, shares-trans}
-use Rattle.repair_clauses.specs.declared.span.Span.{Span}
-use Rattle.repair_clauses.specs.Clauses.{Variable, AreAllLists, variable_row, IsStoredVariable}
-use Rattle.repair_clauses.specs.Spans.{at, Covers, IsInSpan, IsRelevantSpan, IsWholeBlock, span_cmp, AreBased, AreBasedTo, AreSpans, AreSpansTo, IsPlacedWitness}
-use Rattle.repair_clauses.specs.Runs.{IsRun, AreRuns}
-use Rattle.repair_clauses.proofs.Numbers.{place_of}
-use Rattle.repair_clauses.proofs.Order.{less_then}
-
-pub based-joined : (n m k : ℕ) (ss ts : List Span) → AreBasedTo n ss m → AreBasedTo m ts k → AreBasedTo n (ss ++ ts) k
-based-joined n m k [] ts h g = subst (λ z. AreBasedTo z ts k) (sym h) g
-based-joined n m k (s ∷ ss) ts h g = (h.0, based-joined (n + s.count) m k ss ts h.1 g)
-
-pub based-whole : (n m : ℕ) (ss : List Span) → AreBasedTo n ss m → AreBased n ss
-based-whole n m [] h = tt
-based-whole n m (s ∷ ss) h = (h.0, based-whole (n + s.count) m ss h.1)
-
-pub none_sorted : IsStrictlySortedBy span_cmp []
-unfolding IsStrictlySortedBy
-none_sorted = tt
+use Rattle.row_lists.specs.declared.span.Span.{Span}
+use Rattle.row_lists.specs.Clauses.{Variable, AreAllLists}
+use Rattle.repair_clauses.specs.Clauses.{variable_row, IsStoredVariable}
+use Rattle.row_lists.specs.Spans.{at, Covers, IsInSpan, IsWholeBlock, span_cmp}
+use Rattle.repair_clauses.specs.Spans.{IsRelevantSpan, AreSpans, AreSpansTo, IsPlacedWitness}
+use Rattle.row_lists.specs.Runs.{IsRun, AreRuns}
+use Rattle.row_lists.proofs.Numbers.{place_of}
+use Rattle.row_lists.proofs.Order.{less_then}
+use Rattle.row_lists.proofs.Spans.{none_sorted, based-joined, based-whole}
 
 module _ (q : Query) (db : List Table) (row : List Value) where
   pub spans-none : AreSpansTo q db row 0 0 []
@@ -52,9 +42,9 @@ module _ (q : Query) (db : List Table) (row : List Value) where
 
     of_run : (s : Span) → IsRun (atom_key q n) (rows_of q (stored db) n) n column s → IsRelevantSpan q db row s
     of_run s g = record {
-      there = subst (λ F. F < length q.atoms) (sym g.of_atom) here;
-      whole = subst (λ F. IsWholeBlock (atom_key q F) (rows_of q (stored db) F) s) (sym g.of_atom) g.whole;
-      relevant = subst (λ F. IsRelevant q (stored db) row F (variable_row q db (at F s.start))) (sym g.of_atom) relevant;
+      there = subst (λ F. F < length q.atoms) (sym g.of_slot) here;
+      whole = subst (λ F. IsWholeBlock (atom_key q F) (rows_of q (stored db) F) s) (sym g.of_slot) g.whole;
+      relevant = subst (λ F. IsRelevant q (stored db) row F (variable_row q db (at F s.start))) (sym g.of_slot) relevant;
     }
       where
         relevant : IsRelevant q (stored db) row n (row_n s.start)
@@ -95,20 +85,20 @@ module _ (q : Query) (db : List Table) (row : List Value) where
     spans-more = record {
       in_order = sorted_join span_cmp spans runs h.in_order r.in_order (λ s t ms mt.
           let l = (h.each s ms).0 in
-          let e : t.atom ≡ n = (r.each t mt).of_atom in
-          less_then (nat_cmp s.atom t.atom) (nat_cmp s.start t.start) (nat_cmp_less s.atom t.atom (omega (arith, l, e))));
+          let e : t.slot ≡ n = (r.each t mt).of_slot in
+          less_then (nat_cmp s.slot t.slot) (nat_cmp s.start t.start) (nat_cmp_less s.slot t.slot (omega (arith, l, e))));
       based = based-joined 0 m k spans runs h.based r.based;
       each = λ s ms. elim (Contains-append_cases spans runs s ms) [
         | inl a ↦ let b = h.each s a in let b0 = b.0 in (omega (arith, b0), b.1)
-        | inr a ↦ let g = r.each s a in let e : s.atom ≡ n = g.of_atom in (omega (arith, e), of_run s g)
+        | inr a ↦ let g = r.each s a in let e : s.slot ≡ n = g.of_slot in (omega (arith, e), of_run s g)
       ];
-      every = λ x l st rel. every x (cases_next x.atom n l) st rel;
+      every = λ x l st rel. every x (cases_next x.slot n l) st rel;
     }
       where
-        every : (x : Variable) → (x.atom < n) ⊎ (x.atom ≡ n) → IsStoredVariable q db x → IsRelevant q (stored db) row x.atom (variable_row q db x) → (s : Span) × Contains (spans ++ runs) s × IsInSpan s x
+        every : (x : Variable) → (x.slot < n) ⊎ (x.slot ≡ n) → IsStoredVariable q db x → IsRelevant q (stored db) row x.slot (variable_row q db x) → (s : Span) × Contains (spans ++ runs) s × IsInSpan s x
         every x (inl l) st rel = let s = h.every x l st rel in (s.0, Contains-append_left spans runs s.0 s.1, s.2)
         every x (inr e) st rel =
             let inside : x.place < length (rows_of q (stored db) n) = subst (λ F. x.place < length (rows_of q (stored db) F)) e st.1 in
             let there : IsRelevant q (stored db) row n (row_n x.place) = subst (λ F. IsRelevant q (stored db) row F (variable_row q db (at F x.place))) e rel in
             let s = found x.place inside there in
-            (s.0, Contains-append_right spans runs s.0 s.1, (e ∙ sym (r.each s.0 s.1).of_atom, s.2.0, s.2.1))
+            (s.0, Contains-append_right spans runs s.0 s.1, (e ∙ sym (r.each s.0 s.1).of_slot, s.2.0, s.2.1))

@@ -1,19 +1,15 @@
 -- The relevant blocks give the formula.
-use Rattle.cqa_model.specs.declared.limits.TheConstants.{MOST_ATOMS, MOST_ROWS}
-use Rattle.std.proofs.Common.{◌*◌, ◌≡◌, ℕ, zero, suc, ◌<◌, ◌≤◌, ◌+◌, ◌-◌, ◌^◌, inl, inr, List, [], ◌∷◌, ◌++◌, length, get_or, map, take, sym, ◌∙◌, ap, subst, arith, Contains, slice_index_or, length-append}
+use Rattle.cqa_model.specs.declared.limits.TheConstants.{MOST_TABLES, MOST_ROWS}
+use Rattle.std.proofs.Common.{◌*◌, ◌≡◌, ℕ, suc, ◌<◌, ◌≤◌, ◌+◌, ◌-◌, List, [], ◌∷◌, ◌++◌, length, get_or, map, take, sym, ◌∙◌, ap, subst, arith, Contains}
 use Rattle.std.proofs.lemmas.List.{length-map, get_or-map, map_push, take_more, append_assoc, append-nil}
-use Rattle.std.proofs.lemmas.List.Elements.{Contains-get_or}
-use Rattle.std.proofs.lemmas.List.FromFn.{length-map-range_with_len}
-use Rattle.std.proofs.lemmas.Option.{get_or_from_slice_get, slice_get_within}
 use Rattle.cqa_value.specs.declared.value.Value.{Value}
 use Rattle.cqa_value.proofs.Words.{Contains-map, Contains-from_map}
 use Rattle.cqa_model.specs.declared.query.Atom.{Atom}
 use Rattle.cqa_model.specs.declared.query.Query.{Query}
 use Rattle.cqa_model.specs.declared.query.RowId.{RowId}
-use Rattle.cqa_model.specs.Database.{Table, IsDatabase, stored, row_total}
+use Rattle.cqa_model.specs.Database.{Table, IsDatabase, stored}
 use Rattle.cqa_model.specs.Repairs.{SharesKey}
 use Rattle.cqa_model.specs.Query.{atom_at, atom_key, rows_of, row_at}
-use Rattle.cqa_model.proofs.Classic.{mem-nil, mem-cases}
 use Rattle.cqa_model.proofs.Repairs.{shares-self}
 use Rattle.cnf_form.specs.declared.formula.Lit.{Lit}
 use Rattle.cnf_form.specs.Literals.{literals}
@@ -21,61 +17,27 @@ use Rattle.table_blocks.specs.Tables.{rows_at}
 use Rattle.join_access.specs.declared.witness.Witness.{Witness}
 use Rattle.join_access.specs.Listing.{AreAllNames, names_of, places_of}
 use Rattle.join_access.proofs.Naming.{name, zip-push}
-use Rattle.repair_clauses.specs.declared.span.Span.{Span}
-use Rattle.repair_clauses.specs.declared.formula.Encoded.{Encoded}
-use Rattle.repair_clauses.specs.Clauses.{positive, negative, variable_name, variable_row}
-use Rattle.repair_clauses.specs.Spans.{at, place_at, AreBased, AreBasedTo, AreSpansTo, AreCovered, AreNumbers, IsAt, IsInSpan, IsSpanNumbering, IsWitnessClause, variables_in, variables_of_spans, numbers_in, formula_of_spans, IsPlacedWitness}
-use Rattle.repair_clauses.specs.Runs.{AreColumn, AreRuns}
+use Rattle.row_lists.specs.declared.span.Span.{Span}
+use Rattle.row_lists.specs.declared.formula.Encoded.{Encoded}
+use Rattle.row_lists.specs.Clauses.{positive, negative}
+use Rattle.repair_clauses.specs.Clauses.{variable_name, variable_row}
+use Rattle.row_lists.specs.Spans.{at, AreBased, IsInSpan, IsSpanNumbering, variables_of_spans, numbers_in, formula_of_spans}
+use Rattle.row_witnesses.specs.Columns.{place_at}
+use Rattle.repair_clauses.specs.Spans.{AreSpansTo, AreCovered, AreNumbers, IsWitnessClause, IsPlacedWitness}
+use Rattle.row_witnesses.specs.Columns.{AreColumn}
+use Rattle.row_lists.specs.Runs.{AreRuns}
 use Rattle.repair_clauses.specs.Encodings.{AddsWitnesses, AreSpansOfAtoms, AreTold, IsEncoded}
 use Rattle.repair_clauses.proofs.Spans.{spans_give_formula}
 use Rattle.repair_clauses.proofs.Atoms.{spans-more, spans-all}
-use Rattle.repair_clauses.proofs.Placing.{AreNumbersTo, are_apart, numbers-none, numbers-more, numbers-all}
+use Rattle.repair_clauses.proofs.Placing.{AreNumbersTo, numbers-none, numbers-more, numbers-all}
 use Rattle.repair_clauses.proofs.Naming.{named-size, of_names, placed}
-
--- ---- bounds
-
-pub rows-few : (db : List Table) (t : ℕ) → length (slice_index_or (stored db) t []) ≤ row_total db
-rows-few [] t = omega arith
-rows-few (table ∷ db) zero = omega arith
-rows-few (table ∷ db) (suc t) = let ih = rows-few db t in omega (arith, ih)
-
-based-le : (n m : ℕ) (ss : List Span) → AreBasedTo n ss m → n ≤ m
-based-le n m [] h = omega (arith, h)
-based-le n m (s ∷ ss) h = let ih = based-le (n + s.count) m ss h.1 in omega (arith, ih)
-
-pub based-below : (n m : ℕ) (ss : List Span) → AreBasedTo n ss m → (s : Span) → Contains ss s → s.base + s.count ≤ m
-based-below n m [] h s k = absurd (mem-nil s k)
-based-below n m (t ∷ ss) h s k = elim (mem-cases s t ss k) [
-  | inl e ↦ let le = based-le (n + t.count) m ss h.1 in let b = h.0 in subst (λ (u : Span). u.base + u.count ≤ m) e (omega (arith, le, b))
-  | inr i ↦ based-below (n + t.count) m ss h.1 s i
-]
-
-pub numbers-small : (spans : List Span) (vars : ℕ) → IsSpanNumbering spans vars → (s : Span) → Contains spans s → s.base + s.count < 2 ^ 32
-numbers-small spans vars h s k = let b = based-below 0 vars spans h.based s k in let f = h.few in omega (arith, b, f)
-
-pub variables-length : (n m : ℕ) (ss : List Span) → AreBasedTo n ss m → n + length (variables_of_spans ss) ≡ m
-variables-length n m [] h = omega (arith, h)
-variables-length n m (s ∷ ss) h =
-    let ih = variables-length (n + s.count) m ss h.1 in
-    let long = length-append (variables_in s) (variables_of_spans ss) in
-    let here = length-map-range_with_len (at s.atom) s.start s.count in
-    omega (arith, ih, long, here)
+use Rattle.row_lists.proofs.Reading.{rows-few}
+use Rattle.row_lists.proofs.Spans.{stand_apart, variables-length}
 
 -- ---- what is read
 
-abbrev pub no_span : Span
-no_span = record { atom = 0; start = 0; count = 0; base = 0 }
-
 pub place_read : (names : List RowId) (F : ℕ) → F < length names → (get_or names F (name 0 0)).place ≡ place_at names F
 place_read names F l = sym (get_or-map (λ (y : RowId). y.place) names F (name 0 0) 0 l)
-
-pub read_in : (spans items : List Span) (k : ℕ) → items ≡ spans → k < length items → Contains spans (get_or items k no_span)
-read_in spans items k e l = subst (λ ss. Contains ss (get_or items k no_span)) e (Contains-get_or items k no_span l)
-
-pub span_read : (spans : List Span) (F p k : ℕ) → IsAt spans F p k → (k < length spans) × Contains spans (get_or spans k no_span) × IsInSpan (get_or spans k no_span) (at F p)
-span_read spans F p k (s, e, i) =
-    let l = slice_get_within spans k s e in
-    (l, Contains-get_or spans k no_span l, subst (λ (u : Span). IsInSpan u (at F p)) (sym (get_or_from_slice_get spans k s no_span e)) i)
 
 -- ---- the formula
 
@@ -100,12 +62,12 @@ module _ (q : Query) (db : List Table) (row : List Value) where
       r_atom
 
   module _ (m : ℕ) (spans : List Span) (h : AreSpansTo q db row (length q.atoms) m spans) where
-    pub numbering : IsDatabase db → m ≤ MOST_ATOMS * MOST_ROWS → IsSpanNumbering spans m
+    pub numbering : IsDatabase db → m ≤ MOST_TABLES * MOST_ROWS → IsSpanNumbering spans m
     numbering d few = record {
-      apart = are_apart q db row spans (spans-all q db row m spans h);
+      apart = stand_apart (atom_key q) (rows_of q (stored db)) spans h.in_order (λ s k. (h.each s k).1.whole);
       based = h.based;
       few = few;
-      within = λ s k. let w = (h.each s k).1.whole.within in let t = rows-few db (atom_at q s.atom).table in let f = d.few_rows in omega (arith, w, t, f);
+      within = λ s k. let w = (h.each s k).1.whole.within in let t = rows-few db (atom_at q s.slot).table in let f = d.few_rows in omega (arith, w, t, f);
     }
 
     pub of_atoms : AreSpansOfAtoms q spans

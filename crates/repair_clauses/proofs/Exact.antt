@@ -17,10 +17,13 @@ use Rattle.cqa_model.proofs.Repairs.{shares-sym, shares-trans}
 use Rattle.cqa_model.proofs.Databases as databases
 use Rattle.cnf_form.specs.declared.formula.Lit.{Lit}
 use Rattle.cnf_form.specs.Literals.{Satisfies, SatisfiesAll}
-use Rattle.repair_clauses.specs.Clauses.{Variable, HasNumber, SharesBlock, IsBlockOfVariable, IsNumberOf, IsOfWitness, Formula, IsFormula, variable_row, positive, negative, clauses}
-use Rattle.repair_clauses.specs.Laws.{IsSatisfiable, ClausesAreExact, ClausesDecide}
-use Rattle.repair_clauses.proofs.Numbers.{place_of}
-use Rattle.repair_clauses.proofs.Rows.{number_below, number_of, numbered, dec_number, stored_row, is_stored, is_relevant, variable_at, block_numbers}
+use Rattle.row_lists.specs.Clauses.{Variable, HasNumber, Formula, positive, negative, clauses}
+use Rattle.repair_clauses.specs.Clauses.{SharesBlock, IsBlockOfVariable, IsNumberOf, IsOfWitness, IsFormula, variable_row}
+use Rattle.row_lists.specs.Clauses.{IsSatisfiable}
+use Rattle.repair_clauses.specs.Laws.{ClausesAreExact, ClausesDecide}
+use Rattle.row_lists.proofs.Numbers.{place_of}
+use Rattle.row_lists.proofs.Rows.{number_below, number_of, numbered, dec_number}
+use Rattle.repair_clauses.proofs.Rows.{stored_row, is_stored, is_relevant, variable_at, block_numbers}
 
 module _ (q : Query) (db : List Table) (row : List Value) (f : Formula) (h : IsFormula q db row f) where
   -- a variable of each variable's block is true
@@ -70,7 +73,7 @@ module _ (q : Query) (db : List Table) (row : List Value) (f : Formula) (h : IsF
 
   dec_of : (F : ℕ) (x : List Value) (n : ℕ) → Dec (IsNumberOf q db f.variables F x n)
   dec_of F x n = dec_by (λ p. (p.0, p.1, p.2.0, p.2.1)) (λ p. (p.0, p.1, (p.2, p.3)))
-      (dec_number f.variables (λ y. (y.atom ≡ F) × (variable_row q db y ≡ x)) (λ y. dec_both (ℕ_discrete y.atom F) (row_discrete (variable_row q db y) x)) n)
+      (dec_number f.variables (λ y. (y.slot ≡ F) × (variable_row q db y ≡ x)) (λ y. dec_both (ℕ_discrete y.slot F) (row_discrete (variable_row q db y) x)) n)
 
   dec_true : (v : ℕ → Bool) (F : ℕ) (x : List Value) → Dec (IsTrueRow v F x)
   dec_true v F x = dec_one_below (λ n. IsNumberOf q db f.variables F x n × (v n ≡ true)) (λ n. dec_both (dec_of F x n) (Bool-discrete (v n) true)) (1 + length f.variables)
@@ -84,17 +87,17 @@ module _ (q : Query) (db : List Table) (row : List Value) (f : Formula) (h : IsF
       a : ℕ → List Value → Bool
       a F x = is_yes (dec_true v F x)
 
-      block : (F : ℕ) → F < length q.atoms → (x : List Value) → ((y : Variable) × Contains f.variables y × (y.atom ≡ F) × (variable_row q db y ≡ x)) →
+      block : (F : ℕ) → F < length q.atoms → (x : List Value) → ((y : Variable) × Contains f.variables y × (y.slot ≡ F) × (variable_row q db y ≡ x)) →
           (z : List Value) × Contains (rows_of q (stored db) F) z × SharesKey (atom_key q F) x z × (is_yes (dec_true v F z) ≡ true)
       block F l x (y, my, ya, ye) = go (block_true v sat y my)
         where
           go : ((n : ℕ) × (z : Variable) × HasNumber f.variables n z × SharesBlock q db y z × (v n ≡ true)) →
               (z : List Value) × Contains (rows_of q (stored db) F) z × SharesKey (atom_key q F) x z × (is_yes (dec_true v F z) ≡ true)
           go (n, z, hz, s, e) =
-              let za : z.atom ≡ F = sym s.0 ∙ ya in (
+              let za : z.slot ≡ F = sym s.0 ∙ ya in (
                 variable_row q db z,
                 subst (λ G. Contains (rows_of q (stored db) G) (variable_row q db z)) za (stored_row q db z (is_stored q db row f.variables h.variables z (numbered f.variables n z hz))),
-                subst (λ G. SharesKey (atom_key q G) x (variable_row q db z)) ya (subst (λ u. SharesKey (atom_key q y.atom) u (variable_row q db z)) ye s.1),
+                subst (λ G. SharesKey (atom_key q G) x (variable_row q db z)) ya (subst (λ u. SharesKey (atom_key q y.slot) u (variable_row q db z)) ye s.1),
                 yes_of (dec_true v F (variable_row q db z)) (true_of v F (variable_row q db z) n (z, hz, za, refl) e),
               )
 
@@ -107,13 +110,13 @@ module _ (q : Query) (db : List Table) (row : List Value) (f : Formula) (h : IsF
   -- from rows to numbers
   abbrev value_at : (ℕ → List Value → Bool) → Option Variable → Bool
   value_at a None = false
-  value_at a (Some y) = a y.atom (variable_row q db y)
+  value_at a (Some y) = a y.slot (variable_row q db y)
 
   abbrev value_of : (ℕ → List Value → Bool) → ℕ → Bool
   value_of a zero = false
   value_of a (suc k) = value_at a (slice_get f.variables k)
 
-  value_is : (a : ℕ → List Value → Bool) (n : ℕ) (y : Variable) → HasNumber f.variables n y → value_of a n ≡ a y.atom (variable_row q db y)
+  value_is : (a : ℕ → List Value → Bool) (n : ℕ) (y : Variable) → HasNumber f.variables n y → value_of a n ≡ a y.slot (variable_row q db y)
   value_is a zero y hn = absurd hn
   value_is a (suc k) y hn = ap (value_at a) hn
 
@@ -129,24 +132,24 @@ module _ (q : Query) (db : List Table) (row : List Value) (f : Formula) (h : IsF
       of_block : (c : List Lit) → ((numbers : List ℕ) × Contains f.blocks numbers × (map positive numbers ≡ c)) → Satisfies (value_of a) c
       of_block c (numbers, m, e) = subst (λ d. Satisfies (value_of a) d) e (block ((h.blocks.exactly numbers).0 m))
         where
-          number : (x : Variable) → IsBlockOfVariable q db f.variables x numbers → (y : List Value) → SharesKey (atom_key q x.atom) (variable_row q db x) y → a x.atom y ≡ true →
-              ((z : Variable) × Contains f.variables z × (z.atom ≡ x.atom) × (variable_row q db z ≡ y)) → Satisfies (value_of a) (map positive numbers)
+          number : (x : Variable) → IsBlockOfVariable q db f.variables x numbers → (y : List Value) → SharesKey (atom_key q x.slot) (variable_row q db x) y → a x.slot y ≡ true →
+              ((z : Variable) × Contains f.variables z × (z.slot ≡ x.slot) × (variable_row q db z ≡ y)) → Satisfies (value_of a) (map positive numbers)
           number x b y sy ey (z, mz, za, ze) =
               let p = number_of f.variables z mz in
-              let same : SharesKey (atom_key q x.atom) (variable_row q db x) (variable_row q db z) = subst (λ u. SharesKey (atom_key q x.atom) (variable_row q db x) u) (sym ze) sy in
-              let ea : a z.atom (variable_row q db z) ≡ true = ap (λ G. a G (variable_row q db z)) za ∙ ap (a x.atom) ze ∙ ey in
+              let same : SharesKey (atom_key q x.slot) (variable_row q db x) (variable_row q db z) = subst (λ u. SharesKey (atom_key q x.slot) (variable_row q db x) u) (sym ze) sy in
+              let ea : a z.slot (variable_row q db z) ≡ true = ap (λ G. a G (variable_row q db z)) za ∙ ap (a x.slot) ze ∙ ey in
               (positive p.0, Contains-map positive numbers p.0 ((b.exactly p.0).1 (z, p.1, (sym za, same))), value_is a p.0 z p.1 ∙ ea)
 
-          row_true : (x : Variable) → Contains f.variables x → IsBlockOfVariable q db f.variables x numbers → IsRelevant q (stored db) row x.atom (variable_row q db x) →
-              ((y : List Value) × Contains (rows_of q (stored db) x.atom) y × SharesKey (atom_key q x.atom) (variable_row q db x) y × (a x.atom y ≡ true)) → Satisfies (value_of a) (map positive numbers)
-          row_true x mx b rel (y, my, sy, ey) = number x b y sy ey (variable_at q db row f.variables h.variables x.atom (is_stored q db row f.variables h.variables x mx).0 y my
-              (rel.0, rel.1, shares-trans (atom_key q x.atom) y (variable_row q db x) (row_at rel.0 x.atom) (shares-sym (atom_key q x.atom) (variable_row q db x) y sy) rel.2))
+          row_true : (x : Variable) → Contains f.variables x → IsBlockOfVariable q db f.variables x numbers → IsRelevant q (stored db) row x.slot (variable_row q db x) →
+              ((y : List Value) × Contains (rows_of q (stored db) x.slot) y × SharesKey (atom_key q x.slot) (variable_row q db x) y × (a x.slot y ≡ true)) → Satisfies (value_of a) (map positive numbers)
+          row_true x mx b rel (y, my, sy, ey) = number x b y sy ey (variable_at q db row f.variables h.variables x.slot (is_stored q db row f.variables h.variables x mx).0 y my
+              (rel.0, rel.1, shares-trans (atom_key q x.slot) y (variable_row q db x) (row_at rel.0 x.slot) (shares-sym (atom_key q x.slot) (variable_row q db x) y sy) rel.2))
 
           block : ((x : Variable) × Contains f.variables x × IsBlockOfVariable q db f.variables x numbers) → Satisfies (value_of a) (map positive numbers)
           block (x, mx, b) =
               let st = is_stored q db row f.variables h.variables x mx in
               let rel = is_relevant q db row f.variables h.variables x mx in
-              row_true x mx b rel (s.blocks x.atom st.0 (variable_row q db x) (stored_row q db x st) rel)
+              row_true x mx b rel (s.blocks x.slot st.0 (variable_row q db x) (stored_row q db x st) rel)
 
       of_witness : (c : List Lit) → ((numbers : List ℕ) × Contains f.witnesses numbers × (map negative numbers ≡ c)) → Satisfies (value_of a) c
       of_witness c (numbers, m, e) = subst (λ d. Satisfies (value_of a) d) e (go ((h.witnesses.exactly numbers).0 m))
@@ -155,7 +158,7 @@ module _ (q : Query) (db : List Table) (row : List Value) (f : Formula) (h : IsF
           go w =
               let p = s.witnesses w.rows w.witness in
               let y = w.each p.0 p.1 in
-              let ea : a y.0.atom (variable_row q db y.0) ≡ false = ap (λ G. a G (variable_row q db y.0)) y.2 ∙ ap (a p.0) y.3 ∙ p.2 in (
+              let ea : a y.0.slot (variable_row q db y.0) ≡ false = ap (λ G. a G (variable_row q db y.0)) y.2 ∙ ap (a p.0) y.3 ∙ p.2 in (
                 negative (get_or numbers p.0 0),
                 Contains-map negative numbers (get_or numbers p.0 0) (Contains-get_or numbers p.0 0 (subst (λ k. p.0 < k) (sym w.size) p.1)),
                 value_is a (get_or numbers p.0 0) y.0 y.1 ∙ ea,

@@ -18,11 +18,14 @@ use Rattle.cqa_model.proofs.Repairs.{shares-self}
 use Rattle.cqa_model.proofs.Databases as databases
 use Rattle.join_access.specs.Listing.{AreAllNames, places_of}
 use Rattle.join_access.proofs.Naming.{stand-once}
-use Rattle.repair_clauses.specs.Clauses.{Variable, variable_row}
-use Rattle.repair_clauses.specs.Spans.{at, place_at}
-use Rattle.repair_clauses.specs.Runs.{AreColumn}
-use Rattle.repair_clauses.specs.Avoiding.{HasFree, IsAvoidable}
-use Rattle.repair_clauses.proofs.Numbers.{place_of}
+use Rattle.row_lists.specs.Clauses.{Variable}
+use Rattle.repair_clauses.specs.Clauses.{variable_row}
+use Rattle.row_lists.specs.Spans.{at}
+use Rattle.row_lists.specs.Loose.{HasFreePlace}
+use Rattle.row_witnesses.specs.Columns.{place_at}
+use Rattle.row_witnesses.specs.Columns.{AreColumn}
+use Rattle.repair_clauses.specs.Avoiding.{IsAvoidable}
+use Rattle.row_lists.proofs.Numbers.{place_of}
 use Rattle.repair_clauses.proofs.Naming.{of_names, placed}
 
 module _ (q : Query) (db : List Table) (row : List Value) (all : List (List RowId)) (d : IsDatabase db) (h : AreAllNames q db row all) where
@@ -31,11 +34,11 @@ module _ (q : Query) (db : List Table) (row : List Value) (all : List (List RowI
 
   -- a loose row of the witness at a place of the list
   pub record IsLooseOf (i : ℕ) (x : Variable) : Type 0 where
-    pub there : x.atom < length q.atoms
-    pub is : place_at (get_or all i []) x.atom ≡ x.place
+    pub there : x.slot < length q.atoms
+    pub is : place_at (get_or all i []) x.slot ≡ x.place
     pub places : List ℕ
-    pub column : AreColumn all x.atom places
-    pub free : HasFree (atom_key q x.atom) (rows_of q (stored db) x.atom) places x.place
+    pub column : AreColumn all x.slot places
+    pub free : HasFreePlace (atom_key q x.slot) (rows_of q (stored db) x.slot) places x.place
 
   loose_of : (i : ℕ) → IsAvoidable q db all (get_or all i []) → (x : Variable) × IsLooseOf i x
   loose_of i a = (at a.atom (place_at (get_or all i []) a.atom), record { there = a.there; is = refl; places = a.places; column = a.column; free = a.free })
@@ -69,11 +72,11 @@ module _ (q : Query) (db : List Table) (row : List Value) (all : List (List RowI
   module _ (loose : List Variable) (size : length loose ≡ length all) (each : (i : ℕ) → i < length all → IsLooseOf i (get_or loose i no_row)) where
     -- the row is one of the loose rows
     abbrev IsOut : ℕ → List Value → Type 0
-    IsOut F x = (k : ℕ) × (k < length all) × (((get_or loose k no_row).atom ≡ F) × (variable_row q db (get_or loose k no_row) ≡ x))
+    IsOut F x = (k : ℕ) × (k < length all) × (((get_or loose k no_row).slot ≡ F) × (variable_row q db (get_or loose k no_row) ≡ x))
 
     dec_out : (F : ℕ) (x : List Value) → Dec (IsOut F x)
-    dec_out F x = dec_one_below (λ k. ((get_or loose k no_row).atom ≡ F) × (variable_row q db (get_or loose k no_row) ≡ x))
-        (λ k. dec_both (ℕ_discrete (get_or loose k no_row).atom F) (row_discrete (variable_row q db (get_or loose k no_row)) x)) (length all)
+    dec_out F x = dec_one_below (λ k. ((get_or loose k no_row).slot ≡ F) × (variable_row q db (get_or loose k no_row) ≡ x))
+        (λ k. dec_both (ℕ_discrete (get_or loose k no_row).slot F) (row_discrete (variable_row q db (get_or loose k no_row)) x)) (length all)
 
     -- all others stay
     abbrev stays : ℕ → List Value → Bool
@@ -83,7 +86,7 @@ module _ (q : Query) (db : List Table) (row : List Value) (all : List (List RowI
     Stays F x = (y : List Value) × Contains (rows_of q (stored db) F) y × SharesKey (atom_key q F) x y × (stays F y ≡ true)
 
     -- a row that is free is none of them
-    free_stays : (k : ℕ) (l : k < length all) → IsOut (get_or loose k no_row).atom (variable_row q db (at (get_or loose k no_row).atom (each k l).free.free)) → ⊥
+    free_stays : (k : ℕ) (l : k < length all) → IsOut (get_or loose k no_row).slot (variable_row q db (at (get_or loose k no_row).slot (each k l).free.free)) → ⊥
     free_stays k l (j, lj, (ea, er)) = x.free.apart (subst (Contains x.places) (ap (place_at names) (sym ea) ∙ (u.is ∙ same)) (x.column.to names member))
       where
         x : IsLooseOf k (get_or loose k no_row)
@@ -98,17 +101,17 @@ module _ (q : Query) (db : List Table) (row : List Value) (all : List (List RowI
         member : Contains all names
         member = Contains-get_or all j [] lj
 
-        stored_at : (F : ℕ) → (get_or loose j no_row).atom ≡ F → (get_or loose j no_row).place < length (rows_of q (stored db) F)
+        stored_at : (F : ℕ) → (get_or loose j no_row).slot ≡ F → (get_or loose j no_row).place < length (rows_of q (stored db) F)
         stored_at F e = subst (λ G. (get_or loose j no_row).place < length (rows_of q (stored db) G)) e
-            (subst (λ p. p < length (rows_of q (stored db) (get_or loose j no_row).atom)) u.is ((of_names q db row names ((h.exactly names).0 member)).each (get_or loose j no_row).atom u.there).0)
+            (subst (λ p. p < length (rows_of q (stored db) (get_or loose j no_row).slot)) u.is ((of_names q db row names ((h.exactly names).0 member)).each (get_or loose j no_row).slot u.there).0)
 
         same : (get_or loose j no_row).place ≡ x.free.free
-        same = one_place (get_or loose k no_row).atom (get_or loose j no_row).place x.free.free (stored_at (get_or loose k no_row).atom ea) x.free.there
-            (subst (λ F. variable_row q db (at F (get_or loose j no_row).place) ≡ variable_row q db (at (get_or loose k no_row).atom x.free.free)) ea er)
+        same = one_place (get_or loose k no_row).slot (get_or loose j no_row).place x.free.free (stored_at (get_or loose k no_row).slot ea) x.free.there
+            (subst (λ F. variable_row q db (at F (get_or loose j no_row).place) ≡ variable_row q db (at (get_or loose k no_row).slot x.free.free)) ea er)
 
-    beside : (k : ℕ) → k < length all → Stays (get_or loose k no_row).atom (variable_row q db (get_or loose k no_row))
+    beside : (k : ℕ) → k < length all → Stays (get_or loose k no_row).slot (variable_row q db (get_or loose k no_row))
     beside k l =
-        let F = (get_or loose k no_row).atom in
+        let F = (get_or loose k no_row).slot in
         let f = (each k l).free in
         let y = variable_row q db (at F f.free) in
         (y, Contains-get_or (rows_of q (stored db) F) f.free [] f.there, f.shares, yes_of (dec_not (dec_out F y)) (free_stays k l))
@@ -118,14 +121,14 @@ module _ (q : Query) (db : List Table) (row : List Value) (all : List (List RowI
       where
         go : Dec (IsOut F x) → Stays F x
         go (no n) = (x, m, shares-self (atom_key q F) x, yes_of (dec_not (dec_out F x)) n)
-        go (yes (k, l, (ea, er))) = subst (λ G. Stays G x) ea (subst (Stays (get_or loose k no_row).atom) er (beside k l))
+        go (yes (k, l, (ea, er))) = subst (λ G. Stays G x) ea (subst (Stays (get_or loose k no_row).slot) er (beside k l))
 
     witness : (w : List (List Value)) → IsWitness q (stored db) row w → (F : ℕ) × (F < length q.atoms) × (stays F (row_at w F) ≡ false)
     witness w hw =
         let n = named w hw in
         let k = n.0 in
         let x = each k n.1.0 in
-        let F = (get_or loose k no_row).atom in
+        let F = (get_or loose k no_row).slot in
         let is : variable_row q db (get_or loose k no_row) ≡ row_at w F = ap (λ p. variable_row q db (at F p)) (sym x.is) ∙ n.1.1 F x.there in
         (F, x.there, no_of (dec_not (dec_out F (row_at w F))) (λ f. f (k, n.1.0, (refl, is))))
 

@@ -15,9 +15,11 @@ use Rattle.join_access.specs.Witnesses.{AreNamedRows}
 use Rattle.join_access.specs.Listing.{AreNamesOf, AreAllNames, places_of}
 use Rattle.join_access.proofs.Naming.{name}
 pub use Rattle.row_witnesses.proofs.Columns.{named-size}
-use Rattle.repair_clauses.specs.Clauses.{AreAllLists}
-use Rattle.repair_clauses.specs.Spans.{place_at, IsPlacedWitness}
-use Rattle.repair_clauses.specs.Runs.{AreRowPlaces, AreColumn}
+use Rattle.row_lists.specs.Clauses.{AreAllLists}
+use Rattle.row_witnesses.specs.Columns.{place_at}
+use Rattle.repair_clauses.specs.Spans.{IsPlacedWitness}
+use Rattle.row_lists.specs.Runs.{AreRowPlaces}
+use Rattle.row_witnesses.specs.Columns.{AreColumn}
 
 module _ (db : List Table) where
   pub named-each : (atoms : List Atom) (names : List RowId) (w : List (List Value)) → AreNamedRows db atoms names w → (F : ℕ) → F < length atoms →
@@ -41,7 +43,7 @@ module _ (db : List Table) where
   made-places (a ∷ atoms) [] e = absurd (omega (arith, e))
   made-places (a ∷ atoms) (p ∷ ps) e = ap (λ qs. p ∷ qs) (made-places atoms ps (omega (arith, e)))
 
-  made-named : (atoms : List Atom) (ps : List ℕ) (w : List (List Value)) → length ps ≡ length atoms → length w ≡ length atoms →
+  pub made-named : (atoms : List Atom) (ps : List ℕ) (w : List (List Value)) → length ps ≡ length atoms → length w ≡ length atoms →
       ((F : ℕ) → F < length atoms → slice_get (slice_index_or (stored db) (nth_atom atoms F).table []) (get_or ps F 0) ≡ Some (get_or w F [])) → AreNamedRows db atoms (made atoms ps) w
   made-named [] ps [] e l h = tt
   made-named [] ps (r ∷ w) e l h = absurd (omega (arith, l))

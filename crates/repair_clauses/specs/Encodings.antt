@@ -7,11 +7,13 @@ use Rattle.cqa_model.specs.Database.{Table}
 use Rattle.cnf_form.specs.declared.formula.Lit.{Lit}
 use Rattle.cnf_form.specs.Literals.{literals}
 use Rattle.join_access.specs.declared.witness.Witness.{Witness}
-use Rattle.repair_clauses.specs.declared.span.Span.{Span}
-use Rattle.repair_clauses.specs.declared.numbering.Numbering.{Numbering}
-use Rattle.repair_clauses.specs.declared.formula.Encoded.{Encoded}
-use Rattle.repair_clauses.specs.Clauses.{Formula, IsFormula, negative, clauses, variable_name}
-use Rattle.repair_clauses.specs.Spans.{AreCovered, AreNumbers, AreSpansTo, variables_of_spans}
+use Rattle.row_lists.specs.declared.span.Span.{Span}
+use Rattle.row_lists.specs.declared.numbering.Numbering.{Numbering}
+use Rattle.row_lists.specs.declared.formula.Encoded.{Encoded}
+use Rattle.row_lists.specs.Clauses.{Formula, negative, clauses}
+use Rattle.repair_clauses.specs.Clauses.{IsFormula, variable_name}
+use Rattle.repair_clauses.specs.Spans.{AreCovered, AreNumbers, AreSpansTo}
+use Rattle.row_lists.specs.Spans.{variables_of_spans}
 
 -- the clauses of witnesses are added, one for each list of places
 pub record AddsWitnesses (spans : List Span) (places : List (List ℕ)) (old new : List (List Lit)) : Type 0 where
@@ -25,7 +27,7 @@ AreRelevantBlocks q db row blocks = AreSpansTo q db row (length q.atoms) blocks.
 
 -- the spans are of atoms of the query
 abbrev pub AreSpansOfAtoms : Query → List Span → Type 0
-AreSpansOfAtoms q spans = (s : Span) → Contains spans s → s.atom < length q.atoms
+AreSpansOfAtoms q spans = (s : Span) → Contains spans s → s.slot < length q.atoms
 
 -- the rows of the witnesses are in the blocks
 abbrev pub AreTold : List Span → List Witness → Type 0

@@ -1,8 +1,6 @@
 -- The laws of the formulas of rows.
-use Rattle.std.specs.Prelude.{◌≡◌, ℕ, ◌+◌, ◌<◌, ◌≤◌, ◌↔◌, List, length, map, Bool, Contains}
+use Rattle.std.specs.Prelude.{◌≡◌, ℕ, ◌<◌, ◌≤◌, ◌↔◌, List, length, Bool, Contains}
 use Rattle.std.specs.List.{AllZip}
-use Rattle.std.specs.List.Sorted.{IsStrictlySortedBy}
-use Rattle.std.specs.Ordering.{nat_cmp}
 use Rattle.cqa_value.specs.declared.value.Value.{Value}
 use Rattle.cqa_model.specs.declared.query.Query.{Query}
 use Rattle.cqa_model.specs.Database.{Table, IsDatabase, stored}
@@ -14,17 +12,15 @@ use Rattle.cnf_form.specs.declared.formula.Lit.{Lit}
 use Rattle.cnf_form.specs.declared.header.TheConstants.{MOST_CLAUSES}
 use Rattle.cnf_form.specs.Literals.{SatisfiesAll}
 use Rattle.cnf_form.specs.Writing.{IsWritable}
-use Rattle.repair_clauses.specs.declared.formula.Encoded.{Encoded}
+use Rattle.row_lists.specs.declared.formula.Encoded.{Encoded}
 use Rattle.repair_clauses.specs.Encodings.{IsEncoded}
-use Rattle.repair_clauses.specs.Clauses.{Formula, IsFormula, AreAllLists, clauses}
+use Rattle.row_lists.specs.Clauses.{Formula, IsSatisfiable, Rises, AreAllLists, clauses}
+use Rattle.repair_clauses.specs.Clauses.{IsFormula}
 use Rattle.repair_clauses.specs.Alike.{AreRowClasses, SatisfiesClasses}
 use Rattle.repair_clauses.specs.Models.{IsPicked}
-use Rattle.repair_clauses.specs.declared.span.Span.{Span}
-use Rattle.repair_clauses.specs.Spans.{AreSpans, IsPlacedWitness, AreNumbers, variables_of_spans, formula_of_spans}
-
--- some assignment satisfies the clauses
-abbrev pub IsSatisfiable : Formula → Type 0
-IsSatisfiable f = (v : ℕ → Bool) × SatisfiesAll v (clauses f)
+use Rattle.row_lists.specs.declared.span.Span.{Span}
+use Rattle.repair_clauses.specs.Spans.{AreSpans, IsPlacedWitness, AreNumbers}
+use Rattle.row_lists.specs.Spans.{variables_of_spans, formula_of_spans}
 
 -- The clauses of a row have a satisfying assignment exactly where the rows have one.
 abbrev pub ClausesAreExact : Type 0
@@ -55,11 +51,6 @@ ModelsReject =
 -- A row has at most one formula.
 abbrev pub OneFormula : Type 0
 OneFormula = (db : List Table) (q : Query) (row : List Value) (f g : Formula) → IsFormula q db row f → IsFormula q db row g → f ≡ g
-
--- the variables of a clause rise, and are among 1 to a number
-pub record Rises (variables : ℕ) (c : List Lit) : Type 0 where
-  pub rises : IsStrictlySortedBy nat_cmp (map (λ (l : Lit). l.var) c)
-  pub in_range : (l : Lit) → Contains c l → (1 ≤ l.var) × (l.var < 1 + variables)
 
 -- The literals of each clause rise by variable.
 abbrev pub ClausesRise : Type 0

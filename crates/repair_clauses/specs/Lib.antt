@@ -2,7 +2,6 @@ pub mod Clauses
 pub mod Alike
 pub mod Models
 pub mod Spans
-pub mod Runs
 pub mod Avoiding
 pub mod Laws
 pub mod Encodings

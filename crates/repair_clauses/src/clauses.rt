@@ -1,51 +1,18 @@
-//! The clauses of blocks and of witnesses, by the numbers of their rows.
+//! The clauses of witnesses, by the numbers of their rows.
 //! Each is made with exact room.
 
-ghost use Rattle.std.specs.Prelude.{◌≡◌, ◌+◌, ◌++◌, ◌<◌, ◌^◌, [], IfOk, map};
+ghost use Rattle.std.specs.Prelude.{◌≡◌, [], IfOk, map};
 ghost use Rattle.cnf_form.specs.Literals.{literals};
 ghost use Rattle.join_access.specs.Listing.{names_of, places_of};
-ghost use Rattle.repair_clauses.specs.Clauses.{positive};
-ghost use Rattle.repair_clauses.specs.Spans.{AreCovered, IsWitnessClause, numbers_in};
+ghost use Rattle.repair_clauses.specs.Spans.{AreCovered, IsWitnessClause};
 ghost use Rattle.repair_clauses.specs.Encodings.{AddsWitnesses, AreTold};
 
-use crate::numbering::{Numbering, number};
-use crate::span::Span;
 use cnf_form::{Clause, Lit};
 use cqa_model::RowId;
 use cqa_value::{Items, NoMemory};
 use join_access::Witness;
+use row_lists::numbering::{Numbering, number};
 use std::alloc::Global;
-
-/// Puts the literals of a block's clause into a list: one of its rows is kept.
-///
-/// # Errors
-///
-/// `NoMemory` where memory is refused.
-pub fn fill_block(span: &Span, lits: &mut Vec<Lit>) -> Result<(), NoMemory>
-    requires none { lits.old.items ≡ [] }
-    requires small { span.now.base + span.now.count < 2 ^ 32 }
-    ensures { IfOk result (λ done. lits.new.items ≡ map positive (numbers_in span.now)) }
-{
-    for at in 0..span.count {
-        lits.push(Lit {
-            var: span.base + 1 + at,
-            positive: true,
-        })?;
-    }
-    Ok(())
-}
-
-/// The clause of a block.
-fn block_clause(alloc: Global, span: &Span) -> Result<Clause, NoMemory>
-    requires { span.now.base + span.now.count < 2 ^ 32 }
-    ensures { IfOk result (λ clause. clause.lits ≡ map positive (numbers_in span.now)) }
-{
-    let mut lits = Vec::with_capacity(alloc, span.count as usize)?;
-    fill_block(span, &mut lits)?;
-    Ok(Clause {
-        lits: Items::from_vec(lits),
-    })
-}
 
 /// Puts the literals of a witness's clause into a list: not all of its rows are kept.
 ///
@@ -80,24 +47,6 @@ fn witness_clause(alloc: Global, blocks: &Numbering, names: &[RowId]) -> Result<
     Ok(Clause {
         lits: Items::from_vec(lits),
     })
-}
-
-/// Adds the clause of each block.
-///
-/// # Errors
-///
-/// `NoMemory` where memory is refused.
-pub fn add_blocks(
-    alloc: Global,
-    blocks: &Numbering,
-    clauses: &mut Vec<Clause>,
-) -> Result<(), NoMemory>
-    ensures { IfOk result (λ done. literals clauses.new.items ≡ literals clauses.old.items ++ map (map positive) (map numbers_in blocks.now.spans)) }
-{
-    for span in blocks.spans.as_slice() {
-        clauses.push(block_clause(alloc, span)?)?;
-    }
-    Ok(())
 }
 
 /// Adds the clause of each witness.

@@ -1,47 +1,24 @@
 //! The formula of a row, with its variables numbered from 1: one clause for each relevant block, and one for each witness.
 //! Beside it stand the names of the rows that are the variables.
 
-ghost use Rattle.std.specs.Prelude.{◌≡◌, ◌+◌, ◌++◌, ◌<◌, ◌≤◌, IfOk, length, map};
-ghost use Rattle.cqa_model.specs.declared.limits.TheConstants.{MOST_ROWS};
+ghost use Rattle.std.specs.Prelude.{◌≡◌, IfOk, map};
 ghost use Rattle.cnf_form.specs.Literals.{literals};
 ghost use Rattle.join_access.specs.Listing.{names_of, places_of};
-ghost use Rattle.repair_clauses.specs.Clauses.{variable_name, positive};
-ghost use Rattle.repair_clauses.specs.Spans.{numbers_in, variables_in, variables_of_spans};
+ghost use Rattle.repair_clauses.specs.Clauses.{variable_name};
+ghost use Rattle.row_lists.specs.Clauses.{positive};
+ghost use Rattle.row_lists.specs.Spans.{numbers_in, variables_in, variables_of_spans};
 ghost use Rattle.repair_clauses.specs.Encodings.{AddsWitnesses, AreRelevantBlocks, AreSpansOfAtoms, AreTold, IsEncoded};
 
-use crate::clauses::{add_blocks, add_witnesses};
-use crate::numbering::Numbering;
+use crate::clauses::add_witnesses;
 use crate::relevant::{atom_of, relevant_blocks};
-use crate::span::Span;
 use cnf_form::{Clause, Cnf};
 use cqa_model::{Query, RowId};
 use cqa_value::{Items, NoMemory};
 use join_access::Witness;
+use row_lists::numbering::Numbering;
+use row_lists::{Encoded, add_blocks, add_names};
 use row_witnesses::RowWitnesses;
 use std::alloc::Global;
-
-/// The formula of a row, and the row of each variable: that of variable i + 1 is `rows[i]`.
-#[derive(Debug, Drop)]
-pub struct Encoded {
-    pub cnf: Cnf,
-    pub rows: Items<RowId>,
-}
-
-/// Adds the names of a block's rows.
-fn add_names(query: &Query, span: &Span, rows: &mut Vec<RowId>) -> Result<(), NoMemory>
-    requires there { span.now.atom < length query.now.atoms }
-    requires within { span.now.start + span.now.count ≤ MOST_ROWS }
-    ensures { IfOk result (λ done. rows.new.items ≡ rows.old.items ++ map (variable_name query.now) (variables_in span.now)) }
-{
-    let table = atom_of(query, span.atom as usize).table;
-    for at in 0..span.count {
-        rows.push(RowId {
-            table,
-            place: span.start + at,
-        })?;
-    }
-    Ok(())
-}
 
 /// The names of the rows of blocks.
 fn names(alloc: Global, query: &Query, blocks: &Numbering) -> Result<Items<RowId>, NoMemory>
@@ -50,7 +27,8 @@ fn names(alloc: Global, query: &Query, blocks: &Numbering) -> Result<Items<RowId
 {
     let mut rows = Vec::with_capacity(alloc, blocks.vars as usize)?;
     for span in blocks.spans.as_slice() {
-        add_names(query, span, &mut rows)?;
+        let table = atom_of(query, span.slot as usize).table;
+        add_names(table, span, &mut rows)?;
     }
     Ok(Items::from_vec(rows))
 }

@@ -7,12 +7,9 @@ mod avoiding;
 mod clauses;
 mod formula;
 pub mod laws;
-pub mod numbering;
 mod relevant;
-mod run;
-pub mod span;
 
 pub use avoiding::are_avoidable;
-pub use clauses::{add_blocks, fill_block, fill_witness};
-pub use formula::{Encoded, encode, formula_over};
+pub use clauses::fill_witness;
+pub use formula::{encode, formula_over};
 pub use relevant::{atom_of, relevant_blocks};

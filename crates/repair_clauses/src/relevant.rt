@@ -4,14 +4,14 @@
 ghost use Rattle.std.specs.Prelude.{◌≡◌, ◌+◌, ◌*◌, ◌++◌, ◌<◌, ◌≤◌, List, IfOk, length};
 ghost use Rattle.cqa_model.specs.Query.{atom_at};
 ghost use Rattle.cqa_model.specs.declared.limits.TheConstants.{MOST_ROWS};
-ghost use Rattle.repair_clauses.specs.declared.span.Span.{Span as Run};
+ghost use Rattle.row_lists.specs.declared.span.Span.{Span as Run};
 ghost use Rattle.repair_clauses.specs.Spans.{AreSpansTo};
 ghost use Rattle.repair_clauses.specs.Encodings.{AreRelevantBlocks};
 
-use crate::numbering::Numbering;
-use crate::run::{Spans, runs};
 use cqa_model::{Atom, Query};
 use cqa_value::{Items, NoMemory};
+use row_lists::numbering::Numbering;
+use row_lists::run::{Spans, runs};
 use row_witnesses::RowWitnesses;
 use std::alloc::Global;
 

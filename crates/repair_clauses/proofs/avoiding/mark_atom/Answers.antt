@@ -10,9 +10,11 @@ use Rattle.table_blocks.specs.Tables.{rows_at}
 use Rattle.join_access.specs.declared.witness.Witness.{Witness}
 use Rattle.join_access.specs.Listing.{names_of}
 use Rattle.row_witnesses.proofs.Told.{all_names}
-use Rattle.repair_clauses.specs.Avoiding.{HasFree, AreLoose, IsLooseAt, IsAvoidable}
-use Rattle.repair_clauses.specs.Runs.{AreRowPlaces, AreColumn}
-use Rattle.repair_clauses.specs.Spans.{place_at}
+use Rattle.row_lists.specs.Loose.{HasFreePlace, AreLoose, IsLooseAt}
+use Rattle.repair_clauses.specs.Avoiding.{IsAvoidable}
+use Rattle.row_lists.specs.Runs.{AreRowPlaces}
+use Rattle.row_witnesses.specs.Columns.{AreColumn}
+use Rattle.row_witnesses.specs.Columns.{place_at}
 use Rattle.repair_clauses.proofs.Naming.{are_places}
 use Rattle.repair_clauses.proofs.Encoding.{rows_long}
 use Rattle.repair_clauses.proofs.avoiding.mark_atom.Goals as goal
@@ -21,10 +23,10 @@ use Rattle.repair_clauses.proofs.avoiding.mark_atom.Goals as goal
 avoidable : (q : Query) (db : List Table) (all : List (List RowId)) (n : ℕ) (column : List ℕ) (loose : List Bool) (atom : Atom) (key : List ℕ) (rows : List (List Value)) → n < length q.atoms →
     atom ≡ atom_at q n → key ≡ atom.key → rows ≡ rows_at db atom.table → AreColumn all n column → AreLoose key rows column loose → (names : List RowId) → IsLooseAt column loose (place_at names n) → IsAvoidable q db all names
 avoidable q db all n column loose atom key rows here is ek er c marks names (i, l, at, e) =
-    let free : HasFree key rows column (place_at names n) = subst (HasFree key rows column) at (marks i l e) in
-    let keyed : HasFree atom.key rows column (place_at names n) = subst (λ k. HasFree k rows column (place_at names n)) ek free in
-    let stored : HasFree atom.key (rows_at db atom.table) column (place_at names n) = subst (λ rs. HasFree atom.key rs column (place_at names n)) er keyed in
-    record { atom = n; there = here; places = column; column = c; free = subst (λ (a : Atom). HasFree a.key (rows_at db a.table) column (place_at names n)) is stored }
+    let free : HasFreePlace key rows column (place_at names n) = subst (HasFreePlace key rows column) at (marks i l e) in
+    let keyed : HasFreePlace atom.key rows column (place_at names n) = subst (λ k. HasFreePlace k rows column (place_at names n)) ek free in
+    let stored : HasFreePlace atom.key (rows_at db atom.table) column (place_at names n) = subst (λ rs. HasFreePlace atom.key rs column (place_at names n)) er keyed in
+    record { atom = n; there = here; places = column; column = c; free = subst (λ (a : Atom). HasFreePlace a.key (rows_at db a.table) column (place_at names n)) is stored }
 
 pub loose_places-requires : goal.loose_places-requires
 loose_places-requires c =

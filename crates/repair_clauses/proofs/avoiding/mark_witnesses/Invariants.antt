@@ -1,7 +1,7 @@
 use Rattle.std.proofs.Common.{◌≡◌, ◌⊎◌, ◌<◌, ℕ, [], false, true, length, slice_index_or}
 use Rattle.join_access.specs.Listing.{names_of}
-use Rattle.repair_clauses.specs.Avoiding.{IsLooseAt}
-use Rattle.repair_clauses.specs.Spans.{place_at}
+use Rattle.row_lists.specs.Loose.{IsLooseAt}
+use Rattle.row_witnesses.specs.Columns.{place_at}
 use Rattle.repair_clauses.proofs.avoiding.mark_witnesses.Given as goal
 
 -- each mark was set, or is that of a witness whose row is loose

@@ -1,6 +1,6 @@
 use Rattle.std.proofs.Common.{◌≡◌, ◌+◌, ◌-◌, ◌<◌, suc, length, sym, subst, arith}
-use Rattle.repair_clauses.specs.Spans.{at, HasSpan, IsInSpan}
-use Rattle.repair_clauses.proofs.Atoms.{based-whole}
+use Rattle.row_lists.specs.Spans.{at, HasSpan, IsInSpan}
+use Rattle.row_lists.proofs.Spans.{based-whole}
 use Rattle.repair_clauses.proofs.Encoding.{negatives-more, place_read}
 use Rattle.repair_clauses.proofs.clauses.fill_witness.Goals as goal
 

@@ -3,9 +3,9 @@ use Rattle.cnf_form.specs.Literals.{literals}
 use Rattle.join_access.specs.declared.witness.Witness.{Witness}
 use Rattle.join_access.specs.Listing.{names_of, places_of}
 use Rattle.row_witnesses.proofs.Told.{all_names}
-use Rattle.repair_clauses.specs.declared.formula.Encoded.{Encoded}
-use Rattle.repair_clauses.specs.Clauses.{positive}
-use Rattle.repair_clauses.specs.Spans.{numbers_in}
+use Rattle.row_lists.specs.declared.formula.Encoded.{Encoded}
+use Rattle.row_lists.specs.Clauses.{positive}
+use Rattle.row_lists.specs.Spans.{numbers_in}
 use Rattle.repair_clauses.specs.Encodings.{AddsWitnesses, AreTold}
 use Rattle.repair_clauses.proofs.Encoding.{of_atoms, told, encoded}
 use Rattle.repair_clauses.proofs.formula.formula_over.Goals as goal

@@ -1,6 +1,6 @@
 use Rattle.std.proofs.Common.{◌≡◌, take, map}
 use Rattle.repair_clauses.specs.Clauses.{variable_name}
-use Rattle.repair_clauses.specs.Spans.{variables_of_spans}
+use Rattle.row_lists.specs.Spans.{variables_of_spans}
 use Rattle.repair_clauses.proofs.formula.names.Given as goal
 
 -- the names of the rows of the blocks so far

@@ -1,6 +1,7 @@
 use Rattle.std.proofs.Common.{◌≡◌, ◌≤◌, ◌+◌, ◌*◌, ◌++◌, ◌∙◌, length, ap, sym, subst, arith}
-use Rattle.cqa_model.specs.declared.limits.TheConstants.{MOST_ATOMS, MOST_ROWS}
-use Rattle.repair_clauses.specs.Spans.{AreSpansTo, IsSpanNumbering}
+use Rattle.cqa_model.specs.declared.limits.TheConstants.{MOST_TABLES, MOST_ROWS}
+use Rattle.repair_clauses.specs.Spans.{AreSpansTo}
+use Rattle.row_lists.specs.Spans.{IsSpanNumbering}
 use Rattle.repair_clauses.proofs.Atoms.{spans-none}
 use Rattle.repair_clauses.proofs.Encoding.{numbering}
 use Rattle.repair_clauses.proofs.relevant.relevant_blocks.Goals as goal
@@ -35,7 +36,7 @@ invariant_of-result c =
     let blocks = subst (λ n. AreSpansTo q b.db.now w.row.now n c.loop-at.vars spans) ended c.loop-at.invariant.blocks in
     let small = c.loop-at.invariant.small in
     let atoms = q.kept.size.1 in
-    let few : c.loop-at.vars ≤ MOST_ATOMS * MOST_ROWS = omega (arith, small, atoms, ended) in
+    let few : c.loop-at.vars ≤ MOST_TABLES * MOST_ROWS = omega (arith, small, atoms, ended) in
     record { kept = subst (λ ss. IsSpanNumbering ss c.loop-at.vars) (sym c.from_vec.ensures) (numbering q b.db.now w.row.now c.loop-at.vars spans blocks b.database few) }
 
 pub returns : goal.returns

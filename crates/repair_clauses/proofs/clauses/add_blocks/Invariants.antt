@@ -1,9 +1,0 @@
-use Rattle.std.proofs.Common.{◌≡◌, ◌++◌, take, map}
-use Rattle.cnf_form.specs.Literals.{literals}
-use Rattle.repair_clauses.specs.Clauses.{positive}
-use Rattle.repair_clauses.specs.Spans.{numbers_in}
-use Rattle.repair_clauses.proofs.clauses.add_blocks.Given as goal
-
--- the clauses of the blocks so far
-abbrev pub invariant-loop-span : goal.invariant-loop-span
-invariant-loop-span l = literals l.clauses.items ≡ literals l.fn.clauses.items ++ map (map positive) (map numbers_in (take l.span-index l.blocks.spans))

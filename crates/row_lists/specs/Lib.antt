@@ -1,0 +1,11 @@
+pub mod Clauses
+pub mod Spans
+pub mod Runs
+pub mod Lists
+pub mod Formulas
+pub mod Frames
+pub mod Encodings
+pub mod Classes
+pub mod Picks
+pub mod Laws
+pub mod Loose
