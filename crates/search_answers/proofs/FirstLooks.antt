@@ -17,17 +17,19 @@ use Rattle.flat_formula.specs.declared.guess.Found.TheVariants.{Satisfiable, Uns
 use Rattle.flat_formula.specs.Findings.{FoundIs}
 use Rattle.join_access.specs.Listing.{AreAllNames, places_of}
 use Rattle.join_access.proofs.Naming.{zip-right}
-use Rattle.repair_clauses.specs.declared.span.Span.{Span}
-use Rattle.repair_clauses.specs.Clauses.{Variable, HasNumber, IsFormula, positive, negative}
-use Rattle.repair_clauses.specs.Spans.{AreBasedTo, AreSpansTo, AreNumbers, numbers_in, variables_of_spans, formula_of_spans}
+use Rattle.row_lists.specs.declared.span.Span.{Span}
+use Rattle.row_lists.specs.Clauses.{Variable, HasNumber, positive, negative}
+use Rattle.repair_clauses.specs.Clauses.{IsFormula}
+use Rattle.row_lists.specs.Spans.{AreBasedTo, numbers_in, variables_of_spans, formula_of_spans}
+use Rattle.repair_clauses.specs.Spans.{AreSpansTo, AreNumbers}
 use Rattle.search_answers.specs.Classing.{FoundSays}
 use Rattle.search_answers.specs.Looking.{AreClausesOf}
-use Rattle.repair_clauses.proofs.Rows.{number_below}
+use Rattle.row_lists.proofs.Rows.{number_below}
 use Rattle.repair_clauses.proofs.Exact.{clauses_decide}
 use Rattle.repair_clauses.proofs.Spans.{spans_give_formula}
 use Rattle.repair_clauses.proofs.Atoms.{spans-all}
 use Rattle.repair_clauses.proofs.Naming.{placed}
-use Rattle.repair_clauses.proofs.Encoding.{based-below, variables-length}
+use Rattle.row_lists.proofs.Spans.{based-below, variables-length}
 
 -- ---- the variables of the clauses
 
@@ -35,7 +37,7 @@ numbered_place : (variables : List Variable) (F : ℕ) (ps ns : List ℕ) (n : �
 numbered_place variables F ps [] n h m = absurd (mem-nil n m)
 numbered_place variables F [] (k ∷ ns) n h m = absurd h
 numbered_place variables F (p ∷ ps) (k ∷ ns) n h m = elim (mem-cases n k ns m) [
-  | inl e ↦ (record { atom = F; place = p }, subst (λ j. HasNumber variables j (record { atom = F; place = p })) e h.0)
+  | inl e ↦ (record { slot = F; place = p }, subst (λ j. HasNumber variables j (record { slot = F; place = p })) e h.0)
   | inr i ↦ numbered_place variables (suc F) ps ns n h.1 i
 ]
 

@@ -13,8 +13,9 @@ use Rattle.cqa_model.specs.Blocks.{IsPick}
 use Rattle.cqa_model.specs.Query.{atom_at, atom_key, rows_of, FitsDatabase}
 use Rattle.cnf_form.specs.Literals.{SatisfiesAll}
 use Rattle.cdcl.specs.Outcomes.{assignment, IsModel}
-use Rattle.repair_clauses.specs.declared.formula.Encoded.{Encoded}
-use Rattle.repair_clauses.specs.Clauses.{Variable, IsStoredVariable, variable_name}
+use Rattle.row_lists.specs.declared.formula.Encoded.{Encoded}
+use Rattle.row_lists.specs.Clauses.{Variable}
+use Rattle.repair_clauses.specs.Clauses.{IsStoredVariable, variable_name}
 use Rattle.repair_clauses.specs.Encodings.{IsEncoded}
 use Rattle.repair_clauses.specs.Models.{IsTrueVariable, IsPicked}
 use Rattle.repair_clauses.proofs.Models.{models_reject}
@@ -22,12 +23,12 @@ use Rattle.repair_back.specs.Results.{AreKept, AreStored, IsTrueName, ArePicks, 
 use Rattle.table_blocks.specs.Tables.{names_in}
 
 module _ {A B : Type 0} (g : A → B) where
-  get-map : (xs : List A) (k : ℕ) (x : A) → slice_get xs k ≡ Some x → slice_get (map g xs) k ≡ Some (g x)
+  pub get-map : (xs : List A) (k : ℕ) (x : A) → slice_get xs k ≡ Some x → slice_get (map g xs) k ≡ Some (g x)
   get-map [] k x e = (cc)
   get-map (y ∷ xs) zero x e = let same : y ≡ x = cc in ap (λ z. Some (g z)) same
   get-map (y ∷ xs) (suc k) x e = get-map xs k x e
 
-  of-map : (xs : List A) (k : ℕ) (y : B) → slice_get (map g xs) k ≡ Some y → (x : A) × (slice_get xs k ≡ Some x) × (g x ≡ y)
+  pub of-map : (xs : List A) (k : ℕ) (y : B) → slice_get (map g xs) k ≡ Some y → (x : A) × (slice_get xs k ≡ Some x) × (g x ≡ y)
   of-map [] k y e = absurd (none y e)
     where
       none : (y : B) → None ≡ Some y → ⊥
@@ -35,13 +36,13 @@ module _ {A B : Type 0} (g : A → B) where
   of-map (x ∷ xs) zero y e = (x, refl, cc)
   of-map (x ∷ xs) (suc k) y e = of-map xs k y e
 
-true-there : (bs : List Bool) (k : ℕ) → get_or bs k false ≡ true → slice_get bs k ≡ Some true
+pub true-there : (bs : List Bool) (k : ℕ) → get_or bs k false ≡ true → slice_get bs k ≡ Some true
 true-there [] k e = (cc)
 true-there (b ∷ bs) zero e = ap Some e
 true-there (b ∷ bs) (suc k) e = true-there bs k e
 
-same-variable : (x : Variable) (F i : ℕ) → x.atom ≡ F → x.place ≡ i → ◌≡◌ {A = Variable} x (record { atom = F; place = i })
-same-variable x F i a p = λ j. record { atom = a j; place = p j }
+same-variable : (x : Variable) (F i : ℕ) → x.slot ≡ F → x.place ≡ i → ◌≡◌ {A = Variable} x (record { slot = F; place = i })
+same-variable x F i a p = λ j. record { slot = a j; place = p j }
 
 module _ (q : Query) (db : List Table) (row : List Value) (e : Encoded) (model : List Bool) (h : IsEncoded q db row e) (m : IsModel e.cnf model) (fits : FitsDatabase q db) where
   variable-stored : (x : Variable) → Contains h.formula.variables x → IsStoredVariable q db x
@@ -51,30 +52,30 @@ module _ (q : Query) (db : List Table) (row : List Value) (e : Encoded) (model :
   names-stored name c =
       let x = Contains-from_map (variable_name q) h.formula.variables name (subst (λ ns. Contains ns name) h.rows c) in
       let s = variable-stored x.0 x.1 in
-      (subst (λ (n : RowId). n.table < length db) x.2 (fits.there x.0.atom s.0), subst (λ (n : RowId). n.place < length (get_or (stored db) n.table [])) x.2 s.1)
+      (subst (λ (n : RowId). n.table < length db) x.2 (fits.there x.0.slot s.0), subst (λ (n : RowId). n.place < length (get_or (stored db) n.table [])) x.2 s.1)
 
   abbrev name_at : ℕ → ℕ → RowId
   name_at F i = record { table = (atom_at q F).table; place = i }
 
   -- a name is listed with true exactly where its variable is true
-  listed-true : (F i : ℕ) → F < length q.atoms → IsTrueName e.rows model (name_at F i) → IsTrueVariable h.formula.variables (assignment model) (record { atom = F; place = i })
+  listed-true : (F i : ℕ) → F < length q.atoms → IsTrueName e.rows model (name_at F i) → IsTrueVariable h.formula.variables (assignment model) (record { slot = F; place = i })
   listed-true F i l (k, nk, mk) =
       let x = of-map (variable_name q) h.formula.variables k (name_at F i) (subst (λ ns. slice_get ns k ≡ Some (name_at F i)) h.rows nk) in
       let s = variable-stored x.0 (Contains-slice_get h.formula.variables k x.0 x.1) in
-      let atom : x.0.atom ≡ F = q.kept.apart x.0.atom F s.0 l (ap (λ (n : RowId). n.table) x.2) in
+      let atom : x.0.slot ≡ F = q.kept.apart x.0.slot F s.0 l (ap (λ (n : RowId). n.table) x.2) in
       let same = same-variable x.0 F i atom (ap (λ (n : RowId). n.place) x.2) in
       (suc k, x.1 ∙ ap Some same, subst (λ n. get_or model n false ≡ true) (let z : k ≡ suc k - 1 = omega arith in z) (get_or_from_slice_get model k true false mk))
 
-  true-listed : (F i : ℕ) → IsTrueVariable h.formula.variables (assignment model) (record { atom = F; place = i }) → IsTrueName e.rows model (name_at F i)
+  true-listed : (F i : ℕ) → IsTrueVariable h.formula.variables (assignment model) (record { slot = F; place = i }) → IsTrueName e.rows model (name_at F i)
   true-listed F i (zero, hn, vn) = absurd hn
   true-listed F i (suc k, hn, vn) = (
     k,
-    subst (λ ns. slice_get ns k ≡ Some (name_at F i)) (sym h.rows) (get-map (variable_name q) h.formula.variables k (record { atom = F; place = i }) hn),
+    subst (λ ns. slice_get ns k ≡ Some (name_at F i)) (sym h.rows) (get-map (variable_name q) h.formula.variables k (record { slot = F; place = i }) hn),
     true-there model k (subst (λ n. get_or model n false ≡ true) (let z : suc k - 1 ≡ k = omega arith in z) vn),
   )
 
   pick-of : (F at : ℕ) → F < length q.atoms → IsPick (atom_key q F) (rows_of q (stored db) F) (λ i. IsTrueName e.rows model (name_at F i)) at →
-      IsPick (atom_key q F) (rows_of q (stored db) F) (λ i. IsTrueVariable h.formula.variables (assignment model) (record { atom = F; place = i })) at
+      IsPick (atom_key q F) (rows_of q (stored db) F) (λ i. IsTrueVariable h.formula.variables (assignment model) (record { slot = F; place = i })) at
   pick-of F at l p = record {
     there = p.there;
     best = λ i li s t. listed-true F at l (p.best i li s (true-listed F i t));

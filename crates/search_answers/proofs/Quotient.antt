@@ -1,8 +1,7 @@
 -- The clauses over classes of rows that are alike decide the row.
-use Rattle.std.proofs.Common.{◌≡◌, ℕ, suc, ◌<◌, ◌≤◌, ◌+◌, inl, inr, List, [], length, get_or, map, Option, Some, None, refl, sym, ◌∙◌, ap, subst, arith, Contains, slice_get, slice_index_or, Bool, true, false}
+use Rattle.std.proofs.Common.{◌≡◌, ℕ, suc, ◌<◌, ◌≤◌, ◌+◌, inl, inr, List, [], length, get_or, map, Option, Some, refl, sym, ◌∙◌, ap, subst, arith, Contains, slice_get, slice_index_or, Bool, true, false}
 use Rattle.std.specs.List.Sorted.{IsStrictlySortedBy}
-use Rattle.std.specs.Ordering.{nat_cmp}
-use Rattle.std.proofs.lemmas.Option.{get_or_from_slice_get, slice_get_within, slice_get-get_or, none-some}
+use Rattle.std.proofs.lemmas.Option.{get_or_from_slice_get, slice_get_within, slice_get-get_or}
 use Rattle.std.proofs.lemmas.List.Elements.{Contains-get_or, Contains-append_left, Contains-append_right, Contains-append_cases}
 use native.Mathlib.Decide.{ℕ_discrete}
 use Rattle.cqa_value.specs.declared.value.Value.{Value}
@@ -19,37 +18,31 @@ use Rattle.cqa_model.proofs.Values.{row_discrete}
 use Rattle.cqa_model.proofs.Repairs.{shares-self, shares-eq, shares-sym, shares-trans}
 use Rattle.cqa_model.proofs.Databases as databases
 use Rattle.cnf_form.specs.declared.formula.Lit.{Lit}
-use Rattle.cnf_form.specs.declared.formula.Cnf.{Cnf}
-use Rattle.cnf_form.specs.Literals.{AreVarsInRange, Satisfies, SatisfiesAll, literals}
-use Rattle.cdcl.specs.Outcomes.{IsOnce}
+use Rattle.cnf_form.specs.Literals.{Satisfies, SatisfiesAll}
 use Rattle.flat_formula.specs.declared.guess.Found.{Found}
 use Rattle.flat_formula.specs.declared.guess.Found.TheVariants.{Satisfiable, Unsatisfiable, Unclear}
 use Rattle.flat_formula.specs.Findings.{FoundIs}
 use Rattle.join_access.specs.Listing.{AreAllNames, places_of}
 use Rattle.join_access.proofs.Naming.{stand-once}
 use Rattle.join_access.proofs.Sorted.{one_place}
-use Rattle.repair_clauses.specs.declared.span.Span.{Span}
+use Rattle.row_lists.specs.declared.span.Span.{Span}
+use Rattle.row_lists.specs.Clauses.{Variable, HasNumber, Rises, positive, negative, variable_cmp}
+use Rattle.row_lists.specs.Spans.{at, IsInSpan, variables_of_spans}
 use Rattle.repair_clauses.specs.Alike.{AreRowClasses, IsInWitness, IsCovered, SatisfiesClasses}
-use Rattle.repair_clauses.specs.Clauses.{Variable, HasNumber, IsStoredVariable, variable_row, positive, negative, variable_cmp}
-use Rattle.repair_clauses.specs.Spans.{at, place_at, IsInSpan, IsNamed, AreSpansTo, variables_of_spans}
-use Rattle.search_answers.specs.Classing.{HasClass, AreClassedTo, AreNumberedTo, HasAllClasses, AreClassesOfBlock, AreOfNames, AreClassClauses, AreQuotient, FoundSays}
-use Rattle.repair_clauses.proofs.Numbers.{place_of}
-use Rattle.repair_clauses.proofs.Spans.{as_at}
-use Rattle.repair_clauses.proofs.Rows.{number_below, one_variable, dec_number}
-use Rattle.repair_clauses.proofs.Order.{map_var, variable_total}
+use Rattle.repair_clauses.specs.Clauses.{IsStoredVariable, variable_row}
+use Rattle.row_witnesses.specs.Columns.{place_at}
+use Rattle.repair_clauses.specs.Spans.{IsNamed, AreSpansTo}
+use Rattle.list_search.specs.Classing.{HasClass, HasAllClasses, AreClassesOfBlock, AreClassClauses}
+use Rattle.search_answers.specs.Classing.{AreClassedTo, AreNumberedTo, AreOfNames, AreQuotient, FoundSays}
+use Rattle.row_lists.proofs.Numbers.{place_of}
+use Rattle.row_lists.proofs.Spans.{as_at}
+use Rattle.row_lists.proofs.Rows.{number_below, one_variable, dec_number, variable_total}
+use Rattle.list_search.proofs.ClassFormulas.{dec_class, some_true, some_false}
+use Rattle.list_search.proofs.Rising.{rises_to}
 use Rattle.repair_clauses.proofs.Naming.{named-size, of_names, placed}
 use Rattle.repair_clauses.proofs.Alike.{classes_are_exact}
-use Rattle.search_answers.proofs.Deciding.{no-var-twice}
-use Rattle.search_answers.proofs.ClassLists.{some_some}
-use Rattle.search_answers.proofs.WitnessRows.{rising, span_at}
-
-dec_class : (o : Option (Option ℕ)) → Dec ((n : ℕ) × (o ≡ Some (Some n)))
-dec_class None = no (λ h. none-some (Some h.0) h.1)
-dec_class (Some None) = no (λ h. no_none h.0 h.1)
-  where
-    no_none : (n : ℕ) → Some None ≡ Some (Some n) → ⊥
-    no_none n e = cc
-dec_class (Some (Some n)) = yes (n, refl)
+use Rattle.list_search.proofs.ClassLists.{some_some}
+use Rattle.list_search.proofs.SingleRows.{rising, span_at}
 
 module _ (q : Query) (db : List Table) (d : IsDatabase db) (fits : FitsDatabase q db) (row : List Value) (m : ℕ) (spans : List Span) (h : AreSpansTo q db row (length q.atoms) m spans)
     (all : List (List RowId)) (a : AreAllNames q db row all) (numbered : List Span) (rows : AreNumberedTo all (length q.atoms) numbered) where
@@ -97,14 +90,14 @@ module _ (q : Query) (db : List Table) (d : IsDatabase db) (fits : FitsDatabase 
   module _ (classes : List (Option ℕ)) (c : AreClassedTo q db vars all (length q.atoms) classes) where
     -- the class of a row
     abbrev IsOf : ℕ → List Value → Variable → Type 0
-    IsOf F x y = (y.atom ≡ F) × (variable_row q db y ≡ x)
+    IsOf F x y = (y.slot ≡ F) × (variable_row q db y ≡ x)
 
     abbrev IsHit : ℕ → List Value → ℕ → Type 0
     IsHit F x k = ((y : Variable) × HasNumber vars (suc k) y × IsOf F x y) × ((n : ℕ) × (slice_get classes k ≡ Some (Some n)))
 
     dec_hit : (F : ℕ) (x : List Value) → Dec ((k : ℕ) × (k < length vars) × IsHit F x k)
     dec_hit F x = dec_one_below (IsHit F x)
-        (λ k. dec_both (dec_number vars (IsOf F x) (λ y. dec_both (ℕ_discrete y.atom F) (row_discrete (variable_row q db y) x)) (suc k)) (dec_class (slice_get classes k))) (length vars)
+        (λ k. dec_both (dec_number vars (IsOf F x) (λ y. dec_both (ℕ_discrete y.slot F) (row_discrete (variable_row q db y) x)) (suc k)) (dec_class (slice_get classes k))) (length vars)
 
     abbrev chosen : (F : ℕ) (x : List Value) → Dec ((k : ℕ) × (k < length vars) × IsHit F x k) → ℕ
     chosen F x (yes p) = p.2.1.0
@@ -120,7 +113,7 @@ module _ (q : Query) (db : List Table) (d : IsDatabase db) (fits : FitsDatabase 
         st y j e =
             let s = span_at numbered rows.single j y e in
             let b = rows.from s.0 (Contains-slice_get numbered j s.0 s.1) in
-            subst (IsStoredVariable q db) s.2 (b.0, (in_witness s.0.atom b.0 s.0.start b.1).0)
+            subst (IsStoredVariable q db) s.2 (b.0, (in_witness s.0.slot b.0 s.0.start b.1).0)
 
         go : (dec : Dec ((j : ℕ) × (j < length vars) × IsHit F (variable_row q db (at F p)) j)) → chosen F (variable_row q db (at F p)) dec ≡ n
         go (yes (j, l, ((y, ey, (ya, yr)), (i, ei)))) =
@@ -146,7 +139,7 @@ module _ (q : Query) (db : List Table) (d : IsDatabase db) (fits : FitsDatabase 
         let ap1 = c.alike F p.0 cp.0 cp.1 in
         let ar1 = c.alike G r.0 cr.0 cr.1 in
         let one : at F ap1.0 ≡ at G ar1.0 = one_variable vars cr.0 (at F ap1.0) (at G ar1.0) (subst (λ k. HasNumber vars k (at F ap1.0)) same ap1.1) ar1.1 in
-        let FG : F ≡ G = ap (λ (z : Variable). z.atom) one in (
+        let FG : F ≡ G = ap (λ (z : Variable). z.slot) one in (
           FG,
           λ col s ea.
               ap (λ z. slice_index_or z col.col nothing) (sym p.2) ∙ (sym (ap1.2 col s ea) ∙ (ap (λ z. slice_index_or (variable_row q db z) col.col nothing) one
@@ -154,69 +147,63 @@ module _ (q : Query) (db : List Table) (d : IsDatabase db) (fits : FitsDatabase 
         )
 
     -- the rows of a span are those of its block
-    in_block : (s : Span) → Contains spans s → (p r : ℕ) → IsInSpan s (at s.atom p) → r < length (rows_of q (stored db) s.atom) → SharesKey (atom_key q s.atom) (variable_row q db (at s.atom p)) (variable_row q db (at s.atom r)) → IsInSpan s (at s.atom r)
+    in_block : (s : Span) → Contains spans s → (p r : ℕ) → IsInSpan s (at s.slot p) → r < length (rows_of q (stored db) s.slot) → SharesKey (atom_key q s.slot) (variable_row q db (at s.slot p)) (variable_row q db (at s.slot r)) → IsInSpan s (at s.slot r)
     in_block s ms p r i l sh =
         let t = (h.each s ms).1 in
         let w = t.whole.within in
         let u = i.2 in
-        let key = atom_key q s.atom in
+        let key = atom_key q s.slot in
         let first = (t.whole.block p (omega (arith, u, w))).1 (i.1, i.2) in
-        let b = (t.whole.block r l).0 (shares-trans key (variable_row q db (at s.atom s.start)) (variable_row q db (at s.atom p)) (variable_row q db (at s.atom r)) first sh) in
+        let b = (t.whole.block r l).0 (shares-trans key (variable_row q db (at s.slot s.start)) (variable_row q db (at s.slot p)) (variable_row q db (at s.slot r)) first sh) in
         (refl, b.0, b.1)
 
-    of_block : (s : Span) → Contains spans s → (p r : ℕ) → IsInSpan s (at s.atom p) → IsInSpan s (at s.atom r) → SharesKey (atom_key q s.atom) (variable_row q db (at s.atom p)) (variable_row q db (at s.atom r))
+    of_block : (s : Span) → Contains spans s → (p r : ℕ) → IsInSpan s (at s.slot p) → IsInSpan s (at s.slot r) → SharesKey (atom_key q s.slot) (variable_row q db (at s.slot p)) (variable_row q db (at s.slot r))
     of_block s ms p r i j =
         let t = (h.each s ms).1 in
         let w = t.whole.within in
         let u = i.2 in
         let v = j.2 in
-        let key = atom_key q s.atom in
-        shares-trans key (variable_row q db (at s.atom p)) (variable_row q db (at s.atom s.start)) (variable_row q db (at s.atom r))
-        (shares-sym key (variable_row q db (at s.atom s.start)) (variable_row q db (at s.atom p)) ((t.whole.block p (omega (arith, u, w))).1 (i.1, i.2))) ((t.whole.block r (omega (arith, v, w))).1 (j.1, j.2))
+        let key = atom_key q s.slot in
+        shares-trans key (variable_row q db (at s.slot p)) (variable_row q db (at s.slot s.start)) (variable_row q db (at s.slot r))
+        (shares-sym key (variable_row q db (at s.slot s.start)) (variable_row q db (at s.slot p)) ((t.whole.block p (omega (arith, u, w))).1 (i.1, i.2))) ((t.whole.block r (omega (arith, v, w))).1 (j.1, j.2))
 
-    in_rows : (s : Span) → Contains spans s → (p : ℕ) → IsInSpan s (at s.atom p) → (p < length (rows_of q (stored db) s.atom)) × Contains (rows_of q (stored db) s.atom) (variable_row q db (at s.atom p))
+    in_rows : (s : Span) → Contains spans s → (p : ℕ) → IsInSpan s (at s.slot p) → (p < length (rows_of q (stored db) s.slot)) × Contains (rows_of q (stored db) s.slot) (variable_row q db (at s.slot p))
     in_rows s ms p i =
         let w = (h.each s ms).1.whole.within in
         let u = i.2 in
-        let l : p < length (rows_of q (stored db) s.atom) = omega (arith, u, w) in
-        (l, Contains-get_or (rows_of q (stored db) s.atom) p [] l)
+        let l : p < length (rows_of q (stored db) s.slot) = omega (arith, u, w) in
+        (l, Contains-get_or (rows_of q (stored db) s.slot) p [] l)
 
-    module _ (cs : List (List Lit)) (k : AreClassClauses vars classes spans all cs) where
+    module _ (cs : List (List Lit)) (k : AreClassClauses vars classes spans (AreOfNames vars classes) all cs) where
       block_in : (numbers : List ℕ) → Contains k.blocks numbers → Contains cs (map positive numbers)
       block_in numbers mn = subst (λ ds. Contains ds (map positive numbers)) (sym k.is)
-          (Contains-append_left (map (map positive) k.blocks) (map (map negative) k.witnesses) (map positive numbers) (Contains-map (map positive) k.blocks numbers mn))
+          (Contains-append_left (map (map positive) k.blocks) (map (map negative) k.lists) (map positive numbers) (Contains-map (map positive) k.blocks numbers mn))
 
-      witness_in : (numbers : List ℕ) → Contains k.witnesses numbers → Contains cs (map negative numbers)
+      witness_in : (numbers : List ℕ) → Contains k.lists numbers → Contains cs (map negative numbers)
       witness_in numbers mn = subst (λ ds. Contains ds (map negative numbers)) (sym k.is)
-          (Contains-append_right (map (map positive) k.blocks) (map (map negative) k.witnesses) (map negative numbers) (Contains-map (map negative) k.witnesses numbers mn))
+          (Contains-append_right (map (map positive) k.blocks) (map (map negative) k.lists) (map negative numbers) (Contains-map (map negative) k.lists numbers mn))
 
       -- from clauses to classes
       from_sat : ((v : ℕ → Bool) × SatisfiesAll v cs) → (t : ℕ → Bool) × SatisfiesClasses q (stored db) row class t
       from_sat (v, sat) = (v, record { blocks = blocks; witnesses = witnesses })
         where
-          some_true : (numbers : List ℕ) → Satisfies v (map positive numbers) → (n : ℕ) × Contains numbers n × (v n ≡ true)
-          some_true numbers (l, ml, e) = let p = Contains-from_map positive numbers l ml in (p.0, p.1, subst (λ (z : Lit). v z.var ≡ z.positive) (sym p.2) e)
-
-          some_false : (numbers : List ℕ) → Satisfies v (map negative numbers) → (n : ℕ) × Contains numbers n × (v n ≡ false)
-          some_false numbers (l, ml, e) = let p = Contains-from_map negative numbers l ml in (p.0, p.1, subst (λ (z : Lit). v z.var ≡ z.positive) (sym p.2) e)
-
           Goal : ℕ → List Value → Type 0
           Goal F x = (y : List Value) × Contains (rows_of q (stored db) F) y × SharesKey (atom_key q F) x y × (v (class F y) ≡ true)
 
-          whole : (s : Span) → Contains spans s → (p : ℕ) → IsInSpan s (at s.atom p) → IsCovered q (stored db) row s.atom (variable_row q db (at s.atom p)) → HasAllClasses vars classes s
+          whole : (s : Span) → Contains spans s → (p : ℕ) → IsInSpan s (at s.slot p) → IsCovered q (stored db) row s.slot (variable_row q db (at s.slot p)) → HasAllClasses vars classes s
           whole s ms p i cov r j =
               let l = (h.each s ms).0 in
               let b = in_rows s ms r j in
-              let g = named s.atom l (variable_row q db (at s.atom r)) (cov (variable_row q db (at s.atom r)) b.1 (of_block s ms p r i j)) in
-              let same : g.0 ≡ r = one_row s.atom g.0 r l g.1 b.0 g.2 in
-              c.to s.atom r (l, subst (IsNamed all s.atom) same g.3)
+              let g = named s.slot l (variable_row q db (at s.slot r)) (cov (variable_row q db (at s.slot r)) b.1 (of_block s ms p r i j)) in
+              let same : g.0 ≡ r = one_row s.slot g.0 r l g.1 b.0 g.2 in
+              c.to s.slot r (l, subst (IsNamed all s.slot) same g.3)
 
-          of_span : (s : Span) → Contains spans s → (p : ℕ) → IsInSpan s (at s.atom p) → IsCovered q (stored db) row s.atom (variable_row q db (at s.atom p)) → Goal s.atom (variable_row q db (at s.atom p))
+          of_span : (s : Span) → Contains spans s → (p : ℕ) → IsInSpan s (at s.slot p) → IsCovered q (stored db) row s.slot (variable_row q db (at s.slot p)) → Goal s.slot (variable_row q db (at s.slot p))
           of_span s ms p i cov =
               let lst = k.of_blocks.every s ms (whole s ms p i cov) in
-              let n = some_true lst.0 (sat (map positive lst.0) (block_in lst.0 lst.1)) in
+              let n = some_true v lst.0 (sat (map positive lst.0) (block_in lst.0 lst.1)) in
               let f = (lst.2.exactly n.0).0 n.1 in
-              (variable_row q db (at s.atom f.0), (in_rows s ms f.0 f.1).1, of_block s ms p f.0 i f.1, ap v (is_class s.atom f.0 n.0 f.2) ∙ n.2)
+              (variable_row q db (at s.slot f.0), (in_rows s ms f.0 f.1).1, of_block s ms p f.0 i f.1, ap v (is_class s.slot f.0 n.0 f.2) ∙ n.2)
 
           blocks : (F : ℕ) → F < length q.atoms → (x : List Value) → Contains (rows_of q (stored db) F) x → IsCovered q (stored db) row F x → Goal F x
           blocks F l x mx cov =
@@ -224,15 +211,15 @@ module _ (q : Query) (db : List Table) (d : IsDatabase db) (fits : FitsDatabase 
               let p = named F l x ix in
               let rel : IsRelevant q (stored db) row F (variable_row q db (at F p.0)) = (ix.0, ix.1, shares-eq (atom_key q F) (variable_row q db (at F p.0)) (row_at ix.0 F) (p.2 ∙ sym ix.2)) in
               let s = h.every (at F p.0) l (l, p.1) rel in
-              let e : F ≡ s.0.atom = s.2.0 in
+              let e : F ≡ s.0.slot = s.2.0 in
               subst (Goal F) p.2 (subst (λ G. IsCovered q (stored db) row G (variable_row q db (at G p.0)) → Goal G (variable_row q db (at G p.0))) (sym e) (of_span s.0 s.1 p.0 (refl, s.2.1, s.2.2))
               (subst (IsCovered q (stored db) row F) (sym p.2) cov))
 
           witnesses : (w : List (List Value)) → IsWitness q (stored db) row w → (F : ℕ) × (F < length q.atoms) × (v (class F (row_at w F)) ≡ false)
           witnesses w hw =
               let ns = names_for w hw in
-              let lst = k.of_names.every ns.0 ns.1 in
-              let n = some_false lst.0 (sat (map negative lst.0) (witness_in lst.0 lst.1)) in
+              let lst = k.of_lists.every ns.0 ns.1 in
+              let n = some_false v lst.0 (sat (map negative lst.0) (witness_in lst.0 lst.1)) in
               let f = (lst.2.exactly n.0).0 n.1 in
               let l = (c.from f.0 (place_at ns.0 f.0) n.0 f.2).0 in
               (f.0, l, ap v (ap (class f.0) (sym (ns.2 f.0 l).1) ∙ is_class f.0 (place_at ns.0 f.0) n.0 f.2) ∙ n.2)
@@ -241,39 +228,39 @@ module _ (q : Query) (db : List Table) (d : IsDatabase db) (fits : FitsDatabase 
       to_sat : ((t : ℕ → Bool) × SatisfiesClasses q (stored db) row class t) → (v : ℕ → Bool) × SatisfiesAll v cs
       to_sat (t, s) = (
         t,
-        λ cl mc. elim (Contains-append_cases (map (map positive) k.blocks) (map (map negative) k.witnesses) cl (subst (λ ds. Contains ds cl) k.is mc)) [
+        λ cl mc. elim (Contains-append_cases (map (map positive) k.blocks) (map (map negative) k.lists) cl (subst (λ ds. Contains ds cl) k.is mc)) [
           | inl b ↦ let p = Contains-from_map (map positive) k.blocks cl b in subst (Satisfies t) p.2 (of_list p.0 (k.of_blocks.each p.0 p.1))
-          | inr w ↦ let p = Contains-from_map (map negative) k.witnesses cl w in subst (Satisfies t) p.2 (of_witness p.0 (k.of_names.each p.0 p.1))
+          | inr w ↦ let p = Contains-from_map (map negative) k.lists cl w in subst (Satisfies t) p.2 (of_witness p.0 (k.of_lists.each p.0 p.1))
         ],
       )
         where
           of_list : (numbers : List ℕ) → ((b : Span) × Contains spans b × AreClassesOfBlock vars classes b numbers) → Satisfies t (map positive numbers)
-          of_list numbers (b, mb, o) = go (s.blocks b.atom l (variable_row q db (at b.atom b.start)) (in_rows b mb b.start first).1 covered)
+          of_list numbers (b, mb, o) = go (s.blocks b.slot l (variable_row q db (at b.slot b.start)) (in_rows b mb b.start first).1 covered)
             where
-              l : b.atom < length q.atoms
+              l : b.slot < length q.atoms
               l = (h.each b mb).0
 
-              first : IsInSpan b (at b.atom b.start)
+              first : IsInSpan b (at b.slot b.start)
               first = let n = (h.each b mb).1.whole.some in (refl, omega arith, omega (arith, n))
 
-              place : (y : List Value) → Contains (rows_of q (stored db) b.atom) y → SharesKey (atom_key q b.atom) (variable_row q db (at b.atom b.start)) y →
-                  (r : ℕ) × IsInSpan b (at b.atom r) × (variable_row q db (at b.atom r) ≡ y)
+              place : (y : List Value) → Contains (rows_of q (stored db) b.slot) y → SharesKey (atom_key q b.slot) (variable_row q db (at b.slot b.start)) y →
+                  (r : ℕ) × IsInSpan b (at b.slot r) × (variable_row q db (at b.slot r) ≡ y)
               place y my sh =
-                  let r = place_of (rows_of q (stored db) b.atom) y my in
-                  let e : variable_row q db (at b.atom r.0) ≡ y = get_or_from_slice_get (rows_of q (stored db) b.atom) r.0 y [] r.2 in
-                  (r.0, in_block b mb b.start r.0 first r.1 (subst (λ z. SharesKey (atom_key q b.atom) (variable_row q db (at b.atom b.start)) z) (sym e) sh), e)
+                  let r = place_of (rows_of q (stored db) b.slot) y my in
+                  let e : variable_row q db (at b.slot r.0) ≡ y = get_or_from_slice_get (rows_of q (stored db) b.slot) r.0 y [] r.2 in
+                  (r.0, in_block b mb b.start r.0 first r.1 (subst (λ z. SharesKey (atom_key q b.slot) (variable_row q db (at b.slot b.start)) z) (sym e) sh), e)
 
-              covered : IsCovered q (stored db) row b.atom (variable_row q db (at b.atom b.start))
+              covered : IsCovered q (stored db) row b.slot (variable_row q db (at b.slot b.start))
               covered y my sh =
                   let r = place y my sh in
                   let n = o.whole r.0 r.1 in
-                  subst (IsInWitness q (stored db) row b.atom) r.2 (in_witness b.atom l r.0 (c.from b.atom r.0 n.0 n.1).1).1
+                  subst (IsInWitness q (stored db) row b.slot) r.2 (in_witness b.slot l r.0 (c.from b.slot r.0 n.0 n.1).1).1
 
-              go : ((y : List Value) × Contains (rows_of q (stored db) b.atom) y × SharesKey (atom_key q b.atom) (variable_row q db (at b.atom b.start)) y × (t (class b.atom y) ≡ true)) → Satisfies t (map positive numbers)
+              go : ((y : List Value) × Contains (rows_of q (stored db) b.slot) y × SharesKey (atom_key q b.slot) (variable_row q db (at b.slot b.start)) y × (t (class b.slot y) ≡ true)) → Satisfies t (map positive numbers)
               go (y, my, sh, e) =
                   let r = place y my sh in
                   let n = o.whole r.0 r.1 in
-                  let is : class b.atom y ≡ n.0 = ap (class b.atom) (sym r.2) ∙ is_class b.atom r.0 n.0 n.1 in
+                  let is : class b.slot y ≡ n.0 = ap (class b.slot) (sym r.2) ∙ is_class b.slot r.0 n.0 n.1 in
                   (positive n.0, Contains-map positive numbers n.0 ((o.exactly n.0).1 (r.0, r.1, n.1)), ap t (sym is) ∙ e)
 
           of_witness : (numbers : List ℕ) → ((names : List RowId) × Contains all names × AreOfNames vars classes names numbers) → Satisfies t (map negative numbers)
@@ -301,40 +288,10 @@ module _ (q : Query) (db : List Table) (d : IsDatabase db) (fits : FitsDatabase 
 
 -- ---- the clauses are well formed
 
-module _ (q : Query) (db : List Table) (numbered spans : List Span) (all : List (List RowId)) (cs : List (List Lit)) where
-  class_number : (classes : List (Option ℕ)) → AreClassedTo q db (variables_of_spans numbered) all (length q.atoms) classes → (F p n : ℕ) → HasClass (variables_of_spans numbered) classes F p n → (1 ≤ n) × (n < 1 + length (variables_of_spans numbered))
-  class_number classes c F p n hc = let r = c.alike F p n hc in number_below (variables_of_spans numbered) n (at F r.0) r.1
-
-  -- the numbers of a clause rise, and are those of variables
-  pub record RisesTo (cl : List Lit) : Type 0 where
-    pub rises : IsStrictlySortedBy nat_cmp (map (λ (l : Lit). l.var) cl)
-    pub in_range : (l : Lit) → Contains cl l → (1 ≤ l.var) × (l.var < 1 + length (variables_of_spans numbered))
-
-  of_numbers : (lit : ℕ → Lit) → ((n : ℕ) → (lit n).var ≡ n) → (numbers : List ℕ) (cl : List Lit) → map lit numbers ≡ cl → IsStrictlySortedBy nat_cmp numbers →
-      ((n : ℕ) → Contains numbers n → (1 ≤ n) × (n < 1 + length (variables_of_spans numbered))) → RisesTo cl
-  of_numbers lit is numbers cl e s b = subst RisesTo e (record {
-    rises = subst (IsStrictlySortedBy nat_cmp) (sym (map_var lit is numbers)) s;
-    in_range = λ l ml. let p = Contains-from_map lit numbers l ml in
-        let v : l.var ≡ p.0 = ap (λ (z : Lit). z.var) (sym p.2) ∙ is p.0 in
-        subst (λ n. (1 ≤ n) × (n < 1 + length (variables_of_spans numbered))) (sym v) (b p.0 p.1);
-  })
-
-  pub rises_to : AreQuotient q db numbered spans all cs → (cl : List Lit) → Contains cs cl → RisesTo cl
-  rises_to (classes, c, k) cl mc = elim (Contains-append_cases (map (map positive) k.blocks) (map (map negative) k.witnesses) cl (subst (λ ds. Contains ds cl) k.is mc)) [
-    | inl b ↦ let p = Contains-from_map (map positive) k.blocks cl b in
-        let o = k.of_blocks.each p.0 p.1 in
-        of_numbers positive (λ n. refl) p.0 cl p.2 o.2.rises (λ n mn. let f = (o.2.exactly n).0 mn in class_number classes c o.0.atom f.0 n f.2)
-    | inr w ↦ let p = Contains-from_map (map negative) k.witnesses cl w in
-        let o = k.of_names.each p.0 p.1 in
-        of_numbers negative (λ n. refl) p.0 cl p.2 o.2.rises (λ n mn. let f = (o.2.exactly n).0 mn in class_number classes c f.0 (place_at o.0 f.0) n f.2)
-  ]
-
-  pub quotient_range : (cnf : Cnf) → literals cnf.clauses ≡ cs → cnf.vars ≡ length (variables_of_spans numbered) → AreQuotient q db numbered spans all cs → AreVarsInRange cnf
-  quotient_range cnf e v h cl mc l ml =
-      let r = (rises_to h cl (subst (λ ds. Contains ds cl) e mc)).in_range l ml in
-      let low = r.0 in
-      let high = r.1 in
-      (low, omega (arith, high, v))
-
-  pub quotient_once : (cnf : Cnf) → literals cnf.clauses ≡ cs → AreQuotient q db numbered spans all cs → IsOnce cnf
-  quotient_once cnf e h cl mc = no-var-twice cl (rises_to h cl (subst (λ ds. Contains ds cl) e mc)).rises
+pub quotient_rises : (q : Query) (db : List Table) (numbered spans : List Span) (all : List (List RowId)) (cs : List (List Lit)) → AreQuotient q db numbered spans all cs → (cl : List Lit) → Contains cs cl → Rises (length (variables_of_spans numbered)) cl
+quotient_rises q db numbered spans all cs (classes, c, k) = rises_to (length (variables_of_spans numbered)) k.blocks k.lists cs k.is
+    (λ ns m. let o = k.of_blocks.each ns m in (o.2.rises, λ n mn. let f = (o.2.exactly n).0 mn in number o.0.slot f.0 n f.2))
+    (λ ns m. let o = k.of_lists.each ns m in (o.2.rises, λ n mn. let f = (o.2.exactly n).0 mn in number f.0 (place_at o.0 f.0) n f.2))
+  where
+    number : (F p n : ℕ) → HasClass (variables_of_spans numbered) classes F p n → (1 ≤ n) × (n < 1 + length (variables_of_spans numbered))
+    number F p n hc = let r = c.alike F p n hc in number_below (variables_of_spans numbered) n (at F r.0) r.1

@@ -7,7 +7,7 @@ use Rattle.cqa_model.specs.Certain.{IsCertain, IsCandidate}
 use Rattle.cdcl.specs.declared.outcome.Outcome.{Outcome}
 use Rattle.cdcl.specs.declared.outcome.Outcome.TheVariants.{Sat, Unsat, Spent}
 use Rattle.cdcl.specs.Outcomes.{OutcomeIs}
-use Rattle.search_answers.specs.declared.decision.Decided.{Decided}
+use Rattle.list_search.specs.declared.decision.Decided.{Decided}
 use Rattle.repair_clauses.specs.Encodings.{IsEncoded}
 
 -- with a model the row isn't certain, with a refutation it is, and a spent log needs a variable, so a witness

@@ -7,7 +7,7 @@ use Rattle.cqa_model.specs.Database.{Table}
 use Rattle.cqa_model.specs.Query.{FitsDatabase}
 use Rattle.cdcl.specs.Outcomes.{IsModel}
 use Rattle.repair_back.specs.Results.{ArePicks, IsRepairOf, Rejects}
-use Rattle.repair_clauses.specs.declared.formula.Encoded.{Encoded}
+use Rattle.row_lists.specs.declared.formula.Encoded.{Encoded}
 use Rattle.repair_clauses.specs.Encodings.{IsEncoded}
 
 -- A repair whose rows are the picks of a model of a row's formula holds no witness of the row.

@@ -1,9 +1,9 @@
 -- The formula over numbered blocks that is looked at without the solver.
 use Rattle.std.specs.Prelude.{ℕ, List, map}
 use Rattle.cnf_form.specs.declared.formula.Lit.{Lit}
-use Rattle.repair_clauses.specs.declared.span.Span.{Span}
-use Rattle.repair_clauses.specs.Clauses.{positive}
-use Rattle.repair_clauses.specs.Spans.{numbers_in}
+use Rattle.row_lists.specs.declared.span.Span.{Span}
+use Rattle.row_lists.specs.Clauses.{positive}
+use Rattle.row_lists.specs.Spans.{numbers_in}
 use Rattle.repair_clauses.specs.Encodings.{AddsWitnesses}
 
 -- these are the clauses of numbered blocks, and of witnesses by the places of their rows

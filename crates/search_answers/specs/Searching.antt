@@ -16,7 +16,7 @@ use Rattle.join_access.specs.Listing.{HasTooMany}
 use Rattle.row_sides.specs.declared.side.Side.{Side}
 use Rattle.row_sides.specs.Sides.{IsAnswerOf, IsOf}
 use Rattle.row_sides.specs.Sifting.{Sifts, AreSifted}
-use Rattle.repair_clauses.specs.declared.formula.Encoded.{Encoded}
+use Rattle.row_lists.specs.declared.formula.Encoded.{Encoded}
 use Rattle.search_answers.specs.declared.judging.Verdict.{Verdict}
 use Rattle.search_answers.specs.declared.judging.Verdict.TheVariants as verdict
 use Rattle.search_answers.specs.declared.search.Stop.{Stop}

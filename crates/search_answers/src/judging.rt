@@ -6,8 +6,7 @@ ghost use Rattle.std.specs.Prelude.{◌≡◌, IfOk, length};
 ghost use Rattle.repair_clauses.specs.Encodings.{AreRelevantBlocks};
 ghost use Rattle.search_answers.specs.Searching.{IsJudged, Judges};
 
-use crate::decision::{Decided, solved};
-use crate::first_look::{Room, first_look};
+use crate::first_look::first_look;
 use crate::second_look::second_look;
 use cdcl::Outcome;
 use cnf_form::{Cnf, Log};
@@ -15,8 +14,9 @@ use cqa_value::{Fail, NoMemory, Row};
 use flat_formula::Found;
 use join_access::TooMany;
 use join_witness::{Lookup, witnesses_by};
-use repair_clauses::numbering::Numbering;
+use list_search::{Decided, Room, solved};
 use repair_clauses::{are_avoidable, formula_over, relevant_blocks};
+use row_lists::numbering::Numbering;
 use row_witnesses::RowWitnesses;
 use std::alloc::Global;
 

@@ -15,7 +15,9 @@ mod second_look;
 mod spoken;
 mod witness_rows;
 
-pub use decision::{Decided, decide};
+pub use decision::decide;
+pub use judging::Verdict;
 pub use laws::model_rejects;
 pub use reason::reason_by_search;
 pub use search::{Searched, Stop, rows_by_search};
+pub use spoken::spoken_columns;

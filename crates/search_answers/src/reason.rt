@@ -9,14 +9,15 @@ ghost use Rattle.repair_clauses.specs.Encodings.{IsEncoded};
 ghost use Rattle.search_answers.specs.Deciding.{IsDecided};
 ghost use Rattle.search_answers.specs.Reasons.{IsSearchReason, IsSearchStopped};
 
-use crate::decision::{Decided, decide};
+use crate::decision::decide;
 use cdcl::Outcome;
 use cqa_model::RowId;
 use cqa_value::{Fail, Items, NoMemory, Row};
 use join_access::TooMany;
+use list_search::Decided;
 use query_strategy::{Reason, Untold};
 use repair_back::{chosen, from_model};
-use repair_clauses::Encoded;
+use row_lists::Encoded;
 use std::alloc::Global;
 use table_blocks::Bound;
 

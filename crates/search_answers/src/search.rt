@@ -5,11 +5,11 @@ ghost use Rattle.std.specs.Prelude.{◌≡◌, [], IfOk, IfSome, IsNone, length}
 ghost use Rattle.repair_clauses.specs.Candidates.{AreCandidates};
 ghost use Rattle.search_answers.specs.Searching.{IsSearched, IsStop, IsStopAt, SiftsAll, SiftsDecided};
 
-use crate::first_look::Room;
 use crate::judging::{Search, Verdict, judge_row};
 use cnf_form::{Cnf, Log};
 use cqa_value::{Items, NoMemory, Row};
 use join_witness::{candidates, lookup_of};
+use list_search::Room;
 use row_sides::Side;
 use std::alloc::Global;
 use table_blocks::Bound;

@@ -1,32 +1,17 @@
 //! The rows that are in witnesses, numbered: by atoms, and those of one atom in block order.
 //! Each is a span of its own, so what is made of them doesn't grow with the blocks that they are in.
 
-ghost use Rattle.std.specs.Prelude.{◌≡◌, ◌+◌, ◌*◌, ◌++◌, ◌<◌, ◌≤◌, ◌^◌, IfOk, length};
+ghost use Rattle.std.specs.Prelude.{◌+◌, ◌*◌, ◌<◌, ◌≤◌, IfOk, length};
 ghost use Rattle.cqa_model.specs.declared.limits.TheConstants.{MOST_ROWS};
 ghost use Rattle.join_access.specs.Listing.{names_of};
-ghost use Rattle.search_answers.specs.Classing.{AreNumberedTo, rows_from};
+ghost use Rattle.search_answers.specs.Classing.{AreNumberedTo};
 
 use cqa_value::{Items, NoMemory};
-use repair_clauses::numbering::Numbering;
-use repair_clauses::span::Span;
+use list_search::singles::add_places;
+use row_lists::numbering::Numbering;
+use row_lists::span::Span;
 use row_witnesses::RowWitnesses;
 use std::alloc::Global;
-
-/// Numbers the rows of an atom at rising places, behind those that have numbers.
-fn add_places(atom: u32, places: &[u32], numbered: &mut Vec<Span>) -> Result<(), NoMemory>
-    requires { length numbered.old.items + length places.now < 2 ^ 32 }
-    ensures { IfOk result (λ done. numbered.new.items ≡ numbered.old.items ++ rows_from atom (length numbered.old.items) places.now) }
-{
-    for place in places {
-        numbered.push(Span {
-            atom,
-            start: *place,
-            count: 1,
-            base: numbered.len() as u32,
-        })?;
-    }
-    Ok(())
-}
 
 /// Numbers the rows of one atom that are in witnesses.
 fn add_atom(

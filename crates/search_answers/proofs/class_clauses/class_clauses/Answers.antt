@@ -3,11 +3,12 @@ use Rattle.std.proofs.lemmas.Result.{IfOk-weaker}
 use Rattle.cqa_model.specs.declared.limits.TheConstants.{MOST_ATOMS}
 use Rattle.join_access.specs.declared.witness.Witness.{Witness}
 use Rattle.join_access.specs.Listing.{names_of}
-use Rattle.repair_clauses.specs.Clauses.{negative, positive}
-use Rattle.repair_clauses.specs.Spans.{variables_of_spans}
-use Rattle.search_answers.specs.Classing.{AreNameLists}
+use Rattle.row_lists.specs.Clauses.{negative, positive}
+use Rattle.row_lists.specs.Spans.{variables_of_spans}
+use Rattle.list_search.specs.Classing.{AreListsOf}
+use Rattle.search_answers.specs.Classing.{AreOfNames}
 use Rattle.row_witnesses.proofs.Told.{all_names}
-use Rattle.search_answers.proofs.ClassLists.{names-same}
+use Rattle.list_search.proofs.ClassLists.{lists-of-same}
 use Rattle.search_answers.proofs.WitnessRows.{few_rows}
 use Rattle.search_answers.proofs.class_clauses.class_clauses.Goals as goal
 
@@ -19,14 +20,13 @@ witness_lists-requires c =
 pub returns : goal.returns
 returns c =
     let ws = c.args.witnesses.now.list in
-    let vars = variables_of_spans c.args.classed.now.rows.spans in
     let blocks = c.in_ok-whole.whole.items in
     let found = c.each_once.new.lists.items in
     IfOk-weaker c.clauses_of-clauses.result _ _ (λ clauses is. record {
       blocks = blocks;
-      witnesses = found;
+      lists = found;
       of_blocks = c.in_ok-whole.ensures;
-      of_names = names-same vars c.args.classed.now.classes.items (names_of ws) c.in_ok-found.found.items found
-          (subst (λ (xs : List Witness). AreNameLists vars c.args.classed.now.classes.items (names_of xs) c.in_ok-found.found.items) c.as_slice.ensures c.in_ok-found.ensures) c.each_once.ensures;
+      of_lists = lists-of-same (AreOfNames (variables_of_spans c.args.classed.now.rows.spans) c.args.classed.now.classes.items) (names_of ws) c.in_ok-found.found.items found
+          (subst (λ (xs : List Witness). AreListsOf (AreOfNames (variables_of_spans c.args.classed.now.rows.spans) c.args.classed.now.classes.items) (names_of xs) c.in_ok-found.found.items) c.as_slice.ensures c.in_ok-found.ensures) c.each_once.ensures;
       is = is ∙ ap (λ ls. map (map positive) ls ++ map (map negative) c.as_slice-3.result.now) c.as_slice-2.ensures.value ∙ ap (λ ls. map (map positive) blocks ++ map (map negative) ls) c.as_slice-3.ensures.value;
     }) c.clauses_of-clauses.ensures

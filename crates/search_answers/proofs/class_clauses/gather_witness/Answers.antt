@@ -1,7 +1,7 @@
 use Rattle.std.proofs.Common.{◌≡◌, ◌<◌, ◌↔◌, inl, inr, Some, length, subst, arith}
-use Rattle.repair_clauses.specs.Spans.{variables_of_spans}
+use Rattle.row_lists.specs.Spans.{variables_of_spans}
 use Rattle.repair_clauses.proofs.Encoding.{place_read}
-use Rattle.search_answers.specs.Classing.{HasClass}
+use Rattle.list_search.specs.Classing.{HasClass}
 use Rattle.search_answers.proofs.ClassLists.{AreGathered, gathered-none, gathered-more}
 use Rattle.search_answers.proofs.class_clauses.gather_witness.Goals as goal
 

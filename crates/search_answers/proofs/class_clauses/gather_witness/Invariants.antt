@@ -1,6 +1,7 @@
 use Rattle.std.proofs.Common.{◌↔◌, ◌<◌, ℕ, Contains}
-use Rattle.search_answers.specs.Classing.{HasClass}
-use Rattle.repair_clauses.specs.Spans.{place_at, variables_of_spans}
+use Rattle.list_search.specs.Classing.{HasClass}
+use Rattle.row_lists.specs.Spans.{variables_of_spans}
+use Rattle.row_witnesses.specs.Columns.{place_at}
 use Rattle.search_answers.proofs.class_clauses.gather_witness.Given as goal
 
 -- the classes of the rows so far

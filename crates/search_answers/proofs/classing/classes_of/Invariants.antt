@@ -1,6 +1,6 @@
 use Rattle.join_access.specs.Listing.{names_of}
 use Rattle.search_answers.specs.Classing.{AreClassedTo}
-use Rattle.repair_clauses.specs.Spans.{variables_of_spans}
+use Rattle.row_lists.specs.Spans.{variables_of_spans}
 use Rattle.search_answers.proofs.classing.classes_of.Given as goal
 
 -- the rows of the atoms so far have classes

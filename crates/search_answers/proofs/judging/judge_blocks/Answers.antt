@@ -1,6 +1,6 @@
 use Rattle.std.proofs.Common.{◌≡◌, sym, subst}
 use Rattle.cdcl.specs.Outcomes.{OutcomeIs}
-use Rattle.repair_clauses.specs.declared.formula.Encoded.{Encoded}
+use Rattle.row_lists.specs.declared.formula.Encoded.{Encoded}
 use Rattle.repair_clauses.specs.Encodings.{IsEncoded}
 use Rattle.search_answers.proofs.Deciding.{in_range, once, says_of}
 use Rattle.search_answers.proofs.Searching.{verdict_is}

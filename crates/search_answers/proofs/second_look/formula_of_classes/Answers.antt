@@ -1,6 +1,6 @@
 use Rattle.std.proofs.Common.{◌≡◌, length, arith}
-use Rattle.repair_clauses.specs.Spans.{variables_of_spans}
-use Rattle.repair_clauses.proofs.Encoding.{variables-length}
+use Rattle.row_lists.specs.Spans.{variables_of_spans}
+use Rattle.row_lists.proofs.Spans.{variables-length}
 use Rattle.search_answers.proofs.second_look.formula_of_classes.Goals as goal
 
 pub returns : goal.returns

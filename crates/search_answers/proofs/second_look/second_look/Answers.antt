@@ -1,9 +1,11 @@
-use Rattle.std.proofs.Common.{refl}
+use Rattle.std.proofs.Common.{length, refl}
 use Rattle.std.proofs.lemmas.Result.{IfOk-weaker}
 use Rattle.cnf_form.specs.Literals.{literals}
 use Rattle.join_access.specs.Listing.{names_of}
 use Rattle.row_witnesses.proofs.Told.{all_names}
-use Rattle.search_answers.proofs.Quotient.{found_says, quotient_once, quotient_range}
+use Rattle.row_lists.specs.Spans.{variables_of_spans}
+use Rattle.list_search.proofs.Rising.{rising-once, rising-range}
+use Rattle.search_answers.proofs.Quotient.{found_says, quotient_rises}
 use Rattle.search_answers.proofs.second_look.second_look.Goals as goal
 
 pub found_in-found-requires-clause-range : goal.found_in-found-requires-clause-range
@@ -11,14 +13,14 @@ found_in-found-requires-clause-range c =
     let w = c.args.witnesses.now in
     let cnf = c.in_ok-cnf.cnf in
     let made = c.in_ok-cnf.ensures in
-    quotient_range w.bound.now.query.now w.bound.now.db.now made.0 c.args.blocks.now.spans (names_of w.list) (literals cnf.clauses) cnf refl made.2 made.3
+    rising-range cnf (literals cnf.clauses) (length (variables_of_spans made.0)) refl made.2 (quotient_rises w.bound.now.query.now w.bound.now.db.now made.0 c.args.blocks.now.spans (names_of w.list) (literals cnf.clauses) made.3)
 
 pub found_in-found-requires-clause-once : goal.found_in-found-requires-clause-once
 found_in-found-requires-clause-once c =
     let w = c.args.witnesses.now in
     let cnf = c.in_ok-cnf.cnf in
     let made = c.in_ok-cnf.ensures in
-    quotient_once w.bound.now.query.now w.bound.now.db.now made.0 c.args.blocks.now.spans (names_of w.list) (literals cnf.clauses) cnf refl made.3
+    rising-once cnf (literals cnf.clauses) (length (variables_of_spans made.0)) refl made.2 (quotient_rises w.bound.now.query.now w.bound.now.db.now made.0 c.args.blocks.now.spans (names_of w.list) (literals cnf.clauses) made.3)
 
 pub returns : goal.returns
 returns c =

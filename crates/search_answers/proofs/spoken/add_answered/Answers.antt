@@ -2,7 +2,7 @@ use Rattle.std.proofs.Common.{inl, inr, subst, sym, arith, get_or, Contains}
 use Rattle.std.proofs.lemmas.List.{get_or_default, take_all}
 use Rattle.cqa_model.specs.declared.query.ColRef.{ColRef}
 use Rattle.search_answers.specs.Classing.{HasColumn}
-use Rattle.search_answers.proofs.ClassLists.{taken}
+use Rattle.list_search.proofs.ClassLists.{taken}
 use Rattle.search_answers.proofs.spoken.add_answered.Goals as goal
 
 abbrev no_column : ColRef

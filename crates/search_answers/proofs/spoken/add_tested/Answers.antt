@@ -2,7 +2,7 @@ use Rattle.std.proofs.Common.{inl, inr, subst, sym, arith, Contains}
 use Rattle.std.proofs.lemmas.List.{take_all}
 use Rattle.cqa_model.specs.declared.query.Cond.{Cond}
 use Rattle.cqa_model.specs.Shape.{columns_of}
-use Rattle.search_answers.proofs.ClassLists.{taken}
+use Rattle.list_search.proofs.ClassLists.{taken}
 use Rattle.search_answers.proofs.spoken.add_tested.Goals as goal
 
 pub loop-cond-init : goal.loop-cond-init

@@ -1,13 +1,16 @@
-use Rattle.std.proofs.Common.{◌+◌, ◌≤◌, ◌<◌, ℕ, List, length, length-append, ap, sym, subst, arith}
+use Rattle.std.proofs.Common.{◌+◌, ◌≤◌, ◌<◌, ℕ, List, length, length-append, ap, sym, subst, arith, Contains}
 use Rattle.std.proofs.lemmas.Result.{IfOk-weaker}
 use Rattle.cqa_model.specs.declared.limits.TheConstants.{MOST_ROWS}
 use Rattle.join_access.specs.Listing.{names_of}
 use Rattle.row_witnesses.specs.declared.found.RowWitnesses.{RowWitnesses}
 use Rattle.row_witnesses.specs.Columns.{AreColumn}
 use Rattle.row_witnesses.proofs.Told.{all_names}
-use Rattle.repair_clauses.specs.declared.span.Span.{Span}
-use Rattle.search_answers.specs.Classing.{AreNumberedTo, rows_from}
-use Rattle.search_answers.proofs.WitnessRows.{numbered-more, places_few, rows-long}
+use Rattle.row_lists.specs.declared.span.Span.{Span}
+use Rattle.repair_clauses.specs.Spans.{IsNamed}
+use Rattle.list_search.specs.Classing.{rows_from}
+use Rattle.search_answers.specs.Classing.{AreNumberedTo}
+use Rattle.list_search.proofs.SingleRows.{numbered-more, rows-long}
+use Rattle.search_answers.proofs.WitnessRows.{places_few}
 use Rattle.search_answers.proofs.witness_rows.add_atom.Goals as goal
 
 column_few : (w : RowWitnesses) (at : ℕ) → at < length w.bound.now.query.now.atoms → (ps : List ℕ) → AreColumn (names_of w.list) at ps → length ps ≤ MOST_ROWS
@@ -33,6 +36,7 @@ returns-clause-few c =
 pub returns-clause-rows : goal.returns-clause-rows
 returns-clause-rows c =
     let all = names_of c.args.witnesses.now.list in
+    let column = c.column.ensures.column in
     let ps = c.column.result.now in
     let few = column_few c.args.witnesses.now c.args.at c.requires.there ps c.column.ensures.column in
     let old = c.requires.few in
@@ -40,4 +44,4 @@ returns-clause-rows c =
     let atoms = c.args.witnesses.now.bound.now.query.now.kept.size.1 in
     IfOk-weaker c.add_places.result _ _
     (λ done e. subst (λ (ss : List Span). AreNumberedTo all (c.args.at + 1) ss) (sym e)
-    (numbered-more all c.args.at c.args.numbered.now.items c.requires.so_far ps c.column.ensures.column (omega (arith, few, old, there, atoms)))) c.add_places.ensures
+    (numbered-more (IsNamed all) c.args.at c.args.numbered.now.items c.requires.so_far ps column.in_order column.from (λ p n. subst (Contains ps) n.2 (column.to n.0 n.1)) (omega (arith, few, old, there, atoms)))) c.add_places.ensures

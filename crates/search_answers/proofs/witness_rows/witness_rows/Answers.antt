@@ -1,9 +1,10 @@
 use Rattle.std.proofs.Common.{◌≡◌, length, sym, subst, arith}
 use Rattle.join_access.specs.Listing.{names_of}
 use Rattle.row_witnesses.proofs.Told.{all_names}
-use Rattle.repair_clauses.specs.Spans.{IsSpanNumbering}
-use Rattle.search_answers.specs.Classing.{AreNumberedTo}
-use Rattle.search_answers.proofs.WitnessRows.{numbering}
+use Rattle.row_lists.specs.Spans.{IsSpanNumbering}
+use Rattle.search_answers.specs.Classing.{AreNumberedTo, IsWitnessRow}
+use Rattle.list_search.proofs.SingleRows.{numbering}
+use Rattle.search_answers.proofs.WitnessRows.{named_few}
 use Rattle.search_answers.proofs.witness_rows.witness_rows.Goals as goal
 
 pub invariant_of-result : goal.invariant_of-result
@@ -18,7 +19,7 @@ invariant_of-result c =
     let long : c.len-vars.result ≡ length spans = omega (arith, len, c.loop-at.numbered.ok.0) in
     record {
       kept = subst (λ ss. IsSpanNumbering ss c.len-vars.result) (sym c.from_vec.ensures)
-          (numbering q w.bound.now.db.now w.row.now all (all_names w) w.bound.now.database spans rows c.len-vars.result long);
+          (numbering (IsWitnessRow all (length q.atoms)) spans rows (named_few q w.bound.now.db.now w.row.now all (all_names w) w.bound.now.database) c.len-vars.result long);
     }
 
 pub returns : goal.returns

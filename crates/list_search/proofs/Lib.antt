@@ -1,0 +1,9 @@
+pub mod ClassLists
+pub mod Marking
+pub mod SingleRows
+pub mod Rising
+pub mod ClassFormulas
+pub mod Listed
+pub mod FirstLooks
+pub mod Deciding
+pub mod Avoided

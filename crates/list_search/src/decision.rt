@@ -1,0 +1,77 @@
+//! Lists are decided by their formula, and what the solver answers is the evidence.
+//! A model gives a repair that keeps no list whole, and a refutation says that there is none.
+
+ghost use Rattle.std.specs.Prelude.{◌≡◌, IfOk, Ok};
+ghost use Rattle.cnf_form.specs.Literals.{AreVarsInRange};
+ghost use Rattle.cdcl.specs.Outcomes.{IsOnce, OutcomeIs};
+ghost use Rattle.join_access.specs.Listing.{names_of};
+ghost use Rattle.list_search.specs.Judging.{IsDecided};
+
+use cdcl::Outcome;
+use cqa_value::NoMemory;
+use row_lists::{Encoded, RowLists, encode};
+use std::alloc::Global;
+
+/// A formula of rows, and what the solver found out of it.
+#[derive(Debug, Drop)]
+pub struct Decided {
+    pub formula: Encoded,
+    pub outcome: Outcome,
+}
+
+/// A formula with what was found out of it.
+fn with_outcome(formula: Encoded, found: Result<Outcome, NoMemory>) -> Result<Decided, NoMemory>
+    ensures same { IfOk result (λ decided. decided.formula ≡ formula) }
+    ensures outcome { IfOk result (λ decided. found ≡ Ok decided.outcome) }
+{
+    match found {
+        Ok(outcome) => Ok(Decided { formula, outcome }),
+        Err(fault) => {
+            drop(formula);
+            Err(fault)
+        }
+    }
+}
+
+/// Hands a formula to the solver.
+///
+/// # Errors
+///
+/// `NoMemory` where memory is refused.
+pub fn solved(alloc: Global, formula: Encoded, budget: u32) -> Result<Decided, NoMemory>
+    requires range { AreVarsInRange formula.cnf }
+    requires once { IsOnce formula.cnf }
+    ensures same { IfOk result (λ decided. decided.formula ≡ formula) }
+    ensures outcome { IfOk result (λ decided. OutcomeIs formula.cnf budget decided.outcome) }
+{
+    let found = cdcl::solve(alloc, &formula.cnf, budget);
+    with_outcome(formula, found)
+}
+
+/// The same for a formula that may be large: rows that exclude the same rows are searched as one.
+///
+/// # Errors
+///
+/// `NoMemory` where memory is refused.
+pub fn solved_by_groups(alloc: Global, formula: Encoded, budget: u32) -> Result<Decided, NoMemory>
+    requires range { AreVarsInRange formula.cnf }
+    requires once { IsOnce formula.cnf }
+    ensures same { IfOk result (λ decided. decided.formula ≡ formula) }
+    ensures outcome { IfOk result (λ decided. OutcomeIs formula.cnf budget decided.outcome) }
+{
+    let found = merged_search::solve(alloc, &formula.cnf, budget);
+    with_outcome(formula, found)
+}
+
+/// Decides whether every repair keeps one of the lists whole, by searches of at most `budget` conflicts each.
+///
+/// # Errors
+///
+/// `NoMemory` where memory is refused.
+pub fn decide(alloc: Global, lists: &RowLists<'_>, budget: u32) -> Result<Decided, NoMemory>
+    ensures { IfOk result (IsDecided lists.now.db.now lists.now.frame.now.tables (names_of lists.now.lists.now) budget) }
+{
+    let formula = encode(alloc, lists)?;
+    let decided = solved_by_groups(alloc, formula, budget)?;
+    Ok(decided)
+}

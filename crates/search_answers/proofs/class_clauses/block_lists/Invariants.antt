@@ -1,8 +1,0 @@
-use Rattle.std.proofs.Common.{take}
-use Rattle.search_answers.specs.Classing.{AreBlockLists}
-use Rattle.repair_clauses.specs.Spans.{variables_of_spans}
-use Rattle.search_answers.proofs.class_clauses.block_lists.Given as goal
-
--- the lists of the blocks so far
-abbrev pub invariant-loop-at : goal.invariant-loop-at
-invariant-loop-at l = AreBlockLists (variables_of_spans l.classed.rows.spans) l.classed.classes.items (take l.at l.blocks.spans) l.lists.items

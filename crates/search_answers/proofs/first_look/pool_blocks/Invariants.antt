@@ -1,8 +1,0 @@
-use Rattle.std.proofs.Common.{◌≡◌, take, map}
-use Rattle.repair_clauses.specs.Clauses.{positive}
-use Rattle.repair_clauses.specs.Spans.{numbers_in}
-use Rattle.search_answers.proofs.first_look.pool_blocks.Given as goal
-
--- the clauses of the blocks so far
-abbrev pub invariant-loop-span : goal.invariant-loop-span
-invariant-loop-span l = l.formula ≡ map (map positive) (map numbers_in (take l.span-index l.blocks.spans))
