@@ -15,7 +15,7 @@ use Rattle.cqa_model.proofs.Values.{dec_by}
 use Rattle.cqa_model.proofs.Witnesses.{dec_witness}
 use Rattle.existence_law.specs.Answers.{AnswersExist, RowsAreDecided}
 use Rattle.existence_law.proofs.Choices.{choices, choices-all}
-use Rattle.existence_law.proofs.Sorting.{decided_list}
+use Rattle.repair_clauses.proofs.Sorting.{decided_list}
 
 dec_certain : (db : List Table) (q : Query) (row : List Value) → Dec (IsCertain db q row)
 dec_certain db q row = elim (certain_or_rejected db q row) [

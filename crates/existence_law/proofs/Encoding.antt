@@ -22,19 +22,21 @@ use Rattle.cnf_form.specs.Literals.{literals, SatisfiesAll}
 use Rattle.cnf_form.specs.Logs.{Refutes}
 use Rattle.cdcl.specs.Outcomes.{AreConsecutive}
 use Rattle.join_access.proofs.Sorted.{one_sorted}
-use Rattle.repair_clauses.specs.declared.formula.Encoded.{Encoded}
-use Rattle.repair_clauses.specs.Clauses.{Variable, variable_cmp, variable_row, IsStoredVariable, AreRowVariables, IsBlockOfVariable, AreBlockNumbers, IsNumberOf, IsOfWitness, AreAllLists, Formula, IsFormula, clauses, variable_name}
+use Rattle.row_lists.specs.declared.formula.Encoded.{Encoded}
+use Rattle.row_lists.specs.Clauses.{Variable, variable_cmp, AreAllLists, Formula, clauses}
+use Rattle.repair_clauses.specs.Clauses.{variable_row, IsStoredVariable, AreRowVariables, IsBlockOfVariable, AreBlockNumbers, IsNumberOf, IsOfWitness, IsFormula, variable_name}
 use Rattle.repair_clauses.specs.Encodings.{IsEncoded}
-use Rattle.repair_clauses.specs.Spans.{at}
+use Rattle.row_lists.specs.Spans.{at}
 use Rattle.repair_clauses.proofs.Exact.{clauses_decide}
-use Rattle.repair_clauses.proofs.Order.{variable_total}
-use Rattle.repair_clauses.proofs.Rows.{dec_number, number_below, block_numbers}
-use Rattle.repair_clauses.proofs.Spans.{from_equal}
+use Rattle.row_lists.proofs.Rows.{variable_total}
+use Rattle.row_lists.proofs.Rows.{dec_number, number_below}
+use Rattle.repair_clauses.proofs.Rows.{block_numbers}
+use Rattle.row_lists.proofs.Order.{from_equal}
 use Rattle.existence_law.specs.Formulas.{FormulasExist, CertainIsRefuted}
 use Rattle.existence_law.proofs.Choices.{choices, choices-all}
-use Rattle.existence_law.proofs.Naming.{dec_witness_with, numbers_exact}
+use Rattle.repair_clauses.proofs.Listing.{dec_witness_with, numbers_exact}
 use Rattle.existence_law.proofs.Refuting.{refutations_exist}
-use Rattle.existence_law.proofs.Sorting.{sorted, in_order, members, decided_list}
+use Rattle.repair_clauses.proofs.Sorting.{sorted, in_order, members, decided_list}
 
 both_equal : (o p : Ordering) → ordering_then o p ≡ Equal → (o ≡ Equal) × (p ≡ Equal)
 both_equal Less p e = absurd (cc e)
@@ -43,21 +45,21 @@ both_equal Greater p e = absurd (cc e)
 
 variable_exact : (x y : Variable) → variable_cmp x y ≡ Equal → x ≡ y
 variable_exact x y e =
-    let h = both_equal (nat_cmp x.atom y.atom) (nat_cmp x.place y.place) e in
-    let a : x.atom ≡ y.atom = from_equal x.atom y.atom h.0 in
+    let h = both_equal (nat_cmp x.slot y.slot) (nat_cmp x.place y.place) e in
+    let a : x.slot ≡ y.slot = from_equal x.slot y.slot h.0 in
     let p : x.place ≡ y.place = from_equal x.place y.place h.1 in
-    λ i. record { atom = a i; place = p i }
+    λ i. record { slot = a i; place = p i }
 
 module _ (db : List Table) (q : Query) (row : List Value) where
   -- ---- the variables
 
   IsVariable : Variable → Type 0
-  IsVariable x = IsStoredVariable q db x × IsRelevant q (stored db) row x.atom (variable_row q db x)
+  IsVariable x = IsStoredVariable q db x × IsRelevant q (stored db) row x.slot (variable_row q db x)
 
   dec_variable : (x : Variable) → Dec (IsVariable x)
   unfolding IsVariable
-  dec_variable x = dec_both (dec_both (dec_lt x.atom (length q.atoms)) (dec_lt x.place (length (rows_of q (stored db) x.atom))))
-      (dec_witness_with q (stored db) row (λ w. SharesKey (atom_key q x.atom) (variable_row q db x) (row_at w x.atom)) (λ w. dec_shares (atom_key q x.atom) (variable_row q db x) (row_at w x.atom)))
+  dec_variable x = dec_both (dec_both (dec_lt x.slot (length q.atoms)) (dec_lt x.place (length (rows_of q (stored db) x.slot))))
+      (dec_witness_with q (stored db) row (λ w. SharesKey (atom_key q x.slot) (variable_row q db x) (row_at w x.slot)) (λ w. dec_shares (atom_key q x.slot) (variable_row q db x) (row_at w x.slot)))
 
   abbrev stored_variables : List Variable
   stored_variables = flat_map (λ F. map (at F) (range_with_len 0 (length (rows_of q (stored db) F)))) (range_with_len 0 (length q.atoms))
@@ -67,9 +69,9 @@ module _ (db : List Table) (q : Query) (row : List Value) where
   variable_stored x h =
       let a = h.0.0 in
       let p = h.0.1 in
-      Contains-flat_map (λ F. map (at F) (range_with_len 0 (length (rows_of q (stored db) F)))) (range_with_len 0 (length q.atoms)) x.atom x
-      (Contains-range 0 (length q.atoms) x.atom (omega arith) (omega (arith, a)))
-      (Contains-map (at x.atom) (range_with_len 0 (length (rows_of q (stored db) x.atom))) x.place (Contains-range 0 (length (rows_of q (stored db) x.atom)) x.place (omega arith) (omega (arith, p))))
+      Contains-flat_map (λ F. map (at F) (range_with_len 0 (length (rows_of q (stored db) F)))) (range_with_len 0 (length q.atoms)) x.slot x
+      (Contains-range 0 (length q.atoms) x.slot (omega arith) (omega (arith, a)))
+      (Contains-map (at x.slot) (range_with_len 0 (length (rows_of q (stored db) x.slot))) x.place (Contains-range 0 (length (rows_of q (stored db) x.slot)) x.place (omega arith) (omega (arith, p))))
 
   variables : (xs : List Variable) × AreRowVariables q db row xs
   unfolding IsVariable
@@ -107,7 +109,7 @@ module _ (db : List Table) (q : Query) (row : List Value) where
 
     dec_number_of : (F : ℕ) (x : List Value) (n : ℕ) → Dec (IsNumberOf q db xs F x n)
     dec_number_of F x n = dec_by (λ h. (h.0, h.1, h.2.0, h.2.1)) (λ h. (h.0, h.1, (h.2, h.3)))
-        (dec_number xs (λ y. (y.atom ≡ F) × (variable_row q db y ≡ x)) (λ y. dec_both (ℕ_discrete y.atom F) (row_discrete (variable_row q db y) x)) n)
+        (dec_number xs (λ y. (y.slot ≡ F) × (variable_row q db y ≡ x)) (λ y. dec_both (ℕ_discrete y.slot F) (row_discrete (variable_row q db y) x)) n)
 
     dec_of_witness : (numbers : List ℕ) → Dec (IsOfWitness q db row xs numbers)
     dec_of_witness numbers = dec_by (λ h. record { rows = h.0; witness = h.1; size = h.2.0; each = h.2.1 }) (λ w. (w.rows, w.witness, (w.size, w.each)))

@@ -1,4 +1,3 @@
-pub mod Sorting
 pub mod Choices
 pub mod Answering
 pub mod Refuting

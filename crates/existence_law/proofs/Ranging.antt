@@ -12,11 +12,11 @@ use Rattle.cqa_model.specs.declared.aggregate.Goal.TheVariants.{Count, Sum, Min,
 use Rattle.cqa_model.specs.declared.aggregate.End.{End}
 use Rattle.cqa_model.specs.declared.aggregate.End.TheVariants.{Empty, Number, Held}
 use Rattle.cqa_model.specs.Database.{Table}
-use Rattle.cqa_model.specs.Repairs.{SharesKey, IsSublist, HasOne, IsTableRepair}
-use Rattle.cqa_model.proofs.Classic.{dec_or, dec_if, dec_each, dec_some}
+use Rattle.cqa_model.specs.Repairs.{HasOne, IsTableRepair}
+use Rattle.cqa_model.proofs.Classic.{dec_each}
+use Rattle.cqa_model.proofs.EachRepair.{sublists, sublists-all, dec_sublist, dec_one}
 use Rattle.cqa_model.proofs.Existence.{last_rows, last_rows-repair}
-use Rattle.cqa_model.proofs.Repairs.{dec_shares}
-use Rattle.cqa_model.proofs.Values.{dec_by, row_discrete}
+use Rattle.cqa_model.proofs.Values.{dec_by}
 use Rattle.table_blocks.specs.declared.test.ColumnTest.{ColumnTest}
 use Rattle.table_blocks.specs.Tables.{rows_at, key_at, rows_in, names_in}
 use Rattle.range_ask.specs.declared.range.Range.{Range}
@@ -122,31 +122,6 @@ either_up (Max col) xs ys (Number m) (Held y) h k = absurd h
 either_up (Max col) xs ys (Held x) (Number n) h k = absurd k
 
 -- ---- the repairs of a table
-
--- all lists of some of these rows, in their order
-sublists : List (List Value) → List (List (List Value))
-sublists [] = [] ∷ []
-sublists (y ∷ ys) = map (λ xs. y ∷ xs) (sublists ys) ++ sublists ys
-
-sublists-all : (xs ys : List (List Value)) → IsSublist xs ys → Contains (sublists ys) xs
-unfolding sublists
-sublists-all [] [] s = mem-head [] []
-sublists-all (x ∷ xs) [] s = absurd s
-sublists-all [] (y ∷ ys) s = Contains-append_right (map (λ zs. y ∷ zs) (sublists ys)) (sublists ys) [] (sublists-all [] ys tt)
-sublists-all (x ∷ xs) (y ∷ ys) (inl p) =
-    Contains-append_left (map (λ zs. y ∷ zs) (sublists ys)) (sublists ys) (x ∷ xs)
-    (subst (λ z. Contains (map (λ zs. y ∷ zs) (sublists ys)) (z ∷ xs)) (sym p.0) (Contains-map (λ zs. y ∷ zs) (sublists ys) xs (sublists-all xs ys p.1)))
-sublists-all (x ∷ xs) (y ∷ ys) (inr s) = Contains-append_right (map (λ zs. y ∷ zs) (sublists ys)) (sublists ys) (x ∷ xs) (sublists-all (x ∷ xs) ys s)
-
-dec_sublist : (xs ys : List (List Value)) → Dec (IsSublist xs ys)
-dec_sublist [] ys = yes tt
-dec_sublist (x ∷ xs) [] = no (λ f. f)
-dec_sublist (x ∷ xs) (y ∷ ys) = dec_or (dec_both (row_discrete x y) (dec_sublist xs ys)) (dec_sublist (x ∷ xs) ys)
-
-dec_one : (key : List ℕ) (rows : List (List Value)) (x : List Value) → Dec (HasOne key rows x)
-dec_one key rows x = dec_by (λ h. record { row = h.0; is_kept = h.1; shares = h.2.0; only = h.2.1 }) (λ o. (o.row, o.is_kept, (o.shares, o.only)))
-    (dec_some (λ z. SharesKey key x z × ((y : List Value) → Contains rows y → SharesKey key x y → y ≡ z))
-    (λ z. dec_both (dec_shares key x z) (dec_each (λ y. SharesKey key x y → y ≡ z) (λ y. dec_if (dec_shares key x y) (row_discrete y z)) rows)) rows)
 
 dec_repair : (key : List ℕ) (rows kept : List (List Value)) → Dec (IsTableRepair key rows kept)
 dec_repair key rows kept = dec_by (λ p. record { stored = p.0; one = p.1 }) (λ r. (r.stored, r.one)) (dec_both (dec_sublist kept rows) (dec_each (λ x. HasOne key kept x) (λ x. dec_one key kept x) rows))

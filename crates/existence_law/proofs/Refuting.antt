@@ -15,7 +15,7 @@ use Rattle.cnf_form.specs.Literals.{literals, positive, negative, negated, oppos
 use Rattle.cnf_form.specs.Logs.{Live, numbered, with_clause, AdditionPasses, HintsPass, StepsPass, added}
 use Rattle.cnf_form.proofs.Lits.{opposite-opposite, equal_or_not}
 use Rattle.cdcl.specs.Outcomes.{AreConsecutive}
-use Rattle.repair_clauses.proofs.Numbers.{place_of}
+use Rattle.row_lists.proofs.Numbers.{place_of}
 use Rattle.existence_law.specs.Refutations.{RefutationsExist}
 
 -- ---- steps that add a clause

@@ -10,8 +10,9 @@ use Rattle.cnf_form.specs.declared.log.Step.{Step}
 use Rattle.cnf_form.specs.Logs.{Refutes}
 use Rattle.cdcl.specs.Outcomes.{AreConsecutive}
 use Rattle.join_access.specs.Listing.{AreAllNames, HasTooMany}
-use Rattle.repair_clauses.specs.declared.formula.Encoded.{Encoded}
-use Rattle.repair_clauses.specs.Clauses.{Formula, IsFormula}
+use Rattle.row_lists.specs.declared.formula.Encoded.{Encoded}
+use Rattle.row_lists.specs.Clauses.{Formula}
+use Rattle.repair_clauses.specs.Clauses.{IsFormula}
 use Rattle.repair_clauses.specs.Encodings.{IsEncoded}
 
 -- All witnesses of a row have names, which are a list, and whether they are too many is decided.

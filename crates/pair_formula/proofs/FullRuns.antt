@@ -12,15 +12,15 @@ use Rattle.cqa_model.proofs.BlockOrder.{grouped}
 use Rattle.cqa_model.proofs.Classic.{mem-nil, mem-cases}
 use Rattle.cqa_model.proofs.Repairs.{shares-self, shares-sym, shares-trans}
 use Rattle.cqa_value.proofs.Words.{cases_le, nat_cmp_less, sorted_join}
-use Rattle.repair_clauses.specs.declared.span.Span.{Span}
-use Rattle.repair_clauses.specs.Spans.{span_cmp, AreBasedTo, Covers}
-use Rattle.repair_clauses.specs.Runs.{AreRowPlaces}
-use Rattle.repair_clauses.specs.Avoiding.{HasFree}
-use Rattle.repair_clauses.proofs.Numbers.{place_of}
-use Rattle.repair_clauses.proofs.Columns.{places-up}
-use Rattle.repair_clauses.proofs.Spans.{then_less, equal_self}
-use Rattle.repair_clauses.proofs.Atoms.{based-joined, none_sorted}
-use Rattle.repair_clauses.proofs.Running.{single_sorted}
+use Rattle.row_lists.specs.declared.span.Span.{Span}
+use Rattle.row_lists.specs.Spans.{span_cmp, AreBasedTo, Covers}
+use Rattle.row_lists.specs.Runs.{AreRowPlaces}
+use Rattle.row_lists.specs.Loose.{HasFreePlace}
+use Rattle.row_lists.proofs.Numbers.{place_of}
+use Rattle.row_lists.proofs.Columns.{places-up}
+use Rattle.row_lists.proofs.Order.{then_less, equal_self}
+use Rattle.row_lists.proofs.Spans.{based-joined, none_sorted}
+use Rattle.row_lists.proofs.Running.{single_sorted}
 use Rattle.pair_formula.specs.Full.{FollowsInBlock, IsInRow, HasNeighbour, IsRunAdded, IsFullRun, AreFullRuns}
 
 module _ (key : List ℕ) (rows : List (List Value)) (places : List ℕ) where
@@ -57,7 +57,7 @@ module _ (key : List ℕ) (rows : List (List Value)) (places : List ℕ) where
     pub room : (k : ℕ) → n ≤ k → k < length places → vars ≤ base + at k
     pub before : (s : Span) → Contains spans s → (k : ℕ) → n ≤ k → k < length places → s.start < at k
     pub each : (s : Span) → Contains spans s → IsFullRun key rows atom places s
-    pub every : (k : ℕ) → k < n → ((s : Span) × Contains spans s × Covers s (at k)) ⊎ HasFree key rows places (at k)
+    pub every : (k : ℕ) → k < n → ((s : Span) × Contains spans s × Covers s (at k)) ⊎ HasFreePlace key rows places (at k)
     pub apart : 0 < n → n < length places → FollowsInBlock key rows (at (n - 1)) (at n) → ⊥
 
   pub full-none : (atom base : ℕ) → AreFullTo atom base 0 base []
@@ -82,7 +82,7 @@ module _ (key : List ℕ) (rows : List (List Value)) (places : List ℕ) where
     every = λ p m. let i = place_of places p m in
         let e : at i.0 ≡ p = get_or_from_slice_get places i.0 p 0 i.2 in
         let il = i.1 in
-        subst (λ r. ((s : Span) × Contains spans s × Covers s r) ⊎ HasFree key rows places r) e (h.every i.0 (omega (arith, il, l)));
+        subst (λ r. ((s : Span) × Contains spans s × Covers s r) ⊎ HasFreePlace key rows places r) e (h.every i.0 (omega (arith, il, l)));
   }
 
   module _ (order : IsStrictlySortedBy (block_cmp key) rows) (are : AreRowPlaces rows places) where
@@ -142,11 +142,11 @@ module _ (key : List ℕ) (rows : List (List Value)) (places : List ℕ) where
                   )
               cases (inr (inr u)) = let a = after end (omega arith) (omega (arith, u, l)) in let b = are.in_order end i u l in let d = e in omega (arith, a, b, d)
 
-      has-free : HasNeighbour key rows start stop → HasFree key rows places start
+      has-free : HasNeighbour key rows start stop → HasFreePlace key rows places start
       has-free (inl (some', sh)) = record { free = start - 1; there = (let w = are.there n here in omega (arith, w)); shares = sh; apart = before-free some' sh }
       has-free (inr (l, sh)) = record { free = stop; there = l; shares = sh; apart = behind-free sh }
 
-      free-at : HasNeighbour key rows start stop → (k : ℕ) → n ≤ k → k < end → HasFree key rows places (at k)
+      free-at : HasNeighbour key rows start stop → (k : ℕ) → n ≤ k → k < end → HasFreePlace key rows places (at k)
       free-at more k l u =
           let f = has-free more in
           record {
@@ -157,7 +157,7 @@ module _ (key : List ℕ) (rows : List (List Value)) (places : List ℕ) where
           }
 
       abbrev Done : List Span → ℕ → Type 0
-      Done ss k = ((s : Span) × Contains ss s × Covers s (at k)) ⊎ HasFree key rows places (at k)
+      Done ss k = ((s : Span) × Contains ss s × Covers s (at k)) ⊎ HasFreePlace key rows places (at k)
 
       skipped : HasNeighbour key rows start stop → AreFullTo atom base end vars spans
       skipped more = record {
@@ -178,7 +178,7 @@ module _ (key : List ℕ) (rows : List (List Value)) (places : List ℕ) where
 
       module _ (whole : HasNeighbour key rows start stop → ⊥) where
         abbrev span : Span
-        span = record { atom = atom; start = start; count = stop - start; base = vars }
+        span = record { slot = atom; start = start; count = stop - start; base = vars }
 
         placed : (p : ℕ) → Covers span p → (n ≤ n + (p - start)) × (n + (p - start) < end) × (at (n + (p - start)) ≡ p)
         placed p c =
@@ -227,7 +227,7 @@ module _ (key : List ℕ) (rows : List (List Value)) (places : List ℕ) where
             only u m = elim (mem-cases u span [] m) [ inl e ↦ e | inr k ↦ absurd (mem-nil u k) ]
 
             less : (t : Span) → Contains spans t → span_cmp t span ≡ Less
-            less t m = then_less (nat_cmp t.atom atom) (nat_cmp t.start start) (subst (λ z. nat_cmp t.atom z ≡ Rattle.std.proofs.Common.Equal) (h.each t m).of_atom (equal_self t.atom)) (nat_cmp_less t.start start (h.before t m n (omega arith) here))
+            less t m = then_less (nat_cmp t.slot atom) (nat_cmp t.start start) (subst (λ z. nat_cmp t.slot z ≡ Rattle.std.proofs.Common.Equal) (h.each t m).of_atom (equal_self t.slot)) (nat_cmp_less t.start start (h.before t m n (omega arith) here))
 
             every : (k : ℕ) → k < end → (n ≤ k) ⊎ (k < n) → Done (spans ++ span ∷ []) k
             every k u (inl l) = inl (span, Contains-push spans span, (let r = (run k l u).0 in (omega (arith, r), omega (arith, r, u, l))))

@@ -20,18 +20,23 @@ use Rattle.cqa_model.proofs.Databases as databases
 use Rattle.cnf_form.specs.declared.formula.Lit.{Lit}
 use Rattle.cnf_form.specs.Literals.{Satisfies, SatisfiesAll}
 use Rattle.join_access.specs.Listing.{AreAllNames}
-use Rattle.repair_clauses.specs.declared.span.Span.{Span}
-use Rattle.repair_clauses.specs.Clauses.{Variable, HasNumber, AreBlockNumbers, IsNumberOf, variable_row, variable_cmp, AreAllLists}
-use Rattle.repair_clauses.specs.Spans.{at, IsInSpan, IsNamed, IsSpanNumbering, IsRelevantSpan, IsWholeBlock, span_cmp, AreBased, variables_of_spans, numbers_in, place_at}
-use Rattle.repair_clauses.specs.Runs.{AreColumn}
+use Rattle.row_lists.specs.declared.span.Span.{Span}
+use Rattle.row_lists.specs.Clauses.{Variable, HasNumber, variable_cmp, AreAllLists}
+use Rattle.repair_clauses.specs.Clauses.{AreBlockNumbers, IsNumberOf, variable_row}
+use Rattle.row_lists.specs.Spans.{at, IsInSpan, IsSpanNumbering, IsWholeBlock, span_cmp, AreBased, variables_of_spans, numbers_in}
+use Rattle.repair_clauses.specs.Spans.{IsNamed, IsRelevantSpan}
+use Rattle.row_witnesses.specs.Columns.{place_at}
+use Rattle.row_witnesses.specs.Columns.{AreColumn}
 use Rattle.cqa_value.proofs.Words.{Contains-map, Contains-from_map, Contains-range, dec_one_below, in_range, is_yes, nat_cmp_less, no_of, sorted_join, yes_of}
 use Rattle.std.proofs.Math.Bool.{Bool-discrete}
-use Rattle.repair_clauses.proofs.Rows.{numbered, number_below, dec_number}
-use Rattle.repair_clauses.proofs.Order.{less_then}
-use Rattle.repair_clauses.proofs.Spans.{in_variables, has_number, same_number, variables-sorted, are_blocks, as_at}
-use Rattle.repair_clauses.proofs.Atoms.{based-joined, based-whole}
-use Rattle.repair_clauses.proofs.Placing.{stand_apart}
-use Rattle.repair_clauses.proofs.Encoding.{rows-few, variables-length}
+use Rattle.row_lists.proofs.Rows.{numbered, number_below, dec_number}
+use Rattle.row_lists.proofs.Order.{less_then}
+use Rattle.row_lists.proofs.Spans.{in_variables, has_number, as_at, stand_apart, variables-sorted}
+use Rattle.row_lists.proofs.Order.{same_number}
+use Rattle.repair_clauses.proofs.Spans.{are_blocks}
+use Rattle.row_lists.proofs.Spans.{based-joined, based-whole}
+use Rattle.row_lists.proofs.Reading.{rows-few}
+use Rattle.row_lists.proofs.Spans.{variables-length}
 use Rattle.repair_clauses.proofs.Naming.{of_names}
 use Rattle.repair_clauses.proofs.FreeRows as free
 use Rattle.weak_pairs.specs.Pairs.{IsPair}
@@ -53,9 +58,9 @@ module _ (q : Query) (db : List Table) (all : List (List RowId)) where
       AreFullSpans q db all vars (spans ++ more)
   full-joined two first vars spans more (ps, c, h) (qs, d, k) small = record {
     in_order = sorted_join span_cmp spans more h.in_order k.in_order (λ s t ms mt.
-        let es : s.atom ≡ 0 = (h.each s ms).of_atom in
-        let et : t.atom ≡ 1 = (k.each t mt).of_atom in
-        less_then (nat_cmp s.atom t.atom) (nat_cmp s.start t.start) (nat_cmp_less s.atom t.atom (omega (arith, es, et))));
+        let es : s.slot ≡ 0 = (h.each s ms).of_atom in
+        let et : t.slot ≡ 1 = (k.each t mt).of_atom in
+        less_then (nat_cmp s.slot t.slot) (nat_cmp s.start t.start) (nat_cmp_less s.slot t.slot (omega (arith, es, et))));
     based = based-joined 0 first vars spans more h.based k.based;
     small = small;
     each = λ s m. elim (Contains-append_cases spans more s m) [
@@ -90,18 +95,18 @@ module _ (q : Query) (db : List Table) (row : List Value) (all : List (List RowI
       f : IsFullSpan q db all s
       f = h.each s m
 
-      relevant : IsRelevant q (stored db) row s.atom (variable_row q db (at s.atom s.start))
+      relevant : IsRelevant q (stored db) row s.slot (variable_row q db (at s.slot s.start))
       relevant =
           let c = f.whole.some in
-          let w = named-row s.atom s.start f.there (f.full s.start (omega arith) (omega (arith, c))) in
-          (w.0, w.1, subst (λ x. SharesKey (atom_key q s.atom) (variable_row q db (at s.atom s.start)) x) w.3 (shares-self (atom_key q s.atom) (variable_row q db (at s.atom s.start))))
+          let w = named-row s.slot s.start f.there (f.full s.start (omega arith) (omega (arith, c))) in
+          (w.0, w.1, subst (λ x. SharesKey (atom_key q s.slot) (variable_row q db (at s.slot s.start)) x) w.3 (shares-self (atom_key q s.slot) (variable_row q db (at s.slot s.start))))
 
   pub full-numbering : IsDatabase db → IsSpanNumbering spans vars
   full-numbering d = record {
-    apart = stand_apart q db row spans h.in_order span-is;
+    apart = stand_apart (atom_key q) (rows_of q (stored db)) spans h.in_order (λ s m. (span-is s m).whole);
     based = h.based;
     few = let k = h.small in omega (arith, k);
-    within = λ s m. let w = (h.each s m).whole.within in let t = rows-few db (atom_at q s.atom).table in let f = d.few_rows in omega (arith, w, t, f);
+    within = λ s m. let w = (h.each s m).whole.within in let t = rows-few db (atom_at q s.slot).table in let f = d.few_rows in omega (arith, w, t, f);
   }
 
   based : AreBased 0 spans
@@ -114,10 +119,10 @@ module _ (q : Query) (db : List Table) (row : List Value) (all : List (List RowI
   blocks = map numbers_in spans
 
   in_order : IsStrictlySortedBy variable_cmp variables
-  in_order = variables-sorted q db row spans h.in_order span-is
+  in_order = variables-sorted (atom_key q) (rows_of q (stored db)) spans h.in_order (λ s m. (span-is s m).whole)
 
   blocks-are : AreAllLists (AreBlockNumbers q db variables) blocks
-  blocks-are = are_blocks q db row spans h.in_order based span-is
+  blocks-are = are_blocks q db spans h.in_order based (λ s m. (span-is s m).whole)
 
   number-is : (F p n : ℕ) → IsRowNumber spans F p (Some n) → HasNumber variables n (at F p)
   number-is F p n (s, m, i, e) = subst (λ k. HasNumber variables k (at F p)) (sym e) (has_number spans based s m (at F p) i)
@@ -133,7 +138,7 @@ module _ (q : Query) (db : List Table) (row : List Value) (all : List (List RowI
       let s = in_variables spans (at F p) (numbered variables n (at F p) hn) in
       let w = (h.each s.0 s.1).whole.within in
       let u = s.2.2 in
-      subst (λ G. p < length (rows_of q (stored db) G)) (sym s.2.0) (let l : p < length (rows_of q (stored db) s.0.atom) = omega (arith, w, u) in l)
+      subst (λ G. p < length (rows_of q (stored db) G)) (sym s.2.0) (let l : p < length (rows_of q (stored db) s.0.slot) = omega (arith, w, u) in l)
 
   module _ (fits : FitsDatabase q db) (d : IsDatabase db) (pair : IsPair q) (old new : List (List Lit)) (c : AddsPairs spans all old new) where
     two-atoms : (F : ℕ) → F < 2 → F < length q.atoms
@@ -191,40 +196,40 @@ module _ (q : Query) (db : List Table) (row : List Value) (all : List (List RowI
 
     abbrev value_at : (ℕ → List Value → Bool) → Option Variable → Bool
     value_at t None = false
-    value_at t (Some y) = t y.atom (variable_row q db y)
+    value_at t (Some y) = t y.slot (variable_row q db y)
 
     abbrev value_of : (ℕ → List Value → Bool) → ℕ → Bool
     value_of t zero = false
     value_of t (suc k) = value_at t (slice_get variables k)
 
-    value_is : (t : ℕ → List Value → Bool) (n : ℕ) (y : Variable) → HasNumber variables n y → value_of t n ≡ t y.atom (variable_row q db y)
+    value_is : (t : ℕ → List Value → Bool) (n : ℕ) (y : Variable) → HasNumber variables n y → value_of t n ≡ t y.slot (variable_row q db y)
     value_is t zero y hn = absurd hn
     value_is t (suc k) y hn = ap (value_at t) hn
 
     module _ (t : ℕ → List Value → Bool) (s : RowsSatisfy q (stored db) row t) where
       span-true : (u : Span) → Contains spans u → Satisfies (value_of t) (map positive (numbers_in u))
-      span-true u m = go (s.blocks u.atom f.there first (Contains-get_or (rows_of q (stored db) u.atom) u.start [] (let w = f.whole.within in let k = f.whole.some in omega (arith, w, k))) f.relevant)
+      span-true u m = go (s.blocks u.slot f.there first (Contains-get_or (rows_of q (stored db) u.slot) u.start [] (let w = f.whole.within in let k = f.whole.some in omega (arith, w, k))) f.relevant)
         where
           f : IsRelevantSpan q db row u
           f = span-is u m
 
           first : List Value
-          first = variable_row q db (at u.atom u.start)
+          first = variable_row q db (at u.slot u.start)
 
-          at-place : (j : ℕ) → j < length (rows_of q (stored db) u.atom) → SharesKey (atom_key q u.atom) first (variable_row q db (at u.atom j)) → t u.atom (variable_row q db (at u.atom j)) ≡ true → Satisfies (value_of t) (map positive (numbers_in u))
+          at-place : (j : ℕ) → j < length (rows_of q (stored db) u.slot) → SharesKey (atom_key q u.slot) first (variable_row q db (at u.slot j)) → t u.slot (variable_row q db (at u.slot j)) ≡ true → Satisfies (value_of t) (map positive (numbers_in u))
           at-place j l sh e =
               let b = (f.whole.block j l).0 sh in
-              let x : Variable = at u.atom j in
+              let x : Variable = at u.slot j in
               let b0 = b.0 in
               let b1 = b.1 in
               let n = suc (u.base + (j - u.start)) in
               (positive n, Contains-map positive (numbers_in u) n (Contains-range (suc u.base) u.count n (omega arith) (omega (arith, b0, b1))), value_is t n x (has_number spans based u m x (refl, b0, b1)) ∙ e)
 
-          go : ((y : List Value) × Contains (rows_of q (stored db) u.atom) y × SharesKey (atom_key q u.atom) first y × (t u.atom y ≡ true)) → Satisfies (value_of t) (map positive (numbers_in u))
+          go : ((y : List Value) × Contains (rows_of q (stored db) u.slot) y × SharesKey (atom_key q u.slot) first y × (t u.slot y ≡ true)) → Satisfies (value_of t) (map positive (numbers_in u))
           go (y, my, sh, e) =
-              let j = Rattle.repair_clauses.proofs.Numbers.place_of (rows_of q (stored db) u.atom) y my in
-              let is : variable_row q db (at u.atom j.0) ≡ y = Rattle.std.proofs.lemmas.Option.get_or_from_slice_get (rows_of q (stored db) u.atom) j.0 y [] j.2 in
-              at-place j.0 j.1 (subst (λ z. SharesKey (atom_key q u.atom) first z) (sym is) sh) (ap (t u.atom) is ∙ e)
+              let j = Rattle.row_lists.proofs.Numbers.place_of (rows_of q (stored db) u.slot) y my in
+              let is : variable_row q db (at u.slot j.0) ≡ y = Rattle.std.proofs.lemmas.Option.get_or_from_slice_get (rows_of q (stored db) u.slot) j.0 y [] j.2 in
+              at-place j.0 j.1 (subst (λ z. SharesKey (atom_key q u.slot) first z) (sym is) sh) (ap (t u.slot) is ∙ e)
 
       number-false : (F x : ℕ) (r : List Value) → IsNumberOf q db variables F r x → t F r ≡ false → value_of t x ≡ false
       number-false F x r (y, hn, ya, ye) e = value_is t x y hn ∙ (ap (λ G. t G (variable_row q db y)) ya ∙ (ap (t F) ye ∙ e))
@@ -256,7 +261,7 @@ module _ (q : Query) (db : List Table) (row : List Value) (all : List (List RowI
 
       dec_of : (F : ℕ) (x : List Value) (n : ℕ) → Dec (IsNumberOf q db variables F x n)
       dec_of F x n = dec_by (λ p. (p.0, p.1, p.2.0, p.2.1)) (λ p. (p.0, p.1, (p.2, p.3)))
-          (dec_number variables (λ y. (y.atom ≡ F) × (variable_row q db y ≡ x)) (λ y. dec_both (ℕ_discrete y.atom F) (row_discrete (variable_row q db y) x)) n)
+          (dec_number variables (λ y. (y.slot ≡ F) × (variable_row q db y ≡ x)) (λ y. dec_both (ℕ_discrete y.slot F) (row_discrete (variable_row q db y) x)) n)
 
       dec_true : (F : ℕ) (x : List Value) → Dec (IsTrueRow F x)
       dec_true F x = dec_one_below (λ n. IsNumberOf q db variables F x n × (v n ≡ true)) (λ n. dec_both (dec_of F x n) (Bool-discrete (v n) true)) (1 + length variables)
@@ -281,7 +286,7 @@ module _ (q : Query) (db : List Table) (row : List Value) (all : List (List RowI
       Stays F x = (y : List Value) × Contains (rows_of q (stored db) F) y × SharesKey (atom_key q F) x y × (stays F y ≡ true)
 
       -- a row of the block of each full block's first row is true
-      in-span : (F : ℕ) (x : List Value) (u : Span) → Contains spans u → F ≡ u.atom → SharesKey (atom_key q F) x (variable_row q db (at F u.start)) → Stays F x
+      in-span : (F : ℕ) (x : List Value) (u : Span) → Contains spans u → F ≡ u.slot → SharesKey (atom_key q F) x (variable_row q db (at F u.start)) → Stays F x
       in-span F x u m ea sh = go (sat (map positive (numbers_in u)) (Contains-append_left (map (map positive) blocks) (map not_both c.pairs) (map positive (numbers_in u)) (Contains-map (map positive) blocks (numbers_in u) (Contains-map numbers_in spans u m))))
         where
           f : IsRelevantSpan q db row u
@@ -296,7 +301,7 @@ module _ (q : Query) (db : List Table) (row : List Value) (all : List (List RowI
               let j = n - suc u.base in
               let lj : j < u.count = omega (arith, r0, r1) in
               let p = u.start + j in
-              let inside : p < length (rows_of q (stored db) u.atom) = omega (arith, lj, w) in
+              let inside : p < length (rows_of q (stored db) u.slot) = omega (arith, lj, w) in
               let i : IsInSpan u (at F p) = (ea, omega arith, omega (arith, lj)) in
               let en : suc (u.base + (p - u.start)) ≡ n = omega (arith, r0) in
               let hn : HasNumber variables n (at F p) = subst (λ k. HasNumber variables k (at F p)) en (has_number spans based u m (at F p) i) in
@@ -343,7 +348,7 @@ module _ (q : Query) (db : List Table) (row : List Value) (all : List (List RowI
           here : SharesKey (atom_key q F) x (variable_row q db (at F p))
           here = subst (λ z. SharesKey (atom_key q F) x z) (sym (i.1.1 F lF)) sh
 
-          first : (u : Span) → Contains spans u → IsInSpan u (at F p) → SharesKey (atom_key q u.atom) (variable_row q db (at u.atom u.start)) (variable_row q db (at u.atom p))
+          first : (u : Span) → Contains spans u → IsInSpan u (at F p) → SharesKey (atom_key q u.slot) (variable_row q db (at u.slot u.start)) (variable_row q db (at u.slot p))
           first u m g = let f = span-is u m in let w = f.whole.within in let g2 = g.2 in (f.whole.block p (omega (arith, w, g2))).1 (g.1, g.2)
 
           go : ((s : Span) × Contains spans s × IsInSpan s (at F p)) ⊎ HasFreeRow q db all F p → Stays F x

@@ -22,11 +22,13 @@ use Rattle.cqa_model.specs.Query.{atom_key, rows_of, row_at, value, IsWitness, F
 use Rattle.cqa_model.proofs.Repairs.{shares-self, shares-sym, shares-trans}
 use Rattle.cqa_model.proofs.Fitting.{fits_tables}
 use Rattle.join_access.proofs.Sorted.{one_sorted, not_less}
-use Rattle.repair_clauses.specs.declared.formula.Encoded.{Encoded}
-use Rattle.repair_clauses.specs.Clauses.{Variable, variable_cmp, AreAllLists, HasNumber, SharesBlock, IsBlockOfVariable, AreBlockNumbers, IsNumberOf, IsOfWitness, Formula, IsFormula, variable_row}
+use Rattle.row_lists.specs.declared.formula.Encoded.{Encoded}
+use Rattle.row_lists.specs.Clauses.{Variable, variable_cmp, AreAllLists, HasNumber, Formula}
+use Rattle.repair_clauses.specs.Clauses.{SharesBlock, IsBlockOfVariable, AreBlockNumbers, IsNumberOf, IsOfWitness, IsFormula, variable_row}
 use Rattle.repair_clauses.specs.Encodings.{IsEncoded}
-use Rattle.repair_clauses.proofs.Rows.{numbered, number_below, number_of, one_variable, block_numbers}
-use Rattle.repair_clauses.proofs.Order.{numbers_rise, atom_less}
+use Rattle.row_lists.proofs.Rows.{numbered, number_below, number_of, one_variable}
+use Rattle.repair_clauses.proofs.Rows.{block_numbers}
+use Rattle.row_lists.proofs.Order.{numbers_rise, slot_less}
 use Rattle.weak_pairs.specs.Pairs.{IsPair, FitsAlone, Agree}
 use Rattle.weak_pairs.proofs.Structure
 use Rattle.weak_pairs.specs.Starts.{starts_from}
@@ -110,7 +112,7 @@ module _ (db : List Table) (q : Query) (row : List Value) (fits : FitsDatabase q
   partners F G lF lG n v w hv hw e = Structure.partners q row (keys_of db) (stored db) (fits_tables q db fits) (long v hv) pair F G lF lG n v w hv hw e
 
   beside : (x z : ℕ) (a c : Variable) → HasNumber variables x a → HasNumber variables z c → AreBeside pairs x z → SharesBlock q db a c
-  beside x z a c na nc (inl e) = subst (λ u. SharesBlock q db a u) (one_variable variables z a c (subst (λ k. HasNumber variables k a) e na) nc) (refl, shares-self (atom_key q a.atom) (variable_row q db a))
+  beside x z a c na nc (inl e) = subst (λ u. SharesBlock q db a u) (one_variable variables z a c (subst (λ k. HasNumber variables k a) e na) nc) (refl, shares-self (atom_key q a.slot) (variable_row q db a))
   beside x z a c na nc (inr (inl (y, m, k))) =
       let p = met x y m in
       let r = met z y k in
@@ -121,8 +123,8 @@ module _ (db : List Table) (q : Query) (row : List Value) (fits : FitsDatabase q
       shared F x z a c na nc {u} {w} l r s =
           let ea = one_variable variables x a l.0 na l.1 in
           let ec = one_variable variables z c r.0 nc r.1 in
-          let fa : a.atom ≡ F = ap (λ (k : Variable). k.atom) ea ∙ l.2 in
-          let fc : c.atom ≡ F = ap (λ (k : Variable). k.atom) ec ∙ r.2 in
+          let fa : a.slot ≡ F = ap (λ (k : Variable). k.slot) ea ∙ l.2 in
+          let fc : c.slot ≡ F = ap (λ (k : Variable). k.slot) ec ∙ r.2 in
           let ra : variable_row q db a ≡ u = ap (λ k. variable_row q db k) ea ∙ l.3 in
           let rc : variable_row q db c ≡ w = ap (λ k. variable_row q db k) ec ∙ r.3 in
           (fa ∙ sym fc, subst (λ G. SharesKey (atom_key q G) (variable_row q db a) (variable_row q db c)) (sym fa) (subst (λ k. SharesKey (atom_key q F) k (variable_row q db c)) (sym ra) (subst (λ k. SharesKey (atom_key q F) u k) (sym rc) s)))
@@ -133,8 +135,8 @@ module _ (db : List Table) (q : Query) (row : List Value) (fits : FitsDatabase q
       let s = partners 0 1 (omega arith) (omega arith) (λ d. omega (arith, d)) p.rows r.rows p.witness r.witness same in
       let ea = one_variable variables x a p.right.0 na p.right.1 in
       let ec = one_variable variables z c r.right.0 nc r.right.1 in
-      let fa : a.atom ≡ 1 = ap (λ (u : Variable). u.atom) ea ∙ p.right.2 in
-      let fc : c.atom ≡ 1 = ap (λ (u : Variable). u.atom) ec ∙ r.right.2 in
+      let fa : a.slot ≡ 1 = ap (λ (u : Variable). u.slot) ea ∙ p.right.2 in
+      let fc : c.slot ≡ 1 = ap (λ (u : Variable). u.slot) ec ∙ r.right.2 in
       let ra : variable_row q db a ≡ row_at p.rows 1 = ap (λ u. variable_row q db u) ea ∙ p.right.3 in
       let rc : variable_row q db c ≡ row_at r.rows 1 = ap (λ u. variable_row q db u) ec ∙ r.right.3 in
       (fa ∙ sym fc, subst (λ G. SharesKey (atom_key q G) (variable_row q db a) (variable_row q db c)) (sym fa) (subst (λ u. SharesKey (atom_key q 1) u (variable_row q db c)) (sym ra) (subst (λ u. SharesKey (atom_key q 1) (row_at p.rows 1) u) (sym rc) s)))
@@ -145,10 +147,10 @@ module _ (db : List Table) (q : Query) (row : List Value) (fits : FitsDatabase q
   block-of v l = (all_blocks.exactly (block_at blocks v)).0 (Contains-get_or blocks v [] l)
 
   blocks-share : (a b c : Variable) → SharesBlock q db a b → SharesBlock q db b c → SharesBlock q db a c
-  blocks-share a b c s t = (s.0 ∙ t.0, shares-trans (atom_key q a.atom) (variable_row q db a) (variable_row q db b) (variable_row q db c) s.1 (subst (λ G. SharesKey (atom_key q G) (variable_row q db b) (variable_row q db c)) (sym s.0) t.1))
+  blocks-share a b c s t = (s.0 ∙ t.0, shares-trans (atom_key q a.slot) (variable_row q db a) (variable_row q db b) (variable_row q db c) s.1 (subst (λ G. SharesKey (atom_key q G) (variable_row q db b) (variable_row q db c)) (sym s.0) t.1))
 
   blocks-turn : (a b : Variable) → SharesBlock q db a b → SharesBlock q db b a
-  blocks-turn a b s = (sym s.0, subst (λ G. SharesKey (atom_key q G) (variable_row q db b) (variable_row q db a)) s.0 (shares-sym (atom_key q a.atom) (variable_row q db a) (variable_row q db b) s.1))
+  blocks-turn a b s = (sym s.0, subst (λ G. SharesKey (atom_key q G) (variable_row q db b) (variable_row q db a)) s.0 (shares-sym (atom_key q a.slot) (variable_row q db a) (variable_row q db b) s.1))
 
   -- blocks of rows that share a key are one
   same-list : (a c : Variable) (xs ys : List ℕ) → IsBlockOfVariable q db variables a xs → IsBlockOfVariable q db variables c ys → SharesBlock q db a c → xs ≡ ys
@@ -179,7 +181,7 @@ module _ (db : List Table) (q : Query) (row : List Value) (fits : FitsDatabase q
       go : (numbers : List ℕ) × IsBlockOfVariable q db variables a numbers → IsInSomeBlock blocks x
       go (numbers, b) =
           let m = (all_blocks.exactly numbers).1 (a, numbered variables x a n, b) in
-          let k : Contains numbers x = (b.exactly x).1 (a, n, (refl, shares-self (atom_key q a.atom) (variable_row q db a))) in
+          let k : Contains numbers x = (b.exactly x).1 (a, n, (refl, shares-self (atom_key q a.slot) (variable_row q db a))) in
           (m.0, m.1, subst (λ z. Contains z x) (sym (get_or_default blocks m.0 [] numbers m.1 ∙ m.2)) k)
 
   listed : (x y : ℕ) → AreAdjacent pairs x y → IsInSomeBlock blocks x
@@ -192,8 +194,8 @@ module _ (db : List Table) (q : Query) (row : List Value) (fits : FitsDatabase q
       let b = block-of v l in
       let a = (b.2.exactly x).0 mx in
       let c = (b.2.exactly y).0 my in
-      let ea : a.0.atom ≡ 0 = ap (λ (k : Variable). k.atom) (one_variable variables x a.0 p.left.0 a.1 p.left.1) ∙ p.left.2 in
-      let ec : c.0.atom ≡ 1 = ap (λ (k : Variable). k.atom) (one_variable variables y c.0 p.right.0 c.1 p.right.1) ∙ p.right.2 in
+      let ea : a.0.slot ≡ 0 = ap (λ (k : Variable). k.slot) (one_variable variables x a.0 p.left.0 a.1 p.left.1) ∙ p.left.2 in
+      let ec : c.0.slot ≡ 1 = ap (λ (k : Variable). k.slot) (one_variable variables y c.0 p.right.0 c.1 p.right.1) ∙ p.right.2 in
       let sa = a.2.0 in
       let sc = c.2.0 in
       omega (arith, ea, ec, sa, sc)
@@ -202,9 +204,9 @@ module _ (db : List Table) (q : Query) (row : List Value) (fits : FitsDatabase q
   paired = record {
     small = λ x y m. let p = (met x y m).right in small y p.0 p.1;
     rises = λ x y m. let p = met x y m in
-        numbers_rise variables in_order x y p.left.0 p.right.0 p.left.1 p.right.1 (atom_less p.left.0 p.right.0 (let l = p.left.2 in let r = p.right.2 in omega (arith, l, r)));
+        numbers_rise variables in_order x y p.left.0 p.right.0 p.left.1 p.right.1 (slot_less p.left.0 p.right.0 (let l = p.left.2 in let r = p.right.2 in omega (arith, l, r)));
     sides = λ x y z m k. let p = (met x y m).left in let r = (met z x k).right in
-        let e = ap (λ (u : Variable). u.atom) (one_variable variables x p.0 r.0 p.1 r.1) in let l = p.2 in let o = r.2 in omega (arith, e, l, o);
+        let e = ap (λ (u : Variable). u.slot) (one_variable variables x p.0 r.0 p.1 r.1) in let l = p.2 in let o = r.2 in omega (arith, e, l, o);
     square = λ x y s t a b c. meet s t (square x y s t (met x y a) (met s y b) (met x t c));
   }
 
@@ -212,7 +214,7 @@ module _ (db : List Table) (q : Query) (row : List Value) (fits : FitsDatabase q
   some v l =
       let b = block-of v l in
       let n = number_of variables b.0 b.1 in
-      let m : Contains (block_at blocks v) n.0 = (b.2.exactly n.0).1 (b.0, n.1, (refl, shares-self (atom_key q b.0.atom) (variable_row q db b.0))) in
+      let m : Contains (block_at blocks v) n.0 = (b.2.exactly n.0).1 (b.0, n.1, (refl, shares-self (atom_key q b.0.slot) (variable_row q db b.0))) in
       let k = m.1 in omega (arith, k)
 
   -- ---- the blocks have no variable twice

@@ -8,9 +8,10 @@ use Rattle.cnf_form.specs.declared.formula.Lit.{Lit}
 use Rattle.join_access.specs.declared.witness.Witness.{Witness}
 use Rattle.join_access.specs.Listing.{names_of}
 use Rattle.join_access.proofs.Naming.{name}
-use Rattle.repair_clauses.specs.declared.span.Span.{Span}
-use Rattle.repair_clauses.specs.Spans.{IsAt, place_at}
-use Rattle.repair_clauses.proofs.Numbers.{place_of}
+use Rattle.row_lists.specs.declared.span.Span.{Span}
+use Rattle.row_lists.specs.Spans.{IsAt}
+use Rattle.row_witnesses.specs.Columns.{place_at}
+use Rattle.row_lists.proofs.Numbers.{place_of}
 use Rattle.repair_clauses.proofs.Encoding.{place_read}
 use Rattle.pair_refutation.specs.declared.graph.Pair.{Pair}
 use Rattle.pair_refutation.specs.Graph.{not_both}

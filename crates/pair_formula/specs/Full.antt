@@ -9,10 +9,12 @@ use Rattle.cqa_model.specs.Database.{Table, stored}
 use Rattle.cqa_model.specs.Repairs.{SharesKey}
 use Rattle.cqa_model.specs.Query.{atom_key, rows_of}
 use Rattle.cnf_form.specs.declared.formula.Lit.{Lit}
-use Rattle.repair_clauses.specs.declared.span.Span.{Span}
-use Rattle.repair_clauses.specs.Spans.{at, Covers, HasSpan, IsInSpan, IsNamed, IsWholeBlock, span_cmp, AreBasedTo, place_at}
-use Rattle.repair_clauses.specs.Runs.{AreColumn}
-use Rattle.repair_clauses.specs.Avoiding.{HasFree}
+use Rattle.row_lists.specs.declared.span.Span.{Span}
+use Rattle.row_lists.specs.Spans.{at, Covers, HasSpan, IsInSpan, IsWholeBlock, span_cmp, AreBasedTo}
+use Rattle.repair_clauses.specs.Spans.{IsNamed}
+use Rattle.row_witnesses.specs.Columns.{place_at}
+use Rattle.row_witnesses.specs.Columns.{AreColumn}
+use Rattle.row_lists.specs.Loose.{HasFreePlace}
 use Rattle.pair_refutation.specs.declared.graph.Pair.{Pair}
 use Rattle.pair_refutation.specs.Graph.{not_both}
 
@@ -35,11 +37,11 @@ HasNeighbour key rows start end =
 abbrev pub IsRunAdded : List ℕ → List (List Value) → ℕ → ℕ → ℕ → ℕ → List Span → ℕ → List Span → Type 0
 IsRunAdded key rows atom base start end old vars new =
     (HasNeighbour key rows start end × (vars ≡ base) × (new ≡ old)) ⊎
-    ((HasNeighbour key rows start end → ⊥) × (vars ≡ base + (end - start)) × (new ≡ old ++ record { atom = atom; start = start; count = end - start; base = base } ∷ []))
+    ((HasNeighbour key rows start end → ⊥) × (vars ≡ base + (end - start)) × (new ≡ old ++ record { slot = atom; start = start; count = end - start; base = base } ∷ []))
 
 -- a whole block of a table, all of whose rows are at places
 pub record IsFullRun (key : List ℕ) (rows : List (List Value)) (atom : ℕ) (places : List ℕ) (s : Span) : Type 0 where
-  pub of_atom : s.atom ≡ atom
+  pub of_atom : s.slot ≡ atom
   pub whole : IsWholeBlock key rows s
   pub full : (p : ℕ) → Covers s p → Contains places p
 
@@ -49,7 +51,7 @@ pub record AreFullRuns (key : List ℕ) (rows : List (List Value)) (atom base : 
   pub based : AreBasedTo base spans vars
   pub small : vars ≤ base + length rows
   pub each : (s : Span) → Contains spans s → IsFullRun key rows atom places s
-  pub every : (p : ℕ) → Contains places p → ((s : Span) × Contains spans s × Covers s p) ⊎ HasFree key rows places p
+  pub every : (p : ℕ) → Contains places p → ((s : Span) × Contains spans s × Covers s p) ⊎ HasFreePlace key rows places p
 
 -- exactly the full blocks of an atom, numbered from a base on
 abbrev pub AreFullOf : Query → List Table → List (List RowId) → ℕ → ℕ → ℕ → List Span → Type 0
@@ -57,13 +59,13 @@ AreFullOf q db all F base vars spans = (places : List ℕ) × AreColumn all F pl
 
 -- a whole block of an atom, all of whose rows are in witnesses
 pub record IsFullSpan (q : Query) (db : List Table) (all : List (List RowId)) (s : Span) : Type 0 where
-  pub there : s.atom < length q.atoms
-  pub whole : IsWholeBlock (atom_key q s.atom) (rows_of q (stored db) s.atom) s
-  pub full : (p : ℕ) → s.start ≤ p → p < s.start + s.count → IsNamed all s.atom p
+  pub there : s.slot < length q.atoms
+  pub whole : IsWholeBlock (atom_key q s.slot) (rows_of q (stored db) s.slot) s
+  pub full : (p : ℕ) → s.start ≤ p → p < s.start + s.count → IsNamed all s.slot p
 
 -- the block of the row at a place of an atom has a row that is in no witness
 abbrev pub HasFreeRow : Query → List Table → List (List RowId) → ℕ → ℕ → Type 0
-HasFreeRow q db all F p = (places : List ℕ) × AreColumn all F places × HasFree (atom_key q F) (rows_of q (stored db) F) places p
+HasFreeRow q db all F p = (places : List ℕ) × AreColumn all F places × HasFreePlace (atom_key q F) (rows_of q (stored db) F) places p
 
 -- exactly the full blocks, and how many rows they have, at most `2 * MOST_ROWS`
 pub record AreFullSpans (q : Query) (db : List Table) (all : List (List RowId)) (vars : ℕ) (spans : List Span) : Type 0 where

@@ -7,14 +7,14 @@ ghost use Rattle.std.specs.List.Sorted.{IsStrictlySortedBy};
 ghost use Rattle.cqa_model.specs.Database.{block_cmp};
 ghost use Rattle.cqa_model.specs.declared.limits.TheConstants.{MOST_ROWS};
 ghost use Rattle.join_access.specs.Listing.{names_of};
-ghost use Rattle.repair_clauses.specs.Runs.{AreRowPlaces};
+ghost use Rattle.row_lists.specs.Runs.{AreRowPlaces};
 ghost use Rattle.pair_formula.specs.Full.{AreFullOf, AreFullRuns, AreFullSpans, FollowsInBlock, HasNeighbour, IsInRow, IsRunAdded};
 
 use cqa_value::{Items, NoMemory};
 use repair_clauses::atom_of;
-use repair_clauses::numbering::Numbering;
-use repair_clauses::span::Span;
 use row_blocks::goes_on;
+use row_lists::numbering::Numbering;
+use row_lists::span::Span;
 use row_pieces::Rows;
 use row_witnesses::RowWitnesses;
 use std::alloc::Global;
@@ -75,7 +75,7 @@ fn add_run(
     }
     let count = (end - start) as u32;
     spans.push(Span {
-        atom,
+        slot: atom,
         start: start as u32,
         count,
         base,

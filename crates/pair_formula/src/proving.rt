@@ -14,7 +14,8 @@ use join_access::TooMany;
 use join_witness::witnesses;
 use pair_answers::PairQuery;
 use pair_refutation::refute;
-use repair_clauses::{Encoded, encode};
+use repair_clauses::encode;
+use row_lists::Encoded;
 use std::alloc::Global;
 
 /// The formula of a certain row, and a log that refutes it.

@@ -5,19 +5,31 @@ use Rattle.cqa_value.specs.declared.value.Value.{Value}
 use Rattle.cqa_model.specs.declared.query.Query.{Query}
 use Rattle.cqa_model.specs.declared.query.RowId.{RowId}
 use Rattle.cqa_model.specs.Database.{Table, stored}
-use Rattle.cqa_model.specs.Query.{atom_at, atom_key, rows_of, row_at, IsWitness, FitsDatabase}
+use Rattle.cqa_model.specs.Query.{atom_at, rows_of, row_at, IsWitness, FitsDatabase}
 use Rattle.cqa_model.specs.Certain.{IsCertain}
 use Rattle.cqa_model.proofs.Classic.{mem-nil}
-use Rattle.repair_back.specs.Flags.{IsFlagged, kept_tables, flags_of, AreBlank, AreLong, AreRepairFlags}
+use Rattle.repair_back.specs.Flags.{IsFlagged, kept_tables, flags_at, tables_in, AreTablesOf, AreBlank, AreLong, AreRepairFlags, AreTableFlags}
 use Rattle.repair_back.specs.Mending.{HasNone}
 use Rattle.cqa_model.specs.Blocks.{IsPick}
-use Rattle.repair_back.specs.Results.{names_kept, IsRepairOf, Rejects, IsTrueName, ArePicks}
-use Rattle.repair_back.proofs.Keeping.{shown}
-use Rattle.repair_back.proofs.Naming.{kept-named, name-flagged}
+use Rattle.repair_back.specs.Results.{names_kept, IsRepairOver, Rejects, IsTrueName, AreTablePicks}
+use Rattle.repair_back.proofs.Keeping.{ShownOver, shown-over}
+use Rattle.repair_back.proofs.Naming.{kept-named, kept-of, name-flagged}
+use Rattle.repair_back.proofs.Starting.{table-in, query-tables, table-flags}
+use Rattle.table_blocks.specs.Tables.{rows_at, key_at}
+
+module _ (db : List Table) (tables : List ℕ) (are : AreTablesOf db tables) (flags : List (List Bool)) (chosen : AreTableFlags db tables flags) where
+  pub named-repair : IsRepairOver db tables (names_kept tables flags)
+  named-repair = let s = shown-over db tables are flags chosen in (s.0, s.1, kept-named db tables flags chosen s.0 s.2)
 
 module _ (q : Query) (db : List Table) (fits : FitsDatabase q db) (flags : List (List Bool)) (chosen : AreRepairFlags q db flags) where
-  pub named-repair : IsRepairOf q db (names_kept q.atoms flags)
-  named-repair = let s = shown q db fits flags chosen in (s.0, s.1, kept-named q db flags chosen s.0 s.2)
+  chosen_tables : AreTableFlags db (tables_in q) flags
+  chosen_tables = table-flags q db fits flags chosen
+
+  showing : ShownOver db (tables_in q) (query-tables q db fits) flags chosen_tables
+  showing = shown-over db (tables_in q) (query-tables q db fits) flags chosen_tables
+
+  same-atom : (F : ℕ) → F < length q.atoms → rows_of q showing.0 F ≡ rows_of q (kept_tables (stored db) flags) F
+  same-atom F l = showing.2 (atom_at q F).table (table-in q db fits F l)
 
   module _ (row : List Value) (none : HasNone db q row [] flags) where
     kept-none : (r : List (List (List Value))) → ((F : ℕ) → F < length q.atoms → rows_of q r F ≡ rows_of q (kept_tables (stored db) flags) F) → (w : List (List Value)) → IsWitness q r row w → ⊥
@@ -29,11 +41,12 @@ module _ (q : Query) (db : List Table) (fits : FitsDatabase q db) (flags : List 
       extends = λ t m. absurd (mem-nil t m);
     })
 
-    pub named-rejects : Rejects q db row (names_kept q.atoms flags)
-    named-rejects = let s = shown q db fits flags chosen in (s.0, s.1, kept-named q db flags chosen s.0 s.2, kept-none s.0 s.2)
+    pub named-rejects : Rejects q db row (names_kept (tables_in q) flags)
+    named-rejects =
+        (showing.0, showing.1, kept-of q db fits (names_kept (tables_in q) flags) showing.0 (kept-named db (tables_in q) flags chosen_tables showing.0 showing.2), kept-none showing.0 same-atom)
 
     pub not-certain : IsCertain db q row → ⊥
-    not-certain certain = let s = shown q db fits flags chosen in let w = certain s.0 s.1 in kept-none s.0 s.2 w.0 w.1
+    not-certain certain = let w = certain showing.0 showing.1 in kept-none showing.0 same-atom w.0 w.1
 
 -- a pick by one property is one by another that says the same of the rows
 pick-same : (key : List ℕ) (rows : List (List Value)) (P Q : ℕ → Type 0) → ((i : ℕ) → i < length rows → P i ↔ Q i) → (p : ℕ) → IsPick key rows P p → IsPick key rows Q p
@@ -47,23 +60,23 @@ pick-same key rows P Q same p h = record {
 }
 
 -- what the names of a choice are, where its flags were set by a model
-pub named-picks : (q : Query) (db : List Table) (blank marked flags : List (List Bool)) (listed : List RowId) (model : List Bool) → AreBlank q db blank →
-    ((t p : ℕ) → p < length (get_or blank t []) → IsFlagged (get_or marked t []) p ↔ (IsFlagged (get_or blank t []) p ⊎ IsTrueName listed model (record { table = t; place = p }))) →
-    ((F : ℕ) → F < length q.atoms → (p : ℕ) → IsFlagged (flags_of q flags F) p → IsPick (atom_key q F) (rows_of q (stored db) F) (IsFlagged (flags_of q marked F)) p) →
-    ArePicks q db listed model (names_kept q.atoms flags)
-named-picks q db blank marked flags listed model none is picks F l p m =
-    pick-same (atom_key q F) (rows_of q (stored db) F) (IsFlagged (flags_of q marked F)) (λ i. IsTrueName listed model (record { table = (atom_at q F).table; place = i })) same p
-    (picks F l p (name-flagged q.atoms flags (record { table = (atom_at q F).table; place = p }) m))
+pub named-picks : (db : List Table) (tables : List ℕ) (blank marked flags : List (List Bool)) (listed : List RowId) (model : List Bool) → AreBlank db tables blank →
+    ((t p : ℕ) → p < length (flags_at blank t) → IsFlagged (flags_at marked t) p ↔ (IsFlagged (flags_at blank t) p ⊎ IsTrueName listed model (record { table = t; place = p }))) →
+    ((t : ℕ) → Contains tables t → (p : ℕ) → IsFlagged (flags_at flags t) p → IsPick (key_at db t) (rows_at db t) (IsFlagged (flags_at marked t)) p) →
+    AreTablePicks db tables listed model (names_kept tables flags)
+named-picks db tables blank marked flags listed model none is picks t mt p m =
+    pick-same (key_at db t) (rows_at db t) (IsFlagged (flags_at marked t)) (λ i. IsTrueName listed model (record { table = t; place = i })) same p
+    (picks t mt p (name-flagged tables flags (record { table = t; place = p }) m))
   where
-    same : (i : ℕ) → i < length (rows_of q (stored db) F) → IsFlagged (flags_of q marked F) i ↔ IsTrueName listed model (record { table = (atom_at q F).table; place = i })
+    same : (i : ℕ) → i < length (rows_at db t) → IsFlagged (flags_at marked t) i ↔ IsTrueName listed model (record { table = t; place = i })
     same i li =
-        let h = is (atom_at q F).table i (subst (λ n. i < n) (sym (none.long.each F l)) li) in (
-          λ f. elim (h.0 f) [ inl g ↦ absurd (none.none F l i g) | inr g ↦ g ],
+        let h = is t i (subst (λ n. i < n) (sym (none.long.each t mt)) li) in (
+          λ f. elim (h.0 f) [ inl g ↦ absurd (none.none t i g) | inr g ↦ g ],
           λ g. h.1 (inr g),
         )
 
-pub marked-long : (q : Query) (db : List Table) (blank marked : List (List Bool)) → AreBlank q db blank → length marked ≡ length blank → ((t : ℕ) → length (get_or marked t []) ≡ length (get_or blank t [])) → AreLong q db marked
-marked-long q db blank marked none size long = record { size = size ∙ none.long.size; each = λ F l. long (atom_at q F).table ∙ none.long.each F l }
+pub marked-long : (db : List Table) (tables : List ℕ) (blank marked : List (List Bool)) → AreBlank db tables blank → length marked ≡ length blank → ((t : ℕ) → length (flags_at marked t) ≡ length (flags_at blank t)) → AreLong db tables marked
+marked-long db tables blank marked none size long = record { size = size ∙ none.long.size; each = λ t m. long t ∙ none.long.each t m }
 
 -- what holds of a part of a value holds of an answer with this part
 pub ok-map : {A B E : Type 0} (r : Result A E) (part : A → B) (y : B) (P : B → Type 0) → IfOk r (λ x. part x ≡ y) → P y → IfOk r (λ x. P (part x))

@@ -1,15 +1,12 @@
 -- Another row of a block stands beside the row.
 use Rattle.std.proofs.Common.{◌≡◌, ℕ, zero, suc, ◌+◌, ◌-◌, ◌<◌, ◌≤◌, ◌⊎◌, ◌↔◌, ◌&&◌, inl, inr, Bool, true, false, not, cond, List, [], ◌∷◌, ◌++◌, length, get_or, take, refl, ap, sym, ◌∙◌, subst, arith, Contains, Less}
 use Rattle.std.specs.List.{list_any}
-use Rattle.std.specs.Ordering.{ordering_reverse}
 use Rattle.std.specs.List.Sorted.{IsStrictlySortedBy}
-use Rattle.std.specs.declared.cmp.Ordering.{Ordering}
-use Rattle.std.specs.declared.cmp.Ordering.TheVariants.{Equal, Greater}
 use Rattle.std.proofs.lemmas.Bool.{false≢true, and_parts, and_from, cases_order, not_from_false, false_from_ne_true}
 use Rattle.std.proofs.lemmas.Map.Keys.{Less-from_sorted}
 use Rattle.cqa_value.specs.declared.value.Value.{Value}
 use Rattle.cqa_value.specs.Values.{row_eq, row_decides}
-use Rattle.cqa_value.proofs.Words.{clash_not}
+use Rattle.cqa_value.proofs.Words.{clash_not, not_less}
 use Rattle.cqa_model.specs.Database.{key_of, block_cmp}
 use Rattle.cqa_model.specs.Repairs.{SharesKey}
 use Rattle.cqa_model.proofs.BlockOrder.{grouped, shares-from_key, key-from_shares, block_total}
@@ -39,18 +36,13 @@ same-bool true false f g = sym (f refl)
 same-bool false true f g = g refl
 same-bool false false f g = refl
 
-turned : (o : Ordering) → o ≡ ordering_reverse o → o ≡ Less → ⊥
-turned Less e l = cc
-turned Equal e l = cc
-turned Greater e l = cc
-
 module _ (key : List ℕ) (rows : List (List Value)) (order : IsStrictlySortedBy (block_cmp key) rows) (place : ℕ) (there : place < length rows) where
   abbrev x : List Value
   x = get_or rows place []
 
   -- rows at two places are two rows
   apart : (i j : ℕ) → i < j → j < length rows → get_or rows i [] ≡ get_or rows j [] → ⊥
-  apart i j l lj e = turned (block_cmp key (get_or rows i []) (get_or rows i [])) ((block_total key).antisymm (get_or rows i []) (get_or rows i []))
+  apart i j l lj e = not_less (block_cmp key) (block_total key) (get_or rows i [])
       (subst (λ y. block_cmp key (get_or rows i []) y ≡ Less) (sym e) (Less-from_sorted (block_cmp key) rows i j [] order l lj))
 
   is_rival : (i : ℕ) → i < length rows → SharesKey key x (get_or rows i []) → (x ≡ get_or rows i [] → ⊥) → is_contested key rows x ≡ true

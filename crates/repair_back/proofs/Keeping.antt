@@ -1,20 +1,23 @@
 -- The rows that are kept of all tables, as a repair of the database.
-use Rattle.std.proofs.Common.{◌≡◌, ℕ, zero, suc, ◌<◌, ◌⊎◌, inl, inr, Bool, List, [], ◌∷◌, length, get_or, refl, ap, sym, subst, arith, Contains}
+use Rattle.std.proofs.Common.{◌≡◌, ℕ, zero, suc, ◌<◌, Bool, List, [], ◌∷◌, length, get_or, refl, sym, subst, Contains}
 use native.Mathlib.Decide.{ℕ_discrete}
 use Rattle.std.proofs.lemmas.List.{length-map}
 use Rattle.std.proofs.lemmas.List.Elements.{Contains-get_or}
 use Rattle.cqa_value.specs.declared.value.Value.{Value}
 use Rattle.cqa_model.specs.declared.query.Query.{Query}
-use Rattle.cqa_model.specs.Database.{Table, stored, keys_of}
+use Rattle.cqa_model.specs.Database.{Table, stored}
 use Rattle.cqa_model.specs.Repairs.{IsTableRepair, IsRepair}
-use Rattle.cqa_model.specs.Query.{atom_at, atom_key, rows_of, row_at, FitsDatabase}
+use Rattle.cqa_model.specs.Query.{atom_at, rows_of, row_at, FitsDatabase}
 use Rattle.cqa_model.specs.Plan.{Placed}
 use Rattle.cqa_model.specs.Partial.{IsPartial}
-use Rattle.cqa_model.proofs.Classic.{choose}
+use Rattle.cqa_model.proofs.Classic.{choose, dec_some}
+use Rattle.cqa_model.proofs.Values.{dec_by}
 use Rattle.cqa_model.proofs.Existence.{last_rows, last_rows-repair}
 use Rattle.cqa_model.proofs.Views.{view-in_range}
-use Rattle.repair_back.specs.Flags.{kept_of, kept_tables, flags_of, AreRepairFlags}
+use Rattle.repair_back.specs.Flags.{kept_of, kept_tables, flags_at, flags_of, tables_in, AreTablesOf, AreTableFlags, AreRepairFlags}
 use Rattle.repair_back.proofs.Choosing.{choice-repair, kept_of-out}
+use Rattle.repair_back.proofs.Starting.{table-in, query-tables, table-flags}
+use Rattle.table_blocks.specs.Tables.{rows_at, key_at}
 
 -- what is kept of one table
 pub kept-table : (tables : List (List (List Value))) (flags : List (List Bool)) (t : ℕ) → get_or (kept_tables tables flags) t [] ≡ kept_of (get_or tables t []) (get_or flags t [])
@@ -52,49 +55,39 @@ partial-same q row taken r s w same h = record {
   extends = h.extends;
 }
 
-module _ (q : Query) (db : List Table) (fits : FitsDatabase q db) (flags : List (List Bool)) (chosen : AreRepairFlags q db flags) where
-  -- there is a repair of the whole database that keeps these rows of the query's tables
-  abbrev pub Shown : Type 0
-  Shown = (r : List (List (List Value))) × IsRepair db r × ((F : ℕ) → F < length q.atoms → rows_of q r F ≡ rows_of q (kept_tables (stored db) flags) F)
+-- whether a table is listed
+dec_listed : (tables : List ℕ) (t : ℕ) → Dec (Contains tables t)
+dec_listed tables t = dec_by (λ h. subst (Contains tables) h.2 h.1) (λ m. (t, m, refl)) (dec_some (λ u. u ≡ t) (λ u. ℕ_discrete u t) tables)
+
+module _ (db : List Table) (tables : List ℕ) (are : AreTablesOf db tables) (flags : List (List Bool)) (chosen : AreTableFlags db tables flags) where
+  -- there is a repair of the whole database that keeps these rows of the tables
+  abbrev pub ShownOver : Type 0
+  ShownOver = (r : List (List (List Value))) × IsRepair db r × ((t : ℕ) → Contains tables t → get_or r t [] ≡ get_or (kept_tables (stored db) flags) t [])
 
   abbrev Is : ℕ → List (List Value) → Type 0
-  Is t rows = IsTableRepair (get_or (keys_of db) t []) (get_or (stored db) t []) rows × ((F : ℕ) → F < length q.atoms → (atom_at q F).table ≡ t → rows ≡ rows_of q (kept_tables (stored db) flags) F)
-
-  of_atom : (F : ℕ) → F < length q.atoms → Is (atom_at q F).table (rows_of q (kept_tables (stored db) flags) F)
-  of_atom F l = (
-    subst (λ rows. IsTableRepair (get_or (keys_of db) (atom_at q F).table []) (rows_of q (stored db) F) rows) (sym (kept-atom q db flags F))
-        (subst (λ key. IsTableRepair key (rows_of q (stored db) F) (kept_of (rows_of q (stored db) F) (flags_of q flags F))) (fits.keyed F l)
-        (choice-repair (atom_key q F) (rows_of q (stored db) F) (flags_of q flags F) (chosen.each F l))),
-    λ G lG e. ap (λ H. rows_of q (kept_tables (stored db) flags) H) (q.kept.apart F G l lG (sym e)),
-  )
-
-  -- an atom of the table, if there is one
-  atom_of : (t n : ℕ) → ((F : ℕ) × (F < n) × ((atom_at q F).table ≡ t)) ⊎ ((F : ℕ) → F < n → (atom_at q F).table ≡ t → ⊥)
-  atom_of t zero = inr (λ F l e. omega (arith, l))
-  atom_of t (suc n) = go (ℕ_discrete (atom_at q n).table t) (atom_of t n)
-    where
-      go : Dec ((atom_at q n).table ≡ t) → ((F : ℕ) × (F < n) × ((atom_at q F).table ≡ t)) ⊎ ((F : ℕ) → F < n → (atom_at q F).table ≡ t → ⊥) →
-          ((F : ℕ) × (F < suc n) × ((atom_at q F).table ≡ t)) ⊎ ((F : ℕ) → F < suc n → (atom_at q F).table ≡ t → ⊥)
-      go (yes e) ih = inl (n, omega arith, e)
-      go (no ne) (inl (F, l, e)) = inl (F, omega (arith, l), e)
-      go (no ne) (inr none) = inr (λ F l e. last F l e (ℕ_discrete F n))
-        where
-          last : (F : ℕ) → F < suc n → (atom_at q F).table ≡ t → Dec (F ≡ n) → ⊥
-          last F l e (yes f) = ne (subst (λ G. (atom_at q G).table ≡ t) f e)
-          last F l e (no f) = none F (omega (arith, l, f)) e
+  Is t rows = IsTableRepair (key_at db t) (rows_at db t) rows × (Contains tables t → rows ≡ get_or (kept_tables (stored db) flags) t [])
 
   of_table : (t : ℕ) → (rows : List (List Value)) × Is t rows
-  of_table t = elim (atom_of t (length q.atoms)) [
-    | inl (F, l, e) ↦ (rows_of q (kept_tables (stored db) flags) F, subst (λ u. Is u (rows_of q (kept_tables (stored db) flags) F)) e (of_atom F l))
-    | inr none ↦ (last_rows (get_or (keys_of db) t []) (get_or (stored db) t []), (last_rows-repair (get_or (keys_of db) t []) (get_or (stored db) t []), λ F l e. absurd (none F l e)))
-  ]
-
-  pub shown : Shown
-  shown = make (choose [] (length (stored db)) Is (λ t l. of_table t))
+  of_table t = go (dec_listed tables t)
     where
-      make : (r : List (List (List Value))) × (length r ≡ length (stored db)) × ((t : ℕ) → t < length (stored db) → Is t (get_or r t [])) → Shown
+      go : Dec (Contains tables t) → (rows : List (List Value)) × Is t rows
+      go (yes m) = (
+        get_or (kept_tables (stored db) flags) t [],
+        (subst (λ rows. IsTableRepair (key_at db t) (rows_at db t) rows) (sym (kept-table (stored db) flags t)) (choice-repair (key_at db t) (rows_at db t) (flags_at flags t) (chosen.each t m)), λ k. refl),
+      )
+      go (no n) = (last_rows (key_at db t) (rows_at db t), (last_rows-repair (key_at db t) (rows_at db t), λ m. absurd (n m)))
+
+  pub shown-over : ShownOver
+  shown-over = make (choose [] (length (stored db)) Is (λ t l. of_table t))
+    where
+      make : (r : List (List (List Value))) × (length r ≡ length (stored db)) × ((t : ℕ) → t < length (stored db) → Is t (get_or r t [])) → ShownOver
       make (r, size, each) = (
         r,
         record { size = size; each = λ t l. (each t l).0 },
-        λ F l. (each (atom_at q F).table (subst (λ n. (atom_at q F).table < n) (sym (length-map db (λ (table : Table). table.rows))) (fits.there F l))).1 F l refl,
+        λ t m. (each t (subst (λ n. t < n) (sym (length-map db (λ (table : Table). table.rows))) (are.there t m))).1 m,
       )
+
+module _ (q : Query) (db : List Table) (fits : FitsDatabase q db) (flags : List (List Bool)) (chosen : AreRepairFlags q db flags) where
+  -- the same for the tables of a query
+  pub shown : (r : List (List (List Value))) × IsRepair db r × ((F : ℕ) → F < length q.atoms → rows_of q r F ≡ rows_of q (kept_tables (stored db) flags) F)
+  shown = let s = shown-over db (tables_in q) (query-tables q db fits) flags (table-flags q db fits flags chosen) in (s.0, s.1, λ F l. s.2 (atom_at q F).table (table-in q db fits F l))

@@ -1,6 +1,6 @@
 -- The names of the rows whose flags are set, and what they are the names of.
-use Rattle.std.proofs.Common.{◌≡◌, ℕ, zero, suc, ◌+◌, ◌<◌, ◌≤◌, inl, inr, Bool, true, false, cond, List, [], ◌∷◌, ◌++◌, length, get_or, take, map, refl, ap, sym, ◌∙◌, subst, arith, Contains, le_of_suc-le-suc, Less}
-use Rattle.std.proofs.lemmas.List.{take_more, flat_map_more, get_or_default, take_all}
+use Rattle.std.proofs.Common.{◌≡◌, ℕ, zero, suc, ◌+◌, ◌<◌, ◌≤◌, inl, inr, Bool, true, false, cond, List, [], ◌∷◌, ◌++◌, length, get_or, take, map, flat_map, refl, ap, sym, ◌∙◌, subst, arith, Contains, le_of_suc-le-suc, Less}
+use Rattle.std.proofs.lemmas.List.{take_more, flat_map_more, take_all}
 use Rattle.std.specs.List.{AllByRecursion}
 use Rattle.std.specs.List.Sorted.{IsStrictlySortedBy}
 use Rattle.std.specs.Ordering.{nat_cmp}
@@ -12,13 +12,14 @@ use Rattle.cqa_model.specs.declared.query.RowId.{RowId}
 use Rattle.cqa_model.specs.Database.{Table, stored}
 use Rattle.cqa_model.specs.Query.{atom_at, rows_of, FitsDatabase}
 use Rattle.cqa_model.proofs.Classic.{mem-head, mem-tail, mem-nil, mem-cases}
-use Rattle.repair_back.specs.Flags.{IsFlagged, kept_of, kept_tables, flags_of, places_from, AreRepairFlags}
-use Rattle.repair_back.specs.Results.{names_kept, AreKept, AreStored}
-use Rattle.repair_back.proofs.Keeping.{kept-atom}
-use Rattle.cqa_model.specs.Shape.{nth_atom}
+use Rattle.cqa_model.specs.Blocks.{IsPick}
+use Rattle.repair_back.specs.Flags.{IsFlagged, kept_of, kept_tables, flags_at, tables_in, places_from, AreTablesOf, AreTableFlags}
+use Rattle.repair_back.specs.Results.{names_kept, AreKept, AreKeptOver, AreStored, IsRepairOf, IsRepairOver, ArePicks, AreTablePicks, IsTrueName}
+use Rattle.repair_back.proofs.Keeping.{kept-table}
+use Rattle.repair_back.proofs.Starting.{table-in}
 use Rattle.std.proofs.lemmas.List.Elements.{Contains-append_cases}
 use Rattle.repair_back.proofs.Choosing.{flag-there}
-use Rattle.table_blocks.specs.Tables.{rows_in, names_in}
+use Rattle.table_blocks.specs.Tables.{rows_at, rows_in, names_in}
 
 -- one flag more
 places-more : (n : ℕ) (bs : List Bool) (b : Bool) → places_from n (bs ++ b ∷ []) ≡ places_from n bs ++ cond b ((n + length bs) ∷ []) []
@@ -65,16 +66,16 @@ module _ (table : ℕ) (old : List RowId) (flags : List Bool) (place : ℕ) (l :
 pub named-all : (table : ℕ) (old : List RowId) (flags : List Bool) (place : ℕ) (names : List RowId) → length flags ≤ place → names ≡ old ++ names_in table (places_from 0 (take place flags)) → names ≡ old ++ names_in table (places_from 0 flags)
 named-all table old flags place names l h = h ∙ ap (λ bs. old ++ names_in table (places_from 0 bs)) (take_all place flags l)
 
--- one atom more
-pub atoms-more : (atoms : List Atom) (flags : List (List Bool)) (old names new : List RowId) (i : ℕ) (atom : Atom) → i < length atoms → atom ≡ get_or atoms i atom →
-    names ≡ old ++ names_kept (take i atoms) flags → (f : List Bool) → f ≡ get_or flags atom.table [] → new ≡ names ++ names_in atom.table (places_from 0 f) → new ≡ old ++ names_kept (take (i + 1) atoms) flags
-atoms-more atoms flags old names new i atom l is h f e n =
-    n ∙ ap (λ ns. ns ++ names_in atom.table (places_from 0 f)) h ∙ ap (λ g. (old ++ names_kept (take i atoms) flags) ++ names_in atom.table (places_from 0 g)) e
-    ∙ flat_map_more (λ (a : Atom). names_in a.table (places_from 0 (get_or flags a.table []))) old (take i atoms) atom
-    ∙ ap (λ as'. old ++ names_kept as' flags) (sym (take_more atoms i atom l ∙ ap (λ a. take i atoms ++ a ∷ []) (sym is)))
+-- one table more
+pub tables-more : (tables : List ℕ) (flags : List (List Bool)) (old names new : List RowId) (i t : ℕ) → i < length tables → t ≡ get_or tables i 0 →
+    names ≡ old ++ names_kept (take i tables) flags → (f : List Bool) → f ≡ flags_at flags t → new ≡ names ++ names_in t (places_from 0 f) → new ≡ old ++ names_kept (take (i + 1) tables) flags
+tables-more tables flags old names new i t l is h f e n =
+    n ∙ ap (λ ns. ns ++ names_in t (places_from 0 f)) h ∙ ap (λ g. (old ++ names_kept (take i tables) flags) ++ names_in t (places_from 0 g)) e
+    ∙ flat_map_more (λ u. names_in u (places_from 0 (flags_at flags u))) old (take i tables) t
+    ∙ ap (λ ts. old ++ names_kept ts flags) (sym (take_more tables i 0 l ∙ ap (λ u. take i tables ++ u ∷ []) (sym is)))
 
-pub atoms-all : (atoms : List Atom) (flags : List (List Bool)) (old names : List RowId) (i : ℕ) → length atoms ≤ i → names ≡ old ++ names_kept (take i atoms) flags → names ≡ old ++ names_kept atoms flags
-atoms-all atoms flags old names i l h = h ∙ ap (λ as'. old ++ names_kept as' flags) (take_all i atoms l)
+pub tables-all : (tables : List ℕ) (flags : List (List Bool)) (old names : List RowId) (i : ℕ) → length tables ≤ i → names ≡ old ++ names_kept (take i tables) flags → names ≡ old ++ names_kept tables flags
+tables-all tables flags old names i l h = h ∙ ap (λ ts. old ++ names_kept ts flags) (take_all i tables l)
 
 -- places of flags
 pub places-flagged : (n : ℕ) (bs : List Bool) (p : ℕ) → Contains (places_from n bs) p → (k : ℕ) × (p ≡ n + k) × IsFlagged bs k
@@ -134,55 +135,69 @@ in_map table (p ∷ ps) name m = elim (mem-cases name (record { table = table; p
   | inr n ↦ (let r = in_map table ps name n in (r.0, mem-tail r.0 p ps r.1, r.2))
 ]
 
-pub name-flagged : (atoms : List Atom) (flags : List (List Bool)) (name : RowId) → Contains (names_kept atoms flags) name → IsFlagged (get_or flags name.table []) name.place
+pub name-flagged : (tables : List ℕ) (flags : List (List Bool)) (name : RowId) → Contains (names_kept tables flags) name → IsFlagged (flags_at flags name.table) name.place
 name-flagged [] flags name m = absurd (mem-nil name m)
-name-flagged (atom ∷ atoms) flags name m = elim (Contains-append_cases (names_in atom.table (places_from 0 (get_or flags atom.table []))) (names_kept atoms flags) name m) [
-  | inl h ↦ here (in_map atom.table (places_from 0 (get_or flags atom.table [])) name h)
-  | inr h ↦ name-flagged atoms flags name h
+name-flagged (t ∷ tables) flags name m = elim (Contains-append_cases (names_in t (places_from 0 (flags_at flags t))) (names_kept tables flags) name m) [
+  | inl h ↦ here (in_map t (places_from 0 (flags_at flags t)) name h)
+  | inr h ↦ name-flagged tables flags name h
 ]
   where
-    here : ((p : ℕ) × Contains (places_from 0 (get_or flags atom.table [])) p × (name ≡ record { table = atom.table; place = p })) → IsFlagged (get_or flags name.table []) name.place
+    here : ((p : ℕ) × Contains (places_from 0 (flags_at flags t)) p × (name ≡ record { table = t; place = p })) → IsFlagged (flags_at flags name.table) name.place
     here (p, m, e) =
-        let k = places-flagged 0 (get_or flags atom.table []) p m in
+        let k = places-flagged 0 (flags_at flags t) p m in
         let z : p ≡ k.0 = (let f = k.1 in omega (arith, f)) in
-        subst (λ n. IsFlagged (get_or flags n.table []) n.place) (sym e) (subst (λ r. IsFlagged (get_or flags atom.table []) r) (sym z) k.2)
+        subst (λ n. IsFlagged (flags_at flags n.table) n.place) (sym e) (subst (λ r. IsFlagged (flags_at flags t) r) (sym z) k.2)
 
--- and its table is an atom's
-pub name-used : (atoms : List Atom) (flags : List (List Bool)) (name : RowId) → Contains (names_kept atoms flags) name → (i : ℕ) × (i < length atoms) × ((nth_atom atoms i).table ≡ name.table)
+-- and its table is one of these
+pub name-used : (tables : List ℕ) (flags : List (List Bool)) (name : RowId) → Contains (names_kept tables flags) name → Contains tables name.table
 name-used [] flags name m = absurd (mem-nil name m)
-name-used (atom ∷ atoms) flags name m = elim (Contains-append_cases (names_in atom.table (places_from 0 (get_or flags atom.table []))) (names_kept atoms flags) name m) [
-  | inl h ↦ (let r = in_map atom.table (places_from 0 (get_or flags atom.table [])) name h in (0, omega arith, ap (λ (n : RowId). n.table) (sym r.2)))
-  | inr h ↦ later (name-used atoms flags name h)
+name-used (t ∷ tables) flags name m = elim (Contains-append_cases (names_in t (places_from 0 (flags_at flags t))) (names_kept tables flags) name m) [
+  | inl h ↦ (let r = in_map t (places_from 0 (flags_at flags t)) name h in subst (Contains (t ∷ tables)) (ap (λ (n : RowId). n.table) (sym r.2)) (mem-head t tables))
+  | inr h ↦ mem-tail name.table t tables (name-used tables flags name h)
 ]
-  where
-    later : ((i : ℕ) × (i < length atoms) × ((nth_atom atoms i).table ≡ name.table)) → (i : ℕ) × (i < length (atom ∷ atoms)) × ((nth_atom (atom ∷ atoms) i).table ≡ name.table)
-    later (i, l, e) = (suc i, omega (arith, l), e)
 
 -- the names of a choice are those of stored rows
-pub named-stored : (q : Query) (db : List Table) → FitsDatabase q db → (flags : List (List Bool)) → AreRepairFlags q db flags → AreStored db (names_kept q.atoms flags)
-named-stored q db fits flags chosen name m = go (name-used q.atoms flags name m)
-  where
-    go : ((i : ℕ) × (i < length q.atoms) × ((atom_at q i).table ≡ name.table)) → (name.table < length db) × (name.place < length (get_or (stored db) name.table []))
-    go (i, l, e) = (
-      subst (λ t. t < length db) e (fits.there i l),
-      subst (λ t. name.place < length (get_or (stored db) t [])) e
-          (subst (λ n. name.place < n) (chosen.each i l).size (flag-there (flags_of q flags i) name.place
-          (subst (λ t. IsFlagged (get_or flags t []) name.place) (sym e) (name-flagged q.atoms flags name m)))),
+pub named-stored : (db : List Table) (tables : List ℕ) → AreTablesOf db tables → (flags : List (List Bool)) → AreTableFlags db tables flags → AreStored db (names_kept tables flags)
+named-stored db tables are flags chosen name m =
+    let used = name-used tables flags name m in (
+      are.there name.table used,
+      subst (λ n. name.place < n) (chosen.each name.table used).size (flag-there (flags_at flags name.table) name.place (name-flagged tables flags name m)),
     )
 
 -- the names of a choice are those of a repair
-pub kept-named : (q : Query) (db : List Table) (flags : List (List Bool)) → AreRepairFlags q db flags → (r : List (List (List Value))) →
-    ((F : ℕ) → F < length q.atoms → rows_of q r F ≡ rows_of q (kept_tables (stored db) flags) F) → AreKept q db (names_kept q.atoms flags) r
-kept-named q db flags chosen r same = record {
-  places = λ t. places_from 0 (get_or flags t []);
+pub kept-named : (db : List Table) (tables : List ℕ) (flags : List (List Bool)) → AreTableFlags db tables flags → (r : List (List (List Value))) →
+    ((t : ℕ) → Contains tables t → get_or r t [] ≡ get_or (kept_tables (stored db) flags) t []) → AreKeptOver db tables (names_kept tables flags) r
+kept-named db tables flags chosen r same = record {
+  places = λ t. places_from 0 (flags_at flags t);
   are = refl;
-  rises = λ F l. places-rise 0 (flags_of q flags F);
-  there = λ F l p m. within F l p (places-flagged 0 (flags_of q flags F) p m);
-  rows = λ F l. same F l ∙ kept-atom q db flags F ∙ kept-from [] (rows_of q (stored db) F) (flags_of q flags F) (let size = (chosen.each F l).size in omega (arith, size));
+  rises = λ t m. places-rise 0 (flags_at flags t);
+  there = λ t m p k. within t m p (places-flagged 0 (flags_at flags t) p k);
+  rows = λ t m. same t m ∙ kept-table (stored db) flags t ∙ kept-from [] (rows_at db t) (flags_at flags t) (let size = (chosen.each t m).size in omega (arith, size));
 }
   where
-    within : (F : ℕ) → F < length q.atoms → (p : ℕ) → ((k : ℕ) × (p ≡ 0 + k) × IsFlagged (flags_of q flags F) k) → p < length (rows_of q (stored db) F)
-    within F l p (k, e, f) = let t = flag-there (flags_of q flags F) k f in let size = (chosen.each F l).size in omega (arith, e, t, size)
+    within : (t : ℕ) → Contains tables t → (p : ℕ) → ((k : ℕ) × (p ≡ 0 + k) × IsFlagged (flags_at flags t) k) → p < length (rows_at db t)
+    within t m p (k, e, f) = let l = flag-there (flags_at flags t) k f in let size = (chosen.each t m).size in omega (arith, e, l, size)
 
-pub atom-read : (atoms : List Atom) (i : ℕ) (atom : Atom) → i < length atoms → atom ≡ get_or atoms i atom → atom ≡ nth_atom atoms i
-atom-read atoms i atom l e = e ∙ get_or_default atoms i atom _ l
+-- ---- the names of rows of a query's tables
+
+names-over : (atoms : List Atom) (places : ℕ → List ℕ) → flat_map (λ t. names_in t (places t)) (map (λ (a : Atom). a.table) atoms) ≡ flat_map (λ (a : Atom). names_in a.table (places a.table)) atoms
+names-over [] places = refl
+names-over (a ∷ atoms) places = ap (λ ns. names_in a.table (places a.table) ++ ns) (names-over atoms places)
+
+module _ (q : Query) (db : List Table) (fits : FitsDatabase q db) (names : List RowId) where
+  pub kept-of : (kept : List (List (List Value))) → AreKeptOver db (tables_in q) names kept → AreKept q db names kept
+  kept-of kept h = record {
+    places = h.places;
+    are = h.are ∙ names-over q.atoms h.places;
+    rises = λ F l. h.rises (atom_at q F).table (table-in q db fits F l);
+    there = λ F l. h.there (atom_at q F).table (table-in q db fits F l);
+    rows = λ F l. h.rows (atom_at q F).table (table-in q db fits F l);
+  }
+
+  pub repair-of : IsRepairOver db (tables_in q) names → IsRepairOf q db names
+  repair-of (kept, r, k) = (kept, r, kept-of kept k)
+
+  pub picks-of : (listed : List RowId) (model : List Bool) → AreTablePicks db (tables_in q) listed model names → ArePicks q db listed model names
+  picks-of listed model h F l p m =
+      subst (λ key. IsPick key (rows_of q (stored db) F) (λ i. IsTrueName listed model (record { table = (atom_at q F).table; place = i })) p) (sym (fits.keyed F l))
+      (h (atom_at q F).table (table-in q db fits F l) p m)

@@ -1,23 +1,34 @@
 -- Repairs as names of rows: one row of each block of each of a query's tables.
-use Rattle.std.specs.Prelude.{◌≡◌, ℕ, ◌<◌, ◌&&◌, Bool, true, not, List, [], length, map, flat_map, slice_get, slice_index_or, Some, Contains}
+use Rattle.std.specs.Prelude.{◌≡◌, ℕ, ◌<◌, ◌&&◌, Bool, true, not, List, [], length, flat_map, slice_get, slice_index_or, Some, Contains}
 use Rattle.std.specs.List.{list_any, filter}
 use Rattle.std.specs.Ordering.{nat_cmp}
 use Rattle.std.specs.List.Sorted.{IsStrictlySortedBy}
 use Rattle.cqa_value.specs.declared.value.Value.{Value}
 use Rattle.cqa_value.specs.Values.{row_eq}
 use Rattle.cqa_model.specs.declared.query.Query.{Query}
-use Rattle.cqa_model.specs.declared.query.Atom.{Atom}
 use Rattle.cqa_model.specs.declared.query.RowId.{RowId}
 use Rattle.cqa_model.specs.Database.{Table, key_of, keys_of, stored}
 use Rattle.cqa_model.specs.Repairs.{IsRepair}
 use Rattle.cqa_model.specs.Blocks.{IsPick}
 use Rattle.cqa_model.specs.Query.{atom_at, atom_key, rows_of, IsWitness}
-use Rattle.repair_back.specs.Flags.{places_from}
-use Rattle.table_blocks.specs.Tables.{rows_in, names_in}
+use Rattle.repair_back.specs.Flags.{flags_at, places_from}
+use Rattle.table_blocks.specs.Tables.{rows_at, key_at, rows_in, names_in}
 
--- the names of the rows whose flags are set, atom by atom
-abbrev pub names_kept : List Atom → List (List Bool) → List RowId
-names_kept atoms flags = flat_map (λ atom. names_in atom.table (places_from 0 (slice_index_or flags atom.table []))) atoms
+-- the names of the rows whose flags are set, table by table
+abbrev pub names_kept : List ℕ → List (List Bool) → List RowId
+names_kept tables flags = flat_map (λ t. names_in t (places_from 0 (flags_at flags t))) tables
+
+-- the names are those of the rows that are kept of some tables, by these tables and then in block order
+pub record AreKeptOver (db : List Table) (tables : List ℕ) (names : List RowId) (kept : List (List (List Value))) : Type 0 where
+  pub places : ℕ → List ℕ
+  pub are : names ≡ flat_map (λ t. names_in t (places t)) tables
+  pub rises : (t : ℕ) → Contains tables t → IsStrictlySortedBy nat_cmp (places t)
+  pub there : (t : ℕ) → Contains tables t → (p : ℕ) → Contains (places t) p → p < length (rows_at db t)
+  pub rows : (t : ℕ) → Contains tables t → slice_index_or kept t [] ≡ rows_in (rows_at db t) (places t)
+
+-- a repair of the database keeps these rows of some tables
+abbrev pub IsRepairOver : List Table → List ℕ → List RowId → Type 0
+IsRepairOver db tables names = (kept : List (List (List Value))) × IsRepair db kept × AreKeptOver db tables names kept
 
 -- the names are those of the rows that are kept of the query's tables, by atoms and then in block order
 pub record AreKept (q : Query) (db : List Table) (names : List RowId) (kept : List (List (List Value))) : Type 0 where
@@ -43,6 +54,11 @@ IsTrueName names model name = (k : ℕ) × (slice_get names k ≡ Some name) × 
 abbrev pub ArePicks : Query → List Table → List RowId → List Bool → List RowId → Type 0
 ArePicks q db listed model names = (F : ℕ) → F < length q.atoms → (p : ℕ) → Contains names (record { table = (atom_at q F).table; place = p }) →
     IsPick (atom_key q F) (rows_of q (stored db) F) (λ i. IsTrueName listed model (record { table = (atom_at q F).table; place = i })) p
+
+-- the same for the names of rows of some tables
+abbrev pub AreTablePicks : List Table → List ℕ → List RowId → List Bool → List RowId → Type 0
+AreTablePicks db tables listed model names = (t : ℕ) → Contains tables t → (p : ℕ) → Contains names (record { table = t; place = p }) →
+    IsPick (key_at db t) (rows_at db t) (λ i. IsTrueName listed model (record { table = t; place = i })) p
 
 -- two rows are of one block
 abbrev pub is_of_block : List ℕ → List Value → List Value → Bool

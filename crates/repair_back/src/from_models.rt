@@ -2,17 +2,17 @@
 
 ghost use Rattle.std.specs.Prelude.{◌≡◌, ◌<◌, ◌⊎◌, ◌↔◌, ℕ, [], IfOk, length, slice_index_or, Contains};
 ghost use Rattle.cqa_model.specs.declared.query.RowId.{RowId as Name};
-ghost use Rattle.repair_back.specs.Flags.{IsFlagged, AreBlank};
-ghost use Rattle.repair_back.specs.Results.{IsTrueName, IsRepairOf, ArePicks, AreStored};
+ghost use Rattle.repair_back.specs.Flags.{IsFlagged, AreTablesOf, AreBlank};
+ghost use Rattle.repair_back.specs.Results.{IsTrueName, IsRepairOf, IsRepairOver, ArePicks, AreTablePicks, AreStored};
 
+use crate::atoms::tables_of;
 use crate::choice::Choice;
 use crate::kept::{blank, settle_all};
 use crate::repair::{Repair, named};
 use cqa_model::RowId;
 use cqa_value::NoMemory;
-use plan_rows::Setting;
 use std::alloc::Global;
-use table_blocks::Bound;
+use table_blocks::{Bound, Database};
 
 /// Sets the flags of the rows that are listed with `true`.
 fn mark(kept: &mut [Choice], listed: &[RowId], model: &[bool])
@@ -33,21 +33,50 @@ fn mark(kept: &mut [Choice], listed: &[RowId], model: &[bool])
 
 /// The same, where no flag is set yet.
 fn picked(
-    setting: &Setting<'_>,
+    alloc: Global,
+    db: &Database,
+    tables: &[u32],
     listed: &[RowId],
     model: &[bool],
     kept: &mut [Choice],
 ) -> Result<Repair, NoMemory>
+    requires tables { AreTablesOf db.now tables.now }
     requires long { length listed.now ≡ length model.now }
-    requires there { AreStored setting.now.bound.now.db.now listed.now }
-    requires blank { AreBlank setting.now.bound.now.query.now setting.now.bound.now.db.now kept.old }
-    ensures repair { IfOk result (λ repair. IsRepairOf setting.now.bound.now.query.now setting.now.bound.now.db.now repair.kept) }
-    ensures picks { IfOk result (λ repair. ArePicks setting.now.bound.now.query.now setting.now.bound.now.db.now listed.now model.now repair.kept) }
-    ensures stored { IfOk result (λ repair. AreStored setting.now.bound.now.db.now repair.kept) }
+    requires there { AreStored db.now listed.now }
+    requires blank { AreBlank db.now tables.now kept.old }
+    ensures repair { IfOk result (λ repair. IsRepairOver db.now tables.now repair.kept) }
+    ensures picks { IfOk result (λ repair. AreTablePicks db.now tables.now listed.now model.now repair.kept) }
+    ensures stored { IfOk result (λ repair. AreStored db.now repair.kept) }
 {
     mark(kept, listed, model);
-    settle_all(setting, kept);
-    named(setting, kept)
+    settle_all(db, tables, kept);
+    named(alloc, db, tables, kept)
+}
+
+/// The repair of some tables that a model gives: of each block the first row that is listed with `true`, or else the first
+/// row, by the tables as they come and then in block order.
+///
+/// # Errors
+///
+/// `NoMemory` where memory is refused.
+pub fn tables_from_model(
+    alloc: Global,
+    db: &Database,
+    tables: &[u32],
+    listed: &[RowId],
+    model: &[bool],
+) -> Result<Repair, NoMemory>
+    requires tables { AreTablesOf db.now tables.now }
+    requires long { length listed.now ≡ length model.now }
+    requires there { AreStored db.now listed.now }
+    ensures repair { IfOk result (λ repair. IsRepairOver db.now tables.now repair.kept) }
+    ensures picks { IfOk result (λ repair. AreTablePicks db.now tables.now listed.now model.now repair.kept) }
+    ensures stored { IfOk result (λ repair. AreStored db.now repair.kept) }
+{
+    let mut kept = blank(alloc, db, tables)?;
+    let found = picked(alloc, db, tables, listed, model, kept.as_mut_slice());
+    drop(kept);
+    found
 }
 
 /// The repair that a model gives: of each block of the query's tables the first row that is listed with `true`, or else
@@ -69,13 +98,8 @@ pub fn from_model(
     ensures picks { IfOk result (λ repair. ArePicks bound.now.query.now bound.now.db.now listed.now model.now repair.kept) }
     ensures stored { IfOk result (λ repair. AreStored bound.now.db.now repair.kept) }
 {
-    let setting = Setting {
-        alloc,
-        bound,
-        paths: &[],
-    };
-    let mut kept = blank(&setting)?;
-    let found = picked(&setting, listed, model, kept.as_mut_slice());
-    drop(kept);
+    let tables = tables_of(alloc, bound.query)?;
+    let found = tables_from_model(alloc, bound.db, tables.as_slice(), listed, model);
+    drop(tables);
     found
 }

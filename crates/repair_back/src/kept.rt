@@ -1,50 +1,55 @@
-//! What is kept of all tables of a query, at the start.
+//! What is kept of some tables, at the start.
 
-ghost use Rattle.std.specs.Prelude.{◌≡◌, ◌≤◌, ◌<◌, ℕ, IfOk, OnOk, length, [], slice_index_or};
-ghost use Rattle.cqa_model.specs.Database.{stored};
-ghost use Rattle.cqa_model.specs.Query.{atom_at, atom_key, rows_of};
-ghost use Rattle.repair_back.specs.Flags.{IsFlagged, flags_of, AreLong, AreBlank, AreRepairFlags};
+ghost use Rattle.std.specs.Prelude.{◌≡◌, ◌<◌, ℕ, IfOk, OnOk, Contains, length, []};
 ghost use Rattle.cqa_model.specs.Blocks.{IsPick};
+ghost use Rattle.repair_back.specs.Flags.{IsFlagged, flags_at, AreTablesOf, AreLong, AreBlank, AreTableFlags};
+ghost use Rattle.table_blocks.specs.Tables.{rows_at, key_at};
 
-use crate::atoms::is_used;
 use crate::choice::Choice;
 use cqa_value::NoMemory;
-use join_access::table_of;
-use plan_rows::{Setting, key_columns};
+use std::alloc::Global;
+use table_blocks::Database;
 
-/// How many rows of a table count: all where it is one of the query's, and else none.
-fn count_in(setting: &Setting<'_>, table: u32) -> usize
-    requires { table < length setting.now.bound.now.db.now }
-    ensures { (F : ℕ) → F < length setting.now.bound.now.query.now.atoms → (atom_at setting.now.bound.now.query.now F).table ≡ table → result ≡ length (rows_of setting.now.bound.now.query.now (stored setting.now.bound.now.db.now) F) }
+/// How many rows of a table count: all where it is one of these, and else none.
+fn count_in(db: &Database, tables: &[u32], table: u32) -> usize
+    requires { table < length db.now }
+    ensures { Contains tables.now table → result ≡ length (rows_at db.now table) }
 {
-    if is_used(setting.bound.query, table) {
-        setting.bound.db.rows(table).len()
+    if tables.contains(&table) {
+        db.rows(table).len()
     } else {
         0
     }
 }
 
-/// Adds flags for each table, none of them set.
-fn add_blank(setting: &Setting<'_>, kept: &mut Vec<Choice>) -> Result<(), NoMemory>
-    requires { kept.old.items ≡ [] }
-    ensures { OnOk result (AreBlank setting.now.bound.now.query.now setting.now.bound.now.db.now kept.new.items) }
+/// Adds flags for each table of a database, none of them set.
+fn add_blank(
+    alloc: Global,
+    db: &Database,
+    tables: &[u32],
+    kept: &mut Vec<Choice>,
+) -> Result<(), NoMemory>
+    requires tables { AreTablesOf db.now tables.now }
+    requires none { kept.old.items ≡ [] }
+    ensures { OnOk result (AreBlank db.now tables.now kept.new.items) }
 {
-    for table in 0..setting.bound.db.count() {
-        kept.push(Choice::blank(setting.alloc, count_in(setting, table))?)?;
+    for table in 0..db.count() {
+        kept.push(Choice::blank(alloc, count_in(db, tables, table))?)?;
     }
     Ok(())
 }
 
-/// A flag for each row of the query's tables, none of them set.
+/// A flag for each row of some tables, none of them set.
 ///
 /// # Errors
 ///
 /// `NoMemory` where memory is refused.
-pub(crate) fn blank(setting: &Setting<'_>) -> Result<Vec<Choice>, NoMemory>
-    ensures { IfOk result (λ kept. AreBlank setting.now.bound.now.query.now setting.now.bound.now.db.now kept.items) }
+pub(crate) fn blank(alloc: Global, db: &Database, tables: &[u32]) -> Result<Vec<Choice>, NoMemory>
+    requires { AreTablesOf db.now tables.now }
+    ensures { IfOk result (λ kept. AreBlank db.now tables.now kept.items) }
 {
-    let mut kept = Vec::new(setting.alloc);
-    match add_blank(setting, &mut kept) {
+    let mut kept = Vec::new(alloc);
+    match add_blank(alloc, db, tables, &mut kept) {
         Ok(()) => Ok(kept),
         Err(fault) => {
             drop(kept);
@@ -53,15 +58,15 @@ pub(crate) fn blank(setting: &Setting<'_>) -> Result<Vec<Choice>, NoMemory>
     }
 }
 
-/// Keeps of each block of the query's tables the first row whose flag is set, or else the first row.
-pub(crate) fn settle_all(setting: &Setting<'_>, kept: &mut [Choice])
-    requires { AreLong setting.now.bound.now.query.now setting.now.bound.now.db.now kept.old }
-    ensures chosen { AreRepairFlags setting.now.bound.now.query.now setting.now.bound.now.db.now kept.new }
-    ensures picks { (F : ℕ) → F < length setting.now.bound.now.query.now.atoms → (p : ℕ) → IsFlagged (flags_of setting.now.bound.now.query.now kept.new F) p → IsPick (atom_key setting.now.bound.now.query.now F) (rows_of setting.now.bound.now.query.now (stored setting.now.bound.now.db.now) F) (IsFlagged (flags_of setting.now.bound.now.query.now kept.old F)) p }
+/// Keeps of each block of some tables the first row whose flag is set, or else the first row.
+pub(crate) fn settle_all(db: &Database, tables: &[u32], kept: &mut [Choice])
+    requires tables { AreTablesOf db.now tables.now }
+    requires long { AreLong db.now tables.now kept.old }
+    ensures chosen { AreTableFlags db.now tables.now kept.new }
+    ensures picks { (t : ℕ) → Contains tables.now t → (p : ℕ) → IsFlagged (flags_at kept.new t) p → IsPick (key_at db.now t) (rows_at db.now t) (IsFlagged (flags_at kept.old t)) p }
 {
-    let query = setting.bound.query;
-    for atom in 0..query.atoms.len() as u32 {
-        let table = table_of(query, atom);
-        kept[table as usize].settle(&setting.bound.db.rows(table), key_columns(query, atom));
+    for table in tables {
+        let key = db.schema(*table).key.as_slice();
+        kept[*table as usize].settle(&db.rows(*table), key);
     }
 }

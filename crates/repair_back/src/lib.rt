@@ -11,7 +11,7 @@ mod repair;
 mod rivals;
 mod way;
 
-pub use from_models::from_model;
+pub use from_models::{from_model, tables_from_model};
 pub use mending::mend;
 pub use repair::Repair;
 pub use rivals::{chosen, contested};

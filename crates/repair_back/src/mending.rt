@@ -15,12 +15,13 @@ ghost use Rattle.plan_rows.specs.Taking.{placed};
 ghost use Rattle.join_access.specs.Spots.{ArePaths};
 ghost use Rattle.plan_rows.specs.Underway.{IsMemoKey, IsRight};
 ghost use Rattle.plan_rows.specs.Links.{AreWays};
-ghost use Rattle.repair_back.specs.Flags.{IsFlagged, flags_of, AreBlank, AreRepairFlags};
+ghost use Rattle.repair_back.specs.Flags.{IsFlagged, flags_of, tables_in, AreBlank, AreRepairFlags};
 ghost use Rattle.repair_back.specs.Mending.{IsHere, IsNextAtom};
 ghost use Rattle.repair_back.specs.Along.{rows_on, kept_on, AreLed, KeepsOne, KeepsNoWitness, WayHoldsWith, WayRestHolds, Mends, MendsBlock};
 ghost use Rattle.repair_back.specs.Results.{Rejects, AreStored};
 ghost use Rattle.repair_back.specs.Walking.{IsBlockBetween};
 
+use crate::atoms::tables_of;
 use crate::blocks::{block_end, block_start};
 use crate::choice::Choice;
 use crate::kept::{blank, settle_all};
@@ -315,20 +316,22 @@ fn mend_all(way: &Way<'_>, kept: &mut [Choice]) -> bool
 }
 
 /// A repair that holds no witness of the row, from flags of which none is set yet; `None` where the row is certain.
-fn mended(way: &Way<'_>, kept: &mut [Choice]) -> Result<Option<Repair>, NoMemory>
+fn mended(way: &Way<'_>, tables: &[u32], kept: &mut [Choice]) -> Result<Option<Repair>, NoMemory>
     requires plan { IsPlanOf way.now.course.now.setting.bound.now.query.now way.now.course.now.order.now }
-    requires blank { AreBlank way.now.course.now.setting.bound.now.query.now way.now.course.now.setting.bound.now.db.now kept.old }
+    requires tables { tables.now ≡ tables_in way.now.course.now.setting.bound.now.query.now }
+    requires blank { AreBlank way.now.course.now.setting.bound.now.db.now tables.now kept.old }
     ensures certain { IfOk result (λ found. IsNone found ↔ IsCertain way.now.course.now.setting.bound.now.db.now way.now.course.now.setting.bound.now.query.now way.now.row.now) }
     ensures rejects { IfOk result (λ found. IfSome found (λ repair. Rejects way.now.course.now.setting.bound.now.query.now way.now.course.now.setting.bound.now.db.now way.now.row.now repair.kept)) }
     ensures stored { IfOk result (λ found. IfSome found (λ repair. AreStored way.now.course.now.setting.bound.now.db.now repair.kept)) }
 {
     let course = way.course;
     let setting = &course.setting;
-    settle_all(setting, kept);
+    let db = setting.bound.db;
+    settle_all(db, tables, kept);
     if !mend_all(way, kept) {
         return Ok(None);
     }
-    let repair = named(setting, kept)?;
+    let repair = named(setting.alloc, db, tables, kept)?;
     Ok(Some(repair))
 }
 
@@ -363,7 +366,8 @@ pub fn mend(
     };
     let enough = enough_of(&setting, order)?;
     let shared = shared_or_none(&setting, order);
-    let mut kept = blank(&setting)?;
+    let tables = tables_of(alloc, bound.query)?;
+    let mut kept = blank(alloc, bound.db, tables.as_slice())?;
     let course = Course {
         setting,
         order,
@@ -375,7 +379,7 @@ pub fn mend(
         row,
         enough: enough.as_slice(),
     };
-    let found = mended(&way, kept.as_mut_slice());
+    let found = mended(&way, tables.as_slice(), kept.as_mut_slice());
     drop(kept);
     found
 }

@@ -1,16 +1,17 @@
 //! Repairs as names of rows.
 
 ghost use Rattle.std.specs.Prelude.{◌≡◌, ◌<◌, ◌≤◌, ◌++◌, IfOk, OnOk, length};
-ghost use Rattle.repair_back.specs.Flags.{places_from, AreRepairFlags};
+ghost use Rattle.repair_back.specs.Flags.{places_from, AreTablesOf, AreTableFlags};
 ghost use Rattle.repair_back.specs.Results.{names_kept};
 ghost use Rattle.table_blocks.specs.Tables.{names_in};
 
 use crate::choice::Choice;
 use cqa_model::{MOST_ROWS, RowId};
 use cqa_value::{Items, NoMemory};
-use plan_rows::Setting;
+use std::alloc::Global;
+use table_blocks::Database;
 
-/// One row of each block of each of a query's tables, by the query's atoms and then in block order.
+/// One row of each block of each of some tables, by these tables and then in block order.
 #[derive(Debug, Drop)]
 pub struct Repair {
     pub kept: Items<RowId>,
@@ -39,29 +40,41 @@ fn add_names(
     Ok(())
 }
 
-/// Adds the names of the rows that are kept of the query's tables.
-fn add_all(setting: &Setting<'_>, kept: &[Choice], names: &mut Vec<RowId>) -> Result<(), NoMemory>
-    requires { AreRepairFlags setting.now.bound.now.query.now setting.now.bound.now.db.now kept.now }
-    ensures { OnOk result (names.new.items ≡ names.old.items ++ names_kept setting.now.bound.now.query.now.atoms kept.now) }
+/// Adds the names of the rows that are kept of some tables.
+fn add_all(
+    db: &Database,
+    tables: &[u32],
+    kept: &[Choice],
+    names: &mut Vec<RowId>,
+) -> Result<(), NoMemory>
+    requires tables { AreTablesOf db.now tables.now }
+    requires chosen { AreTableFlags db.now tables.now kept.now }
+    ensures { OnOk result (names.new.items ≡ names.old.items ++ names_kept tables.now kept.now) }
 {
-    for atom in setting.bound.query.atoms.as_slice() {
-        let count = setting.bound.db.rows(atom.table).len();
-        add_names(atom.table, count, &kept[atom.table as usize], names)?;
+    for table in tables {
+        let count = db.rows(*table).len();
+        add_names(*table, count, &kept[*table as usize], names)?;
     }
     Ok(())
 }
 
-/// The names of the rows that are kept of the query's tables.
+/// The names of the rows that are kept of some tables.
 ///
 /// # Errors
 ///
 /// `NoMemory` where memory is refused.
-pub(crate) fn named(setting: &Setting<'_>, kept: &[Choice]) -> Result<Repair, NoMemory>
-    requires { AreRepairFlags setting.now.bound.now.query.now setting.now.bound.now.db.now kept.now }
-    ensures { IfOk result (λ repair. repair.kept ≡ names_kept setting.now.bound.now.query.now.atoms kept.now) }
+pub(crate) fn named(
+    alloc: Global,
+    db: &Database,
+    tables: &[u32],
+    kept: &[Choice],
+) -> Result<Repair, NoMemory>
+    requires tables { AreTablesOf db.now tables.now }
+    requires chosen { AreTableFlags db.now tables.now kept.now }
+    ensures { IfOk result (λ repair. repair.kept ≡ names_kept tables.now kept.now) }
 {
-    let mut names = Vec::new(setting.alloc);
-    add_all(setting, kept, &mut names)?;
+    let mut names = Vec::new(alloc);
+    add_all(db, tables, kept, &mut names)?;
     Ok(Repair {
         kept: Items::from_vec(names),
     })

@@ -2,8 +2,8 @@ use Rattle.std.proofs.Common.{◌++◌, ◌∙◌, List, map, ap, sym, subst}
 use Rattle.cnf_form.specs.declared.formula.Clause.{Clause}
 use Rattle.cnf_form.specs.Literals.{literals}
 use Rattle.join_access.specs.Listing.{names_of}
-use Rattle.repair_clauses.specs.Clauses.{positive}
-use Rattle.repair_clauses.specs.Spans.{numbers_in}
+use Rattle.row_lists.specs.Clauses.{positive}
+use Rattle.row_lists.specs.Spans.{numbers_in}
 use Rattle.pair_formula.specs.Full.{AddsPairs}
 use Rattle.pair_formula.proofs.formula.clauses_of.Goals as goal
 

@@ -2,8 +2,8 @@ use Rattle.std.proofs.Common.{map, ◌∙◌, sym, subst, Contains, List}
 use Rattle.cnf_form.specs.Literals.{literals, SatisfiesAll}
 use Rattle.join_access.specs.declared.witness.Witness.{Witness}
 use Rattle.join_access.specs.Listing.{names_of}
-use Rattle.repair_clauses.specs.Clauses.{positive}
-use Rattle.repair_clauses.specs.Spans.{numbers_in}
+use Rattle.row_lists.specs.Clauses.{positive}
+use Rattle.row_lists.specs.Spans.{numbers_in}
 use Rattle.cqa_value.proofs.Words.{Contains-map}
 use Rattle.row_witnesses.proofs.Told.{all_names}
 use Rattle.repair_clauses.proofs.Naming.{named-size}

@@ -1,6 +1,6 @@
 use Rattle.std.proofs.Common.{◌≡◌, ◌<◌, ℕ, None, Some, length, get_or, Contains, sym, subst, ◌∙◌, arith}
-use Rattle.repair_clauses.specs.Spans.{IsInSpan, at}
-use Rattle.repair_clauses.proofs.Encoding.{no_span, numbers-small, span_read}
+use Rattle.row_lists.specs.Spans.{IsInSpan, at}
+use Rattle.row_lists.proofs.Reading.{no_span, numbers-small, span_read}
 use Rattle.pair_formula.proofs.Pairing.{number-none}
 use Rattle.pair_formula.proofs.formula.number_of.Goals as goal
 

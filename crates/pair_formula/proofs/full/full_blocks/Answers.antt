@@ -1,7 +1,7 @@
 use Rattle.std.proofs.Common.{sym, subst, arith}
 use Rattle.join_access.specs.Listing.{names_of}
 use Rattle.row_witnesses.proofs.Told.{all_names}
-use Rattle.repair_clauses.specs.Spans.{IsSpanNumbering}
+use Rattle.row_lists.specs.Spans.{IsSpanNumbering}
 use Rattle.pair_formula.specs.Full.{AreFullSpans}
 use Rattle.pair_formula.proofs.FullSpans.{full-joined, full-numbering}
 use Rattle.pair_formula.proofs.full.full_blocks.Goals as goal

@@ -3,7 +3,7 @@ use Rattle.cqa_model.specs.declared.query.Atom.{Atom}
 use Rattle.table_blocks.specs.Tables.{rows_at}
 use Rattle.join_access.specs.Listing.{names_of}
 use Rattle.row_witnesses.proofs.Told.{all_names}
-use Rattle.repair_clauses.specs.Runs.{AreRowPlaces}
+use Rattle.row_lists.specs.Runs.{AreRowPlaces}
 use Rattle.repair_clauses.proofs.Naming.{are_places}
 use Rattle.pair_formula.specs.Full.{AreFullRuns}
 use Rattle.pair_formula.proofs.full.full_of_atom.Goals as goal

@@ -2,7 +2,7 @@ use Rattle.std.proofs.Common.{sym, subst, length}
 use Rattle.cnf_form.specs.Logs.{Refutes}
 use Rattle.cdcl.specs.Outcomes.{AreConsecutive}
 use Rattle.join_access.specs.Listing.{HasTooMany}
-use Rattle.repair_clauses.specs.declared.formula.Encoded.{Encoded}
+use Rattle.row_lists.specs.declared.formula.Encoded.{Encoded}
 use Rattle.repair_clauses.specs.Encodings.{IsEncoded}
 use Rattle.pair_answers.proofs.Told.{pair-told}
 use Rattle.pair_formula.proofs.Carrying.{carried}

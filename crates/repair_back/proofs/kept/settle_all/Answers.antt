@@ -1,25 +1,40 @@
-use Rattle.std.proofs.Common.{◌≡◌, ◌<◌, ◌+◌, [], set, get_or, length, ap, sym, subst, ◌∙◌, arith}
-use Rattle.cqa_model.specs.Database.{stored}
-use Rattle.cqa_model.specs.Query.{atom_key, rows_of}
-use Rattle.repair_back.specs.Flags.{IsFlagged, HasOneFlagEach}
+use Rattle.std.proofs.Common.{◌≡◌, ◌<◌, ◌∙◌, ℕ, List, [], length, get_or, refl, sym, ap, subst, arith}
+use Rattle.std.proofs.lemmas.List.{get_or_default}
+use Rattle.std.proofs.lemmas.List.Elements.{Contains-get_or}
+use Rattle.cqa_value.specs.declared.value.Value.{Value}
 use Rattle.cqa_model.specs.Blocks.{IsPick}
-use Rattle.repair_back.proofs.Starting.{AllSettledTo, all-more}
-use Rattle.repair_back.proofs.Mended.{flags-read}
+use Rattle.table_blocks.specs.Tables.{rows_at, key_at}
+use Rattle.repair_back.specs.Flags.{IsFlagged, HasOneFlagEach, flags_at}
+use Rattle.repair_back.proofs.Starting.{all-more, all-long, all-chosen, all-picks}
 use Rattle.repair_back.proofs.kept.settle_all.Goals as goal
 
-pub loop-atom-preserved : goal.loop-atom-preserved
-loop-atom-preserved c =
-    let q = c.args.setting.now.bound.now.query.now in
-    let db = c.args.setting.now.bound.now.db.now in
-    let at = c.loop-atom.atom in
-    let l : at < length q.atoms = omega (arith, c.loop-atom-test.true, c.len-atom-end.ensures) in
-    let is_rows : c.rows.result ≡ rows_of q (stored db) at = c.rows.ensures.is ∙ ap (λ t. get_or (stored db) t []) c.table_of-table.ensures in
-    let read = flags-read q db c.args.setting.now.bound.now.fits c.loop-atom.kept c.loop-atom.invariant.size at l c.table_of-table.result c.table_of-table.ensures c.index-kept-table.result c.index-kept-table.is in
-    let there = c.args.setting.now.bound.now.fits.there at l in
-    let size = c.loop-atom.invariant.size in
-    subst (λ t. AllSettledTo q db c.args.kept.now (set c.loop-atom.kept t c.settle.new.self) (at + 1)) (sym c.table_of-table.ensures)
-    (all-more q db c.args.kept.now c.loop-atom.kept at l c.loop-atom.invariant c.settle.new.self (omega (arith, there, size))
-    (subst (λ rows. HasOneFlagEach (atom_key q at) rows c.settle.new.self) is_rows (subst (λ key. HasOneFlagEach key c.rows.result c.settle.new.self) c.key_columns.ensures c.settle.ensures.choice))
-    (λ p f. subst (λ g. IsPick (atom_key q at) (rows_of q (stored db) at) (IsFlagged g) p) (sym c.index-kept-table.is ∙ read)
-    (subst (λ rows. IsPick (atom_key q at) rows (IsFlagged (get_or c.loop-atom.kept c.table_of-table.result c.index-kept-table.result)) p) is_rows
-    (subst (λ key. IsPick key c.rows.result (IsFlagged (get_or c.loop-atom.kept c.table_of-table.result c.index-kept-table.result)) p) c.key_columns.ensures (c.settle.ensures.picks p f)))))
+pub schema-requires : goal.schema-requires
+schema-requires c = c.requires.tables.there _ (Contains-get_or c.args.tables.now c.loop-table.table-index 0 c.loop-table-test.true)
+
+pub settle-requires-clause-size : goal.settle-requires-clause-size
+settle-requires-clause-size c =
+    let table : ℕ = get_or c.args.tables.now c.loop-table.table-index 0 in
+    let there : table < length c.args.db.now = c.requires.tables.there table (Contains-get_or c.args.tables.now c.loop-table.table-index 0 c.loop-table-test.true) in
+    let size = c.loop-table.invariant.size in
+    let read : get_or c.loop-table.kept table c.index-kept-table.result ≡ flags_at c.loop-table.kept table = get_or_default c.loop-table.kept table c.index-kept-table.result [] (omega (arith, there, size)) in
+    ap length read ∙ (all-long c.args.db.now c.args.tables.now c.args.kept.now c.loop-table.kept c.loop-table.table-index table c.requires.tables c.requires.long c.loop-table-test.true refl c.loop-table.invariant ∙ ap length (sym c.rows.ensures.is))
+
+pub loop-table-preserved : goal.loop-table-preserved
+loop-table-preserved c =
+    let db = c.args.db.now in
+    let table : ℕ = get_or c.args.tables.now c.loop-table.table-index 0 in
+    let there : table < length db = c.requires.tables.there table (Contains-get_or c.args.tables.now c.loop-table.table-index 0 c.loop-table-test.true) in
+    let size = c.loop-table.invariant.size in
+    let read : get_or c.loop-table.kept table c.index-kept-table.result ≡ flags_at c.loop-table.kept table = get_or_default c.loop-table.kept table c.index-kept-table.result [] (omega (arith, there, size)) in
+    let key = c.as_slice-key.ensures ∙ c.schema.ensures.key in
+    all-more db c.args.tables.now c.args.kept.now c.loop-table.kept c.loop-table.table-index table c.requires.tables c.loop-table-test.true refl c.loop-table.invariant c.settle.new.self
+    (subst (λ (k : List ℕ). HasOneFlagEach k (rows_at db table) c.settle.new.self) key (subst (λ (rows : List (List Value)). HasOneFlagEach c.as_slice-key.result.now rows c.settle.new.self) c.rows.ensures.is c.settle.ensures.choice))
+    (λ p f. subst (λ g. IsPick (key_at db table) (rows_at db table) (IsFlagged g) p) read
+    (subst (λ (k : List ℕ). IsPick k (rows_at db table) (IsFlagged (get_or c.loop-table.kept table c.index-kept-table.result)) p) key
+    (subst (λ (rows : List (List Value)). IsPick c.as_slice-key.result.now rows (IsFlagged (get_or c.loop-table.kept table c.index-kept-table.result)) p) c.rows.ensures.is (c.settle.ensures.picks p f))))
+
+pub returns-clause-chosen : goal.returns-clause-chosen
+returns-clause-chosen c = all-chosen c.args.db.now c.args.tables.now c.args.kept.now c.loop-table.kept c.loop-table.table-index c.loop-table-test.false c.loop-table.invariant
+
+pub returns-clause-picks : goal.returns-clause-picks
+returns-clause-picks c = all-picks c.args.db.now c.args.tables.now c.args.kept.now c.loop-table.kept c.loop-table.table-index c.loop-table-test.false c.loop-table.invariant

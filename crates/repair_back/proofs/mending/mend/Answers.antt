@@ -1,8 +1,10 @@
-use Rattle.std.proofs.Common.{sym, subst}
+use Rattle.std.proofs.Common.{◌∙◌, sym, subst}
 use Rattle.cqa_model.specs.Plan.{IsPlanOf}
 use Rattle.plan_rows.specs.Left.{AreQueryAtoms, AreSharedInParts}
 use Rattle.plan_rows.specs.Links.{AreWays}
 use Rattle.repair_back.specs.Apart.{AreEnough}
+use Rattle.repair_back.specs.Flags.{AreTablesOf}
+use Rattle.repair_back.proofs.Starting.{query-tables}
 use Rattle.repair_back.proofs.Apart.{plan-atoms}
 use Rattle.repair_back.proofs.mending.mend.Goals as goal
 
@@ -15,7 +17,7 @@ shared_or_none-shared-requires c = subst (AreQueryAtoms c.args.bound.now.query.n
 pub invariant_of-course : goal.invariant_of-course
 invariant_of-course c = record {
   atoms = subst (AreQueryAtoms c.args.bound.now.query.now) (sym c.as_slice-order.ensures) (plan-atoms c.args.bound.now.query.now c.args.plan.now.order c.requires.plan);
-  shares = ∣ subst (AreSharedInParts c.args.bound.now.query.now c.as_slice-order.result.now) (sym c.as_slice.ensures.value) c.shared_or_none-shared.ensures ∣₁;
+  shares = ∣ subst (AreSharedInParts c.args.bound.now.query.now c.as_slice-order.result.now) (sym c.as_slice-2.ensures.value) c.shared_or_none-shared.ensures ∣₁;
   linked = ∣ subst (λ order. AreWays c.args.bound.now.query.now c.args.bound.now.db.now order c.args.ways.now) (sym c.as_slice-order.ensures) c.requires.ways ∣₁;
 }
 
@@ -25,5 +27,13 @@ mended-found-requires-clause-plan c = subst (IsPlanOf c.args.bound.now.query.now
 pub invariant_of-way : goal.invariant_of-way
 invariant_of-way c = record {
   long = c.requires.long;
-  known = ∣ subst (AreEnough c.args.bound.now.query.now c.as_slice-order.result.now) (sym c.as_slice-2.ensures.value) c.in_ok-enough.ensures ∣₁;
+  known = ∣ subst (AreEnough c.args.bound.now.query.now c.as_slice-order.result.now) (sym c.as_slice-3.ensures.value) c.in_ok-enough.ensures ∣₁;
 }
+
+pub blank-requires : goal.blank-requires
+blank-requires c =
+    let b = c.args.bound.now in
+    subst (AreTablesOf b.db.now) (sym (c.as_slice.ensures ∙ c.in_ok-tables.ensures)) (query-tables b.query.now b.db.now b.fits)
+
+pub mended-found-requires-clause-tables : goal.mended-found-requires-clause-tables
+mended-found-requires-clause-tables c = c.as_slice-4.ensures ∙ c.in_ok-tables.ensures
