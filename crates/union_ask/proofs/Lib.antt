@@ -1,0 +1,13 @@
+mod Apart
+mod Naming
+mod Unions
+mod Parts
+mod Framing
+mod Rejecting
+mod Verdicts
+mod Searching
+mod Taking
+mod Sets
+mod PartByPart
+mod Scoping
+mod Over

@@ -1,0 +1,11 @@
+pub mod Once
+pub mod Parts
+pub mod Spoken
+pub mod Lookups
+pub mod Candidates
+pub mod Encodings
+pub mod Repairs
+pub mod Searching
+pub mod Judging
+pub mod Reasons
+pub mod Laws

@@ -1,0 +1,139 @@
+//! Why a row is certain for a union, or why it isn't: what the solver finds out of its formula.
+
+ghost use Rattle.std.specs.Prelude.{◌≡◌, IfErr, IfOk, length};
+ghost use Rattle.cdcl.specs.Outcomes.{IsModel};
+ghost use Rattle.join_access.specs.Listing.{IsOver, names_of};
+ghost use Rattle.repair_back.specs.Results.{AreStored};
+ghost use Rattle.union_ask.specs.Candidates.{AreTablesIn};
+ghost use Rattle.union_ask.specs.Encodings.{IsEncodedIn};
+ghost use Rattle.union_ask.specs.Lookups.{HasLengthOf};
+ghost use Rattle.union_ask.specs.Parts.{AreNamesIn, HasTooManyIn};
+ghost use Rattle.union_ask.specs.Reasons.{IsDecidedIn, IsReasonIn, IsStoppedIn};
+ghost use Rattle.union_ask.specs.Repairs.{AreRejectingRowsIn};
+
+use crate::bound_parts::BoundParts;
+use crate::encoding::lists_over;
+use crate::frame::union_frame;
+use crate::gathering::gathered;
+use crate::repair::union_repair;
+use cdcl::Outcome;
+use cqa_model::RowId;
+use cqa_value::{Fail, Items, NoMemory, Row};
+use join_witness::{TooMany, Witness};
+use list_search::{Decided, decide};
+use query_strategy::{Reason, Untold};
+use repair_back::{Repair, chosen};
+use row_lists::{Encoded, Frame};
+use std::alloc::Global;
+
+/// Decides whether every repair holds a witness of the row for some part, where these are its witnesses.
+fn decide_lists<'c, 'a: 'c, 'b: 'a>(
+    alloc: Global,
+    parts: &BoundParts<'b>,
+    frame: &'a Frame,
+    lists: &'c [Witness],
+    row: &Row,
+    budget: u32,
+) -> Result<Decided, NoMemory>
+    requires wide { length frame.now.slots ≡ length parts.now.db.now }
+    requires tables { AreTablesIn parts.now.queries.now frame.now.tables }
+    requires names { AreNamesIn parts.now.queries.now parts.now.db.now row.now (names_of lists.now) }
+    ensures { IfOk result (IsDecidedIn parts.now.db.now parts.now.queries.now row.now budget) }
+{
+    let lists = lists_over(alloc, parts, frame, lists, row)?;
+    let decided = decide(alloc, &lists, budget);
+    drop(lists);
+    decided
+}
+
+/// Decides whether every repair holds a witness of a row for some part, by searches of at most `budget` conflicts each.
+fn decide_row(
+    alloc: Global,
+    parts: &BoundParts<'_>,
+    row: &Row,
+    budget: u32,
+) -> Result<Decided, Fail<TooMany>>
+    requires long { HasLengthOf parts.now.queries.now row.now }
+    ensures decided { IfOk result (IsDecidedIn parts.now.db.now parts.now.queries.now row.now budget) }
+    ensures within { IfOk result (λ decided. HasTooManyIn parts.now.queries.now parts.now.db.now row.now → ⊥) }
+    ensures over { IfErr result (IsOver (HasTooManyIn parts.now.queries.now parts.now.db.now row.now)) }
+{
+    let frame = union_frame(alloc, parts)?;
+    let lists = gathered(alloc, parts, row)?;
+    let decided = decide_lists(alloc, parts, &frame, lists.as_slice(), row, budget);
+    drop(lists);
+    Ok(decided?)
+}
+
+/// The repair that a model of a row's formula gives, by the rows that it had to choose.
+fn by_model(
+    alloc: Global,
+    parts: &BoundParts<'_>,
+    _row: &Row,
+    formula: &Encoded,
+    model: &[bool],
+) -> Result<Items<RowId>, NoMemory>
+    requires formula { IsEncodedIn parts.now.db.now parts.now.queries.now _row.now formula.now }
+    requires model { IsModel formula.now.cnf model.now }
+    ensures rejected { IfOk result (AreRejectingRowsIn parts.now.db.now parts.now.queries.now _row.now) }
+    ensures stored { IfOk result (AreStored parts.now.db.now) }
+{
+    let kept = union_repair(alloc, parts, formula.rows.as_slice(), model)?;
+    chosen(alloc, parts.db, Repair { kept: kept.rows })
+}
+
+/// What the solver's answer to a row's formula tells of the row.
+fn by_outcome(
+    alloc: Global,
+    parts: &BoundParts<'_>,
+    row: &Row,
+    _budget: u32,
+    decided: Decided,
+) -> Result<Reason, Fail<Untold>>
+    requires within { HasTooManyIn parts.now.queries.now parts.now.db.now row.now → ⊥ }
+    requires decided { IsDecidedIn parts.now.db.now parts.now.queries.now row.now _budget decided }
+    ensures told { IfOk result (IsReasonIn parts.now.db.now parts.now.queries.now row.now _budget) }
+    ensures untold { IfErr result (IsStoppedIn parts.now.db.now parts.now.queries.now row.now _budget) }
+{
+    let Decided { formula, outcome } = decided;
+    match outcome {
+        Outcome::Sat(model) => {
+            let names = by_model(alloc, parts, row, &formula, model.as_slice());
+            drop(model);
+            drop(formula);
+            Ok(Reason::Rejected(names?))
+        }
+        Outcome::Unsat(log) => {
+            let cnf = formula.cnf;
+            Ok(Reason::Refuted { cnf, log })
+        }
+        Outcome::Spent(log) => {
+            let cnf = formula.cnf;
+            Err(Fail::Refused(Untold::Spent { cnf, log }))
+        }
+    }
+}
+
+/// Why a row is certain for a union, by a refutation of its formula, or why it isn't, by a repair that holds no witness of it for
+/// any part; by searches of at most `budget` conflicts each.
+///
+/// # Errors
+///
+/// `Over` exactly where the row has more than `MOST_WITNESSES` witnesses for all parts together; `Spent` where the budget doesn't
+/// suffice, only for a candidate; `NoMemory` where memory is refused.
+pub fn decide_union(
+    alloc: Global,
+    parts: &BoundParts<'_>,
+    row: &Row,
+    budget: u32,
+) -> Result<Reason, Fail<Untold>>
+    requires long { HasLengthOf parts.now.queries.now row.now }
+    ensures told { IfOk result (IsReasonIn parts.now.db.now parts.now.queries.now row.now budget) }
+    ensures untold { IfErr result (IsStoppedIn parts.now.db.now parts.now.queries.now row.now budget) }
+{
+    match decide_row(alloc, parts, row, budget) {
+        Ok(decided) => by_outcome(alloc, parts, row, budget, decided),
+        Err(Fail::Refused(TooMany)) => Err(Fail::Refused(Untold::Over)),
+        Err(Fail::NoMemory) => Err(Fail::NoMemory),
+    }
+}
