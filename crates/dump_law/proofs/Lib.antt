@@ -1,15 +1,10 @@
-pub mod Pieces
-pub mod Quotes
-pub mod Outside
 pub mod Blocks
-pub mod Numbers
-pub mod Tokens
 pub mod Grammar
 pub mod Statements
 pub mod Rows
-pub mod Resolved
 pub mod Cut
 pub mod Texts
 pub mod Steps
 pub mod Scripts
 pub mod Whole
+pub mod Proved

@@ -6,8 +6,6 @@ use Rattle.std.proofs.lemmas.List.Kept.{IsStrictlySortedBy-filter}
 use Rattle.std.specs.List.{filter}
 use Rattle.std.specs.List.Sorted.{IsStrictlySortedBy}
 use Rattle.std.proofs.lemmas.Bool.{and_parts, and_from, not_from_false, false_from_ne_true}
-use Rattle.cqa_value.specs.declared.value.Kind.{Kind}
-use Rattle.cqa_value.specs.declared.value.Kind.TheVariants as column_kinds
 use Rattle.cqa_value.specs.declared.value.Value.{Value}
 use Rattle.cqa_value.specs.Values.{kind_of, row_eq, row_decides}
 use Rattle.cqa_value.proofs.Words.{mem-tail, mem-cases, mem-head, mem-nil, clash_not, Contains-filter}
@@ -18,7 +16,6 @@ use Rattle.table_blocks.specs.Keys.{same_key}
 use Rattle.table_changes.specs.Taken.{first_other, taken_by, taken_fault}
 use Rattle.table_blocks.specs.Tables.{rows_at, key_at, mark_at, kinds_at, with_rows, IsMerged}
 use Rattle.table_changes.specs.Changes.{is_among, count_new, strict_key_fault, insert_fault, Inserts}
-use Rattle.refusals.specs.Kinds.{same_kind, kind_fault, row_fault, rows_fault}
 use Rattle.table_changes.proofs.Counting.{counted}
 use Rattle.table_changes.proofs.Inserting.{valid_insert}
 use Rattle.table_changes.proofs.Membership.{among}
@@ -26,7 +23,7 @@ use Rattle.row_order.proofs.Reordering.{ordered_once}
 use Rattle.table_changes.proofs.FirstSharing.{none_passes}
 use Rattle.table_blocks.proofs.Sharing.{same_decides}
 use Rattle.table_blocks.proofs.Changing.{total_push}
-use Rattle.script_lex.proofs.FirstBytes.{eq_true}
+use Rattle.text_again.proofs.Fitting.{rows_fit}
 
 -- of some rows, those that are there already
 abbrev pub part : List (List Value) → List (List Value) → List (List Value)
@@ -71,23 +68,6 @@ part_all rows got h = filter_all (is_among got) rows (λ row m. (among got row).
 pub part_none : (rows : List (List Value)) → part rows [] ≡ []
 part_none [] = refl
 part_none (row ∷ rows) = part_none rows
-
-same_self : (k : Kind) → same_kind k k ≡ true
-same_self column_kinds.Int = refl
-same_self column_kinds.Text = refl
-
-kinds_fit : (number column : ℕ) (row : List Value) → kind_fault number column (map kind_of row) row ≡ None
-kinds_fit number column [] = refl
-kinds_fit number column (v ∷ row) = rw (same_self (kind_of v)) (kinds_fit number (column + 1) row)
-
-row_fits : (kinds : List Kind) (number : ℕ) (row : List Value) → map kind_of row ≡ kinds → row_fault kinds number row ≡ None
-row_fits kinds number row e =
-    subst (λ ks. row_fault ks number row ≡ None) e (rw (eq_true (length row) (length (map kind_of row)) (sym (length-map row kind_of))) (kinds_fit number 1 row))
-
-pub rows_fit : (kinds : List Kind) (number : ℕ) (rows : List (List Value)) → ((row : List Value) → Contains rows row → map kind_of row ≡ kinds) → rows_fault kinds number rows ≡ None
-rows_fit kinds number [] h = refl
-rows_fit kinds number (row ∷ rows) h =
-    rw (row_fits kinds number row (h row (mem-head row rows))) (rows_fit kinds (number + 1) rows (λ x m. h x (mem-tail x row rows m)))
 
 none_taken : (key : List ℕ) (base before : List (List Value)) (number : ℕ) (given : List (List Value)) → AreConsistent key base → Within base before → Within base given → taken_fault key before number given ≡ None
 none_taken key base before number [] apart inside within = refl

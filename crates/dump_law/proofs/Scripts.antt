@@ -19,10 +19,12 @@ use Rattle.reply_text.specs.Texts.{is_refusal}
 use Rattle.table_blocks.specs.Tables.{table_named}
 use Rattle.cqa_session.specs.State.{State}
 use Rattle.cqa_session.specs.Runs.{Run, has_refusal}
+use Rattle.text_again.proofs.Cut.{IsCutInto, no_text, both_texts, plain_cut}
+use Rattle.text_again.proofs.Texts.{create_is_text, create_copies_not}
+use Rattle.text_again.proofs.Resolved.{Differ, last_free, last_found}
 use Rattle.dump_law.proofs.Blocks.{rows_lines, plain_no_end}
-use Rattle.dump_law.proofs.Cut.{IsCutInto, no_text, both_texts, plain_cut, copy_cut}
-use Rattle.dump_law.proofs.Texts.{insert_bytes, create_is_text, create_copies_not, copy_is_text, copy_copies, insert_is_text, insert_copies_not}
-use Rattle.dump_law.proofs.Resolved.{Differ, last_free, last_found}
+use Rattle.dump_law.proofs.Cut.{copy_cut}
+use Rattle.dump_law.proofs.Texts.{insert_bytes, copy_is_text, copy_copies, insert_is_text, insert_copies_not}
 use Rattle.dump_law.proofs.Rows.{part, part_none, part_all, Within}
 use Rattle.dump_law.proofs.Steps.{Takes, with_tables, create_takes, insert_takes, copy_takes}
 

@@ -19,11 +19,6 @@ use Rattle.cqa_model.specs.Valid.{HasNames}
 use Rattle.script_lex.specs.Scripts.{Statement}
 use Rattle.spj_syntax.specs.declared.tree.Statement.{Statement as Tree}
 use Rattle.spj_syntax.specs.declared.tree.Statement.TheVariants as statements
-use Rattle.spj_syntax.specs.Shapes.{Generates}
-use Rattle.spj_syntax.specs.Grammar.{statement}
-use Rattle.spj_syntax.specs.Parsed.{Fits, is_set}
-use Rattle.spj_syntax.specs.Written.{statement_tokens}
-use Rattle.script_lex.specs.Tokens.{tokens_of}
 use Rattle.table_blocks.specs.Tables.{table_named, kinds_at, rows_at}
 use Rattle.table_changes.specs.Changes.{count_new, insert_fault, Inserts}
 use Rattle.csv_rows.specs.Blocks.{HoldsRows}
@@ -40,11 +35,13 @@ use Rattle.cqa_session.specs.Replying.{on_table}
 use Rattle.cqa_session.specs.Machine.{fault_in, Executes, Step}
 use Rattle.cqa_session.specs.Statements.Copy.{TellsCopied}
 use Rattle.cqa_session.proofs.Sayings.{does_as_said}
-use Rattle.dump_law.proofs.Tokens.{Spelled}
-use Rattle.dump_law.proofs.Statements.{raw_of, key_named, columns_named, create_spelled, copy_spelled, insert_spelled}
-use Rattle.dump_law.proofs.Grammar.{create_generated, copy_generated, insert_generated}
+use Rattle.text_again.proofs.Statements.{raw_of, key_named, columns_named, create_spelled}
+use Rattle.text_again.proofs.Grammar.{create_generated}
+use Rattle.text_again.proofs.Says.{has_statement}
+use Rattle.text_again.proofs.Resolved.{schema_is, schema_once, schema_fits}
+use Rattle.dump_law.proofs.Statements.{copy_spelled, insert_spelled}
+use Rattle.dump_law.proofs.Grammar.{copy_generated, insert_generated}
 use Rattle.dump_law.proofs.Texts.{create_short, copy_short, insert_short, insert_bytes}
-use Rattle.dump_law.proofs.Resolved.{schema_is, schema_once, schema_fits}
 use Rattle.dump_law.proofs.Rows.{part, Within, having, no_fault, put, put_once, kinds_last}
 
 -- nothing but the tables is another
@@ -55,19 +52,6 @@ with_tables s tables = record s { tables = tables }
 pub record Takes (old : State) (statement : Statement) (new : State) : Type 0 where
   pub may : (reply : Reply) × Step old statement.0 statement.1 reply new
   pub only : (reply : Reply) (other : State) → Step old statement.0 statement.1 reply other → (is_refusal reply ≡ false) × (other ≡ new)
-
--- what a text says by its tokens
-has_statement : (text : List ℕ) (tree : Tree) → Spelled text (statement_tokens tree) → is_set (statement_tokens tree) ≡ false → Generates statement (statement_tokens tree) → length text ≤ 1_048_576 → HasStatement text tree
-has_statement text tree spelled no_set generated short =
-    let h = spelled text [] refl in
-    record {
-      tokens = tokens_of h.pieces;
-      short = short;
-      spelled = record { pieces = h.pieces; splits = h.splits; clean = h.clean; tokens_are = refl };
-      allowed = record { generated = subst (Generates statement) (sym h.are) generated };
-      fit = subst (λ ls. AllByRecursion (Fits (is_set ls)) ls) (sym h.are) (subst (λ b. AllByRecursion (Fits b) (statement_tokens tree)) (sym no_set) h.fit);
-      written = record { tokens = h.are };
-    }
 
 none_some : (refusal : Refusal) (o : Option Refusal) → o ≡ None → o ≡ Some refusal → ⊥
 none_some refusal o e h = cc (sym e ∙ h)

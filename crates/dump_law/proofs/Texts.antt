@@ -1,7 +1,7 @@
 -- The texts of the statements of a dump have no `;` outside their quotes, and they are short.
-use Rattle.std.proofs.Common.{◌≡◌, inl, inr, ◌+◌, ◌*◌, ◌<◌, ◌≤◌, ℕ, Bool, true, false, List, [], ◌∷◌, ◌++◌, codes, length, get_or, refl, sym, ap, ◌∙◌, subst, arith, append_assoc, length-append}
+use Rattle.std.proofs.Common.{◌≡◌, ◌+◌, ◌*◌, ◌<◌, ◌≤◌, ℕ, Bool, true, false, List, [], ◌∷◌, ◌++◌, codes, length, get_or, refl, sym, ap, ◌∙◌, subst, arith, append_assoc, length-append}
 use Rattle.std.proofs.lemmas.Bool.{eqb-true}
-use Rattle.std.proofs.lemmas.List.Elements.{All-contains, recursion_from_All}
+use Rattle.std.proofs.lemmas.List.Elements.{All-contains}
 use Rattle.std.proofs.lemmas.Map.Steps.{length-le_from_distinct_below}
 use Rattle.std.proofs.lemmas.Map.Views.{Contains-from_any}
 use Rattle.std.specs.List.{AllByRecursion, flat_map, join_by}
@@ -18,109 +18,20 @@ use Rattle.cqa_model.specs.declared.schema.Schema.{Schema}
 use Rattle.cqa_model.specs.Shape.{column_at}
 use Rattle.cqa_model.specs.Text.{kind_word, column_text, columns_text, key_text, schema_bytes}
 use Rattle.cqa_model.specs.Valid.{IsName, HasNames}
-use Rattle.script_lex.specs.declared.kinds.TokenKind.TheVariants as kinds
 use Rattle.script_lex.specs.declared.modes.Mode.TheVariants.{Outside}
-use Rattle.script_lex.specs.Bytes.{is_word_byte, is_digit}
 use Rattle.script_lex.specs.Scripts.{BeginsOutright, IsText, IsCopy}
-use Rattle.script_lex.specs.Tokens.{IsToken}
 use Rattle.csv_rows.specs.Dumps.{create_words}
-use Rattle.dump_law.proofs.Numbers.{is_written, few_digits, IsWritten}
-use Rattle.dump_law.proofs.Outside.{is_plain, Quiet, word_plain, letter_plain, digit_plain, mono, quiet_plain, quiet_both, quiet_words, quiet_minus, quiet_text}
-use Rattle.dump_law.proofs.Quotes.{doubled_length}
-use Rattle.dump_law.proofs.Statements.{columns_named, column_bytes, column_named_at}
-use Rattle.dump_law.proofs.Tokens.{word_is}
-
-quiet_word : (w : List ℕ) → IsToken kinds.Word w → Quiet w
-quiet_word [] h = absurd h
-quiet_word (b ∷ bs) h = quiet_plain (b ∷ bs) (letter_plain b h.0, mono is_word_byte is_plain word_plain bs h.1)
-
-quiet_name : (w : List ℕ) → IsName w → Quiet w
-quiet_name w h = quiet_word w (word_is w h.word)
-
-quiet_each : {A : Type 0} (f : A → List ℕ) (xs : List A) → AllByRecursion (λ x. Quiet (f x)) xs → Quiet (flat_map f xs)
-quiet_each f [] a = refl
-quiet_each f (x ∷ xs) a = quiet_both (f x) (flat_map f xs) a.0 (quiet_each f xs a.1)
-
-commas : {A : Type 0} (f : A → List ℕ) (xs : List A) → AllByRecursion (λ x. Quiet (f x)) xs → AllByRecursion (λ x. Quiet (codes ", " ++ f x)) xs
-commas f [] a = tt
-commas f (x ∷ xs) a = (quiet_both (codes ", ") (f x) (quiet_words (codes ", ") refl) a.0, commas f xs a.1)
-
-quiet_list : {A : Type 0} (f : A → List ℕ) (xs : List A) → AllByRecursion (λ x. Quiet (f x)) xs → Quiet (join_by f (codes ", ") xs)
-quiet_list f [] a = refl
-quiet_list f (x ∷ xs) a = quiet_both (f x) (flat_map (λ y. codes ", " ++ f y) xs) a.0 (quiet_each (λ y. codes ", " ++ f y) xs (commas f xs a.1))
-
-quiet_kind : (k : Kind) → Quiet (kind_word k)
-quiet_kind column_kinds.Int = quiet_words (codes "int") refl
-quiet_kind column_kinds.Text = quiet_words (codes "text") refl
-
-each_is : {A : Type 0} (P Q : A → Type 0) → ((x : A) → P x → Q x) → (xs : List A) → AllByRecursion P xs → AllByRecursion Q xs
-each_is P Q f [] a = tt
-each_is P Q f (x ∷ xs) a = (f x a.0, each_is P Q f xs a.1)
-
-quiet_column : (c : Column) → IsName c.name → Quiet (column_bytes c)
-quiet_column c h = quiet_both (column_text c) (codes ", ") (quiet_both (c.name ++ codes " ") (kind_word c.kind) (quiet_both c.name (codes " ") (quiet_name c.name h) (quiet_words (codes " ") refl)) (quiet_kind c.kind)) (quiet_words (codes ", ") refl)
-
-quiet_places : (columns : List Column) (key : List ℕ) → AllByRecursion (λ p. p < length columns) key → AllByRecursion (λ (d : Column). IsName d.name) columns → AllByRecursion (λ p. Quiet (column_at columns p).name) key
-quiet_places columns key l a = each_is (λ p. p < length columns) (λ p. Quiet (column_at columns p).name) (λ p m. quiet_name (column_at columns p).name (column_named_at columns p m a)) key l
-
-places_below : (schema : Schema) → AllByRecursion (λ p. p < length schema.columns) schema.key
-places_below schema = recursion_from_All (λ p. p < length schema.columns) schema.key schema.kept.key_in_range
-
-quiet_schema : (schema : Schema) → HasNames schema → Quiet (schema_bytes schema)
-quiet_schema schema h =
-    let named = columns_named schema h in
-    let columns : Quiet (columns_text schema) = quiet_both (schema.name ++ codes " (") (flat_map column_bytes schema.columns) (quiet_both schema.name (codes " (") (quiet_name schema.name h.name) (quiet_words (codes " (") refl))
-    (quiet_each column_bytes schema.columns (each_is (λ (d : Column). IsName d.name) (λ d. Quiet (column_bytes d)) quiet_column schema.columns named)) in
-    let names = join_by (λ place. (column_at schema.columns place).name) (codes ", ") schema.key in
-    let key : Quiet (key_text schema) = quiet_both (codes "primary key (" ++ names) (codes ")")
-    (quiet_both (codes "primary key (") names (quiet_words (codes "primary key (") refl) (quiet_list (λ place. (column_at schema.columns place).name) schema.key (quiet_places schema.columns schema.key (places_below schema) named))) (quiet_words (codes ")") refl) in
-    quiet_both (columns_text schema ++ key_text schema) (codes ")") (quiet_both (columns_text schema) (key_text schema) columns key) (quiet_words (codes ")") refl)
-
-quiet_create_words : (b : Bool) → Quiet (create_words b)
-quiet_create_words true = quiet_words (codes "create strict table ") refl
-quiet_create_words false = quiet_words (codes "create table ") refl
-
-create_outright : (b : Bool) (rest : List ℕ) → BeginsOutright (create_words b ++ rest)
-create_outright true rest = (refl, λ e f. omega (arith, e))
-create_outright false rest = (refl, λ e f. omega (arith, e))
-
-pub create_is_text : (schema : Schema) → HasNames schema → IsText (create_words schema.strict ++ schema_bytes schema)
-create_is_text schema h = record {
-  outright = create_outright schema.strict (schema_bytes schema);
-  ends = Outside;
-  leads = quiet_both (create_words schema.strict) (schema_bytes schema) (quiet_create_words schema.strict) (quiet_schema schema h);
-  closed = refl;
-}
-
-create_no_copy : (b : Bool) (rest : List ℕ) → IsCopy (create_words b ++ rest) → ⊥
-create_no_copy true rest h = omega (arith, ap (λ l. get_or l 1 0) h.copy)
-create_no_copy false rest h = omega (arith, ap (λ l. get_or l 1 0) h.copy)
-
-pub create_copies_not : (schema : Schema) → IsCopy (create_words schema.strict ++ schema_bytes schema) → ⊥
-create_copies_not schema h = create_no_copy schema.strict (schema_bytes schema) h
+use Rattle.text_again.proofs.Numbers.{few_digits}
+use Rattle.text_again.proofs.Outside.{quiet_both, quiet_words}
+use Rattle.text_again.proofs.Quotes.{doubled_length}
+use Rattle.text_again.proofs.Statements.{columns_named, column_bytes, column_named_at}
+use Rattle.text_again.proofs.Texts.{quiet_name, quiet_row, each_is, places_below}
 
 pub copy_is_text : (name : List ℕ) → IsName name → IsText (codes "copy " ++ name)
 copy_is_text name h = record { outright = (refl, λ e f. omega (arith, e)); ends = Outside; leads = quiet_both (codes "copy ") name (quiet_words (codes "copy ") refl) (quiet_name name h); closed = refl }
 
 pub copy_copies : (name : List ℕ) → IsCopy (codes "copy " ++ name)
 copy_copies name = record { more = 32 ∷ name; copy = refl; word = refl }
-
-quiet_number : (bytes : List ℕ) → IsWritten bytes → Quiet bytes
-quiet_number bytes w =
-    let plain = mono is_digit is_plain digit_plain (w.digit ∷ w.digits) w.each in
-    elim w.is [
-      | inl e ↦ subst Quiet (sym e) (quiet_plain (w.digit ∷ w.digits) plain)
-      | inr e ↦ subst Quiet (sym e) (quiet_minus w.digit w.digits plain)
-    ]
-
-quiet_literal : (v : Value) → IsValidValue v → Quiet (literal_bytes v)
-quiet_literal (Int n) valid = quiet_number (literal_bytes (Int n)) (is_written n (fits_to n valid))
-quiet_literal (Text t) valid = quiet_text t
-
-quiet_row : (row : List Value) → AllByRecursion IsValidValue row → Quiet (row_bytes row)
-quiet_row row valid =
-    quiet_both (codes "(" ++ join_by literal_bytes (codes ", ") row) (codes ")")
-    (quiet_both (codes "(") (join_by literal_bytes (codes ", ") row) (quiet_words (codes "(") refl) (quiet_list literal_bytes row (each_is IsValidValue (λ v. Quiet (literal_bytes v)) quiet_literal row valid))) (quiet_words (codes ")") refl)
 
 -- the text of the statement that inserts a row
 abbrev pub insert_bytes : List ℕ → List Value → List ℕ

@@ -8,7 +8,7 @@ use Rattle.csv_rows.specs.Dumps.{dump_text}
 use Rattle.cqa_session.specs.State.{State}
 use Rattle.cqa_session.specs.Runs.{Run, Closes, has_refusal}
 use Rattle.dump_law.specs.Again.{DumpRunsAgain, DumpAnswersAgain}
-use Rattle.dump_law.proofs.Cut.{whole_cut}
+use Rattle.text_again.proofs.Cut.{whole_cut}
 use Rattle.dump_law.proofs.Scripts.{TakesAll, all_run, all_once, dump_cut, dump_statements, dump_taken}
 use Rattle.dump_law.proofs.Steps.{with_tables}
 

@@ -1,6 +1,7 @@
-//! The law of dumps, over the definitions of the machine alone. Each is what its function ensures, so the build proves it.
+//! The laws of dumps and of certificates, over the definitions of the machine alone. Each is what its function ensures, so the build proves it.
 
 ghost use Rattle.dump_law.specs.Again.{DumpAnswersAgain, DumpRunsAgain};
+ghost use Rattle.dump_law.specs.Proved.{ProvedIsVerified};
 
 /// A dump, run from a state without tables, is refused nowhere and makes the same tables.
 pub fn dump_runs_again()
@@ -10,4 +11,9 @@ pub fn dump_runs_again()
 /// A call whose input is a dump ends without a refusal, and with the same tables.
 pub fn dump_answers_again()
     ensures { DumpAnswersAgain }
+{}
+
+/// Where a valid state may reply a certificate to a `prove`, the certificate is verified.
+pub fn proved_is_verified()
+    ensures { ProvedIsVerified }
 {}

@@ -1,4 +1,4 @@
-//! The law that a dump, run again, makes the same tables.
+//! The laws of what a session prints: a dump, run again, makes the same tables, and a certificate is verified.
 #![tactic(auto)]
 
 pub mod laws;

@@ -1,21 +1,23 @@
--- Words, integers, texts and single bytes stand first as the longest piece, where a space, a comma or a `)` follows.
-use Rattle.std.proofs.Common.{◌≡◌, inl, inr, ◌+◌, ◌<◌, ◌≤◌, ◌==◌, ◌||◌, ℕ, zero, suc, Bool, true, false, List, [], ◌∷◌, ◌++◌, length, take, refl, sym, subst, arith, length-append}
+-- Words, integers and operators stand first as the longest piece, where a space, a comma, a `)` or a dot follows.
+use Rattle.std.proofs.Common.{◌≡◌, inl, inr, ◌+◌, ◌<◌, ◌≤◌, ◌==◌, ◌||◌, ℕ, zero, suc, Bool, true, false, List, [], ◌∷◌, ◌++◌, length, take, get_or, refl, sym, ap, subst, arith, length-append}
 use Rattle.std.proofs.lemmas.Bool.Decides.{nat_tests}
 use Rattle.std.proofs.lemmas.List.{take_at}
 use Rattle.script_lex.specs.declared.bytes.Class.{Class}
 use Rattle.script_lex.specs.declared.bytes.Class.TheVariants as classes
+use Rattle.script_lex.specs.declared.kinds.Symbol.{Symbol}
+use Rattle.script_lex.specs.declared.kinds.Symbol.TheVariants as s
 use Rattle.script_lex.specs.declared.kinds.TokenKind.TheVariants.{Word, Int, Text, Sym}
 use Rattle.script_lex.specs.declared.pieces.PieceKind.{PieceKind}
 use Rattle.script_lex.specs.declared.pieces.PieceKind.TheVariants.{Blank, Comment, Token as OfToken}
 use Rattle.script_lex.specs.Bytes.{is_blank, is_letter, is_digit, is_word_byte, test_of, AllPass, Runs}
 use Rattle.script_lex.specs.TokenParts.{is_single}
-use Rattle.script_lex.specs.Tokens.{IsNumber, IsToken, IsPiece, IsLongest}
+use Rattle.script_lex.specs.Tokens.{symbol_bytes, IsNumber, IsToken, IsPiece, IsLongest}
 use Rattle.script_lex.proofs.FirstBytes.{first_of}
 use Rattle.script_lex.proofs.Longest.{word_stands, int_stands}
 
--- a space, a comma or a `)`
+-- a space, a comma, a `)` or a dot
 abbrev pub is_stop : ℕ → Bool
-is_stop b = (b == 32 || b == 44) || b == 41
+is_stop b = ((b == 32 || b == 44) || b == 41) || b == 46
 
 -- one of them stands first, or nothing does
 abbrev pub Stops : List ℕ → Type 0
@@ -92,3 +94,77 @@ minus_first b bs rest d s =
     longer zero j lt le p r = absurd (omega arith)
     longer (suc zero) j lt le p r = absurd (omega arith)
     longer (suc (suc m)) j lt le p r = r.stop (suc m) (omega arith) (omega arith) (dash_longer j 45 b (take m (bs ++ rest)) refl d.0 p)
+
+-- ---- operators
+
+-- a `<` or a `>`
+abbrev is_angle : ℕ → Bool
+is_angle b = b == 60 || b == 62
+
+angle_blank : (b : ℕ) → is_angle b ≡ true → is_blank b ≡ true → ⊥
+angle_blank b h k = grind (arith, nat_tests)
+
+angle_letter : (b : ℕ) → is_angle b ≡ true → is_letter b ≡ true → ⊥
+angle_letter b h k = grind (arith, nat_tests)
+
+angle_digit : (b : ℕ) → is_angle b ≡ true → (b == 45 || is_digit b) ≡ true → ⊥
+angle_digit b h k = grind (arith, nat_tests)
+
+angle_dash : (b : ℕ) → is_angle b ≡ true → (b == 45) ≡ true → ⊥
+angle_dash b h k = grind (arith, nat_tests)
+
+angle_quote : (b : ℕ) → is_angle b ≡ true → (b == 39) ≡ true → ⊥
+angle_quote b h k = grind (arith, nat_tests)
+
+-- what begins with one of them is an operator
+angle_longer : (k : PieceKind) (b : ℕ) (bs : List ℕ) → is_angle b ≡ true → IsPiece k (b ∷ bs) → (m : Symbol) × (b ∷ bs ≡ symbol_bytes m)
+angle_longer Blank b bs h p = absurd (angle_blank b h (first_of Blank b bs p))
+angle_longer Comment b bs h p = absurd (angle_dash b h (first_of Comment b bs p))
+angle_longer (OfToken Word) b bs h p = absurd (angle_letter b h (first_of (OfToken Word) b bs p))
+angle_longer (OfToken Int) b bs h p = absurd (angle_digit b h (first_of (OfToken Int) b bs p))
+angle_longer (OfToken Text) b bs h p = absurd (angle_quote b h (first_of (OfToken Text) b bs p))
+angle_longer (OfToken (Sym m)) b bs h p = (m, p)
+
+-- no symbol has a space, or three bytes
+no_space : (m : Symbol) → 32 ≡ get_or (symbol_bytes m) 1 0 → ⊥
+no_space s.Open e = omega (arith, e)
+no_space s.Close e = omega (arith, e)
+no_space s.Comma e = omega (arith, e)
+no_space s.Dot e = omega (arith, e)
+no_space s.Eq e = omega (arith, e)
+no_space s.Ne e = omega (arith, e)
+no_space s.Lt e = omega (arith, e)
+no_space s.Le e = omega (arith, e)
+no_space s.Gt e = omega (arith, e)
+no_space s.Ge e = omega (arith, e)
+
+no_three : (m : Symbol) (n : ℕ) → suc (suc (suc n)) ≡ length (symbol_bytes m) → ⊥
+no_three s.Open n e = omega (arith, e)
+no_three s.Close n e = omega (arith, e)
+no_three s.Comma n e = omega (arith, e)
+no_three s.Dot n e = omega (arith, e)
+no_three s.Eq n e = omega (arith, e)
+no_three s.Ne n e = omega (arith, e)
+no_three s.Lt n e = omega (arith, e)
+no_three s.Le n e = omega (arith, e)
+no_three s.Gt n e = omega (arith, e)
+no_three s.Ge n e = omega (arith, e)
+
+-- an operator of one byte, and a space
+pub short_first : (m : Symbol) (a : ℕ) (rest : List ℕ) → a ∷ [] ≡ symbol_bytes m → is_angle a ≡ true → IsLongest (OfToken (Sym m)) 1 (a ∷ 32 ∷ rest)
+short_first m a rest e h = record { within = omega arith; piece = e; longest = λ n j lt le p. longer n j lt p }
+  where
+    longer : (n : ℕ) (j : PieceKind) → 1 < n → IsPiece j (take n (a ∷ 32 ∷ rest)) → ⊥
+    longer zero j lt p = absurd (omega arith)
+    longer (suc zero) j lt p = absurd (omega arith)
+    longer (suc (suc n)) j lt p = let k = angle_longer j a (32 ∷ take n rest) h p in no_space k.0 (ap (λ l. get_or l 1 0) k.1)
+
+-- an operator of two bytes, and a space
+pub double_first : (m : Symbol) (a b : ℕ) (rest : List ℕ) → a ∷ b ∷ [] ≡ symbol_bytes m → is_angle a ≡ true → IsLongest (OfToken (Sym m)) 2 (a ∷ b ∷ 32 ∷ rest)
+double_first m a b rest e h = record { within = omega arith; piece = e; longest = λ n j lt le p. longer n j lt p }
+  where
+    longer : (n : ℕ) (j : PieceKind) → 2 < n → IsPiece j (take n (a ∷ b ∷ 32 ∷ rest)) → ⊥
+    longer zero j lt p = absurd (omega arith)
+    longer (suc zero) j lt p = absurd (omega arith)
+    longer (suc (suc zero)) j lt p = absurd (omega arith)
+    longer (suc (suc (suc n))) j lt p = let k = angle_longer j a (b ∷ 32 ∷ take n rest) h p in no_three k.0 (length (take n rest)) (ap length k.1)

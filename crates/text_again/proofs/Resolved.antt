@@ -25,7 +25,7 @@ use Rattle.query_resolve.specs.Checks.{fault_unless, first_fault, table_fault, d
 use Rattle.query_resolve.specs.Resolved.{ArePlacesOf, IsSchemaOf}
 use Rattle.query_resolve.proofs.Lookups.{named_at, named_nowhere}
 use Rattle.query_resolve.proofs.Members.{neither}
-use Rattle.dump_law.proofs.Statements.{key_names, raw_of}
+use Rattle.text_again.proofs.Statements.{key_names, raw_of}
 
 -- members with names, found by them
 module _ {A : Type 0} (f : A → List ℕ) (d : A) where
@@ -46,12 +46,12 @@ module _ {A : Type 0} (f : A → List ℕ) (d : A) where
       go (Some j) e = let h = named_at f d xs name j e in absurd (none j h.0 h.1)
 
 -- a list each of whose members passes behind those before it
-none_fails : {A : Type 0} (check : List A → A → Option Refusal) (before xs : List A) → ((front : List A) (x : A) (back : List A) → before ++ xs ≡ front ++ x ∷ back → check front x ≡ None) → first_fault check before xs ≡ None
+pub none_fails : {A : Type 0} (check : List A → A → Option Refusal) (before xs : List A) → ((front : List A) (x : A) (back : List A) → before ++ xs ≡ front ++ x ∷ back → check front x ≡ None) → first_fault check before xs ≡ None
 none_fails check before [] h = refl
 none_fails check before (x ∷ xs) h =
     neither (check before x) (first_fault check (before ++ x ∷ []) xs) (h before x xs refl) (none_fails check (before ++ x ∷ []) xs (λ front y back e. h front y back (sym (append_assoc before (x ∷ []) xs) ∙ e)))
 
-passing : (b : Bool) (refusal : Refusal) → b ≡ true → fault_unless b refusal ≡ None
+pub passing : (b : Bool) (refusal : Refusal) → b ≡ true → fault_unless b refusal ≡ None
 passing true refusal e = refl
 passing false refusal e = absurd (cc e)
 
@@ -59,7 +59,7 @@ module _ (columns : List Column) (key : List ℕ) (kept : IsSchema columns key) 
   abbrev name_at : ℕ → List ℕ
   name_at place = (column_at columns place).name
 
-  column_found : (p : ℕ) → p < length columns → column_named columns (name_at p) ≡ Some p
+  pub column_found : (p : ℕ) → p < length columns → column_named columns (name_at p) ≡ Some p
   column_found p l = found (λ (c : Column). c.name) (record { name = []; kind = Int }) columns p (name_at p) (λ j m e. kept.names_differ j p m l e) l refl
 
   fresh_column : (front : List Column) (c : Column) (back : List Column) → columns ≡ front ++ c ∷ back → duplicate_fault front c ≡ None

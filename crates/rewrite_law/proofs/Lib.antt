@@ -1,0 +1,10 @@
+pub mod Written
+pub mod Allowed
+pub mod Blocks
+pub mod Quiet
+pub mod Tables
+pub mod Resolving
+pub mod Reading
+pub mod Lengths
+pub mod Nodes
+pub mod Whole

@@ -1,0 +1,12 @@
+pub mod Pieces
+pub mod Quotes
+pub mod Outside
+pub mod Numbers
+pub mod Tokens
+pub mod Grammar
+pub mod Statements
+pub mod Says
+pub mod Cut
+pub mod Texts
+pub mod Fitting
+pub mod Resolved
