@@ -1,5 +1,5 @@
 -- What is answered to a query is answered to the statement that asks for it.
-use Rattle.std.proofs.Common.{◌≡◌, ℕ, inr, List, Option, None, Result, Ok, Err}
+use Rattle.std.proofs.Common.{◌≡◌, ℕ, inr, List, Option, None, Result, Ok, Err, refl, sym, subst}
 use Rattle.cqa_value.specs.declared.memory.Fail.{Fail}
 use Rattle.cqa_value.specs.declared.memory.Fail.TheVariants as fails
 use Rattle.cqa_model.specs.declared.query.Query.{Query}
@@ -7,15 +7,20 @@ use Rattle.cqa_model.specs.Database.{Table}
 use Rattle.row_sides.specs.declared.side.Side.{Side}
 use Rattle.search_answers.specs.declared.search.Searched.{Searched}
 use Rattle.search_answers.specs.declared.search.Searched.TheVariants.{All, Stopped}
-use Rattle.search_answers.specs.Searching.{IsSearched}
+use Rattle.search_answers.specs.declared.search.Stop.{Stop}
+use Rattle.search_answers.specs.declared.search.Stop.TheVariants as stops
+use Rattle.search_answers.specs.Searching.{IsSearched, IsStop}
 use Rattle.query_strategy.specs.Strategies.{NeedsSearch}
 use Rattle.refusals.specs.declared.refusal.Refusal.{Refusal}
 use Rattle.spj_syntax.specs.declared.tree.Select.{Select}
 use Rattle.query_resolve.specs.Resolved.{IsQueryOf}
+use Rattle.reply_text.specs.declared.reply.Proof.{Proof}
 use Rattle.reply_text.specs.declared.reply.Reply.{Reply}
 use Rattle.cqa_session.specs.State.{State}
 use Rattle.cqa_session.specs.Replying.{Replies, IsReplyOutcome}
-use Rattle.cqa_session.specs.Statements.Sides.{AnswersSide, FindsRows, TellsSide}
+use Rattle.cqa_session.specs.Statements.Sides.{AnswersSide, FindsRows, StopsSearch, TellsSide}
+use Rattle.cqa_session.specs.Statements.Untold.{RefusesStop}
+use Rattle.cqa_session.proofs.Spending.{spends}
 
 module _ (old new : State) (q : Query) (side : Side) where
   -- an answer to the query is one to the statement that asks for it
@@ -24,6 +29,13 @@ module _ (old new : State) (q : Query) (side : Side) where
   answered fault select (Ok reply) valid resolved told = inr (valid, record { query = q; resolved = resolved; told = told })
   answered fault select (Err (fails.Refused refusal)) valid resolved told = inr (valid, record { query = q; resolved = resolved; told = told })
   answered fault select (Err fails.NoMemory) valid resolved told = told
+
+-- the refusal of the row at which a search stopped
+pub search_stopped : (old new : State) (q : Query) (why : Stop) (refusal : Refusal) → IsStop q old.tables old.budget why → RefusesStop old why refusal new → StopsSearch old q refusal new
+search_stopped old new q (stops.Over row) refusal is told = subst (λ r. StopsSearch old q r new) (sym told.0) (is, told.1)
+search_stopped old new q (stops.Spent row cnf log) refusal is told =
+    let proof : Proof = record { cnf = cnf; log = log } in
+    subst (λ r. StopsSearch old q r new) (sym told.0) (spends old new q row old.budget proof is.0 refl told.1, is.1, is.2)
 
 -- what a search finds, of a query that needs one
 pub found_by_search : (q : Query) (db : List Table) (side : Side) (budget : ℕ) (found : Searched) → NeedsSearch q → IsSearched q db side budget found → FindsRows q db side budget found

@@ -9,6 +9,7 @@ use Rattle.cqa_model.specs.Database.{Table}
 use Rattle.refusals.specs.Refusal.{IsRefusedAs}
 use Rattle.table_blocks.specs.Tables.{table_named}
 use Rattle.reply_text.specs.declared.reply.Reply.{Reply}
+use Rattle.reply_text.specs.declared.reply.Reply.TheVariants.{Refused}
 use Rattle.cqa_session.specs.State.{State}
 use Rattle.cqa_session.specs.Replying.{on_table, Replies, IsReplyOutcome}
 
@@ -30,6 +31,12 @@ pub unrefused : (fault : Option Refusal) (old new : State) (May : Reply → Stat
 unrefused fault old new May (Ok reply) valid may = inr (valid, may)
 unrefused fault old new May (Err (fails.Refused refusal)) valid may = inr (valid, may)
 unrefused fault old new May (Err fails.NoMemory) valid may = may
+
+-- what may be answered, as what else may be
+pub replied_as : (old new : State) (Told May : Reply → State → Type 0) (result : Result Reply (Fail Refusal)) → ((reply : Reply) → Told reply new → May reply new) → IsReplyOutcome result old Told new → IsReplyOutcome result old May new
+replied_as old new Told May (Ok reply) turn told = turn reply told
+replied_as old new Told May (Err (fails.Refused refusal)) turn told = turn (Refused refusal) told
+replied_as old new Told May (Err fails.NoMemory) turn told = told
 
 -- at the exit of a `let .. else`
 pub none_found : {T : Type 0} (found : Option T) → ((x : T) → found ≡ Some x → ⊥) → IsNone found

@@ -12,6 +12,7 @@ mod Contesting
 mod Ranging
 pub mod Sayings
 mod Spending
+mod Uniting
 pub mod TableLines
 pub mod Valid
 pub mod Proving

@@ -17,9 +17,10 @@ use Rattle.cqa_model.specs.Database.{Table}
 use Rattle.cdcl.specs.declared.outcome.Outcome.TheVariants.{Spent}
 use Rattle.search_answers.specs.Deciding.{IsDecided}
 use Rattle.search_answers.specs.Searching.{IsSpentFor}
+use Rattle.union_ask.specs.Searching.{IsSpentIn}
 use Rattle.reply_text.specs.declared.reply.Proof.{Proof}
 use Rattle.cqa_session.specs.State.{State}
-use Rattle.cqa_session.specs.Statements.Spent.{IsDue, SpendsAt}
+use Rattle.cqa_session.specs.Statements.Spent.{IsDue, Spends, SpendsAt, SpendsIn}
 
 -- a propagation over some clauses is one over these and more
 wider : (clauses more : List (List Lit)) (p : List Lit) → IsPropagation clauses p → IsPropagation (clauses ++ more) p
@@ -42,6 +43,14 @@ pub spent_for : (q : Query) (db : List Table) (budget : ℕ) (row : List Value) 
 spent_for q db budget row cnf rows log decided = record { candidate = decided.says; rows = rows; formula = decided.formula; spent = decided.outcome }
 
 -- a budget is used up for a row
+spends_by : (IsSpent : Cnf → Log → Type 0) (old new : State) (conflicts : ℕ) (proof : Proof) → IsSpent proof.cnf proof.log → IsSpentLog proof.cnf old.budget proof.log.steps → conflicts ≡ old.budget →
+    new ≡ record old { last_log = Some proof } → Spends IsSpent old conflicts new
+spends_by IsSpent old new conflicts proof spent log told keeps = record { proof = proof; spent = spent; due = spent_is_due proof.cnf old.budget proof.log.steps log; told = told; keeps = keeps }
+
 pub spends : (old new : State) (q : Query) (row : List Value) (conflicts : ℕ) (proof : Proof) → IsSpentFor q old.tables old.budget row proof.cnf proof.log → conflicts ≡ old.budget →
     new ≡ record old { last_log = Some proof } → SpendsAt old q row conflicts new
-spends old new q row conflicts proof spent told keeps = record { proof = proof; spent = spent; due = spent_is_due proof.cnf old.budget proof.log.steps spent.spent; told = told; keeps = keeps }
+spends old new q row conflicts proof spent told keeps = spends_by (IsSpentFor q old.tables old.budget row) old new conflicts proof spent spent.spent told keeps
+
+pub spends_in : (old new : State) (parts : List Query) (row : List Value) (conflicts : ℕ) (proof : Proof) → IsSpentIn old.tables parts old.budget row proof.cnf proof.log → conflicts ≡ old.budget →
+    new ≡ record old { last_log = Some proof } → SpendsIn old parts row conflicts new
+spends_in old new parts row conflicts proof spent told keeps = spends_by (IsSpentIn old.tables parts old.budget row) old new conflicts proof spent spent.spent told keeps

@@ -5,7 +5,7 @@ use Rattle.spj_syntax.specs.declared.tree.Statement.TheVariants as statements
 use Rattle.spj_syntax.specs.declared.tree.Select.{Select}
 use Rattle.spj_syntax.specs.declared.tree.Verb.{Verb}
 use Rattle.spj_syntax.specs.declared.tree.Verb.TheVariants as verbs
-use Rattle.query_resolve.specs.Checks.{schema_fault, query_fault, range_join_fault}
+use Rattle.query_resolve.specs.Checks.{schema_fault, query_fault, range_join_fault, union_fault}
 use Rattle.refusals.specs.declared.refusal.Refusal.{Refusal}
 use Rattle.reply_text.specs.declared.reply.Reply.{Reply}
 use Rattle.reply_text.specs.declared.reply.Reply.TheVariants.{Refused}
@@ -29,6 +29,9 @@ use Rattle.cqa_session.specs.Statements.Sql.{WritesSql}
 use Rattle.cqa_session.specs.Statements.Explain.{Explains}
 use Rattle.cqa_session.specs.Statements.Against.{AnswersAgainst}
 use Rattle.cqa_session.specs.Statements.Prove.{ProvesRow}
+use Rattle.cqa_session.specs.Statements.AskUnion.{AnswersUnion}
+use Rattle.cqa_session.specs.Statements.PossibleUnion.{AnswersPossibleUnion}
+use Rattle.cqa_session.specs.Statements.ExplainUnion.{ExplainsUnion}
 use Rattle.cqa_session.specs.Statements.SetConflicts.{SetsConflicts}
 use Rattle.cqa_session.specs.Statements.ShowTables.{ShowsTables}
 use Rattle.cqa_session.specs.Statements.ShowConflicts.{ShowsConflicts}
@@ -60,6 +63,9 @@ fault_in old (statements.Copy name) block = copy_into_fault old.tables name
 fault_in old (statements.Range goal name tests group) block = range_fault old.tables name goal tests group
 fault_in old (statements.RangeJoin range) block = range_join_fault old.tables range
 fault_in old (statements.Asking verb select) block = query_fault old.tables select
+fault_in old (statements.AskUnion selects) block = union_fault old.tables selects.parts
+fault_in old (statements.PossibleUnion selects) block = union_fault old.tables selects.parts
+fault_in old (statements.ExplainUnion row selects) block = union_fault old.tables selects.parts
 fault_in old (statements.SetConflicts conflicts) block = None
 fault_in old statements.ShowTables block = None
 fault_in old statements.ShowConflicts block = None
@@ -76,6 +82,9 @@ Executes old (statements.Copy name) block reply new = CopiesInto old name block 
 Executes old (statements.Range goal name tests group) block reply new = TellsRange old name goal tests group reply new
 Executes old (statements.RangeJoin range) block reply new = TellsRangeJoin old range reply new
 Executes old (statements.Asking verb select) block reply new = Asks old verb select reply new
+Executes old (statements.AskUnion selects) block reply new = AnswersUnion old selects.parts reply new
+Executes old (statements.PossibleUnion selects) block reply new = AnswersPossibleUnion old selects.parts reply new
+Executes old (statements.ExplainUnion row selects) block reply new = ExplainsUnion old row selects.parts reply new
 Executes old (statements.SetConflicts conflicts) block reply new = SetsConflicts old conflicts reply new
 Executes old statements.ShowTables block reply new = ShowsTables old reply new
 Executes old statements.ShowConflicts block reply new = ShowsConflicts old reply new

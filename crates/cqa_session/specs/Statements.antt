@@ -9,13 +9,16 @@ pub mod Spent
 pub mod Kept
 pub mod Sides
 pub mod Ask
+pub mod AskUnion
 pub mod Possible
+pub mod PossibleUnion
 pub mod Disputed
 pub mod Classify
 pub mod Plan
 pub mod Sql
 pub mod Untold
 pub mod Explain
+pub mod ExplainUnion
 pub mod Against
 pub mod Prove
 pub mod Range

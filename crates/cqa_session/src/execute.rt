@@ -11,6 +11,7 @@ use crate::Session;
 use crate::statements::against::against;
 use crate::statements::alter::alter;
 use crate::statements::ask::ask;
+use crate::statements::ask_union::ask_union;
 use crate::statements::classify::classify;
 use crate::statements::copy::copy;
 use crate::statements::create::create;
@@ -18,9 +19,11 @@ use crate::statements::delete::delete;
 use crate::statements::disputed::disputed;
 use crate::statements::dump::dump;
 use crate::statements::explain::explain;
+use crate::statements::explain_union::explain_union;
 use crate::statements::insert::insert;
 use crate::statements::plan::plan;
 use crate::statements::possible::possible;
+use crate::statements::possible_union::possible_union;
 use crate::statements::prefer::prefer;
 use crate::statements::prove::prove;
 use crate::statements::range::range;
@@ -87,6 +90,9 @@ fn done(
         } => range(alloc, session, table, goal, tests.as_slice(), group),
         Statement::RangeJoin { range } => range_of_join(alloc, session, range),
         Statement::Asking { verb, select } => asked(alloc, session, verb, select),
+        Statement::AskUnion(selects) => ask_union(alloc, session, selects),
+        Statement::PossibleUnion(selects) => possible_union(alloc, session, selects),
+        Statement::ExplainUnion { row, selects } => explain_union(alloc, session, row, selects),
         Statement::SetConflicts(conflicts) => set_conflicts(session, *conflicts),
         Statement::ShowTables => show_tables(alloc, session),
         Statement::ShowConflicts => show_conflicts(alloc, session),

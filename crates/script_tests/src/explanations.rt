@@ -32,8 +32,9 @@ struct Refuting {
     formula: &'static [u8],
 }
 
-/// A row that is certain through different rows in different repairs, and one whose formula propagation alone doesn't decide.
-const REFUTING: [Refuting; 2] = [
+/// A row that is certain through different rows in different repairs, and one whose formula propagation alone doesn't decide;
+/// and rows that are certain for a union and for none of its parts: over one table, and over two with a part that stands twice.
+const REFUTING: [Refuting; 4] = [
     Refuting {
         script: b"create table r (x int, y int, primary key (x));
 create table s (y int, x int, primary key (y));
@@ -57,6 +58,25 @@ explain row () for exists from r, s where r.x = s.x and r.y = s.y;
 ",
         before: b"created r\ncreated s\ninserted 4\ninserted 2\nconflicts 0\n()\n1 rows\ncertain by refutation\n",
         formula: b"p cnf 6 7\n1 2 0\n3 4 0\n5 6 0\n-1 -5 0\n-2 -5 0\n-3 -6 0\n-4 -6 0\nlrat\n",
+    },
+    Refuting {
+        script: b"create table r (x int, y int, primary key (x));
+insert into r values (1, 1), (1, 2);
+explain row (1) for select x from r where y = 1 union select x from r where y = 2;
+",
+        before: b"created r\ninserted 2\ncertain by refutation\n",
+        formula: b"p cnf 2 3\n1 2 0\n-1 0\n-2 0\nlrat\n",
+    },
+    Refuting {
+        script: b"create table c (x int, y int, primary key (x));
+create table d (x int, y int, primary key (x));
+insert into c values (1, 1), (1, 2);
+insert into d values (1, 1), (1, 2);
+explain row () for exists from d, c where d.y = c.y union exists from c, d where c.y = 1 and d.y = 2
+    union exists from d, c where c.y = 2 and d.y = 1 union exists from c, d where c.y = 1 and d.y = 2;
+",
+        before: b"created c\ncreated d\ninserted 2\ninserted 2\ncertain by refutation\n",
+        formula: b"p cnf 4 7\n1 2 0\n3 4 0\n-1 -3 0\n-2 -4 0\n-1 -4 0\n-2 -3 0\n-1 -4 0\nlrat\n",
     },
 ];
 

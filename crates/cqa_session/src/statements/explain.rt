@@ -93,7 +93,7 @@ pub fn rejected(alloc: Global, db: &Database, names: Items<RowId>) -> Result<Rep
 }
 
 /// The reply that tells a refutation of a row's formula, which is kept as the last log.
-fn refuted(alloc: Global, session: &mut Session, proof: Proof) -> Result<Reply, NoMemory>
+pub fn refuted(alloc: Global, session: &mut Session, proof: Proof) -> Result<Reply, NoMemory>
     ensures told { IfOk result (λ reply. reply ≡ Reply.ByRefutation proof) }
     ensures kept { IfOk result (λ reply. session.new ≡ record session.old { last_log = Some proof }) }
     ensures err { OnErr result (session.new ≡ session.old) }

@@ -8,12 +8,12 @@ ghost use Rattle.cqa_model.specs.Query.{FitsDatabase};
 ghost use Rattle.fo_rewrite.specs.Planning.{IsExact};
 ghost use Rattle.row_sides.specs.Sides.{IsAnswerOf, IsDisputedAnswer};
 ghost use Rattle.query_resolve.specs.Checks.{query_fault};
-ghost use Rattle.search_answers.specs.Searching.{IsStop};
 ghost use Rattle.query_strategy.specs.Strategies.{IsStrategyOf};
 ghost use Rattle.cqa_session.specs.Replying.{Replies, IsReplyOutcome};
-ghost use Rattle.cqa_session.specs.Statements.Sides.{AnswersSide, FindsRows, StopsSearch, TellsSide};
+ghost use Rattle.cqa_session.specs.Statements.Sides.{AnswersSide, FindsRows, TellsSide};
 
 use crate::Session;
+use crate::statements::untold::refuse_stop;
 use cqa_model::{MOST_ATOMS, Plan, Query};
 use cqa_value::{Fail, Items, NoMemory, Row};
 use fo_plan::certain_by_plan;
@@ -22,9 +22,9 @@ use pair_formula::{PairQuery, rows_by_pairs};
 use query_resolve::resolve;
 use query_strategy::{Strategy, strategy_by_sizes};
 use refusals::Refusal;
-use reply_text::{Proof, Reply};
+use reply_text::Reply;
 use row_sides::{Side, without};
-use search_answers::{Searched, Stop, rows_by_search};
+use search_answers::{Searched, rows_by_search};
 use spj_syntax::Select;
 use std::alloc::Global;
 use table_blocks::Bound;
@@ -107,34 +107,19 @@ fn find_rows(
     }
 }
 
-/// Says why a search stopped. Where its budget is used up, the row's formula is kept with the spent log.
-fn stopped(session: &mut Session, query: &Query, stop: Stop) -> Refusal
-    requires { IsStop query.now session.old.tables session.old.budget stop }
-    ensures { StopsSearch session.old query.now result session.new }
-{
-    match stop {
-        Stop::Over(row) => Refusal::WitnessLimit { row },
-        Stop::Spent { row, cnf, log } => {
-            let conflicts = session.budget();
-            session.keep_log(Proof { cnf, log });
-            Refusal::Spent { row, conflicts }
-        }
-    }
-}
-
 /// What the method of a query came to, as a reply.
 fn reply_to(
     session: &mut Session,
-    query: &Query,
+    _query: &Query,
     _side: Side,
     found: Searched,
 ) -> Result<Reply, Fail<Refusal>>
-    requires { FindsRows query.now session.old.tables _side session.old.budget found }
-    ensures { IsReplyOutcome result session.old (TellsSide session.old query.now _side) session.new }
+    requires { FindsRows _query.now session.old.tables _side session.old.budget found }
+    ensures { IsReplyOutcome result session.old (TellsSide session.old _query.now _side) session.new }
 {
     match found {
         Searched::All(rows) => Ok(Reply::Rows(rows)),
-        Searched::Stopped(stop) => Err(Fail::Refused(stopped(session, query, stop))),
+        Searched::Stopped(stop) => Err(Fail::Refused(refuse_stop(session, stop))),
     }
 }
 

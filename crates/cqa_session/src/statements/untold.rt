@@ -1,13 +1,14 @@
-//! The refusal of a row of which nothing is told: what `explain` and `against` refuse.
+//! The refusal of a row of which nothing is told: what `explain` and `against` refuse, and what a search for all rows stops at.
 
 ghost use Rattle.cqa_value.specs.declared.memory.Fail.TheVariants.{Refused};
-ghost use Rattle.cqa_session.specs.Statements.Untold.{RefusesRow};
+ghost use Rattle.cqa_session.specs.Statements.Untold.{RefusesRow, RefusesStop};
 
 use crate::Session;
 use cqa_value::{Fail, NoMemory, Row};
 use query_strategy::Untold;
 use refusals::Refusal;
 use reply_text::Proof;
+use search_answers::Stop;
 use std::alloc::Global;
 
 /// The refusal of a row. Where the budget is used up, the row's formula is kept with the spent log.
@@ -21,6 +22,16 @@ fn refusal_of(session: &mut Session, row: Row, stop: Untold) -> Refusal
             session.keep_log(Proof { cnf, log });
             Refusal::Spent { row, conflicts }
         }
+    }
+}
+
+/// The refusal of the row at which a search for all rows stopped.
+pub fn refuse_stop(session: &mut Session, stop: Stop) -> Refusal
+    ensures { RefusesStop session.old stop result session.new }
+{
+    match stop {
+        Stop::Over(row) => refusal_of(session, row, Untold::Over),
+        Stop::Spent { row, cnf, log } => refusal_of(session, row, Untold::Spent { cnf, log }),
     }
 }
 

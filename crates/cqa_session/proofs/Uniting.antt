@@ -1,0 +1,70 @@
+-- What is answered to unions.
+use Rattle.std.proofs.Common.{◌≡◌, List, None, Some, map, Result, Err, refl, sym, ap, ◌∙◌, subst}
+use Rattle.cqa_value.specs.declared.memory.Fail.{Fail}
+use Rattle.cqa_value.specs.declared.memory.Fail.TheVariants as fails
+use Rattle.cqa_value.specs.declared.value.Value.{Value}
+use Rattle.cqa_model.specs.declared.query.Query.{Query}
+use Rattle.cqa_model.specs.declared.query.RowId.{RowId}
+use Rattle.cqa_model.specs.Database.{Table}
+use Rattle.refusals.specs.declared.refusal.Refusal.{Refusal}
+use Rattle.spj_syntax.specs.declared.tree.Select.{Select}
+use Rattle.query_resolve.specs.Checks.{union_fault, union_row_fault}
+use Rattle.query_resolve.specs.Resolved.{AreQueriesOf}
+use Rattle.query_strategy.specs.declared.reason.Reason.TheVariants as reasons
+use Rattle.query_strategy.specs.declared.reason.Untold.{Untold}
+use Rattle.query_strategy.specs.declared.reason.Untold.TheVariants as untold
+use Rattle.search_answers.specs.declared.search.Stop.{Stop}
+use Rattle.search_answers.specs.declared.search.Stop.TheVariants as stops
+use Rattle.union_ask.specs.Reasons.{IsReasonIn, IsUntoldIn}
+use Rattle.union_ask.specs.Searching.{IsStopIn}
+use Rattle.reply_text.specs.declared.reply.Proof.{Proof}
+use Rattle.reply_text.specs.declared.reply.Reply.{Reply}
+use Rattle.reply_text.specs.declared.reply.Reply.TheVariants as replies
+use Rattle.cqa_session.specs.State.{State}
+use Rattle.cqa_session.specs.Replying.{Replies, IsReplyOutcome}
+use Rattle.cqa_session.specs.Statements.Kept.{kept_line}
+use Rattle.cqa_session.specs.Statements.Untold.{RefusesRow, RefusesStop}
+use Rattle.cqa_session.specs.Statements.AskUnion.{AnswersUnion, StopsUnion, TellsUnion}
+use Rattle.cqa_session.specs.Statements.ExplainUnion.{ExplainsUnion, MayTellUnion, StopsUnionFor}
+use Rattle.cqa_session.proofs.Doing.{replied_as, unrefused}
+use Rattle.cqa_session.proofs.Spending.{spends_in}
+
+module _ (old new : State) (parts : List Query) where
+  -- the refusal of the row at which a search stopped
+  pub union_stopped : (why : Stop) (refusal : Refusal) → IsStopIn old.tables parts old.budget why → RefusesStop old why refusal new → StopsUnion old parts refusal new
+  union_stopped (stops.Over row) refusal is told = subst (λ r. StopsUnion old parts r new) (sym told.0) (is, told.1)
+  union_stopped (stops.Spent row cnf log) refusal is told =
+      let proof : Proof = record { cnf = cnf; log = log } in
+      subst (λ r. StopsUnion old parts r new) (sym told.0) (spends_in old new parts row old.budget proof is.0 refl told.1, is.1, is.2)
+
+  -- the refusal of a row whose reason isn't told
+  pub union_untold : (row : List Value) (why : Untold) (fault : Fail Refusal) → IsUntoldIn old.tables parts row old.budget why → RefusesRow old row why fault new → IsReplyOutcome (Err fault) old (MayTellUnion old parts row) new
+  union_untold row why fails.NoMemory is told = told
+  union_untold row untold.Over (fails.Refused refusal) is told = subst (λ r. StopsUnionFor old parts row r new) (sym told.0) (refl, is, told.1)
+  union_untold row (untold.Spent cnf log) (fails.Refused refusal) is told =
+      let proof : Proof = record { cnf = cnf; log = log } in
+      subst (λ r. StopsUnionFor old parts row r new) (sym told.0) (refl, is.0, spends_in old new parts row old.budget proof is.1 refl told.1)
+
+  -- a formula with its refutation, which is kept
+  pub union_refuted : (row : List Value) (proof : Proof) (reply : Reply) → IsReasonIn old.tables parts row old.budget (reasons.Refuted proof.cnf proof.log) → reply ≡ replies.ByRefutation proof → new ≡ record old { last_log = Some proof } →
+      MayTellUnion old parts row reply new
+  union_refuted row proof reply reason told kept = subst (λ z. MayTellUnion old parts row z new) (sym told) (reason, kept)
+
+  -- what is answered to the parts is answered to the statement
+  pub union_answered : (selects : List Select) (result : Result Reply (Fail Refusal)) → union_fault old.tables selects ≡ None → AreQueriesOf old.tables selects parts → IsReplyOutcome result old (TellsUnion old parts) new →
+      IsReplyOutcome result old (Replies (union_fault old.tables selects) old (AnswersUnion old selects)) new
+  union_answered selects result valid resolved told =
+      unrefused (union_fault old.tables selects) old new (AnswersUnion old selects) result valid
+      (replied_as old new (TellsUnion old parts) (AnswersUnion old selects) result (λ reply t. record { parts = parts; resolved = resolved; told = t }) told)
+
+  pub union_explained : (row : List Value) (selects : List Select) (result : Result Reply (Fail Refusal)) → union_fault old.tables selects ≡ None → AreQueriesOf old.tables selects parts →
+      IsReplyOutcome result old (Replies (union_row_fault old.tables parts row) old (MayTellUnion old parts row)) new → IsReplyOutcome result old (Replies (union_fault old.tables selects) old (ExplainsUnion old row selects)) new
+  union_explained row selects result valid resolved told =
+      unrefused (union_fault old.tables selects) old new (ExplainsUnion old row selects) result valid
+      (replied_as old new (Replies (union_row_fault old.tables parts row) old (MayTellUnion old parts row)) (ExplainsUnion old row selects) result (λ reply t. record { parts = parts; resolved = resolved; replied = t }) told)
+
+-- a repair, told by the lines of its rows
+pub union_rejected : (old : State) (parts : List Query) (row : List Value) (db : List Table) (names : List RowId) (reply : Reply) → db ≡ old.tables → IsReasonIn old.tables parts row old.budget (reasons.Rejected names) →
+    reply ≡ replies.Rejected (map (kept_line db) names) → MayTellUnion old parts row reply old
+union_rejected old parts row db names reply tables reason told =
+    subst (λ z. MayTellUnion old parts row z old) (sym (told ∙ ap (λ z. replies.Rejected (map (kept_line z) names)) tables)) ((names, reason, refl), refl)
