@@ -226,6 +226,13 @@ def strong_cycle(n):
     return ours + ["ask select lhs.g from lhs, rhs where lhs.g = rhs.g and lhs.z = rhs.z;"], None
 
 
+def united_cycle(n):
+    """The same as a union of two parts, by the value in which the rows meet."""
+    ours, _ = strong_cycle(n)
+    query = ours[-1][len("ask "):-1]
+    return ours[:-1] + ["ask %s and lhs.z = 0 union %s and lhs.z = 1;" % (query, query)], None
+
+
 def path_of_three(n):
     """Three tables of about n rows, each joined to the key of the next, with conflicts in each."""
     parts = []
@@ -408,6 +415,7 @@ LOADS = [
     ("certain rows of a join off keys, by a plan", join_off_keys, 25000),
     ("certain rows of a strong cycle, by formulas", strong_cycle, 20000),
     ("disputed rows of the same cycle", strong_cycle_disputed, 20000),
+    ("certain rows of the same cycle, as a union of two parts", united_cycle, 20000),
     ("a weak cycle of two tables, without a search", weak_cycle, 25000),
     ("a weak cycle of two tables, shuffled", shuffled_weak_cycle, 25000),
     ("a weak pair of two wide blocks", wide_weak_blocks, 25000),
@@ -424,7 +432,7 @@ LOADS = [
 
 NEWER = {"range": (ranges_of_ones, ranges_of_twos, ranges_of_one_block, ranges_of_ends),
          "disputed": (persons_disputed, strong_cycle_disputed), "against": (against_one_person, against_all),
-         "show conflicts": (shown_conflicts,), "prefer": (preferred,), "range count from r ,": (joined_range,),
+         "ask exists from r union": (united_cycle,), "show conflicts": (shown_conflicts,), "prefer": (preferred,), "range count from r ,": (joined_range,),
          "range count from r , s group": (joined_groups,)}
 """Loads with statements that an older program doesn't know, by their first words."""
 

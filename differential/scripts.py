@@ -3,7 +3,7 @@
 
     differential/scripts.py [PROGRAM] [--seed S] [--count N] [--pieces]
 
-Half of the scripts ask joins of four to six tables that have a plan; the others have queries of all kinds.
+Half of the scripts ask joins of four to six tables that have a plan; the others have queries of all kinds, and unions of them.
 
 Where a reply is free, it is judged by what it has to be: the repair of an explanation must hold no witness of its row, a
 refutation must be one of the row's formula and `check` must verify it, and a search may be refused as spent only where its
@@ -23,7 +23,7 @@ import subprocess
 import sys
 import time
 
-from model import MOST_REPAIRS, OPS, Query, Table, literal, row_text
+from model import OPS, Query, Table, Union, literal, row_text
 
 TOP = os.path.dirname(os.path.dirname(os.path.abspath(__file__)))
 PROGRAM = os.path.join(TOP, "crates", "cqa_cli", "out", "cqa_cli")
@@ -33,8 +33,6 @@ LEAST = -9223372036854775808
 AMOUNTS = [LEAST, -7, -1, 0, 2, 2, 5, 9223372036854775807]
 MOST_RANGED = 300
 """The most repairs that are gone over for a range."""
-MOST_WORK = 300_000
-"""The most rows that are gone over for a question, of all repairs together."""
 
 
 class Differs(Exception):
@@ -325,9 +323,10 @@ class Script:
         pairs = [(one, other) for one in lefts for other in columns if kind(one) == kind(other)]
         return self.random.choice([pair for pair in pairs if fits(*pair) and pair not in joins] or pairs)
 
-    def query(self):
+    def query(self, stored=None):
+        """A query of some tables, which are copied unless they are given."""
         pick = self.random
-        tables = [table.copy() for table in pick.sample(self.tables, pick.randint(1, min(4, len(self.tables))))]
+        tables = pick.sample(stored or [table.copy() for table in self.tables], pick.randint(1, min(4 if stored is None else 2, len(self.tables))))
         columns = [(atom, place) for atom, table in enumerate(tables) for place in range(len(table.columns))]
 
         def kind(column):
@@ -342,6 +341,92 @@ class Script:
             tests.append((column, pick.choice(["=", "=", "<>", "<", "<=", ">", ">="]), self.kind_of_value(kind(column))))
         answer = [pick.choice(columns) for _ in range(pick.randint(0, 3))]
         return Query(tables, answer, joins, tests)
+
+    # Unions.
+
+    def part_like(self, part):
+        """The same query with a test more, mostly of a value that stands in a block of several rows."""
+        pick = self.random
+        told = [((atom, place), block[0][place]) for atom, table in enumerate(part.tables) for block in table.conflicts()
+                for place in range(len(table.columns)) if len({row[place] for row in block}) > 1]
+        if told and pick.random() < 0.8:
+            column, value = pick.choice(told)
+        else:
+            column = pick.choice([(atom, place) for atom, table in enumerate(part.tables) for place in range(len(table.columns))])
+            value = self.kind_of_value(part.tables[column[0]].columns[column[1]][1])
+        return Query(part.tables, part.answer, part.joins, part.tests + [(column, pick.choice(sorted(OPS)), value)])
+
+    def opposites(self, part):
+        """Two parts of which each row of a query's witness meets one."""
+        one = self.part_like(part)
+        column, op, value = one.tests[-1]
+        other = {"=": "<>", "<>": "=", "<": ">=", ">=": "<", ">": "<=", "<=": ">"}[op]
+        return [one, Query(part.tables, part.answer, part.joins, part.tests + [(column, other, value)])]
+
+    def part_beside(self, stored, kinds):
+        """Any query whose answers have these kinds, if the tables of one have such columns."""
+        part = self.query(stored)
+        columns = [(atom, place) for atom, table in enumerate(part.tables) for place in range(len(table.columns))]
+        fits = [[one for one in columns if part.tables[one[0]].columns[one[1]][1] == kind] for kind in kinds]
+        return [Query(part.tables, [self.random.choice(of) for of in fits], part.joins, part.tests)] if all(fits) else []
+
+    def any_union(self):
+        pick, stored = self.random, [table.copy() for table in self.tables]
+        first = self.query(stored)
+        parts = self.opposites(first) if pick.random() < 0.8 else [first, pick.choice([first, self.part_like(first)])]
+        for _ in range(pick.choice([0, 0, 1, 1, 2])):
+            parts += self.part_beside(stored, first.kinds())
+        return Union(stored, pick.sample(parts, len(parts)))
+
+    def union(self):
+        """A union, half of them with a row that is certain for it and for none of its parts, if one is found soon."""
+        tried = [self.any_union() for _ in range(self.random.choice([1, 30]))]
+        return next((one for one in tried if one.is_small() and one.surplus()), tried[0])
+
+    def united(self):
+        """A question of a union, or one with a fault."""
+        union = self.union()
+        if self.random.random() < 0.15:
+            return self.refused_union(union)
+        if not union.is_small():
+            return None
+        verb = self.random.choice(["ask", "ask", "possible", "explain", "explain"])
+        if verb == "possible":
+            return self.replied("possible %s;" % union.text(), *rows_lines(union.possible()))
+        if verb == "explain":
+            self.explain_one(union, self.explain)
+        else:
+            self.ask(union)
+        return self.show_log()
+
+    def refused_union(self, union):
+        """A union with a fault or two, of which the first one in the order of checks is told: the number of parts, each part's query, the
+        kinds of the parts' answers, the row of an `explain`."""
+        pick, texts, faults = self.random, [part.text() for part in union.parts], []
+        kinds = union.kinds()
+        for number, part in enumerate(union.parts[1:], 2):
+            how = pick.choice(["", "table", "longer", "kind"])
+            if how == "table":
+                texts[number - 1] += ", nowhere" if " where " not in texts[number - 1] else " and nowhere.c0 = 1"
+                faults.append((0, number, "error 4 UnknownTable nowhere"))
+            elif how == "longer":
+                texts[number - 1] = Query(part.tables, part.answer + [(0, 0)], part.joins, part.tests).text()
+                faults.append((1, number, "error 10 WrongArity row %d" % number))
+            elif how == "kind":
+                columns = [(atom, place) for atom, table in enumerate(part.tables) for place in range(len(table.columns))]
+                answer = [pick.choice(columns) for _ in kinds]
+                changed = Query(part.tables, answer, part.joins, part.tests)
+                texts[number - 1] = changed.text()
+                differ = [place for place, (one, other) in enumerate(zip(kinds, changed.kinds()), 1) if one != other]
+                faults += [(1, number, "error 9 TypeMismatch row %d column %d" % (number, place)) for place in differ[:1]]
+        if pick.random() < 0.2:
+            texts += texts[:1] * (9 - len(texts))
+            faults.append((-1, 0, "error 16 Limit selects 8"))
+        verb = pick.choice(["ask", "possible", "explain row %s for" % row_text(tuple(map(self.kind_of_value, kinds)) + (1,))])
+        if verb.startswith("explain"):
+            faults.append((2, 0, "error 10 WrongArity row 1"))
+        if faults:
+            self.replied("%s %s;" % (verb, " union ".join(texts)), min(faults)[2])
 
     def turned(self):
         """A query with a literal on the left of a condition."""
@@ -478,10 +563,10 @@ class Script:
         self.ask_of(self.query())
 
     def ask_of(self, query):
-        if query.number_of_repairs() > MOST_REPAIRS or query.work() > MOST_WORK:
+        if not query.is_small():
             return
         self.ask_or_explain(query)
-        if needs_search(query):
+        if query.needs_search():
             self.show_log()
 
     def ask_or_explain(self, query):
@@ -514,7 +599,7 @@ class Script:
 
     def disputed(self, query):
         """The rows that are possible and not certain. Where a search may be spent, an `ask` before it is refused at the same row."""
-        first = self.ask(query) if needs_search(query) and self.random.random() < 0.5 else []
+        first = self.ask(query) if query.needs_search() and self.random.random() < 0.5 else []
         self.searched("disputed", query, query.disputed(), first)
 
     def searched(self, verb, query, rows, refused=()):
@@ -528,13 +613,13 @@ class Script:
                 raise Differs("ask says %s" % refused[0])
             is_searched(out, query, budget, query.possible(), lines)
 
-        self.say(text, judge if needs_search(query) else lambda out: out.expect(*lines))
+        self.say(text, judge if query.needs_search() else lambda out: out.expect(*lines))
         return first
 
     def explain_one(self, query, explain):
         """Why some row is certain or isn't: mostly a possible one, and rarely one that doesn't fit the query."""
         candidates = query.possible()
-        row = tuple(self.kind_of_value(query.tables[atom].columns[place][1]) for atom, place in query.answer)
+        row = tuple(map(self.kind_of_value, query.kinds()))
         if self.random.random() < 0.05:
             return self.misfit(query, row, explain.__name__)
         if candidates and self.random.random() < 0.8:
@@ -555,7 +640,7 @@ class Script:
         """The rows that stand against a row, where it isn't certain."""
         text = "against row %s for %s;" % (row_text(row), query.text())
         budget, judge = self.budget, is_certain if row in query.certain() else lambda out: is_against(out, query, row)
-        if needs_search(query) and is_spent_for(query, row, budget):
+        if query.needs_search() and is_spent_for(query, row, budget):
             self.say(text, lambda out: is_spent(out, query, budget, [row]) or judge(out))
         else:
             self.say(text, judge)
@@ -563,7 +648,7 @@ class Script:
     def explain(self, query, row):
         text = "explain row %s for %s;" % (row_text(row), query.text())
         plan, holds, budget = query.plan(), row in query.certain(), self.budget
-        if needs_search(query) and is_spent_for(query, row, budget):
+        if query.needs_search() and is_spent_for(query, row, budget):
             judge = is_refutation if holds else is_rejection
             self.say(text, lambda out: is_spent(out, query, budget, [row]) or judge(out, query, row))
         elif not holds:
@@ -577,7 +662,7 @@ class Script:
     def make(self, length):
         steps = [self.insert] * 8 + [lambda: self.insert(copy=True)] * 2 + [self.asked] * 6
         steps += [self.delete, self.prefer, self.alter, self.show, self.show_conflicts, self.set_conflicts, self.show_log]
-        steps += [self.crossed, self.turned]
+        steps += [self.crossed, self.turned, self.united, self.united]
         steps += [self.ranged, self.ranged, self.amounts, self.joined, self.sales]
         for _ in range(self.random.randint(1, 4)):
             self.create()
@@ -787,11 +872,6 @@ def shows_log(out):
         out.expect(*out.log)
     else:
         is_spent_log(out, *out.owed)
-
-
-def needs_search(query):
-    """Whether a query has no plan, and isn't of two tables that attack each other weakly."""
-    return query.plan() is None and not (len(query.tables) == 2 and query.classify()[0] == "polynomial")
 
 
 def propagated(clauses):

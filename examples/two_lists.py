@@ -78,6 +78,9 @@ def main():
 
     script.append("-- Whose name is certain, of those who are certainly in Oslo?")
     ask("select id, name", " where town = 'Oslo'", lambda row: row[2] == "Oslo", lambda row: row[:2])
+    script.append("-- And of those who are certainly in Oslo or in Bergen, though it may be open in which of them?")
+    ask("select id, name", " where town = 'Oslo' union select id, name from customer where town = 'Bergen'",
+        lambda row: row[2] in ("Bergen", "Oslo"), lambda row: row[:2])
     script.append("-- Who is certainly not in Oslo?")
     ask("select id", " where town <> 'Oslo'", lambda row: row[2] != "Oslo", lambda row: row[:1])
     script.append("-- What is certain of whom, and what is in conflict?")

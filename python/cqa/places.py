@@ -121,6 +121,8 @@ def _offset(tokens: List[Token], refusal: str, name: str, length: int) -> int:
     if name in _NAMED and fields:
         return _named(tokens, fields[0], name)
     row = re.search(r" row (\d+)(?: column (\d+))?", refusal)
+    if row and int(row[1]) > 1 and tokens and tokens[0][0] in (b"ask", b"possible", b"explain"):
+        return _in_part(tokens, int(row[1]), int(row[2] or 0))
     if row and tokens and tokens[0][0] in (b"insert", b"explain", b"against", b"prove"):
         return _in_row(tokens, int(row[1]), int(row[2] or 0))
     condition = re.search(r" condition (\d+)$", refusal)
@@ -146,6 +148,18 @@ def _in_row(tokens: List[Token], row: int, column: int) -> int:
         return 0
     at = begins[row - 1] + (2 * column - 1 if column else 0)
     return tokens[at][1] if at < len(tokens) else 0
+
+
+def _in_part(tokens: List[Token], part: int, column: int) -> int:
+    """The offset of a part of a union, or of a column that it selects, counted from 1."""
+    words = [word for word, _ in tokens]
+    begins = [at for at in range(1, len(words)) if words[at - 1] == b"union" and words[at] in (b"select", b"exists")]
+    if part - 1 > len(begins):
+        return 0
+    at = begins[part - 2] + (1 if column else 0)
+    for _ in range(column - 1):
+        at = words.index(b",", at) + 1
+    return tokens[at][1]
 
 
 def _condition(tokens: List[Token], number: int) -> int:

@@ -19,7 +19,7 @@ from .errors import Refused, ScaleWarning
 from .files import standard_output, written
 from .rows import Cell, Rows
 from .running import QUERY_VERBS, Answer, loaded
-from .scripts import Schema, aggregate_of, quoted, selected, tokens, without_comments
+from .scripts import Schema, aggregate_of, parts_of, quoted, selected, tokens, without_comments
 from .session import Session
 from .words import told as words_told
 
@@ -172,13 +172,13 @@ def _question_part(session: Session, number: int, question: Question) -> str:
         return head + _range_part(session, question.query)
     try:
         certain, possible = session.certain(question.query), session.possible(question.query)
-        classified = session.classify(question.query)
+        classified = session.classify(question.query) if len(parts_of(question.query)) == 1 else None
     except Refused as refused:
         return head + '<p class="odd">%s</p>' % page.text(refused.line)
     known = set(certain)
     disputed = Rows(possible.columns, (row for row in possible if row not in known))
-    return "".join([head, _answer_part(certain, disputed), _class_part(question.query, classified),
-                    _why_part(session, question, disputed)])
+    told = _class_part(question.query, classified) if classified else "<p>A union: each row is decided by a formula of its own.</p>"
+    return "".join([head, _answer_part(certain, disputed), told, _why_part(session, question, disputed)])
 
 
 def _range_part(session: Session, aggregate: str) -> str:
@@ -227,10 +227,12 @@ def _why_part(session: Session, question: Question, disputed: Rows) -> str:
     shown = question.row or _row_shown(disputed[0])
     head = "<h3>Why %s isn't certain</h3>" % ("the yes" if literal == "()" else "<code>%s</code>" % page.text(shown))
     words = "row %s for %s;" % (literal, question.query)
+    is_union = len(parts_of(question.query)) > 1
     try:
-        told = against(session._lines("against " + words))
+        told = explanation(session._lines("explain " + words)) if is_union else against(session._lines("against " + words))
         if told.is_certain:
-            return "<h3><code>%s</code> is certain</h3>%s" % (page.text(shown), _by_block(explanation(session._lines("explain " + words))))
+            why = told if is_union else explanation(session._lines("explain " + words))
+            return "<h3><code>%s</code> is certain</h3>%s" % (page.text(shown), _by_block(why))
     except Refused as refused:
         return head + '<p class="odd">%s</p>' % page.text(refused.line)
     if not told.kept:

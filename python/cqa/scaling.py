@@ -6,7 +6,7 @@ import re
 from decimal import Decimal
 from typing import Iterator, List, Mapping, NamedTuple, Sequence, Tuple, Union
 
-from .scripts import aggregate_of, names_from, query_parts, tokens
+from .scripts import aggregate_of, names_from, parts_of, query_parts, tokens
 
 #: The number of places by table and column.
 Places = Mapping[Tuple[str, str], int]
@@ -97,12 +97,11 @@ def query_notes(text: str, tables: Sequence[str], places: Places) -> List[str]:
 
 def statement_notes(text: str, places: Places) -> List[str]:
     """What to say of a statement that is sent as it is written."""
-    tables = tables_of(text)
     notes = []
-    for test in filter(_is_told, tests_of(text, tables, places)):
-        notes.append(_test_note(test, _written_as(test)))
+    for part in parts_of(text):
+        notes += [_test_note(test, _written_as(test)) for test in tests_of(part, tables_of(part), places) if _is_told(test)]
     if tokens(text)[:1] == ["insert"]:
-        notes += [stored_note("%s.%s" % name, count) for name, count in places.items() if name[0] in tables and count]
+        notes += [stored_note("%s.%s" % name, count) for name, count in places.items() if name[0] in tables_of(text) and count]
     return notes
 
 

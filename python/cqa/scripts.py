@@ -206,6 +206,10 @@ def shown_schema(line: str) -> Optional[Schema]:
     return Schema(found[2], columns, found[4].split(", "), bool(found[1]))
 
 
+#: A comment, a text, or the word between two parts of a union.
+_UNION = re.compile(r"--[^\n]*|'[^']*(?:'|\Z)|\b(union)(?=(?:\s|--[^\n]*\n)+(?:select|exists)\b)")
+
+
 class QueryParts(NamedTuple):
     """What a query selects, as it is written; the tables behind its first `from`; and its conditions, without `where`."""
 
@@ -253,8 +257,14 @@ def names_from(words: List[str]) -> List[str]:
     return _names(words, words.index("from") + 1)[0] if "from" in words else []
 
 
+def parts_of(text: str) -> List[str]:
+    """The parts of a union, or the one query, as they are written: with `union` between two they are the text again."""
+    marks = [found.span(1) for found in _UNION.finditer(text) if found[1]]
+    return [text[begin:end] for begin, end in zip([0, *(end for _, end in marks)], [*(begin for begin, _ in marks), len(text)])]
+
+
 def selected(text: str) -> Tuple[List[str], List[str]]:
-    """What a query selects, as it is written, and its tables."""
+    """What a query selects, as it is written, and its tables; of a union, its first part."""
     parts = query_parts(text)
     return parts.columns, parts.tables
 

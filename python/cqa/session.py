@@ -25,7 +25,7 @@ from .program import Child
 from .replies import IS_REFUSAL, row_of
 from .rows import Cell, Rows
 from .scaling import places_of, query_notes, scaled_tests, shown_notes, statement_notes, stored, tables_of
-from .scripts import (Schema, Statement, aggregate_of, fault_of, quoted, remark_text, remarks, row_text, selected, shown_schema, statements,
+from .scripts import (Schema, Statement, aggregate_of, fault_of, parts_of, quoted, remark_text, remarks, row_text, selected, shown_schema, statements,
                       tokens, verb_of)
 
 #: Statements that not every program knows: how each begins, and the reply of a program that doesn't know it.
@@ -125,10 +125,12 @@ class Session:
         plain = query.strip().rstrip(";")
         if not self._places:
             return plain
-        named = tables or tables_of(plain)
-        for note in query_notes(plain, named, self._places):
+        return "union".join(self._scaled_part(part, tables or tables_of(part)) for part in parts_of(plain))
+
+    def _scaled_part(self, part: str, tables: Sequence[str]) -> str:
+        for note in query_notes(part, tables, self._places):
             _warn(note, ScaleWarning)
-        return scaled_tests(plain, named, self._places)
+        return scaled_tests(part, tables, self._places)
 
     def heed(self, script: bytes) -> None:
         """Heeds what the comments at the head of a script say of columns: numbers with places, and columns of sources."""
@@ -324,7 +326,8 @@ class Session:
     # -- ask ----------------------------------------------------------------------------------------------------------------
 
     def certain(self, query: str) -> Rows:
-        """The certain rows of a query, `select .. from .. where ..` or `exists ..`: those that every repair gives. Raises Refused."""
+        """The certain rows of a query, `select .. from .. where ..` or `exists ..`, or of a union of such: those that every repair
+        gives. Raises Refused."""
         return self._answer("ask", query)
 
     def possible(self, query: str) -> Rows:

@@ -22,12 +22,13 @@ STATEMENTS: Tuple[Help, ...] = (
     Help("prefer", "prefer NAME where COLUMN = 'a' and COLUMN <> 1;",
          "of each key with a row that passes all tests, deletes the rows that don't; run it again behind each load"),
     Help("alter", "alter table NAME set strict | drop strict | set primary key (COLUMN);", "makes a table strict, or gives it another key"),
-    Help("ask", "ask select COLUMN from NAME, NAME where COLUMN = COLUMN;", "the certain rows: those that hold whichever row of each key is right"),
-    Help("possible", "possible select COLUMN from NAME;", "the possible rows: those that hold for some choice of rows"),
+    Help("ask", "ask select COLUMN from NAME, NAME where COLUMN = COLUMN [union select COLUMN from NAME];",
+         "the certain rows: those that hold whichever row of each key is right; of a union, for some part or other"),
+    Help("possible", "possible select COLUMN from NAME [union select COLUMN from NAME];", "the possible rows: those that hold for some choice of rows"),
     Help("disputed", "disputed select COLUMN from NAME;", "the rows that are possible and not certain"),
     Help("range", "range count | sum COLUMN | min COLUMN | max COLUMN from NAME, NAME [where COLUMN = 1 and COLUMN <> 'a'] [group by COLUMN];",
          "between which values a number, a sum, a least or a greatest value lies, with a choice of rows for each end; or for each value of a column"),
-    Help("explain", "explain row (1, 'a') for select COLUMN, COLUMN from NAME;", "why a row is certain, or a choice of rows in which it is no answer"),
+    Help("explain", "explain row (1, 'a') for select COLUMN, COLUMN from NAME [union ..];", "why a row is certain, or a choice of rows in which it is no answer"),
     Help("against", "against row (1, 'a') for select COLUMN, COLUMN from NAME;", "which rows stand against a row: if they are right, it is no answer; or that it is certain"),
     Help("prove", "prove row (1, 'a') for select COLUMN, COLUMN from NAME;", "a certificate of a certain row, which `check` checks without tables"),
     Help("classify", "classify select COLUMN from NAME, NAME;", "how hard a query is, by its attacks"),
@@ -44,7 +45,7 @@ VERBS = tuple(statement.name for statement in STATEMENTS)
 
 #: All words of the language, for completion.
 WORDS = tuple(sorted({*VERBS, "and", "by", "conflicts", "count", "drop", "exists", "for", "from", "group", "int", "into", "key", "log", "max", "min", "primary", "row",
-                      "select", "strict", "sum", "table", "tables", "text", "values", "where"}))
+                      "select", "strict", "sum", "table", "tables", "text", "union", "values", "where"}))
 
 
 def all_statements() -> str:

@@ -97,6 +97,14 @@ class Pages(ProgramCase):
         self.assertEqual(self.command("report", "s.cqa", "-o", "out.html")[::2],
                          (0, "s.cqa:3: note: credit is stored times 100: 1000 stands for 10.00 here; 1000.00 is written 100000\n"))
 
+    def test_unions(self) -> None:
+        read = self.page(SCRIPT + "ask select id from customer where city = 'Oslo' union select id from customer where city = 'Hamar';\n"
+                         "explain row (1) for select id from customer where city = 'Oslo' union select id from customer where city = 'Bergen';\n")
+        words = " ".join(read.text.split())
+        for wanted in ("2 questions", "Certain rows: 2 id 2 3 Disputed rows: 1 id 1", "A union: each row is decided by a formula of its own.",
+                       "Why (1) isn't certain", "customer (1, 'Ada', 'Bergen', 'shop')", "(1) is certain A refutation shows it."):
+            self.assertIn(wanted, words)
+
     def test_ranges(self) -> None:
         read = self.page("-- cqa: column c.credit has 2 places\ncreate table c (id int, credit int, primary key (id));\ncopy c;\n1,90000\n1,12050\n2,100\n2,100\n\\.\n"
                          "range sum credit from c;\nrange sum credit from c;\nrange max credit from c where credit < 0;\nask select id from c;\n")

@@ -16,7 +16,7 @@ from cqa.habits import HABITS, advice_for
 from cqa.places import place_of
 from cqa.program import Child
 from cqa.running import ScriptFile, run_files
-from cqa.scripts import aggregate_of, remarks, schema_of, selected, statements
+from cqa.scripts import aggregate_of, parts_of, remarks, schema_of, selected, statements
 
 STAFF = "create table staff (id int, name text, room int, primary key (id));\n"
 
@@ -49,6 +49,8 @@ class Scripts(unittest.TestCase):
         self.assertEqual((schema.columns, schema.key, schema.strict), ({"a": "int", "b": "text"}, ["b", "a"], True))
         self.assertEqual(selected("ask select from, t.select from from, t where a = 'from x'"), (["from", "t.select"], ["from", "t"]))
         self.assertEqual(selected("exists from a, b"), ([], ["a", "b"]))
+        self.assertEqual(parts_of("ask exists from union union -- two\n select union from union where a = 'x union select'"),
+                         ["ask exists from union ", " -- two\n select union from union where a = 'x union select'"])
         self.assertEqual(aggregate_of("range sum from from from where sum = 1 and t = 'group by x'"), ("sum", "from", ["from"], ""))
         self.assertEqual(aggregate_of("count from t"), ("count", "", ["t"], ""))
         self.assertEqual(aggregate_of("min r.y from r, s where r.p = s.id group by s.z"), ("min", "r.y", ["r", "s"], "s.z"))
@@ -69,10 +71,12 @@ class Places(ProgramCase):
         self.assertEqual(self.refusals(
             "ask select id,\n nmae from staff;\nask select id\n  from staff, staff;\ninsert into staff values (1, 'a', 2),\n (2, 3, 4);\n"
             "delete from staff where id = 1\n and name = 2;\ninsert into staff values\n (1, 'a');\ncreate table t (a int,\n a text, primary key (a));\n"
-            "create table t (a int,\n primary key (b));\nask exists from staf;\n"),
+            "create table t (a int,\n primary key (b));\nask exists from staf;\nask select id from staff\n union select id, name\n from staff;\n"
+            "possible select id, room from staff union select id,\n name from staff;\n"),
             ["s.cqa:3: error 6 UnknownColumn nmae: is it `name`?", "s.cqa:5: error 8 SelfJoin staff", "s.cqa:7: error 9 TypeMismatch row 2 column 2: name is text: write '3'",
              "s.cqa:9: error 9 TypeMismatch condition 2", "s.cqa:11: error 10 WrongArity row 1: 3 columns: id, name, room", "s.cqa:13: error 11 DuplicateColumn a",
-             "s.cqa:15: error 12 BadKey b", "s.cqa:16: error 4 UnknownTable staf: is it `staff`?"])
+             "s.cqa:15: error 12 BadKey b", "s.cqa:16: error 4 UnknownTable staf: is it `staff`?", "s.cqa:18: error 10 WrongArity row 2",
+             "s.cqa:21: error 9 TypeMismatch row 2 column 2"])
 
     def test_a_bad_record_names_its_line_its_list_and_its_cause(self) -> None:
         self.assertEqual(self.refusals("-- crm.csv:17\ncopy staff;\n7,Ida,12\n\n8,\"two\nlines\",1\n,Ola,3\n9,Per\n\\.\ncopy staff;\nid,name,room\n\\.\n"),

@@ -110,6 +110,19 @@ class Questions(ProgramCase):
         self.assertEqual(self.db.tell("show conflicts"), ["staff rows 3 blocks 2 conflicts 1", "door rows 3 blocks 2 conflicts 1", "2 tables"])
         self.assertEqual(self.db.disputed("exists from door where code = 733"), [()])
 
+    def test_unions(self) -> None:
+        parts = ["select id from staff where room = %d" % room for room in (12, 14, 13)]
+        union = " union ".join(parts[:2])
+        self.assertEqual([self.db.certain(part) for part in parts], [[(9,)], [], []])
+        self.assertEqual(self.db.certain(union), [(7,), (9,)])
+        self.assertEqual(self.db.certain(union).columns, ("id",))
+        self.assertEqual(self.db.possible("select name from staff where id = 7 union select name from staff where room = 14;"), [("Ida",)])
+        self.assertEqual(self.db.explain((7,), union).kind, "refutation")
+        self.assertEqual(self.db.explain((7,), " union ".join(parts[::2])), cqa.Explanation("rejected", kept=(("staff", (7, "Ida", 14)),)))
+        with self.assertRaises(cqa.Refused) as caught:
+            self.db.certain("select id from staff union exists from door")
+        self.assertEqual((caught.exception.name, caught.exception.fields), ("WrongArity", "row 2"))
+
     def test_rows_that_are_preferred(self) -> None:
         self.assertEqual(self.db.prefer("staff", "room = 12 and id = 7"), 1)
         self.assertEqual(self.db.prefer("staff", "room = 0"), 0)
@@ -255,6 +268,8 @@ class Lists(ProgramCase):
                          [(1, decimal.Decimal("900.00")), (2, decimal.Decimal("1200.50"))])
         told = self.db.explain((decimal.Decimal("900"),), "select credit from customer where id = 1")
         self.assertEqual(told.kind, "block")
+        self.assertEqual(self.db.certain("select credit from customer where credit < 900.50 union select credit from customer where credit > 1200.25"),
+                         [(decimal.Decimal("7.00"),), (decimal.Decimal("900.00"),), (decimal.Decimal("1200.50"),)])
 
     def test_conflicts_with_their_sources(self) -> None:
         self.load_both()
