@@ -62,7 +62,7 @@ def formula(rows):
 def monotone(variables, seed):
     """Clauses of three variables, of which a half are of `pos`; so many that it is hard to tell whether values fit them all."""
     draw = random.Random(seed)
-    clauses = [tuple(sorted(draw.sample(range(variables), 3))) for _ in range(variables * 42 // 10)]
+    clauses = [tuple(sorted(draw.sample(range(variables), 3))) for _ in range(variables * 44 // 10)]
     return sorted(set(clauses[::2])), sorted(set(clauses[1::2]))
 
 
@@ -145,7 +145,7 @@ def main():
     parser = argparse.ArgumentParser(description=__doc__.split("\n\n")[0])
     parser.add_argument("--program", default=PROGRAM)
     parser.add_argument("--values", default="100,104,108,112,116,120,160")
-    parser.add_argument("--variables", default="60,80,100,120")
+    parser.add_argument("--variables", default="100,150,200,250")
     parser.add_argument("--seed", type=int, default=1)
     words = parser.parse_args()
     solvers = [[name, *flags] for name, flags in (("minisat", ["-verb=0"]), ("cadical", ["-q", "-n"])) if shutil.which(name)]
