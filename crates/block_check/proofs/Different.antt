@@ -1,17 +1,18 @@
 -- Rows that go into a set one after another.
-use Rattle.std.proofs.Common.{◌≡◌, ◌⊎◌, inl, inr, ℕ, ◌+◌, ◌<◌, Bool, true, false, cond, Ordering, List, [], length, get_or, Contains, slice_index_or, refl, ap, sym, ◌∙◌, subst, arith, Bor}
+use Rattle.std.proofs.Common.{◌≡◌, ◌⊎◌, inl, inr, ℕ, ◌+◌, ◌<◌, true, false, cond, Ordering, List, [], length, get_or, Contains, slice_index_or, ap, sym, ◌∙◌, subst, arith, Bor}
 use Rattle.std.specs.BTreeSet.{BTreeSet, contains, Updates}
 use Rattle.std.specs.Ordering.{is_eq}
 use Rattle.std.proofs.lemmas.Bool.{false≢true}
 use Rattle.std.proofs.lemmas.List.{get_or_read}
 use Rattle.cqa_value.specs.declared.value.Value.{Value}
-use Rattle.cqa_value.specs.Values.{row_cmp, row_eq, row_ties, row_decides}
+use Rattle.cqa_value.specs.Values.{row_cmp, row_ties, row_decides}
 use Rattle.cqa_value.proofs.Words.{cases_next}
 use Rattle.cqa_model.proofs.Values.{row_discrete}
 use Rattle.cqa_model.specs.Repairs.{SharesKey}
 use Rattle.cqa_model.proofs.Repairs.{shares-sym, shares-trans}
 use Rattle.block_tree.specs.Trees.{IsBlockOf}
 use Rattle.block_check.specs.Blocks.{AllDiffer}
+use Rattle.plan_rows.proofs.Keeping.{row_apart}
 
 abbrev pub ref_cmp : Bor (List Value) → Bor (List Value) → Ordering
 ref_cmp a b = row_cmp a.now b.now
@@ -24,13 +25,6 @@ pub record KnowsRows (rows : List (List Value)) (n : ℕ) (seen : BTreeSet (Bor 
   pub differ : (i j : ℕ) → i < j → j < n → row_nth rows i ≡ row_nth rows j → ⊥
   pub there : (x : Bor (List Value)) (i : ℕ) → i < n → row_nth rows i ≡ x.now → contains ref_cmp seen x ≡ true
   pub only : (x : Bor (List Value)) → contains ref_cmp seen x ≡ true → (i : ℕ) × (i < n) × (row_nth rows i ≡ x.now)
-
-pub row_apart : (x y : List Value) → (x ≡ y → ⊥) → is_eq (row_cmp x y) ≡ false
-row_apart x y n = go (row_eq x y) refl
-  where
-    go : (b : Bool) → row_eq x y ≡ b → is_eq (row_cmp x y) ≡ false
-    go true e = absurd (n ((row_decides x y).0 e))
-    go false e = sym (row_ties x y) ∙ e
 
 row_same : (x y : List Value) → x ≡ y → is_eq (row_cmp x y) ≡ true
 row_same x y e = sym (row_ties x y) ∙ (row_decides x y).1 e

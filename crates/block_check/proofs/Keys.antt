@@ -15,7 +15,7 @@ use Rattle.cqa_model.proofs.BlockOrder.{shares-from_key, key-from_shares}
 use Rattle.block_tree.specs.declared.node.Node.{Node}
 use Rattle.block_tree.specs.Trees.{first_row}
 use Rattle.block_check.specs.Firsts.{OneKey, nth_node, node_key, IsFirstOfKey, KnowsFirsts}
-use Rattle.block_check.proofs.Different.{row_apart}
+use Rattle.plan_rows.proofs.Keeping.{row_apart}
 
 -- ---- the map
 

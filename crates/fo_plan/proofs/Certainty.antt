@@ -14,7 +14,7 @@ use Rattle.cqa_model.proofs.Databases.{possible_is_candidate}
 use Rattle.fo_rewrite.specs.Planning.{IsExact}
 
 -- a candidate has the answer's length
-candidate-length : (db : List Table) (q : Query) (row : List Value) → IsCandidate db q row → length row ≡ length q.answer
+pub candidate-length : (db : List Table) (q : Query) (row : List Value) → IsCandidate db q row → length row ≡ length q.answer
 candidate-length db q row (w, is) = ap length (sym is.answers) ∙ length-map q.answer (value w)
 
 certain-answer : (db : List Table) (q : Query) (plan : List ℕ) (answers : List (List Value)) → FitsDatabase q db → IsExact q plan → IsStrictlySortedBy row_cmp answers →

@@ -8,7 +8,7 @@ use Rattle.cqa_value.specs.declared.value.Value.{Value}
 use Rattle.cqa_value.specs.Values.{row_cmp, row_eq, row_ties, row_decides}
 use Rattle.cqa_model.proofs.Values.{row_discrete}
 
-row_apart : (x y : List Value) → (x ≡ y → ⊥) → is_eq (row_cmp x y) ≡ false
+pub row_apart : (x y : List Value) → (x ≡ y → ⊥) → is_eq (row_cmp x y) ≡ false
 row_apart x y n = go (row_eq x y) refl
   where
     go : (b : Bool) → row_eq x y ≡ b → is_eq (row_cmp x y) ≡ false

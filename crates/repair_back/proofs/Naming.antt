@@ -128,7 +128,7 @@ kept-from pre (x ∷ xs) (b ∷ bs) l = go b (kept-from (pre ++ x ∷ []) xs bs 
     go false r = r
 
 -- a name of a row is that of a place whose flag is set
-in_map : (table : ℕ) (places : List ℕ) (name : RowId) → Contains (names_in table places) name → (p : ℕ) × Contains places p × (name ≡ record { table = table; place = p })
+pub in_map : (table : ℕ) (places : List ℕ) (name : RowId) → Contains (names_in table places) name → (p : ℕ) × Contains places p × (name ≡ record { table = table; place = p })
 in_map table [] name m = absurd (mem-nil name m)
 in_map table (p ∷ ps) name m = elim (mem-cases name (record { table = table; place = p }) (names_in table ps) m) [
   | inl e ↦ (p, mem-head p ps, sym e)

@@ -1,11 +1,8 @@
 -- A statement leads on to one stage at most.
-use Rattle.std.proofs.Common.{◌≡◌, ℕ, List, [], ◌∷◌, ◌++◌, Option, Some, refl, ap, sym, ◌∙◌, subst}
-use Rattle.std.proofs.Props.{props}
+use Rattle.std.proofs.Common.{◌≡◌, List, [], ◌∷◌, ◌++◌, Option, Some, refl, ap, sym, ◌∙◌, subst}
 use Rattle.std.proofs.lemmas.Option.{same_Some}
 use Rattle.std.specs.List.{AllZip}
 use mathlib.Core.HLevel.{is_prop→PathP}
-use Rattle.cqa_value.specs.declared.value.Value.{Value}
-use Rattle.cqa_model.specs.declared.schema.Column.{Column}
 use Rattle.cqa_model.specs.declared.schema.Schema.{Schema}
 use Rattle.cqa_model.specs.Shape.{IsSchema}
 use Rattle.spj_syntax.specs.declared.tree.Statement.TheVariants as statements
@@ -19,6 +16,7 @@ use Rattle.spj_syntax.specs.declared.tree.RawBlock.{RawBlock}
 use Rattle.rewrite_check.specs.declared.certificate.Certificate.{Certificate}
 use Rattle.rewrite_check.specs.Spelling.{Created, Asked, Ordered, node_of}
 use Rattle.rewrite_check.specs.Laws.{LeadsOnce}
+use Rattle.table_blocks.proofs.Changing.{kept_once}
 
 pub zip_once : {A B : Type 0} (f : A → Option B) (names : List A) (xs ys : List B) → AllZip (λ n x. f n ≡ Some x) names xs → AllZip (λ n x. f n ≡ Some x) names ys → xs ≡ ys
 zip_once f [] [] [] a b = refl
@@ -30,9 +28,6 @@ zip_once f (n ∷ names) (x ∷ xs) (y ∷ ys) a b =
     let e = same_Some x y (sym a.0 ∙ b.0) in
     let r = zip_once f names xs ys a.1 b.1 in
     λ i. e i ∷ r i
-
-kept_once : (columns : List Column) (key : List ℕ) → IsProp (IsSchema columns key)
-kept_once columns key = hlevel props
 
 pub schema_once : (raw : RawSchema) (s t : Schema) → IsSchemaOf raw s → IsSchemaOf raw t → s ≡ t
 schema_once raw s t a b =

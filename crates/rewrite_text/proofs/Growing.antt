@@ -5,6 +5,7 @@ use Rattle.std.proofs.lemmas.List.{append-nil, map-append}
 use Rattle.std.proofs.lemmas.Grind.{flat_map-append}
 use Rattle.std.specs.List.{AllZip}
 use Rattle.cqa_value.specs.declared.value.Value.{Value}
+use Rattle.cqa_value.proofs.Words.{all_zip_push}
 use Rattle.cqa_model.specs.declared.query.Query.{Query}
 use Rattle.cqa_model.specs.Database.{Table, stored}
 use Rattle.cqa_model.proofs.Classic.{mem-head, mem-tail}
@@ -37,12 +38,6 @@ pub get_there : {A : Type 0} (xs : List A) (i : ℕ) (x : A) → slice_get xs i 
 get_there [] i x e = absurd (none-some x e)
 get_there (y ∷ xs) zero x e = subst (λ z. Contains (y ∷ xs) z) (same_Some y x e) (mem-head y xs)
 get_there (y ∷ xs) (suc i) x e = mem-tail x y xs (get_there xs i x e)
-
-zip_push : {A B : Type 0} (R : A → B → Type 0) (xs : List A) (ys : List B) (x : A) (y : B) → AllZip R xs ys → R x y → AllZip R (xs ++ x ∷ []) (ys ++ y ∷ [])
-zip_push R [] [] x y h r = (r, tt)
-zip_push R [] (b ∷ ys) x y h r = absurd h
-zip_push R (a ∷ xs) [] x y h r = absurd h
-zip_push R (a ∷ xs) (b ∷ ys) x y h r = (h.0, zip_push R xs ys x y h.1 r)
 
 -- what is so of all is so of the first ones, of one behind them, and of those behind it
 pub record IsPartedAt {A B : Type 0} (R : A → B → Type 0) (xs : List A) (ys : List B) (i : ℕ) (x : A) : Type 0 where
@@ -95,7 +90,7 @@ module _ (db : List Table) (q : Query) where
           AddsTree db q row (record { atom = F; row = y } ∷ taken) plan mid new → AddsTreesUnder db q row taken F plan (take (i + 1) block) old new
       under_more block i y old mid new e so tree = record {
         parts = so.parts ++ tree.nodes ∷ [];
-        made = subst (λ z. AllZip below z (so.parts ++ tree.nodes ∷ [])) (sym (take_more block i y e)) (zip_push below (take i block) so.parts y tree.nodes so.made tree.made);
+        made = subst (λ z. AllZip below z (so.parts ++ tree.nodes ∷ [])) (sym (take_more block i y e)) (all_zip_push below (take i block) so.parts y tree.nodes so.made tree.made);
         added = subst (λ z. AddsNodes db q z old new) (sym (listing_push so.parts tree.nodes)) (nodes_both (listing so.parts) tree.nodes old mid new so.added tree.added);
       }
 

@@ -3,19 +3,18 @@ use Rattle.std.proofs.Common.{◌≡◌, ◌≢◌, ◌<◌, ℕ, Bool, not, Lis
 use Rattle.std.specs.List.{filter}
 use Rattle.std.proofs.lemmas.List.{get_or-map, length-map}
 use Rattle.std.proofs.lemmas.List.Elements.{Contains-get_or}
-use native.Mathlib.Decide.{ℕ_discrete}
 use Rattle.cqa_value.specs.declared.value.Value.{Value}
-use Rattle.cqa_value.proofs.Words.{dec_both, is_yes, no_of, clash_not, yes_of, member_place, Contains-map, Contains-from_map, Contains-filter}
+use Rattle.cqa_value.proofs.Words.{is_yes, no_of, clash_not, yes_of, member_place, Contains-map, Contains-from_map, Contains-filter}
 use Rattle.cqa_model.specs.declared.query.Query.{Query}
 use Rattle.cqa_model.specs.declared.query.RowId.{RowId}
 use Rattle.cqa_model.specs.Database.{Table, keys_of, IsDatabase}
 use Rattle.cqa_model.specs.Repairs.{SharesKey, IsRepair}
 use Rattle.cqa_model.specs.Query.{IsWitness, FitsDatabase}
 use Rattle.cqa_model.proofs.Repairs.{shares-trans}
-use Rattle.cqa_model.proofs.Values.{dec_by}
 use Rattle.join_access.specs.Listing.{AreAllNames, AreNamesOf, no_name}
 use Rattle.join_access.proofs.Naming.{same-name}
 use Rattle.row_witnesses.specs.Columns.{place_at}
+use Rattle.row_witnesses.proofs.Told.{name_discrete}
 use Rattle.repair_back.specs.Results.{AreStored}
 use Rattle.rows_against.specs.Against.{row_named, KeepsName, AreOfOneBlock, ComesBefore, IsAgainst}
 use Rattle.rows_against.specs.Hits.{IsRival, Hits, AreHit, IsHitBy}
@@ -32,9 +31,6 @@ block_trans db a b c h k = (
   h.0 ∙ k.0,
   shares-trans (get_or (keys_of db) a.table []) (row_named db a) (row_named db b) (row_named db c) h.1 (subst (λ t. SharesKey (get_or (keys_of db) t []) (row_named db b) (row_named db c)) (sym h.0) k.1),
 )
-
-dec_name : (x y : RowId) → Dec (x ≡ y)
-dec_name x y = dec_by (λ h. same-name x y h.0 h.1) (λ e. (ap (λ (z : RowId). z.table) e, ap (λ (z : RowId). z.place) e)) (dec_both (ℕ_discrete x.table y.table) (ℕ_discrete x.place y.place))
 
 module _ (db : List Table) (q : Query) (row : List Value) (valid : IsDatabase db) (fits : FitsDatabase q db) (all : List (List RowId)) (h : AreAllNames q db row all) (names : List RowId)
     (chosen : AreChosenAgainst db q all names) (hits : List (List (Option ℕ))) (atoms : length hits ≡ length q.atoms) (are : AreHits db q all names hits) where
@@ -112,18 +108,18 @@ module _ (db : List Table) (q : Query) (row : List Value) (valid : IsDatabase db
       needed = few.needed number (in_result name m).1
 
       other_than : RowId → Bool
-      other_than other = not (is_yes (dec_name other name))
+      other_than other = not (is_yes (name_discrete other name))
 
       abbrev others : List RowId
       others = filter other_than result
 
       in_others : (other : RowId) → Contains others other → Contains result other × (other ≢ name)
       unfolding other_than
-      in_others other k = let f = (Contains-filter other_than result other).0 k in (f.0, λ e. clash_not (is_yes (dec_name other name)) f.1 (yes_of (dec_name other name) e))
+      in_others other k = let f = (Contains-filter other_than result other).0 k in (f.0, λ e. clash_not (is_yes (name_discrete other name)) f.1 (yes_of (name_discrete other name) e))
 
       into_others : (other : RowId) → Contains result other → other ≢ name → Contains others other
       unfolding other_than
-      into_others other k ne = (Contains-filter other_than result other).1 (k, ap not (no_of (dec_name other name) ne))
+      into_others other k ne = (Contains-filter other_than result other).1 (k, ap not (no_of (name_discrete other name) ne))
 
       free : (other : RowId) → Contains others other → Hits db other (ids_at needed.witness) → ⊥
       free other k hit =
