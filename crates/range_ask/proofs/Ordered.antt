@@ -9,7 +9,7 @@ use Rattle.range_ask.specs.declared.way.Way.TheVariants.{Up, Down}
 use Rattle.range_ask.specs.Ranges.{AtMost}
 use Rattle.range_ask.specs.Picks.{Before, turned}
 
-not_gt : (o : Ordering) → o ≢ Greater → is_gt o ≡ false
+pub not_gt : (o : Ordering) → o ≢ Greater → is_gt o ≡ false
 not_gt Less n = refl
 not_gt Equal n = refl
 not_gt Greater n = absurd (n refl)
@@ -19,7 +19,7 @@ gt_not Less e = λ g. (cc)
 gt_not Equal e = λ g. (cc)
 gt_not Greater e = λ g. (cc)
 
-at_most-trans : (x y z : Value) → AtMost x y → AtMost y z → AtMost x z
+pub at_most-trans : (x y z : Value) → AtMost x y → AtMost y z → AtMost x z
 at_most-trans x y z h k = gt_not (value_cmp x z) (upto value_cmp_total x y z (not_gt (value_cmp x y) h) (not_gt (value_cmp y z) k))
 
 at_most-self : (x : Value) → AtMost x x

@@ -27,7 +27,7 @@ count-is tests rows = total-count (part tests rows) ∙ total-filter (meets test
 pub sum-is : (tests : List ColumnTest) (f : List Value → ℤ) (rows : List (List Value)) → total f (part tests rows) ≡ total (worth (meets tests) f) rows
 sum-is tests f rows = total-filter (meets tests) f rows
 
-sum-mono : (a b c d : ℤ) → a ≤ℤ b → c ≤ℤ d → (a +ℤ c) ≤ℤ (b +ℤ d)
+pub sum-mono : (a b c d : ℤ) → a ≤ℤ b → c ≤ℤ d → (a +ℤ c) ≤ℤ (b +ℤ d)
 sum-mono a b c d h k = omega (arith, ints, h, k)
 
 -- rows of least worth have the least total of all picks, and rows of greatest worth the greatest

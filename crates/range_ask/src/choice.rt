@@ -28,8 +28,12 @@ pub struct Choice {
     pub wide: Vec<usize>,
 }
 
-/// The value of a row in a column as an end.
-pub(crate) fn end_of(alloc: Global, col: u32, row: Option<&Row>) -> Result<End, NoMemory>
+/// The value of a row in a column as an end; `Empty` where there is no row.
+///
+/// # Errors
+///
+/// `NoMemory` where memory is refused.
+pub fn end_of(alloc: Global, col: u32, row: Option<&Row>) -> Result<End, NoMemory>
     ensures { IfOk result (λ end. end ≡ as_end col (option_copied row.entry)) }
 {
     match row {

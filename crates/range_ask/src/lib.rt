@@ -19,7 +19,9 @@ mod way;
 mod wide;
 mod worth;
 
+pub use choice::end_of;
 pub use cqa_model::{End, Goal};
 pub use ends::{Ends, ends_of};
 pub use groups::{Group, groups_of};
-pub use range::{Range, range_of};
+pub use range::{Range, named, range_of};
+pub use worth::added;

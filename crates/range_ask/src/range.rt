@@ -20,8 +20,12 @@ pub struct Range {
     pub high: Items<RowId>,
 }
 
-/// The names of rows of a table.
-fn named(alloc: Global, table: u32, places: &[u32]) -> Result<Items<RowId>, NoMemory>
+/// The names of the rows of a table at some places.
+///
+/// # Errors
+///
+/// `NoMemory` where memory is refused.
+pub fn named(alloc: Global, table: u32, places: &[u32]) -> Result<Items<RowId>, NoMemory>
     ensures { IfOk result (λ names. names ≡ names_in table places.now) }
 {
     let mut names = Vec::with_capacity(alloc, places.len())?;

@@ -1,15 +1,13 @@
 -- Places that add least, or most, of each block add up to the least, or the greatest, sum.
 use Rattle.std.proofs.Common.{ℕ, List, [], ◌∷◌, arith}
-use Rattle.std.specs.Prelude.{ℤ, ◌+ℤ◌, ◌≤ℤ◌}
+use Rattle.std.specs.Prelude.{ℤ, ◌≤ℤ◌}
 use Rattle.std.specs.List.{AllZip}
 use Rattle.std.proofs.lemmas.Int.{ints}
 use Rattle.range_join.specs.declared.spans.Span.{Span}
 use Rattle.range_join.specs.Firsts.{StandsIn}
 use Rattle.range_join.specs.Bounds.{IsLeastOf, IsMostOf}
 use Rattle.range_join.specs.Worths.{sum_of}
-
-sum-mono : (a b c d : ℤ) → a ≤ℤ b → c ≤ℤ d → (a +ℤ c) ≤ℤ (b +ℤ d)
-sum-mono a b c d h k = omega (arith, ints, h, k)
+use Rattle.range_ask.proofs.Totals.{sum-mono}
 
 module _ (w : ℕ → ℤ) where
   pub lowest : (spans : List Span) (xs ys : List ℕ) → AllZip (IsLeastOf w) spans xs → AllZip StandsIn spans ys → sum_of w xs ≤ℤ sum_of w ys

@@ -1,11 +1,13 @@
 -- Values that lie furthest one way, of rows and of lists with one row of each block.
 use Rattle.std.proofs.Common.{◌≡◌, ◌≢◌, ◌⊎◌, inl, inr, ℕ, ◌+◌, ◌<◌, Bool, true, false, cond, List, Option, Some, None, Contains, refl, sym, ◌∙◌, ap, subst, arith, Ordering, Less, Equal, Greater}
+use Rattle.std.specs.Borrow.{Bor}
+use Rattle.std.specs.Option.{option_copied}
 use Rattle.std.specs.Prelude.{nat_eq, nat_lt, T}
 use Rattle.std.proofs.Math.Dec.{eqb_refl}
 use Rattle.std.proofs.Math.Facts.{eqb_yes}
 use Rattle.std.proofs.lemmas.Bool.{lt-ltb, ltb-true, le-ltb}
 use Rattle.std.specs.List.{AllZip}
-use Rattle.std.specs.Ordering.{is_lt, is_gt, ordering_reverse}
+use Rattle.std.specs.Ordering.{is_lt, ordering_reverse}
 use Rattle.cqa_value.specs.declared.value.Value.{Value}
 use Rattle.cqa_value.specs.Values.{value_cmp, value_cmp_total}
 use Rattle.cqa_value.proofs.Words.{clash, cases_next}
@@ -13,13 +15,23 @@ use Rattle.cqa_model.specs.declared.aggregate.End.{End}
 use Rattle.cqa_model.specs.declared.aggregate.End.TheVariants.{Empty, Number, Held}
 use Rattle.join_access.proofs.Naming.{zip-left, zip-right}
 use Rattle.range_ask.specs.Ranges.{IsUpTo}
-use Rattle.range_ask.proofs.Ordered.{before-self, before-trans, lt-before, lt-behind, gt-before, gt-behind}
+use Rattle.range_ask.specs.Reaching.{as_end}
+use Rattle.range_ask.proofs.Ordered.{before-self, before-trans, lt-before, lt-behind, gt-before, gt-behind, not_gt}
 use Rattle.range_ask.specs.declared.way.Way.TheVariants.{Up, Down}
 use Rattle.range_join.specs.declared.carriers.Extreme.{Extreme}
 use Rattle.range_join.specs.declared.carriers.Extreme.TheVariants.{Least, Greatest}
 use Rattle.range_join.specs.declared.spans.Span.{Span}
 use Rattle.range_join.specs.Firsts.{StandsIn, IsStrictOrder, IsFirst}
-use Rattle.range_join.specs.Peaks.{NoFurther, lags, further, IsPeak, HasSome, value_end, HasEnd, AreBest, rank, rank_of, IsTopPlace}
+use Rattle.range_join.specs.Peaks.{NoFurther, lags, further, IsPeak, HasSome, value_end, HasEnd, peak_from, held_value, AreBest, rank, rank_of, IsTopPlace}
+
+-- the value of a row as an end
+pub end-held : (col : ℕ) (row : Option (Bor (List Value))) → as_end col (option_copied row) ≡ value_end (held_value col row)
+end-held col None = refl
+end-held col (Some row) = refl
+
+-- of a row whose value is the furthest of those at places
+pub end-furthest : (way : Extreme) (col : ℕ) (row : Option (Bor (List Value))) (best : ℕ → Option Value) (places items : List ℕ) → held_value col row ≡ peak_from way None best places → places ≡ items → (end : End) → end ≡ as_end col (option_copied row) → end ≡ value_end (peak_from way None best items)
+end-furthest way col row best places items h i end e = e ∙ (end-held col row ∙ ap value_end (h ∙ ap (peak_from way None best) i))
 
 -- ---- the order of values
 
@@ -58,11 +70,6 @@ lags-false way a None t = tt
 lags-false way None (Some y) t = absurd (clash true refl t)
 lags-false Least (Some x) (Some y) t = gt-behind x y t
 lags-false Greatest (Some x) (Some y) t = lt-behind x y t
-
-not_gt : (o : Ordering) → o ≢ Greater → is_gt o ≡ false
-not_gt Less n = refl
-not_gt Equal n = refl
-not_gt Greater n = absurd (n refl)
 
 not_lt : (o p : Ordering) → p ≡ ordering_reverse o → o ≢ Greater → is_lt p ≡ false
 not_lt Less p e n = ap is_lt e

@@ -2,13 +2,6 @@ pub mod Joins
 pub mod Worths
 pub mod Firsts
 pub mod Parts
-pub mod Spans
 pub mod Bounds
-pub mod JoinGroups
-pub mod Members
-pub mod Shares
-pub mod Asked
 pub mod Peaks
-pub mod Touched
 pub mod Extremes
-pub mod Lax

@@ -4,7 +4,7 @@ ghost use Rattle.std.specs.Prelude.{◌<◌, IfOk, length};
 ghost use Rattle.range_join.specs.Bounds.{AreLeastPlaces, AreMostPlaces};
 ghost use Rattle.range_join.specs.Worths.{number_at};
 
-use crate::firsts::firsts;
+use crate::first_rows::firsts;
 use crate::numbers::number;
 use cqa_value::NoMemory;
 use std::alloc::Global;

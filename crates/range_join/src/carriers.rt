@@ -26,7 +26,7 @@ pub enum Extreme {
 /// What is looked for: of the values that rows of an atom have in a column the furthest one way, for each row of the
 /// lax atom, the one whose table needs not be strict.
 #[derive(Clone, Copy)]
-pub(crate) struct Look {
+pub struct Look {
     pub way: Extreme,
     pub lax: u32,
     pub atom: u32,
@@ -34,7 +34,7 @@ pub(crate) struct Look {
 }
 
 /// Whether a row's value in a column lies less far that way than another's. No row lies less far than each row.
-pub(crate) fn lags(way: Extreme, col: u32, row: Option<&Row>, other: Option<&Row>) -> bool
+pub fn lags(way: Extreme, col: u32, row: Option<&Row>, other: Option<&Row>) -> bool
     ensures { result ≡ lags way (held_value col row.entry) (held_value col other.entry) }
 {
     let Some(next) = other else {
@@ -51,7 +51,7 @@ pub(crate) fn lags(way: Extreme, col: u32, row: Option<&Row>, other: Option<&Row
 }
 
 /// The one of two rows that lies further that way; the first where none does.
-pub(crate) fn further<'a>(
+pub fn further<'a>(
     way: Extreme,
     col: u32,
     best: Option<&'a Row>,

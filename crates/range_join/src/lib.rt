@@ -3,32 +3,24 @@
 //! strict.
 #![tactic(auto)]
 
-mod ask;
-mod block_spans;
-mod block_sums;
 mod bounds;
 mod carriers;
 mod extremes;
-mod firsts;
+mod first_rows;
 mod gains;
-mod group_peaks;
-mod group_sums;
-mod groups;
-mod lax;
-mod members;
 mod names;
 mod numbers;
 mod peaks;
 mod range;
-mod shares;
 mod sought;
 mod spans;
 mod sums;
-mod surest;
-mod touched;
 mod worths;
 
-pub use groups::join_groups;
-pub use lax::lax_atom;
-pub use range::join_range;
+pub use carriers::{Extreme, Look, further, lags};
+pub use first_rows::firsts;
+pub use gains::{gain, row_of};
+pub use range::{join_range, look};
 pub use sought::Sought;
+pub use spans::Span;
+pub use sums::table_of;

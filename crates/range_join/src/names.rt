@@ -5,21 +5,8 @@ ghost use Rattle.table_blocks.specs.Tables.{names_in};
 
 use cqa_model::RowId;
 use cqa_value::{Items, NoMemory};
+use range_ask::named;
 use std::alloc::Global;
-
-/// The names of the rows of a table at some places.
-fn named(alloc: Global, table: u32, places: &[u32]) -> Result<Items<RowId>, NoMemory>
-    ensures { IfOk result (λ names. names ≡ names_in table places.now) }
-{
-    let mut names = Vec::with_capacity(alloc, places.len())?;
-    for place in places {
-        names.push(RowId {
-            table,
-            place: *place,
-        })?;
-    }
-    Ok(Items::from_vec(names))
-}
 
 /// The names of the rows at the places of both ends.
 ///

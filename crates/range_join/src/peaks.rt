@@ -6,12 +6,13 @@ ghost use Rattle.cqa_model.specs.Database.{stored};
 ghost use Rattle.join_access.specs.Listing.{names_of};
 ghost use Rattle.table_blocks.specs.Tables.{rows_at};
 ghost use Rattle.range_ask.specs.Ranges.{cell};
-ghost use Rattle.range_join.specs.Peaks.{end_places, value_end, best_at, lags, peak_from, rank, rank_of, held_value, AreAlone, AreFurthest, AreNearest, ArePeaks, GivesValue, IsGreatestChoice, IsLeastChoice, IsLooseChoice, IsSureChoice, IsTopPlace};
+ghost use Rattle.range_join.specs.Peaks.{end_places, best_at, lags, peak_from, rank, rank_of, held_value, AreAlone, AreFurthest, AreNearest, ArePeaks, GivesValue, IsGreatestChoice, IsLeastChoice, IsLooseChoice, IsSureChoice, IsTopPlace};
 
 use crate::carriers::{Extreme, Look, carriers, further, lags};
-use crate::firsts::firsts;
+use crate::first_rows::firsts;
 use cqa_model::End;
-use cqa_value::{NOTHING, NoMemory, Row};
+use cqa_value::{NoMemory, Row};
+use range_ask::end_of;
 use row_witnesses::RowWitnesses;
 use std::alloc::Global;
 use table_blocks::Database;
@@ -123,16 +124,6 @@ fn peak<'a>(way: Extreme, col: u32, bests: &[Option<&'a Row>], places: &[u32]) -
         best = further(way, col, best, bests[*place as usize]);
     }
     best
-}
-
-/// The value of a row in a column as an end.
-pub(crate) fn end_of(alloc: Global, col: u32, row: Option<&Row>) -> Result<End, NoMemory>
-    ensures { IfOk result (λ end. end ≡ value_end (held_value col row.entry)) }
-{
-    match row {
-        Some(row) => Ok(End::Held(row.at_or(col, &NOTHING).copy(alloc)?)),
-        None => Ok(End::Empty),
-    }
 }
 
 /// The row at a place, if there is one.

@@ -2,7 +2,7 @@
 
 /// The places of the rows of a block: from one on, up to the one before another.
 #[derive(Clone, Copy)]
-pub(crate) struct Span {
+pub struct Span {
     pub from: u32,
     pub behind: u32,
 }

@@ -1,4 +1,7 @@
 use Rattle.std.proofs.Common.{◌<◌, Contains, sym, subst}
+use Rattle.range_join.specs.declared.carriers.Extreme.TheVariants.{Greatest}
+use Rattle.range_join.specs.Peaks.{best_at}
+use Rattle.range_join.proofs.Peaking.{end-furthest}
 use Rattle.range_join.proofs.Spots.{firsts-below}
 use Rattle.range_join.proofs.peaks.greatest_peaks.Goals as goal
 
@@ -9,3 +12,11 @@ peak-requires c p m =
 pub peak-requires-2 : goal.peak-requires-2
 peak-requires-2 c p m =
     subst (λ n. p < n) (sym c.requires.size) (firsts-below _ c.args.db.now c.args.table c.in_ok-high.high.items c.in_ok-high.ensures p (subst (λ xs. Contains xs p) c.deref-2.ensures.value m))
+
+pub returns : goal.returns
+returns c = record {
+  low = c.in_ok-low.ensures;
+  high = c.in_ok-high.ensures;
+  least = end-furthest Greatest c.args.col c.peak.result (best_at c.args.col c.args.bests.now) c.deref.result.now _ c.peak.ensures c.deref.ensures.value _ c.in_ok-least.ensures;
+  greatest = end-furthest Greatest c.args.col c.peak-2.result (best_at c.args.col c.args.bests.now) c.deref-2.result.now _ c.peak-2.ensures c.deref-2.ensures.value _ c.in_ok-greatest.ensures;
+}
