@@ -1,7 +1,6 @@
 -- The answers of a query are lists: whether a row is one is decided, and some choice of rows gives it.
-use Rattle.std.proofs.Common.{◌≡◌, ◌↔◌, ap, sym, ◌∙◌, inl, inr, List, [], length, map, subst, Contains}
+use Rattle.std.proofs.Common.{◌≡◌, ◌↔◌, ◌∙◌, inl, inr, List, [], length, map, subst, Contains}
 use Rattle.std.specs.List.Sorted.{IsStrictlySortedBy}
-use Rattle.std.proofs.lemmas.List.{length-map}
 use Rattle.cqa_value.specs.declared.value.Value.{Value}
 use Rattle.cqa_value.specs.Values.{row_cmp, row_cmp_total}
 use Rattle.cqa_value.proofs.Words.{Contains-map}
@@ -15,7 +14,7 @@ use Rattle.cqa_model.proofs.Values.{dec_by}
 use Rattle.cqa_model.proofs.Witnesses.{dec_witness}
 use Rattle.existence_law.specs.Answers.{AnswersExist, RowsAreDecided}
 use Rattle.existence_law.proofs.Choices.{choices, choices-all}
-use Rattle.repair_clauses.proofs.Sorting.{decided_list}
+use Rattle.join_witness.proofs.Sorting.{decided_list}
 
 dec_certain : (db : List Table) (q : Query) (row : List Value) → Dec (IsCertain db q row)
 dec_certain db q row = elim (certain_or_rejected db q row) [
@@ -24,9 +23,6 @@ dec_certain db q row = elim (certain_or_rejected db q row) [
 ]
 
 -- a candidate has a value for each column of the answer
-pub candidate_long : (db : List Table) (q : Query) (row : List Value) → IsCandidate db q row → length row ≡ length q.answer
-candidate_long db q row (w, is) = ap length (sym is.answers) ∙ length-map q.answer (value w)
-
 module _ (db : List Table) (q : Query) (fits : FitsDatabase q db) where
   chosen : List (List (List Value))
   chosen = choices (length q.atoms) (λ F. rows_of q (stored db) F)

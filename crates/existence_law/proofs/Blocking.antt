@@ -20,7 +20,7 @@ use Rattle.row_cursor.proofs.Parting.{blocks-are, side_by_side}
 use Rattle.plan_rows.specs.Links.{RowHolds}
 use Rattle.fo_plan.specs.FirstBlock.{IsFirstWith, IsFirstBlock}
 use Rattle.existence_law.specs.Blocks.{FirstBlocksExist}
-use Rattle.existence_law.proofs.Answering.{candidate_long}
+use Rattle.fo_plan.proofs.Certainty.{candidate-length}
 
 module _ (key : List ℕ) (rows : List (List Value)) (P : List Value → Type 0) (d : (y : List Value) → Dec (P y)) where
   abbrev AllIn : List (List Value) → Type 0
@@ -74,4 +74,4 @@ held_by db q row valid fits (F ∷ plan) is h =
 pub first_blocks_exist : FirstBlocksExist
 first_blocks_exist db q row plan valid fits is certain =
     let candidate = possible_is_candidate.certain db q row fits certain in
-    held_by db q row valid fits plan is ((rewriting_is_exact db q row plan fits (candidate_long db q row candidate) is).1 certain)
+    held_by db q row valid fits plan is ((rewriting_is_exact db q row plan fits (candidate-length db q row candidate) is).1 certain)

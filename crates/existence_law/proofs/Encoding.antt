@@ -34,9 +34,9 @@ use Rattle.repair_clauses.proofs.Rows.{block_numbers}
 use Rattle.row_lists.proofs.Order.{from_equal}
 use Rattle.existence_law.specs.Formulas.{FormulasExist, CertainIsRefuted}
 use Rattle.existence_law.proofs.Choices.{choices, choices-all}
-use Rattle.repair_clauses.proofs.Listing.{dec_witness_with, numbers_exact}
+use Rattle.join_witness.proofs.Listing.{dec_witness_with, numbers_exact}
 use Rattle.existence_law.proofs.Refuting.{refutations_exist}
-use Rattle.repair_clauses.proofs.Sorting.{sorted, in_order, members, decided_list}
+use Rattle.join_witness.proofs.Sorting.{sorted, in_order, members, decided_list}
 
 both_equal : (o p : Ordering) → ordering_then o p ≡ Equal → (o ≡ Equal) × (p ≡ Equal)
 both_equal Less p e = absurd (cc e)

@@ -4,8 +4,8 @@ use Rattle.cqa_value.specs.Values.{row_cmp, row_cmp_total}
 use Rattle.join_access.specs.Listing.{HasTooMany}
 use Rattle.existence_law.specs.Limits.{FirstOverExists}
 use Rattle.existence_law.proofs.Answering.{candidate_list}
-use Rattle.repair_clauses.proofs.Listing.{dec_too_many}
-use Rattle.repair_clauses.proofs.Sorting.{first_with}
+use Rattle.join_witness.proofs.Listing.{dec_too_many}
+use Rattle.join_witness.proofs.Sorting.{first_with}
 
 pub first_over_exists : FirstOverExists
 first_over_exists db q fits =

@@ -1,6 +1,6 @@
 -- All witnesses of a row are listed by the names of their rows, and so it is known whether they are too many.
 use Rattle.std.proofs.Common.{inl, inr}
-use Rattle.repair_clauses.proofs.Listing.{all_names, dec_too_many}
+use Rattle.join_witness.proofs.Listing.{all_names, dec_too_many}
 use Rattle.existence_law.specs.Formulas.{WitnessesAreListed}
 
 pub witnesses_are_listed : WitnessesAreListed

@@ -1,12 +1,11 @@
 -- The range of an aggregate: its repairs are finitely many, in each it has a value, and any two values of one aggregate can be compared.
-use Rattle.std.proofs.Common.{◌≡◌, ◌⊎◌, inl, inr, ℕ, List, [], ◌∷◌, ◌++◌, map, filter, Ordering, Less, Equal, Greater, refl, sym, ap, ◌∙◌, subst, arith, Contains}
+use Rattle.std.proofs.Common.{◌≡◌, ◌⊎◌, inl, inr, ℕ, List, [], ◌∷◌, ◌++◌, filter, Ordering, Less, Equal, Greater, refl, sym, ap, ◌∙◌, subst, arith, Contains}
 use Rattle.std.specs.Prelude.{ℤ, ◌≤ℤ◌}
 use Rattle.std.specs.Ordering.{ordering_reverse}
 use Rattle.std.proofs.lemmas.Int.{ints}
-use Rattle.std.proofs.lemmas.List.Elements.{Contains-append_left, Contains-append_right}
 use Rattle.cqa_value.specs.declared.value.Value.{Value}
 use Rattle.cqa_value.specs.Values.{value_cmp, value_cmp_total}
-use Rattle.cqa_value.proofs.Words.{mem-head, mem-nil, Contains-map, Contains-filter, is_yes, yes_of, of_yes, dec_both}
+use Rattle.cqa_value.proofs.Words.{mem-head, mem-nil, Contains-filter, is_yes, yes_of, of_yes, dec_both}
 use Rattle.cqa_model.specs.declared.aggregate.Goal.{Goal}
 use Rattle.cqa_model.specs.declared.aggregate.Goal.TheVariants.{Count, Sum, Min, Max}
 use Rattle.cqa_model.specs.declared.aggregate.End.{End}
@@ -22,7 +21,7 @@ use Rattle.table_blocks.specs.Tables.{rows_at, key_at, rows_in, names_in}
 use Rattle.range_ask.specs.declared.range.Range.{Range}
 use Rattle.range_ask.specs.declared.way.Way.TheVariants.{Up}
 use Rattle.range_ask.specs.Ranges.{cell, part, total, number_of, AtMost, IsLeastValue, IsGreatestValue, HasValue, IsUpTo, IsAttained, IsRange}
-use Rattle.range_ask.proofs.Ordered.{before-trans, before-self}
+use Rattle.range_ask.proofs.Ordered.{before-self, at_most-trans}
 use Rattle.existence_law.specs.Ranges.{RangesExist}
 use Rattle.existence_law.proofs.Extremes.{first_among}
 use Rattle.existence_law.proofs.Rejecting.{places_from, places-rise, rows-at_places}
@@ -31,9 +30,6 @@ use Rattle.existence_law.proofs.Rejecting.{places_from, places-rise, rows-at_pla
 
 at_most_self : (x : Value) → AtMost x x
 at_most_self x = before-self Up x
-
-at_most_trans : (x y z : Value) → AtMost x y → AtMost y z → AtMost x z
-at_most_trans x y z h k = before-trans Up x y z h k
 
 at_most_either : (x y : Value) → AtMost x y ⊎ AtMost y x
 at_most_either x y = go (value_cmp x y) refl (value_cmp_total.antisymm y x)
@@ -63,7 +59,7 @@ up_trans (Held x) Empty c h k = absurd h
 up_trans (Held x) (Number n) c h k = absurd h
 up_trans (Held x) (Held y) Empty h k = absurd k
 up_trans (Held x) (Held y) (Number p) h k = absurd k
-up_trans (Held x) (Held y) (Held z) h k = at_most_trans x y z h k
+up_trans (Held x) (Held y) (Held z) h k = at_most-trans x y z h k
 
 -- ---- the value of an aggregate in some rows
 
@@ -72,14 +68,14 @@ module _ (col : ℕ) where
   least_in [] = (Empty, refl)
   least_in (row ∷ rows) =
       let m = first_among (λ x y. AtMost (cell x col) (cell y col)) (λ x. at_most_self (cell x col)) (λ x y. at_most_either (cell x col) (cell y col))
-      (λ x y z. at_most_trans (cell x col) (cell y col) (cell z col)) (row ∷ rows) row (mem-head row rows) in
+      (λ x y z. at_most-trans (cell x col) (cell y col) (cell z col)) (row ∷ rows) row (mem-head row rows) in
       (Held (cell m.0 col), ((m.0, m.1.0, refl), m.1.1))
 
   greatest_in : (rows : List (List Value)) → (end : End) × IsGreatestValue col rows end
   greatest_in [] = (Empty, refl)
   greatest_in (row ∷ rows) =
       let m = first_among (λ x y. AtMost (cell y col) (cell x col)) (λ x. at_most_self (cell x col)) (λ x y. at_most_either (cell y col) (cell x col))
-      (λ x y z h k. at_most_trans (cell z col) (cell y col) (cell x col) k h) (row ∷ rows) row (mem-head row rows) in
+      (λ x y z h k. at_most-trans (cell z col) (cell y col) (cell x col) k h) (row ∷ rows) row (mem-head row rows) in
       (Held (cell m.0 col), ((m.0, m.1.0, refl), m.1.1))
 
 value_in : (goal : Goal) (rows : List (List Value)) → (end : End) × HasValue goal rows end

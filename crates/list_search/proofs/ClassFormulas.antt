@@ -27,6 +27,7 @@ use Rattle.row_lists.proofs.Words.{block-self, name_discrete}
 use Rattle.row_lists.proofs.Rows.{number_below, one_variable, dec_number, variable_total}
 use Rattle.row_lists.proofs.Lists.{names_decide}
 use Rattle.row_lists.proofs.Classes.{classes_of_names}
+use Rattle.row_lists.proofs.Formulas.{same-variable}
 use Rattle.list_search.specs.Classing.{HasClass, HasAllClasses, AreClassesOfBlock, AreClassClauses}
 use Rattle.list_search.specs.Quotients.{columns_at, Agree, AreClassedTo, AreNumberedTo, AreClassesOf, AreQuotient}
 use Rattle.list_search.specs.Finding.{FoundSays}
@@ -44,9 +45,6 @@ dec_class (Some (Some n)) = yes (n, refl)
 
 same-name : (m n : RowId) → m.table ≡ n.table → m.place ≡ n.place → m ≡ n
 same-name m n t p = λ i. record { table = t i; place = p i }
-
-same-variable : (x y : Variable) → x.slot ≡ y.slot → x.place ≡ y.place → x ≡ y
-same-variable x y a p = λ i. record { slot = a i; place = p i }
 
 -- a literal of a clause that is satisfied
 pub some_true : (v : ℕ → Bool) (numbers : List ℕ) → Satisfies v (map positive numbers) → (n : ℕ) × Contains numbers n × (v n ≡ true)

@@ -23,7 +23,7 @@ use Rattle.row_lists.specs.Encodings.{IsListEncoded}
 use Rattle.row_lists.proofs.Formulas.{list_clauses_rise, lists_decide}
 use Rattle.list_search.specs.declared.decision.Decided.{Decided}
 use Rattle.list_search.specs.declared.judging.Judged.{Judged}
-use Rattle.list_search.specs.Judging.{IsDecided, IsJudged, Judges, SaysOf}
+use Rattle.list_search.specs.Judging.{IsJudged, Judges, SaysOf}
 use Rattle.list_search.proofs.Rising.{rising-range, rising-once}
 
 -- the lists have one
@@ -59,13 +59,6 @@ module _ (db : List Table) (frame : List ℕ) (lists : List (List RowId)) (e : E
     judged_is budget (Sat values) j o is = subst (IsJudged db frame lists budget) (sym is) (says_of budget (Sat values) o)
     judged_is budget (Unsat log) j o is = subst (IsJudged db frame lists budget) (sym is) (says_of budget (Unsat log) o)
     judged_is budget (Spent log) j o is = subst (IsJudged db frame lists budget) (sym is) (record { some = says_of budget (Spent log) o; rows = e.rows; formula = h; spent = o })
-
-    pub decided_is : (budget : ℕ) (decided : Decided) → decided.formula ≡ e → OutcomeIs e.cnf budget decided.outcome → IsDecided db frame lists budget decided
-    decided_is budget decided same o = record {
-      formula = subst (IsListEncoded db frame lists) (sym same) h;
-      outcome = subst (λ (g : Encoded). OutcomeIs g.cnf budget decided.outcome) (sym same) o;
-      says = says_of budget decided.outcome o;
-    }
 
 -- what the solver's clauses say of an outcome
 outcome_is : (cnf : Cnf) (budget : ℕ) (r : Result Outcome NoMemory) (o : Outcome) → r ≡ Ok o → ((values : List Bool) → r ≡ Ok (Sat values) → IsModel cnf values) →

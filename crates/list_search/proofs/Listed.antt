@@ -4,13 +4,13 @@ use Rattle.cqa_model.specs.declared.limits.TheConstants.{MOST_ROWS}
 use Rattle.cqa_model.specs.declared.query.RowId.{RowId}
 use Rattle.cqa_model.specs.Database.{Table, IsDatabase}
 use Rattle.join_access.specs.Listing.{names_of}
+use Rattle.row_lists.proofs.Framing.{few_below}
 use Rattle.row_lists.specs.declared.lists_over.RowLists.{RowLists}
 use Rattle.row_lists.specs.Lists.{name, IsIn, AreStored}
 use Rattle.row_lists.specs.Formulas.{IsFrame, AreWithin}
 use Rattle.row_lists.specs.Frames.{AreTablePlaces}
 use Rattle.row_lists.proofs.Framing.{is_frame, within_frame}
 use Rattle.row_lists.proofs.Reading.{rows-few}
-use Rattle.list_search.proofs.SingleRows.{few_below}
 
 -- a row of a list has a place below the most rows
 pub listed_few : (db : List Table) (lists : List (List RowId)) → IsDatabase db → AreStored db lists → (t p : ℕ) → IsIn lists (name t p) → p < MOST_ROWS

@@ -109,22 +109,6 @@ numbering P spans h there m e = record {
 
 -- ---- one slot more
 
--- rising numbers below a number are at most so many
-rises_above : (xs : List ℕ) → ((i j : ℕ) → i < j → j < length xs → get_or xs i 0 < get_or xs j 0) → (i : ℕ) → i < length xs → i ≤ get_or xs i 0
-rises_above xs s zero l = omega arith
-rises_above xs s (suc i) l =
-    let ih = rises_above xs s i (omega (arith, l)) in
-    let less = s i (suc i) (omega arith) l in
-    omega (arith, ih, less)
-
-pub few_below : (xs : List ℕ) (n : ℕ) → ((i j : ℕ) → i < j → j < length xs → get_or xs i 0 < get_or xs j 0) → ((p : ℕ) → Contains xs p → p < n) → length xs ≤ n
-few_below [] n s below = omega arith
-few_below (x ∷ xs) n s below =
-    let l : length xs < length (x ∷ xs) = omega arith in
-    let high = below (get_or (x ∷ xs) (length xs) 0) (Contains-get_or (x ∷ xs) (length xs) 0 l) in
-    let low = rises_above (x ∷ xs) s (length xs) l in
-    omega (arith, high, low)
-
 -- an item of joined lists is one of either
 split : {A : Type 0} (xs ys : List A) (k : ℕ) (x : A) → slice_get (xs ++ ys) k ≡ Some x → ((k < length xs) × (slice_get xs k ≡ Some x)) ⊎ ((j : ℕ) × (k ≡ length xs + j) × (slice_get ys j ≡ Some x))
 split [] ys k x e = inr (k, omega arith, e)

@@ -7,11 +7,9 @@ use Rattle.cnf_form.specs.declared.log.Log.{Log}
 use Rattle.cnf_form.specs.Spent.{IsSpentLog}
 use Rattle.cdcl.specs.declared.outcome.Outcome.{Outcome}
 use Rattle.cdcl.specs.declared.outcome.Outcome.TheVariants as outcome
-use Rattle.cdcl.specs.Outcomes.{OutcomeIs}
 use Rattle.row_lists.specs.declared.formula.Encoded.{Encoded}
 use Rattle.row_lists.specs.Lists.{IsForced}
 use Rattle.row_lists.specs.Encodings.{IsListEncoded}
-use Rattle.list_search.specs.declared.decision.Decided.{Decided}
 use Rattle.list_search.specs.declared.judging.Judged.{Judged}
 use Rattle.list_search.specs.declared.judging.Judged.TheVariants.{Forced, Avoided, Spent}
 
@@ -20,12 +18,6 @@ abbrev pub SaysOf : List Table → List (List RowId) → Outcome → Type 0
 SaysOf db lists (outcome.Sat values) = IsForced db lists → ⊥
 SaysOf db lists (outcome.Unsat log) = IsForced db lists
 SaysOf db lists (outcome.Spent log) = 0 < length lists
-
--- the formula is that of the lists, the outcome is that of its clauses, and so much is known of the lists
-pub record IsDecided (db : List Table) (frame : List ℕ) (lists : List (List RowId)) (budget : ℕ) (d : Decided) : Type 0 where
-  pub formula : IsListEncoded db frame lists d.formula
-  pub outcome : OutcomeIs d.formula.cnf budget d.outcome
-  pub says : SaysOf db lists d.outcome
 
 -- there is a list, and the formula of the lists has a spent log for the budget
 pub record IsSpentFor (db : List Table) (frame : List ℕ) (lists : List (List RowId)) (budget : ℕ) (cnf : Cnf) (log : Log) : Type 0 where

@@ -8,9 +8,9 @@ ghost use Rattle.list_search.specs.Classing.{AreBlockLists, AreRange, HasClass, 
 
 use crate::classing::Classed;
 use cqa_value::{Items, NoMemory};
+use rising_numbers::put_in_order;
 use row_lists::numbering::{Numbering, find_span};
 use row_lists::span::Span;
-use row_witnesses::rising::put_in_order;
 use std::alloc::Global;
 use std::cmp::Ordering;
 

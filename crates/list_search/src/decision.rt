@@ -1,15 +1,13 @@
-//! Lists are decided by their formula, and what the solver answers is the evidence.
+//! A formula is handed to the solver, and what it answers is the evidence.
 //! A model gives a repair that keeps no list whole, and a refutation says that there is none.
 
 ghost use Rattle.std.specs.Prelude.{◌≡◌, IfOk, Ok};
 ghost use Rattle.cnf_form.specs.Literals.{AreVarsInRange};
 ghost use Rattle.cdcl.specs.Outcomes.{IsOnce, OutcomeIs};
-ghost use Rattle.join_access.specs.Listing.{names_of};
-ghost use Rattle.list_search.specs.Judging.{IsDecided};
 
 use cdcl::Outcome;
 use cqa_value::NoMemory;
-use row_lists::{Encoded, RowLists, encode};
+use row_lists::Encoded;
 use std::alloc::Global;
 
 /// A formula of rows, and what the solver found out of it.
@@ -38,7 +36,7 @@ fn with_outcome(formula: Encoded, found: Result<Outcome, NoMemory>) -> Result<De
 /// # Errors
 ///
 /// `NoMemory` where memory is refused.
-pub fn solved(alloc: Global, formula: Encoded, budget: u32) -> Result<Decided, NoMemory>
+pub(crate) fn solved(alloc: Global, formula: Encoded, budget: u32) -> Result<Decided, NoMemory>
     requires range { AreVarsInRange formula.cnf }
     requires once { IsOnce formula.cnf }
     ensures same { IfOk result (λ decided. decided.formula ≡ formula) }
@@ -61,17 +59,4 @@ pub fn solved_by_groups(alloc: Global, formula: Encoded, budget: u32) -> Result<
 {
     let found = merged_search::solve(alloc, &formula.cnf, budget);
     with_outcome(formula, found)
-}
-
-/// Decides whether every repair keeps one of the lists whole, by searches of at most `budget` conflicts each.
-///
-/// # Errors
-///
-/// `NoMemory` where memory is refused.
-pub fn decide(alloc: Global, lists: &RowLists<'_>, budget: u32) -> Result<Decided, NoMemory>
-    ensures { IfOk result (IsDecided lists.now.db.now lists.now.frame.now.tables (names_of lists.now.lists.now) budget) }
-{
-    let formula = encode(alloc, lists)?;
-    let decided = solved_by_groups(alloc, formula, budget)?;
-    Ok(decided)
 }

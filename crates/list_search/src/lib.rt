@@ -4,22 +4,22 @@
 #![tactic(auto)]
 
 mod avoiding;
-pub mod class_clauses;
-pub mod class_lists;
-pub mod classing;
+mod class_clauses;
+mod class_lists;
+mod classing;
 mod decision;
-pub mod finding;
+mod finding;
 mod first_look;
 mod judging;
 mod listed_classes;
 mod listed_rows;
 mod quotient;
-pub mod room;
+mod room;
 mod scope;
 mod second_look;
-pub mod singles;
+mod singles;
 
-pub use decision::{Decided, decide, solved, solved_by_groups};
+pub use decision::{Decided, solved_by_groups};
 pub use judging::{Judged, judge};
 pub use room::Room;
 pub use scope::Scope;

@@ -19,9 +19,9 @@ use cnf_form::{Clause, Cnf};
 use cqa_model::RowId;
 use cqa_value::{Items, NoMemory};
 use join_access::Witness;
+use rising_numbers::put_in_order;
 use row_lists::numbering::Numbering;
 use row_lists::{Frame, RowLists};
-use row_witnesses::rising::put_in_order;
 use std::alloc::Global;
 
 /// The class of the row of a name.

@@ -12,7 +12,7 @@ use Rattle.row_lists.specs.declared.span.Span.{Span}
 use Rattle.row_lists.specs.Spans.{IsAt}
 use Rattle.row_witnesses.specs.Columns.{place_at}
 use Rattle.row_lists.proofs.Numbers.{place_of}
-use Rattle.repair_clauses.proofs.Encoding.{place_read}
+use Rattle.repair_clauses.proofs.Naming.{place_read}
 use Rattle.pair_refutation.specs.declared.graph.Pair.{Pair}
 use Rattle.pair_refutation.specs.Graph.{not_both}
 use Rattle.pair_formula.specs.Full.{IsRowNumber, IsRowPair, AddsPair, AddsPairs}

@@ -2,15 +2,14 @@
 use Rattle.std.proofs.Common.{◌≡◌, ◌≢◌, ◌⊎◌, inl, inr, ℕ, zero, suc, ◌+◌, ◌-◌, ◌<◌, ◌≤◌, nat_lt, cond, Bool, true, false, true≢false, List, [], ◌∷◌, ◌++◌, length, get_or, map, flat_map, refl, sym, ap, ◌∙◌, subst, arith, Contains, lt-ltb, ltb-true, Less, eqb}
 use native.Mathlib.Decide.{dec_lt}
 use Rattle.std.proofs.lemmas.Bool.{ne_eqb, eq-eqb}
-use Rattle.std.specs.List.{AllByRecursion}
 use Rattle.std.specs.List.Sorted.{IsStrictlySortedBy}
 use Rattle.std.specs.Ordering.{nat_cmp}
 use Rattle.std.proofs.Math.ListN.{get_or-map}
 use Rattle.std.proofs.lemmas.List.{length-append, length-map, get_or_append_left, get_or-append-add, get_or_default, append-nil}
-use Rattle.std.proofs.lemmas.List.Elements.{Contains-get_or, recursion_from_All, All-from_get_or}
+use Rattle.std.proofs.lemmas.List.Elements.{Contains-get_or}
 use Rattle.std.proofs.lemmas.Map.Keys.{Less-from_sorted}
 use Rattle.cqa_value.specs.declared.value.Value.{Value}
-use Rattle.cqa_value.proofs.Words.{Contains-map, Contains-from_map, nat_cmp_less, member_by_recursion}
+use Rattle.cqa_value.proofs.Words.{Contains-map, Contains-from_map, nat_cmp_less}
 use Rattle.cqa_model.specs.declared.query.Query.{Query}
 use Rattle.cqa_model.specs.declared.query.Atom.{Atom}
 use Rattle.cqa_model.specs.declared.query.RowId.{RowId}
@@ -19,7 +18,6 @@ use Rattle.cqa_model.specs.Repairs.{IsSublist}
 use Rattle.cqa_model.specs.Query.{atom_at, rows_of, FitsDatabase}
 use Rattle.cqa_model.specs.Plan.{Placed}
 use Rattle.cqa_model.proofs.Classic.{mem-head, mem-tail, mem-nil, mem-cases}
-use Rattle.cqa_model.proofs.Repairs.{sublist-stored}
 use Rattle.cqa_model.proofs.BlockOrder.{block_total}
 use Rattle.cqa_model.proofs.Reification.{placed}
 use Rattle.join_access.proofs.Sorted.{one_sorted, sorted-from}
@@ -28,6 +26,7 @@ use Rattle.pair_answers.specs.Kept.{id_of, AreAscendingFrom}
 use Rattle.pair_answers.specs.Kept as pairs
 use Rattle.repair_back.specs.Results.{AreKept, AreStored, Rejects}
 use Rattle.table_blocks.specs.Tables.{rows_in, names_in}
+use Rattle.table_blocks.proofs.Keeping.{sublist-sorted}
 
 -- ---- ascending numbers
 
@@ -167,17 +166,6 @@ module _ (n : ℕ) where
         go false e rest = ap (λ z. record { table = right; place = k - n } ∷ z) (names-high ks (λ j c. let a = not-below k e in let b = ascending-above (k + 1) ks h.1 j c in omega (arith, a, b)))
 
 -- ---- rows of a table by their places
-
-sublist-sorted : (key : List ℕ) (xs ys : List (List Value)) → IsSublist xs ys → IsStrictlySortedBy (block_cmp key) ys → IsStrictlySortedBy (block_cmp key) xs
-unfolding IsStrictlySortedBy
-sublist-sorted key [] ys h s = tt
-sublist-sorted key (x ∷ xs) [] h s = absurd h
-sublist-sorted key (x ∷ xs) (y ∷ ys) (inl (e, h)) s = (
-  subst (λ z. AllByRecursion (λ w. block_cmp key z w ≡ Less) xs) (sym e)
-      (recursion_from_All (λ w. block_cmp key y w ≡ Less) xs (All-from_get_or (λ w. block_cmp key y w ≡ Less) xs [] (λ i l. member_by_recursion (λ w. block_cmp key y w ≡ Less) ys s.0 (get_or xs i []) (sublist-stored xs ys h (get_or xs i []) (Contains-get_or xs i [] l))))),
-  sublist-sorted key xs ys h s.1,
-)
-sublist-sorted key (x ∷ xs) (y ∷ ys) (inr h) s = sublist-sorted key (x ∷ xs) ys h s.1
 
 rows-sorted : (key : List ℕ) (rows : List (List Value)) (ps : List ℕ) → IsStrictlySortedBy (block_cmp key) rows → AreAscendingFrom 0 ps → ((p : ℕ) → Contains ps p → p < length rows) → IsStrictlySortedBy (block_cmp key) (rows_in rows ps)
 rows-sorted key rows ps s up within = sorted-from (block_cmp key) (rows_in rows ps) [] (λ i j l k. less i j l (let n = length-map ps (λ p. get_or rows p []) in omega (arith, k, n)))

@@ -1,4 +1,4 @@
--- The relevant blocks and the numbers of all witnesses' rows give the formula.
+-- The blocks of whole spans, and the numbers of all witnesses' rows.
 use Rattle.std.proofs.Common.{◌≡◌, ℕ, zero, suc, ◌<◌, ◌+◌, ◌⊎◌, inl, inr, List, [], ◌∷◌, length, get_or, map, refl, sym, ◌∙◌, ap, subst, arith, Contains, Less, Equal}
 use Rattle.std.specs.Ordering.{nat_cmp, ordering_then}
 use Rattle.std.specs.List.{AllZip}
@@ -9,20 +9,16 @@ use Rattle.cqa_value.specs.declared.value.Value.{Value}
 use Rattle.cqa_value.proofs.Words.{nat_cmp_less, all_zip_right, member_by_recursion}
 use Rattle.cqa_model.specs.declared.query.Query.{Query}
 use Rattle.cqa_model.specs.Database.{Table, stored}
-use Rattle.cqa_model.specs.Repairs.{SharesKey}
 use Rattle.cqa_model.specs.Query.{atom_key, rows_of, row_at}
-use Rattle.cqa_model.specs.Formula.{IsRelevant}
 use Rattle.cqa_model.proofs.Classic.{mem-head, mem-tail, mem-nil, mem-cases, choose}
-use Rattle.cqa_model.proofs.Repairs.{shares-sym, shares-trans}
 use Rattle.row_lists.specs.declared.span.Span.{Span}
 use Rattle.row_lists.specs.Clauses.{Variable, variable_cmp, HasNumber, AreAllLists}
 use Rattle.repair_clauses.specs.Clauses.{AreRowVariables, AreBlockNumbers, IsNumberOf, IsOfWitness, variable_row}
-use Rattle.row_lists.specs.Spans.{at, IsInSpan, span_cmp, AreBased, variables_of_spans, numbers_in}
-use Rattle.repair_clauses.specs.Spans.{AreSpans, IsPlacedWitness, AreNumbers}
-use Rattle.repair_clauses.specs.Laws.{SpansGiveFormula}
+use Rattle.row_lists.specs.Spans.{at, span_cmp, AreBased, variables_of_spans, numbers_in}
+use Rattle.repair_clauses.specs.Spans.{IsPlacedWitness, AreNumbers}
 use Rattle.row_lists.proofs.Rows.{numbered}
 use Rattle.row_lists.proofs.Order.{less_then, then_cases, then_less, from_less, from_equal, equal_self, place_less, numbers_rise, same_number}
-use Rattle.row_lists.proofs.Spans.{as_at, in_variables, of_variables, IsWholeSpan, IsSlotBlock, variables-sorted, inside, shares_first, are_slot_blocks}
+use Rattle.row_lists.proofs.Spans.{as_at, IsWholeSpan, IsSlotBlock, are_slot_blocks}
 
 module _ (q : Query) (db : List Table) where
   -- the blocks of whole spans are those of the query's variables
@@ -35,31 +31,6 @@ module _ (q : Query) (db : List Table) where
 
       to : {numbers : List ℕ} → ((x : Variable) × Contains (variables_of_spans spans) x × IsSlotBlock (atom_key q) (rows_of q (stored db)) (variables_of_spans spans) x numbers) → AreBlockNumbers q db (variables_of_spans spans) numbers
       to (x, m, b) = (x, m, record { rises = b.0; exactly = b.1 })
-
-module _ (q : Query) (db : List Table) (row : List Value) where
-  -- all of them
-  module _ (spans : List Span) (h : AreSpans q db row spans) where
-    pub are_variables : AreRowVariables q db row (variables_of_spans spans)
-    are_variables = record {
-      in_order = variables-sorted (atom_key q) (rows_of q (stored db)) spans h.in_order whole;
-      exactly = λ x. (
-        λ m. let p = in_variables spans x m in ((subst (λ F. F < length q.atoms) (sym p.2.0) (h.each p.0 p.1).there, inside (atom_key q) (rows_of q (stored db)) spans h.in_order h.based whole p.0 p.1 x p.2), is_relevant p.0 p.1 x p.2),
-        λ s. let p = h.every x s.0 s.1 in of_variables spans p.0 x p.1 p.2,
-      );
-    }
-      where
-        whole : (s : Span) → Contains spans s → IsWholeSpan (atom_key q) (rows_of q (stored db)) s
-        whole s m = (h.each s m).whole
-
-        is_relevant : (s : Span) → Contains spans s → (x : Variable) → IsInSpan s x → IsRelevant q (stored db) row x.slot (variable_row q db x)
-        is_relevant s m x i =
-            let rel = (h.each s m).relevant in
-            let key = atom_key q s.slot in
-            let first = variable_row q db (at s.slot s.start) in
-            let mine = variable_row q db (at s.slot x.place) in
-            let sh : SharesKey key mine (row_at rel.0 s.slot) = shares-trans key mine first (row_at rel.0 s.slot) (shares-sym key first mine (shares_first (atom_key q) (rows_of q (stored db)) spans h.in_order h.based whole s m x.place i.1 i.2)) rel.2 in
-            let there : IsRelevant q (stored db) row s.slot mine = (rel.0, rel.1, sh) in
-            subst (λ y. IsRelevant q (stored db) row y.slot (variable_row q db y)) (sym (as_at x s.slot i.0)) there
 
 -- numbers of places
 pub numbers_at : (variables : List Variable) (F : ℕ) (ps ns : List ℕ) → AreNumbers variables F ps ns → (i : ℕ) → i < length ps → HasNumber variables (get_or ns i 0) (at (F + i) (get_or ps i 0))
@@ -164,10 +135,3 @@ module _ (q : Query) (db : List Table) (row : List Value) (variables : List Vari
     in_order = zip-sorted variables vs.in_order places numbers z h.in_order;
     exactly = λ ns. (λ m. let p = all_zip_right (AreNumbers variables 0) places numbers ns z m in of_places p.0 ns p.2 ((h.exactly p.0).0 p.1), from_witness ns);
   }
-
-pub spans_give_formula : SpansGiveFormula
-spans_give_formula db q row spans places numbers h p z = record {
-  variables = are_variables q db row spans h;
-  blocks = are_blocks q db spans h.in_order h.based (λ s m. (h.each s m).whole);
-  witnesses = are_witnesses q db row (variables_of_spans spans) (are_variables q db row spans h) places numbers p z;
-}

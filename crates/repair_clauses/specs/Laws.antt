@@ -1,8 +1,8 @@
 -- The laws of the formulas of rows.
 use Rattle.std.specs.Prelude.{◌≡◌, ℕ, ◌<◌, ◌≤◌, ◌↔◌, List, length, Bool, Contains}
-use Rattle.std.specs.List.{AllZip}
 use Rattle.cqa_value.specs.declared.value.Value.{Value}
 use Rattle.cqa_model.specs.declared.query.Query.{Query}
+use Rattle.cqa_model.specs.declared.query.RowId.{RowId}
 use Rattle.cqa_model.specs.Database.{Table, IsDatabase, stored}
 use Rattle.cqa_model.specs.Repairs.{IsRepair}
 use Rattle.cqa_model.specs.Query.{rows_of, IsWitness, FitsDatabase}
@@ -12,15 +12,14 @@ use Rattle.cnf_form.specs.declared.formula.Lit.{Lit}
 use Rattle.cnf_form.specs.declared.header.TheConstants.{MOST_CLAUSES}
 use Rattle.cnf_form.specs.Literals.{SatisfiesAll}
 use Rattle.cnf_form.specs.Writing.{IsWritable}
+use Rattle.join_access.specs.Listing.{AreAllNames}
 use Rattle.row_lists.specs.declared.formula.Encoded.{Encoded}
 use Rattle.repair_clauses.specs.Encodings.{IsEncoded}
-use Rattle.row_lists.specs.Clauses.{Formula, IsSatisfiable, Rises, AreAllLists, clauses}
+use Rattle.row_lists.specs.Clauses.{Formula, IsSatisfiable, Rises, clauses}
+use Rattle.row_lists.specs.Formulas.{IsFormulaOf}
 use Rattle.repair_clauses.specs.Clauses.{IsFormula}
-use Rattle.repair_clauses.specs.Alike.{AreRowClasses, SatisfiesClasses}
 use Rattle.repair_clauses.specs.Models.{IsPicked}
-use Rattle.row_lists.specs.declared.span.Span.{Span}
-use Rattle.repair_clauses.specs.Spans.{AreSpans, IsPlacedWitness, AreNumbers}
-use Rattle.row_lists.specs.Spans.{variables_of_spans, formula_of_spans}
+use Rattle.repair_clauses.specs.Frames.{tables_of}
 
 -- The clauses of a row have a satisfying assignment exactly where the rows have one.
 abbrev pub ClausesAreExact : Type 0
@@ -33,12 +32,6 @@ abbrev pub ClausesDecide : Type 0
 ClausesDecide =
     (db : List Table) (q : Query) (row : List Value) (f : Formula) → FitsDatabase q db → IsFormula q db row f →
     IsCertain db q row ↔ ((v : ℕ → Bool) → SatisfiesAll v (clauses f) → ⊥)
-
--- The formula over classes of rows that are alike has a satisfying assignment exactly where the rows have one.
-abbrev pub ClassesAreExact : Type 0
-ClassesAreExact =
-    (db : List Table) (q : Query) (row : List Value) (class : ℕ → List Value → ℕ) → AreRowClasses q (stored db) row class →
-    ((t : ℕ → Bool) × SatisfiesClasses q (stored db) row class t) ↔ ((a : ℕ → List Value → Bool) × Satisfies q (stored db) row a)
 
 -- The repair of a satisfying assignment holds no witness of the row.
 abbrev pub ModelsReject : Type 0
@@ -56,12 +49,10 @@ OneFormula = (db : List Table) (q : Query) (row : List Value) (f g : Formula) �
 abbrev pub ClausesRise : Type 0
 ClausesRise = (db : List Table) (q : Query) (row : List Value) (f : Formula) → IsFormula q db row f → (c : List Lit) → Contains (clauses f) c → Rises (length f.variables) c
 
--- The relevant blocks and the numbers of all witnesses' rows give the formula.
-abbrev pub SpansGiveFormula : Type 0
-SpansGiveFormula =
-    (db : List Table) (q : Query) (row : List Value) (spans : List Span) (places numbers : List (List ℕ)) →
-    AreSpans q db row spans → AreAllLists (IsPlacedWitness q db row) places → AllZip (AreNumbers (variables_of_spans spans) 0) places numbers →
-    IsFormula q db row (formula_of_spans spans numbers)
+-- The formula of the lists of a row's witnesses, over the query's tables, is the formula of the row.
+abbrev pub ListsGiveFormula : Type 0
+ListsGiveFormula =
+    (db : List Table) (q : Query) (row : List Value) (all : List (List RowId)) (f : Formula) → FitsDatabase q db → AreAllNames q db row all → IsFormulaOf db (tables_of q) all f → IsFormula q db row f
 
 -- The formula of a row over a database can be written, if it has no more clauses than a text may name.
 abbrev pub FormulaIsWritable : Type 0

@@ -1,7 +1,7 @@
 pub mod Clauses
-pub mod Alike
 pub mod Models
 pub mod Spans
+pub mod Frames
 pub mod Avoiding
 pub mod Laws
 pub mod Encodings

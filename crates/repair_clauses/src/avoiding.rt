@@ -1,7 +1,7 @@
 //! Whether a repair can keep out of each of a row's witnesses by free rows alone: rows that are in no witness.
 //! A row of a witness whose block has a free row is loose, since a repair can keep the free row in its place.
 
-ghost use Rattle.std.specs.Prelude.{◌≡◌, ◌+◌, ◌⊎◌, ◌<◌, ℕ, [], false, true, Contains, IfOk, IsTrue, length, slice_index_or};
+ghost use Rattle.std.specs.Prelude.{◌≡◌, ◌⊎◌, ◌<◌, ℕ, [], false, true, Contains, IfOk, IsTrue, length, slice_index_or};
 ghost use Rattle.cqa_model.specs.Certain.{IsCertain};
 ghost use Rattle.join_access.specs.Listing.{names_of};
 ghost use Rattle.join_access.specs.declared.witness.Witness.{Witness as Named};
@@ -9,7 +9,7 @@ ghost use Rattle.repair_clauses.specs.Avoiding.{AreMarkedWitnesses};
 ghost use Rattle.row_lists.specs.Loose.{IsLooseAt};
 ghost use Rattle.row_witnesses.specs.Columns.{place_at};
 
-use crate::relevant::atom_of;
+use crate::frame::atom_of;
 use cqa_value::NoMemory;
 use join_access::Witness;
 use row_lists::loosening::{is_loose, loose_places};

@@ -1,7 +1,7 @@
 //! The laws of the formulas of rows, over the definitions alone.
 //! Each is what its function ensures.
 
-ghost use Rattle.repair_clauses.specs.Laws.{ClassesAreExact, ClausesAreExact, ClausesDecide, ClausesRise, FormulaIsWritable, ModelsReject, OneFormula, SpansGiveFormula};
+ghost use Rattle.repair_clauses.specs.Laws.{ClausesAreExact, ClausesDecide, ClausesRise, FormulaIsWritable, ListsGiveFormula, ModelsReject, OneFormula};
 
 /// The clauses of a row have a satisfying assignment exactly where the rows have one.
 pub fn clauses_are_exact()
@@ -11,11 +11,6 @@ pub fn clauses_are_exact()
 /// A row is certain exactly where no assignment satisfies its clauses.
 pub fn clauses_decide()
     ensures { ClausesDecide }
-{}
-
-/// The formula over classes of rows that are alike has a satisfying assignment exactly where the rows have one.
-pub fn classes_are_exact()
-    ensures { ClassesAreExact }
 {}
 
 /// The repair of a satisfying assignment holds no witness of the row.
@@ -33,9 +28,9 @@ pub fn clauses_rise()
     ensures { ClausesRise }
 {}
 
-/// The relevant blocks and the numbers of all witnesses' rows give the formula.
-pub fn spans_give_formula()
-    ensures { SpansGiveFormula }
+/// The formula of the lists of a row's witnesses, over the query's tables, is the formula of the row.
+pub fn lists_give_formula()
+    ensures { ListsGiveFormula }
 {}
 
 /// The formula of a row over a database can be written, if it has no more clauses than a text may name.

@@ -1,5 +1,5 @@
 -- Frames: their slots, and rising tables.
-use Rattle.std.proofs.Common.{◌≡◌, ℕ, zero, suc, ◌<◌, ◌≤◌, ◌⊎◌, inl, inr, List, length, get_or, refl, sym, ◌∙◌, ap, subst, arith, Contains}
+use Rattle.std.proofs.Common.{◌≡◌, ℕ, zero, suc, ◌<◌, ◌≤◌, ◌⊎◌, inl, inr, List, [], ◌∷◌, length, get_or, sym, ◌∙◌, ap, subst, arith, Contains}
 use Rattle.std.proofs.lemmas.Bool.{cases_order}
 use Rattle.std.proofs.lemmas.List.Elements.{Contains-get_or}
 use Rattle.std.proofs.lemmas.Map.Keys.{Less-from_sorted}
@@ -18,7 +18,23 @@ AreApart tables = (r s : ℕ) → r < length tables → s < length tables → ge
 abbrev pub HaveSlotsTo : List ℕ → List ℕ → ℕ → Type 0
 HaveSlotsTo tables slots n = (s : ℕ) → s < n → get_or slots (get_or tables s 0) 0 ≡ s
 
--- ---- tables that rise
+-- ---- numbers that rise
+
+-- rising numbers below a number are at most so many
+rises_above : (xs : List ℕ) → ((i j : ℕ) → i < j → j < length xs → get_or xs i 0 < get_or xs j 0) → (i : ℕ) → i < length xs → i ≤ get_or xs i 0
+rises_above xs s zero l = omega arith
+rises_above xs s (suc i) l =
+    let ih = rises_above xs s i (omega (arith, l)) in
+    let less = s i (suc i) (omega arith) l in
+    omega (arith, ih, less)
+
+pub few_below : (xs : List ℕ) (n : ℕ) → ((i j : ℕ) → i < j → j < length xs → get_or xs i 0 < get_or xs j 0) → ((p : ℕ) → Contains xs p → p < n) → length xs ≤ n
+few_below [] n s below = omega arith
+few_below (x ∷ xs) n s below =
+    let l : length xs < length (x ∷ xs) = omega arith in
+    let high = below (get_or (x ∷ xs) (length xs) 0) (Contains-get_or (x ∷ xs) (length xs) 0 l) in
+    let low = rises_above (x ∷ xs) s (length xs) l in
+    omega (arith, high, low)
 
 module _ (tables : List ℕ) (rises : IsStrictlySortedBy nat_cmp tables) where
   pub later : (i j : ℕ) → i < j → j < length tables → get_or tables i 0 < get_or tables j 0
@@ -31,24 +47,6 @@ module _ (tables : List ℕ) (rises : IsStrictlySortedBy nat_cmp tables) where
       go (inl same) = same
       go (inr (inl l)) = let m = later r s l ls in absurd (omega (arith, m, e))
       go (inr (inr l)) = let m = later s r l lr in absurd (omega (arith, m, e))
-
-  above : (i : ℕ) → i < length tables → i ≤ get_or tables i 0
-  above zero l = omega arith
-  above (suc i) l =
-      let ih = above i (omega (arith, l)) in
-      let m = later i (suc i) (omega arith) l in
-      omega (arith, ih, m)
-
-  pub rising_few : (n : ℕ) → ((t : ℕ) → Contains tables t → t < n) → length tables ≤ n
-  rising_few n within = go (length tables) refl
-    where
-      go : (k : ℕ) → length tables ≡ k → length tables ≤ n
-      go zero e = omega (arith, e)
-      go (suc k) e =
-          let l : k < length tables = omega (arith, e) in
-          let a = above k l in
-          let w = within (get_or tables k 0) (Contains-get_or tables k 0 l) in
-          omega (arith, a, w, e)
 
 -- ---- frames of a database
 

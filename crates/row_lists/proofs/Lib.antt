@@ -18,3 +18,5 @@ pub mod Blocks
 pub mod Filled
 pub mod Encoding
 pub mod Loose
+pub mod Naming
+pub mod Making

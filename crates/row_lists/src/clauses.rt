@@ -17,7 +17,7 @@ use cnf_form::{Clause, Lit};
 use cqa_model::RowId;
 use cqa_value::{Items, NoMemory};
 use join_access::Witness;
-use row_witnesses::rising::put_in_order;
+use rising_numbers::put_in_order;
 use std::alloc::Global;
 
 /// Puts the literals of a block's clause into a list: one of its rows is kept.
@@ -172,7 +172,7 @@ fn list_clause(
 /// # Errors
 ///
 /// `NoMemory` where memory is refused.
-pub fn add_lists(
+pub(crate) fn add_lists(
     alloc: Global,
     lists: &RowLists<'_>,
     blocks: &Numbering,

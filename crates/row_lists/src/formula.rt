@@ -34,7 +34,7 @@ pub struct Encoded {
 /// # Errors
 ///
 /// `NoMemory` where memory is refused.
-pub fn add_names(table: u32, span: &Span, rows: &mut Vec<RowId>) -> Result<(), NoMemory>
+fn add_names(table: u32, span: &Span, rows: &mut Vec<RowId>) -> Result<(), NoMemory>
     requires { span.now.start + span.now.count ≤ MOST_ROWS }
     ensures { IfOk result (λ done. rows.new.items ≡ rows.old.items ++ map (name table) (range_with_len span.now.start span.now.count)) }
 {

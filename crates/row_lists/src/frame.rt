@@ -9,7 +9,7 @@ ghost use Rattle.row_lists.specs.Formulas.{IsFrame};
 ghost use Rattle.row_lists.specs.Frames.{AreSlots};
 
 use cqa_value::{Items, NoMemory};
-use row_witnesses::rising::put_in_order;
+use rising_numbers::put_in_order;
 use std::alloc::Global;
 use table_blocks::Database;
 
@@ -38,6 +38,26 @@ fn slots_of(alloc: Global, count: u32, tables: &[u32]) -> Result<Items<u32>, NoM
     Ok(Items::from_vec(slots))
 }
 
+/// The frame of tables of a database, in the order in which they stand.
+///
+/// # Errors
+///
+/// `NoMemory` where memory is refused.
+pub fn frame_of(alloc: Global, db: &Database, tables: Vec<u32>) -> Result<Frame, NoMemory>
+    requires few { length tables.items ≤ MOST_TABLES }
+    requires there { (s : ℕ) → s < length tables.items → slice_index tables.items s < length db.now }
+    requires apart { (r s : ℕ) → r < length tables.items → s < length tables.items → slice_index tables.items r ≡ slice_index tables.items s → r ≡ s }
+    ensures frame { IfOk result (λ frame. IsFrame db.now frame.tables) }
+    ensures wide { IfOk result (λ frame. length frame.slots ≡ length db.now) }
+    ensures same { IfOk result (λ frame. frame.tables ≡ tables.items) }
+{
+    let slots = slots_of(alloc, db.count(), tables.as_slice())?;
+    Ok(Frame {
+        tables: Items::from_vec(tables),
+        slots,
+    })
+}
+
 /// The frame of tables of a database, in the order of their creation, each once.
 ///
 /// # Errors
@@ -50,10 +70,7 @@ pub fn rising_frame(alloc: Global, db: &Database, mut tables: Vec<u32>) -> Resul
     ensures rises { IfOk result (λ frame. IsStrictlySortedBy nat_cmp frame.tables) }
     ensures same { IfOk result (λ frame. (t : ℕ) → Contains frame.tables t ↔ Contains tables.items t) }
 {
+    let _tables = db.count();
     put_in_order(&mut tables);
-    let slots = slots_of(alloc, db.count(), tables.as_slice())?;
-    Ok(Frame {
-        tables: Items::from_vec(tables),
-        slots,
-    })
+    frame_of(alloc, db, tables)
 }

@@ -14,9 +14,8 @@ mod relevant;
 pub mod run;
 pub mod span;
 
-pub use clauses::{add_blocks, add_lists, fill_block, fill_list};
-pub use formula::{Encoded, add_names, encode, formula_over};
-pub use frame::{Frame, rising_frame};
+pub use clauses::{add_blocks, fill_block, fill_list};
+pub use formula::{Encoded, encode, formula_over};
+pub use frame::{Frame, frame_of, rising_frame};
 pub use lists_over::RowLists;
-pub use places::column;
 pub use relevant::relevant_blocks;

@@ -9,7 +9,7 @@ ghost use Rattle.row_lists.specs.Lists.{name};
 use cqa_model::RowId;
 use cqa_value::NoMemory;
 use join_access::Witness;
-use row_witnesses::rising::put_in_order;
+use rising_numbers::put_in_order;
 use std::alloc::Global;
 
 /// Adds the places of the rows of a table in one list.
@@ -29,7 +29,7 @@ fn add_places(names: &[RowId], table: u32, places: &mut Vec<u32>) -> Result<(), 
 /// # Errors
 ///
 /// `NoMemory` where memory is refused.
-pub fn column(alloc: Global, lists: &[Witness], table: u32) -> Result<Vec<u32>, NoMemory>
+pub(crate) fn column(alloc: Global, lists: &[Witness], table: u32) -> Result<Vec<u32>, NoMemory>
     ensures { IfOk result (λ places. AreTablePlaces (names_of lists.now) table places.items) }
 {
     let mut places = Vec::new(alloc);

@@ -6,9 +6,9 @@ ghost use Rattle.join_access.specs.Listing.{names_of};
 ghost use Rattle.join_access.specs.declared.witness.Witness.{Witness as Named};
 ghost use Rattle.row_witnesses.specs.Columns.{place_at, AreColumn, AreColumnsOfAtoms};
 
-use crate::rising::put_in_order;
 use cqa_value::{Items, NoMemory};
 use join_access::Witness;
+use rising_numbers::put_in_order;
 use std::alloc::Global;
 
 /// The place of the row of an atom in a witness.

@@ -4,7 +4,6 @@
 
 mod column;
 mod found;
-pub mod rising;
 
 pub use column::place_of;
 pub use found::RowWitnesses;

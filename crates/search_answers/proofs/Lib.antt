@@ -1,8 +1,4 @@
-pub mod FirstLooks
-pub mod Quotient
-pub mod ClassLists
-pub mod Searching
-pub mod WitnessRows
+mod Searching
 pub mod Deciding
 pub mod Modelled
-pub mod Sifted
+mod OnePart

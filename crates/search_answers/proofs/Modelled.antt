@@ -1,5 +1,5 @@
 -- The repair that a model of a row's formula gives holds no witness of the row.
-use Rattle.std.proofs.Common.{◌≡◌, ◌<◌, ◌-◌, ℕ, zero, suc, Bool, true, false, Some, None, List, [], ◌∷◌, length, get_or, slice_get, map, Contains, refl, sym, ap, ◌∙◌, subst, arith}
+use Rattle.std.proofs.Common.{◌≡◌, ◌<◌, ◌-◌, ℕ, zero, suc, Bool, true, false, Some, List, [], length, get_or, slice_get, Contains, sym, ap, ◌∙◌, subst, arith}
 use Rattle.std.proofs.lemmas.List.{length-map}
 use Rattle.std.proofs.lemmas.List.Elements.{Contains-get_or}
 use Rattle.std.proofs.lemmas.Option.{get_or_from_slice_get}
@@ -19,27 +19,9 @@ use Rattle.repair_clauses.specs.Clauses.{IsStoredVariable, variable_name}
 use Rattle.repair_clauses.specs.Encodings.{IsEncoded}
 use Rattle.repair_clauses.specs.Models.{IsTrueVariable, IsPicked}
 use Rattle.repair_clauses.proofs.Models.{models_reject}
+use Rattle.part_search.proofs.Mapped.{get-map, of-map, true-there}
 use Rattle.repair_back.specs.Results.{AreKept, AreStored, IsTrueName, ArePicks, Rejects}
 use Rattle.table_blocks.specs.Tables.{names_in}
-
-module _ {A B : Type 0} (g : A → B) where
-  pub get-map : (xs : List A) (k : ℕ) (x : A) → slice_get xs k ≡ Some x → slice_get (map g xs) k ≡ Some (g x)
-  get-map [] k x e = (cc)
-  get-map (y ∷ xs) zero x e = let same : y ≡ x = cc in ap (λ z. Some (g z)) same
-  get-map (y ∷ xs) (suc k) x e = get-map xs k x e
-
-  pub of-map : (xs : List A) (k : ℕ) (y : B) → slice_get (map g xs) k ≡ Some y → (x : A) × (slice_get xs k ≡ Some x) × (g x ≡ y)
-  of-map [] k y e = absurd (none y e)
-    where
-      none : (y : B) → None ≡ Some y → ⊥
-      none y e = (cc)
-  of-map (x ∷ xs) zero y e = (x, refl, cc)
-  of-map (x ∷ xs) (suc k) y e = of-map xs k y e
-
-pub true-there : (bs : List Bool) (k : ℕ) → get_or bs k false ≡ true → slice_get bs k ≡ Some true
-true-there [] k e = (cc)
-true-there (b ∷ bs) zero e = ap Some e
-true-there (b ∷ bs) (suc k) e = true-there bs k e
 
 same-variable : (x : Variable) (F i : ℕ) → x.slot ≡ F → x.place ≡ i → ◌≡◌ {A = Variable} x (record { slot = F; place = i })
 same-variable x F i a p = λ j. record { slot = a j; place = p j }

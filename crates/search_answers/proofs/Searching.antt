@@ -7,34 +7,11 @@ use Rattle.cqa_model.specs.Certain.{IsCandidate}
 use Rattle.row_sides.specs.declared.side.Side.{Side}
 use Rattle.row_sides.specs.Sides.{IsOf}
 use Rattle.join_access.specs.Listing.{HasTooMany}
-use Rattle.table_blocks.specs.declared.bound.Bound.{Bound}
-use Rattle.row_witnesses.specs.declared.found.RowWitnesses.{RowWitnesses}
-use Rattle.search_answers.specs.declared.judging.Verdict.{Verdict}
-use Rattle.search_answers.specs.declared.search.Stop.{Stop}
-use Rattle.search_answers.specs.declared.search.Stop.TheVariants as stop
-use Rattle.cdcl.specs.declared.outcome.Outcome.{Outcome}
-use Rattle.cdcl.specs.declared.outcome.Outcome.TheVariants as outcome
-use Rattle.search_answers.specs.Deciding.{SaysOf}
-use Rattle.cdcl.specs.Outcomes.{OutcomeIs}
-use Rattle.repair_clauses.specs.Encodings.{IsEncoded}
-use Rattle.row_lists.specs.declared.formula.Encoded.{Encoded}
+use Rattle.part_search.specs.declared.searched.Stop.{Stop}
+use Rattle.part_search.specs.declared.searched.Stop.TheVariants as stop
 use Rattle.repair_clauses.specs.Candidates.{AreCandidates}
-use Rattle.search_answers.specs.Searching.{IsSpentFor, IsJudged, Judges, IsStopAt, IsStop, NoneBefore, SiftsAll, SiftsDecided}
-use Rattle.search_answers.proofs.Sifted as sifted
-
--- the verdict of a row's witnesses is that of the row over what they are of
-pub verdict_of : (w : RowWitnesses) (b : Bound) (row : List Value) → w.bound.now ≡ b → w.row.now ≡ row → (budget : ℕ) (v : Verdict) →
-    IsJudged w.bound.now.query.now w.bound.now.db.now w.row.now budget v → IsJudged b.query.now b.db.now row budget v
-verdict_of w b row same same_row budget v h =
-    subst (λ (x : Bound). IsJudged x.query.now x.db.now row budget v) same (subst (λ r. IsJudged w.bound.now.query.now w.bound.now.db.now r budget v) same_row h)
-
-module _ (q : Query) (db : List Table) where
-  -- the verdict of a decided row
-  pub verdict_is : (row : List Value) (budget : ℕ) (formula : Encoded) (o : Outcome) (v : Verdict) → (HasTooMany q db row → ⊥) → IsEncoded q db row formula → OutcomeIs formula.cnf budget o → SaysOf q db row o → Judges formula o v →
-      IsJudged q db row budget v
-  verdict_is row budget formula (outcome.Sat values) v few e o s j = subst (IsJudged q db row budget) (sym j) (s, few)
-  verdict_is row budget formula (outcome.Unsat log) v few e o s j = subst (IsJudged q db row budget) (sym j) (s, few)
-  verdict_is row budget formula (outcome.Spent log) v few e o s j = subst (IsJudged q db row budget) (sym j) (record { candidate = s; rows = formula.rows; formula = e; spent = o }, few)
+use Rattle.search_answers.specs.Searching.{IsSpentFor, IsStopAt, IsStop, NoneBefore, SiftsAll, SiftsDecided}
+use Rattle.part_search.proofs.Sifted as sifted
 
 module _ (q : Query) (db : List Table) (side : Side) where
   -- the rows so far are decided, and these are left

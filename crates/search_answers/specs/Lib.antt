@@ -1,5 +1,4 @@
-pub mod Classing
-pub mod Looking
+pub mod Scopes
 pub mod Searching
 pub mod Deciding
 pub mod Reasons

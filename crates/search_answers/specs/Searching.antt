@@ -10,19 +10,16 @@ use Rattle.cqa_model.specs.Certain.{IsCertain, IsCandidate}
 use Rattle.cnf_form.specs.declared.formula.Cnf.{Cnf}
 use Rattle.cnf_form.specs.declared.log.Log.{Log}
 use Rattle.cnf_form.specs.Spent.{IsSpentLog}
-use Rattle.cdcl.specs.declared.outcome.Outcome.{Outcome}
-use Rattle.cdcl.specs.declared.outcome.Outcome.TheVariants as outcome
 use Rattle.join_access.specs.Listing.{HasTooMany}
 use Rattle.row_sides.specs.declared.side.Side.{Side}
 use Rattle.row_sides.specs.Sides.{IsAnswerOf, IsOf}
 use Rattle.row_sides.specs.Sifting.{Sifts, AreSifted}
-use Rattle.row_lists.specs.declared.formula.Encoded.{Encoded}
-use Rattle.search_answers.specs.declared.judging.Verdict.{Verdict}
-use Rattle.search_answers.specs.declared.judging.Verdict.TheVariants as verdict
-use Rattle.search_answers.specs.declared.search.Stop.{Stop}
-use Rattle.search_answers.specs.declared.search.Stop.TheVariants as stop
-use Rattle.search_answers.specs.declared.search.Searched.{Searched}
-use Rattle.search_answers.specs.declared.search.Searched.TheVariants.{All, Stopped}
+use Rattle.part_search.specs.declared.judging.Verdict.{Verdict}
+use Rattle.part_search.specs.declared.judging.Verdict.TheVariants as verdict
+use Rattle.part_search.specs.declared.searched.Stop.{Stop}
+use Rattle.part_search.specs.declared.searched.Stop.TheVariants as stop
+use Rattle.part_search.specs.declared.searched.Searched.{Searched}
+use Rattle.part_search.specs.declared.searched.Searched.TheVariants.{All, Stopped}
 use Rattle.repair_clauses.specs.Encodings.{IsEncoded}
 
 -- the row is a candidate, and its formula has a spent log for the budget
@@ -38,12 +35,6 @@ IsJudged q db row budget verdict.Certain = IsCertain db q row × (HasTooMany q d
 IsJudged q db row budget verdict.Rejected = (IsCertain db q row → ⊥) × (HasTooMany q db row → ⊥)
 IsJudged q db row budget verdict.Over = HasTooMany q db row
 IsJudged q db row budget (verdict.Spent cnf log) = IsSpentFor q db budget row cnf log × (HasTooMany q db row → ⊥)
-
--- the verdict of an outcome
-abbrev pub Judges : Encoded → Outcome → Verdict → Type 0
-Judges formula (outcome.Sat values) v = v ≡ verdict.Rejected
-Judges formula (outcome.Unsat log) v = v ≡ verdict.Certain
-Judges formula (outcome.Spent log) v = v ≡ verdict.Spent formula.cnf log
 
 -- a search stops at this row
 abbrev pub IsStopAt : Query → List Table → ℕ → List Value → Stop → Type 0

@@ -3,49 +3,35 @@
 
 ghost use Rattle.std.specs.Prelude.{◌≡◌, [], IfOk, IfSome, IsNone, length};
 ghost use Rattle.repair_clauses.specs.Candidates.{AreCandidates};
+ghost use Rattle.search_answers.specs.Scopes.{IsQueryScope};
 ghost use Rattle.search_answers.specs.Searching.{IsSearched, IsStop, IsStopAt, SiftsAll, SiftsDecided};
 
-use crate::judging::{Search, Verdict, judge_row};
-use cnf_form::{Cnf, Log};
+use crate::judging::{Search, judge_row, query_scope};
 use cqa_value::{Items, NoMemory, Row};
 use join_witness::{candidates, lookup_of};
-use list_search::Room;
+use list_search::{Room, Scope};
+use part_search::{Searched, Stop, Verdict};
 use row_sides::Side;
 use std::alloc::Global;
 use table_blocks::Bound;
 
-/// Why a search ends before all rows are decided.
-#[derive(Debug, Drop)]
-pub enum Stop {
-    /// The row has more than `MOST_WITNESSES` witnesses.
-    Over(Row),
-    /// The budget is used up for the formula of the row.
-    Spent { row: Row, cnf: Cnf, log: Log },
-}
-
-/// What a search for the rows of a side comes to.
-#[derive(Debug, Drop)]
-pub enum Searched {
-    /// The rows of the side, ascending and each once.
-    All(Items<Row>),
-    Stopped(Stop),
-}
-
 /// Puts a row behind those of the side if it is one of them. Says why the search ends, if it does.
 fn sift(
     alloc: Global,
+    scope: &Scope,
     search: &mut Search<'_>,
     side: Side,
     row: Row,
     answers: &mut Vec<Row>,
 ) -> Result<Option<Stop>, NoMemory>
-    requires { length row ≡ length search.old.lookup.bound.now.query.now.answer }
+    requires scope { IsQueryScope search.old.lookup.bound.now.query.now search.old.lookup.bound.now.db.now scope.now }
+    requires long { length row ≡ length search.old.lookup.bound.now.query.now.answer }
     ensures bound { search.new.lookup.bound.now ≡ search.old.lookup.bound.now }
     ensures budget { search.new.budget ≡ search.old.budget }
     ensures sifted { IfOk result (λ stop. IsNone stop → SiftsDecided search.old.lookup.bound.now.query.now search.old.lookup.bound.now.db.now side row answers.old.items answers.new.items) }
     ensures stopped { IfOk result (λ stop. IfSome stop (IsStopAt search.old.lookup.bound.now.query.now search.old.lookup.bound.now.db.now search.old.budget row)) }
 {
-    match judge_row(alloc, search, &row) {
+    match judge_row(alloc, scope, search, &row) {
         Err(fault) => {
             drop(row);
             Err(fault)
@@ -66,18 +52,20 @@ fn sift(
 /// Gathers those of the possible rows that are of the side, ascending. Says why the search ends before all are decided, if it does.
 fn sift_all(
     alloc: Global,
+    scope: &Scope,
     search: &mut Search<'_>,
     side: Side,
     rows: Vec<Row>,
     answers: &mut Vec<Row>,
 ) -> Result<Option<Stop>, NoMemory>
+    requires scope { IsQueryScope search.old.lookup.bound.now.query.now search.old.lookup.bound.now.db.now scope.now }
     requires rows { AreCandidates search.old.lookup.bound.now.query.now search.old.lookup.bound.now.db.now rows.items }
     requires none { answers.old.items ≡ [] }
     ensures all { IfOk result (λ stop. IsNone stop → SiftsAll search.old.lookup.bound.now.query.now search.old.lookup.bound.now.db.now side rows.items answers.new.items) }
     ensures stopped { IfOk result (λ stop. IfSome stop (IsStop search.old.lookup.bound.now.query.now search.old.lookup.bound.now.db.now search.old.budget)) }
 {
     for row in rows {
-        let stop = sift(alloc, search, side, row, answers)?;
+        let stop = sift(alloc, scope, search, side, row, answers)?;
         if stop.is_some() {
             return Ok(stop);
         }
@@ -89,11 +77,13 @@ fn sift_all(
 fn search_rows(
     alloc: Global,
     bound: &Bound<'_>,
+    scope: &Scope,
     side: Side,
     budget: u32,
     rows: Vec<Row>,
     answers: &mut Vec<Row>,
 ) -> Result<Option<Stop>, NoMemory>
+    requires scope { IsQueryScope bound.now.query.now bound.now.db.now scope.now }
     requires rows { AreCandidates bound.now.query.now bound.now.db.now rows.items }
     requires none { answers.old.items ≡ [] }
     ensures all { IfOk result (λ stop. IsNone stop → SiftsAll bound.now.query.now bound.now.db.now side rows.items answers.new.items) }
@@ -107,7 +97,7 @@ fn search_rows(
                 budget,
                 room,
             };
-            let found = sift_all(alloc, &mut search, side, rows, answers);
+            let found = sift_all(alloc, scope, &mut search, side, rows, answers);
             drop(search);
             found
         }
@@ -132,9 +122,10 @@ pub fn rows_by_search(
 ) -> Result<Searched, NoMemory>
     ensures { IfOk result (IsSearched bound.now.query.now bound.now.db.now side budget) }
 {
+    let scope = query_scope(alloc, bound)?;
     let rows = candidates(alloc, bound)?.into_vec();
     let mut answers = Vec::new(alloc);
-    match search_rows(alloc, bound, side, budget, rows, &mut answers) {
+    match search_rows(alloc, bound, &scope, side, budget, rows, &mut answers) {
         Ok(None) => Ok(Searched::All(Items::from_vec(answers))),
         Ok(Some(stop)) => {
             drop(answers);

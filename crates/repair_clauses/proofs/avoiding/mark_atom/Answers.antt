@@ -15,8 +15,7 @@ use Rattle.repair_clauses.specs.Avoiding.{IsAvoidable}
 use Rattle.row_lists.specs.Runs.{AreRowPlaces}
 use Rattle.row_witnesses.specs.Columns.{AreColumn}
 use Rattle.row_witnesses.specs.Columns.{place_at}
-use Rattle.repair_clauses.proofs.Naming.{are_places}
-use Rattle.repair_clauses.proofs.Encoding.{rows_long}
+use Rattle.repair_clauses.proofs.Naming.{are_places, rows_long}
 use Rattle.repair_clauses.proofs.avoiding.mark_atom.Goals as goal
 
 -- a witness whose row of the atom is loose

@@ -1,10 +1,11 @@
-use Rattle.std.proofs.Common.{◌≡◌, ◌∙◌, length, refl, sym, subst, Option, Some, None}
+use Rattle.std.proofs.Common.{◌≡◌, ◌∙◌, length, refl, sym, subst}
 use Rattle.std.specs.Option.{IfSome}
+use Rattle.std.proofs.lemmas.Option.{IfSome_then}
 use Rattle.std.proofs.lemmas.List.{nil_from_length}
 use Rattle.std.specs.Vec.Iter.{into_iter_items}
 use Rattle.table_blocks.specs.declared.bound.Bound.{Bound}
-use Rattle.search_answers.specs.declared.search.Stop.{Stop}
 use Rattle.repair_clauses.specs.Candidates.{AreCandidates}
+use Rattle.search_answers.specs.Scopes.{IsQueryScope}
 use Rattle.search_answers.specs.Searching.{IsStop, IsStopAt, SiftsAll, SiftsDecided}
 use Rattle.repair_clauses.proofs.Candidates.{has_length}
 use Rattle.search_answers.proofs.Searching.{AreDecided, is_candidate, stop_is, decided-none, decided-more, decided-all}
@@ -19,8 +20,8 @@ loop-row-init c =
       budget = refl;
     }
 
-pub sift-requires : goal.sift-requires
-sift-requires c =
+pub sift-requires-clause-long : goal.sift-requires-clause-long
+sift-requires-clause-long c =
     let b = c.args.search.now.lookup.bound.now in
     let q = b.query.now in
     let db = b.db.now in
@@ -30,9 +31,8 @@ sift-requires c =
     let decided = subst (AreDecided q db c.args.side all c.loop-row.answers.items) c.in-Some.ensures.steps.0 c.loop-row.invariant.decided in
     subst (λ (x : Bound). length c.in-Some.row ≡ length x.query.now.answer) (sym c.loop-row.invariant.bound) (has_length q db c.in-Some.row (is_candidate q db c.args.side all are c.loop-row.answers.items c.in-Some.row later decided))
 
-if-some : {P Q : Stop → Type 0} (o : Option Stop) → ((s : Stop) → P s → Q s) → IfSome o P → IfSome o Q
-if-some None f h = tt
-if-some (Some s) f h = f s h
+pub sift-requires-clause-scope : goal.sift-requires-clause-scope
+sift-requires-clause-scope c = subst (λ (x : Bound). IsQueryScope x.query.now x.db.now c.args.scope.now) (sym c.loop-row.invariant.bound) c.requires.scope
 
 pub returns-then-is_some-clause-stopped : goal.returns-then-is_some-clause-stopped
 returns-then-is_some-clause-stopped c =
@@ -47,7 +47,7 @@ returns-then-is_some-clause-stopped c =
     let decided = subst (AreDecided q db c.args.side all c.loop-row.answers.items) c.in-Some.ensures.steps.0 c.loop-row.invariant.decided in
     let of_budget = subst (λ n. IfSome c.in_ok-stop.stop (IsStopAt c.loop-row.search.lookup.bound.now.query.now c.loop-row.search.lookup.bound.now.db.now n row)) c.loop-row.invariant.budget c.in_ok-stop.ensures.stopped in
     let stopped = subst (λ (x : Bound). IfSome c.in_ok-stop.stop (IsStopAt x.query.now x.db.now budget row)) c.loop-row.invariant.bound of_budget in
-    if-some {P = IsStopAt q db budget row} {Q = IsStop q db budget} c.in_ok-stop.stop (stop_is q db c.args.side all are c.loop-row.answers.items row later decided budget) stopped
+    IfSome_then c.in_ok-stop.stop {P = IsStopAt q db budget row} {Q = IsStop q db budget} stopped (stop_is q db c.args.side all are c.loop-row.answers.items row later decided budget)
 
 pub loop-row-preserved : goal.loop-row-preserved
 loop-row-preserved c =

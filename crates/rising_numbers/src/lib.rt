@@ -1,0 +1,6 @@
+//! Lists of numbers that rise: they stand for sets.
+#![tactic(auto)]
+
+mod order;
+
+pub use order::put_in_order;
