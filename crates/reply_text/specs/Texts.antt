@@ -1,5 +1,5 @@
 -- The bytes of each reply.
-use Rattle.std.specs.Prelude.{ℕ, zero, suc, ◌+◌, Bool, true, false, List, [], ◌∷◌, ◌++◌, length, Option, Some, None, codes}
+use Rattle.std.specs.Prelude.{ℕ, zero, suc, ◌+◌, ◌-◌, Bool, true, false, List, [], ◌∷◌, ◌++◌, length, take, Option, Some, None, codes}
 use Rattle.std.specs.Fmt.{decimal, signed_decimal}
 use Rattle.std.specs.List.{flat_map}
 use Rattle.cqa_value.specs.Literals.{literal_bytes, row_bytes}
@@ -20,12 +20,13 @@ use Rattle.cqa_model.specs.declared.aggregate.End.{End}
 use Rattle.cqa_model.specs.declared.aggregate.End.TheVariants.{Empty, Number, Held}
 use Rattle.reply_text.specs.declared.reply.AttackLine.{AttackLine}
 use Rattle.reply_text.specs.declared.reply.GroupEnds.{GroupEnds}
+use Rattle.reply_text.specs.declared.reply.PartClass.{PartClass}
 use Rattle.reply_text.specs.declared.reply.KeptRow.{KeptRow}
 use Rattle.reply_text.specs.declared.reply.TableLine.{TableLine}
 use Rattle.reply_text.specs.declared.reply.ConflictLine.{ConflictLine}
 use Rattle.reply_text.specs.declared.reply.Proof.{Proof}
 use Rattle.reply_text.specs.declared.reply.Reply.{Reply}
-use Rattle.reply_text.specs.declared.reply.Reply.TheVariants.{Created, Altered, Inserted, Deleted, Copied, Rows, Classified, Steps, Sql, Certificate, NoPlan, Rejected, Certain, Against, ByBlock, ByRefutation, Range, Groups, Tables, Contested, Conflicts, KeptLog, NoLog, Dumped, Refused}
+use Rattle.reply_text.specs.declared.reply.Reply.TheVariants.{Created, Altered, Inserted, Deleted, Copied, Rows, Classified, ClassifiedParts, Steps, Sql, SqlParts, Certificate, NoPlan, NoPlanOf, Shares, Rejected, Certain, Against, ByBlock, ByRefutation, Range, Groups, Tables, Contested, Conflicts, KeptLog, NoLog, Dumped, Refused}
 
 -- row R column C, or condition K
 abbrev pub place_text : Place → List ℕ
@@ -124,6 +125,49 @@ attack_text line = line.from ++ codes " attacks " ++ line.to ++ strength_text li
 abbrev pub classified_text : Class → List AttackLine → List ℕ
 classified_text class lines = codes "class " ++ class_text class ++ flat_map (λ line. codes "\n" ++ attack_text line) lines
 
+-- the piece of each item by how many stand before it, with so many before the first
+abbrev pub numbered_pieces : {X : Type 0} → (ℕ → X → List ℕ) → ℕ → List X → List ℕ
+numbered_pieces piece before [] = []
+numbered_pieces piece before (x ∷ xs) = piece before x ++ numbered_pieces piece (before + 1) xs
+
+-- part K, then the lines of its class, with so many parts before it
+abbrev pub part_text : ℕ → PartClass → List ℕ
+part_text before part = codes "part " ++ decimal (before + 1) ++ codes "\n" ++ classified_text part.class part.lines ++ codes "\n"
+
+-- a part for each of these, from part 1
+abbrev pub parts_text : List PartClass → List ℕ
+parts_text parts = numbered_pieces part_text 0 parts
+
+-- apart, or together and the table that two parts share
+abbrev pub meeting_text : Option (List ℕ) → List ℕ
+meeting_text None = codes "apart"
+meeting_text (Some table) = codes "together " ++ table
+
+-- a query in SQL without the `;` and the line feed at its end
+abbrev pub unended : List ℕ → List ℕ
+unended text = take (length text - 2) text
+
+-- what stands before a part's query, with so many parts before it: before each but the first `UNION`, on a line of its own
+abbrev pub sql_part_start : ℕ → List ℕ
+sql_part_start zero = codes "SELECT * FROM (\n"
+sql_part_start (suc before) = codes "\nUNION SELECT * FROM (\n"
+
+-- what stands behind it: its name, between double quotes (34)
+abbrev pub sql_part_end : ℕ → List ℕ
+sql_part_end before = (codes "\n) AS " ++ 34 ∷ codes "part ") ++ decimal (before + 1) ++ (34 ∷ [])
+
+-- a part's query as a table of its own, with so many parts before it
+abbrev pub sql_part_text : ℕ → List ℕ → List ℕ
+sql_part_text before text = sql_part_start before ++ unended text ++ sql_part_end before
+
+-- the query of a union, whose parts have these texts
+abbrev pub union_text : List (List ℕ) → List ℕ
+union_text texts = numbered_pieces sql_part_text 0 texts ++ codes ";\n"
+
+-- no sql parts I and J share TABLE
+abbrev pub shares_text : ℕ → ℕ → List ℕ → List ℕ
+shares_text first second table = codes "no sql parts " ++ decimal first ++ codes " and " ++ decimal second ++ codes " share " ++ table
+
 -- what stands before the number of a step, with so many before it: all but the first begin a line
 abbrev pub step_start : ℕ → List ℕ
 step_start zero = codes "step "
@@ -133,10 +177,9 @@ step_start (suc before) = codes "\nstep "
 abbrev pub step_text : ℕ → List ℕ → List ℕ
 step_text before name = step_start before ++ decimal (before + 1) ++ codes " " ++ name
 
--- a step for each of these tables, each on a line of its own, with so many before them
-abbrev pub steps_text : ℕ → List (List ℕ) → List ℕ
-steps_text before [] = []
-steps_text before (name ∷ names) = step_text before name ++ steps_text (before + 1) names
+-- a step for each of these tables, each on a line of its own, from step 1
+abbrev pub steps_text : List (List ℕ) → List ℕ
+steps_text names = numbered_pieces step_text 0 names
 
 -- each table on a line of its own, then N tables
 abbrev pub tables_text : List TableLine → List ℕ
@@ -205,10 +248,14 @@ reply_parts (Deleted count) = (codes "deleted " ++ decimal count, [])
 reply_parts (Copied count) = (codes "copied " ++ decimal count, [])
 reply_parts (Rows rows) = ([], rows_text rows)
 reply_parts (Classified class lines) = ([], classified_text class lines)
-reply_parts (Steps names) = ([], steps_text 0 names)
+reply_parts (ClassifiedParts parts shared) = ([], parts_text parts ++ meeting_text shared)
+reply_parts (Steps names) = ([], steps_text names)
 reply_parts (Sql text) = ([], text)
+reply_parts (SqlParts texts) = ([], union_text texts)
 reply_parts (Certificate text) = ([], text)
 reply_parts NoPlan = (codes "no plan", [])
+reply_parts (NoPlanOf part) = (codes "no plan part " ++ decimal part, [])
+reply_parts (Shares first second table) = ([], shares_text first second table)
 reply_parts (Rejected lines) = ([], rejected_text lines)
 reply_parts Certain = (codes "certain", [])
 reply_parts (Against lines) = ([], against_text lines)
@@ -231,6 +278,7 @@ reply_lines reply = (reply_parts reply).0 ++ (reply_parts reply).1
 -- what ends the last line of a reply: a line feed, but of a query in SQL, a certificate, a dump and a proof, whose lines have theirs
 abbrev pub last_end : Reply → List ℕ
 last_end (Sql text) = []
+last_end (SqlParts texts) = []
 last_end (Certificate text) = []
 last_end (Dumped script) = []
 last_end (KeptLog proof) = []

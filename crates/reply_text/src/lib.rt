@@ -11,6 +11,7 @@ mod ranged;
 mod refused;
 mod reply;
 mod text;
+mod united;
 
-pub use reply::{AttackLine, ConflictLine, GroupEnds, KeptRow, Proof, Reply, TableLine};
+pub use reply::{AttackLine, ConflictLine, GroupEnds, KeptRow, PartClass, Proof, Reply, TableLine};
 pub use text::reply_bytes;

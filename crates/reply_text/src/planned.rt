@@ -8,7 +8,7 @@ use cqa_value::{Name, NoMemory};
 
 /// Appends a step for each table, numbered from 1, each on a line of its own.
 pub fn append_steps(names: &[Name], out: &mut Vec<u8>) -> Result<(), NoMemory>
-    ensures { OnOk result (out.new.items ≡ out.old.items ++ steps_text 0 names.now) }
+    ensures { OnOk result (out.new.items ≡ out.old.items ++ steps_text names.now) }
 {
     for (before, name) in names.iter().enumerate() {
         append_step(before, name, out)?;

@@ -28,14 +28,29 @@ pub enum Reply {
         class: Class,
         lines: Items<AttackLine>,
     },
+    /// The class of each part of a union with its attacks, and the first table that isn't strict and stands in two parts.
+    ClassifiedParts {
+        parts: Items<PartClass>,
+        shared: Option<Name>,
+    },
     /// The tables of a query in the order of its plan.
     Steps(Items<Name>),
     /// The certain rows of a query as one query in SQL.
     Sql(Items<u8>),
+    /// The certain rows of the parts of a union, each as one query in SQL: together they are those of the union.
+    SqlParts(Items<Items<u8>>),
     /// The row is certain: a script of blocks that shows it without the database.
     Certificate(Items<u8>),
     /// The query has no plan.
     NoPlan,
+    /// The part of a union that has this number, from 1, has no plan.
+    NoPlanOf(u32),
+    /// Two parts of a union, by their numbers from 1, share a table that isn't strict.
+    Shares {
+        first: u32,
+        second: u32,
+        table: Name,
+    },
     /// The row is not certain: a repair of the query's tables that holds no witness of it, by its rows in the blocks
     /// that have a choice.
     Rejected(Items<KeptRow>),
@@ -115,6 +130,13 @@ pub struct AttackLine {
     pub from: Name,
     pub to: Name,
     pub weak: bool,
+}
+
+/// The class of a part of a union, and the attacks between its tables.
+#[derive(Drop)]
+pub struct PartClass {
+    pub class: Class,
+    pub lines: Items<AttackLine>,
 }
 
 /// A formula with a log over its clauses.

@@ -11,6 +11,7 @@ use crate::logged::append_proof;
 use crate::planned::append_steps;
 use crate::ranged::{append_groups, append_range};
 use crate::refused::append_refusal;
+use crate::united::{append_classified_parts, append_shares, append_union};
 use crate::{Reply, TableLine};
 use cqa_model::schema_text;
 use cqa_value::{NoMemory, Row, row_text};
@@ -44,6 +45,7 @@ fn last_end(reply: &Reply) -> &'static str
 {
     match reply {
         Reply::Sql(_)
+        | Reply::SqlParts(_)
         | Reply::Certificate(_)
         | Reply::Dumped(_)
         | Reply::KeptLog(_)
@@ -71,14 +73,18 @@ fn append_short(reply: &Reply, out: &mut Vec<u8>) -> Result<(), NoMemory>
         Reply::Deleted(count) => append_numbered("deleted ", *count, out),
         Reply::Copied(count) => append_numbered("copied ", *count, out),
         Reply::NoPlan => append_words("no plan", out),
+        Reply::NoPlanOf(part) => append_numbered("no plan part ", *part, out),
         Reply::Certain => append_words("certain", out),
         Reply::Conflicts(budget) => append_numbered("conflicts ", *budget, out),
         Reply::NoLog => append_words("no log", out),
         Reply::Rows(_)
         | Reply::Classified { .. }
+        | Reply::ClassifiedParts { .. }
         | Reply::Steps(_)
         | Reply::Sql(_)
+        | Reply::SqlParts(_)
         | Reply::Certificate(_)
+        | Reply::Shares { .. }
         | Reply::Rejected(_)
         | Reply::Against(_)
         | Reply::ByBlock { .. }
@@ -100,10 +106,19 @@ fn append_long(alloc: Global, reply: &Reply, out: &mut Vec<u8>) -> Result<(), No
     match reply {
         Reply::Rows(rows) => append_rows(rows.as_slice(), out),
         Reply::Classified { class, lines } => append_classified(*class, lines.as_slice(), out),
+        Reply::ClassifiedParts { parts, shared } => {
+            append_classified_parts(parts.as_slice(), shared, out)
+        }
         Reply::Steps(names) => append_steps(names.as_slice(), out),
         Reply::Sql(bytes) | Reply::Certificate(bytes) | Reply::Dumped(bytes) => {
             append_bytes(bytes.as_slice(), out)
         }
+        Reply::SqlParts(texts) => append_union(texts.as_slice(), out),
+        Reply::Shares {
+            first,
+            second,
+            table,
+        } => append_shares(*first, *second, table, out),
         Reply::Rejected(lines) => append_rejected(lines.as_slice(), out),
         Reply::Against(lines) => append_against(lines.as_slice(), out),
         Reply::ByBlock { table, key } => append_by_block(table, key, out),
@@ -125,6 +140,7 @@ fn append_long(alloc: Global, reply: &Reply, out: &mut Vec<u8>) -> Result<(), No
         | Reply::Deleted(_)
         | Reply::Copied(_)
         | Reply::NoPlan
+        | Reply::NoPlanOf(_)
         | Reply::Certain
         | Reply::Conflicts(_)
         | Reply::NoLog => Ok(()),

@@ -76,13 +76,13 @@ any_row_generated values =
 
 proved_generated : (values : List Value) → Generates verb (verb_tokens (verbs.Prove values))
 proved_generated values =
-    inr (inr (inr (inr (inr (one_then (word (codes "prove")) row_for (Word (codes "prove")) (row_for_tokens values) refl
+    inr (inr (inr (one_then (word (codes "prove")) row_for (Word (codes "prove")) (row_for_tokens values) refl
     (one_then (word (codes "row")) (any_row ⨾ one (word (codes "for"))) (Word (codes "row")) (row_tokens values ++ Word (codes "for") ∷ []) refl
-    (then any_row (one (word (codes "for"))) (row_tokens values) (Word (codes "for") ∷ []) (any_row_generated values) (one_is (word (codes "for")) (Word (codes "for")) refl))))))))
+    (then any_row (one (word (codes "for"))) (row_tokens values) (Word (codes "for") ∷ []) (any_row_generated values) (one_is (word (codes "for")) (Word (codes "for")) refl))))))
 
 -- what is asked of one query is a statement
 asking_is : (ls : List Lexeme) → Generates (verb ⨾ query) ls → Generates statement ls
-asking_is ls h = inr (inr (inr (inr (inr (inr (inr (inr (inr (inr (inr (inr (inr h))))))))))))
+asking_is ls h = inr (inr (inr (inr (inr (inr (inr (inr (inr (inr (inr h))))))))))
 
 pub prove_generated : (values : List Value) (select : Select) → AllByRecursion IsQualified select.columns → AllByRecursion IsName select.tables → AllByRecursion IsWritable select.conds
     → Generates statement (statement_tokens (statements.Asking (verbs.Prove values) select))

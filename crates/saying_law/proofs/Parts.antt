@@ -22,9 +22,11 @@ use Rattle.spj_syntax.specs.declared.tree.RawJoinGoal.{RawJoinGoal}
 use Rattle.spj_syntax.specs.declared.tree.RawJoinGoal.TheVariants as join_goals
 use Rattle.spj_syntax.specs.declared.range_parts.Asked.{Asked}
 use Rattle.spj_syntax.specs.declared.range_parts.Asked.TheVariants as aggregates
-use Rattle.spj_syntax.specs.Reading.{aggregate_tokens}
+use Rattle.spj_syntax.specs.Reading.{aggregate_tokens, united_verb_tokens}
 use Rattle.spj_syntax.specs.declared.tree.RawTest.{RawTest}
 use Rattle.spj_syntax.specs.declared.tree.Select.{Select}
+use Rattle.spj_syntax.specs.declared.queries.UnitedVerb.{UnitedVerb}
+use Rattle.spj_syntax.specs.declared.queries.UnitedVerb.TheVariants as united_verbs
 use Rattle.spj_syntax.specs.declared.tree.Verb.{Verb}
 use Rattle.spj_syntax.specs.declared.tree.Verb.TheVariants as verbs
 use Rattle.spj_syntax.specs.Grammar as grammar
@@ -159,11 +161,17 @@ some_queries = turned (λ parts v. (parts, refl, v.0)) (with_words (codes "union
 pub a_verb : HasTrees grammar.verb verb_tokens (Anything Verb)
 a_verb =
     either (counts_as (λ u v. (verbs.Disputed, refl)) (a_word (codes "disputed")))
-    (either (counts_as (λ u v. (verbs.Classify, refl)) (a_word (codes "classify")))
     (either (counts_as (λ u v. (verbs.Plan, refl)) (a_word (codes "plan")))
-    (either (counts_as (λ u v. (verbs.Sql, refl)) (a_word (codes "sql")))
     (either (counts_as (λ row v. (verbs.Against row, refl)) (after_word (codes "against") row_for))
-    (counts_as (λ row v. (verbs.Prove row, refl)) (after_word (codes "prove") row_for))))))
+    (counts_as (λ row v. (verbs.Prove row, refl)) (after_word (codes "prove") row_for))))
+
+pub a_united_verb : HasTrees grammar.united_verb united_verb_tokens (Anything UnitedVerb)
+a_united_verb =
+    either (counts_as (λ u v. (united_verbs.Ask, refl)) (a_word (codes "ask")))
+    (either (counts_as (λ u v. (united_verbs.Possible, refl)) (a_word (codes "possible")))
+    (either (counts_as (λ u v. (united_verbs.Classify, refl)) (a_word (codes "classify")))
+    (either (counts_as (λ u v. (united_verbs.Sql, refl)) (a_word (codes "sql")))
+    (counts_as (λ row v. (united_verbs.Explain row, refl)) (after_word (codes "explain") row_for)))))
 
 -- one test or more
 pub more_tests : HasTrees (grammar.anded grammar.test) (anded_tokens test_tokens) (Anything (List RawTest))

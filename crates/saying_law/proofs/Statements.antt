@@ -13,18 +13,19 @@ use Rattle.spj_syntax.specs.declared.tree.RawCond.{RawCond}
 use Rattle.spj_syntax.specs.declared.tree.RawJoinGoal.{RawJoinGoal}
 use Rattle.spj_syntax.specs.declared.tree.Select.{Select}
 use Rattle.spj_syntax.specs.declared.tree.Selects.{Selects}
-use Rattle.spj_syntax.specs.declared.tree.Verb.{Verb}
-use Rattle.spj_syntax.specs.declared.tree.Verb.TheVariants as verbs
+use Rattle.spj_syntax.specs.declared.queries.UnitedVerb.{UnitedVerb}
+use Rattle.spj_syntax.specs.declared.queries.UnitedVerb.TheVariants as united_verbs
 use Rattle.spj_syntax.specs.declared.tree.Statement.{Statement}
 use Rattle.spj_syntax.specs.declared.tree.Statement.TheVariants as statements
 use Rattle.spj_syntax.specs.Grammar as grammar
 use Rattle.spj_syntax.specs.Lexemes.{Lexeme, Word, Number, Mark}
 use Rattle.spj_syntax.specs.Limits.{most_items}
 use Rattle.spj_syntax.specs.Parsed.{IsStatement, IsIntInRange, AllLexemesFit}
+use Rattle.spj_syntax.specs.Reading.{united_verb_tokens, verb_of}
 use Rattle.spj_syntax.specs.Shapes.{◌∣◌}
-use Rattle.spj_syntax.specs.Written.{name_tokens, column_tokens, cond_tokens, filtered_tokens, join_goal_tokens, join_grouped_tokens, listed_tokens, strict_tokens, key_tokens, each_after, between, select_tokens, selects_tokens, verb_tokens, statement_tokens, IsWrittenAs}
+use Rattle.spj_syntax.specs.Written.{name_tokens, column_tokens, cond_tokens, filtered_tokens, join_goal_tokens, join_grouped_tokens, listed_tokens, strict_tokens, key_tokens, each_after, between, select_tokens, selects_tokens, statement_tokens, IsWrittenAs}
 use Rattle.saying_law.proofs.Combining.{AreLegal, HasTrees, Anything, counts_as, both, either, a_word, a_mark, after_word, after_mark, each_after_mark, of_filter}
-use Rattle.saying_law.proofs.Parts.{a_name, a_number, listed, a_column, a_key, a_strict, a_change, a_row, some_tests, a_group, more_tests, a_cond, a_query, a_verb, row_for, some_queries, a_goal, a_join_goal, a_join_group}
+use Rattle.saying_law.proofs.Parts.{a_name, a_number, listed, a_column, a_key, a_strict, a_change, a_row, some_tests, a_group, more_tests, a_cond, a_query, a_verb, a_united_verb, some_queries, a_goal, a_join_goal, a_join_group}
 
 -- the tokens of a schema, from the parts as the grammar has them
 schema : (strict : Bool) (table : List ℕ) (column : Column) (columns : List Column) (key : List (List ℕ)) → IsName table → IsName column.name → AllByRecursion (λ (c : Column). IsName c.name) columns → 0 < length key → AllByRecursion IsName key
@@ -87,23 +88,20 @@ show =
     (counts_as (λ u v. (statements.ShowConflicts, refl)) (after_word (codes "show") (a_word (codes "conflicts")))))
 
 -- one query is asked alone, and more are the parts of a union
-asked : (v : Verb) (of_union : Selects → Statement) → ((u : Selects) → verb_tokens v ++ selects_tokens u ≡ statement_tokens (of_union u)) → (parts : List Select) → 0 < length parts
-    → (statement : Statement) × (verb_tokens v ++ between (Word (codes "union")) select_tokens parts ≡ statement_tokens statement)
-asked v of_union told [] some = absurd (omega arith)
-asked v of_union told (q ∷ []) some = (statements.Asking v q, ap (λ ls. verb_tokens v ++ ls) (append-nil (select_tokens q)))
-asked v of_union told (p ∷ q ∷ parts) some = let u : Selects = record { parts = p ∷ q ∷ parts; two = omega arith } in (of_union u, told u)
+asked_of_parts : (v : UnitedVerb) (u : Selects) → (statement : Statement) × (united_verb_tokens v ++ selects_tokens u ≡ statement_tokens statement)
+asked_of_parts united_verbs.Ask u = (statements.AskUnion u, refl)
+asked_of_parts united_verbs.Possible u = (statements.PossibleUnion u, refl)
+asked_of_parts united_verbs.Classify u = (statements.ClassifyUnion u, refl)
+asked_of_parts united_verbs.Sql u = (statements.SqlUnion u, refl)
+asked_of_parts (united_verbs.Explain row) u = (statements.ExplainUnion row u, refl)
 
-ask : HasTrees grammar.ask statement_tokens (Anything Statement)
-ask = counts_as (λ parts v. asked verbs.Ask statements.AskUnion (λ u. refl) parts v) (after_word (codes "ask") some_queries)
-
-possible : HasTrees grammar.possible statement_tokens (Anything Statement)
-possible = counts_as (λ parts v. asked verbs.Possible statements.PossibleUnion (λ u. refl) parts v) (after_word (codes "possible") some_queries)
-
-explain : HasTrees grammar.explain statement_tokens (Anything Statement)
-explain = counts_as (λ x v. asked (verbs.Explain x.0) (statements.ExplainUnion x.0) (λ u. refl) x.1 v.1) (after_word (codes "explain") (both row_for some_queries))
+asked : (v : UnitedVerb) (parts : List Select) → 0 < length parts → (statement : Statement) × (united_verb_tokens v ++ between (Word (codes "union")) select_tokens parts ≡ statement_tokens statement)
+asked v [] some = absurd (omega arith)
+asked v (q ∷ []) some = (statements.Asking (verb_of v) q, ap (λ ls. united_verb_tokens v ++ ls) (append-nil (select_tokens q)))
+asked v (p ∷ q ∷ parts) some = asked_of_parts v (record { parts = p ∷ q ∷ parts; two = omega arith })
 
 asking : HasTrees grammar.asking statement_tokens (Anything Statement)
-asking = either ask (either possible (either explain (counts_as (λ x v. (statements.Asking x.0 x.1, refl)) (both a_verb a_query))))
+asking = either (counts_as (λ x v. asked x.0 x.1 v.1) (both a_united_verb some_queries)) (counts_as (λ x v. (statements.Asking x.0 x.1, refl)) (both a_verb a_query))
 
 -- all statements but `set`
 any_other : HasTrees (grammar.create ∣ grammar.alter ∣ grammar.one_of grammar.direct (grammar.show ∣ (grammar.range ∣ grammar.range_join) ∣ grammar.asking)) statement_tokens (Anything Statement)

@@ -153,9 +153,7 @@ same_united = both same_query (often (both (same (one (word (codes "union")))) s
 
 same_asking : Same grammar.asking factored.asking
 same_asking =
-    either (both (same (one (word (codes "ask")))) same_united)
-    (either (both (same (one (word (codes "possible")))) same_united)
-    (either (both (same (one (word (codes "explain")))) (both (same grammar.row_for) same_united)) (both (same grammar.verb) same_query)))
+    either (both (same grammar.united_verb) same_united) (both (same grammar.verb) same_query)
 
 same_show : Same grammar.show factored.show
 same_show =

@@ -165,6 +165,9 @@ opens-either p q (t ∷ s) = has-or (after p t) (after q t)
 pub opens_then : {b : Bool} {p q : Shape} {s : List Lexeme} → nullable p ≡ false → Opens b p s → Opens b (p ⨾ q) s
 opens_then {p = p} {q = q} {s = s} n h = record { is = h.is ∙ sym (opens-both p q s n) }
 
+pub opens_left : {p q : Shape} {s : List Lexeme} → Opens true p s → Opens true (p ∣ q) s
+opens_left {p = p} {q = q} {s = s} h = record { is = sym (opens-either p q s ∙ ap (λ b. b || opens q s) (sym h.is)) }
+
 pub opens_either : {b : Bool} {p q : Shape} {s : List Lexeme} → Opens false p s → Opens b q s → Opens b (p ∣ q) s
 opens_either {p = p} {q = q} {s = s} h k = record { is = sym (opens-either p q s ∙ ap (λ b. b || opens q s) (sym h.is) ∙ sym k.is) }
 

@@ -627,6 +627,8 @@ statement_same (statements.Asking v c) (statements.Asking w d) e =
     λ l. statements.Asking (h l) (g l)
 statement_same (statements.AskUnion a) (statements.AskUnion b) e = ap statements.AskUnion (selects_same a b (cc))
 statement_same (statements.PossibleUnion a) (statements.PossibleUnion b) e = ap statements.PossibleUnion (selects_same a b (cc))
+statement_same (statements.ClassifyUnion a) (statements.ClassifyUnion b) e = ap statements.ClassifyUnion (selects_same a b (cc))
+statement_same (statements.SqlUnion a) (statements.SqlUnion b) e = ap statements.SqlUnion (selects_same a b (cc))
 statement_same (statements.ExplainUnion f a) (statements.ExplainUnion g b) e =
     let i = row_for_decodes f g (selects_tokens a) (selects_tokens b) (cc) in
     let row = i.0 in
@@ -634,9 +636,13 @@ statement_same (statements.ExplainUnion f a) (statements.ExplainUnion g b) e =
     λ l. statements.ExplainUnion (row l) (parts l)
 statement_same (statements.Asking v c) (statements.AskUnion u) e = absurd (asked_no_union v verbs.Ask c u e)
 statement_same (statements.Asking v c) (statements.PossibleUnion u) e = absurd (asked_no_union v verbs.Possible c u e)
+statement_same (statements.Asking v c) (statements.ClassifyUnion u) e = absurd (asked_no_union v verbs.Classify c u e)
+statement_same (statements.Asking v c) (statements.SqlUnion u) e = absurd (asked_no_union v verbs.Sql c u e)
 statement_same (statements.Asking v c) (statements.ExplainUnion row u) e = absurd (asked_no_union v (verbs.Explain row) c u e)
 statement_same (statements.AskUnion u) (statements.Asking v c) e = absurd (asked_no_union v verbs.Ask c u (sym e))
 statement_same (statements.PossibleUnion u) (statements.Asking v c) e = absurd (asked_no_union v verbs.Possible c u (sym e))
+statement_same (statements.ClassifyUnion u) (statements.Asking v c) e = absurd (asked_no_union v verbs.Classify c u (sym e))
+statement_same (statements.SqlUnion u) (statements.Asking v c) e = absurd (asked_no_union v verbs.Sql c u (sym e))
 statement_same (statements.ExplainUnion row u) (statements.Asking v c) e = absurd (asked_no_union v (verbs.Explain row) c u (sym e))
 statement_same (statements.SetConflicts n) (statements.SetConflicts m) e = ap statements.SetConflicts (cc)
 statement_same (statements.Copy t) (statements.Copy u) e = ap statements.Copy (cc)

@@ -2,7 +2,7 @@
 use Rattle.std.specs.Prelude.{codes}
 use Rattle.script_lex.specs.declared.kinds.Symbol.TheVariants.{Open, Close, Comma, Dot, Eq}
 use Rattle.spj_syntax.specs.Shapes.{word, mark, Shape, one, ◌⨾◌, ◌∣◌, many}
-use Rattle.spj_syntax.specs.Grammar.{a_name, listed, filtered, literal, strict, column, key, test, col, op_but_equal, head, separated, row_for, verb, aggregate, grouped, join_grouped, set, one_of, direct}
+use Rattle.spj_syntax.specs.Grammar.{a_name, listed, filtered, literal, strict, column, key, test, col, op_but_equal, head, separated, united_verb, verb, aggregate, grouped, join_grouped, set, one_of, direct}
 
 -- Each column has its comma behind it.
 abbrev pub columns : Shape
@@ -35,21 +35,16 @@ query = head ⨾ one (word (codes "from")) ⨾ listed a_name ⨾ filtered cond
 abbrev pub united : Shape
 united = separated (word (codes "union")) query
 
-abbrev pub ask : Shape
-ask = one (word (codes "ask")) ⨾ united
-
-abbrev pub possible : Shape
-possible = one (word (codes "possible")) ⨾ united
-
-abbrev pub explain : Shape
-explain = one (word (codes "explain")) ⨾ row_for ⨾ united
+-- a verb that takes one query or several, and these
+abbrev pub several : Shape
+several = united_verb ⨾ united
 
 -- a verb that takes one query alone, and the query
 abbrev pub single : Shape
 single = verb ⨾ query
 
 abbrev pub asking : Shape
-asking = ask ∣ possible ∣ explain ∣ single
+asking = several ∣ single
 
 abbrev pub show : Shape
 show = one (word (codes "show")) ⨾ (one (word (codes "tables")) ∣ one (word (codes "log")) ∣ one (word (codes "conflicts")))

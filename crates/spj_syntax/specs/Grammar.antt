@@ -102,14 +102,9 @@ row_for = one (word (codes "row")) ⨾ any_row ⨾ one (word (codes "for"))
 abbrev pub united : Shape
 united = separated (word (codes "union")) query
 
-abbrev pub ask : Shape
-ask = one (word (codes "ask")) ⨾ united
-
-abbrev pub possible : Shape
-possible = one (word (codes "possible")) ⨾ united
-
-abbrev pub explain : Shape
-explain = one (word (codes "explain")) ⨾ row_for ⨾ united
+-- what is asked of one query or of several
+abbrev pub united_verb : Shape
+united_verb = one (word (codes "ask")) ∣ one (word (codes "possible")) ∣ one (word (codes "classify")) ∣ one (word (codes "sql")) ∣ one (word (codes "explain")) ⨾ row_for
 
 -- what is asked of a row of one query alone
 abbrev pub row_verb : Shape
@@ -117,10 +112,10 @@ row_verb = one (word (codes "against")) ⨾ row_for ∣ one (word (codes "prove"
 
 -- what is asked of one query alone
 abbrev pub verb : Shape
-verb = one (word (codes "disputed")) ∣ one (word (codes "classify")) ∣ one (word (codes "plan")) ∣ one (word (codes "sql")) ∣ row_verb
+verb = one (word (codes "disputed")) ∣ one (word (codes "plan")) ∣ row_verb
 
 abbrev pub asking : Shape
-asking = ask ∣ possible ∣ explain ∣ verb ⨾ query
+asking = united_verb ⨾ united ∣ verb ⨾ query
 
 abbrev pub copy : Shape
 copy = one (word (codes "copy")) ⨾ a_name

@@ -18,9 +18,13 @@ use Rattle.script_lex.specs.declared.kinds.Symbol.TheVariants as s
 use Rattle.spj_syntax.specs.Shapes.{Terminal, word, mark, Shape, Generates}
 use Rattle.spj_syntax.specs.Parsed.{Fits, PlainFit, AllLexemesFit, IsStatement, RefusesForm, RefusesTokens, fault_of, lexemes, place_of}
 use Rattle.cqa_model.specs.declared.schema.Column.{Column}
-use Rattle.spj_syntax.specs.Written.{IsWrittenAs, column_tokens, cond_tokens, filtered_tokens, goal_tokens, grouped_tokens, join_goal_tokens, join_grouped_tokens, key_tokens, listed_tokens, name_tokens, select_tokens, selects_tokens, test_tokens}
+use Rattle.spj_syntax.specs.Written.{IsWrittenAs, column_tokens, cond_tokens, filtered_tokens, goal_tokens, grouped_tokens, join_goal_tokens, join_grouped_tokens, key_tokens, listed_tokens, name_tokens, select_tokens, selects_tokens, test_tokens, verb_tokens}
 use Rattle.spj_syntax.specs.declared.queries.Selected.{Selected}
 use Rattle.spj_syntax.specs.declared.queries.Selected.TheVariants as selections
+use Rattle.spj_syntax.specs.declared.queries.UnitedVerb.{UnitedVerb}
+use Rattle.spj_syntax.specs.declared.queries.UnitedVerb.TheVariants as united_verbs
+use Rattle.spj_syntax.specs.declared.tree.Verb.{Verb}
+use Rattle.spj_syntax.specs.declared.tree.Verb.TheVariants as verbs
 use Rattle.spj_syntax.specs.declared.range_parts.Asked.{Asked}
 use Rattle.spj_syntax.specs.declared.range_parts.Asked.TheVariants as aggregates
 use Rattle.spj_syntax.specs.declared.range_parts.Tested.{Tested}
@@ -92,6 +96,17 @@ body_tokens (columns, key) = Mark s.Open ∷ (each_before (Mark s.Comma) column_
 abbrev pub selected_tokens : Selected → List Lexeme
 selected_tokens (selections.One q) = select_tokens q
 selected_tokens (selections.Union u) = selects_tokens u
+
+-- what is asked of one query or of several
+abbrev pub verb_of : UnitedVerb → Verb
+verb_of united_verbs.Ask = verbs.Ask
+verb_of united_verbs.Possible = verbs.Possible
+verb_of united_verbs.Classify = verbs.Classify
+verb_of united_verbs.Sql = verbs.Sql
+verb_of (united_verbs.Explain row) = verbs.Explain row
+
+abbrev pub united_verb_tokens : UnitedVerb → List Lexeme
+united_verb_tokens verb = verb_tokens (verb_of verb)
 
 -- what is asked of the values of a column
 abbrev pub aggregate_tokens : Asked → List Lexeme

@@ -1,9 +1,10 @@
 //! Queries, and the statements that ask of one query or of several.
 
-ghost use Rattle.std.specs.Prelude.{◌≡◌, ◌<◌, IfOk, length, refl, codes};
+ghost use Rattle.std.specs.Prelude.{◌≡◌, ◌<◌, ◌++◌, IfOk, length, refl, codes};
 ghost use Rattle.spj_syntax.specs.Lexemes.{Word};
-ghost use Rattle.spj_syntax.specs.Reading.{Reads, selected_tokens};
-ghost use Rattle.spj_syntax.specs.Written.{IsSmall, between, head_tokens, listed_tokens, literal_tokens, row_for_tokens, row_tokens, select_tokens, statement_tokens, verb_tokens};
+ghost use Rattle.spj_syntax.specs.Reading.{Reads, selected_tokens, united_verb_tokens, verb_of};
+ghost use Rattle.spj_syntax.specs.Walk.{Opens};
+ghost use Rattle.spj_syntax.specs.Written.{IsSmall, between, head_tokens, listed_tokens, literal_tokens, row_for_tokens, row_tokens, select_tokens, selects_tokens, statement_tokens, verb_tokens};
 ghost use Rattle.spj_syntax.specs.Grammar as grammar;
 ghost use Rattle.spj_syntax.specs.Factored as factored;
 
@@ -127,7 +128,7 @@ fn row_verb(alloc: Global, reader: &mut Reader<'_>) -> Result<Verb, Stop>
     Ok(Verb::Prove { row })
 }
 
-/// What is asked of one query alone: `disputed`, `classify`, `plan`, `sql`, or what is asked of a row.
+/// What is asked of one query alone: `disputed`, `plan`, or what is asked of a row.
 fn verb(alloc: Global, reader: &mut Reader<'_>) -> Result<Verb, Stop>
     ensures { Reads grammar.verb verb_tokens result reader.old reader.new }
 {
@@ -135,65 +136,11 @@ fn verb(alloc: Global, reader: &mut Reader<'_>) -> Result<Verb, Stop>
         reader.advance();
         return Ok(Verb::Disputed);
     }
-    if reader.sees_word(b"classify") {
-        reader.advance();
-        return Ok(Verb::Classify);
-    }
     if reader.sees_word(b"plan") {
         reader.advance();
         return Ok(Verb::Plan);
     }
-    if reader.sees_word(b"sql") {
-        reader.advance();
-        return Ok(Verb::Sql);
-    }
     row_verb(alloc, reader)
-}
-
-/// `ask QUERY [union QUERY ..]`.
-fn ask(alloc: Global, reader: &mut Reader<'_>) -> Result<Statement, Stop>
-    ensures reads { Reads factored.ask statement_tokens result reader.old reader.new }
-    ensures small { IfOk result (λ s. IsSmall s) }
-{
-    reader.word(b"ask")?;
-    match united(alloc, reader)? {
-        Selected::One(select) => Ok(Statement::Asking {
-            verb: Verb::Ask,
-            select,
-        }),
-        Selected::Union(selects) => Ok(Statement::AskUnion(selects)),
-    }
-}
-
-/// `possible QUERY [union QUERY ..]`.
-fn possible(alloc: Global, reader: &mut Reader<'_>) -> Result<Statement, Stop>
-    ensures reads { Reads factored.possible statement_tokens result reader.old reader.new }
-    ensures small { IfOk result (λ s. IsSmall s) }
-{
-    reader.word(b"possible")?;
-    match united(alloc, reader)? {
-        Selected::One(select) => Ok(Statement::Asking {
-            verb: Verb::Possible,
-            select,
-        }),
-        Selected::Union(selects) => Ok(Statement::PossibleUnion(selects)),
-    }
-}
-
-/// `explain row ROW for QUERY [union QUERY ..]`.
-fn explain(alloc: Global, reader: &mut Reader<'_>) -> Result<Statement, Stop>
-    ensures reads { Reads factored.explain statement_tokens result reader.old reader.new }
-    ensures small { IfOk result (λ s. IsSmall s) }
-{
-    reader.word(b"explain")?;
-    let row = row_for(alloc, reader)?;
-    match united(alloc, reader)? {
-        Selected::One(select) => Ok(Statement::Asking {
-            verb: Verb::Explain { row },
-            select,
-        }),
-        Selected::Union(selects) => Ok(Statement::ExplainUnion { row, selects }),
-    }
 }
 
 /// A verb that takes one query, and the query.
@@ -207,18 +154,117 @@ fn single(alloc: Global, reader: &mut Reader<'_>) -> Result<Statement, Stop>
 }
 
 /// What is asked of one query or of several.
+#[derive(Drop)]
+pub enum UnitedVerb {
+    Ask,
+    Possible,
+    Classify,
+    Sql,
+    Explain { row: Row },
+}
+
+/// Whether a verb stands first that takes one query or several.
+fn sees_united_verb(reader: &Reader<'_>) -> bool
+    ensures { Opens result grammar.united_verb reader.now }
+{
+    if reader.sees_word(b"ask") {
+        return true;
+    }
+    if reader.sees_word(b"possible") {
+        return true;
+    }
+    if reader.sees_word(b"classify") {
+        return true;
+    }
+    if reader.sees_word(b"sql") {
+        return true;
+    }
+    reader.sees_word(b"explain")
+}
+
+/// `ask`, `possible`, `classify`, `sql`, or `explain row ROW for`.
+fn united_verb(alloc: Global, reader: &mut Reader<'_>) -> Result<UnitedVerb, Stop>
+    ensures { Reads grammar.united_verb united_verb_tokens result reader.old reader.new }
+{
+    if reader.sees_word(b"ask") {
+        reader.advance();
+        return Ok(UnitedVerb::Ask);
+    }
+    if reader.sees_word(b"possible") {
+        reader.advance();
+        return Ok(UnitedVerb::Possible);
+    }
+    if reader.sees_word(b"classify") {
+        reader.advance();
+        return Ok(UnitedVerb::Classify);
+    }
+    if reader.sees_word(b"sql") {
+        reader.advance();
+        return Ok(UnitedVerb::Sql);
+    }
+    reader.word(b"explain")?;
+    let row = row_for(alloc, reader)?;
+    Ok(UnitedVerb::Explain { row })
+}
+
+/// The verb that is asked of one query.
+fn verb_of(verb: UnitedVerb) -> Verb
+    ensures { result ≡ verb_of verb }
+{
+    match verb {
+        UnitedVerb::Ask => Verb::Ask,
+        UnitedVerb::Possible => Verb::Possible,
+        UnitedVerb::Classify => Verb::Classify,
+        UnitedVerb::Sql => Verb::Sql,
+        UnitedVerb::Explain { row } => Verb::Explain { row },
+    }
+}
+
+/// What is asked of the parts of a union.
+fn of_union(verb: UnitedVerb, selects: Selects) -> Statement
+    ensures tokens { statement_tokens result ≡ united_verb_tokens verb ++ selects_tokens selects }
+    ensures small { IsSmall result }
+{
+    match verb {
+        UnitedVerb::Ask => Statement::AskUnion(selects),
+        UnitedVerb::Possible => Statement::PossibleUnion(selects),
+        UnitedVerb::Classify => Statement::ClassifyUnion(selects),
+        UnitedVerb::Sql => Statement::SqlUnion(selects),
+        UnitedVerb::Explain { row } => Statement::ExplainUnion { row, selects },
+    }
+}
+
+/// What is asked of one query or of the parts of a union.
+fn of_selected(verb: UnitedVerb, selected: Selected) -> Statement
+    ensures tokens { statement_tokens result ≡ united_verb_tokens verb ++ selected_tokens selected }
+    ensures small { IsSmall result }
+{
+    match selected {
+        Selected::One(select) => Statement::Asking {
+            verb: verb_of(verb),
+            select,
+        },
+        Selected::Union(selects) => of_union(verb, selects),
+    }
+}
+
+/// A verb that takes one query or several, and these.
+fn several(alloc: Global, reader: &mut Reader<'_>) -> Result<Statement, Stop>
+    ensures reads { Reads factored.several statement_tokens result reader.old reader.new }
+    ensures small { IfOk result (λ s. IsSmall s) }
+{
+    let verb = united_verb(alloc, reader)?;
+    let selected = united(alloc, reader)?;
+    Ok(of_selected(verb, selected))
+}
+
+/// What is asked of one query or of several.
 pub fn asking(alloc: Global, reader: &mut Reader<'_>) -> Result<Statement, Stop>
     ensures reads { Reads factored.asking statement_tokens result reader.old reader.new }
     ensures small { IfOk result (λ s. IsSmall s) }
 {
-    if reader.sees_word(b"ask") {
-        return ask(alloc, reader);
-    }
-    if reader.sees_word(b"possible") {
-        return possible(alloc, reader);
-    }
-    if reader.sees_word(b"explain") {
-        return explain(alloc, reader);
+    if sees_united_verb(reader) {
+        return several(alloc, reader);
     }
     single(alloc, reader)
 }

@@ -148,6 +148,8 @@ pub enum Statement {
     },
     AskUnion(Selects),
     PossibleUnion(Selects),
+    ClassifyUnion(Selects),
+    SqlUnion(Selects),
     ExplainUnion {
         row: Row,
         selects: Selects,

@@ -9,11 +9,5 @@ returns-then-sees_word c = took_left c.if-sees_word.ensures (word_took c.if-sees
 pub returns-then-sees_word-2 : goal.returns-then-sees_word-2
 returns-then-sees_word-2 c = took_right refl c.if-sees_word.ensures (took_left c.if-sees_word-2.ensures (word_took c.if-sees_word-2.ensures c.advance-then-sees_word-2.ensures))
 
-pub returns-then-sees_word-3 : goal.returns-then-sees_word-3
-returns-then-sees_word-3 c = took_right refl c.if-sees_word.ensures (took_right refl c.if-sees_word-2.ensures (took_left c.if-sees_word-3.ensures (word_took c.if-sees_word-3.ensures c.advance-then-sees_word-3.ensures)))
-
-pub returns-then-sees_word-4 : goal.returns-then-sees_word-4
-returns-then-sees_word-4 c = took_right refl c.if-sees_word.ensures (took_right refl c.if-sees_word-2.ensures (took_right refl c.if-sees_word-3.ensures (took_left c.if-sees_word-4.ensures (word_took c.if-sees_word-4.ensures c.advance-then-sees_word-4.ensures))))
-
 pub returns : goal.returns
-returns c = reads_right _ verb_tokens c.row_verb.result _ refl c.if-sees_word.ensures (reads_right _ verb_tokens c.row_verb.result _ refl c.if-sees_word-2.ensures (reads_right _ verb_tokens c.row_verb.result _ refl c.if-sees_word-3.ensures (reads_right _ verb_tokens c.row_verb.result _ refl c.if-sees_word-4.ensures c.row_verb.ensures)))
+returns c = reads_right _ verb_tokens c.row_verb.result _ refl c.if-sees_word.ensures (reads_right _ verb_tokens c.row_verb.result _ refl c.if-sees_word-2.ensures c.row_verb.ensures)

@@ -1,0 +1,2 @@
+pub mod ByIndex
+mod Places

@@ -1,0 +1,5 @@
+mod LineSteps
+pub mod Naming
+pub mod Found
+pub mod Written
+mod Sharing

@@ -1,0 +1,5 @@
+pub mod AttackLines
+pub mod Names
+pub mod Classes
+pub mod Sql
+pub mod Parts
