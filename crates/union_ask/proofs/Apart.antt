@@ -1,6 +1,7 @@
--- Parts without a common table that isn't strict: what each of them lacks in a repair, all of them lack in one.
+-- Parts of which a row is a candidate, without a common table that isn't strict: what each of them lacks in a repair, all of them lack in one.
 use Rattle.std.proofs.Common.{◌≡◌, ℕ, ◌<◌, ◌⊎◌, inl, inr, List, [], length, get_or, refl, sym, ◌∙◌, ap, subst, Contains, Bool, true, false}
 use Rattle.std.proofs.Math.Bool.{Bool-discrete}
+use Rattle.std.proofs.lemmas.Bool.{cases_order}
 use Rattle.std.proofs.lemmas.List.{get_or_default}
 use Rattle.std.proofs.lemmas.List.Elements.{Contains-get_or}
 use native.Mathlib.Decide.{ℕ_discrete}
@@ -10,22 +11,56 @@ use Rattle.cqa_model.specs.declared.query.Query.{Query}
 use Rattle.cqa_model.specs.Database.{Table, stored, keys_of}
 use Rattle.cqa_model.specs.Repairs.{SharesKey, HasOne, IsTableRepair, IsRepair}
 use Rattle.cqa_model.specs.Query.{atom_at, rows_of, row_at, IsStrict, IsWitness, FitsDatabase}
-use Rattle.cqa_model.specs.Certain.{IsCertain}
-use Rattle.cqa_model.proofs.Classic.{Classically, stable, choice, choose}
-use Rattle.cqa_model.proofs.Existence.{last_rows, last_rows-repair}
+use Rattle.cqa_model.specs.Certain.{IsCandidate, IsCertain}
+use Rattle.cqa_model.specs.Unions.{HoldsSome, IsCertainIn}
+use Rattle.cqa_model.proofs.Classic.{Classically, stable, choice, choose, dec_some}
+use Rattle.cqa_model.proofs.Databases.{certain_or_rejected}
+use Rattle.cqa_model.proofs.Existence.{last_rows, last_rows-repair, some_repair}
 use Rattle.cqa_model.proofs.Fitting.{fits_tables}
 use Rattle.cqa_model.proofs.Repairs.{sublist-stored}
-use Rattle.cqa_model.proofs.Witnesses.{dec_witness}
-use Rattle.cqa_model.specs.Unions.{HoldsSome, IsCertainIn}
-use Rattle.union_ask.specs.Parts.{AllFit, AreApart}
-use Rattle.union_ask.specs.Laws.{ApartDecide}
+use Rattle.cqa_model.proofs.Values.{dec_by}
+use Rattle.cqa_model.proofs.Witnesses.{dec_witness, witness-stored}
+use Rattle.parts_apart.specs.Apart.{AreApart, HasLoose}
+use Rattle.part_search.specs.Parts.{AllFit}
+use Rattle.union_ask.specs.Apart.{AreApartFor, IsCandidateAt}
+use Rattle.union_ask.specs.Laws.{ApartDecide, CandidatesDecide}
 
-module _ (db : List Table) (d : Query) (parts : List Query) (row : List Value) (fits : AllFit parts db) (apart : AreApart d parts) where
+dec_loose : (q : Query) (t : ℕ) → Dec (HasLoose q t)
+dec_loose q t = dec_by (λ h. (h.0, (h.1, h.2.0, h.2.1))) (λ h. (h.0, h.1.0, (h.1.1, h.1.2)))
+    (dec_one_below (λ F. ((atom_at q F).table ≡ t) × ((atom_at q F).strict ≡ false)) (λ F. dec_both (ℕ_discrete (atom_at q F).table t) (Bool-discrete (atom_at q F).strict false)) (length q.atoms))
+
+-- what follows for an atom whose table isn't strict, or its table is strict
+loose-or : (q : Query) (F t : ℕ) {K : Type 0} → F < length q.atoms → (atom_at q F).table ≡ t → (HasLoose q t → K) → K ⊎ IsStrict q F
+loose-or q F t {K} l e f = go (Bool-discrete (atom_at q F).strict false)
+  where
+    marked : (b : Bool) → (b ≡ false → ⊥) → b ≡ true
+    marked true n = refl
+    marked false n = absurd (n refl)
+
+    go : Dec ((atom_at q F).strict ≡ false) → K ⊎ IsStrict q F
+    go (yes s) = inl (f (F, (l, e, s)))
+    go (no n) = inr (marked (atom_at q F).strict n)
+
+module _ (db : List Table) (d : Query) (parts : List Query) (row : List Value) (fits : AllFit parts db) (apart : AreApartFor db parts row) where
   abbrev part_at : ℕ → Query
   part_at i = get_or parts i d
 
+  abbrev IsGiven : ℕ → Type 0
+  IsGiven i = (i < length parts) × IsCandidate db (part_at i) row
+
   fits_at : (i : ℕ) → i < length parts → FitsDatabase (part_at i) db
   fits_at i l = fits (part_at i) (Contains-get_or parts i d l)
+
+  candidate : (i : ℕ) → IsGiven i → IsCandidateAt db parts row i (part_at i)
+  candidate i g = ((g.0, get_or_default parts i (part_at i) d g.0), g.1)
+
+  same_part : (i j t : ℕ) → IsGiven i → IsGiven j → HasLoose (part_at i) t → HasLoose (part_at j) t → i ≡ j
+  same_part i j t gi gj hi hj = go (cases_order i j)
+    where
+      go : (i ≡ j) ⊎ ((i < j) ⊎ (j < i)) → i ≡ j
+      go (inl e) = e
+      go (inr (inl l)) = absurd (apart i j (part_at i) (part_at j) l (candidate i gi) (candidate j gj) (t, hi, hj))
+      go (inr (inr l)) = absurd (apart j i (part_at j) (part_at i) l (candidate j gj) (candidate i gi) (t, hj, hi))
 
   abbrev IsRejectedBy : ℕ → List (List (List Value)) → Type 0
   IsRejectedBy i r = IsRepair db r × ((w : List (List Value)) → IsWitness (part_at i) r row w → ⊥)
@@ -38,41 +73,29 @@ module _ (db : List Table) (d : Query) (parts : List Query) (row : List Value) (
     kept_by i t = get_or (get_or rs i []) t []
 
     abbrev IsLoose : ℕ → ℕ → Type 0
-    IsLoose t i = (F : ℕ) × (F < length (part_at i).atoms) × (((atom_at (part_at i) F).table ≡ t) × ((atom_at (part_at i) F).strict ≡ false))
+    IsLoose t i = IsCandidate db (part_at i) row × HasLoose (part_at i) t
 
-    dec_loose : (t : ℕ) → Dec ((i : ℕ) × (i < length parts) × IsLoose t i)
-    dec_loose t = dec_one_below (IsLoose t)
-        (λ i. dec_one_below (λ F. ((atom_at (part_at i) F).table ≡ t) × ((atom_at (part_at i) F).strict ≡ false))
-        (λ F. dec_both (ℕ_discrete (atom_at (part_at i) F).table t) (Bool-discrete (atom_at (part_at i) F).strict false)) (length (part_at i).atoms)) (length parts)
+    dec_given : (t : ℕ) → Dec ((i : ℕ) × (i < length parts) × IsLoose t i)
+    dec_given t = dec_one_below (IsLoose t) (λ i. dec_both (dec_witness (part_at i) (stored db) row) (dec_loose (part_at i) t)) (length parts)
 
-    -- a repair of a table that each part with it has, unless it is strict
+    -- a repair of a table that each part with it has of which the row is a candidate, unless it is strict
     abbrev IsGood : ℕ → List (List Value) → Type 0
     IsGood t k = IsTableRepair (get_or (keys_of db) t []) (get_or (stored db) t []) k
-        × ((i F : ℕ) → i < length parts → F < length (part_at i).atoms → (atom_at (part_at i) F).table ≡ t → (k ≡ kept_by i t) ⊎ IsStrict (part_at i) F)
+        × ((i F : ℕ) → IsGiven i → F < length (part_at i).atoms → (atom_at (part_at i) F).table ≡ t → (k ≡ kept_by i t) ⊎ IsStrict (part_at i) F)
 
     good : (t : ℕ) → t < length (stored db) → (k : List (List Value)) × IsGood t k
-    good t l = go (dec_loose t)
+    good t l = go (dec_given t)
       where
-        of_index : (i j F : ℕ) → (i ≡ j) ⊎ IsStrict (part_at i) F → (kept_by j t ≡ kept_by i t) ⊎ IsStrict (part_at i) F
-        of_index i j F (inl e) = inl (ap (λ k. kept_by k t) (sym e))
-        of_index i j F (inr s) = inr s
-
-        of_mark : (i F : ℕ) → i < length parts → F < length (part_at i).atoms → (atom_at (part_at i) F).table ≡ t → (((i : ℕ) × (i < length parts) × IsLoose t i) → ⊥) →
-            Dec ((atom_at (part_at i) F).strict ≡ false) → (last_rows (get_or (keys_of db) t []) (get_or (stored db) t []) ≡ kept_by i t) ⊎ IsStrict (part_at i) F
-        of_mark i F li lF e f (yes s) = absurd (f (i, li, (F, lF, (e, s))))
-        of_mark i F li lF e f (no n) = inr (marked (atom_at (part_at i) F).strict n)
-          where
-            marked : (b : Bool) → (b ≡ false → ⊥) → b ≡ true
-            marked true m = refl
-            marked false m = absurd (m refl)
-
         go : Dec ((i : ℕ) × (i < length parts) × IsLoose t i) → (k : List (List Value)) × IsGood t k
-        go (yes (j, lj, (G, lG, (et, es)))) = (kept_by j t, ((each j lj).0.each t l, λ i F li lF e. of_index i j F (apart i j F G li lj lF lG (e ∙ sym et))))
+        go (yes (j, lj, (cj, hj))) = (
+          kept_by j t,
+          ((each j lj).0.each t l, λ i F gi lF e. loose-or (part_at i) F t lF e (λ hi. ap (λ (k : ℕ). kept_by k t) (sym (same_part i j t gi (lj, cj) hi hj)))),
+        )
         go (no f) = (
           last_rows (get_or (keys_of db) t []) (get_or (stored db) t []),
           (
             last_rows-repair (get_or (keys_of db) t []) (get_or (stored db) t []),
-            λ i F li lF e. of_mark i F li lF e f (Bool-discrete (atom_at (part_at i) F).strict false),
+            λ i F gi lF e. loose-or (part_at i) F t lF e (λ hi. absurd (f (i, gi.0, (gi.1, hi)))),
           ),
         )
 
@@ -82,11 +105,11 @@ module _ (db : List Table) (d : Query) (parts : List Query) (row : List Value) (
         hr : IsRepair db r
         hr = record { size = size; each = λ t l. (h t l).0 }
 
-        in_own : (i : ℕ) (li : i < length parts) (w : List (List Value)) → IsWitness (part_at i) r row w → (F : ℕ) → F < length (part_at i).atoms → Contains (rows_of (part_at i) (get_or rs i []) F) (row_at w F)
-        in_own i li w hw F l = go ((h t lt).1 i F li l refl)
+        in_own : (i : ℕ) (gi : IsGiven i) (w : List (List Value)) → IsWitness (part_at i) r row w → (F : ℕ) → F < length (part_at i).atoms → Contains (rows_of (part_at i) (get_or rs i []) F) (row_at w F)
+        in_own i gi w hw F l = go ((h t lt).1 i F gi l refl)
           where
             fit : FitsDatabase (part_at i) db
-            fit = fits_at i li
+            fit = fits_at i gi.0
 
             t : ℕ
             t = (atom_at (part_at i) F).table
@@ -101,7 +124,7 @@ module _ (db : List Table) (d : Query) (parts : List Query) (row : List Value) (
             mx = sublist-stored (get_or r t []) (get_or (stored db) t []) (h t lt).0.stored x (hw.kept F l)
 
             own : IsTableRepair (get_or (keys_of db) t []) (get_or (stored db) t []) (kept_by i t)
-            own = (each i li).0.each t lt
+            own = (each i gi.0).0.each t lt
 
             of_one : IsStrict (part_at i) F → HasOne (get_or (keys_of db) t []) (kept_by i t) x → Contains (kept_by i t) x
             of_one s o = subst (Contains (kept_by i t)) (sym (fit.strict F l s x o.row mx (sublist-stored (kept_by i t) (get_or (stored db) t []) own.stored o.row o.is_kept)
@@ -112,7 +135,9 @@ module _ (db : List Table) (d : Query) (parts : List Query) (row : List Value) (
             go (inr s) = of_one s (own.one x mx)
 
         of_index : (i : ℕ) → i < length parts → (w : List (List Value)) → IsWitness (part_at i) r row w → ⊥
-        of_index i li w hw = (each i li).1 w (record { size = hw.size; kept = in_own i li w hw; holds = hw.holds; answers = hw.answers })
+        of_index i li w hw =
+            let stored_one = witness-stored (part_at i) (keys_of db) (stored db) (fits_tables (part_at i) db (fits_at i li)) row r hr w hw in
+            (each i li).1 w (record { size = hw.size; kept = in_own i (li, (w, stored_one)) w hw; holds = hw.holds; answers = hw.answers })
 
         of_part : HoldsSome parts r row → ⊥
         of_part (q, (k, l, e), (w, hw)) = of_index k l w (subst (λ p. IsWitness p r row w) (sym (get_or_default parts k d q l ∙ e)) hw)
@@ -122,8 +147,27 @@ module _ (db : List Table) (d : Query) (parts : List Query) (row : List Value) (
       choice [] (length parts) IsRejectedBy (λ i l. rejected i (no_part (part_at i) (Contains-get_or parts i d l)))
       (λ c. clash_with c.0 c.2 certain (choose [] (length (stored db)) (IsGood c.0 c.2) (good c.0 c.2)))
 
+dec_certain : (db : List Table) (row : List Value) (q : Query) → Dec (IsCertain db q row)
+dec_certain db row q = elim (certain_or_rejected db q row) [
+  | inl h ↦ yes h
+  | inr f ↦ no (λ h. let w = h f.0 f.1 in f.2 w.0 w.1)
+]
+
+pub candidates_decide : CandidatesDecide
+candidates_decide db parts row fits apart = (
+  λ certain.
+      let r = some_repair (keys_of db) (stored db) in
+      let some = dec_some (λ q. IsCertain db q row) (dec_certain db row) parts in
+      stable some (λ n. none db (certain r.0 r.1).0 parts row fits apart (λ q mq c. n (q, mq, c)) certain),
+  λ s kept hr. (s.0, s.1, s.2 kept hr),
+)
+
 pub apart_decide : ApartDecide
 apart_decide = record {
   some = λ db parts row q mq certain kept hr. (q, mq, certain kept hr);
-  none = λ db parts row d fits apart no_part certain. none db d parts row fits apart no_part certain;
+  only = λ db parts row fits apart certain. (candidates_decide db parts row fits (apart_for db parts row apart)).0 certain;
 }
+  where
+    apart_for : (db : List Table) (parts : List Query) (row : List Value) → AreApart parts → AreApartFor db parts row
+    apart_for db parts row apart i j p q l cp cq s =
+        apart (record { first = i; second = j; atom = s.1.0; table = s.0 }) (record { first = (p, cp.0, s.1.1); second = (l, (q, cq.0, s.2)) })

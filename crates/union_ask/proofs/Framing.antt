@@ -1,23 +1,16 @@
--- The tables of a union are a frame, and the lists of its witnesses are within it, of stored rows.
+-- The tables of a union are a frame for its parts.
 use Rattle.std.proofs.Common.{◌≡◌, ℕ, ◌<◌, List, length, get_or, ap, sym, ◌∙◌, subst, Some, slice_get, Contains}
 use Rattle.std.specs.Ordering.{nat_cmp}
 use Rattle.std.proofs.lemmas.Cmp.{nat_cmp_total}
 use Rattle.std.proofs.lemmas.List.Elements.{Contains-get_or}
 use Rattle.std.proofs.lemmas.Option.{slice_get-get_or}
-use Rattle.cqa_value.specs.declared.value.Value.{Value}
-use Rattle.cqa_value.proofs.Words.{member_place}
 use Rattle.cqa_model.specs.declared.query.Query.{Query}
-use Rattle.cqa_model.specs.declared.query.RowId.{RowId}
 use Rattle.cqa_model.specs.Database.{Table}
 use Rattle.join_access.proofs.Sorted.{one_sorted, one_place}
 use Rattle.repair_back.specs.Flags.{AreTablesOf}
-use Rattle.row_lists.specs.Lists.{AreStored, IsIn}
-use Rattle.row_lists.specs.Formulas.{IsFrame, AreWithin}
-use Rattle.table_blocks.specs.Tables.{rows_at}
-use Rattle.union_ask.specs.Parts.{AllFit, AreNamesIn}
-use Rattle.union_ask.specs.Candidates.{AreTablesIn, IsTableIn}
-use Rattle.union_ask.proofs.Naming.{named-place}
-use Rattle.union_ask.proofs.Unions.{names_of_parts}
+use Rattle.row_lists.specs.Formulas.{IsFrame}
+use Rattle.part_search.specs.Parts.{AllFit, IsFrameFor}
+use Rattle.union_ask.specs.Candidates.{AreTablesIn}
 
 -- a union has one list of tables
 pub one-tables : (parts : List Query) (a b : List ℕ) → AreTablesIn parts a → AreTablesIn parts b → a ≡ b
@@ -40,15 +33,5 @@ module _ (db : List Table) (parts : List Query) (fits : AllFit parts db) (tables
   pub are-tables : AreTablesOf db tables
   are-tables = record { there = there; apart = apart }
 
-  module _ (row : List Value) (all : List (List RowId)) (h : AreNamesIn parts db row all) where
-    place : (id : RowId) → IsIn all id → IsTableIn parts id.table × (id.place < length (rows_at db id.table))
-    place id (names, m, i) =
-        let s = (names_of_parts db parts row all h names).0 m in
-        let p = named-place db s.0.atoms names s.2.0 s.2.2 id i in
-        ((s.0, s.1, (p.0, p.1, sym p.2)), p.3)
-
-    pub lists-within : AreWithin tables all
-    lists-within id i = let p = member_place tables id.table 0 ((are.exactly id.table).1 (place id i).0) in (p.0, p.1, p.2)
-
-    pub lists-stored : AreStored db all
-    lists-stored id i = (there id.table ((are.exactly id.table).1 (place id i).0), (place id i).1)
+  pub frame-for : IsFrameFor db parts tables
+  frame-for = record { is = are-frame; all = λ t s. (are.exactly t).1 s }

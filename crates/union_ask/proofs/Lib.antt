@@ -1,13 +1,9 @@
 mod Apart
-mod Naming
 mod Unions
-mod Parts
 mod Framing
 mod Rejecting
-mod Verdicts
+mod Deciding
 mod Searching
-mod Taking
 mod Sets
-mod PartByPart
-mod Scoping
-mod Over
+mod Loose
+mod Knowing

@@ -15,7 +15,7 @@ use Rattle.join_access.proofs.Naming.{stand-once}
 use Rattle.table_blocks.specs.Tables.{rows_at, key_at, names_in}
 use Rattle.repair_back.specs.Results.{AreKeptOver, AreTablePicks, AreStored}
 use Rattle.repair_back.specs.Results as repairs
-use Rattle.search_answers.proofs.Modelled.{get-map, of-map, true-there}
+use Rattle.part_search.proofs.Mapped.{get-map, of-map, true-there}
 use Rattle.row_lists.specs.declared.formula.Encoded.{Encoded}
 use Rattle.row_lists.specs.Lists.{name, named, IsStored, IsOfBlock}
 use Rattle.row_lists.specs.Clauses.{Variable}
@@ -25,8 +25,9 @@ use Rattle.row_lists.proofs.Formulas.{lists_decide, picks_reject_lists}
 use Rattle.row_lists.proofs.Rows.{numbered}
 use Rattle.union_ask.specs.Encodings.{IsEncodedIn}
 use Rattle.union_ask.specs.Laws.{UnionModelRejects, UnionsDecide}
-use Rattle.union_ask.proofs.Unions.{whole, certain_is_forced}
-use Rattle.union_ask.proofs.Framing.{one-tables, are-frame, lists-within, lists-stored}
+use Rattle.part_search.proofs.Forced.{whole, certain_is_forced}
+use Rattle.part_search.proofs.Framing.{lists-within, lists-stored}
+use Rattle.union_ask.proofs.Framing.{one-tables, are-frame, frame-for}
 
 module _ (tables : List ℕ) (variables : List Variable) (rows : List RowId) (model : List Bool) (is : rows ≡ map (name_in tables) variables) where
   -- a name is listed with true exactly where its variable is true
@@ -84,7 +85,7 @@ union_model_rejects db parts row e model names d fits h m repaired picks = recor
     none (q, mq, (w, hw)) =
         let list = whole db parts row h.lists fits h.are_lists q mq repaired.kept repaired.repair w hw in
         picks_reject_lists db h.tables h.lists h.encoded.formula (assignment model) repaired.kept (are-frame db parts fits h.tables h.are_tables)
-        (lists-within db parts fits h.tables h.are_tables row h.lists h.are_lists) (lists-stored db parts fits h.tables h.are_tables row h.lists h.are_lists)
+        (lists-within db parts h.tables (frame-for db parts fits h.tables h.are_tables) row h.lists h.are_lists) (lists-stored db parts h.tables (frame-for db parts fits h.tables h.are_tables) row h.lists h.are_lists)
         h.encoded.is (subst (SatisfiesAll (assignment model)) h.encoded.are m.1)
         (true-picks h.tables h.encoded.formula.variables e.rows model h.encoded.rows db d (λ x c. ((h.encoded.is.variables.exactly x).0 c).0) names repaired.kept repaired.repair
         (subst (λ ts. AreKeptOver db ts names repaired.kept) (sym same) repaired.are_kept) (λ t mt. picks t ((h.are_tables.exactly t).0 mt)))
@@ -94,8 +95,8 @@ union_model_rejects db parts row e model names d fits h m repaired picks = recor
 pub unions_decide : UnionsDecide
 unions_decide db parts row e d fits h =
     let frame = are-frame db parts fits h.tables h.are_tables in
-    let within = lists-within db parts fits h.tables h.are_tables row h.lists h.are_lists in
-    let stored = lists-stored db parts fits h.tables h.are_tables row h.lists h.are_lists in
+    let within = lists-within db parts h.tables (frame-for db parts fits h.tables h.are_tables) row h.lists h.are_lists in
+    let stored = lists-stored db parts h.tables (frame-for db parts fits h.tables h.are_tables) row h.lists h.are_lists in
     let forced = certain_is_forced db parts row h.lists fits h.are_lists in
     let decided = lists_decide db h.tables h.lists h.encoded.formula d frame within stored h.encoded.is in (
       λ certain v s. decided.0 (forced.0 certain) v (subst (SatisfiesAll v) h.encoded.are s),

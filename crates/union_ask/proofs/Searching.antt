@@ -8,11 +8,11 @@ use Rattle.cqa_model.specs.Query.{value}
 use Rattle.cqa_model.specs.Unions.{AreParts, IsCertainIn, IsCandidateIn, IsUnionAnswer}
 use Rattle.cqa_model.proofs.Existence.{some_repair}
 use Rattle.row_sides.proofs.Sieving.{sifted-in, sifted-out, sifted-sorted}
-use Rattle.search_answers.specs.declared.search.Stop.{Stop}
-use Rattle.search_answers.specs.declared.search.Stop.TheVariants as stop
-use Rattle.search_answers.proofs.Sifted as sifted
-use Rattle.union_ask.specs.Parts.{AllFit, HasTooManyIn}
-use Rattle.union_ask.specs.Lookups.{HasLengthOf}
+use Rattle.part_search.specs.declared.searched.Stop.{Stop}
+use Rattle.part_search.specs.declared.searched.Stop.TheVariants as stop
+use Rattle.part_search.proofs.Sifted as sifted
+use Rattle.part_search.specs.Parts.{AllFit, HasTooManyIn}
+use Rattle.part_search.specs.Lookups.{HasLengthOf}
 use Rattle.union_ask.specs.Candidates.{AreCandidatesIn, IsPossibleUnionAnswer}
 use Rattle.union_ask.specs.Searching.{IsSpentIn, IsFirstOverIn, IsStopIn, IsStopAtIn, NoneBeforeIn, SiftsIn, SiftsAllIn}
 use Rattle.union_ask.proofs.Unions.{possible_is_candidate_in}

@@ -8,8 +8,8 @@ use Rattle.cqa_model.specs.Database.{Table}
 use Rattle.cqa_model.specs.Query.{atom_at}
 use Rattle.cqa_model.specs.Certain.{IsCandidate}
 use Rattle.cqa_model.specs.Unions.{IsCandidateIn}
-use Rattle.union_ask.specs.Candidates.{IsTableOf, IsTableIn}
-use Rattle.union_ask.proofs.Taking.{some-none, some-more, some-all, all-some}
+use Rattle.part_search.specs.Parts.{IsTableOf, IsTableIn}
+use Rattle.part_search.proofs.Taking.{some-none, some-more, some-all, all-some}
 
 -- ---- rows that are put in, one after the other
 

@@ -1,13 +1,13 @@
 -- The candidates of a union, and its tables.
-use Rattle.std.specs.Prelude.{◌≡◌, ℕ, ◌<◌, ◌↔◌, List, length, Contains}
+use Rattle.std.specs.Prelude.{ℕ, ◌↔◌, List, Contains}
 use Rattle.std.specs.List.Sorted.{IsStrictlySortedBy}
 use Rattle.std.specs.Ordering.{nat_cmp}
 use Rattle.cqa_value.specs.declared.value.Value.{Value}
 use Rattle.cqa_value.specs.Values.{row_cmp}
 use Rattle.cqa_model.specs.declared.query.Query.{Query}
 use Rattle.cqa_model.specs.Database.{Table}
-use Rattle.cqa_model.specs.Query.{atom_at}
 use Rattle.cqa_model.specs.Unions.{IsCandidateIn, IsPossibleIn}
+use Rattle.part_search.specs.Parts.{IsTableIn}
 
 -- exactly the candidates of some part, strictly ascending
 pub record AreCandidatesIn (db : List Table) (parts : List Query) (rows : List (List Value)) : Type 0 where
@@ -18,14 +18,6 @@ pub record AreCandidatesIn (db : List Table) (parts : List Query) (rows : List (
 pub record IsPossibleUnionAnswer (db : List Table) (parts : List Query) (answers : List (List Value)) : Type 0 where
   pub ascending : IsStrictlySortedBy row_cmp answers
   pub exactly : (row : List Value) → Contains answers row ↔ IsPossibleIn db parts row
-
--- the table is that of an atom of a query
-abbrev pub IsTableOf : Query → ℕ → Type 0
-IsTableOf q t = (F : ℕ) × (F < length q.atoms) × ((atom_at q F).table ≡ t)
-
--- and of some part
-abbrev pub IsTableIn : List Query → ℕ → Type 0
-IsTableIn parts t = (q : Query) × Contains parts q × IsTableOf q t
 
 -- exactly the tables of the parts, in the order of their creation
 pub record AreTablesIn (parts : List Query) (tables : List ℕ) : Type 0 where

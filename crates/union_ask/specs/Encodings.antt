@@ -6,7 +6,7 @@ use Rattle.cqa_model.specs.declared.query.RowId.{RowId}
 use Rattle.cqa_model.specs.Database.{Table}
 use Rattle.row_lists.specs.declared.formula.Encoded.{Encoded}
 use Rattle.row_lists.specs.Encodings.{IsListEncoded}
-use Rattle.union_ask.specs.Parts.{AreNamesIn}
+use Rattle.part_search.specs.Parts.{AreNamesIn}
 use Rattle.union_ask.specs.Candidates.{AreTablesIn}
 
 -- It is that of the lists of the parts' witnesses, part by part; its rows are numbered by tables in the order of their creation

@@ -1,11 +1,8 @@
-pub mod Once
-pub mod Parts
-pub mod Spoken
-pub mod Lookups
 pub mod Candidates
 pub mod Encodings
 pub mod Repairs
 pub mod Searching
-pub mod Judging
 pub mod Reasons
+pub mod Apart
 pub mod Laws
+pub mod Knowing

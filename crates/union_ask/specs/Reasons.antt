@@ -18,7 +18,7 @@ use Rattle.query_strategy.specs.declared.reason.Reason.TheVariants.{ByBlock, Rej
 use Rattle.query_strategy.specs.declared.reason.Untold.{Untold}
 use Rattle.query_strategy.specs.declared.reason.Untold.TheVariants.{Over, Spent}
 use Rattle.repair_back.specs.Results.{AreStored}
-use Rattle.union_ask.specs.Parts.{HasTooManyIn}
+use Rattle.part_search.specs.Parts.{HasTooManyIn}
 use Rattle.union_ask.specs.Encodings.{IsEncodedIn}
 use Rattle.union_ask.specs.Repairs.{AreRejectingRowsIn}
 use Rattle.union_ask.specs.Searching.{IsSpentIn}

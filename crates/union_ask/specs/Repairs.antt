@@ -9,7 +9,8 @@ use Rattle.cqa_model.specs.Unions.{HoldsSome}
 use Rattle.cqa_model.specs.Blocks.{IsPick}
 use Rattle.table_blocks.specs.Tables.{rows_at, key_at}
 use Rattle.repair_back.specs.Results.{AreKeptOver, IsTrueName, contested_of}
-use Rattle.union_ask.specs.Candidates.{AreTablesIn, IsTableIn}
+use Rattle.part_search.specs.Parts.{IsTableIn}
+use Rattle.union_ask.specs.Candidates.{AreTablesIn}
 
 -- a repair of the database keeps these rows of the union's tables, by tables in the order of their creation and then in block
 -- order

@@ -11,13 +11,11 @@ use Rattle.cnf_form.specs.declared.formula.Cnf.{Cnf}
 use Rattle.cnf_form.specs.declared.log.Log.{Log}
 use Rattle.cnf_form.specs.Spent.{IsSpentLog}
 use Rattle.row_sides.specs.Sifting.{Sifts, AreSifted}
-use Rattle.search_answers.specs.declared.judging.Verdict.{Verdict}
-use Rattle.search_answers.specs.declared.judging.Verdict.TheVariants as verdict
-use Rattle.search_answers.specs.declared.search.Stop.{Stop}
-use Rattle.search_answers.specs.declared.search.Stop.TheVariants as stop
-use Rattle.search_answers.specs.declared.search.Searched.{Searched}
-use Rattle.search_answers.specs.declared.search.Searched.TheVariants.{All, Stopped}
-use Rattle.union_ask.specs.Parts.{HasTooManyIn}
+use Rattle.part_search.specs.declared.searched.Stop.{Stop}
+use Rattle.part_search.specs.declared.searched.Stop.TheVariants as stop
+use Rattle.part_search.specs.declared.searched.Searched.{Searched}
+use Rattle.part_search.specs.declared.searched.Searched.TheVariants.{All, Stopped}
+use Rattle.part_search.specs.Parts.{HasTooManyIn}
 use Rattle.union_ask.specs.Encodings.{IsEncodedIn}
 
 -- the row is a candidate, and its formula has a spent log for the budget
@@ -50,13 +48,6 @@ IsSearchedIn db parts budget (All answers) = IsUnionAnswer db parts answers × I
 IsSearchedIn db parts budget (Stopped why) = IsStopIn db parts budget why
 
 -- ---- one row after the other
-
--- what is found out of a row
-abbrev pub IsVerdictIn : List Table → List Query → List Value → ℕ → Verdict → Type 0
-IsVerdictIn db parts row budget verdict.Certain = IsCertainIn db parts row × (HasTooManyIn parts db row → ⊥)
-IsVerdictIn db parts row budget verdict.Rejected = (IsCertainIn db parts row → ⊥) × (HasTooManyIn parts db row → ⊥)
-IsVerdictIn db parts row budget verdict.Over = HasTooManyIn parts db row
-IsVerdictIn db parts row budget (verdict.Spent cnf log) = IsSpentIn db parts budget row cnf log × (HasTooManyIn parts db row → ⊥)
 
 -- a search stops at this row
 abbrev pub IsStopAtIn : List Table → List Query → ℕ → List Value → Stop → Type 0

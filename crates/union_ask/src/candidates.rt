@@ -6,9 +6,9 @@ ghost use Rattle.cqa_model.specs.Certain.{IsCandidate};
 ghost use Rattle.cqa_model.specs.Unions.{IsCandidateIn};
 ghost use Rattle.union_ask.specs.Candidates.{AreCandidatesIn, IsPossibleUnionAnswer};
 
-use crate::bound_parts::BoundParts;
 use cqa_value::{Items, NoMemory, Row};
 use join_witness::candidates;
+use part_search::BoundParts;
 use row_answers::Answers;
 use std::alloc::Global;
 use table_blocks::Bound;

@@ -1,12 +1,12 @@
 //! The tables of a union, in the order of their creation: the frame in which its rows are numbered.
 
 ghost use Rattle.std.specs.Prelude.{◌≡◌, ◌⊎◌, ◌↔◌, ℕ, IfOk, Contains, length};
-ghost use Rattle.row_lists.specs.Formulas.{IsFrame};
-ghost use Rattle.union_ask.specs.Candidates.{AreTablesIn, IsTableOf, IsTableIn};
+ghost use Rattle.part_search.specs.Parts.{IsFrameFor, IsTableOf, IsTableIn};
+ghost use Rattle.union_ask.specs.Candidates.{AreTablesIn};
 
-use crate::bound_parts::BoundParts;
 use cqa_model::Query;
 use cqa_value::NoMemory;
+use part_search::BoundParts;
 use row_lists::{Frame, rising_frame};
 use std::alloc::Global;
 
@@ -37,7 +37,7 @@ fn all_tables(alloc: Global, parts: &[Query]) -> Result<Vec<u32>, NoMemory>
 ///
 /// `NoMemory` where memory is refused.
 pub(crate) fn union_frame(alloc: Global, parts: &BoundParts<'_>) -> Result<Frame, NoMemory>
-    ensures frame { IfOk result (λ frame. IsFrame parts.now.db.now frame.tables) }
+    ensures frame { IfOk result (λ frame. IsFrameFor parts.now.db.now parts.now.queries.now frame.tables) }
     ensures wide { IfOk result (λ frame. length frame.slots ≡ length parts.now.db.now) }
     ensures tables { IfOk result (λ frame. AreTablesIn parts.now.queries.now frame.tables) }
 {

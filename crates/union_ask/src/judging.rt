@@ -1,84 +1,188 @@
-//! What is found out of one candidate of a union: whether it is certain, and if that takes too long, why.
+//! What is found out of one candidate of a union: by what is known of its parts alone, or else by its formula.
 
-ghost use Rattle.std.specs.Prelude.{◌≡◌, ◌≤◌, IfOk, length};
+ghost use Rattle.std.specs.Prelude.{◌≡◌, ◌↔◌, ◌≤◌, IfOk, IfSome, IsTrue, length};
+ghost use Rattle.cqa_model.specs.Unions.{IsCertainIn};
 ghost use Rattle.join_access.specs.Listing.{names_of};
 ghost use Rattle.join_access.specs.declared.witness.TheConstants.{MOST_WITNESSES};
-ghost use Rattle.union_ask.specs.Judging.{IsScopeOf, Tells};
-ghost use Rattle.union_ask.specs.Lookups.{AreLookupsOf, HasLengthOf};
-ghost use Rattle.union_ask.specs.Parts.{AreNamesIn};
-ghost use Rattle.union_ask.specs.Searching.{IsVerdictIn};
+ghost use Rattle.part_search.specs.Judging.{IsScopeOf, IsVerdictOver};
+ghost use Rattle.part_search.specs.Lookups.{AreBoundsOf, AreLookupsOf, HasLengthOf, TellCandidates};
+ghost use Rattle.part_search.specs.Parts.{AreNamesIn};
+ghost use Rattle.union_ask.specs.Knowing.{AreKnownIn, IsSearchOf, IsVerdictOf};
 
-use crate::bound_parts::BoundParts;
-use crate::encoding::lists_over;
-use crate::gathering::gather;
+use crate::sharing::are_apart;
 use cqa_value::{Fail, NoMemory, Row};
 use join_witness::{Lookup, TooMany, Witness};
-use list_search::{Judged, Room, Scope, judge};
-use search_answers::Verdict;
+use known_rows::{KnownRows, known_rows};
+use list_search::{Room, Scope};
+use part_search::{BoundParts, Verdict, gather, judge_lists};
 use std::alloc::Global;
+use table_blocks::Bound;
 
-/// Of how many conflicts each search is at most, and room for a formula.
+/// By what the candidates of a union are decided, one after the other: of how many conflicts each search is at most, room for a
+/// formula, for each part whether the last row is a candidate of it, each part over the database, and the certain rows of each part
+/// alone that needs no search, from the first row on that asks for them.
 #[derive(Drop)]
-pub(crate) struct UnionSearch {
+pub(crate) struct UnionSearch<'a> {
     pub(crate) budget: u32,
     pub(crate) room: Room,
+    pub(crate) given: Vec<bool>,
+    pub(crate) bounds: &'a [Bound<'a>],
+    pub(crate) known: Option<KnownRows>,
 }
 
-/// What is found out of a row whose lists are judged.
-fn verdict_of(judged: Judged) -> Verdict
-    ensures { Tells judged result }
-{
-    match judged {
-        Judged::Forced => Verdict::Certain,
-        Judged::Avoided => Verdict::Rejected,
-        Judged::Spent { cnf, log } => Verdict::Spent { cnf, log },
+impl<'a> UnionSearch<'a> {
+    ghost use Rattle.std.specs.Prelude.{◌≡◌};
+
+    /// Searches of at most so many conflicts, before the first row. It takes no memory.
+    pub(crate) fn new(
+        alloc: Global,
+        _parts: &BoundParts<'_>,
+        bounds: &'a [Bound<'a>],
+        budget: u32,
+    ) -> UnionSearch<'a>
+        requires { AreBoundsOf _parts.now.db.now _parts.now.queries.now bounds.now }
+        ensures search { IsSearchOf _parts.now.db.now _parts.now.queries.now result }
+        ensures budget { result.budget ≡ budget }
+    {
+        UnionSearch {
+            budget,
+            room: Room::new(alloc),
+            given: Vec::new(alloc),
+            bounds,
+            known: None,
+        }
     }
 }
 
-/// What is found out of the row whose witnesses these are.
-fn judge_lists<'c, 'a: 'c, 'b: 'a>(
+/// Whether a candidate is certain, by the known rows of the parts alone; nothing where they don't tell it. A known row of a part is
+/// certain for the union. No other row is, where the rows of all parts of which it is a candidate are known and these parts share no
+/// table but strict ones.
+fn told_by(parts: &BoundParts<'_>, known: &KnownRows, given: &[bool], row: &Row) -> Option<bool>
+    requires known { AreKnownIn parts.now.db.now parts.now.queries.now known.now }
+    requires given { TellCandidates parts.now.db.now parts.now.queries.now row.now given.now }
+    ensures { IfSome result (λ is_certain. IsTrue is_certain ↔ IsCertainIn parts.now.db.now parts.now.queries.now row.now) }
+{
+    if known.is_among(given, row) {
+        return Some(true);
+    }
+    if !known.are_known(given) {
+        return None;
+    }
+    let is_apart = are_apart(parts.queries, given);
+    if is_apart { Some(false) } else { None }
+}
+
+/// Has the known rows of the parts made, where they aren't there yet.
+fn ask_known(
+    alloc: Global,
+    _parts: &BoundParts<'_>,
+    bounds: &[Bound<'_>],
+    known: &mut Option<KnownRows>,
+) -> Result<(), NoMemory>
+    requires bounds { AreBoundsOf _parts.now.db.now _parts.now.queries.now bounds.now }
+    requires known { IfSome known.old (AreKnownIn _parts.now.db.now _parts.now.queries.now) }
+    ensures { IfSome known.new (AreKnownIn _parts.now.db.now _parts.now.queries.now) }
+{
+    if known.is_some() {
+        return Ok(());
+    }
+    *known = Some(known_rows(alloc, bounds)?);
+    Ok(())
+}
+
+/// Whether the candidate that was looked up last is certain, by the known rows of the parts alone. With a budget of 0 they
+/// aren't asked for.
+fn told(
+    alloc: Global,
+    parts: &BoundParts<'_>,
+    search: &mut UnionSearch<'_>,
+    row: &Row,
+) -> Result<Option<bool>, NoMemory>
+    requires search { IsSearchOf parts.now.db.now parts.now.queries.now search.old }
+    requires given { TellCandidates parts.now.db.now parts.now.queries.now row.now search.old.given.items }
+    ensures search { IsSearchOf parts.now.db.now parts.now.queries.now search.new }
+    ensures budget { search.new.budget ≡ search.old.budget }
+    ensures told { IfOk result (λ told. IfSome told (λ is_certain. IsTrue is_certain ↔ IsCertainIn parts.now.db.now parts.now.queries.now row.now)) }
+{
+    if search.budget == 0 {
+        return Ok(None);
+    }
+    ask_known(alloc, parts, search.bounds, &mut search.known)?;
+    match &search.known {
+        Some(known) => Ok(told_by(parts, known, search.given.as_slice(), row)),
+        None => Ok(None),
+    }
+}
+
+/// What is found out of a candidate of which it is known whether it is certain.
+fn verdict_of(is_certain: bool) -> Verdict
+    ensures { IsVerdictOf is_certain result }
+{
+    if is_certain {
+        Verdict::Certain
+    } else {
+        Verdict::Rejected
+    }
+}
+
+/// What is found out of the candidate whose witnesses these are.
+fn judge_gathered<'c, 'a: 'c, 'b: 'a>(
     alloc: Global,
     parts: &BoundParts<'b>,
     scope: &'a Scope,
-    search: &mut UnionSearch,
+    search: &mut UnionSearch<'_>,
     lists: &'c [Witness],
     row: &Row,
 ) -> Result<Verdict, NoMemory>
     requires scope { IsScopeOf parts.now.db.now parts.now.queries.now scope.now }
+    requires search { IsSearchOf parts.now.db.now parts.now.queries.now search.old }
+    requires given { TellCandidates parts.now.db.now parts.now.queries.now row.now search.old.given.items }
     requires names { AreNamesIn parts.now.queries.now parts.now.db.now row.now (names_of lists.now) }
     requires few { length lists.now ≤ MOST_WITNESSES }
+    ensures search { IsSearchOf parts.now.db.now parts.now.queries.now search.new }
     ensures budget { search.new.budget ≡ search.old.budget }
-    ensures verdict { IfOk result (IsVerdictIn parts.now.db.now parts.now.queries.now row.now search.old.budget) }
+    ensures verdict { IfOk result (IsVerdictOver parts.now.db.now scope.now.frame.tables parts.now.queries.now row.now search.old.budget) }
 {
-    let lists = lists_over(alloc, parts, &scope.frame, lists, row)?;
-    let judged = judge(alloc, scope, &lists, search.budget, &mut search.room);
-    drop(lists);
-    Ok(verdict_of(judged?))
+    match told(alloc, parts, search, row)? {
+        Some(is_certain) => Ok(verdict_of(is_certain)),
+        None => judge_lists(
+            alloc,
+            parts,
+            scope,
+            search.budget,
+            &mut search.room,
+            lists,
+            row,
+        ),
+    }
 }
 
-/// What is found out of one row, by searches of at most as many conflicts each as the search has.
+/// What is found out of one row, by what is known of the parts alone, or else by searches of at most as many conflicts each as the
+/// search has.
 ///
 /// # Errors
 ///
 /// `NoMemory` where memory is refused.
-pub(crate) fn judge_row<'a, 'b: 'a>(
+pub(crate) fn judge_candidate<'a, 'b: 'a>(
     alloc: Global,
     parts: &BoundParts<'b>,
     scope: &'a Scope,
     lookups: &mut [Lookup<'_>],
-    search: &mut UnionSearch,
+    search: &mut UnionSearch<'_>,
     row: &Row,
 ) -> Result<Verdict, NoMemory>
     requires scope { IsScopeOf parts.now.db.now parts.now.queries.now scope.now }
     requires lookups { AreLookupsOf parts.now.db.now parts.now.queries.now lookups.old }
+    requires search { IsSearchOf parts.now.db.now parts.now.queries.now search.old }
     requires long { HasLengthOf parts.now.queries.now row.now }
     ensures lookups { AreLookupsOf parts.now.db.now parts.now.queries.now lookups.new }
+    ensures search { IsSearchOf parts.now.db.now parts.now.queries.now search.new }
     ensures budget { search.new.budget ≡ search.old.budget }
-    ensures verdict { IfOk result (IsVerdictIn parts.now.db.now parts.now.queries.now row.now search.old.budget) }
+    ensures verdict { IfOk result (IsVerdictOver parts.now.db.now scope.now.frame.tables parts.now.queries.now row.now search.old.budget) }
 {
-    match gather(alloc, parts, lookups, row) {
+    match gather(alloc, parts, lookups, row, &mut search.given) {
         Ok(lists) => {
-            let verdict = judge_lists(alloc, parts, scope, search, lists.as_slice(), row);
+            let verdict = judge_gathered(alloc, parts, scope, search, lists.as_slice(), row);
             drop(lists);
             verdict
         }

@@ -1,21 +1,6 @@
 //! The laws of unions, over the definitions alone. Each is what its function ensures.
 
-ghost use Rattle.union_ask.specs.Laws.{AloneDecides, ApartDecide, CertainIsForced, ClosedByParts, NamesOfParts, PossibleIsCandidateIn, UnionModelRejects, UnionsDecide};
-
-/// What stands in the lists of parts is exactly the names of their witnesses.
-pub fn names_of_parts()
-    ensures { NamesOfParts }
-{}
-
-/// A row is certain for a union exactly where every repair keeps one of its witnesses' lists whole.
-pub fn certain_is_forced()
-    ensures { CertainIsForced }
-{}
-
-/// The lists of a union are closed under exchange for rows that agree in the columns that are spoken of.
-pub fn closed_by_parts()
-    ensures { ClosedByParts }
-{}
+ghost use Rattle.union_ask.specs.Laws.{AloneDecides, ApartDecide, CandidatesDecide, PossibleIsCandidateIn, UnionModelRejects, UnionsDecide};
 
 /// A row that is a candidate of one part alone is certain for the union exactly where it is certain for this part.
 pub fn alone_decides()
@@ -27,7 +12,13 @@ pub fn possible_is_candidate_in()
     ensures { PossibleIsCandidateIn }
 {}
 
-/// Where no table that isn't strict is in two parts, a row is certain for the union only if it is certain for a part.
+/// Where no table that isn't strict is in two of the parts of which a row is a candidate, the row is certain for the union exactly
+/// where it is certain for a part.
+pub fn candidates_decide()
+    ensures { CandidatesDecide }
+{}
+
+/// A row that is certain for a part is certain for the union, and where no table that isn't strict is in two parts, no other row is.
 pub fn apart_decide()
     ensures { ApartDecide }
 {}

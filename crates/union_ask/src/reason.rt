@@ -1,50 +1,27 @@
 //! Why a row is certain for a union, or why it isn't: what the solver finds out of its formula.
 
-ghost use Rattle.std.specs.Prelude.{◌≡◌, IfErr, IfOk, length};
+ghost use Rattle.std.specs.Prelude.{IfErr, IfOk};
 ghost use Rattle.cdcl.specs.Outcomes.{IsModel};
-ghost use Rattle.join_access.specs.Listing.{IsOver, names_of};
+ghost use Rattle.join_access.specs.Listing.{IsOver};
+ghost use Rattle.part_search.specs.Lookups.{HasLengthOf};
+ghost use Rattle.part_search.specs.Parts.{HasTooManyIn};
 ghost use Rattle.repair_back.specs.Results.{AreStored};
-ghost use Rattle.union_ask.specs.Candidates.{AreTablesIn};
 ghost use Rattle.union_ask.specs.Encodings.{IsEncodedIn};
-ghost use Rattle.union_ask.specs.Lookups.{HasLengthOf};
-ghost use Rattle.union_ask.specs.Parts.{AreNamesIn, HasTooManyIn};
 ghost use Rattle.union_ask.specs.Reasons.{IsDecidedIn, IsReasonIn, IsStoppedIn};
 ghost use Rattle.union_ask.specs.Repairs.{AreRejectingRowsIn};
 
-use crate::bound_parts::BoundParts;
-use crate::encoding::lists_over;
-use crate::frame::union_frame;
-use crate::gathering::gathered;
+use crate::encoding::union_encode;
 use crate::repair::union_repair;
 use cdcl::Outcome;
 use cqa_model::RowId;
 use cqa_value::{Fail, Items, NoMemory, Row};
-use join_witness::{TooMany, Witness};
-use list_search::{Decided, decide};
+use join_witness::TooMany;
+use list_search::{Decided, solved_by_groups};
+use part_search::BoundParts;
 use query_strategy::{Reason, Untold};
 use repair_back::{Repair, chosen};
-use row_lists::{Encoded, Frame};
+use row_lists::Encoded;
 use std::alloc::Global;
-
-/// Decides whether every repair holds a witness of the row for some part, where these are its witnesses.
-fn decide_lists<'c, 'a: 'c, 'b: 'a>(
-    alloc: Global,
-    parts: &BoundParts<'b>,
-    frame: &'a Frame,
-    lists: &'c [Witness],
-    row: &Row,
-    budget: u32,
-) -> Result<Decided, NoMemory>
-    requires wide { length frame.now.slots ≡ length parts.now.db.now }
-    requires tables { AreTablesIn parts.now.queries.now frame.now.tables }
-    requires names { AreNamesIn parts.now.queries.now parts.now.db.now row.now (names_of lists.now) }
-    ensures { IfOk result (IsDecidedIn parts.now.db.now parts.now.queries.now row.now budget) }
-{
-    let lists = lists_over(alloc, parts, frame, lists, row)?;
-    let decided = decide(alloc, &lists, budget);
-    drop(lists);
-    decided
-}
 
 /// Decides whether every repair holds a witness of a row for some part, by searches of at most `budget` conflicts each.
 fn decide_row(
@@ -58,11 +35,9 @@ fn decide_row(
     ensures within { IfOk result (λ decided. HasTooManyIn parts.now.queries.now parts.now.db.now row.now → ⊥) }
     ensures over { IfErr result (IsOver (HasTooManyIn parts.now.queries.now parts.now.db.now row.now)) }
 {
-    let frame = union_frame(alloc, parts)?;
-    let lists = gathered(alloc, parts, row)?;
-    let decided = decide_lists(alloc, parts, &frame, lists.as_slice(), row, budget);
-    drop(lists);
-    Ok(decided?)
+    let formula = union_encode(alloc, parts, row)?;
+    let decided = solved_by_groups(alloc, formula, budget)?;
+    Ok(decided)
 }
 
 /// The repair that a model of a row's formula gives, by the rows that it had to choose.

@@ -4,10 +4,10 @@ ghost use Rattle.std.specs.Prelude.{◌≡◌, IfOk, length};
 ghost use Rattle.repair_back.specs.Results.{AreStored};
 ghost use Rattle.union_ask.specs.Repairs.{AreUnionPicks, IsUnionRepair};
 
-use crate::bound_parts::BoundParts;
 use crate::frame::union_frame;
 use cqa_model::RowId;
 use cqa_value::{Items, NoMemory};
+use part_search::BoundParts;
 use repair_back::tables_from_model;
 use std::alloc::Global;
 

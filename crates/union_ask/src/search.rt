@@ -1,21 +1,20 @@
-//! The certain rows of a union: each candidate is decided by its formula, ascending. The first one that can't be decided ends the
-//! search.
+//! The certain rows of a union: each candidate is decided by what is known of the parts alone, or else by its formula, ascending. The
+//! first one that can't be decided ends the search.
 
 ghost use Rattle.std.specs.Prelude.{◌≡◌, [], IfOk, IfSome, IsNone};
-ghost use Rattle.union_ask.specs.Candidates.{AreCandidatesIn};
-ghost use Rattle.union_ask.specs.Judging.{IsScopeOf};
-ghost use Rattle.union_ask.specs.Lookups.{AreBoundsOf, AreLookupsOf, HasLengthOf};
+ghost use Rattle.part_search.specs.Judging.{IsScopeOf};
+ghost use Rattle.part_search.specs.Lookups.{AreBoundsOf, AreLookupsOf, HasLengthOf};
+ghost use Rattle.union_ask.specs.Candidates.{AreCandidatesIn, AreTablesIn};
+ghost use Rattle.union_ask.specs.Knowing.{IsSearchOf};
 ghost use Rattle.union_ask.specs.Searching.{IsSearchedIn, IsStopIn, IsStopAtIn, SiftsIn, SiftsAllIn};
 
-use crate::bound_parts::BoundParts;
 use crate::candidates::union_candidates;
-use crate::judging::{UnionSearch, judge_row};
-use crate::lookups::{bounds_of, lookups_of};
-use crate::scope::union_scope;
+use crate::frame::union_frame;
+use crate::judging::{UnionSearch, judge_candidate};
 use cqa_value::{Items, NoMemory, Row};
 use join_witness::Lookup;
-use list_search::{Room, Scope};
-use search_answers::{Searched, Stop, Verdict};
+use list_search::Scope;
+use part_search::{BoundParts, Searched, Stop, Verdict, bounds_of, lookups_of, scope_over};
 use std::alloc::Global;
 use table_blocks::Bound;
 
@@ -25,19 +24,22 @@ fn sift<'a, 'b: 'a>(
     parts: &BoundParts<'b>,
     scope: &'a Scope,
     lookups: &mut [Lookup<'_>],
-    search: &mut UnionSearch,
+    search: &mut UnionSearch<'_>,
     row: Row,
     answers: &mut Vec<Row>,
 ) -> Result<Option<Stop>, NoMemory>
     requires scope { IsScopeOf parts.now.db.now parts.now.queries.now scope.now }
+    requires tables { AreTablesIn parts.now.queries.now scope.now.frame.tables }
     requires lookups { AreLookupsOf parts.now.db.now parts.now.queries.now lookups.old }
+    requires search { IsSearchOf parts.now.db.now parts.now.queries.now search.old }
     requires long { HasLengthOf parts.now.queries.now row }
     ensures lookups { AreLookupsOf parts.now.db.now parts.now.queries.now lookups.new }
+    ensures search { IsSearchOf parts.now.db.now parts.now.queries.now search.new }
     ensures budget { search.new.budget ≡ search.old.budget }
     ensures sifted { IfOk result (λ stop. IsNone stop → SiftsIn parts.now.db.now parts.now.queries.now row answers.old.items answers.new.items) }
     ensures stopped { IfOk result (λ stop. IfSome stop (IsStopAtIn parts.now.db.now parts.now.queries.now search.old.budget row)) }
 {
-    match judge_row(alloc, parts, scope, lookups, search, &row) {
+    match judge_candidate(alloc, parts, scope, lookups, search, &row) {
         Err(fault) => {
             drop(row);
             Err(fault)
@@ -61,12 +63,14 @@ fn sift_all<'a, 'b: 'a>(
     parts: &BoundParts<'b>,
     scope: &'a Scope,
     lookups: &mut [Lookup<'_>],
-    search: &mut UnionSearch,
+    search: &mut UnionSearch<'_>,
     rows: Vec<Row>,
     answers: &mut Vec<Row>,
 ) -> Result<Option<Stop>, NoMemory>
     requires scope { IsScopeOf parts.now.db.now parts.now.queries.now scope.now }
+    requires tables { AreTablesIn parts.now.queries.now scope.now.frame.tables }
     requires lookups { AreLookupsOf parts.now.db.now parts.now.queries.now lookups.old }
+    requires search { IsSearchOf parts.now.db.now parts.now.queries.now search.old }
     requires rows { AreCandidatesIn parts.now.db.now parts.now.queries.now rows.items }
     requires none { answers.old.items ≡ [] }
     ensures all { IfOk result (λ stop. IsNone stop → SiftsAllIn parts.now.db.now parts.now.queries.now rows.items answers.new.items) }
@@ -87,10 +91,12 @@ fn certain_of<'a, 'b: 'a>(
     parts: &BoundParts<'b>,
     scope: &'a Scope,
     lookups: &mut [Lookup<'_>],
-    search: &mut UnionSearch,
+    search: &mut UnionSearch<'_>,
 ) -> Result<Searched, NoMemory>
     requires scope { IsScopeOf parts.now.db.now parts.now.queries.now scope.now }
+    requires tables { AreTablesIn parts.now.queries.now scope.now.frame.tables }
     requires lookups { AreLookupsOf parts.now.db.now parts.now.queries.now lookups.old }
+    requires search { IsSearchOf parts.now.db.now parts.now.queries.now search.old }
     ensures { IfOk result (IsSearchedIn parts.now.db.now parts.now.queries.now search.old.budget) }
 {
     let rows = union_candidates(alloc, parts)?.into_vec();
@@ -118,19 +124,20 @@ fn certain_by(
     requires { AreBoundsOf parts.now.db.now parts.now.queries.now bounds.now }
     ensures { IfOk result (IsSearchedIn parts.now.db.now parts.now.queries.now budget) }
 {
-    let scope = union_scope(alloc, parts)?;
+    let frame = union_frame(alloc, parts)?;
+    let scope = scope_over(alloc, parts, frame)?;
     let mut lookups = lookups_of(alloc, parts, bounds)?;
-    let room = Room::new(alloc);
-    let mut search = UnionSearch { budget, room };
+    let mut search = UnionSearch::new(alloc, parts, bounds, budget);
     let found = certain_of(alloc, parts, &scope, lookups.as_mut_slice(), &mut search);
     drop(search);
     drop(lookups);
     found
 }
 
-/// The rows that are certain for a union, each candidate decided by its formula, by searches of at most `budget` conflicts each,
-/// ascending; or where the search stopped: at the first candidate with too many witnesses, or at one before it for which the budget
-/// doesn't suffice.
+/// The rows that are certain for a union, ascending: each candidate is decided by the certain rows of the parts alone that need no
+/// search, where these tell it and the budget isn't 0, or else by its formula, by searches of at most `budget` conflicts each; or
+/// where the search stopped: at the first candidate with too many witnesses, or at one before it for which the budget doesn't
+/// suffice.
 ///
 /// # Errors
 ///

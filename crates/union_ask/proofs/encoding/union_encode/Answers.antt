@@ -1,7 +1,9 @@
-use Rattle.union_ask.proofs.Parts.{not-over-lists}
+use Rattle.std.proofs.lemmas.Result.{IfOk-weaker}
+use Rattle.row_lists.specs.declared.formula.Encoded.{Encoded}
 use Rattle.union_ask.proofs.encoding.union_encode.Goals as goal
 
-pub returns-clause-within : goal.returns-clause-within
-returns-clause-within c =
-    let parts = c.args.parts.now in
-    not-over-lists parts.db.now c.args.row.now parts.queries.now c.in_ok-lists.lists.items c.in_ok-lists.ensures.names c.in_ok-lists.ensures.few
+pub returns-clause-encoded : goal.returns-clause-encoded
+returns-clause-encoded c =
+    IfOk-weaker c.encode_parts-encoded.result _ _
+    (λ (e : Encoded) h. record { tables = c.in_ok-frame.frame.tables; are_tables = c.in_ok-frame.ensures.tables; lists = h.lists; are_lists = h.are_lists; encoded = h.encoded })
+    c.encode_parts-encoded.ensures.encoded

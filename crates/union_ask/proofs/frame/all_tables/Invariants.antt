@@ -1,5 +1,5 @@
 use Rattle.std.proofs.Common.{◌↔◌, ℕ, Contains, take}
-use Rattle.union_ask.specs.Candidates.{IsTableIn}
+use Rattle.part_search.specs.Parts.{IsTableIn}
 use Rattle.union_ask.proofs.frame.all_tables.Given as goal
 
 -- the tables of the parts so far

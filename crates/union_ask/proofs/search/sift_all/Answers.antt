@@ -1,9 +1,9 @@
-use Rattle.std.proofs.Common.{◌∙◌, ℕ, List, refl, sym, subst, Option, Some, None}
+use Rattle.std.proofs.Common.{◌∙◌, ℕ, List, refl, sym, subst}
 use Rattle.std.specs.Option.{IfSome}
+use Rattle.std.proofs.lemmas.Option.{IfSome_then}
 use Rattle.std.proofs.lemmas.List.{nil_from_length}
 use Rattle.std.specs.Vec.Iter.{into_iter_items}
 use Rattle.cqa_value.specs.declared.value.Value.{Value}
-use Rattle.search_answers.specs.declared.search.Stop.{Stop}
 use Rattle.union_ask.specs.Candidates.{AreCandidatesIn}
 use Rattle.union_ask.specs.Searching.{IsStopIn, IsStopAtIn, SiftsAllIn}
 use Rattle.union_ask.proofs.Searching.{AreDecided, next-candidate, candidate-long, stop_is, decided-none, decided-more, decided-all}
@@ -15,6 +15,7 @@ loop-row-init c =
     record {
       decided = decided-none parts.db.now parts.queries.now (into_iter_items c.into_iter-row-iterator.result) c.args.answers.now.items c.requires.none;
       lookups = c.requires.lookups;
+      search = c.requires.search;
       budget = refl;
     }
 
@@ -27,10 +28,6 @@ sift-requires-clause-long c =
     let decided = subst (AreDecided parts.db.now parts.queries.now all c.loop-row.answers.items) c.in-Some.ensures.steps.0 c.loop-row.invariant.decided in
     candidate-long parts.db.now parts.queries.now parts.parts c.in-Some.row (next-candidate parts.db.now parts.queries.now all are c.loop-row.answers.items c.in-Some.row later decided)
 
-if-some : {P Q : Stop → Type 0} (o : Option Stop) → ((s : Stop) → P s → Q s) → IfSome o P → IfSome o Q
-if-some None f h = tt
-if-some (Some s) f h = f s h
-
 pub returns-then-is_some-clause-stopped : goal.returns-then-is_some-clause-stopped
 returns-then-is_some-clause-stopped c =
     let parts = c.args.parts.now in
@@ -41,7 +38,7 @@ returns-then-is_some-clause-stopped c =
     let are = subst (AreCandidatesIn parts.db.now parts.queries.now) (sym c.into_iter-row-iterator.ensures.into_iter_gives.0) c.requires.rows in
     let decided = subst (AreDecided parts.db.now parts.queries.now all c.loop-row.answers.items) c.in-Some.ensures.steps.0 c.loop-row.invariant.decided in
     let stopped = subst (λ (n : ℕ). IfSome c.in_ok-stop.stop (IsStopAtIn parts.db.now parts.queries.now n row)) c.loop-row.invariant.budget c.in_ok-stop.ensures.stopped in
-    if-some {P = IsStopAtIn parts.db.now parts.queries.now budget row} {Q = IsStopIn parts.db.now parts.queries.now budget} c.in_ok-stop.stop (stop_is parts.db.now parts.queries.now all are c.loop-row.answers.items row later decided budget) stopped
+    IfSome_then c.in_ok-stop.stop {P = IsStopAtIn parts.db.now parts.queries.now budget row} {Q = IsStopIn parts.db.now parts.queries.now budget} stopped (stop_is parts.db.now parts.queries.now all are c.loop-row.answers.items row later decided budget)
 
 pub loop-row-preserved : goal.loop-row-preserved
 loop-row-preserved c =
@@ -54,6 +51,7 @@ loop-row-preserved c =
     record {
       decided = decided-more parts.db.now parts.queries.now all are c.loop-row.answers.items row later decided c.sift.new.answers.items (c.in_ok-stop.ensures.sifted (sym c.is_some.ensures ∙ c.if-is_some.false));
       lookups = c.sift.ensures.lookups;
+      search = c.sift.ensures.search;
       budget = c.sift.ensures.budget ∙ c.loop-row.invariant.budget;
     }
 
