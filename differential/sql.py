@@ -3,8 +3,9 @@
 
     differential/sql.py [PROGRAM] [--seed S] [--count N] [--psql COMMAND]
 
-Each script has some tables, whose rows stand once or twice on the other engine, and queries: the rows of the printed SQL
-have to be those of `ask`, `sql` has to print `no plan` where `plan` does, and the same without any row in the tables. With
+Each script has some tables, whose rows stand once or twice on the other engine, and queries and unions of queries: the rows of
+the printed SQL have to be those of `ask`, `sql` has to print `no plan` where `plan` does, and the same without any row in the
+tables. A union has SQL exactly where all of its parts have plans and no table that isn't strict stands in two. With
 `--psql 'psql -d DATABASE'`, or another command that reads as psql does, PostgreSQL answers them too; nothing is left there.
 At the end stands how often each kind of query came. A difference prints the script and ends with status 1. Python 3.9
 and its library alone are needed.
@@ -23,14 +24,14 @@ try:
 except ImportError:
     sqlite3 = None
 
-from model import OPS, Query, Table, literal, order, row_text
+from model import OPS, Query, Table, Union, literal, order, row_text
 
 TOP = os.path.dirname(os.path.dirname(os.path.abspath(__file__)))
 PROGRAM = os.path.join(TOP, "crates", "cqa_cli", "out", "cqa_cli")
 LEAST, GREATEST = -2 ** 63, 2 ** 63 - 1
 TEXTS = ["", "a", "b", "o'b", 'say "b"', "\\", "\\n", "two\nlines", "é", "€", "\U0001f600", "zz", "--", ";"]
 WORDS = ["select", "order", "user", "table", "group", "from", "where", "key", "as", "with", "not", "values", "except", "one",
-         "certain", "h", "x1", "v0", "rows", "limit", "check", "end", "union"]
+         "certain", "h1", "y", "s", "v0", "rows", "limit", "check", "end", "union"]
 
 
 class Differs(Exception):
@@ -114,6 +115,29 @@ class Maker:
         return Query(tables, answer, joins, tests)
 
 
+    def union(self, tables):
+        """Two parts or more with answers of the same kinds, mostly over tables of their own, or over some strict ones besides."""
+        pick, left, parts = self.random, tables[:], []
+        for _ in range(pick.choice([2, 2, 2, 3, 4])):
+            part = self.query(left or tables, 3)
+            left = [table for table in left if table not in part.tables or table.strict]
+            parts.append(part)
+            if pick.random() < 0.1:
+                left = tables[:]
+        wanted = [kind_of(parts[0], column) for column in parts[0].answer]
+        for number, part in enumerate(parts[1:], 1):
+            columns = [(atom, place) for atom, table in enumerate(part.tables) for place in range(len(table.columns))]
+            fits = [[column for column in columns if kind_of(part, column) == kind] for kind in wanted]
+            if not all(fits):
+                return None
+            parts[number] = Query(part.tables, [pick.choice(of) for of in fits], part.joins, part.tests)
+        return Union(tables, parts)
+
+
+def kind_of(query, column):
+    return query.tables[column[0]].columns[column[1]][1]
+
+
 def kinds(query, printed, rows, features):
     """Counts what kinds of query this is."""
     variables, tables, plan = query.variables_of_columns(), query.tables, query.plan()
@@ -146,12 +170,16 @@ def kinds(query, printed, rows, features):
     counted(features, "a table with a conflict", any(len(block) > 1 for table in tables for block in table.blocks()))
     counted(features, "a certain row", bool(rows))
     counted(features, "no certain row", not rows)
-    steps = printed.split(' AS (\n')
-    counted(features, "a first run of several tables", ' AS x2' in steps[1])
-    counted(features, "a later run of several tables", any(step.count(" AS x") > 1 for name, step in zip(steps, steps[1:])
-                                                          if name.rpartition('"blocks ')[2].strip('"').isdigit() and not name.endswith('"blocks 1"')))
-    counted(features, "an empty context", any("SELECT DISTINCT 1 AS one" in step for name, step in zip(steps, steps[1:]) if not name.endswith('"holds 1"')))
-    counted(features, "no step `fit`", '"fit ' not in printed)
+    steps = printed.split(' AS (\n')[1:]
+    counted(features, "keys that an atom with few rows asks for", '"asked ' in printed)
+    counted(features, "contexts that are looked for first", '"blocks ' in printed)
+    counted(features, "several parts at the top", " CROSS JOIN " in steps[-1].rpartition("\nSELECT ")[2])
+    counted(features, "a step with several parts", any(step.count(" LEFT JOIN ") > 1 for step in steps))
+    counted(features, "a strict table without a group", any(' CROSS JOIN "holds ' in step and " GROUP BY " not in step for step in steps[:-1]))
+    counted(features, "a column off the key that a group shows", " = MAX(" in printed)
+    counted(features, "a step without columns", "SELECT 1 AS one" in printed or "SELECT DISTINCT 1 AS one" in printed)
+    counted(features, "groups that could have one row", any(step.startswith("  SELECT DISTINCT") and " GROUP BY " in step for step in steps))
+    counted(features, "a group without conditions", any(" GROUP BY " in step and " HAVING " not in step for step in steps))
 
 
 # Engines. Each answers the queries that the program printed, over the same tables.
@@ -233,8 +261,8 @@ def run(program, script):
 class Script:
     """Tables and queries, with the statements that make the tables."""
 
-    def __init__(self, tables, queries):
-        self.tables, self.queries = tables, queries
+    def __init__(self, tables, queries, unions=()):
+        self.tables, self.queries, self.unions = tables, queries, [union for union in unions if union]
 
     def creates(self):
         return ["create %stable %s;" % ("strict " if table.strict else "", table.schema()) for table in self.tables]
@@ -255,9 +283,22 @@ def replies(program, before, queries, verbs):
     return [found[at:at + len(verbs)] for at in range(1, len(marked), len(verbs))]
 
 
+def first_of(query):
+    """A query, or the first part of a union."""
+    return query.parts[0] if isinstance(query, Union) else query
+
+
+def without_text(union):
+    """Why a union has no text, or nothing."""
+    unplanned = [number for number, part in enumerate(union.parts, 1) if part.plan() is None]
+    if unplanned:
+        return "no plan part %d\n" % unplanned[0]
+    return "no sql parts %d and %d share %s\n" % (union.shared()[1], union.shared()[2], union.shared()[0].name) if union.shared() else ""
+
+
 def reply_of(query, rows):
     """What `ask` replies where these are the rows of an answer by another engine."""
-    if not query.answer:
+    if not first_of(query).answer:
         rows = [() for _ in rows]
     return "".join(row_text(row) + "\n" for row in sorted(rows, key=order)) + "%d rows\n" % len(rows)
 
@@ -270,8 +311,14 @@ def compare(program, engines, script, pick, features):
             raise Differs("%s\n-- sql:\n%s-- plan:\n%s" % (query.text(), printed, plan))
         counted(features, "no plan", plan == "no plan\n")
         planned += [(query, printed)] if plan != "no plan\n" else []
+    for union, (printed,) in zip(script.unions, replies(program, script.creates(), script.unions, ["sql"])):
+        why = without_text(union)
+        if why and printed != why:
+            raise Differs("%s\n-- sql:\n%s-- wanted:\n%s" % (union.text(), printed, why))
+        counted(features, "a union that " + ("has no text: " + why.split(" ")[1] if why else "has a text"))
+        planned += [(union, printed)] if not why else []
     answered = replies(program, script.creates() + script.inserts(), [query for query, _ in planned], ["sql", "ask"])
-    answer_kinds = [[query.tables[atom].columns[place][1] for atom, place in query.answer] or ["int"] for query, _ in planned]
+    answer_kinds = [[kind_of(first_of(query), column) for column in first_of(query).answer] or ["int"] for query, _ in planned]
     for engine in engines:
         found = engine.answers(script.tables, [printed for _, printed in planned], answer_kinds, pick)
         for (query, printed), (again, asked), rows in zip(planned, answered, found):
@@ -279,8 +326,9 @@ def compare(program, engines, script, pick, features):
                 raise Differs("%s\n-- without rows:\n%s-- with rows:\n%s" % (query.text(), printed, again))
             if reply_of(query, rows) != asked:
                 raise Differs("%s\n%s\n-- ask:\n%s-- %s:\n%s" % (query.text(), printed, asked, engine.name, reply_of(query, rows)))
-            if engine is engines[0]:
+            if engine is engines[0] and isinstance(query, Query):
                 kinds(query, printed, rows, features)
+            counted(features, "a certain row of a union", bool(rows) and isinstance(query, Union))
     return len(planned)
 
 
@@ -300,15 +348,14 @@ def random_script(seed):
     maker = Maker(seed)
     if seed % 8:
         tables = maker.tables(maker.random.choice([1, 2, 3, 3, 4, 4]), 4)
-        return maker.random, Script(tables, [maker.query(tables, 4) for _ in range(8)])
+        return maker.random, Script(tables, [maker.query(tables, 4) for _ in range(8)], [maker.union(tables) for _ in range(4)])
     tables = maker.tables(maker.random.randint(5, 12), 3)
     return maker.random, Script(tables, [maker.query(tables, 12) for _ in range(2)])
 
 
 def scripts(first, count, engines):
-    """The scripts of a run, each with the engines that it is for. The planner of SQLite takes long for all 192 columns."""
-    for engine in engines:
-        yield "widest", random.Random(first), widest(64 if isinstance(engine, Sqlite) else 192), [engine]
+    """The scripts of a run, each with the engines that it is for."""
+    yield "widest", random.Random(first), widest(192), engines
     for seed in range(first, first + count):
         yield (seed, *random_script(seed), engines)
 

@@ -1,9 +1,10 @@
 -- Comparisons of a row with what is known, and assignments of values to variables.
-use Rattle.std.proofs.Common.{◌≡◌, ℕ, suc, ◌<◌, ◌+◌, ◌⊎◌, inl, inr, true, false, List, [], ◌∷◌, ◌++◌, length, map, get_or, refl, ap, sym, ◌∙◌, subst, arith, eqb, cond, Contains, Option, Some, None}
+use Rattle.std.proofs.Common.{◌≡◌, ℕ, suc, ◌<◌, ◌≤◌, ◌+◌, ◌⊎◌, inl, inr, true, false, List, [], ◌∷◌, ◌++◌, length, map, get_or, refl, ap, sym, ◌∙◌, subst, arith, eqb, cond, Contains, Option, Some, None}
 use native.Mathlib.Decide.{ℕ_discrete}
 use Rattle.std.specs.List.{slice_index}
 use Rattle.std.specs.Option.{unwrap_or}
 use Rattle.std.proofs.lemmas.Bool.Decides.{nat_tests}
+use Rattle.std.proofs.lemmas.List.{length_push}
 use Rattle.std.proofs.lemmas.List.Elements.{Contains-append_left, Contains-append_right, Contains-append_cases}
 use Rattle.cqa_value.specs.declared.value.Value.{Value}
 use Rattle.cqa_model.proofs.Classic.{mem-head, mem-tail, mem-nil, mem-cases}
@@ -59,6 +60,54 @@ unknown (l ∷ ks) k v e m f = elim (find-cases l ks v) [
   | inr p ↦ elim (mem-cases k l ks m) [ inl g ↦ p.0 (ap (λ z. z.variable) g ∙ f) | inr n ↦ unknown ks k v (sym p.1 ∙ e) n f ]
 ]
 
+-- a cell that is found is that of a variable
+pub find-in : (ks : List Known) (v : ℕ) (c : Cell) → find ks v ≡ Some c → (k : Known) × Contains ks k × (k.cell ≡ c)
+find-in [] v c e = absurd (none≢some c e)
+find-in (k ∷ ks) v c e = elim (find-cases k ks v) [
+  | inl p ↦ let same : k.cell ≡ c = cc (p.1, e) in (k, mem-head k ks, same)
+  | inr p ↦ let r = find-in ks v c (sym p.1 ∙ e) in (r.0, mem-tail r.0 k ks r.1, r.2)
+]
+
+-- what is seen are cells of the columns
+seen-cells : (vs : List ℕ) (place : ℕ) (is : List ℕ) (s : Fitting) (k : Known) → Contains (see_all vs place is s).known k → Contains s.known k ⊎ ((i : ℕ) × Contains is i × (k.cell ≡ cell place i))
+seen-cells vs place [] s k m = inl m
+seen-cells vs place (i ∷ is) s k m = elim (seen-cells vs place is (see s (slice_index vs i) (cell place i)) k m) [
+  | inl n ↦ one (find s.known (slice_index vs i)) n
+  | inr n ↦ inr (n.0, mem-tail n.0 i is n.1, n.2)
+]
+  where
+    one : (found : Option Cell) → Contains (see_by s (slice_index vs i) (cell place i) found).known k → Contains s.known k ⊎ ((j : ℕ) × Contains (i ∷ is) j × (k.cell ≡ cell place j))
+    one None n = elim (Contains-append_cases s.known (record { variable = slice_index vs i; cell = cell place i } ∷ []) k n) [
+      | inl o ↦ inl o
+      | inr o ↦ elim (mem-cases k (record { variable = slice_index vs i; cell = cell place i }) [] o) [
+        | inl e ↦ inr (i, mem-head i is, ap (λ (z : Known). z.cell) (sym e))
+        | inr z ↦ absurd (mem-nil k z)
+      ]
+    ]
+    one (Some c) n = inl n
+
+-- the cell of a variable that is seen is one of the columns
+pub cell-seen : (vs : List ℕ) (place : ℕ) (is : List ℕ) (v : ℕ) → IsKnown (see_all vs place is (record { known = []; all = [] })).known v →
+    (i : ℕ) × Contains is i × (cell_of (see_all vs place is (record { known = []; all = [] })).known v ≡ cell place i)
+cell-seen vs place is v (c, e) =
+    let f = find-in (see_all vs place is (record { known = []; all = [] })).known v c e in
+    elim (seen-cells vs place is (record { known = []; all = [] }) f.0 f.1) [
+      | inl n ↦ absurd (mem-nil f.0 n)
+      | inr n ↦ (n.0, n.1, ap (λ (o : Option Cell). unwrap_or o (cell 0 0)) e ∙ sym f.2 ∙ n.2)
+    ]
+
+pub cell-seen-on : (vs : List ℕ) (place : ℕ) (is js : List ℕ) (v : ℕ) → IsKnown (see_all vs place js (record { known = (see_all vs place is (record { known = []; all = [] })).known; all = [] })).known v →
+    ((i : ℕ) × Contains is i × (cell_of (see_all vs place js (record { known = (see_all vs place is (record { known = []; all = [] })).known; all = [] })).known v ≡ cell place i))
+    ⊎ ((i : ℕ) × Contains js i × (cell_of (see_all vs place js (record { known = (see_all vs place is (record { known = []; all = [] })).known; all = [] })).known v ≡ cell place i))
+cell-seen-on vs place is js v (c, e) =
+    let first : List Known = (see_all vs place is (record { known = []; all = [] })).known in
+    let f = find-in (see_all vs place js (record { known = first; all = [] })).known v c e in
+    let same = ap (λ (o : Option Cell). unwrap_or o (cell 0 0)) e ∙ sym f.2 in
+    elim (seen-cells vs place js (record { known = first; all = [] }) f.0 f.1) [
+      | inl n ↦ elim (seen-cells vs place is (record { known = []; all = [] }) f.0 n) [ inl o ↦ absurd (mem-nil f.0 o) | inr o ↦ inl (o.0, o.1, same ∙ o.2) ]
+      | inr n ↦ inr (n.0, n.1, same ∙ n.2)
+    ]
+
 pub held-known : (place i : ℕ) (vs : List ℕ) (v : ℕ) → Contains vs v → IsKnown (held place i vs) v
 held-known place i [] v m = absurd (mem-nil v m)
 held-known place i (u ∷ us) v m = elim (find-cases (record { variable = u; cell = cell place i }) (held place (suc i) us) v) [
@@ -67,7 +116,7 @@ held-known place i (u ∷ us) v m = elim (find-cases (record { variable = u; cel
 ]
 
 -- the places that hold variables of a list
-held-at : (place i : ℕ) (vs : List ℕ) (k : Known) → Contains (held place i vs) k → (j : ℕ) × (j < length vs) × (k.cell ≡ cell place (i + j)) × (k.variable ≡ get_or vs j 0)
+pub held-at : (place i : ℕ) (vs : List ℕ) (k : Known) → Contains (held place i vs) k → (j : ℕ) × (j < length vs) × (k.cell ≡ cell place (i + j)) × (k.variable ≡ get_or vs j 0)
 held-at place i [] k m = absurd (mem-nil k m)
 held-at place i (u ∷ us) k m = elim (mem-cases k (record { variable = u; cell = cell place i }) (held place (suc i) us) m) [
   | inl e ↦ (0, omega arith, ap (λ z. z.cell) (sym e) ∙ ap (cell place) (omega arith), ap (λ z. z.variable) (sym e))
@@ -97,9 +146,6 @@ module _ (w : List (List Value)) where
       go None e = absurd (none≢some h.0 (sym e ∙ h.1))
       go (Some c) e = ap (λ (o : Option Cell). cell_value w (unwrap_or o (cell 0 0))) e ∙ find-right env known v c r e
 
-  pub cell_of-found : (env : ℕ → Value) (known ks : List Known) (v : ℕ) (c : Cell) → IsRight env known → find known v ≡ Some c → find ks v ≡ Some c → cell_value w (cell_of ks v) ≡ env v
-  cell_of-found env known ks v c r h g = ap (λ (o : Option Cell). cell_value w (unwrap_or o (cell 0 0))) g ∙ find-right env known v c r h
-
   pub cells-right : (env : ℕ → Value) (known : List Known) (vs : List ℕ) → IsRight env known → ((v : ℕ) → Contains vs v → IsKnown known v) → map (cell_value w) (cells_of known vs) ≡ map env vs
   cells-right env known [] r h = refl
   cells-right env known (v ∷ vs) r h =
@@ -128,16 +174,6 @@ module _ (w : List (List Value)) where
   see_all-keeps vs place [] s h = h
   see_all-keeps vs place (i ∷ is) s h =
       see_by-keeps s (slice_index vs i) (cell place i) (find s.known (slice_index vs i)) (see_all-keeps vs place is (see s (slice_index vs i) (cell place i)) h)
-
-  -- the cell of a known variable stays
-  see_by-find : (s : Fitting) (v : ℕ) (c : Cell) (found : Option Cell) (u : ℕ) (d : Cell) → find s.known u ≡ Some d → find (see_by s v c found).known u ≡ Some d
-  see_by-find s v c None u d h = find-append s.known (record { variable = v; cell = c }) u d h
-  see_by-find s v c (Some b) u d h = h
-
-  pub see_all-find : (vs : List ℕ) (place : ℕ) (is : List ℕ) (s : Fitting) (u : ℕ) (d : Cell) → find s.known u ≡ Some d → find (see_all vs place is s).known u ≡ Some d
-  see_all-find vs place [] s u d h = h
-  see_all-find vs place (i ∷ is) s u d h =
-      see_all-find vs place is (see s (slice_index vs i) (cell place i)) u d (see_by-find s (slice_index vs i) (cell place i) (find s.known (slice_index vs i)) u d h)
 
   -- what is known stays known, and the columns' variables are known
   see_by-known : (s : Fitting) (v : ℕ) (c : Cell) (found : Option Cell) (u : ℕ) → IsKnown s.known u → IsKnown (see_by s v c found).known u
@@ -253,3 +289,28 @@ module _ (w : List (List Value)) where
 
           e : (e : ℕ → Value) × Continues (update env v x) vs place is (see_by s v c None) e
           e = next (see_by s v c None) (update env v x) right m
+
+-- where a column's variable is known, something is compared
+see_all-longer : (vs : List ℕ) (place : ℕ) (is : List ℕ) (s : Fitting) → length s.all ≤ length (see_all vs place is s).all
+see_all-longer vs place [] s = omega arith
+see_all-longer vs place (i ∷ is) s =
+    let rest = see_all-longer vs place is (see s (slice_index vs i) (cell place i)) in
+    let one = go (find s.known (slice_index vs i)) in
+    omega (arith, rest, one)
+  where
+    go : (found : Option Cell) → length s.all ≤ length (see_by s (slice_index vs i) (cell place i) found).all
+    go None = omega arith
+    go (Some d) = omega (arith, length_push s.all (Same (cell place i) d))
+
+pub see_all-some : (vs : List ℕ) (place : ℕ) (is : List ℕ) (s : Fitting) (i : ℕ) → Contains is i → IsKnown s.known (slice_index vs i) → 0 < length (see_all vs place is s).all
+see_all-some vs place [] s i m k = absurd (mem-nil i m)
+see_all-some vs place (j ∷ is) s i m k = elim (mem-cases i j is m) [
+  | inl e ↦
+      let rest = see_all-longer vs place is (see s (slice_index vs j) (cell place j)) in
+      let one = here (subst (λ z. IsKnown s.known (slice_index vs z)) (sym e) k) in
+      omega (arith, rest, one)
+  | inr n ↦ see_all-some vs place is (see s (slice_index vs j) (cell place j)) i n (see_all-known [] vs place (j ∷ []) s (slice_index vs i) k)
+]
+  where
+    here : IsKnown s.known (slice_index vs j) → 0 < length (see s (slice_index vs j) (cell place j)).all
+    here (d, e) = subst (λ o. 0 < length (see_by s (slice_index vs j) (cell place j) o).all) (sym e) (omega (arith, length_push s.all (Same (cell place j) d)))

@@ -1,8 +1,8 @@
 -- Steps of the code.
-use Rattle.std.proofs.Common.{◌≡◌, ℕ, suc, ◌<◌, ◌+◌, Bool, false, cond, List, [], ◌∷◌, ◌++◌, length, refl, ap, sym, ◌∙◌, subst, map, get_or, arith, Contains}
-use Rattle.std.specs.List.{All, range_with_len}
-use Rattle.std.proofs.lemmas.List.{map-id, get_or_default}
-use Rattle.std.proofs.lemmas.List.Elements.{Contains-get_or}
+use Rattle.std.proofs.Common.{◌≡◌, ℕ, zero, suc, ◌<◌, ◌+◌, ◌-◌, Bool, true, false, cond, Some, drop, List, [], ◌∷◌, ◌++◌, length, refl, ap, sym, ◌∙◌, subst, map, get_or, arith, Contains}
+use Rattle.std.specs.List.{All, filter, range_with_len, slice_index}
+use Rattle.std.proofs.lemmas.List.{append_assoc, map-id, map-append, get_or_default}
+use Rattle.std.proofs.lemmas.List.Elements.{Contains-get_or, filter-append}
 use Rattle.std.proofs.lemmas.List.FromFn.{map-range_with_len_more, length-map-range_with_len}
 use Rattle.cqa_model.specs.declared.query.Atom.{Atom}
 use Rattle.cqa_model.specs.declared.query.ColRef.{ColRef}
@@ -18,11 +18,14 @@ use Rattle.cqa_model.specs.Plan.{IsPlanOf}
 use Rattle.cqa_model.proofs.Elimination.{plan-eliminates}
 use Rattle.fo_rewrite.proofs.Distinct.{plan-atoms}
 use Rattle.plan_sql.specs.Shapes.{AreAtoms}
-use Rattle.plan_sql.specs.Variables.{all_below, variables_of}
-use Rattle.plan_sql.specs.Runs.{add_all, run_of}
-use Rattle.plan_sql.specs.Statement.{columns_of, others_of}
+use Rattle.plan_sql.specs.Variables.{all_below, has, key_variables, meets, variables_of}
+use Rattle.plan_sql.specs.declared.fitting.Fitting.{Fitting}
+use Rattle.plan_sql.specs.declared.fitting.Known.{Known}
+use Rattle.plan_sql.specs.declared.part.Bound.{Bound}
+use Rattle.plan_sql.specs.declared.part.Part.{Part}
+use Rattle.plan_sql.specs.Statement.{bound_for, cell, cell_of, cells_at, columns_of, is_bound, others_of, see, see_all}
+use Rattle.sql_text.specs.declared.syntax.Within.{Within}
 use Rattle.plan_sql.proofs.Membership.{columns-from, without-from}
-use Rattle.plan_sql.proofs.Running.{run-within}
 
 pub below-none : all_below 0 ≡ []
 unfolding all_below
@@ -63,12 +66,6 @@ atoms-head q plan F later e h = subst (AreAtoms q) e h 0 (omega arith)
 pub atoms-tail : (q : Query) (plan : List ℕ) (F : ℕ) (later : List ℕ) → plan ≡ F ∷ later → AreAtoms q plan → AreAtoms q later
 atoms-tail q plan F later e h i l = subst (AreAtoms q) e h (suc i) (omega (arith, l))
 
-pub atoms-run : (q : Query) (given : Bool) (context plan run : List ℕ) → run ≡ run_of q given context plan → AreAtoms q plan → AreAtoms q run
-atoms-run q given context plan run e h i l =
-    let m : Contains (run_of q given context plan) (get_or run i 0) = subst (λ z. Contains z (get_or run i 0)) e (Contains-get_or run i 0 l) in
-    let n : Contains plan (get_or run i 0) = run-within q context (add_all (cond given (context ∷ []) []) (map (variables_of q) plan)) plan (cond given (context ∷ []) []) (get_or run i 0) m in
-    subst (λ z. z < length q.atoms) (get_or_default plan n.0 0 (get_or run i 0) n.1 ∙ n.2) (h n.0 n.1)
-
 pub variables-length : (q : Query) (F : ℕ) (vs : List ℕ) → vs ≡ variables_of q F → length vs ≡ (atom_at q F).width
 variables-length q F vs e = ap length e ∙ length-map-range_with_len (λ (i : ℕ). label q.conds (record { atom = F; col = i })) 0 (atom_at q F).width
 
@@ -90,3 +87,73 @@ variables-more q v hv F col x list new lF lc el en ex =
 
 pub same2 : {A B C : Type 0} (f : A → B → C) (a a' : A) (b b' : B) → a ≡ a' → b ≡ b' → f a b ≡ f a' b'
 same2 f a a' b b' p q = ap (λ z. f z b) p ∙ ap (λ z. f a' z) q
+
+-- the columns of a source, whose variables these are, seen one after the other
+pub see-first : (vs : List ℕ) (place : ℕ) (fitting : Fitting) → see_all vs place (range_with_len 0 (length vs - 0)) fitting ≡ see_all vs place (all_below (length vs)) fitting
+unfolding all_below
+see-first vs place fitting =
+    let all : length vs - 0 ≡ length vs = omega arith in
+    ap (λ n. see_all vs place (range_with_len 0 n) fitting) all
+
+pub see-next : (vs : List ℕ) (place column n : ℕ) (before now : Fitting) → column < n → now ≡ see before (slice_index vs column) (cell place column) →
+    see_all vs place (range_with_len (column + 1) (n - (column + 1))) now ≡ see_all vs place (range_with_len column (n - column)) before
+see-next vs place column n before now l e =
+    let left : n - column ≡ suc (n - (column + 1)) = omega (arith, l) in
+    ap (λ z. see_all vs place (range_with_len (column + 1) (n - (column + 1))) z) e
+    ∙ sym (ap (λ z. see_all vs place (range_with_len column z) before) left)
+
+-- one more atom with few rows
+pub bounds-more : (q : Query) (F : ℕ) (only : List Within) (bounds : List Bound) → F < length q.atoms → All (λ (b : Bound). b.atom < length q.atoms) bounds →
+    All (λ (b : Bound). b.atom < length q.atoms) (cond (is_bound q F only) (record { atom = F; only = only } ∷ bounds) bounds)
+bounds-more q F only bounds l all = by_bound (is_bound q F only)
+  where
+    behind : All (λ (b : Bound). b.atom < length q.atoms) (record { atom = F; only = only } ∷ bounds)
+    behind zero d n = l
+    behind (suc k) d n = all k d (omega (arith, n))
+
+    by_bound : (b : Bool) → All (λ (b : Bound). b.atom < length q.atoms) (cond b (record { atom = F; only = only } ∷ bounds) bounds)
+    by_bound true = behind
+    by_bound false = all
+
+pub range-more : (n : ℕ) → range_with_len 0 (n + 1) ≡ range_with_len 0 n ++ n ∷ []
+range-more n = rw (← map-id (range_with_len 0 (n + 1)), ← map-id (range_with_len 0 n)) (map-range_with_len_more (λ z. z) 0 n n (omega arith))
+
+-- the first so many columns of a part, as far as they are of these variables, as columns whose values are in its contexts
+abbrev pub part_so_far : List ℕ → List Known → Part → ℕ → List Within
+part_so_far vs known part n =
+    map (λ j. record { cell = cell_of known (slice_index part.columns j); step = part.step; column = j })
+    (filter (λ j. has vs (slice_index part.columns j)) (range_with_len 0 n))
+
+-- one more
+pub part-pushed : (vs : List ℕ) (known : List Known) (part : Part) (n : ℕ) (old before now : List Within) → before ≡ old ++ part_so_far vs known part n →
+    now ≡ before ++ cond (has vs (slice_index part.columns n)) (record { cell = cell_of known (slice_index part.columns n); step = part.step; column = n } ∷ []) [] →
+    now ≡ old ++ part_so_far vs known part (n + 1)
+part-pushed vs known part n old before now b e =
+    e ∙ ap (λ z. z ++ cond (test n) (shown n ∷ []) []) b ∙ append_assoc old (part_so_far vs known part n) (cond (test n) (shown n ∷ []) []) ∙ ap (λ z. old ++ z) (sym more)
+  where
+    shown : ℕ → Within
+    shown j = record { cell = cell_of known (slice_index part.columns j); step = part.step; column = j }
+
+    test : ℕ → Bool
+    test j = has vs (slice_index part.columns j)
+
+    one : (b : Bool) → map shown (cond b (n ∷ []) []) ≡ cond b (shown n ∷ []) []
+    one true = refl
+    one false = refl
+
+    more : part_so_far vs known part (n + 1) ≡ part_so_far vs known part n ++ cond (test n) (shown n ∷ []) []
+    more =
+        ap (λ z. map shown (filter test z)) (range-more n) ∙ ap (map shown) (filter-append test (range_with_len 0 n) (n ∷ []))
+        ∙ map-append shown (filter test (range_with_len 0 n)) (filter test (n ∷ [])) ∙ ap (λ z. part_so_far vs known part n ++ z) (one (test n))
+
+-- the cells of one more column
+pub cells-more : (place n : ℕ) → cells_at place (all_below (n + 1)) ≡ cells_at place (all_below n) ++ cell place n ∷ []
+cells-more place n = ap (λ z. cells_at place z) (below-more n) ∙ map-append (λ i. cell place i) (all_below n) (n ∷ [])
+
+-- the first atom with few rows that has a variable of a key
+pub bound-found : (q : Query) (F i : ℕ) (bounds : List Bound) (bound d : Bound) → i < length bounds → bound ≡ get_or bounds i d →
+    meets (variables_of q bound.atom) (key_variables q F) ≡ true → bound_for q (drop i bounds) F ≡ Some bound
+bound-found q F i [] bound d l e m = absurd (omega (arith, l))
+bound-found q F zero (b ∷ bounds) bound d l e m =
+    ap (λ z. cond z (Some b) (bound_for q bounds F)) (subst (λ (z : Bound). meets (variables_of q z.atom) (key_variables q F) ≡ true) e m) ∙ ap Some (sym e)
+bound-found q F (suc i) (b ∷ bounds) bound d l e m = bound-found q F i bounds bound d (omega (arith, l)) e m

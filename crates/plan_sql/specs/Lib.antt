@@ -1,5 +1,4 @@
 pub mod Shapes
 pub mod Variables
-pub mod Runs
 pub mod Statement
 pub mod Laws

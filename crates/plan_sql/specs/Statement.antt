@@ -1,40 +1,40 @@
--- The SQL query of a plan. Each atom has steps downwards, from the blocks that may hold to the rows after which the later
--- atoms have to hold, and upwards, from the rows that fail to the contexts that hold. The context of an atom is the list of
--- the variables that are known before it and occur in it or in a later one.
-use Rattle.std.specs.Prelude.{◌≡◌, ℕ, suc, ◌-◌, ◌==◌, ◌&&◌, if◌then◌else◌, List, [], ◌∷◌, ◌++◌, length, map, slice_index, Option, Some, None, is_some, flat_map}
-use Rattle.std.specs.List.{range_with_len}
+-- The SQL query of a plan. From the last atom to the first, each atom is the first of a part: those of the later parts that
+-- have a variable of it which isn't known before it hang on it, and it has the step of the contexts in which the part holds.
+-- A context is a list of values of the variables that are known before the atom and occur in the part. Where an atom before
+-- has few rows, an atom first asks for the keys that they name.
+use Rattle.std.specs.Prelude.{ℕ, suc, ◌-◌, ◌==◌, ◌&&◌, ◌||◌, not, Bool, true, false, if◌then◌else◌, List, [], ◌∷◌, ◌++◌, length, map, slice_index, Option, Some, None, flat_map}
+use Rattle.std.specs.List.{range_with_len, filter, list_any}
 use Rattle.std.specs.Option.{unwrap_or}
+use Rattle.cqa_model.specs.declared.query.Op.TheVariants.{Eq, Ne, Lt, Le, Gt, Ge}
 use Rattle.cqa_model.specs.declared.query.Cond.{Cond}
 use Rattle.cqa_model.specs.declared.query.Cond.TheVariants.{Join, Test}
 use Rattle.cqa_model.specs.declared.query.Query.{Query}
 use Rattle.cqa_model.specs.Query.{atom_at, atom_key}
 use Rattle.sql_text.specs.declared.syntax.Source.TheVariants.{Table, Step as Earlier}
-use Rattle.sql_text.specs.declared.syntax.Alias.{Alias}
-use Rattle.sql_text.specs.declared.syntax.Alias.TheVariants.{Joined, Block, Member, Before, Held, Good as GoodOne}
+use Rattle.sql_text.specs.declared.syntax.Alias.TheVariants.{Member, Context, Held}
 use Rattle.sql_text.specs.declared.syntax.Listed.{Listed}
 use Rattle.sql_text.specs.declared.syntax.Cell.{Cell}
 use Rattle.sql_text.specs.declared.syntax.Cmp.{Cmp}
 use Rattle.sql_text.specs.declared.syntax.Cmp.TheVariants.{Same, Test as Compare}
+use Rattle.sql_text.specs.declared.syntax.Within.{Within}
 use Rattle.sql_text.specs.declared.syntax.Select.{Select}
+use Rattle.sql_text.specs.declared.syntax.Child.{Child}
+use Rattle.sql_text.specs.declared.syntax.Group.{Group}
 use Rattle.sql_text.specs.declared.syntax.Body.{Body}
-use Rattle.sql_text.specs.declared.syntax.Body.TheVariants.{Distinct, Except}
+use Rattle.sql_text.specs.declared.syntax.Body.TheVariants.{Distinct, Grouped}
 use Rattle.sql_text.specs.declared.syntax.StepKind.{StepKind}
-use Rattle.sql_text.specs.declared.syntax.StepKind.TheVariants.{Blocks, Fit, Rows, Fails, Good, Holds}
+use Rattle.sql_text.specs.declared.syntax.StepKind.TheVariants.{Asked, Blocks, Holds}
 use Rattle.sql_text.specs.declared.syntax.Step.{Step}
 use Rattle.sql_text.specs.declared.syntax.Sql.{Sql}
 use Rattle.plan_sql.specs.declared.fitting.Known.{Known}
 use Rattle.plan_sql.specs.declared.fitting.Fitting.{Fitting}
-use Rattle.plan_sql.specs.declared.level.Level.{Level}
-use Rattle.plan_sql.specs.Variables.{has, within, without, all_below, ascending, variables_of, key_variables, answer_variables}
-use Rattle.plan_sql.specs.Runs.{run_of}
+use Rattle.plan_sql.specs.declared.part.Part.{Part}
+use Rattle.plan_sql.specs.declared.part.Bound.{Bound}
+use Rattle.plan_sql.specs.Variables.{has, meets, covers, within, without, all_below, ascending, variables_of, key_variables, answer_variables}
 
 -- the cell of a column of the source at a place
 abbrev pub cell : ℕ → ℕ → Cell
 cell place column = record { place = place; column = column }
-
--- the first so many columns of the first source
-abbrev pub first_cells : ℕ → List Cell
-first_cells n = map (λ i. cell 0 i) (range_with_len 0 n)
 
 -- a source that has these variables as its columns
 abbrev pub held : ℕ → ℕ → List ℕ → List Known
@@ -90,156 +90,225 @@ columns_of q F = all_below (atom_at q F).width
 abbrev pub others_of : Query → ℕ → List ℕ
 others_of q F = without (columns_of q F) (atom_key q F)
 
--- rows of these atoms fit what is known, each also what is known by those before it
-abbrev pub fit_each : Query → ℕ → List ℕ → Fitting → Fitting
-fit_each q place [] fitting = fitting
-fit_each q place (F ∷ Fs) fitting = fit_each q (suc place) Fs (fit_on q F place (columns_of q F) fitting)
+-- the first source of a step of F: its table
+abbrev pub member : ℕ → Listed
+member F = record { source = Table F; alias = Member }
 
--- the tables of these atoms, each named by its number in the plan
-abbrev pub tables_of : ℕ → List ℕ → List Listed
-tables_of number [] = []
-tables_of number (F ∷ Fs) = record { source = Table F; alias = Joined number } ∷ tables_of (suc number) Fs
+-- the cells of these columns of a source
+abbrev pub cells_at : ℕ → List ℕ → List Cell
+cells_at place columns = map (λ i. cell place i) columns
 
--- the source of the contexts that are asked for: the rows of the atom before, where there is a context
-abbrev pub asked : Option ℕ → List Listed
-asked None = []
-asked (Some place) = record { source = Earlier place; alias = Before } ∷ []
+-- a row of F at place 0 fits what is known, on the columns of its key
+abbrev pub keyed : Query → ℕ → List Known → Fitting
+keyed q F known = fit_on q F 0 (atom_key q F) (record { known = known; all = [] })
 
--- what is known of them
-abbrev pub asked_known : Option ℕ → List ℕ → List Known
-asked_known None given = []
-asked_known (Some place) given = held 0 0 given
+-- and on its other columns
+abbrev pub fitted : Query → ℕ → List Known → Fitting
+fitted q F known = fit_on q F 0 (others_of q F) (record { known = (keyed q F known).known; all = [] })
 
--- the atom at hand: its number in the plan, its place in the query, the step in which its contexts are asked for with that
--- step's variables, the variables of its context, and those of a block of a context
-abbrev pub level_of : Query → ℕ → Option ℕ → List ℕ → List ℕ → ℕ → Level
-level_of q number rows given context F =
-    record { number = number; atom = F; rows = rows; given = given; context = context; block = context ++ without (ascending (key_variables q F)) context }
+-- a part's context at a place is compared with what is known, or is known from then on
+abbrev pub see_part : ℕ → Part → List Known → Fitting
+see_part place part known = see_all part.columns place (all_below (length part.columns)) (record { known = known; all = [] })
 
--- a level is that of its atom
-abbrev pub IsLevel : Query → Level → Type 0
-IsLevel q level = level ≡ level_of q level.number level.rows level.given level.context level.atom
+-- the step of a part as a source
+abbrev pub part_source : Part → Listed
+part_source part = record { source = Earlier part.step; alias = Held part.number }
 
--- `blocks`: for each context that is asked for, the blocks with a row that fits
-abbrev pub blocks_select : Query → Level → List ℕ → Select
-blocks_select q level run =
-    let fitting = fit_each q (length (asked level.rows)) run (record { known = asked_known level.rows level.given; all = [] }) in
-    record { cells = cells_of fitting.known level.block; sources = asked level.rows ++ tables_of level.number run; all = fitting.all; but = [] }
+-- these parts as children, from a place on
+abbrev pub children_of : ℕ → List Part → List Known → List Child
+children_of place [] known = []
+children_of place (part ∷ parts) known =
+    let seen = see_part place part known in record { listed = part_source part; on = seen.all } ∷ children_of (suc place) parts seen.known
 
--- the first so many columns of a step
-abbrev pub plain : ℕ → ℕ → Alias → Select
-plain n place alias = record { cells = first_cells n; sources = record { source = Earlier place; alias = alias } ∷ []; all = []; but = [] }
+-- what is known behind them
+abbrev pub known_of : ℕ → List Part → List Known → List Known
+known_of place [] known = known
+known_of place (part ∷ parts) known = known_of (suc place) parts (see_part place part known).known
 
--- what is known of a row of F whose block is known: its key's values are the block's
-abbrev pub keyed : Query → Level → Fitting
-keyed q level = see_all (variables_of q level.atom) 1 (atom_key q level.atom) (record { known = held 0 0 level.block; all = [] })
+-- the comparisons of children, all together
+abbrev pub on_of : List Child → List Cmp
+on_of children = flat_map (λ (c : Child). c.on) children
 
--- what a row of a known block has to meet besides
-abbrev pub fitting_of : Query → Level → List Cmp
-fitting_of q level = (fit_on q level.atom 1 (others_of q level.atom) (record { known = held 0 0 level.block; all = [] })).all
-
--- a block and its rows
-abbrev pub with_members : Level → ℕ → List Listed
-with_members level place = record { source = Earlier place; alias = Block } ∷ record { source = Table level.atom; alias = Member } ∷ []
-
--- the blocks with a row that doesn't fit
-abbrev pub other_of : Query → Level → ℕ → Select
-other_of q level place =
-    record { cells = first_cells (length level.block); sources = with_members level place; all = (keyed q level).all; but = fitting_of q level }
-
--- `fit`: the blocks all of whose rows fit
-abbrev pub fit_body : Query → Level → ℕ → Body
-fit_body q level place = Except (plain (length level.block) place Block) (other_of q level place)
-
--- `rows`: their rows, as far as they are asked for
-abbrev pub rows_select : Query → Level → ℕ → List ℕ → Select
-rows_select q level place columns =
-    let known = (see_all (variables_of q level.atom) 1 (columns_of q level.atom) (record { known = held 0 0 level.block; all = [] })).known in
-    record { cells = cells_of known columns; sources = with_members level place; all = (keyed q level).all; but = [] }
-
--- two sources agree on the variables of the second
-abbrev pub agreement : List ℕ → List ℕ → List Cmp
-agreement columns context =
-    map (λ j. Same (cell_of (held 0 0 columns) (slice_index context j)) (cell 1 j)) (range_with_len 0 (length context))
-
--- the rows with a context that holds
-abbrev pub holding_of : ℕ → ℕ → List ℕ → List ℕ → Select
-holding_of rows holds columns context =
+-- the rows of F that fit, joined with these parts: the values of these variables
+abbrev pub rows_of_atom : Query → ℕ → List Within → List Part → List ℕ → Select
+rows_of_atom q F only parts columns =
+    let known = (fitted q F []).known in
+    let children = children_of 1 parts known in
     record {
-      cells = first_cells (length columns);
-      sources = record { source = Earlier rows; alias = Before } ∷ record { source = Earlier holds; alias = Held } ∷ [];
-      all = agreement columns context;
-      but = [];
+      cells = cells_of (known_of 1 parts known) columns;
+      sources = member F ∷ map (λ (c : Child). c.listed) children;
+      all = (keyed q F []).all ++ ((fitted q F []).all ++ on_of children);
+      only = only;
     }
 
--- `fails`: the others
-abbrev pub fails_body : ℕ → ℕ → List ℕ → List ℕ → Body
-fails_body rows holds columns context = Except (plain (length columns) rows Before) (holding_of rows holds columns context)
+-- F's blocks, joined with these parts, where these are the sources with what is known of those behind F's table
+abbrev pub group_of : Query → ℕ → List Listed → List Known → List Within → List Cell → List Part → List ℕ → Group
+group_of q F sources start only by parts columns =
+    let known = (fitted q F start).known in
+    record {
+      cells = cells_of (known_of (length sources) parts known) columns;
+      sources = sources;
+      all = (keyed q F start).all;
+      only = only;
+      by = by;
+      fit = (fitted q F start).all;
+      children = children_of (length sources) parts known;
+    }
 
--- `good`: the blocks without such a row
-abbrev pub good_body : Level → ℕ → ℕ → Body
-good_body level blocks fails = Except (plain (length level.block) blocks Block) (plain (length level.block) fails Before)
+-- each block of F
+abbrev pub block_group : Query → ℕ → List Within → List Part → List ℕ → Group
+block_group q F only parts columns = group_of q F (member F ∷ []) [] only (cells_at 0 (atom_key q F)) parts columns
+
+-- each block of F for each of its contexts, which are in the step at a place, with these variables
+abbrev pub context_group : Query → ℕ → ℕ → List ℕ → List Part → List ℕ → Group
+context_group q F place block parts columns =
+    group_of q F (member F ∷ record { source = Earlier place; alias = Context } ∷ []) (held 1 0 block) [] (cells_at 1 (all_below (length block))) parts columns
+
+-- one after the other, each of these parts has no variable that isn't among these or those of the parts before it, or has no
+-- two contexts with the same key, and no such variable in it
+abbrev pub are_single : List ℕ → List Part → Bool
+are_single vs [] = true
+are_single vs (part ∷ parts) = (covers vs part.columns || (part.single && covers vs part.keys)) && are_single (vs ++ part.columns) parts
+
+-- a part hangs on F: it has a variable of F that isn't known before
+abbrev pub hangs : Query → List ℕ → ℕ → Part → Bool
+hangs q known F part = meets part.columns (without (variables_of q F) known)
+
+-- the variables of a context of the part that F is the first atom of
+abbrev pub context_of : Query → List ℕ → ℕ → List Part → List ℕ
+context_of q known F parts = ascending (within (variables_of q F ++ flat_map (λ (p : Part). p.columns) parts) known)
+
+-- a context's variables, and those of F's key
+abbrev pub block_of : Query → ℕ → List ℕ → List ℕ
+block_of q F context = context ++ without (ascending (key_variables q F)) context
 
 -- a step of a kind for the atom of a number
 abbrev pub step : StepKind → ℕ → List ℕ → Body → Step
 step kind number columns body = record { kind = kind; level = number; columns = columns; body = body }
 
--- `holds`: the contexts of the good blocks
-abbrev pub holds_step : Level → ℕ → Step
-holds_step level place = step Holds level.number level.context (Distinct (plain (length level.context) place GoodOne))
+-- a condition is a test of F for one value
+abbrev pub is_value_test : ℕ → Cond → Bool
+is_value_test F (Join c d) = false
+is_value_test F (Test c Eq x) = c.atom == F
+is_value_test F (Test c Ne x) = false
+is_value_test F (Test c Lt x) = false
+is_value_test F (Test c Le x) = false
+is_value_test F (Test c Gt x) = false
+is_value_test F (Test c Ge x) = false
 
--- the step `fit`, which is left out where each row of a block fits
-abbrev pub with_fit : Query → Level → ℕ → List Step
-with_fit q level place = if length (fitting_of q level) == 0 then [] else step Fit level.number level.block (fit_body q level place) ∷ []
+-- key columns of F, by their variables, whose values are in the columns of the step at a place
+abbrev pub keys_in : Query → ℕ → ℕ → List ℕ → List Within
+keys_in q F place columns =
+    map (λ j. record { cell = cell_of (keyed q F []).known (slice_index columns j); step = place; column = j }) (range_with_len 0 (length columns))
 
--- the steps downwards up to the blocks all of whose rows fit
-abbrev pub down : Query → Level → List ℕ → List Step → List Step
-down q level run before =
-    (before ++ step Blocks level.number level.block (Distinct (blocks_select q level run)) ∷ []) ++ with_fit q level (length before)
+-- columns of F whose values are in a part's contexts: those of the variables that they share
+abbrev pub part_only : Query → ℕ → Part → List Within
+part_only q F part =
+    map (λ j. record { cell = cell_of (fitted q F []).known (slice_index part.columns j); step = part.step; column = j })
+    (filter (λ j. has (variables_of q F) (slice_index part.columns j)) (range_with_len 0 (length part.columns)))
 
--- the steps upwards, where the steps `fit`, or else `blocks`, and `rows` are at these places, and the last one is `holds` of
--- the next atom
-abbrev pub up : Level → ℕ → ℕ → List ℕ → List ℕ → List Step → List Step
-up level blocks rows columns next before =
-    let failing = before ++ step Fails level.number columns (fails_body rows (length before - 1) columns next) ∷ [] in
-    let good = failing ++ step Good level.number level.block (good_body level blocks (length before)) ∷ [] in
-    good ++ holds_step level (length failing) ∷ []
+-- so for each of these parts in which few contexts hold
+abbrev pub rare_only : Query → ℕ → List Part → List Within
+rare_only q F parts = flat_map (λ (p : Part). if p.rare then part_only q F p else []) parts
 
--- the context of the atoms after F
-abbrev pub next_context : Query → List ℕ → ℕ → List ℕ → List ℕ
-next_context q context F plan = within (ascending (context ++ variables_of q F)) (flat_map (λ G. variables_of q G) plan)
+-- a condition is a test for one value, of a column of F outside its key
+abbrev pub is_other_test : Query → ℕ → Cond → Bool
+is_other_test q F (Join c d) = false
+is_other_test q F (Test c op x) = is_value_test F (Test c op x) && not (has (atom_key q F) c.col)
 
--- the steps of the atoms of a plan, behind those before
-abbrev pub steps_of : Query → ℕ → Option ℕ → List ℕ → List ℕ → List Step → List ℕ → List Step
-steps_of q number rows given context before [] = before
-steps_of q number rows given context before (F ∷ []) =
-    let level = level_of q number rows given context F in
-    let below = down q level (run_of q (is_some rows) context (F ∷ [])) before in
-    below ++ holds_step level (length below - 1) ∷ []
-steps_of q number rows given context before (F ∷ G ∷ plan) =
-    let level = level_of q number rows given context F in
-    let next = next_context q context F (G ∷ plan) in
-    let columns = level.block ++ without next level.block in
-    let below = down q level (run_of q (is_some rows) context (F ∷ G ∷ plan)) before in
-    let taken = below ++ step Rows number columns (Distinct (rows_select q level (length below - 1) columns)) ∷ [] in
-    let asked_in = if length next == 0 then None else Some (length below) in
-    up level (length below - 1) (length below) columns next (steps_of q (suc number) asked_in columns next taken (G ∷ plan))
+-- few blocks of F can hold: there is such a test, or a part in which few contexts hold
+abbrev pub has_few : Query → ℕ → List Part → Bool
+has_few q F parts = list_any (λ k. is_other_test q F k) q.conds || list_any (λ (p : Part). p.rare) parts
 
--- the steps of an atom before others, behind its steps downwards: its rows, the steps of the others, and its steps upwards
-abbrev pub with_later : Query → Level → ℕ → List ℕ → List ℕ → List ℕ → List Step → List Step
-with_later q level blocks columns next later below =
-    let taken = below ++ step Rows level.number columns (Distinct (rows_select q level blocks columns)) ∷ [] in
-    let asked_in = if length next == 0 then None else Some (length below) in
-    up level blocks (length below) columns next (steps_of q (suc level.number) asked_in columns next taken later)
+-- the step of the keys of such blocks: each has a row that fits, whose values rare parts have
+abbrev pub few_step : Query → ℕ → ℕ → List Within → List Part → Step
+few_step q number F only parts =
+    let columns = ascending (key_variables q F) in
+    step Blocks number columns (Distinct (rows_of_atom q F (only ++ rare_only q F parts) [] columns))
 
--- the contexts of the first atom that hold give the answer columns
-abbrev pub last_select : List ℕ → List ℕ → ℕ → Select
-last_select context answer place =
-    record { cells = cells_of (held 0 0 context) answer; sources = record { source = Earlier place; alias = Held } ∷ []; all = []; but = [] }
+-- the steps of F, where these parts hang on it: the contexts in which the part holds. Where few blocks can hold, their keys
+-- are looked for first. Where one of the parts can have two contexts for a row of F, and F has blocks of several rows,
+-- contexts are looked for first
+abbrev pub level_steps : Query → ℕ → ℕ → List ℕ → List Within → List Part → ℕ → List Step
+level_steps q number F context only parts place =
+    if are_single (variables_of q F) parts then (
+    if has_few q F parts then few_step q number F only parts ∷ step Holds number context (Grouped (block_group q F (keys_in q F place (ascending (key_variables q F))) parts context)) ∷ []
+    else step Holds number context (Grouped (block_group q F only parts context)) ∷ []
+    )
+    else if (atom_at q F).strict then step Holds number context (Distinct (rows_of_atom q F only parts context)) ∷ []
+    else (
+    step Blocks number (block_of q F context) (Distinct (rows_of_atom q F only parts (block_of q F context)))
+    ∷ step Holds number context (Grouped (context_group q F place (block_of q F context) parts context)) ∷ []
+    )
+
+-- F has few rows: some test is for one value, or steps ask for its keys
+abbrev pub is_bound : Query → ℕ → List Within → Bool
+is_bound q F only = not (length only == 0) || list_any (λ k. is_value_test F k) q.conds
+
+-- the first of these atoms that has a variable of F's key
+abbrev pub bound_for : Query → List Bound → ℕ → Option Bound
+bound_for q [] F = None
+bound_for q (bound ∷ bounds) F = if meets (variables_of q bound.atom) (key_variables q F) then Some bound else bound_for q bounds F
+
+-- the variables of F's key that are asked for by another atom
+abbrev pub asked_variables : Query → ℕ → ℕ → List ℕ
+asked_variables q F other = ascending (within (key_variables q F) (variables_of q other))
+
+-- the step that asks for keys of F
+abbrev pub asked_steps : Query → ℕ → ℕ → Option Bound → List Step
+asked_steps q number F None = []
+asked_steps q number F (Some bound) =
+    let columns = asked_variables q F bound.atom in step Asked number columns (Distinct (rows_of_atom q bound.atom bound.only [] columns)) ∷ []
+
+-- the key columns of F whose values are in that step, which is at a place
+abbrev pub only_of : Query → ℕ → ℕ → Option Bound → List Within
+only_of q F place None = []
+only_of q F place (Some bound) = keys_in q F place (asked_variables q F bound.atom)
+
+-- the steps so far, and the parts that they have
+pub record Made : Type 0 where
+  pub steps : List Step
+  pub parts : List Part
+
+-- with the steps of F: the parts that hang on it, and it, become one part
+abbrev pub with_level : Query → ℕ → List ℕ → List Within → ℕ → Made → Made
+with_level q number known only F later =
+    let parts = filter (λ p. hangs q known F p) later.parts in
+    let context = context_of q known F parts in
+    let steps = later.steps ++ level_steps q number F context only parts (length later.steps) in
+    record {
+      steps = steps;
+      parts = record { number = number; step = length steps - 1; columns = context; keys = key_variables q F; single = are_single (variables_of q F) parts; rare = list_any (λ k. is_value_test F k) q.conds || list_any (λ (p : Part). p.rare) parts }
+          ∷ filter (λ p. not (hangs q known F p)) later.parts;
+    }
+
+-- the steps of the atoms of a plan behind those before, where these variables are known before them, and these atoms before
+-- them have few rows
+abbrev pub made_of : Query → ℕ → List ℕ → List Bound → List Step → List ℕ → Made
+made_of q number known bounds before [] = record { steps = before; parts = [] }
+made_of q number known bounds before (F ∷ plan) =
+    let bound = bound_for q bounds F in
+    let only = only_of q F (length before) bound in
+    let next = if is_bound q F only then record { atom = F; only = only } ∷ bounds else bounds in
+    with_level q number known only F (made_of q (suc number) (known ++ variables_of q F) next (before ++ asked_steps q number F bound) plan)
+
+-- those of the atoms after F, which is one of few rows if it is bound
+abbrev pub made_later : Query → ℕ → List ℕ → List Bound → List Within → ℕ → List Step → List ℕ → Made
+made_later q number known bounds only F before plan =
+    made_of q (suc number) (known ++ variables_of q F) (if is_bound q F only then record { atom = F; only = only } ∷ bounds else bounds) before plan
+
+-- and then those of F
+abbrev pub made_behind : Query → ℕ → List ℕ → List Bound → List Within → ℕ → List Step → List ℕ → Made
+made_behind q number known bounds only F before plan = with_level q number known only F (made_later q number known bounds only F before plan)
+
+-- the answer columns, for a context of each part
+abbrev pub last_select : Query → List Part → Select
+last_select q parts =
+    let children = children_of 0 parts [] in
+    record { cells = cells_of (known_of 0 parts []) (answer_variables q); sources = map (λ (c : Child). c.listed) children; all = on_of children; only = [] }
 
 -- the query of a plan
 abbrev pub sql_of : Query → List ℕ → Sql
 sql_of q plan =
-    let context = ascending (answer_variables q) in
-    let steps = steps_of q 1 None [] context [] plan in
-    record { steps = steps; last = last_select context (answer_variables q) (length steps - 1) }
+    let made = made_of q 1 (answer_variables q) [] [] plan in
+    record { steps = made.steps; last = last_select q made.parts }

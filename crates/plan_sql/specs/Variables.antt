@@ -1,6 +1,6 @@
 -- Lists of variables, each by the number of its least column.
 use Rattle.std.specs.Prelude.{ℕ, Bool, not, ◌==◌, List, map, slice_index}
-use Rattle.std.specs.List.{filter, list_any, range_with_len}
+use Rattle.std.specs.List.{filter, list_any, list_all, range_with_len}
 use Rattle.cqa_model.specs.declared.limits.TheConstants.{COLUMN_NUMBERS}
 use Rattle.cqa_model.specs.declared.query.Query.{Query}
 use Rattle.cqa_model.specs.Query.{atom_at, atom_key}
@@ -13,6 +13,10 @@ has vs v = list_any (λ u. u == v) vs
 -- two lists have a variable in common
 abbrev pub meets : List ℕ → List ℕ → Bool
 meets us vs = list_any (λ u. has vs u) us
+
+-- each of a list is in another
+abbrev pub covers : List ℕ → List ℕ → Bool
+covers vs us = list_all (λ u. has vs u) us
 
 -- those of a list that are in another
 abbrev pub within : List ℕ → List ℕ → List ℕ

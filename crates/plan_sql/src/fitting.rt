@@ -4,8 +4,8 @@ ghost use Rattle.std.specs.Prelude.{◌≡◌, ◌++◌, ◌∷◌, ◌<◌, ◌
 ghost use Rattle.cqa_model.specs.declared.query.Cond.{Cond as SpecCond};
 ghost use Rattle.cqa_model.specs.Query.{atom_at};
 ghost use Rattle.std.specs.List.{flat_map};
-ghost use Rattle.plan_sql.specs.Shapes.{AreAtoms};
-ghost use Rattle.plan_sql.specs.Statement.{cell_of, cells_of, columns_of, find, fit_each, fit_on, held, see, see_all, test_at, tests_at};
+ghost use Rattle.plan_sql.specs.Variables.{all_below};
+ghost use Rattle.plan_sql.specs.Statement.{cell_of, cells_of, find, fit_on, held, see, see_all, test_at, tests_at};
 
 use crate::lists::has;
 use crate::shape::Shape;
@@ -28,13 +28,13 @@ pub(crate) struct Fitting {
     pub all: Items<Cmp>,
 }
 
-/// What is known of a first source that has these variables as its columns.
-pub(crate) fn held(alloc: Global, vs: &[u32]) -> Result<Items<Known>, NoMemory>
-    ensures { IfOk result (λ known. known ≡ held 0 0 vs.now) }
+/// What is known of a source that has these variables as its columns.
+pub(crate) fn held(alloc: Global, place: usize, vs: &[u32]) -> Result<Items<Known>, NoMemory>
+    ensures { IfOk result (λ known. known ≡ held place 0 vs.now) }
 {
     let mut known = Items::new(alloc);
     for column in 0..vs.len() {
-        let cell = Cell { place: 0, column };
+        let cell = Cell { place, column };
         known.push(Known {
             variable: vs[column],
             cell,
@@ -114,6 +114,16 @@ impl Fitting {
         Ok(())
     }
 
+    /// So are all columns of a source whose variables these are.
+    pub(crate) fn see_source(&mut self, vs: &[u32], place: usize) -> Result<(), NoMemory>
+        ensures { OnOk result (self.new ≡ see_all vs.now place (all_below (length vs.now)) self.old) }
+    {
+        for column in 0..vs.len() {
+            self.see(vs[column], Cell { place, column })?;
+        }
+        Ok(())
+    }
+
     /// Adds a condition if it tests one of these columns of an atom.
     fn add_test(
         &mut self,
@@ -176,38 +186,5 @@ impl Fitting {
     {
         self.see_all(shape.of(atom), place, columns)?;
         self.add_tests(alloc, shape.query.conds.as_slice(), atom, place, columns)
-    }
-
-    /// A row of an atom fits what is known, on all columns.
-    fn fit(
-        &mut self,
-        alloc: Global,
-        shape: &Shape<'_>,
-        atom: u32,
-        place: usize,
-    ) -> Result<(), NoMemory>
-        requires atom { atom < length shape.now.query.now.atoms }
-        ensures { OnOk result (self.new ≡ fit_on shape.now.query.now atom place (columns_of shape.now.query.now atom) self.old) }
-    {
-        let columns = shape.columns(alloc, atom)?;
-        self.fit_on(alloc, shape, atom, place, columns.as_slice())
-    }
-
-    /// Rows of these atoms fit what is known, each also what is known by those before it.
-    pub(crate) fn fit_each(
-        &mut self,
-        alloc: Global,
-        shape: &Shape<'_>,
-        place: usize,
-        atoms: &[u32],
-    ) -> Result<(), NoMemory>
-        requires atoms { AreAtoms shape.now.query.now atoms.now }
-        requires place { place ≤ 1 }
-        ensures { OnOk result (self.new ≡ fit_each shape.now.query.now place atoms.now self.old) }
-    {
-        for (before, atom) in atoms.iter().enumerate() {
-            self.fit(alloc, shape, *atom, place + before)?;
-        }
-        Ok(())
     }
 }

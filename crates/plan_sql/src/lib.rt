@@ -1,11 +1,15 @@
 //! The certain rows of a query that has a plan, as one SQL query of named steps.
 #![tactic(auto)]
 
+mod bounds;
+mod children;
+mod few;
 mod fitting;
+mod groups;
 pub mod laws;
-mod level;
+mod levels;
 mod lists;
-mod runs;
+mod part;
 mod selects;
 mod shape;
 mod statement;

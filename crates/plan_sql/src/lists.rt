@@ -1,7 +1,7 @@
 //! Lists of variables.
 
 ghost use Rattle.std.specs.Prelude.{◌≡◌, ◌++◌, IfOk};
-ghost use Rattle.plan_sql.specs.Variables.{all_below, ascending, has, meets, within, without};
+ghost use Rattle.plan_sql.specs.Variables.{all_below, ascending, covers, has, meets, within, without};
 
 use cqa_model::COLUMN_NUMBERS;
 use cqa_value::{Items, NoMemory};
@@ -29,6 +29,18 @@ pub(crate) fn meets(us: &[u32], vs: &[u32]) -> bool
         }
     }
     false
+}
+
+/// Whether each of a list is in another.
+pub(crate) fn covers(vs: &[u32], us: &[u32]) -> bool
+    ensures { result ≡ covers vs.now us.now }
+{
+    for u in us {
+        if !has(vs, *u) {
+            return false;
+        }
+    }
+    true
 }
 
 /// Those of a list that are in another.
@@ -72,19 +84,6 @@ pub(crate) fn numbers(alloc: Global, end: u32) -> Result<Items<u32>, NoMemory>
     let mut list = Items::new(alloc);
     for number in 0..end {
         list.push(number)?;
-    }
-    Ok(list)
-}
-
-/// A list, and then those of another that aren't in it.
-pub(crate) fn extended(alloc: Global, us: &[u32], vs: &[u32]) -> Result<Items<u32>, NoMemory>
-    ensures { IfOk result (λ list. list ≡ us.now ++ without vs.now us.now) }
-{
-    let mut list = Items::from_slice(alloc, us)?;
-    for v in vs {
-        if !has(us, *v) {
-            list.push(*v)?;
-        }
     }
     Ok(list)
 }

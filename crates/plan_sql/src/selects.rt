@@ -1,320 +1,270 @@
-//! The selects of an atom's steps.
+//! The rows of an atom: the comparisons by which they are in a block and fit, and their select.
 
-ghost use Rattle.std.specs.Prelude.{◌≡◌, ◌++◌, ◌+◌, ◌∷◌, ◌<◌, ◌≤◌, ◌^◌, [], IfOk, OnOk, length};
-ghost use Rattle.plan_sql.specs.Shapes.{AreAtoms};
-ghost use Rattle.plan_sql.specs.Statement.{agreement, asked, asked_known, blocks_select, cells_of, columns_of, fails_body, first_cells, fit_body, fit_each, fitting_of, good_body, held, holding_of, keyed, other_of, plain, rows_select, see_all, tables_of, with_members};
-ghost use Rattle.plan_sql.specs.Variables.{variables_of};
+ghost use Rattle.std.specs.Prelude.{◌≡◌, ◌++◌, ◌∷◌, ◌<◌, [], IfOk, OnOk, flat_map, length, map};
+ghost use Rattle.sql_text.specs.declared.syntax.Child.{Child as ChildValue};
+ghost use Rattle.plan_sql.specs.declared.part.Part.{Part as PartValue};
+ghost use Rattle.plan_sql.specs.Statement.{cells_of, children_of, fit_on, fitted, keyed, known_of, member, on_of, others_of, part_source, rows_of_atom};
 
-use crate::fitting::{Fitting, Known, cell_of, cells_of, held};
-use crate::level::{Level, keyed, of_block};
+use crate::children::{Joined, joined_parts};
+use crate::fitting::{Fitting, Known, cells_of};
+use crate::part::Part;
 use crate::shape::Shape;
 use cqa_value::{Items, NoMemory};
-use sql_text::{Alias, Body, Cell, Cmp, Listed, Select, Source};
+use sql_text::{Alias, Child, Cmp, Listed, Select, Source, Within};
 use std::alloc::Global;
 
-/// The first so many columns of the first source.
-fn first_cells(alloc: Global, count: usize) -> Result<Items<Cell>, NoMemory>
-    ensures { IfOk result (λ cells. cells ≡ first_cells count) }
-{
-    let mut cells = Items::new(alloc);
-    for column in 0..count {
-        cells.push(Cell { place: 0, column })?;
-    }
-    Ok(cells)
+/// The comparisons of a row of an atom on its key, those on its other columns, and what is known of it then.
+#[derive(Drop)]
+pub(crate) struct RowFit {
+    pub key: Items<Cmp>,
+    pub others: Items<Cmp>,
+    pub known: Items<Known>,
 }
 
-/// The first so many columns of a step.
-pub(crate) fn plain(
-    alloc: Global,
-    count: usize,
-    place: usize,
-    alias: Alias,
-) -> Result<Select, NoMemory>
-    ensures { IfOk result (λ select. select ≡ plain count place alias) }
+/// An atom's table, as the first source.
+pub(crate) fn member(atom: u32) -> Listed
+    ensures { result ≡ member atom }
 {
-    let cells = first_cells(alloc, count)?;
-    let source = Source::Step(place);
-    let sources = Items::from_slice(alloc, &[Listed { source, alias }])?;
-    Ok(Select {
-        cells,
-        sources,
-        all: Items::new(alloc),
-        but: Items::new(alloc),
-    })
-}
-
-/// What is known of the contexts that are asked for.
-fn asked_known(alloc: Global, level: &Level) -> Result<Items<Known>, NoMemory>
-    ensures { IfOk result (λ known. known ≡ asked_known level.now.rows level.now.given) }
-{
-    match level.rows {
-        None => Ok(Items::new(alloc)),
-        Some(_) => held(alloc, level.given.as_slice()),
+    Listed {
+        source: Source::Table(atom),
+        alias: Alias::Member,
     }
 }
 
-/// The source of the contexts that are asked for.
-fn asked(alloc: Global, level: &Level) -> Result<Items<Listed>, NoMemory>
-    ensures { IfOk result (λ sources. sources ≡ asked level.now.rows) }
-{
-    let mut sources = Items::new(alloc);
-    if let Some(place) = level.rows {
-        sources.push(Listed {
-            source: Source::Step(place),
-            alias: Alias::Before,
-        })?;
-    }
-    Ok(sources)
-}
-
-/// Appends the tables of these atoms.
-fn append_tables(sources: &mut Items<Listed>, number: usize, atoms: &[u32]) -> Result<(), NoMemory>
-    requires number { number ≤ 2 ^ 63 }
-    ensures { OnOk result (sources.new ≡ sources.old ++ tables_of number atoms.now) }
-{
-    for (before, atom) in atoms.iter().enumerate() {
-        sources.push(Listed {
-            source: Source::Table(*atom),
-            alias: Alias::Joined(number + before),
-        })?;
-    }
-    Ok(())
-}
-
-/// The contexts that are asked for, and the tables of these atoms.
-fn run_sources(alloc: Global, level: &Level, run: &[u32]) -> Result<Items<Listed>, NoMemory>
-    requires number { level.now.number ≤ 2 ^ 63 }
-    ensures { IfOk result (λ sources. sources ≡ asked level.now.rows ++ tables_of level.now.number run.now) }
-{
-    let mut sources = asked(alloc, level)?;
-    append_tables(&mut sources, level.number, run)?;
-    Ok(sources)
-}
-
-/// What is known of rows of these atoms that fit, for each context that is asked for.
-fn run_fitting(
+/// A row of an atom fits what is known, on the columns of its key.
+pub(crate) fn keyed(
     alloc: Global,
     shape: &Shape<'_>,
-    level: &Level,
-    run: &[u32],
+    atom: u32,
+    known: Items<Known>,
 ) -> Result<Fitting, NoMemory>
-    requires { AreAtoms shape.now.query.now run.now }
-    ensures { IfOk result (λ fitting. fitting ≡ fit_each shape.now.query.now (length (asked level.now.rows)) run.now (record { known = asked_known level.now.rows level.now.given; all = [] })) }
+    requires { atom < length shape.now.query.now.atoms }
+    ensures { IfOk result (λ fitting. fitting ≡ keyed shape.now.query.now atom known) }
 {
-    let known = asked_known(alloc, level)?;
     let mut fitting = Fitting {
         known,
         all: Items::new(alloc),
     };
-    let place = usize::from(level.rows.is_some());
-    fitting.fit_each(alloc, shape, place, run)?;
-    Ok(fitting)
+    match fitting.fit_on(alloc, shape, atom, 0, shape.key(atom)) {
+        Ok(()) => Ok(fitting),
+        Err(refused) => {
+            drop(fitting);
+            Err(refused)
+        }
+    }
 }
 
-/// For each context that is asked for, the blocks with a row that fits.
-pub(crate) fn blocks_select(
-    alloc: Global,
-    shape: &Shape<'_>,
-    level: &Level,
-    run: &[u32],
-) -> Result<Select, NoMemory>
-    requires run { AreAtoms shape.now.query.now run.now }
-    requires number { level.now.number ≤ 2 ^ 63 }
-    ensures { IfOk result (λ select. select ≡ blocks_select shape.now.query.now level.now run.now) }
-{
-    let sources = run_sources(alloc, level, run)?;
-    let fitting = run_fitting(alloc, shape, level, run)?;
-    let cells = cells_of(alloc, fitting.known.as_slice(), level.block.as_slice())?;
-    Ok(Select {
-        cells,
-        sources,
-        all: fitting.all,
-        but: Items::new(alloc),
-    })
-}
-
-/// A block and its rows.
-fn with_members(alloc: Global, level: &Level, place: usize) -> Result<Items<Listed>, NoMemory>
-    ensures { IfOk result (λ sources. sources ≡ with_members level.now place) }
-{
-    let block = Listed {
-        source: Source::Step(place),
-        alias: Alias::Block,
-    };
-    let members = Listed {
-        source: Source::Table(level.atom),
-        alias: Alias::Member,
-    };
-    Items::from_slice(alloc, &[block, members])
-}
-
-/// Cells of blocks and their rows, for which not all of these comparisons hold, if there are some.
-fn members_select(
-    alloc: Global,
-    shape: &Shape<'_>,
-    level: &Level,
-    place: usize,
-    cells: Items<Cell>,
-    but: Items<Cmp>,
-) -> Result<Select, NoMemory>
-    requires { level.now.atom < length shape.now.query.now.atoms }
-    ensures { IfOk result (λ select. select ≡ record { cells = cells; sources = with_members level.now place; all = (keyed shape.now.query.now level.now).all; but = but }) }
-{
-    let sources = with_members(alloc, level, place)?;
-    let all = keyed(alloc, shape, level)?;
-    Ok(Select {
-        cells,
-        sources,
-        all,
-        but,
-    })
-}
-
-/// The blocks with a row that doesn't fit.
-fn other_of(
-    alloc: Global,
-    shape: &Shape<'_>,
-    level: &Level,
-    place: usize,
-    but: Items<Cmp>,
-) -> Result<Select, NoMemory>
-    requires atom { level.now.atom < length shape.now.query.now.atoms }
-    requires but { but ≡ fitting_of shape.now.query.now level.now }
-    ensures { IfOk result (λ select. select ≡ other_of shape.now.query.now level.now place) }
-{
-    let cells = first_cells(alloc, level.block.len())?;
-    members_select(alloc, shape, level, place, cells, but)
-}
-
-/// The blocks all of whose rows fit.
-pub(crate) fn fit_body(
-    alloc: Global,
-    shape: &Shape<'_>,
-    level: &Level,
-    place: usize,
-    but: Items<Cmp>,
-) -> Result<Body, NoMemory>
-    requires atom { level.now.atom < length shape.now.query.now.atoms }
-    requires but { but ≡ fitting_of shape.now.query.now level.now }
-    ensures { IfOk result (λ body. body ≡ fit_body shape.now.query.now level.now place) }
-{
-    let failing = other_of(alloc, shape, level, place, but)?;
-    let blocks = plain(alloc, level.block.len(), place, Alias::Block)?;
-    Ok(Body::Except(blocks, failing))
-}
-
-/// The cells of variables in a block and one of its rows.
-fn member_cells(
-    alloc: Global,
-    shape: &Shape<'_>,
-    level: &Level,
-    columns: &[u32],
-) -> Result<Items<Cell>, NoMemory>
-    requires { level.now.atom < length shape.now.query.now.atoms }
-    ensures { IfOk result (λ cells. cells ≡ cells_of (see_all (variables_of shape.now.query.now level.now.atom) 1 (columns_of shape.now.query.now level.now.atom) (record { known = held 0 0 level.now.block; all = [] })).known columns.now) }
-{
-    let mut seen = of_block(alloc, level)?;
-    see_member(alloc, shape, level.atom, &mut seen)?;
-    cells_of(alloc, seen.known.as_slice(), columns)
-}
-
-/// Sees all columns of an atom.
-fn see_member(
+/// A row of an atom fits what is known, on the columns outside its key.
+fn fitted(
     alloc: Global,
     shape: &Shape<'_>,
     atom: u32,
-    seen: &mut Fitting,
-) -> Result<(), NoMemory>
+    known: Items<Known>,
+) -> Result<Fitting, NoMemory>
     requires { atom < length shape.now.query.now.atoms }
-    ensures { OnOk result (seen.new ≡ see_all (variables_of shape.now.query.now atom) 1 (columns_of shape.now.query.now atom) seen.old) }
+    ensures { IfOk result (λ fitting. fitting ≡ fit_on shape.now.query.now atom 0 (others_of shape.now.query.now atom) (record { known = known; all = [] })) }
 {
-    let columns = shape.columns(alloc, atom)?;
-    seen.see_all(shape.of(atom), 1, columns.as_slice())
+    let mut fitting = Fitting {
+        known,
+        all: Items::new(alloc),
+    };
+    match fit_others(alloc, shape, atom, &mut fitting) {
+        Ok(()) => Ok(fitting),
+        Err(refused) => {
+            drop(fitting);
+            Err(refused)
+        }
+    }
 }
 
-/// The rows of blocks, as far as they are asked for.
-pub(crate) fn rows_select(
+/// A row of an atom fits what is known, on the columns outside its key.
+fn fit_others(
     alloc: Global,
     shape: &Shape<'_>,
-    level: &Level,
-    place: usize,
-    columns: &[u32],
-) -> Result<Select, NoMemory>
-    requires { level.now.atom < length shape.now.query.now.atoms }
-    ensures { IfOk result (λ select. select ≡ rows_select shape.now.query.now level.now place columns.now) }
+    atom: u32,
+    fitting: &mut Fitting,
+) -> Result<(), NoMemory>
+    requires { atom < length shape.now.query.now.atoms }
+    ensures { OnOk result (fitting.new ≡ fit_on shape.now.query.now atom 0 (others_of shape.now.query.now atom) fitting.old) }
 {
-    let cells = member_cells(alloc, shape, level, columns)?;
-    members_select(alloc, shape, level, place, cells, Items::new(alloc))
+    let others = shape.others(alloc, atom)?;
+    fitting.fit_on(alloc, shape, atom, 0, others.as_slice())
 }
 
-/// Two sources agree on the variables of the second.
-fn agreement(alloc: Global, columns: &[u32], context: &[u32]) -> Result<Items<Cmp>, NoMemory>
-    ensures { IfOk result (λ all. all ≡ agreement columns.now context.now) }
-{
-    let known = held(alloc, columns)?;
-    let mut all = Items::new(alloc);
-    for column in 0..context.len() {
-        let left = cell_of(known.as_slice(), context[column]);
-        let right = Cell { place: 1, column };
-        all.push(Cmp::Same { left, right })?;
-    }
-    Ok(all)
-}
-
-/// The rows with a context that holds.
-fn holding_of(
+/// A row of an atom fits what is known, on its key and then on its other columns.
+pub(crate) fn row_fit(
     alloc: Global,
-    rows: usize,
-    holds: usize,
-    columns: &[u32],
-    context: &[u32],
-) -> Result<Select, NoMemory>
-    ensures { IfOk result (λ select. select ≡ holding_of rows holds columns.now context.now) }
+    shape: &Shape<'_>,
+    atom: u32,
+    known: Items<Known>,
+) -> Result<RowFit, NoMemory>
+    requires { atom < length shape.now.query.now.atoms }
+    ensures key { IfOk result (λ fit. fit.key ≡ (keyed shape.now.query.now atom known).all) }
+    ensures others { IfOk result (λ fit. fit.others ≡ (fitted shape.now.query.now atom known).all) }
+    ensures known { IfOk result (λ fit. fit.known ≡ (fitted shape.now.query.now atom known).known) }
 {
-    let row = Listed {
-        source: Source::Step(rows),
-        alias: Alias::Before,
-    };
-    let held = Listed {
-        source: Source::Step(holds),
-        alias: Alias::Held,
-    };
-    let sources = Items::from_slice(alloc, &[row, held])?;
-    let cells = first_cells(alloc, columns.len())?;
-    let all = agreement(alloc, columns, context)?;
+    let Fitting { known, all: key } = keyed(alloc, shape, atom, known)?;
+    match fitted(alloc, shape, atom, known) {
+        Ok(fitting) => Ok(RowFit {
+            key,
+            others: fitting.all,
+            known: fitting.known,
+        }),
+        Err(refused) => {
+            drop(key);
+            Err(refused)
+        }
+    }
+}
+
+/// Appends copies of comparisons.
+fn append_cmps(alloc: Global, cmps: &[Cmp], all: &mut Items<Cmp>) -> Result<(), NoMemory>
+    ensures { OnOk result (all.new ≡ all.old ++ cmps.now) }
+{
+    for cmp in cmps {
+        all.push(copy_of(alloc, cmp)?)?;
+    }
+    Ok(())
+}
+
+/// A copy of a comparison.
+fn copy_of(alloc: Global, cmp: &Cmp) -> Result<Cmp, NoMemory>
+    ensures { IfOk result (λ copy. copy ≡ cmp.now) }
+{
+    match cmp {
+        Cmp::Same { left, right } => Ok(Cmp::Same {
+            left: *left,
+            right: *right,
+        }),
+        Cmp::Test { cell, op, value } => {
+            let value = value.copy(alloc)?;
+            Ok(Cmp::Test {
+                cell: *cell,
+                op: *op,
+                value,
+            })
+        }
+    }
+}
+
+/// Appends the comparisons of children.
+pub(crate) fn append_on(
+    alloc: Global,
+    children: &[Child],
+    all: &mut Items<Cmp>,
+) -> Result<(), NoMemory>
+    ensures { OnOk result (all.new ≡ all.old ++ on_of children.now) }
+{
+    for child in children {
+        append_cmps(alloc, child.on.as_slice(), all)?;
+    }
+    Ok(())
+}
+
+/// Appends the sources of children.
+pub(crate) fn append_listed(children: &[Child], sources: &mut Items<Listed>) -> Result<(), NoMemory>
+    ensures { OnOk result (sources.new ≡ sources.old ++ map (λ (c : ChildValue). c.listed) children.now) }
+{
+    for child in children {
+        sources.push(child.listed)?;
+    }
+    Ok(())
+}
+
+/// Appends the comparisons of a row of an atom and of children.
+fn append_all(
+    alloc: Global,
+    fit: &RowFit,
+    children: &[Child],
+    all: &mut Items<Cmp>,
+) -> Result<(), NoMemory>
+    ensures { OnOk result (all.new ≡ all.old ++ (fit.now.key ++ (fit.now.others ++ on_of children.now))) }
+{
+    append_cmps(alloc, fit.key.as_slice(), all)?;
+    append_cmps(alloc, fit.others.as_slice(), all)?;
+    append_on(alloc, children, all)
+}
+
+/// The comparisons of a row of an atom and of children.
+fn all_of(alloc: Global, fit: &RowFit, children: &[Child]) -> Result<Items<Cmp>, NoMemory>
+    ensures { IfOk result (λ all. all ≡ fit.now.key ++ (fit.now.others ++ on_of children.now)) }
+{
+    let mut all = Items::new(alloc);
+    match append_all(alloc, fit, children, &mut all) {
+        Ok(()) => Ok(all),
+        Err(refused) => {
+            drop(all);
+            Err(refused)
+        }
+    }
+}
+
+/// The select of the rows of an atom that fit, joined with parts.
+fn select_of(
+    alloc: Global,
+    atom: u32,
+    only: &[Within],
+    columns: &[u32],
+    fit: &RowFit,
+    joined: &Joined,
+) -> Result<Select, NoMemory>
+    ensures { IfOk result (λ select. select ≡ record {
+      cells = cells_of joined.now.known columns.now;
+      sources = member atom ∷ map (λ (c : ChildValue). c.listed) joined.now.children;
+      all = fit.now.key ++ (fit.now.others ++ on_of joined.now.children);
+      only = only.now;
+    }) }
+{
+    let children = joined.children.as_slice();
+    let cells = cells_of(alloc, joined.known.as_slice(), columns)?;
+    let mut sources = Items::from_slice(alloc, &[member(atom)])?;
+    append_listed(children, &mut sources)?;
+    let only = Items::from_slice(alloc, only)?;
+    let all = all_of(alloc, fit, children)?;
     Ok(Select {
         cells,
         sources,
         all,
-        but: Items::new(alloc),
+        only,
     })
 }
 
-/// The rows without a context that holds.
-pub(crate) fn fails_body(
+/// The rows of an atom that fit, joined with these parts: the values of these variables.
+pub(crate) fn rows_of_atom(
     alloc: Global,
-    rows: usize,
-    holds: usize,
+    shape: &Shape<'_>,
+    atom: u32,
+    only: &[Within],
+    parts: &[Part],
     columns: &[u32],
-    context: &[u32],
-) -> Result<Body, NoMemory>
-    ensures { IfOk result (λ body. body ≡ fails_body rows holds columns.now context.now) }
+) -> Result<Select, NoMemory>
+    requires { atom < length shape.now.query.now.atoms }
+    ensures { IfOk result (λ select. select ≡ rows_of_atom shape.now.query.now atom only.now parts.now columns.now) }
 {
-    let holding = holding_of(alloc, rows, holds, columns, context)?;
-    let taken = plain(alloc, columns.len(), rows, Alias::Before)?;
-    Ok(Body::Except(taken, holding))
+    let fit = row_fit(alloc, shape, atom, Items::new(alloc))?;
+    let select = joined_select(alloc, atom, only, parts, columns, &fit);
+    drop(fit);
+    select
 }
 
-/// The blocks without a row that fails.
-pub(crate) fn good_body(
+/// The rows of an atom that fit so, joined with these parts.
+fn joined_select(
     alloc: Global,
-    level: &Level,
-    blocks: usize,
-    fails: usize,
-) -> Result<Body, NoMemory>
-    ensures { IfOk result (λ body. body ≡ good_body level.now blocks fails) }
+    atom: u32,
+    only: &[Within],
+    parts: &[Part],
+    columns: &[u32],
+    fit: &RowFit,
+) -> Result<Select, NoMemory>
+    ensures { IfOk result (λ select. select ≡ record {
+      cells = cells_of (known_of 1 parts.now fit.now.known) columns.now;
+      sources = member atom ∷ map (λ (c : ChildValue). c.listed) (children_of 1 parts.now fit.now.known);
+      all = fit.now.key ++ (fit.now.others ++ on_of (children_of 1 parts.now fit.now.known));
+      only = only.now;
+    }) }
 {
-    let all = plain(alloc, level.block.len(), blocks, Alias::Block)?;
-    let failing = plain(alloc, level.block.len(), fails, Alias::Before)?;
-    Ok(Body::Except(all, failing))
+    let joined = joined_parts(alloc, 1, parts, fit.known.as_slice())?;
+    let select = select_of(alloc, atom, only, columns, fit, &joined);
+    drop(joined);
+    select
 }

@@ -1,7 +1,7 @@
 //! A query with the variables of its columns.
 
 ghost use Rattle.std.specs.Prelude.{◌≡◌, ◌<◌, IfOk, List, length};
-ghost use Rattle.cqa_model.specs.Query.{atom_key};
+ghost use Rattle.cqa_model.specs.Query.{atom_at, atom_key};
 ghost use Rattle.cqa_model.specs.Naming.{AreVariables};
 ghost use Rattle.plan_sql.specs.Shapes.{AreNamed};
 ghost use Rattle.plan_sql.specs.Variables.{answer_variables, key_variables, variables_of};
@@ -57,6 +57,14 @@ impl Shape<'_> {
         ensures { result.now ≡ variables_of self.now.query.now atom }
     {
         self.lists.as_slice()[atom as usize].as_slice()
+    }
+
+    /// Whether an atom's table is strict.
+    pub(crate) fn is_strict(&self, atom: u32) -> bool
+        requires { atom < length self.now.query.now.atoms }
+        ensures { result ≡ (atom_at self.now.query.now atom).strict }
+    {
+        self.query.atoms.as_slice()[atom as usize].strict
     }
 
     /// The columns of an atom's key.

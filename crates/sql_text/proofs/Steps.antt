@@ -18,3 +18,7 @@ part_more {old} {separator} {text} {n} {before} {mid} {now} {part} has m e p =
 -- all of them
 pub parts_all : {old separator : List ℕ} {text : ℕ → List ℕ} {n m end : ℕ} {now : List ℕ} → HasParts old separator text n now → end ≤ n → n ≤ end → end ≡ m → now ≡ old ++ joined separator text m
 parts_all {old} {separator} {text} has over within is = has.parts ∙ ap (λ k. old ++ joined separator text k) (le_antisymm within over ∙ is)
+
+-- three parts, one after the other
+pub three : (old a b c first second third : List ℕ) → first ≡ old ++ a → second ≡ first ++ b → third ≡ second ++ c → third ≡ old ++ (a ++ (b ++ c))
+three old a b c first second third f s t = t ∙ ap (λ x. x ++ c) (s ∙ ap (λ x. x ++ b) f) ∙ append_assoc (old ++ a) b c ∙ append_assoc old a (b ++ c)

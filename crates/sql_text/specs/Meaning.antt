@@ -1,6 +1,6 @@
 -- What an SQL query of named steps means: which rows it has, over tables as plain lists of rows. How often a row stands in
 -- a table or comes out of a step plays no part.
-use Rattle.std.specs.Prelude.{◌≡◌, ℕ, suc, ◌≢◌, ◌⊎◌, List, [], ◌∷◌, map, Contains, slice_index_or}
+use Rattle.std.specs.Prelude.{◌≡◌, ℕ, suc, ◌≢◌, ◌⊎◌, List, [], ◌∷◌, ◌++◌, map, Contains, slice_index_or}
 use Rattle.cqa_value.specs.declared.value.Value.{Value}
 use Rattle.cqa_model.specs.Database.{nothing}
 use Rattle.cqa_model.specs.Query.{OpHolds}
@@ -12,7 +12,10 @@ use Rattle.sql_text.specs.declared.syntax.Cmp.{Cmp}
 use Rattle.sql_text.specs.declared.syntax.Cmp.TheVariants.{Same, Test}
 use Rattle.sql_text.specs.declared.syntax.Select.{Select}
 use Rattle.sql_text.specs.declared.syntax.Body.{Body}
-use Rattle.sql_text.specs.declared.syntax.Body.TheVariants.{Distinct, Except}
+use Rattle.sql_text.specs.declared.syntax.Within.{Within}
+use Rattle.sql_text.specs.declared.syntax.Child.{Child}
+use Rattle.sql_text.specs.declared.syntax.Group.{Group}
+use Rattle.sql_text.specs.declared.syntax.Body.TheVariants.{Distinct, Grouped}
 use Rattle.sql_text.specs.declared.syntax.Step.{Step}
 use Rattle.sql_text.specs.declared.syntax.Sql.{Sql}
 
@@ -41,21 +44,53 @@ Meets w (Test c op x) = OpHolds op (cell_value w c) x
 abbrev pub MeetsAll : List (List Value) → List Cmp → Type 0
 MeetsAll w cmps = (k : Cmp) → Contains cmps k → Meets w k
 
--- each comparison of a select holds, and not each of those under `NOT`, if there are any
-pub record MeetsConditions (select : Select) (w : List (List Value)) : Type 0 where
-  pub all : MeetsAll w select.all
-  pub but : (select.but ≡ []) ⊎ (MeetsAll w select.but → ⊥)
+-- each of these cells has a value that is in its column of some row of its step
+abbrev pub AreWithin : (ℕ → List Value → Type 0) → List (List Value) → List Within → Type 0
+AreWithin before w only = (o : Within) → Contains only o → (h : List Value) × before o.step h × (slice_index_or h o.column nothing ≡ cell_value w o.cell)
 
--- a select has a row: that of its cells, for a choice that meets its conditions; one without cells has the empty row, where it
--- has one, and its text shows the constant 1 for it
+-- a choice: one row from each source, for which each of these comparisons holds and each of these values is in its step
+pub record IsChoice (tables : ℕ → List (List Value)) (before : ℕ → List Value → Type 0) (sources : List Listed) (all : List Cmp) (only : List Within) (w : List (List Value)) : Type 0 where
+  pub rows : IsRowOfEach tables before sources w
+  pub meets : MeetsAll w all
+  pub within : AreWithin before w only
+
+-- a select has a row: that of its cells, for a choice; one without cells has the empty row, where it has one, and its text
+-- shows the constant 1 for it
 abbrev pub Selects : (ℕ → List (List Value)) → (ℕ → List Value → Type 0) → Select → List Value → Type 0
 Selects tables before select row =
-    (w : List (List Value)) × IsRowOfEach tables before select.sources w × MeetsConditions select w × (map (cell_value w) select.cells ≡ row)
+    (w : List (List Value)) × IsChoice tables before select.sources select.all select.only w × (map (cell_value w) select.cells ≡ row)
+
+-- a choice, with a row of each child behind it, each of which meets its comparisons, ends in u
+abbrev pub Ends : (ℕ → List (List Value)) → (ℕ → List Value → Type 0) → List Child → List (List Value) → List (List Value) → Type 0
+Ends tables before [] w u = w ≡ u
+Ends tables before (c ∷ cs) w u =
+    (h : List Value) × HasRow tables before c.listed.source h × MeetsAll (w ++ h ∷ []) c.on × Ends tables before cs (w ++ h ∷ []) u
+
+-- the first child has a row that meets its comparisons, and behind each such row the next one has, and so on: no row of the
+-- outer join lacks one
+abbrev pub AreLed : (ℕ → List (List Value)) → (ℕ → List Value → Type 0) → List Child → List (List Value) → Type 0
+AreLed tables before [] w = Unit {0}
+AreLed tables before (c ∷ cs) w =
+    ((h : List Value) × HasRow tables before c.listed.source h × MeetsAll (w ++ h ∷ []) c.on)
+    × ((h : List Value) → HasRow tables before c.listed.source h → MeetsAll (w ++ h ∷ []) c.on → AreLed tables before cs (w ++ h ∷ []))
+
+-- a choice of a group shows a row: it meets the group's comparisons, has a row of each child, and shows no other row
+pub record Shows (tables : ℕ → List (List Value)) (before : ℕ → List Value → Type 0) (group : Group) (row : List Value) (w : List (List Value)) : Type 0 where
+  pub meets : MeetsAll w group.fit
+  pub led : AreLed tables before group.children w
+  pub alike : (u : List (List Value)) → Ends tables before group.children w u → map (cell_value u) group.cells ≡ row
+
+-- groups have a row: some choice has it, and each choice of that one's group shows it
+pub record Groups (tables : ℕ → List (List Value)) (before : ℕ → List Value → Type 0) (group : Group) (row : List Value) : Type 0 where
+  pub choice : List (List Value)
+  pub chosen : IsChoice tables before group.sources group.all group.only choice
+  pub each : (w : List (List Value)) → IsChoice tables before group.sources group.all group.only w →
+      map (cell_value w) group.by ≡ map (cell_value choice) group.by → Shows tables before group row w
 
 -- a step has a row
 abbrev pub Gives : (ℕ → List (List Value)) → (ℕ → List Value → Type 0) → Body → List Value → Type 0
 Gives tables before (Distinct select) row = Selects tables before select row
-Gives tables before (Except select other) row = Selects tables before select row × (Selects tables before other row → ⊥)
+Gives tables before (Grouped group) row = Groups tables before group row
 
 -- the rows of the steps, one more at a place
 abbrev pub with_step : (ℕ → List Value → Type 0) → ℕ → (List Value → Type 0) → ℕ → List Value → Type 0

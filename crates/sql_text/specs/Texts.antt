@@ -1,6 +1,7 @@
 -- How an SQL query is written: as text that engines of standard SQL read. Each name of a table or column stands between
 -- double quotes.
-use Rattle.std.specs.Prelude.{ℕ, zero, suc, ◌==◌, if◌then◌else◌, List, [], ◌∷◌, ◌++◌, length, slice_index, slice_index_or, codes, pos, negsuc}
+use Rattle.std.specs.Prelude.{ℕ, Bool, not, zero, suc, ◌==◌, ◌&&◌, ◌||◌, if◌then◌else◌, List, [], ◌∷◌, ◌++◌, length, map, slice_index, slice_index_or, flat_map, codes, pos, negsuc}
+use Rattle.std.specs.List.{filter, list_any, list_all}
 use Rattle.std.specs.Fmt.{decimal}
 use Rattle.cqa_value.specs.declared.value.Value.{Value}
 use Rattle.cqa_value.specs.declared.value.Value.TheVariants.{Int, Text}
@@ -12,16 +13,19 @@ use Rattle.cqa_model.specs.Plan.{answer_at}
 use Rattle.sql_text.specs.declared.syntax.Source.{Source}
 use Rattle.sql_text.specs.declared.syntax.Source.TheVariants.{Table, Step as Earlier}
 use Rattle.sql_text.specs.declared.syntax.Alias.{Alias}
-use Rattle.sql_text.specs.declared.syntax.Alias.TheVariants.{Joined, Block, Member, Before, Held, Good as GoodOne}
+use Rattle.sql_text.specs.declared.syntax.Alias.TheVariants.{Member, Context, Held}
 use Rattle.sql_text.specs.declared.syntax.Listed.{Listed}
 use Rattle.sql_text.specs.declared.syntax.Cell.{Cell}
 use Rattle.sql_text.specs.declared.syntax.Cmp.{Cmp}
 use Rattle.sql_text.specs.declared.syntax.Cmp.TheVariants.{Same, Test as Compare}
+use Rattle.sql_text.specs.declared.syntax.Within.{Within}
 use Rattle.sql_text.specs.declared.syntax.Select.{Select}
+use Rattle.sql_text.specs.declared.syntax.Child.{Child}
+use Rattle.sql_text.specs.declared.syntax.Group.{Group}
 use Rattle.sql_text.specs.declared.syntax.Body.{Body}
-use Rattle.sql_text.specs.declared.syntax.Body.TheVariants.{Distinct, Except}
+use Rattle.sql_text.specs.declared.syntax.Body.TheVariants.{Distinct, Grouped}
 use Rattle.sql_text.specs.declared.syntax.StepKind.{StepKind}
-use Rattle.sql_text.specs.declared.syntax.StepKind.TheVariants.{Blocks, Fit, Rows, Fails, Good, Holds}
+use Rattle.sql_text.specs.declared.syntax.StepKind.TheVariants.{Asked, Blocks, Holds}
 use Rattle.sql_text.specs.declared.syntax.Step.{Step}
 use Rattle.sql_text.specs.declared.syntax.Sql.{Sql}
 use Rattle.sql_text.specs.declared.names.Names.{Names}
@@ -49,11 +53,8 @@ variable_text v = codes "v" ++ decimal v
 
 -- the word of a kind of step
 abbrev pub kind_word : StepKind → List ℕ
+kind_word Asked = codes "asked "
 kind_word Blocks = codes "blocks "
-kind_word Fit = codes "fit "
-kind_word Rows = codes "rows "
-kind_word Fails = codes "fails "
-kind_word Good = codes "good "
 kind_word Holds = codes "holds "
 
 -- the name of a step. It has a space, so no table has it
@@ -62,11 +63,11 @@ step_name kind level = quoted (kind_word kind ++ decimal level)
 
 -- stands for a source that is not there
 abbrev pub nowhere : Listed
-nowhere = record { source = Table 0; alias = Block }
+nowhere = record { source = Table 0; alias = Member }
 
 -- stands for a select that is not there
 abbrev pub no_select : Select
-no_select = record { cells = []; sources = []; all = []; but = [] }
+no_select = record { cells = []; sources = []; all = []; only = [] }
 
 -- the step at a place
 abbrev pub step_at : List Step → ℕ → Step
@@ -74,12 +75,9 @@ step_at steps m = slice_index_or steps m (record { kind = Blocks; level = 0; col
 
 -- an alias
 abbrev pub alias_text : Alias → List ℕ
-alias_text (Joined n) = codes "x" ++ decimal n
-alias_text Block = codes "b"
 alias_text Member = codes "y"
-alias_text Before = codes "r"
-alias_text Held = codes "h"
-alias_text GoodOne = codes "g"
+alias_text Context = codes "s"
+alias_text (Held n) = codes "h" ++ decimal n
 
 -- an operator, between spaces
 abbrev pub op_text : Op → List ℕ
@@ -132,65 +130,197 @@ cmp_at cmps i = slice_index_or cmps i (Same (record { place = 0; column = 0 }) (
 abbrev pub cmps_text : Names → List Step → List Listed → List Cmp → List ℕ
 cmps_text names steps sources cmps = joined (codes " AND ") (λ i. cmp_text names steps sources (cmp_at cmps i)) (length cmps)
 
--- the comparisons of a select
-abbrev pub all_text : Names → List Step → Select → List ℕ
-all_text names steps select = if length select.all == 0 then [] else codes " WHERE " ++ cmps_text names steps select.sources select.all
+-- a list of this length has something
+abbrev pub is_there : ℕ → Bool
+is_there n = not (n == 0)
 
--- the comparisons of a select under `NOT`
-abbrev pub but_text : Names → List Step → Select → List ℕ
-but_text names steps select =
-    if length select.but == 0 then [] else
-    (if length select.all == 0 then codes " WHERE NOT (" else codes " AND NOT (") ++ (cmps_text names steps select.sources select.but ++ codes ")")
+-- `AND` between two texts, where both are there
+abbrev pub and_between : Bool → Bool → List ℕ
+and_between first second = if first && second then codes " AND " else []
+
+-- the value that is in a column of some row of a step, at a place, and any one where there is none
+abbrev pub only_at : List Within → ℕ → Within
+only_at onlys i = slice_index_or onlys i (record { cell = record { place = 0; column = 0 }; step = 0; column = 0 })
+
+-- the values of a column of a source
+unfoldable pub column_of_text : Names → List Step → Source → ℕ → List ℕ
+column_of_text names steps source column =
+    codes "(SELECT s." ++ (column_text names steps source column ++ (codes " FROM " ++ (source_text names steps source ++ codes " AS s)")))
+
+-- a cell's value is in a column of a step
+unfoldable pub only_text : Names → List Step → List Listed → Within → List ℕ
+only_text names steps sources o = cell_text names steps sources o.cell ++ (codes " IN " ++ column_of_text names steps (Earlier o.step) o.column)
+
+-- such conditions, all of which have to hold
+abbrev pub onlys_text : Names → List Step → List Listed → List Within → List ℕ
+onlys_text names steps sources onlys = joined (codes " AND ") (λ i. only_text names steps sources (only_at onlys i)) (length onlys)
+
+-- comparisons and such conditions
+unfoldable pub conditions_text : Names → List Step → List Listed → List Cmp → List Within → List ℕ
+conditions_text names steps sources all only =
+    cmps_text names steps sources all ++ (and_between (is_there (length all)) (is_there (length only)) ++ onlys_text names steps sources only)
+
+-- the conditions on a choice
+abbrev pub where_text : Names → List Step → List Listed → List Cmp → List Within → List ℕ
+where_text names steps sources all only =
+    if is_there (length all) || is_there (length only) then codes " WHERE " ++ conditions_text names steps sources all only else []
 
 -- the sources of a select
 unfoldable pub sources_text : Names → List Step → List Listed → List ℕ
-sources_text names steps sources = joined (codes ", ") (λ i. listed_text names steps (listed_at sources i)) (length sources)
+sources_text names steps sources = joined (codes " CROSS JOIN ") (λ i. listed_text names steps (listed_at sources i)) (length sources)
 
 -- what stands behind the columns of a select
 unfoldable pub rest_text : Names → List Step → Select → List ℕ
-rest_text names steps select = codes " FROM " ++ (sources_text names steps select.sources ++ (all_text names steps select ++ but_text names steps select))
+rest_text names steps select =
+    codes " FROM " ++ (sources_text names steps select.sources ++ where_text names steps select.sources select.all select.only)
 
--- a column of a table is named by its variable; one of a step has that name
-abbrev pub named_text : Source → ℕ → List ℕ
-named_text (Table F) v = codes " AS " ++ variable_text v
-named_text (Earlier m) v = []
+-- the cell at a place, and any one where there is none
+abbrev pub cell_at : List Cell → ℕ → Cell
+cell_at cells i = slice_index_or cells i (record { place = 0; column = 0 })
 
--- the cell at a place of a select
-abbrev pub cell_at : Select → ℕ → Cell
-cell_at select i = slice_index_or select.cells i (record { place = 0; column = 0 })
-
--- a column of a select
-unfoldable pub out_text : Names → List Step → Select → List ℕ → ℕ → List ℕ
-out_text names steps select columns i =
-    cell_text names steps select.sources (cell_at select i)
-    ++ named_text (listed_at select.sources (cell_at select i).place).source (slice_index columns i)
+-- a column of a select, named by its variable
+abbrev pub out_text : Names → List Step → List Listed → List Cell → List ℕ → ℕ → List ℕ
+out_text names steps sources cells columns i =
+    cell_text names steps sources (cell_at cells i) ++ (codes " AS " ++ variable_text (slice_index columns i))
 
 -- the columns of a select
-unfoldable pub columns_text : Names → List Step → List ℕ → Select → List ℕ
-columns_text names steps columns select = joined (codes ", ") (λ i. out_text names steps select columns i) (length select.cells)
+unfoldable pub columns_text : Names → List Step → List Listed → List Cell → List ℕ → List ℕ
+columns_text names steps sources cells columns = joined (codes ", ") (λ i. out_text names steps sources cells columns i) (length cells)
 
--- the columns of a select; one without columns has the constant 1
-abbrev pub outs_text : Names → List Step → List ℕ → Select → List ℕ
-outs_text names steps columns select = if length select.cells == 0 then codes "1 AS one" else columns_text names steps columns select
+-- the last column of a step, `one`: each step of contexts that hold has it, and each that has no other
+abbrev pub one_text : StepKind → ℕ → List ℕ
+one_text kind zero = codes "1 AS one"
+one_text Asked (suc n) = []
+one_text Blocks (suc n) = []
+one_text Holds (suc n) = codes ", 1 AS one"
 
--- a select of a step, behind its first words
-unfoldable pub select_text : List ℕ → Names → List Step → List ℕ → Select → List ℕ
-select_text words names steps columns select = words ++ (outs_text names steps columns select ++ rest_text names steps select)
+-- a select of a step
+unfoldable pub select_text : Names → List Step → StepKind → List ℕ → Select → List ℕ
+select_text names steps kind columns select =
+    codes "SELECT DISTINCT "
+    ++ (columns_text names steps select.sources select.cells columns
+    ++ (one_text kind (length select.cells) ++ rest_text names steps select))
 
--- what a step has: the rows of a select, each once, or those that another hasn't
-abbrev pub body_text : Names → List Step → List ℕ → Body → List ℕ
-body_text names steps columns (Distinct select) = select_text (codes "SELECT DISTINCT ") names steps columns select
-body_text names steps columns (Except select other) =
-    select_text (codes "SELECT ") names steps columns select ++ select_text (codes "\n  EXCEPT SELECT ") names steps columns other
+-- the sources of a group, and then its children
+abbrev pub group_sources : Group → List Listed
+group_sources g = g.sources ++ map (λ (c : Child). c.listed) g.children
+
+-- a child at a place, and any one where there is none
+abbrev pub child_at : List Child → ℕ → Child
+child_at children i = slice_index_or children i (record { listed = nowhere; on = [] })
+
+-- a child that is joined outwards
+unfoldable pub child_text : Names → List Step → List Listed → Child → List ℕ
+child_text names steps sources child =
+    codes " LEFT JOIN " ++ (listed_text names steps child.listed ++ (codes " ON " ++ cmps_text names steps sources child.on))
+
+-- the children of a group
+abbrev pub children_text : Names → List Step → List Listed → List Child → List ℕ
+children_text names steps sources children = flat_map (λ (c : Child). child_text names steps sources c) children
+
+-- a cell is in a list
+abbrev pub is_by : List Cell → Cell → Bool
+is_by cells c = list_any (λ (d : Cell). d.place == c.place && d.column == c.column) cells
+
+-- the first words of a group: two groups could have one row where they differ in a cell that isn't shown
+abbrev pub group_word : List Cell → List Cell → List ℕ
+group_word by cells = if list_all (λ c. is_by cells c) by then codes "SELECT " else codes "SELECT DISTINCT "
+
+-- a column of a group: where it isn't grouped by, the least one, which is the only one
+abbrev pub group_cell_text : Names → List Step → List Listed → List Cell → Cell → List ℕ
+group_cell_text names steps sources by c =
+    if is_by by c then cell_text names steps sources c else codes "MIN(" ++ (cell_text names steps sources c ++ codes ")")
+
+-- a column of a group, named by its variable
+abbrev pub group_out_text : Names → List Step → List Listed → List Cell → List Cell → List ℕ → ℕ → List ℕ
+group_out_text names steps sources by cells columns i =
+    group_cell_text names steps sources by (cell_at cells i) ++ (codes " AS " ++ variable_text (slice_index columns i))
+
+-- the columns of a group
+unfoldable pub group_columns_text : Names → List Step → List Listed → List Cell → List Cell → List ℕ → List ℕ
+group_columns_text names steps sources by cells columns =
+    joined (codes ", ") (λ i. group_out_text names steps sources by cells columns i) (length cells)
+
+-- the cells of a group that aren't grouped by
+abbrev pub apart_cells : List Cell → List Cell → List Cell
+apart_cells by cells = filter (λ c. not (is_by by c)) cells
+
+-- a cell has one value in a group
+abbrev pub same_text : Names → List Step → List Listed → Cell → List ℕ
+same_text names steps sources c =
+    codes "MIN(" ++ (cell_text names steps sources c ++ (codes ") = MAX(" ++ (cell_text names steps sources c ++ codes ")")))
+
+-- cells each of which has one value in a group
+unfoldable pub sames_text : Names → List Step → List Listed → List Cell → List ℕ
+sames_text names steps sources cells = joined (codes " AND ") (λ i. same_text names steps sources (cell_at cells i)) (length cells)
+
+-- a child has a row
+abbrev pub led_text : Child → List ℕ
+led_text child = alias_text child.listed.alias ++ codes ".one = 1"
+
+-- each child has a row
+unfoldable pub all_led_text : List Child → List ℕ
+all_led_text children = joined (codes " AND ") (λ i. led_text (child_at children i)) (length children)
+
+-- something is asked of each choice of a group
+abbrev pub has_fits : Group → Bool
+has_fits g = is_there (length g.fit) || is_there (length g.children)
+
+-- a choice of a group fits and is led on
+unfoldable pub fit_text : Names → List Step → List Listed → Group → List ℕ
+fit_text names steps sources g =
+    cmps_text names steps sources g.fit ++ (and_between (is_there (length g.fit)) (is_there (length g.children)) ++ all_led_text g.children)
+
+-- the least answer to whether a choice of a group fits and is led on is yes
+unfoldable pub least_text : Names → List Step → List Listed → Group → List ℕ
+least_text names steps sources g = codes "MIN(CASE WHEN " ++ (fit_text names steps sources g ++ codes " THEN 1 ELSE 0 END) = 1")
+
+-- each choice of a group fits and is led on
+abbrev pub fits_text : Names → List Step → List Listed → Group → List ℕ
+fits_text names steps sources g = if has_fits g then least_text names steps sources g else []
+
+-- each choice of a group fits and is led on, and these cells have one value
+unfoldable pub group_fits_text : Names → List Step → List Listed → Group → List Cell → List ℕ
+group_fits_text names steps sources g cells =
+    fits_text names steps sources g ++ (and_between (has_fits g) (is_there (length cells)) ++ sames_text names steps sources cells)
+
+-- a group is kept where it does
+unfoldable pub kept_text : Names → List Step → List Listed → Group → List Cell → List ℕ
+kept_text names steps sources g cells = codes " HAVING CASE WHEN " ++ (group_fits_text names steps sources g cells ++ codes " THEN 1 ELSE 0 END <> 0")
+
+-- the conditions on a group, of which the last ones are on these cells
+abbrev pub having_text : Names → List Step → List Listed → Group → List Cell → List ℕ
+having_text names steps sources g cells = if has_fits g || is_there (length cells) then kept_text names steps sources g cells else []
+
+-- the cells that are grouped by
+unfoldable pub by_text : Names → List Step → List Listed → List Cell → List ℕ
+by_text names steps sources by = joined (codes ", ") (λ i. cell_text names steps sources (cell_at by i)) (length by)
+
+-- what stands behind the columns of a group
+unfoldable pub group_rest_text : Names → List Step → List Listed → Group → List ℕ
+group_rest_text names steps sources g =
+    codes " FROM " ++ (sources_text names steps g.sources ++ (children_text names steps sources g.children
+    ++ (where_text names steps sources g.all g.only ++ (codes " GROUP BY " ++ (by_text names steps sources g.by ++ having_text names steps sources g (apart_cells g.by g.cells))))))
+
+-- the groups of a step, with these sources
+unfoldable pub group_text : Names → List Step → StepKind → List ℕ → List Listed → Group → List ℕ
+group_text names steps kind columns sources g =
+    group_word g.by g.cells
+    ++ (group_columns_text names steps sources g.by g.cells columns ++ (one_text kind (length g.cells) ++ group_rest_text names steps sources g))
+
+-- what a step has
+abbrev pub body_text : Names → List Step → StepKind → List ℕ → Body → List ℕ
+body_text names steps kind columns (Distinct select) = select_text names steps kind columns select
+body_text names steps kind columns (Grouped g) = group_text names steps kind columns (group_sources g) g
 
 -- a step with its name
 unfoldable pub step_text : Names → List Step → Step → List ℕ
-step_text names steps s = step_name s.kind s.level ++ (codes " AS (\n  " ++ (body_text names steps s.columns s.body ++ codes ")"))
+step_text names steps s = step_name s.kind s.level ++ (codes " AS (\n  " ++ (body_text names steps s.kind s.columns s.body ++ codes ")"))
 
 -- an answer column, by its name
 unfoldable pub answer_text : Query → Names → List Step → Select → ℕ → List ℕ
 answer_text q names steps select i =
-    cell_text names steps select.sources (cell_at select i) ++ (codes " AS " ++ column_name names (answer_at q i).atom (answer_at q i).col)
+    cell_text names steps select.sources (cell_at select.cells i) ++ (codes " AS " ++ column_name names (answer_at q i).atom (answer_at q i).col)
 
 -- the answer columns
 unfoldable pub answer_columns_text : Query → Names → List Step → Select → List ℕ
@@ -207,7 +337,8 @@ steps_text names steps = joined (codes ",\n") (λ i. step_text names steps (step
 
 -- the last select, `;`, and a line feed
 unfoldable pub last_text : Query → Names → List Step → Select → List ℕ
-last_text q names steps last = codes "\nSELECT DISTINCT " ++ (answers_text q names steps last ++ (rest_text names steps last ++ codes ";\n"))
+last_text q names steps last =
+    codes "\nSELECT " ++ (answers_text q names steps last ++ (rest_text names steps last ++ codes ";\n"))
 
 -- the text of a query: its steps and its last select
 unfoldable pub sql_bytes : Query → Names → Sql → List ℕ

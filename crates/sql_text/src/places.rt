@@ -2,10 +2,10 @@
 
 ghost use Rattle.std.specs.Prelude.{◌≡◌, ◌++◌, OnOk, [], slice_index, slice_index_or};
 ghost use Rattle.cqa_model.specs.Plan.{answer_at};
-ghost use Rattle.sql_text.specs.Texts.{cell_at, column_name, listed_at, step_at, table_name};
+ghost use Rattle.sql_text.specs.Texts.{cell_at, column_name, listed_at, only_at, step_at, table_name};
 
 use crate::words::append_quoted;
-use crate::{Alias, Cell, Listed, Names, Select, Source, Step, StepKind};
+use crate::{Alias, Cell, Listed, Names, Source, Step, StepKind, Within};
 use cqa_model::{ColRef, Query};
 use cqa_value::{Name, NoMemory};
 
@@ -17,19 +17,36 @@ pub(crate) fn listed_at(sources: &[Listed], place: usize) -> Listed
         Some(listed) => *listed,
         None => Listed {
             source: Source::Table(0),
-            alias: Alias::Block,
+            alias: Alias::Member,
         },
     }
 }
 
 /// The cell at a place.
-pub(crate) fn cell_at(select: &Select, place: usize) -> Cell
-    ensures { result ≡ cell_at select.now place }
+pub(crate) fn cell_at(cells: &[Cell], place: usize) -> Cell
+    ensures { result ≡ cell_at cells.now place }
 {
-    match select.cells.as_slice().get(place) {
+    match cells.get(place) {
         Some(cell) => *cell,
         None => Cell {
             place: 0,
+            column: 0,
+        },
+    }
+}
+
+/// The cell and its column of a step at a place.
+pub(crate) fn only_at(onlys: &[Within], place: usize) -> Within
+    ensures { result ≡ only_at onlys.now place }
+{
+    match onlys.get(place) {
+        Some(only) => *only,
+        None => Within {
+            cell: Cell {
+                place: 0,
+                column: 0,
+            },
+            step: 0,
             column: 0,
         },
     }

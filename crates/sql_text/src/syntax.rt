@@ -13,18 +13,12 @@ pub enum Source {
 /// The name of a source within a select.
 #[derive(Clone, Copy)]
 pub enum Alias {
-    /// `x` and a number: a joined table.
-    Joined(usize),
-    /// `b`: blocks.
-    Block,
-    /// `y`: the rows of a block.
+    /// `y`: the rows of an atom's table.
     Member,
-    /// `r`: rows of the atom before.
-    Before,
-    /// `h`: contexts that hold.
-    Held,
-    /// `g`: good blocks.
-    Good,
+    /// `s`: contexts.
+    Context,
+    /// `h` and a number: what holds of the part that begins with the atom of this number.
+    Held(usize),
 }
 
 /// A source with its alias.
@@ -48,37 +42,59 @@ pub enum Cmp {
     Test { cell: Cell, op: Op, value: Value },
 }
 
-/// The rows of these cells, over all choices of one row from each source for which all of these comparisons hold, and,
-/// if there are such, not all of those under `NOT`. One without cells is written with the constant 1.
+/// A cell's value is in this column of some row of a step.
+#[derive(Clone, Copy)]
+pub struct Within {
+    pub cell: Cell,
+    pub step: usize,
+    pub column: usize,
+}
+
+/// The rows of these cells, over all choices of one row from each source for which all of these comparisons hold and all of
+/// these values are in their steps. One without cells is written with the constant 1.
 #[derive(Drop)]
 pub struct Select {
     pub cells: Items<Cell>,
     pub sources: Items<Listed>,
     pub all: Items<Cmp>,
-    pub but: Items<Cmp>,
+    pub only: Items<Within>,
 }
 
-/// What a step has: the rows of a select, or those that another hasn't.
+/// A source that is joined to what stands before it, by these comparisons; what has no row of it is kept (`LEFT JOIN`).
+#[derive(Drop)]
+pub struct Child {
+    pub listed: Listed,
+    pub on: Items<Cmp>,
+}
+
+/// The choices of a select, grouped by cells and joined with children one after the other. A group has a row where each of
+/// its choices meets the comparisons `fit` and has a row of each child, and all of them show that row in these cells.
+#[derive(Drop)]
+pub struct Group {
+    pub cells: Items<Cell>,
+    pub sources: Items<Listed>,
+    pub all: Items<Cmp>,
+    pub only: Items<Within>,
+    pub by: Items<Cell>,
+    pub fit: Items<Cmp>,
+    pub children: Items<Child>,
+}
+
+/// What a step has: the rows of a select, or those of groups.
 #[derive(Drop)]
 pub enum Body {
     Distinct(Select),
-    Except(Select, Select),
+    Grouped(Group),
 }
 
 /// What a step is for.
 #[derive(Clone, Copy)]
 pub enum StepKind {
-    /// For each context, the blocks with a row that fits.
+    /// The keys of an atom that rows before it ask for.
+    Asked,
+    /// The contexts of a part, with its blocks, in which some row of its first atom fits and the parts below hold.
     Blocks,
-    /// Those of them all of whose rows fit.
-    Fit,
-    /// Their rows.
-    Rows,
-    /// The rows after which the plan doesn't hold.
-    Fails,
-    /// The blocks without such a row.
-    Good,
-    /// The contexts for which the plan holds from the atom on.
+    /// The contexts in which a part holds.
     Holds,
 }
 

@@ -1,8 +1,8 @@
 //! Appends the words of a query's text.
 
-ghost use Rattle.std.specs.Prelude.{◌≡◌, ◌++◌, OnOk};
+ghost use Rattle.std.specs.Prelude.{◌≡◌, ◌++◌, ◌==◌, if◌then◌else◌, [], OnOk, codes};
 ghost use Rattle.std.specs.Fmt.{decimal};
-ghost use Rattle.sql_text.specs.Texts.{alias_text, kind_word, literal_text as literal_sql, op_text, quoted, step_name, variable_text};
+ghost use Rattle.sql_text.specs.Texts.{alias_text, and_between, is_there, kind_word, literal_text as literal_sql, one_text, op_text, quoted, step_name, variable_text};
 
 use crate::{Alias, StepKind};
 use cqa_model::Op;
@@ -47,13 +47,47 @@ fn word_of(kind: StepKind) -> &'static str
     ensures { result.now ≡ kind_word kind }
 {
     match kind {
+        StepKind::Asked => "asked ",
         StepKind::Blocks => "blocks ",
-        StepKind::Fit => "fit ",
-        StepKind::Rows => "rows ",
-        StepKind::Fails => "fails ",
-        StepKind::Good => "good ",
         StepKind::Holds => "holds ",
     }
+}
+
+/// Whether a list of this length has something.
+pub(crate) fn is_there(count: usize) -> bool
+    ensures { result ≡ is_there count }
+{
+    count != 0
+}
+
+/// What stands between two texts, if both are there.
+pub(crate) fn and_between(first: bool, second: bool) -> &'static str
+    ensures { result.now ≡ and_between first second }
+{
+    if first && second { " AND " } else { "" }
+}
+
+/// The last column of a step that has so many others.
+pub(crate) fn one_text(kind: StepKind, count: usize) -> &'static str
+    ensures { result.now ≡ one_text kind count }
+{
+    if count == 0 {
+        return "1 AS one";
+    }
+    match kind {
+        StepKind::Holds => ", 1 AS one",
+        _ => "",
+    }
+}
+
+/// Appends a separator before each item but the first.
+pub(crate) fn separate(before: usize, separator: &str, out: &mut Vec<u8>) -> Result<(), NoMemory>
+    ensures { OnOk result (out.new.items ≡ out.old.items ++ (if before == 0 then [] else separator.now)) }
+{
+    if before > 0 {
+        append(separator, out)?;
+    }
+    Ok(())
 }
 
 /// Appends the name of a step.
@@ -76,15 +110,12 @@ pub(crate) fn append_alias(alias: Alias, out: &mut Vec<u8>) -> Result<(), NoMemo
     ensures { OnOk result (out.new.items ≡ out.old.items ++ alias_text alias) }
 {
     match alias {
-        Alias::Joined(number) => {
-            append("x", out)?;
+        Alias::Member => append("y", out),
+        Alias::Context => append("s", out),
+        Alias::Held(number) => {
+            append("h", out)?;
             append_number(number, out)
         }
-        Alias::Block => append("b", out),
-        Alias::Member => append("y", out),
-        Alias::Before => append("r", out),
-        Alias::Held => append("h", out),
-        Alias::Good => append("g", out),
     }
 }
 

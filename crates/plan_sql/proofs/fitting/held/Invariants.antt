@@ -4,4 +4,4 @@ use Rattle.plan_sql.proofs.fitting.held.Given as goal
 
 -- what is left
 abbrev pub invariant-loop-column : goal.invariant-loop-column
-invariant-loop-column l = l.known ++ held 0 l.column (drop l.column l.vs) ≡ held 0 0 l.vs
+invariant-loop-column l = l.known ++ held l.place l.column (drop l.column l.vs) ≡ held l.place 0 l.vs

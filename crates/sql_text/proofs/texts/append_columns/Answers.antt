@@ -8,4 +8,4 @@ loop-place-preserved c = part_more c.loop-place.invariant c.in_ok-separate.ensur
 
 pub returns : goal.returns
 unfolding columns_text
-returns c = parts_all c.loop-place.invariant c.loop-place-test.false c.loop-place.auto.place-end c.len-place-end.ensures
+returns c = parts_all c.loop-place.invariant c.loop-place-test.false c.loop-place.auto.place-end refl

@@ -5,4 +5,4 @@ use Rattle.sql_text.proofs.texts.append_columns.Given as goal
 
 -- those so far
 abbrev pub invariant-loop-place : goal.invariant-loop-place
-invariant-loop-place l = HasParts l.fn.out.items (codes ", ") (λ i. out_text l.names l.steps l.select l.columns i) l.place l.out.items
+invariant-loop-place l = HasParts l.fn.out.items (codes ", ") (λ i. out_text l.names l.steps l.sources l.cells l.columns i) l.place l.out.items

@@ -1,0 +1,212 @@
+//! The keys of an atom that an atom before it with few rows asks for.
+
+ghost use Rattle.std.specs.Prelude.{◌≡◌, ◌++◌, ◌∷◌, ◌<◌, ◌||◌, ◌==◌, [], IfOk, OnOk, All, Some, if◌then◌else◌, length, map, not, slice_index};
+ghost use Rattle.std.specs.List.{list_any, range_with_len};
+ghost use Rattle.cqa_model.specs.declared.query.Cond.{Cond as CondValue};
+ghost use Rattle.plan_sql.specs.declared.part.Bound.{Bound as BoundValue};
+ghost use Rattle.plan_sql.specs.Variables.{key_variables};
+ghost use Rattle.plan_sql.specs.Statement.{asked_steps, asked_variables, bound_for, cell_of, is_bound, is_value_test, keys_in, only_of, rows_of_atom};
+
+use crate::fitting::{Known, cell_of};
+use crate::levels::push_step;
+use crate::lists::{ascending, meets, within};
+use crate::part::Bound;
+use crate::selects::{keyed, rows_of_atom};
+use crate::shape::Shape;
+use cqa_model::{Cond, Op};
+use cqa_value::{Items, NoMemory};
+use sql_text::{Body, Step, StepKind, Within};
+use std::alloc::Global;
+
+/// Whether a condition is a test of an atom for one value.
+pub(crate) fn is_value_test(atom: u32, cond: &Cond) -> bool
+    ensures { result ≡ is_value_test atom cond.now }
+{
+    match cond {
+        Cond::Join { .. } => false,
+        Cond::Test { col, op, .. } => match op {
+            Op::Eq => col.atom == atom,
+            Op::Ne | Op::Lt | Op::Le | Op::Gt | Op::Ge => false,
+        },
+    }
+}
+
+/// Whether one of these conditions is a test of an atom for one value.
+pub(crate) fn has_value_test(atom: u32, conds: &[Cond]) -> bool
+    ensures { result ≡ list_any (λ (k : CondValue). is_value_test atom k) conds.now }
+{
+    for cond in conds {
+        if is_value_test(atom, cond) {
+            return true;
+        }
+    }
+    false
+}
+
+/// Whether an atom has few rows.
+fn is_bound(shape: &Shape<'_>, atom: u32, only: &[Within]) -> bool
+    ensures { result ≡ is_bound shape.now.query.now atom only.now }
+{
+    !only.is_empty() || has_value_test(atom, shape.query.conds.as_slice())
+}
+
+impl Bound {
+    /// A copy.
+    fn copy(&self, alloc: Global) -> Result<Bound, NoMemory>
+        ensures { IfOk result (λ bound. bound ≡ self.now) }
+    {
+        let only = Items::from_slice(alloc, self.only.as_slice())?;
+        Ok(Bound {
+            atom: self.atom,
+            only,
+        })
+    }
+}
+
+/// Appends copies of bounds.
+fn append_bounds(alloc: Global, bounds: &[Bound], list: &mut Items<Bound>) -> Result<(), NoMemory>
+    ensures { OnOk result (list.new ≡ list.old ++ bounds.now) }
+{
+    for bound in bounds {
+        list.push(bound.copy(alloc)?)?;
+    }
+    Ok(())
+}
+
+/// Appends an atom, if it has few rows, and then those before it.
+fn append_next(
+    alloc: Global,
+    shape: &Shape<'_>,
+    bounds: &[Bound],
+    atom: u32,
+    only: &[Within],
+    list: &mut Items<Bound>,
+) -> Result<(), NoMemory>
+    ensures { OnOk result (list.new ≡ list.old ++ (if is_bound shape.now.query.now atom only.now then record { atom = atom; only = only.now } ∷ bounds.now else bounds.now)) }
+{
+    if is_bound(shape, atom, only) {
+        let only = Items::from_slice(alloc, only)?;
+        list.push(Bound { atom, only })?;
+    }
+    append_bounds(alloc, bounds, list)
+}
+
+/// The atoms with few rows, behind an atom.
+pub(crate) fn next_bounds(
+    alloc: Global,
+    shape: &Shape<'_>,
+    bounds: &[Bound],
+    atom: u32,
+    only: &[Within],
+) -> Result<Items<Bound>, NoMemory>
+    ensures { IfOk result (λ list. list ≡ (if is_bound shape.now.query.now atom only.now then record { atom = atom; only = only.now } ∷ bounds.now else bounds.now)) }
+{
+    let mut list = Items::new(alloc);
+    match append_next(alloc, shape, bounds, atom, only, &mut list) {
+        Ok(()) => Ok(list),
+        Err(refused) => {
+            drop(list);
+            Err(refused)
+        }
+    }
+}
+
+/// The variables of an atom's key that are asked for by another.
+fn asked_variables(
+    alloc: Global,
+    shape: &Shape<'_>,
+    atom: u32,
+    other: u32,
+) -> Result<Items<u32>, NoMemory>
+    requires atom { atom < length shape.now.query.now.atoms }
+    requires other { other < length shape.now.query.now.atoms }
+    ensures { IfOk result (λ list. list ≡ asked_variables shape.now.query.now atom other) }
+{
+    let keys = shape.key_variables(alloc, atom)?;
+    let asked = within(alloc, keys.as_slice(), shape.of(other))?;
+    ascending(alloc, asked.as_slice())
+}
+
+/// The cells of these variables, each of which has a value of the column of the step at its own place.
+fn only_in(
+    alloc: Global,
+    known: &[Known],
+    place: usize,
+    columns: &[u32],
+) -> Result<Items<Within>, NoMemory>
+    ensures { IfOk result (λ only. only ≡ map (λ j. record { cell = cell_of known.now (slice_index columns.now j); step = place; column = j }) (range_with_len 0 (length columns.now))) }
+{
+    let mut only = Items::new(alloc);
+    for column in 0..columns.len() {
+        only.push(Within {
+            cell: cell_of(known, columns[column]),
+            step: place,
+            column,
+        })?;
+    }
+    Ok(only)
+}
+
+/// Key columns of an atom, by their variables, whose values are in the columns of the step at a place.
+pub(crate) fn keys_in(
+    alloc: Global,
+    shape: &Shape<'_>,
+    atom: u32,
+    place: usize,
+    columns: &[u32],
+) -> Result<Items<Within>, NoMemory>
+    requires { atom < length shape.now.query.now.atoms }
+    ensures { IfOk result (λ only. only ≡ keys_in shape.now.query.now atom place columns.now) }
+{
+    let key = keyed(alloc, shape, atom, Items::new(alloc))?;
+    let only = only_in(alloc, key.known.as_slice(), place, columns);
+    drop(key);
+    only
+}
+
+/// Appends the step that asks for keys of an atom, by an atom with few rows; says which columns have its values.
+fn push_asked_by(
+    alloc: Global,
+    shape: &Shape<'_>,
+    number: usize,
+    atom: u32,
+    bound: &Bound,
+    steps: &mut Items<Step>,
+) -> Result<Items<Within>, NoMemory>
+    requires atom { atom < length shape.now.query.now.atoms }
+    requires bound { bound.now.atom < length shape.now.query.now.atoms }
+    ensures steps { OnOk result (steps.new ≡ steps.old ++ asked_steps shape.now.query.now number atom (Some bound.now)) }
+    ensures only { IfOk result (λ only. only ≡ only_of shape.now.query.now atom (length steps.old) (Some bound.now)) }
+{
+    let place = steps.len();
+    let columns = asked_variables(alloc, shape, atom, bound.atom)?;
+    let only = keys_in(alloc, shape, atom, place, columns.as_slice())?;
+    let asked = columns.as_slice();
+    let select = rows_of_atom(alloc, shape, bound.atom, bound.only.as_slice(), &[], asked)?;
+    let body = Body::Distinct(select);
+    push_step(alloc, StepKind::Asked, number, asked, body, steps)?;
+    Ok(only)
+}
+
+/// Appends the step that asks for keys of an atom, if there is one; says which columns have its values.
+pub(crate) fn push_asked(
+    alloc: Global,
+    shape: &Shape<'_>,
+    number: usize,
+    atom: u32,
+    bounds: &[Bound],
+    steps: &mut Items<Step>,
+) -> Result<Items<Within>, NoMemory>
+    requires atom { atom < length shape.now.query.now.atoms }
+    requires bounds { All (λ (b : BoundValue). b.atom < length shape.now.query.now.atoms) bounds.now }
+    ensures steps { OnOk result (steps.new ≡ steps.old ++ asked_steps shape.now.query.now number atom (bound_for shape.now.query.now bounds.now atom)) }
+    ensures only { IfOk result (λ only. only ≡ only_of shape.now.query.now atom (length steps.old) (bound_for shape.now.query.now bounds.now atom)) }
+{
+    let keys = shape.key_variables(alloc, atom)?;
+    for bound in bounds {
+        if meets(shape.of(bound.atom), keys.as_slice()) {
+            return push_asked_by(alloc, shape, number, atom, bound, steps);
+        }
+    }
+    Ok(Items::new(alloc))
+}

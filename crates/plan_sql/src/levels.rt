@@ -1,0 +1,329 @@
+//! The steps of an atom, where parts hang on it.
+
+ghost use Rattle.std.specs.Prelude.{◌≡◌, ◌++◌, ◌∷◌, ◌<◌, ◌-◌, ◌||◌, [], IfOk, OnOk, flat_map, length};
+ghost use Rattle.std.specs.List.{list_any};
+ghost use Rattle.cqa_model.specs.declared.query.Cond.{Cond as CondValue};
+ghost use Rattle.sql_text.specs.declared.syntax.Body.TheVariants.{Distinct as DistinctBody, Grouped as GroupedBody};
+ghost use Rattle.sql_text.specs.declared.syntax.StepKind.TheVariants.{Blocks as BlocksKind, Holds as HoldsKind};
+ghost use Rattle.plan_sql.specs.declared.part.Part.{Part as PartValue};
+ghost use Rattle.plan_sql.specs.Variables.{ascending, key_variables, variables_of};
+ghost use Rattle.plan_sql.specs.Statement.{are_single, block_group, block_of, context_group, context_of, few_step, hangs, is_value_test, keys_in, level_steps, rows_of_atom, step, with_level};
+
+use crate::bounds::keys_in;
+use crate::children::{append_beside, are_single, hanging};
+use crate::few::{few_only, has_few, is_rare};
+use crate::groups::{block_group, context_group};
+use crate::lists::{ascending, joined, within, without};
+use crate::part::Part;
+use crate::selects::rows_of_atom;
+use crate::shape::Shape;
+use cqa_value::{Items, NoMemory};
+use sql_text::{Body, Step, StepKind, Within};
+use std::alloc::Global;
+
+/// An atom at hand: its number in the plan, its place in the query, and the columns whose values are in steps.
+#[derive(Clone, Copy)]
+pub(crate) struct Level<'o> {
+    pub number: usize,
+    pub atom: u32,
+    pub only: &'o [Within],
+}
+
+/// Appends a step.
+pub(crate) fn push_step(
+    alloc: Global,
+    kind: StepKind,
+    level: usize,
+    columns: &[u32],
+    body: Body,
+    steps: &mut Items<Step>,
+) -> Result<(), NoMemory>
+    ensures { OnOk result (steps.new ≡ steps.old ++ step kind level columns.now body ∷ []) }
+{
+    match Items::from_slice(alloc, columns) {
+        Ok(columns) => steps.push(Step {
+            kind,
+            level,
+            columns,
+            body,
+        }),
+        Err(refused) => {
+            drop(body);
+            Err(refused)
+        }
+    }
+}
+
+/// The variables of an atom, and then those of these parts.
+fn part_variables(alloc: Global, vs: &[u32], parts: &[Part]) -> Result<Items<u32>, NoMemory>
+    ensures { IfOk result (λ list. list ≡ vs.now ++ flat_map (λ (p : PartValue). p.columns) parts.now) }
+{
+    let mut list = Vec::from_slice(alloc, vs)?;
+    for part in parts {
+        list.extend_from_slice(part.columns.as_slice())?;
+    }
+    Ok(Items::from_vec(list))
+}
+
+/// The variables of a context of the part that an atom is the first one of.
+fn context_of(
+    alloc: Global,
+    shape: &Shape<'_>,
+    known: &[u32],
+    atom: u32,
+    parts: &[Part],
+) -> Result<Items<u32>, NoMemory>
+    requires { atom < length shape.now.query.now.atoms }
+    ensures { IfOk result (λ list. list ≡ context_of shape.now.query.now known.now atom parts.now) }
+{
+    let all = part_variables(alloc, shape.of(atom), parts)?;
+    let context = within(alloc, all.as_slice(), known)?;
+    ascending(alloc, context.as_slice())
+}
+
+/// A context's variables, and those of an atom's key.
+fn block_of(
+    alloc: Global,
+    shape: &Shape<'_>,
+    atom: u32,
+    context: &[u32],
+) -> Result<Items<u32>, NoMemory>
+    requires { atom < length shape.now.query.now.atoms }
+    ensures { IfOk result (λ list. list ≡ block_of shape.now.query.now atom context.now) }
+{
+    let keys = shape.key_variables(alloc, atom)?;
+    let keys = ascending(alloc, keys.as_slice())?;
+    let others = without(alloc, keys.as_slice(), context)?;
+    joined(alloc, context, others.as_slice())
+}
+
+/// Appends the step of the contexts in which the part holds, by the atom's blocks.
+fn push_groups(
+    alloc: Global,
+    shape: &Shape<'_>,
+    level: &Level<'_>,
+    context: &[u32],
+    parts: &[Part],
+    steps: &mut Items<Step>,
+) -> Result<(), NoMemory>
+    requires { level.now.atom < length shape.now.query.now.atoms }
+    ensures { OnOk result (steps.new ≡ steps.old ++ step HoldsKind level.now.number context.now (GroupedBody (block_group shape.now.query.now level.now.atom level.now.only.now parts.now context.now)) ∷ []) }
+{
+    let group = block_group(alloc, shape, level.atom, level.only, parts, context)?;
+    let body = Body::Grouped(group);
+    push_step(alloc, StepKind::Holds, level.number, context, body, steps)
+}
+
+/// Appends the steps of the keys of the few blocks that can hold, and of the contexts in which the part holds.
+fn push_few_groups(
+    alloc: Global,
+    shape: &Shape<'_>,
+    level: &Level<'_>,
+    context: &[u32],
+    parts: &[Part],
+    steps: &mut Items<Step>,
+) -> Result<(), NoMemory>
+    requires { level.now.atom < length shape.now.query.now.atoms }
+    ensures { OnOk result (steps.new ≡ (steps.old ++ few_step shape.now.query.now level.now.number level.now.atom level.now.only.now parts.now ∷ [])
+        ++ step HoldsKind level.now.number context.now (GroupedBody (block_group shape.now.query.now level.now.atom (keys_in shape.now.query.now level.now.atom (length steps.old) (ascending (key_variables shape.now.query.now level.now.atom))) parts.now context.now)) ∷ []) }
+{
+    let place = steps.len();
+    let keys = shape.key_variables(alloc, level.atom)?;
+    let keys = ascending(alloc, keys.as_slice())?;
+    push_few(alloc, shape, level, keys.as_slice(), parts, steps)?;
+    let only = keys_in(alloc, shape, level.atom, place, keys.as_slice())?;
+    let number = level.number;
+    let atom = level.atom;
+    let only = only.as_slice();
+    let level = Level { number, atom, only };
+    push_groups(alloc, shape, &level, context, parts, steps)
+}
+
+/// Appends the step of the keys, of these variables, of the few blocks of an atom that can hold.
+fn push_few(
+    alloc: Global,
+    shape: &Shape<'_>,
+    level: &Level<'_>,
+    keys: &[u32],
+    parts: &[Part],
+    steps: &mut Items<Step>,
+) -> Result<(), NoMemory>
+    requires atom { level.now.atom < length shape.now.query.now.atoms }
+    requires keys { keys.now ≡ ascending (key_variables shape.now.query.now level.now.atom) }
+    ensures { OnOk result (steps.new ≡ steps.old ++ few_step shape.now.query.now level.now.number level.now.atom level.now.only.now parts.now ∷ []) }
+{
+    let only = few_only(alloc, shape, level.atom, level.only, parts)?;
+    let only = only.as_slice();
+    let select = rows_of_atom(alloc, shape, level.atom, only, &[], keys)?;
+    let body = Body::Distinct(select);
+    push_step(alloc, StepKind::Blocks, level.number, keys, body, steps)
+}
+
+/// Appends a step of a kind: the atom's rows that fit, joined with the parts.
+fn push_rows(
+    alloc: Global,
+    shape: &Shape<'_>,
+    level: &Level<'_>,
+    kind: StepKind,
+    columns: &[u32],
+    parts: &[Part],
+    steps: &mut Items<Step>,
+) -> Result<(), NoMemory>
+    requires { level.now.atom < length shape.now.query.now.atoms }
+    ensures { OnOk result (steps.new ≡ steps.old ++ step kind level.now.number columns.now (DistinctBody (rows_of_atom shape.now.query.now level.now.atom level.now.only.now parts.now columns.now)) ∷ []) }
+{
+    let select = rows_of_atom(alloc, shape, level.atom, level.only, parts, columns)?;
+    let body = Body::Distinct(select);
+    push_step(alloc, kind, level.number, columns, body, steps)
+}
+
+/// Appends the step of the contexts in which the part holds, by the blocks for each context that the step at a place has.
+fn push_context_groups(
+    alloc: Global,
+    shape: &Shape<'_>,
+    level: &Level<'_>,
+    place: usize,
+    block: &[u32],
+    context: &[u32],
+    parts: &[Part],
+    steps: &mut Items<Step>,
+) -> Result<(), NoMemory>
+    requires { level.now.atom < length shape.now.query.now.atoms }
+    ensures { OnOk result (steps.new ≡ steps.old ++ step HoldsKind level.now.number context.now (GroupedBody (context_group shape.now.query.now level.now.atom place block.now parts.now context.now)) ∷ []) }
+{
+    let group = context_group(alloc, shape, level.atom, place, block, parts, context)?;
+    let body = Body::Grouped(group);
+    push_step(alloc, StepKind::Holds, level.number, context, body, steps)
+}
+
+/// Appends the steps of the contexts of an atom with blocks of several rows, where a part can have two contexts for a row.
+fn push_blocks(
+    alloc: Global,
+    shape: &Shape<'_>,
+    level: &Level<'_>,
+    context: &[u32],
+    parts: &[Part],
+    steps: &mut Items<Step>,
+) -> Result<(), NoMemory>
+    requires { level.now.atom < length shape.now.query.now.atoms }
+    ensures { OnOk result (steps.new ≡ (steps.old
+        ++ step BlocksKind level.now.number (block_of shape.now.query.now level.now.atom context.now) (DistinctBody (rows_of_atom shape.now.query.now level.now.atom level.now.only.now parts.now (block_of shape.now.query.now level.now.atom context.now))) ∷ [])
+        ++ step HoldsKind level.now.number context.now (GroupedBody (context_group shape.now.query.now level.now.atom (length steps.old) (block_of shape.now.query.now level.now.atom context.now) parts.now context.now)) ∷ []) }
+{
+    let place = steps.len();
+    let block = block_of(alloc, shape, level.atom, context)?;
+    let columns = block.as_slice();
+    push_rows(alloc, shape, level, StepKind::Blocks, columns, parts, steps)?;
+    push_context_groups(alloc, shape, level, place, columns, context, parts, steps)
+}
+
+/// Appends the steps of an atom, where these parts hang on it.
+fn push_level(
+    alloc: Global,
+    shape: &Shape<'_>,
+    level: &Level<'_>,
+    context: &[u32],
+    single: bool,
+    parts: &[Part],
+    steps: &mut Items<Step>,
+) -> Result<(), NoMemory>
+    requires atom { level.now.atom < length shape.now.query.now.atoms }
+    requires single { single ≡ are_single (variables_of shape.now.query.now level.now.atom) parts.now }
+    ensures { OnOk result (steps.new ≡ steps.old ++ level_steps shape.now.query.now level.now.number level.now.atom context.now level.now.only.now parts.now (length steps.old)) }
+{
+    if single && has_few(shape, level.atom, parts) {
+        push_few_groups(alloc, shape, level, context, parts, steps)
+    } else if single {
+        push_groups(alloc, shape, level, context, parts, steps)
+    } else if shape.is_strict(level.atom) {
+        push_rows(alloc, shape, level, StepKind::Holds, context, parts, steps)
+    } else {
+        push_blocks(alloc, shape, level, context, parts, steps)
+    }
+}
+
+/// Appends the steps of an atom where these parts hang on it, and says which part they are.
+fn push_part(
+    alloc: Global,
+    shape: &Shape<'_>,
+    level: &Level<'_>,
+    known: &[u32],
+    parts: &[Part],
+    steps: &mut Items<Step>,
+) -> Result<Part, NoMemory>
+    requires atom { level.now.atom < length shape.now.query.now.atoms }
+    ensures steps { OnOk result (steps.new ≡ steps.old ++ level_steps shape.now.query.now level.now.number level.now.atom (context_of shape.now.query.now known.now level.now.atom parts.now) level.now.only.now parts.now (length steps.old)) }
+    ensures part { IfOk result (λ part. part ≡ record {
+      number = level.now.number;
+      step = length steps.new - 1;
+      columns = context_of shape.now.query.now known.now level.now.atom parts.now;
+      keys = key_variables shape.now.query.now level.now.atom;
+      single = are_single (variables_of shape.now.query.now level.now.atom) parts.now;
+      rare = list_any (λ (k : CondValue). is_value_test level.now.atom k) shape.now.query.now.conds || list_any (λ (p : PartValue). p.rare) parts.now;
+    }) }
+{
+    let single = are_single(alloc, shape.of(level.atom), parts)?;
+    let columns = context_of(alloc, shape, known, level.atom, parts)?;
+    let keys = shape.key_variables(alloc, level.atom)?;
+    push_level(
+        alloc,
+        shape,
+        level,
+        columns.as_slice(),
+        single,
+        parts,
+        steps,
+    )?;
+    Ok(Part {
+        number: level.number,
+        step: steps.len().saturating_sub(1),
+        columns,
+        keys,
+        single,
+        rare: is_rare(shape, level.atom, parts),
+    })
+}
+
+/// Appends an atom's part and the parts beside it.
+fn append_around(
+    alloc: Global,
+    shape: &Shape<'_>,
+    level: &Level<'_>,
+    known: &[u32],
+    later: &[Part],
+    steps: &mut Items<Step>,
+    list: &mut Items<Part>,
+) -> Result<(), NoMemory>
+    requires atom { level.now.atom < length shape.now.query.now.atoms }
+    ensures steps { OnOk result (steps.new ≡ (with_level shape.now.query.now level.now.number known.now level.now.only.now level.now.atom (record { steps = steps.old; parts = later.now })).steps) }
+    ensures parts { OnOk result (list.new ≡ list.old ++ (with_level shape.now.query.now level.now.number known.now level.now.only.now level.now.atom (record { steps = steps.old; parts = later.now })).parts) }
+{
+    let parts = hanging(alloc, shape, known, level.atom, later)?;
+    let part = push_part(alloc, shape, level, known, parts.as_slice(), steps);
+    drop(parts);
+    list.push(part?)?;
+    append_beside(alloc, shape, known, level.atom, later, list)
+}
+
+/// Appends the steps of an atom: the parts that hang on it, and it, become one part.
+pub(crate) fn with_level(
+    alloc: Global,
+    shape: &Shape<'_>,
+    level: &Level<'_>,
+    known: &[u32],
+    later: &[Part],
+    steps: &mut Items<Step>,
+) -> Result<Items<Part>, NoMemory>
+    requires atom { level.now.atom < length shape.now.query.now.atoms }
+    ensures steps { OnOk result (steps.new ≡ (with_level shape.now.query.now level.now.number known.now level.now.only.now level.now.atom (record { steps = steps.old; parts = later.now })).steps) }
+    ensures parts { IfOk result (λ parts. parts ≡ (with_level shape.now.query.now level.now.number known.now level.now.only.now level.now.atom (record { steps = steps.old; parts = later.now })).parts) }
+{
+    let mut list = Items::new(alloc);
+    match append_around(alloc, shape, level, known, later, steps, &mut list) {
+        Ok(()) => Ok(list),
+        Err(refused) => {
+            drop(list);
+            Err(refused)
+        }
+    }
+}

@@ -1,0 +1,11 @@
+use Rattle.std.proofs.Common.{refl, ap}
+use Rattle.sql_text.proofs.Steps.{part_more, parts_all}
+use Rattle.sql_text.specs.Texts.{same_text, sames_text}
+use Rattle.sql_text.proofs.groups.append_sames.Goals as goal
+
+pub loop-place-preserved : goal.loop-place-preserved
+loop-place-preserved c = part_more c.loop-place.invariant c.in_ok-separate.ensures c.in_ok-append_same.ensures (ap (λ x. same_text c.args.names.now c.args.steps.now c.args.sources.now x) c.cell_at.ensures)
+
+pub returns : goal.returns
+unfolding sames_text
+returns c = parts_all c.loop-place.invariant c.loop-place-test.false c.loop-place.auto.place-end refl
