@@ -233,6 +233,16 @@ def united_cycle(n):
     return ours[:-1] + ["ask %s and lhs.z = 0 union %s and lhs.z = 1;" % (query, query)], None
 
 
+def united_apart(n):
+    """The same cycle and a chain of two tables, which has a plan, as a union: n candidates more, of which two thirds are certain."""
+    ours, _ = strong_cycle(n)
+    front = [(n + k, 2 * k + i) for k in range(1, n + 1) for i in (0, 1)]
+    back = [(v, w) for k, v in front if v % 2 == 0 or k % 3 for w in (0, 1)]
+    tables = ["create table front (k int, v int, primary key (k));", "create table back (v int, w int, primary key (v));"]
+    chain = "select front.k from front, back where front.v = back.v and back.w >= 0"
+    return tables + inserts("front", front)[0] + inserts("back", back)[0] + ours[:-1] + ["%s union %s;" % (ours[-1][:-1], chain)], None
+
+
 def path_of_three(n):
     """Three tables of about n rows, each joined to the key of the next, with conflicts in each."""
     parts = []
@@ -416,6 +426,7 @@ LOADS = [
     ("certain rows of a strong cycle, by formulas", strong_cycle, 20000),
     ("disputed rows of the same cycle", strong_cycle_disputed, 20000),
     ("certain rows of the same cycle, as a union of two parts", united_cycle, 20000),
+    ("certain rows of the same cycle and of a chain by a plan, as a union", united_apart, 20000),
     ("a weak cycle of two tables, without a search", weak_cycle, 25000),
     ("a weak cycle of two tables, shuffled", shuffled_weak_cycle, 25000),
     ("a weak pair of two wide blocks", wide_weak_blocks, 25000),
@@ -432,7 +443,7 @@ LOADS = [
 
 NEWER = {"range": (ranges_of_ones, ranges_of_twos, ranges_of_one_block, ranges_of_ends),
          "disputed": (persons_disputed, strong_cycle_disputed), "against": (against_one_person, against_all),
-         "ask exists from r union": (united_cycle,), "show conflicts": (shown_conflicts,), "prefer": (preferred,), "range count from r ,": (joined_range,),
+         "ask exists from r union": (united_cycle, united_apart), "show conflicts": (shown_conflicts,), "prefer": (preferred,), "range count from r ,": (joined_range,),
          "range count from r , s group": (joined_groups,)}
 """Loads with statements that an older program doesn't know, by their first words."""
 

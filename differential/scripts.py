@@ -388,9 +388,16 @@ class Script:
         union = self.union()
         if self.random.random() < 0.15:
             return self.refused_union(union)
+        verb = self.random.choice(["ask", "ask", "possible", "explain", "explain", "classify", "sql"])
+        if verb == "classify":
+            shared = union.shared()
+            return self.replied("classify %s;" % union.text(), *(line for number, part in enumerate(union.parts, 1)
+                                                                 for line in ["part %d" % number] + class_lines(part)),
+                                "together " + shared[0].name if shared else "apart")
+        if verb == "sql":
+            return self.sql_of_union(union)
         if not union.is_small():
             return None
-        verb = self.random.choice(["ask", "ask", "possible", "explain", "explain"])
         if verb == "possible":
             return self.replied("possible %s;" % union.text(), *rows_lines(union.possible()))
         if verb == "explain":
@@ -398,6 +405,16 @@ class Script:
         else:
             self.ask(union)
         return self.show_log()
+
+    def sql_of_union(self, union):
+        """The text of a union, which is those of its parts put together, or why it has none."""
+        unplanned = [number for number, part in enumerate(union.parts, 1) if part.plan() is None]
+        if unplanned:
+            return self.replied("sql %s;" % union.text(), "no plan part %d" % unplanned[0])
+        if union.shared():
+            table, first, second = union.shared()
+            return self.replied("sql %s;" % union.text(), "no sql parts %d and %d share %s" % (first, second, table.name))
+        return self.say("sql %s;" % union.text(), lambda out: is_union_text(out, len(union.parts)))
 
     def refused_union(self, union):
         """A union with a fault or two, of which the first one in the order of checks is told: the number of parts, each part's query, the
@@ -422,7 +439,7 @@ class Script:
         if pick.random() < 0.2:
             texts += texts[:1] * (9 - len(texts))
             faults.append((-1, 0, "error 16 Limit selects 8"))
-        verb = pick.choice(["ask", "possible", "explain row %s for" % row_text(tuple(map(self.kind_of_value, kinds)) + (1,))])
+        verb = pick.choice(["ask", "possible", "classify", "sql", "explain row %s for" % row_text(tuple(map(self.kind_of_value, kinds)) + (1,))])
         if verb.startswith("explain"):
             faults.append((2, 0, "error 10 WrongArity row 1"))
         if faults:
@@ -585,10 +602,7 @@ class Script:
                 self.random.choice([self.explain, self.explain, self.against])(query, row)
             return None
         if verb == "classify":
-            kind, attacks = query.classify()
-            return self.replied("classify %s;" % text, "class " + kind, *(
-                "%s attacks %s, %s" % (query.tables[one].name, query.tables[other].name, "weak" if weak else "strong")
-                for (one, other), weak in attacks))
+            return self.replied("classify %s;" % text, *class_lines(query))
         plan = query.plan()
         steps = ["no plan"] if plan is None else ["step %d %s" % (number, query.tables[atom].name) for number, atom in enumerate(plan, 1)]
         return self.replied("plan %s;" % text, *steps)
@@ -743,6 +757,22 @@ def is_joined_range(out, query, goal, lax):
         value = query.aggregate(goal, query.joins_of([kept.get(table.name, table.sorted()) for table in query.tables]))
         if value != end:
             raise Differs("the repair behind %s has %s" % (word, value))
+
+
+def class_lines(query):
+    """What `classify` says of a query."""
+    kind, attacks = query.classify()
+    return ["class " + kind] + ["%s attacks %s, %s" % (query.tables[one].name, query.tables[other].name, "weak" if weak else "strong")
+                                for (one, other), weak in attacks]
+
+
+def is_union_text(out, number):
+    """As many texts of queries, put together; what they mean is tried by sql.py."""
+    for part in range(1, number + 1):
+        out.expect(("UNION " if part > 1 else "") + "SELECT * FROM (")
+        if not out.while_like(r'(?!\) AS "part ).*') or out.lines[out.at - 1].endswith(";"):
+            raise Differs("no text of part %d" % part)
+        out.expect(') AS "part %d"%s' % (part, ";" if part == number else ""))
 
 
 def is_rejection(out, query, row):

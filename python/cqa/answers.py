@@ -12,6 +12,7 @@ from .rows import Cell
 Kept = Tuple[str, Tuple[Cell, ...]]
 
 _ATTACK = re.compile(r"(\w+) attacks (\w+), (weak|strong)\Z")
+_PART = re.compile(r"part \d+\Z")
 _BY_BLOCK = re.compile(r"certain by block (\w+) (\(.*\))\Z", re.S)
 _GROUP = re.compile(r"group ('(?:[^']|'')*'|-?\d+) least ('(?:[^']|'')*'|\S+) greatest ('(?:[^']|'')*'|\S+)\Z", re.S)
 
@@ -29,6 +30,16 @@ class Classification(NamedTuple):
 
     name: str
     attacks: List[Attack]
+
+
+class UnionClassification(NamedTuple):
+    """How hard each part of a union is, and the first table that isn't strict and stands in two parts; None where they are apart.
+
+    No class of the union as a whole is told: none is known.
+    """
+
+    parts: List[Classification]
+    together: Optional[str]
 
 
 class Explanation(NamedTuple):
@@ -78,6 +89,14 @@ def classification(lines: List[str]) -> Classification:
         raise ReplyFault("no class: %r" % lines[:1])
     attacks = [_ATTACK.match(line) for line in lines[1:]]
     return Classification(lines[0][6:], [Attack(found[1], found[2], found[3] == "strong") for found in attacks if found])
+
+
+def union_classification(lines: List[str]) -> UnionClassification:
+    """Reads the reply to `classify` of a union."""
+    begins = [at for at, line in enumerate(lines) if _PART.match(line)] + [len(lines) - 1]
+    if len(begins) < 2 or not (lines[-1] == "apart" or lines[-1].startswith("together ")):
+        raise ReplyFault("no classes: %r" % lines[:1])
+    return UnionClassification([classification(lines[at + 1:end]) for at, end in zip(begins, begins[1:])], lines[-1][9:] or None)
 
 
 def explanation(lines: List[str]) -> Explanation:

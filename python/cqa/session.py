@@ -13,7 +13,7 @@ from types import TracebackType
 from typing import Callable, Dict, Iterable, Iterator, List, Mapping, Optional, Sequence, Tuple, Type, Union
 
 from . import answers
-from .answers import Classification, Explanation, Group, Kept, Range
+from .answers import Classification, Explanation, Group, Kept, Range, UnionClassification
 from .blocks import create_text, rows_script
 from .columns import is_in_range, scaled
 from .conflicts import Conflicts, conflicts_of
@@ -389,15 +389,20 @@ class Session:
         """How hard the query is, by its attacks. Raises Refused."""
         return answers.classification(self._lines("classify %s;" % self._query(query)))
 
+    def classify_union(self, union: str) -> UnionClassification:
+        """How hard each part of a union is, and whether two parts share a table that isn't strict. Raises Refused."""
+        return answers.union_classification(self._lines("classify %s;" % self._query(union)))
+
     def plan(self, query: str) -> Optional[List[str]]:
         """The tables in the order in which they can be gone through without a search, or None where there is none. Raises Refused."""
         lines = self._lines("plan %s;" % self._query(query))
         return None if lines == ["no plan"] else [line.split(" ")[2] for line in lines]
 
     def sql(self, query: str) -> Optional[str]:
-        """One query in SQL for the certain rows, or None where no plan decides them. Raises Refused."""
+        """One query in SQL for the certain rows of a query or of a union, or None where there is none: a query has no plan, or
+        parts share a table that isn't strict. Raises Refused."""
         lines = self._lines("sql %s;" % self._query(query))
-        return None if lines == ["no plan"] else "".join(line + "\n" for line in lines)
+        return None if lines[0].startswith("no ") else "".join(line + "\n" for line in lines)
 
     def _answer(self, verb: str, query: str) -> Rows:
         return self.rows_of(query, self._lines("%s %s;" % (verb, self._query(query))))

@@ -119,6 +119,14 @@ class Questions(ProgramCase):
         self.assertEqual(self.db.possible("select name from staff where id = 7 union select name from staff where room = 14;"), [("Ida",)])
         self.assertEqual(self.db.explain((7,), union).kind, "refutation")
         self.assertEqual(self.db.explain((7,), " union ".join(parts[::2])), cqa.Explanation("rejected", kept=(("staff", (7, "Ida", 14)),)))
+        first_order = cqa.Classification("first-order", [])
+        self.assertEqual(self.db.classify_union(union), cqa.UnionClassification([first_order, first_order], "staff"))
+        self.assertIsNone(self.db.sql(union))
+        apart = "exists from staff, door where staff.room = door.room union exists from lock"
+        self.db.run("create table lock (tag int, code int, primary key (tag));")
+        self.assertEqual(self.db.classify_union(apart), cqa.UnionClassification(
+            [cqa.Classification("first-order", [cqa.Attack("staff", "door", False)]), first_order], None))
+        self.assertIn("\nUNION SELECT * FROM (\n", self.db.sql(apart) or "")
         with self.assertRaises(cqa.Refused) as caught:
             self.db.certain("select id from staff union exists from door")
         self.assertEqual((caught.exception.name, caught.exception.fields), ("WrongArity", "row 2"))

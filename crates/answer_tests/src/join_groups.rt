@@ -4,11 +4,13 @@
 ghost use Rattle.std.specs.Prelude.{◌≡◌, ◌<◌, [], length};
 ghost use Rattle.range_join.specs.Worths.{AreOthersStrict};
 
+use crate::lax::lax_atom;
 use crate::making::{Wanted, is_answered};
 use cqa_model::{ColRef, End, Goal};
 use cqa_value::Value;
 use range_ask::Group;
-use range_join::{Sought, join_groups, lax_atom};
+use range_groups::join_groups;
+use range_join::Sought;
 use std::alloc::Global;
 use table_blocks::Bound;
 

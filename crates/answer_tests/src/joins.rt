@@ -4,11 +4,12 @@
 ghost use Rattle.std.specs.Prelude.{◌≡◌, ◌<◌, [], length};
 ghost use Rattle.range_join.specs.Worths.{AreOthersStrict};
 
+use crate::lax::lax_atom;
 use crate::making::{Wanted, is_answered};
 use cqa_model::{End, Goal, RowId};
 use cqa_value::Value;
 use range_ask::Range;
-use range_join::{Sought, join_range, lax_atom};
+use range_join::{Sought, join_range};
 use std::alloc::Global;
 use table_blocks::Bound;
 

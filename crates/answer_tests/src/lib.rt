@@ -7,6 +7,8 @@ mod join_groups;
 #[cfg(test)]
 mod joins;
 #[cfg(test)]
+mod lax;
+#[cfg(test)]
 mod making;
 #[cfg(test)]
 mod orders;

@@ -2,8 +2,9 @@
 //! Each is searched with a budget, and what comes of it is compared.
 
 use crate::making::{Wanted, is_answered};
+use part_search::{Searched, Stop};
 use row_sides::Side;
-use search_answers::{Searched, Stop, rows_by_search};
+use search_answers::rows_by_search;
 use std::alloc::Global;
 use table_blocks::Bound;
 

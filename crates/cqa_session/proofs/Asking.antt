@@ -5,10 +5,10 @@ use Rattle.cqa_value.specs.declared.memory.Fail.TheVariants as fails
 use Rattle.cqa_model.specs.declared.query.Query.{Query}
 use Rattle.cqa_model.specs.Database.{Table}
 use Rattle.row_sides.specs.declared.side.Side.{Side}
-use Rattle.search_answers.specs.declared.search.Searched.{Searched}
-use Rattle.search_answers.specs.declared.search.Searched.TheVariants.{All, Stopped}
-use Rattle.search_answers.specs.declared.search.Stop.{Stop}
-use Rattle.search_answers.specs.declared.search.Stop.TheVariants as stops
+use Rattle.part_search.specs.declared.searched.Searched.{Searched}
+use Rattle.part_search.specs.declared.searched.Searched.TheVariants.{All, Stopped}
+use Rattle.part_search.specs.declared.searched.Stop.{Stop}
+use Rattle.part_search.specs.declared.searched.Stop.TheVariants as stops
 use Rattle.search_answers.specs.Searching.{IsSearched, IsStop}
 use Rattle.query_strategy.specs.Strategies.{NeedsSearch}
 use Rattle.refusals.specs.declared.refusal.Refusal.{Refusal}

@@ -1,5 +1,5 @@
 -- How the rooms of the statements answer.
-use Rattle.std.proofs.Common.{◌≡◌, inl, inr, ℕ, List, Option, Some, None, IsNone, Result, Ok, Err, IsErrAnd, refl, sym, ap, subst}
+use Rattle.std.proofs.Common.{◌≡◌, inl, inr, ℕ, List, Option, Some, None, Result, Ok, Err, IsErrAnd, refl, sym, ap, subst}
 use Rattle.std.specs.Option.{option_map_or}
 use Rattle.cqa_value.specs.declared.memory.Fail.{Fail}
 use Rattle.cqa_value.specs.declared.memory.Fail.TheVariants as fails
@@ -37,11 +37,6 @@ pub replied_as : (old new : State) (Told May : Reply → State → Type 0) (resu
 replied_as old new Told May (Ok reply) turn told = turn reply told
 replied_as old new Told May (Err (fails.Refused refusal)) turn told = turn (Refused refusal) told
 replied_as old new Told May (Err fails.NoMemory) turn told = told
-
--- at the exit of a `let .. else`
-pub none_found : {T : Type 0} (found : Option T) → ((x : T) → found ≡ Some x → ⊥) → IsNone found
-none_found None h = refl
-none_found (Some x) h = absurd (h x refl)
 
 -- ---- the checks
 

@@ -1,11 +1,10 @@
 -- Why rows are certain, and why they aren't: reasons as replies.
-use Rattle.std.proofs.Common.{◌≡◌, ◌<◌, inr, ℕ, zero, suc, Some, None, IfSome, List, [], ◌∷◌, length, map, slice_get, Result, Ok, Err, refl, sym, ap, ◌∙◌, subst, arith}
+use Rattle.std.proofs.Common.{◌≡◌, inr, ℕ, Some, None, List, map, Result, Ok, Err, refl, sym, ap, ◌∙◌, subst}
 use Rattle.cqa_value.specs.declared.memory.Fail.{Fail}
 use Rattle.cqa_value.specs.declared.memory.Fail.TheVariants as fails
 use Rattle.cqa_value.specs.declared.value.Value.{Value}
 use Rattle.cqa_model.specs.declared.query.Query.{Query}
 use Rattle.cqa_model.specs.declared.query.RowId.{RowId}
-use Rattle.cqa_model.specs.declared.schema.Schema.{Schema}
 use Rattle.refusals.specs.declared.refusal.Refusal.{Refusal}
 use Rattle.cqa_model.specs.Database.{Table}
 use Rattle.query_strategy.specs.declared.reason.Reason.TheVariants as reasons
@@ -20,16 +19,11 @@ use Rattle.reply_text.specs.declared.reply.Reply.{Reply}
 use Rattle.reply_text.specs.declared.reply.Reply.TheVariants as replies
 use Rattle.cqa_session.specs.State.{State}
 use Rattle.cqa_session.specs.Replying.{Replies, IsReplyOutcome}
-use Rattle.cqa_session.specs.Statements.Kept.{table_name_at, kept_line}
+use Rattle.query_replies.specs.Names.{table_name_at}
+use Rattle.cqa_session.specs.Statements.Kept.{kept_line}
 use Rattle.cqa_session.specs.Statements.Untold.{RefusesRow}
 use Rattle.cqa_session.specs.Statements.Explain.{StopsFor, MayTell, Explains}
 use Rattle.cqa_session.proofs.Spending.{spent_for, spends}
-
--- the name of a table is that of its schema
-pub named : (db : List Table) (table : ℕ) (schema : Schema) → table < length db → IfSome (slice_get db table) (λ t. schema ≡ t.schema) → schema.name ≡ table_name_at db table
-named [] table schema l is = absurd (omega (arith, l))
-named (t ∷ db) zero schema l is = ap (λ (s : Schema). s.name) is
-named (t ∷ db) (suc table) schema l is = named db table schema (omega (arith, l)) is
 
 module _ (old : State) (q : Query) (row : List Value) (db : List Table) (reply : Reply) (tables : db ≡ old.tables) where
   -- the block by which a row is certain, told by the name of its table

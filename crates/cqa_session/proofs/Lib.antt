@@ -6,13 +6,12 @@ pub mod Dumping
 pub mod Explaining
 pub mod Opposing
 mod Joining
-mod Naming
-mod LineSteps
 mod Contesting
 mod Ranging
 pub mod Sayings
 mod Spending
 mod Uniting
+mod Apart
 pub mod TableLines
 pub mod Valid
 pub mod Proving

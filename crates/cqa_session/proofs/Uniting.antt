@@ -13,8 +13,8 @@ use Rattle.query_resolve.specs.Resolved.{AreQueriesOf}
 use Rattle.query_strategy.specs.declared.reason.Reason.TheVariants as reasons
 use Rattle.query_strategy.specs.declared.reason.Untold.{Untold}
 use Rattle.query_strategy.specs.declared.reason.Untold.TheVariants as untold
-use Rattle.search_answers.specs.declared.search.Stop.{Stop}
-use Rattle.search_answers.specs.declared.search.Stop.TheVariants as stops
+use Rattle.part_search.specs.declared.searched.Stop.{Stop}
+use Rattle.part_search.specs.declared.searched.Stop.TheVariants as stops
 use Rattle.union_ask.specs.Reasons.{IsReasonIn, IsUntoldIn}
 use Rattle.union_ask.specs.Searching.{IsStopIn}
 use Rattle.reply_text.specs.declared.reply.Proof.{Proof}

@@ -1,7 +1,6 @@
 pub mod State
 pub mod Saying
 pub mod Replying
-pub mod AttackLines
 pub mod Reasons
 pub mod Statements
 pub mod Machine

@@ -31,6 +31,8 @@ use Rattle.cqa_session.specs.Statements.Against.{AnswersAgainst}
 use Rattle.cqa_session.specs.Statements.Prove.{ProvesRow}
 use Rattle.cqa_session.specs.Statements.AskUnion.{AnswersUnion}
 use Rattle.cqa_session.specs.Statements.PossibleUnion.{AnswersPossibleUnion}
+use Rattle.cqa_session.specs.Statements.ClassifyUnion.{ClassifiesUnion}
+use Rattle.cqa_session.specs.Statements.SqlUnion.{WritesUnionSql}
 use Rattle.cqa_session.specs.Statements.ExplainUnion.{ExplainsUnion}
 use Rattle.cqa_session.specs.Statements.SetConflicts.{SetsConflicts}
 use Rattle.cqa_session.specs.Statements.ShowTables.{ShowsTables}
@@ -65,6 +67,8 @@ fault_in old (statements.RangeJoin range) block = range_join_fault old.tables ra
 fault_in old (statements.Asking verb select) block = query_fault old.tables select
 fault_in old (statements.AskUnion selects) block = union_fault old.tables selects.parts
 fault_in old (statements.PossibleUnion selects) block = union_fault old.tables selects.parts
+fault_in old (statements.ClassifyUnion selects) block = union_fault old.tables selects.parts
+fault_in old (statements.SqlUnion selects) block = union_fault old.tables selects.parts
 fault_in old (statements.ExplainUnion row selects) block = union_fault old.tables selects.parts
 fault_in old (statements.SetConflicts conflicts) block = None
 fault_in old statements.ShowTables block = None
@@ -84,6 +88,8 @@ Executes old (statements.RangeJoin range) block reply new = TellsRangeJoin old r
 Executes old (statements.Asking verb select) block reply new = Asks old verb select reply new
 Executes old (statements.AskUnion selects) block reply new = AnswersUnion old selects.parts reply new
 Executes old (statements.PossibleUnion selects) block reply new = AnswersPossibleUnion old selects.parts reply new
+Executes old (statements.ClassifyUnion selects) block reply new = ClassifiesUnion old selects.parts reply new
+Executes old (statements.SqlUnion selects) block reply new = WritesUnionSql old selects.parts reply new
 Executes old (statements.ExplainUnion row selects) block reply new = ExplainsUnion old row selects.parts reply new
 Executes old (statements.SetConflicts conflicts) block reply new = SetsConflicts old conflicts reply new
 Executes old statements.ShowTables block reply new = ShowsTables old reply new

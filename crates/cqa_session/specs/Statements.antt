@@ -14,8 +14,10 @@ pub mod Possible
 pub mod PossibleUnion
 pub mod Disputed
 pub mod Classify
+pub mod ClassifyUnion
 pub mod Plan
 pub mod Sql
+pub mod SqlUnion
 pub mod Untold
 pub mod Explain
 pub mod ExplainUnion

@@ -13,6 +13,7 @@ use crate::statements::alter::alter;
 use crate::statements::ask::ask;
 use crate::statements::ask_union::ask_union;
 use crate::statements::classify::classify;
+use crate::statements::classify_union::classify_union;
 use crate::statements::copy::copy;
 use crate::statements::create::create;
 use crate::statements::delete::delete;
@@ -33,6 +34,7 @@ use crate::statements::show_conflicts::show_conflicts;
 use crate::statements::show_log::show_log;
 use crate::statements::show_tables::show_tables;
 use crate::statements::sql::sql;
+use crate::statements::sql_union::sql_union;
 use cqa_value::{Fail, Items};
 use refusals::Refusal;
 use reply_text::Reply;
@@ -92,6 +94,8 @@ fn done(
         Statement::Asking { verb, select } => asked(alloc, session, verb, select),
         Statement::AskUnion(selects) => ask_union(alloc, session, selects),
         Statement::PossibleUnion(selects) => possible_union(alloc, session, selects),
+        Statement::ClassifyUnion(selects) => classify_union(alloc, session, selects),
+        Statement::SqlUnion(selects) => sql_union(alloc, session, selects),
         Statement::ExplainUnion { row, selects } => explain_union(alloc, session, row, selects),
         Statement::SetConflicts(conflicts) => set_conflicts(session, *conflicts),
         Statement::ShowTables => show_tables(alloc, session),

@@ -6,7 +6,7 @@ use Rattle.refusals.specs.declared.refusal.Refusal.{Refusal}
 use Rattle.refusals.specs.declared.refusal.Refusal.TheVariants.{WitnessLimit, Spent}
 use Rattle.spj_syntax.specs.declared.tree.Select.{Select}
 use Rattle.query_resolve.specs.Resolved.{AreQueriesOf}
-use Rattle.union_ask.specs.Parts.{HasTooManyIn}
+use Rattle.part_search.specs.Parts.{HasTooManyIn}
 use Rattle.union_ask.specs.Searching.{IsFirstOverIn, IsWithinIn, NoneBeforeIn}
 use Rattle.reply_text.specs.declared.reply.Reply.{Reply}
 use Rattle.reply_text.specs.declared.reply.Reply.TheVariants.{Rows, Refused}

@@ -17,7 +17,8 @@ use Rattle.cqa_session.specs.State.{State}
 use Rattle.cqa_session.specs.Reasons.{IsReason, IsOverLimit}
 use Rattle.cqa_session.specs.Replying.{Replies}
 use Rattle.cqa_session.specs.Statements.Spent.{SpendsAt}
-use Rattle.cqa_session.specs.Statements.Kept.{table_name_at, kept_line}
+use Rattle.query_replies.specs.Names.{table_name_at}
+use Rattle.cqa_session.specs.Statements.Kept.{kept_line}
 
 -- What is refused: the row has too many witnesses to be told by its formula; or there is a search, and the budget is used up
 -- for it.

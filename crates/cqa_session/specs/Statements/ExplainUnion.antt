@@ -9,7 +9,7 @@ use Rattle.query_strategy.specs.declared.reason.Reason.TheVariants as reasons
 use Rattle.spj_syntax.specs.declared.tree.Select.{Select}
 use Rattle.query_resolve.specs.Checks.{union_row_fault}
 use Rattle.query_resolve.specs.Resolved.{AreQueriesOf}
-use Rattle.union_ask.specs.Parts.{HasTooManyIn}
+use Rattle.part_search.specs.Parts.{HasTooManyIn}
 use Rattle.union_ask.specs.Reasons.{IsReasonIn}
 use Rattle.reply_text.specs.declared.reply.Reply.{Reply}
 use Rattle.reply_text.specs.declared.reply.Reply.TheVariants.{ByRefutation, Rejected, Refused}

@@ -1,12 +1,9 @@
 -- The rows that a repair keeps, as lines of a reply.
-use Rattle.std.specs.Prelude.{ℕ, List, [], slice_index_or}
+use Rattle.std.specs.Prelude.{List, [], slice_index_or}
 use Rattle.cqa_model.specs.declared.query.RowId.{RowId}
-use Rattle.cqa_model.specs.Database.{Table, stored, names_of}
+use Rattle.cqa_model.specs.Database.{Table, stored}
 use Rattle.reply_text.specs.declared.reply.KeptRow.{KeptRow}
-
--- the name of the table at a place
-abbrev pub table_name_at : List Table → ℕ → List ℕ
-table_name_at db table = slice_index_or (names_of db) table []
+use Rattle.query_replies.specs.Names.{table_name_at}
 
 -- the line of a row that a repair keeps
 abbrev pub kept_line : List Table → RowId → KeptRow

@@ -10,7 +10,7 @@ use Rattle.range_ask.specs.declared.ends.Ends.{Ends}
 use Rattle.range_ask.specs.declared.groups.Group.{Group}
 use Rattle.range_ask.specs.declared.range.Range.{Range}
 use Rattle.range_join.specs.declared.sought.Sought.{Sought}
-use Rattle.range_join.specs.JoinGroups.{AreJoinGroups}
+use Rattle.range_groups.specs.JoinGroups.{AreJoinGroups}
 use Rattle.range_join.specs.Joins.{IsJoinRange}
 use Rattle.refusals.specs.declared.refusal.Refusal.TheVariants.{WitnessLimit}
 use Rattle.repair_back.specs.Results.{contested_of, AreStored}

@@ -9,8 +9,8 @@ use Rattle.cqa_model.specs.Certain.{IsCandidate}
 use Rattle.join_access.specs.Listing.{HasTooMany}
 use Rattle.row_sides.specs.declared.side.Side.{Side}
 use Rattle.row_sides.specs.Sides.{IsAnswerOf}
-use Rattle.search_answers.specs.declared.search.Searched.{Searched}
-use Rattle.search_answers.specs.declared.search.Searched.TheVariants.{All, Stopped}
+use Rattle.part_search.specs.declared.searched.Searched.{Searched}
+use Rattle.part_search.specs.declared.searched.Searched.TheVariants.{All, Stopped}
 use Rattle.search_answers.specs.Searching.{NoneBefore, IsStop}
 use Rattle.query_strategy.specs.Strategies.{NeedsSearch}
 use Rattle.spj_syntax.specs.declared.tree.Select.{Select}

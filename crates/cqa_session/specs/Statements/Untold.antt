@@ -7,8 +7,8 @@ use Rattle.refusals.specs.declared.refusal.Refusal.{Refusal}
 use Rattle.refusals.specs.declared.refusal.Refusal.TheVariants as refusals
 use Rattle.query_strategy.specs.declared.reason.Untold.{Untold}
 use Rattle.query_strategy.specs.declared.reason.Untold.TheVariants.{Over, Spent}
-use Rattle.search_answers.specs.declared.search.Stop.{Stop}
-use Rattle.search_answers.specs.declared.search.Stop.TheVariants as stops
+use Rattle.part_search.specs.declared.searched.Stop.{Stop}
+use Rattle.part_search.specs.declared.searched.Stop.TheVariants as stops
 use Rattle.cqa_session.specs.State.{State}
 
 -- The refusal says what keeps the row from being told. Where that is a spent budget, the row's formula is kept with the

@@ -10,13 +10,13 @@ use crate::Session;
 use crate::statements::untold::refuse_stop;
 use cqa_model::Query;
 use cqa_value::Fail;
+use part_search::{BoundParts, Searched};
 use query_resolve::resolve_all;
 use refusals::Refusal;
 use reply_text::Reply;
-use search_answers::Searched;
 use spj_syntax::Selects;
 use std::alloc::Global;
-use union_ask::{BoundParts, certain_of_union};
+use union_ask::certain_of_union;
 
 /// What the search for the certain rows came to, as a reply.
 fn reply_to(

@@ -12,13 +12,14 @@ use crate::statements::explain::{refuted, rejected};
 use crate::statements::untold::refuse_row;
 use cqa_model::Query;
 use cqa_value::{Fail, Row};
+use part_search::BoundParts;
 use query_resolve::{check_union_row, resolve_all};
 use query_strategy::{Reason, Untold};
 use refusals::Refusal;
 use reply_text::{Proof, Reply};
 use spj_syntax::Selects;
 use std::alloc::Global;
-use union_ask::{BoundParts, decide_union};
+use union_ask::decide_union;
 
 /// The reply that tells a reason, which is no block.
 fn reply_to(

@@ -3,25 +3,14 @@
 ghost use Rattle.std.specs.Prelude.{◌≡◌, ◌<◌, IfOk, [], length, map, slice_index_or};
 ghost use Rattle.cqa_model.specs.Database.{stored};
 ghost use Rattle.repair_back.specs.Results.{AreStored};
-ghost use Rattle.cqa_session.specs.Statements.Kept.{table_name_at, kept_line};
+ghost use Rattle.cqa_session.specs.Statements.Kept.{kept_line};
 
 use cqa_model::RowId;
-use cqa_value::{Items, Name, NoMemory};
+use cqa_value::{Items, NoMemory};
+use query_replies::name_of;
 use reply_text::KeptRow;
 use std::alloc::Global;
 use table_blocks::Database;
-
-/// The name of a table.
-///
-/// # Errors
-///
-/// `NoMemory` where memory is refused.
-pub fn name_of(alloc: Global, db: &Database, table: u32) -> Result<Name, NoMemory>
-    requires { table < length db.now }
-    ensures { IfOk result (λ name. name ≡ table_name_at db.now table) }
-{
-    db.schema(table).name.copy(alloc)
-}
 
 /// The line of a row that a repair keeps.
 fn kept_row(alloc: Global, db: &Database, name: RowId) -> Result<KeptRow, NoMemory>

@@ -6,12 +6,13 @@ ghost use Rattle.cqa_session.specs.Statements.PossibleUnion.{AnswersPossibleUnio
 
 use crate::Session;
 use cqa_value::Fail;
+use part_search::BoundParts;
 use query_resolve::resolve_all;
 use refusals::Refusal;
 use reply_text::Reply;
 use spj_syntax::Selects;
 use std::alloc::Global;
-use union_ask::{BoundParts, union_candidates};
+use union_ask::union_candidates;
 
 /// Answers the rows that are possible for a union.
 ///

@@ -8,44 +8,27 @@ ghost use Rattle.cqa_model.specs.Query.{FitsDatabase};
 ghost use Rattle.fo_rewrite.specs.Planning.{IsExact};
 ghost use Rattle.row_sides.specs.Sides.{IsAnswerOf, IsDisputedAnswer};
 ghost use Rattle.query_resolve.specs.Checks.{query_fault};
-ghost use Rattle.query_strategy.specs.Strategies.{IsStrategyOf};
 ghost use Rattle.cqa_session.specs.Replying.{Replies, IsReplyOutcome};
 ghost use Rattle.cqa_session.specs.Statements.Sides.{AnswersSide, FindsRows, TellsSide};
 
 use crate::Session;
 use crate::statements::untold::refuse_stop;
-use cqa_model::{MOST_ATOMS, Plan, Query};
+use cqa_model::{Plan, Query};
 use cqa_value::{Fail, Items, NoMemory, Row};
 use fo_plan::certain_by_plan;
 use join_witness::candidates;
+use known_rows::strategy_over;
 use pair_formula::{PairQuery, rows_by_pairs};
+use part_search::Searched;
 use query_resolve::resolve;
-use query_strategy::{Strategy, strategy_by_sizes};
+use query_strategy::Strategy;
 use refusals::Refusal;
 use reply_text::Reply;
 use row_sides::{Side, without};
-use search_answers::{Searched, rows_by_search};
+use search_answers::rows_by_search;
 use spj_syntax::Select;
 use std::alloc::Global;
 use table_blocks::Bound;
-
-/// The number of rows of each atom's table.
-fn sizes_of(bound: &Bound<'_>) -> [u32; MOST_ATOMS as usize] {
-    let mut sizes = [0; MOST_ATOMS as usize];
-    let atoms = bound.query.atoms.as_slice();
-    for at in 0..atoms.len() {
-        sizes[at] = bound.db.rows(atoms[at].table).len() as u32;
-    }
-    sizes
-}
-
-/// The method of a query, whose order is good for evaluation over its tables.
-fn strategy_over(alloc: Global, bound: &Bound<'_>) -> Result<Strategy, NoMemory>
-    ensures { IfOk result (IsStrategyOf bound.now.query.now) }
-{
-    let sizes = sizes_of(bound);
-    strategy_by_sizes(alloc, bound.query, &bound.variables, &sizes)
-}
 
 /// The possible rows of a query without the certain ones, which these are.
 fn disputed_beside(

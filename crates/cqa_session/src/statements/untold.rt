@@ -5,10 +5,10 @@ ghost use Rattle.cqa_session.specs.Statements.Untold.{RefusesRow, RefusesStop};
 
 use crate::Session;
 use cqa_value::{Fail, NoMemory, Row};
+use part_search::Stop;
 use query_strategy::Untold;
 use refusals::Refusal;
 use reply_text::Proof;
-use search_answers::Stop;
 use std::alloc::Global;
 
 /// The refusal of a row. Where the budget is used up, the row's formula is kept with the spent log.

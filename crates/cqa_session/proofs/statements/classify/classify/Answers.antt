@@ -1,29 +1,25 @@
-use Rattle.std.proofs.Common.{◌≡◌, None, inr, refl, subst}
+use Rattle.std.proofs.Common.{◌≡◌, List, ℕ, None, inr, refl, subst}
 use Rattle.query_resolve.specs.Checks.{query_fault}
 use Rattle.query_resolve.specs.Resolved.{IsQueryOf}
-use Rattle.cqa_session.specs.AttackLines.{AreAttackLines}
-use Rattle.cqa_session.proofs.LineSteps.{named-attacks}
+use Rattle.query_replies.specs.Classes.{IsClassWith}
+use Rattle.query_replies.proofs.Written.{long_as_written}
 use Rattle.cqa_session.proofs.statements.classify.classify.Goals as goal
 
-pub attack_lines-requires : goal.attack_lines-requires
-attack_lines-requires c =
-    named-attacks c.database.result.now c.args.select.now c.in_ok-query.query c.attacks-graph.result _ c.as_slice.ensures c.in_ok-query.ensures.is (c.attacks-graph.ensures.whole c.whole.ensures.is)
+pub class_of_query-found-requires : goal.class_of_query-found-requires
+class_of_query-found-requires c = long_as_written c.database.result.now c.args.select.now c.in_ok-query.query c.as_slice.result.now c.as_slice.ensures c.in_ok-query.ensures.is
 
 pub returns : goal.returns
 returns c =
     let select = c.args.select.now in
     let query = c.in_ok-query.query in
     let tables = c.database.ensures.is in
-    let are = c.attacks-graph.ensures.whole c.whole.ensures.is in
     inr (
       subst (λ db. query_fault db select ≡ None) tables c.in_ok-query.ensures.valid,
       record {
         query = query;
         resolved = subst (λ db. IsQueryOf db select query) tables c.in_ok-query.ensures.is;
-        class = c.class_of-class.result;
-        classed = c.class_of-class.ensures.query query are;
-        lines = c.in_ok-lines.lines;
-        attacks = subst (λ names. AreAttackLines query names c.in_ok-lines.lines) c.as_slice.ensures (c.in_ok-lines.ensures query are);
+        found = c.in_ok-part.part;
+        told = subst (λ (names : List (List ℕ)). IsClassWith query names c.in_ok-part.part) c.as_slice.ensures c.in_ok-part.ensures;
         replies = refl;
         keeps = refl;
       },

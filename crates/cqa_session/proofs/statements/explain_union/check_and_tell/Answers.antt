@@ -1,7 +1,7 @@
 use Rattle.std.proofs.Common.{◌≡◌, ◌∙◌, inl, refl, subst, sym, IfErr, IfOk, None, Some}
 use Rattle.cqa_model.specs.Unions.{AreParts}
 use Rattle.query_resolve.specs.Checks.{union_row_fault}
-use Rattle.union_ask.specs.Lookups.{HasLengthOf}
+use Rattle.part_search.specs.Lookups.{HasLengthOf}
 use Rattle.union_ask.specs.Reasons.{IsReasonIn, IsStoppedIn}
 use Rattle.cqa_session.specs.Statements.ExplainUnion.{MayTellUnion}
 use Rattle.cqa_session.proofs.Doing.{unrefused}

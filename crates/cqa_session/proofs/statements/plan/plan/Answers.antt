@@ -8,7 +8,7 @@ use Rattle.fo_rewrite.proofs.Distinct.{plan-atoms}
 use Rattle.query_resolve.specs.Checks.{query_fault}
 use Rattle.query_resolve.specs.Resolved.{IsAtomOf, IsQueryOf}
 use Rattle.cqa_session.specs.Statements.Plan.{names_at}
-use Rattle.cqa_session.proofs.Doing.{none_found}
+use Rattle.query_replies.proofs.Found.{none_found}
 use Rattle.cqa_session.proofs.statements.plan.plan.Goals as goal
 
 pub returns-in_default : goal.returns-in_default

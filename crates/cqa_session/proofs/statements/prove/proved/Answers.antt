@@ -2,7 +2,7 @@ use Rattle.std.proofs.Common.{IfSome, subst}
 use Rattle.cqa_model.specs.declared.query.Plan.{Plan}
 use Rattle.cqa_model.specs.Plan.{IsPlanOf}
 use Rattle.fo_rewrite.specs.Planning.{IsExact}
-use Rattle.cqa_session.proofs.Doing.{none_found}
+use Rattle.query_replies.proofs.Found.{none_found}
 use Rattle.cqa_session.proofs.statements.prove.proved.Goals as goal
 
 pub by_plan-reply-requires-clause-plan : goal.by_plan-reply-requires-clause-plan

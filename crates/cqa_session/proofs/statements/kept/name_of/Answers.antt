@@ -1,7 +1,0 @@
-use Rattle.std.proofs.Common.{◌∙◌}
-use Rattle.std.proofs.lemmas.Result.{IfOk-weaker}
-use Rattle.cqa_session.proofs.Explaining.{named}
-use Rattle.cqa_session.proofs.statements.kept.name_of.Goals as goal
-
-pub returns : goal.returns
-returns c = IfOk-weaker c.copy.result _ _ (λ name e. e ∙ named c.args.db.now c.args.table c.schema.result.now c.requires c.schema.ensures.is) c.copy.ensures
