@@ -26,7 +26,7 @@ numeral_to : (digits : List ℕ) → IsNumeral 10 digits → are_digits digits �
 numeral_to [] n = absurd (omega (arith, n.0))
 numeral_to (digit ∷ digits) n = own.from (digit ∷ digits) n.1
 
-fits_from : (z : ℤ) → is_in_range z ≡ true → FitsSigned w64 z
+pub fits_from : (z : ℤ) → is_in_range z ≡ true → FitsSigned w64 z
 fits_from (pos n) e = record { sfits = (Decides-ltb n (2 ^ 63)).0 e }
 fits_from (negsuc n) e = record { sfits = (Decides-ltb n (2 ^ 63)).0 e }
 

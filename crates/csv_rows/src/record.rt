@@ -10,7 +10,7 @@ ghost use Rattle.csv_rows.specs.Texts.{value_bytes};
 
 use crate::field::{push_value, value_of};
 use cqa_model::Column;
-use cqa_value::{Items, NoMemory, Row};
+use cqa_value::{NoMemory, Row};
 use csv::ByteRecord;
 use std::alloc::Global;
 
@@ -31,7 +31,7 @@ pub fn row_of(
     if fields.len() != columns.len() {
         return Ok(None);
     }
-    let mut values = Vec::with_capacity(alloc, columns.len())?;
+    let mut row = Row::with_capacity(alloc, columns.len())?;
     for (at, column) in columns.iter().enumerate() {
         let Some(field) = fields.get(at) else {
             return Ok(None);
@@ -39,9 +39,9 @@ pub fn row_of(
         let Some(value) = value_of(alloc, column.kind, field)? else {
             return Ok(None);
         };
-        values.push_reserved(value);
+        row.push(value)?;
     }
-    Ok(Some(Row::from_items(Items::from_vec(values))))
+    Ok(Some(row))
 }
 
 /// Makes a record of the row's values.

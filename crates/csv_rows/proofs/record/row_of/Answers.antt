@@ -10,17 +10,13 @@ returns-then-len-columns c = λ row h. c.if-len-columns.true (c.len.ensures ∙ 
 
 pub loop-at-init : goal.loop-at-init
 loop-at-init c = record {
-  is = rw c.in_ok-values.ensures.items tt;
-  count = rw c.in_ok-values.ensures.items refl;
+  is = rw c.in_ok-row.ensures tt;
+  count = rw c.in_ok-row.ensures refl;
   within = omega arith;
-  len = c.in_ok-values.ensures.len;
-  room = c.in_ok-values.ensures.capacity;
 }
 
-pub push_reserved-requires : goal.push_reserved-requires
-push_reserved-requires c =
-    let inv = c.loop-at.invariant in
-    omega (arith, inv.len, inv.room, c.loop-at-test.true)
+pub push-requires : goal.push-requires
+push-requires c = let inv = c.loop-at.invariant in omega (arith, inv.count, c.loop-at-test.true, c.requires)
 
 pub returns-in_default : goal.returns-in_default
 returns-in_default c = λ row h. field_there (fields_of c.args.fields.now) c.loop-at.at
@@ -33,9 +29,6 @@ returns-in_default-2 c =
     c.loop-at-test.true (sym c.index-columns-at.is) (sym c.in-Some.ensures.value) in
     none found.0 found.1
 
-pub from_items-requires : goal.from_items-requires
-from_items-requires c = rw c.from_vec.ensures (omega (arith, c.loop-at.invariant.count, c.loop-at.invariant.within, c.requires))
-
 pub loop-at-preserved : goal.loop-at-preserved
 loop-at-preserved c =
     let inv = c.loop-at.invariant in
@@ -43,15 +36,13 @@ loop-at-preserved c =
     let value = c.in-Some-2.value in
     let is = rw c.in-Some-2.is at c.in_ok-value.ensures in
     let next : suc i ≡ i + 1 = omega arith in
-    let more = record_more c.args.columns.now (fields_of c.args.fields.now) c.loop-at.values.items i c.index-columns-at.result c.index-columns-at.result c.in-Some.field.now value
+    let more = record_more c.args.columns.now (fields_of c.args.fields.now) c.loop-at.row i c.index-columns-at.result c.index-columns-at.result c.in-Some.field.now value
     c.loop-at-test.true (sym c.index-columns-at.is) (sym c.in-Some.ensures.value) is inv.is in
-    let pushed = c.push_reserved.ensures in
+    let pushed = c.in_ok-push.ensures.ok in
     record {
-      is = rw pushed.items (subst (λ n. IsRecordOf (take n (kinds c.args.columns.now)) (take n (fields_of c.args.fields.now)) (c.loop-at.values.items ++ value ∷ [])) next more);
-      count = rw pushed.items (omega (arith, length-append c.loop-at.values.items (value ∷ []), inv.count));
+      is = rw pushed (subst (λ n. IsRecordOf (take n (kinds c.args.columns.now)) (take n (fields_of c.args.fields.now)) (c.loop-at.row ++ value ∷ [])) next more);
+      count = rw pushed (omega (arith, length-append c.loop-at.row (value ∷ []), inv.count));
       within = omega (arith, c.loop-at-test.true);
-      len = omega (arith, pushed.len, inv.len);
-      room = rw pushed.capacity inv.room;
     }
 
 pub returns : goal.returns
@@ -61,4 +52,4 @@ returns c =
     let past : length c.args.columns.now ≤ c.loop-at.at = omega (arith, c.loop-at-test.false) in
     let all_columns = take_all c.loop-at.at columns (omega (arith, past, length-map c.args.columns.now (λ column. column.kind))) in
     let all_fields = take_all c.loop-at.at fields (omega (arith, past, c.if-len-columns.false, c.len.ensures)) in
-    rw (c.from_items.ensures ∙ c.from_vec.ensures) (subst (λ x. IsRecordOf x fields c.loop-at.values.items) all_columns (subst (λ x. IsRecordOf (take c.loop-at.at columns) x c.loop-at.values.items) all_fields c.loop-at.invariant.is))
+    (subst (λ x. IsRecordOf x fields c.loop-at.row) all_columns (subst (λ x. IsRecordOf (take c.loop-at.at columns) x c.loop-at.row) all_fields c.loop-at.invariant.is))
