@@ -8,7 +8,7 @@ use Rattle.cnf_form.specs.declared.formula.Lit.{Lit}
 use Rattle.cnf_form.specs.Literals.{positive, opposite, OthersDenied, HasVar, AreVars, SatisfiesAll}
 use Rattle.cnf_form.specs.Logs.{Live, AdditionPasses, HintsPass}
 use Rattle.cnf_form.specs.Spent.{NoVarTwice, IsFit, IsNew}
-use Rattle.cnf_form.proofs.Lits.{opposite-opposite, equal_or_not}
+use Rattle.cnf_form.proofs.Lits.{opposite-opposite, opposites-twice, equal_or_not}
 use Rattle.budget_law.proofs.Closing.{dec_has, dec_var, open_count, fewer_open, IsUnder, HasConflict, IsClosed, Reached, one_decision, closure, satisfied}
 
 -- every clause of a list is live, under an id up to a number
@@ -99,10 +99,6 @@ module _ (cs : List (List Lit)) (n : ℕ) (in_vars : (c : List Lit) → Contains
 
 -- ---- the clause of the decisions
 
-twice : (path : List Lit) → map opposite (map opposite path) ≡ path
-twice [] = refl
-twice (l ∷ path) = λ i. opposite-opposite l i ∷ twice path i
-
 has_var_back : (c : List Lit) (v : ℕ) → HasVar (map opposite c) v → HasVar c v
 has_var_back c v (l, m, e) = let o = Contains-from_map opposite c l m in (o.0, o.1, ap (λ (x : Lit). x.var) o.2 ∙ e)
 
@@ -143,4 +139,4 @@ module _ (cs : List (List Lit)) (n : ℕ) (b : Blocked cs n) where
       go (yes k) = b.unset (opposite b.last, b.closed.unit d m (opposite b.last) k (λ l h other. denied_before l (within l h) (λ e. other e)), refl)
 
   pub clause_passes : (live : Live) (top : ℕ) → AreLive live top cs → (hints : List ℤ) × AdditionPasses live clause hints
-  clause_passes live top are = let h = hints_of cs live top are (b.last ∷ b.rest) b.us b.under b.conflict in (h.0, inr (subst (λ l. HintsPass live l h.0) (sym (twice (b.last ∷ b.rest))) h.1))
+  clause_passes live top are = let h = hints_of cs live top are (b.last ∷ b.rest) b.us b.under b.conflict in (h.0, inr (subst (λ l. HintsPass live l h.0) (sym (opposites-twice (b.last ∷ b.rest))) h.1))

@@ -1,5 +1,5 @@
 -- Lemmas on literals, closed lists and propagation.
-use Rattle.std.proofs.Common.{◌≡◌, ◌≢◌, ℕ, Bool, true, false, ◌⊎◌, inl, inr, refl, sym, ◌∙◌, ap}
+use Rattle.std.proofs.Common.{◌≡◌, ◌≢◌, ℕ, Bool, true, false, ◌⊎◌, inl, inr, List, [], ◌∷◌, map, refl, sym, ◌∙◌, ap}
 use Rattle.std.proofs.lemmas.Bool.{cases_eq}
 use Rattle.cnf_form.specs.declared.formula.Lit.{Lit}
 use Rattle.cnf_form.specs.Literals.{negated, opposite}
@@ -11,6 +11,10 @@ negated-negated false = refl
 pub opposite-opposite : (l : Lit) → opposite (opposite l) ≡ l
 opposite-opposite l = let e : negated (negated l.positive) ≡ l.positive = negated-negated l.positive in
     ap (λ (b : Bool). let r : Lit = record { var = l.var; positive = b } in r) e
+
+pub opposites-twice : (ls : List Lit) → map opposite (map opposite ls) ≡ ls
+opposites-twice [] = refl
+opposites-twice (l ∷ ls) = let e = opposite-opposite l in let es = opposites-twice ls in cc
 
 pub bool_cases : (a b : Bool) → (a ≡ b) ⊎ (a ≡ negated b)
 bool_cases true true = inl refl

@@ -37,7 +37,7 @@ dec_one key rows x = dec_by (λ h. record { row = h.0; is_kept = h.1; shares = h
     (dec_some (λ z. SharesKey key x z × ((y : List Value) → Contains rows y → SharesKey key x y → y ≡ z))
     (λ z. dec_both (dec_shares key x z) (dec_each (λ y. SharesKey key x y → y ≡ z) (λ y. dec_if (dec_shares key x y) (row_discrete y z)) rows)) rows)
 
-dec_table : (key : List ℕ) (rows kept : List (List Value)) → Dec (IsTableRepair key rows kept)
+pub dec_table : (key : List ℕ) (rows kept : List (List Value)) → Dec (IsTableRepair key rows kept)
 dec_table key rows kept = dec_by (λ p. record { stored = p.0; one = p.1 }) (λ r. (r.stored, r.one))
     (dec_both (dec_sublist kept rows) (dec_each (λ x. HasOne key kept x) (λ x. dec_one key kept x) rows))
 

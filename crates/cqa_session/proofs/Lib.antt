@@ -9,9 +9,9 @@ mod Joining
 mod Contesting
 mod Ranging
 pub mod Sayings
-mod Spending
+pub mod Spending
 mod Uniting
-mod Apart
+pub mod Apart
 pub mod TableLines
 pub mod Valid
 pub mod Proving

@@ -10,7 +10,7 @@ use Rattle.cqa_model.specs.declared.aggregate.Goal.{Goal}
 use Rattle.cqa_model.specs.declared.query.RowId.{RowId}
 use Rattle.cqa_model.specs.Database.{Table, IsDatabase, IsTable, stored}
 use Rattle.cqa_model.specs.Repairs.{IsTableRepair}
-use Rattle.cqa_model.proofs.Classic.{mem-head, mem-tail, mem-nil, mem-cases}
+use Rattle.cqa_model.proofs.Classic.{mem-head, mem-tail, mem-nil}
 use Rattle.cqa_model.proofs.Repairs.{sublist-stored}
 use Rattle.refusals.specs.declared.refusal.Refusal.{Refusal}
 use Rattle.refusals.specs.Refusal.{IsRefusedAs, Checked}
@@ -24,19 +24,12 @@ use Rattle.query_resolve.specs.Resolved.{IsGoalOf, AreTestsOf}
 use Rattle.query_resolve.proofs.Members.{refused_first, refused_second, neither}
 use Rattle.range_ask.specs.Ranges.{IsAttained}
 use Rattle.repair_back.specs.Results.{AreStored}
+use Rattle.repair_back.proofs.Naming.{in_map}
 use Rattle.reply_text.specs.declared.reply.Reply.{Reply}
 use Rattle.cqa_session.specs.State.{State}
 use Rattle.cqa_session.specs.Replying.{on_table, Replies, IsReplyOutcome}
 use Rattle.cqa_session.specs.Statements.Range.{asked_fault, range_fault, TellsBy, TellsRange}
 use Rattle.cqa_session.proofs.Doing.{refused, on_table-there}
-
--- a name among those of some places is of one of them
-placed : (table : ℕ) (places : List ℕ) (name : RowId) → Contains (names_in table places) name → (p : ℕ) × Contains places p × (name ≡ record { table = table; place = p })
-placed table [] name m = absurd (mem-nil name m)
-placed table (p ∷ places) name m = elim (mem-cases name (record { table = table; place = p }) (names_in table places) m) [
-  | inl is ↦ (p, mem-head p places, sym is)
-  | inr later ↦ let found = placed table places name later in (found.0, mem-tail found.0 p places found.1, found.2)
-]
 
 -- a row of a table has a value
 some_value : (table : Table) → IsTable table → Contains table.rows [] → ⊥
@@ -61,7 +54,7 @@ inside rows p none m = elim (cases_lt p (length rows)) [
 -- the names of the rows of a repair of a table are those of stored rows
 pub repair-stored : (db : List Table) (table : ℕ) (places : List ℕ) → IsDatabase db → table < length db → IsTableRepair (key_at db table) (rows_at db table) (rows_in (rows_at db table) places) → AreStored db (names_in table places)
 repair-stored db table places database there repair name m =
-    let found = placed table places name m in
+    let found = in_map table places name m in
     let rows = rows_at db table in
     let row = get_or rows found.0 [] in
     let kept : Contains (rows_in rows places) row = Contains-map (λ p. get_or rows p []) places found.0 found.1 in

@@ -1,11 +1,10 @@
 -- The records of a block of CSV: all of them are rows, or there is a first that isn't.
-use Rattle.std.proofs.Common.{◌≡◌, ◌∙◌, ◌<◌, ◌+◌, ◌^◌, ◌⊎◌, ◌&&◌, ◌∷◌, ◌++◌, ℕ, zero, suc, inl, inr, Bool, true, false, true≢false, List, [], length, Option, Some, None, refl, sym, ap, subst, arith, append_assoc, IsUtf8}
-use Rattle.std.specs.Prelude.{if◌then◌else◌, ℤ, pos, negsuc, FitsSigned}
+use Rattle.std.proofs.Common.{◌≡◌, ◌∙◌, ◌<◌, ◌+◌, ◌⊎◌, ◌&&◌, ◌∷◌, ◌++◌, ℕ, zero, suc, inl, inr, Bool, true, false, true≢false, List, [], length, Option, Some, None, refl, sym, ap, subst, arith, append_assoc, IsUtf8}
+use Rattle.std.specs.Prelude.{if◌then◌else◌, ℤ, FitsSigned}
 use mir.Syntax.{w64}
 use Rattle.std.specs.List.{AllZip}
 use Rattle.std.specs.Str.{is_utf8}
 use Rattle.std.proofs.lemmas.Bool.{cases_Bool, and_parts}
-use Rattle.std.proofs.lemmas.Bool.Decides.{Decides-ltb}
 use Rattle.std.proofs.lemmas.Option.{none-some, same_Some}
 use Rattle.std.proofs.lemmas.Str.{IsUtf8-from_is_utf8, is_utf8-from_IsUtf8}
 use native.Mathlib.Decide.{dec_lt}
@@ -20,6 +19,7 @@ use Rattle.cqa_value.specs.declared.value.Value.{Value}
 use Rattle.cqa_value.specs.declared.value.Value.TheVariants.{Int, Text}
 use Rattle.cqa_value.specs.Literals.{are_digits, without_minus, integer_of, is_in_range, int_of}
 use Rattle.cqa_value.specs.Valid.{IsValidText, IsValidValue, IsValidRow}
+use Rattle.cqa_value.proofs.Integers.{fits_from}
 use Rattle.cqa_value.proofs.Words.{mem-nil, mem-cases, dec_both}
 use Rattle.cqa_model.proofs.Values.{dec_by}
 use Rattle.csv_rows.specs.Blocks.{IsFieldOf, IsRecordOf}
@@ -28,15 +28,11 @@ use Rattle.csv_law.specs.Laws.{BlocksAreRead}
 
 -- ---- the value of a field, and the row of a record
 
-in_64_bits : (z : ℤ) → is_in_range z ≡ true → FitsSigned w64 z
-in_64_bits (pos n) e = record { sfits = (Decides-ltb n (2 ^ 63)).0 e }
-in_64_bits (negsuc n) e = record { sfits = (Decides-ltb n (2 ^ 63)).0 e }
-
 valid_int : (text : List ℕ) (n : ℤ) → int_of text ≡ Some n → FitsSigned w64 n
 valid_int text n e = go (are_digits (without_minus text) && is_in_range (integer_of text)) refl e
   where
     go : (b : Bool) → (are_digits (without_minus text) && is_in_range (integer_of text)) ≡ b → (if b then Some (integer_of text) else None) ≡ Some n → FitsSigned w64 n
-    go true p q = in_64_bits n (subst (λ z. is_in_range z ≡ true) (same_Some (integer_of text) n q) (and_parts (are_digits (without_minus text)) (is_in_range (integer_of text)) p).1)
+    go true p q = fits_from n (subst (λ z. is_in_range z ≡ true) (same_Some (integer_of text) n q) (and_parts (are_digits (without_minus text)) (is_in_range (integer_of text)) p).1)
     go false p q = absurd (none-some n q)
 
 dec_text : (bytes : List ℕ) → Dec (IsValidText bytes)

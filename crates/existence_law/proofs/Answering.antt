@@ -16,7 +16,7 @@ use Rattle.existence_law.specs.Answers.{AnswersExist, RowsAreDecided}
 use Rattle.existence_law.proofs.Choices.{choices, choices-all}
 use Rattle.join_witness.proofs.Sorting.{decided_list}
 
-dec_certain : (db : List Table) (q : Query) (row : List Value) → Dec (IsCertain db q row)
+pub dec_certain : (db : List Table) (q : Query) (row : List Value) → Dec (IsCertain db q row)
 dec_certain db q row = elim (certain_or_rejected db q row) [
   | inl c ↦ yes c
   | inr r ↦ no (λ c. let w = c r.0 r.1 in r.2 w.0 w.1)

@@ -38,12 +38,12 @@ use Rattle.join_witness.proofs.Listing.{dec_witness_with, numbers_exact}
 use Rattle.existence_law.proofs.Refuting.{refutations_exist}
 use Rattle.join_witness.proofs.Sorting.{sorted, in_order, members, decided_list}
 
-both_equal : (o p : Ordering) → ordering_then o p ≡ Equal → (o ≡ Equal) × (p ≡ Equal)
+pub both_equal : (o p : Ordering) → ordering_then o p ≡ Equal → (o ≡ Equal) × (p ≡ Equal)
 both_equal Less p e = absurd (cc e)
 both_equal Equal p e = (refl, e)
 both_equal Greater p e = absurd (cc e)
 
-variable_exact : (x y : Variable) → variable_cmp x y ≡ Equal → x ≡ y
+pub variable_exact : (x y : Variable) → variable_cmp x y ≡ Equal → x ≡ y
 variable_exact x y e =
     let h = both_equal (nat_cmp x.slot y.slot) (nat_cmp x.place y.place) e in
     let a : x.slot ≡ y.slot = from_equal x.slot y.slot h.0 in
@@ -136,10 +136,10 @@ module _ (db : List Table) (q : Query) (row : List Value) where
     record { variables = variables.1; blocks = (block_lists variables.0).1; witnesses = (witness_lists variables.0).1 },
   )
 
-abbrev as_clauses : List (List Lit) → List Clause
+abbrev pub as_clauses : List (List Lit) → List Clause
 as_clauses cs = map (λ c. record { lits = c }) cs
 
-same_literals : (cs : List (List Lit)) → literals (as_clauses cs) ≡ cs
+pub same_literals : (cs : List (List Lit)) → literals (as_clauses cs) ≡ cs
 same_literals [] = refl
 same_literals (c ∷ cs) = ap (λ ds. c ∷ ds) (same_literals cs)
 

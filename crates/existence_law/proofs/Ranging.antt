@@ -1,21 +1,19 @@
 -- The range of an aggregate: its repairs are finitely many, in each it has a value, and any two values of one aggregate can be compared.
-use Rattle.std.proofs.Common.{◌≡◌, ◌⊎◌, inl, inr, ℕ, List, [], ◌∷◌, ◌++◌, filter, Ordering, Less, Equal, Greater, refl, sym, ap, ◌∙◌, subst, arith, Contains}
+use Rattle.std.proofs.Common.{◌≡◌, ◌⊎◌, inl, inr, ℕ, List, [], ◌∷◌, filter, Ordering, Less, Equal, Greater, refl, sym, ap, ◌∙◌, subst, arith, Contains}
 use Rattle.std.specs.Prelude.{ℤ, ◌≤ℤ◌}
 use Rattle.std.specs.Ordering.{ordering_reverse}
 use Rattle.std.proofs.lemmas.Int.{ints}
 use Rattle.cqa_value.specs.declared.value.Value.{Value}
 use Rattle.cqa_value.specs.Values.{value_cmp, value_cmp_total}
-use Rattle.cqa_value.proofs.Words.{mem-head, mem-nil, Contains-filter, is_yes, yes_of, of_yes, dec_both}
+use Rattle.cqa_value.proofs.Words.{mem-head, mem-nil, Contains-filter, is_yes, yes_of, of_yes}
 use Rattle.cqa_model.specs.declared.aggregate.Goal.{Goal}
 use Rattle.cqa_model.specs.declared.aggregate.Goal.TheVariants.{Count, Sum, Min, Max}
 use Rattle.cqa_model.specs.declared.aggregate.End.{End}
 use Rattle.cqa_model.specs.declared.aggregate.End.TheVariants.{Empty, Number, Held}
 use Rattle.cqa_model.specs.Database.{Table}
-use Rattle.cqa_model.specs.Repairs.{HasOne, IsTableRepair}
-use Rattle.cqa_model.proofs.Classic.{dec_each}
-use Rattle.cqa_model.proofs.EachRepair.{sublists, sublists-all, dec_sublist, dec_one}
+use Rattle.cqa_model.specs.Repairs.{IsTableRepair}
+use Rattle.cqa_model.proofs.EachRepair.{sublists, sublists-all, dec_table}
 use Rattle.cqa_model.proofs.Existence.{last_rows, last_rows-repair}
-use Rattle.cqa_model.proofs.Values.{dec_by}
 use Rattle.table_blocks.specs.declared.test.ColumnTest.{ColumnTest}
 use Rattle.table_blocks.specs.Tables.{rows_at, key_at, rows_in, names_in}
 use Rattle.range_ask.specs.declared.range.Range.{Range}
@@ -48,7 +46,12 @@ number_either m n = grind (arith, ints)
 number_trans : (m n p : ℤ) → m ≤ℤ n → n ≤ℤ p → m ≤ℤ p
 number_trans m n p h k = omega (arith, ints, h, k)
 
-up_trans : (a b c : End) → IsUpTo a b → IsUpTo b c → IsUpTo a c
+pub up_self : (a : End) → IsUpTo a a
+up_self Empty = tt
+up_self (Number m) = number_self m
+up_self (Held x) = at_most_self x
+
+pub up_trans : (a b c : End) → IsUpTo a b → IsUpTo b c → IsUpTo a c
 up_trans Empty b c h k = tt
 up_trans (Number m) Empty c h k = absurd h
 up_trans (Number m) (Number n) Empty h k = absurd k
@@ -78,7 +81,7 @@ module _ (col : ℕ) where
       (λ x y z h k. at_most-trans (cell z col) (cell y col) (cell x col) k h) (row ∷ rows) row (mem-head row rows) in
       (Held (cell m.0 col), ((m.0, m.1.0, refl), m.1.1))
 
-value_in : (goal : Goal) (rows : List (List Value)) → (end : End) × HasValue goal rows end
+pub value_in : (goal : Goal) (rows : List (List Value)) → (end : End) × HasValue goal rows end
 value_in Count rows = (Number _, refl)
 value_in (Sum col) rows = (Number (total (λ row. number_of (cell row col)) rows), refl)
 value_in (Min col) rows = least_in col rows
@@ -88,7 +91,7 @@ no_row : (rows : List (List Value)) (row : List Value) → rows ≡ [] → Conta
 no_row rows row e m = mem-nil row (subst (λ xs. Contains xs row) e m)
 
 -- two values of one aggregate in some rows are up to each other
-same_up : (goal : Goal) (rows : List (List Value)) (a b : End) → HasValue goal rows a → HasValue goal rows b → IsUpTo a b
+pub same_up : (goal : Goal) (rows : List (List Value)) (a b : End) → HasValue goal rows a → HasValue goal rows b → IsUpTo a b
 same_up Count rows a b h k = subst (λ z. IsUpTo z b) (sym h) (subst (IsUpTo (Number _)) (sym k) (number_self _))
 same_up (Sum col) rows a b h k = subst (λ z. IsUpTo z b) (sym h) (subst (IsUpTo (Number _)) (sym k) (number_self _))
 same_up (Min col) rows Empty b h k = tt
@@ -103,7 +106,7 @@ same_up (Max col) rows (Held x) (Number n) h k = absurd k
 same_up (Max col) rows (Held x) (Held y) h k = subst (λ z. AtMost z y) h.0.2 (k.1 h.0.0 h.0.1)
 
 -- two values of one aggregate, in any rows, can be compared
-either_up : (goal : Goal) (xs ys : List (List Value)) (a b : End) → HasValue goal xs a → HasValue goal ys b → IsUpTo a b ⊎ IsUpTo b a
+pub either_up : (goal : Goal) (xs ys : List (List Value)) (a b : End) → HasValue goal xs a → HasValue goal ys b → IsUpTo a b ⊎ IsUpTo b a
 either_up goal xs ys Empty b h k = inl tt
 either_up goal xs ys a Empty h k = inr tt
 either_up goal xs ys (Number m) (Number n) h k = number_either m n
@@ -119,21 +122,18 @@ either_up (Max col) xs ys (Held x) (Number n) h k = absurd k
 
 -- ---- the repairs of a table
 
-dec_repair : (key : List ℕ) (rows kept : List (List Value)) → Dec (IsTableRepair key rows kept)
-dec_repair key rows kept = dec_by (λ p. record { stored = p.0; one = p.1 }) (λ r. (r.stored, r.one)) (dec_both (dec_sublist kept rows) (dec_each (λ x. HasOne key kept x) (λ x. dec_one key kept x) rows))
-
 module _ (db : List Table) (table : ℕ) (goal : Goal) (tests : List ColumnTest) where
   repairs : List (List (List Value))
-  repairs = filter (λ kept. is_yes (dec_repair (key_at db table) (rows_at db table) kept)) (sublists (rows_at db table))
+  repairs = filter (λ kept. is_yes (dec_table (key_at db table) (rows_at db table) kept)) (sublists (rows_at db table))
 
   are_repairs : (kept : List (List Value)) → Contains repairs kept → IsTableRepair (key_at db table) (rows_at db table) kept
   unfolding repairs
-  are_repairs kept m = of_yes (dec_repair (key_at db table) (rows_at db table) kept) ((Contains-filter (λ k. is_yes (dec_repair (key_at db table) (rows_at db table) k)) (sublists (rows_at db table)) kept).0 m).1
+  are_repairs kept m = of_yes (dec_table (key_at db table) (rows_at db table) kept) ((Contains-filter (λ k. is_yes (dec_table (key_at db table) (rows_at db table) k)) (sublists (rows_at db table)) kept).0 m).1
 
   all_repairs : (kept : List (List Value)) → IsTableRepair (key_at db table) (rows_at db table) kept → Contains repairs kept
   unfolding repairs
-  all_repairs kept r = (Contains-filter (λ k. is_yes (dec_repair (key_at db table) (rows_at db table) k)) (sublists (rows_at db table)) kept).1
-      (sublists-all kept (rows_at db table) r.stored, yes_of (dec_repair (key_at db table) (rows_at db table) kept) r)
+  all_repairs kept r = (Contains-filter (λ k. is_yes (dec_table (key_at db table) (rows_at db table) k)) (sublists (rows_at db table)) kept).1
+      (sublists-all kept (rows_at db table) r.stored, yes_of (dec_table (key_at db table) (rows_at db table) kept) r)
 
   some : Contains repairs (last_rows (key_at db table) (rows_at db table))
   some = all_repairs (last_rows (key_at db table) (rows_at db table)) (last_rows-repair (key_at db table) (rows_at db table))

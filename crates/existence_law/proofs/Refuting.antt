@@ -13,7 +13,7 @@ use Rattle.cnf_form.specs.declared.log.Step.{Step}
 use Rattle.cnf_form.specs.declared.log.Step.TheVariants.{Add, Delete}
 use Rattle.cnf_form.specs.Literals.{literals, positive, negative, negated, opposite, AllDenied, IsUnit, MakesTrue, Satisfies, SatisfiesAll}
 use Rattle.cnf_form.specs.Logs.{Live, numbered, with_clause, AdditionPasses, HintsPass, StepsPass, added}
-use Rattle.cnf_form.proofs.Lits.{opposite-opposite, equal_or_not}
+use Rattle.cnf_form.proofs.Lits.{opposite-opposite, opposites-twice, equal_or_not}
 use Rattle.cdcl.specs.Outcomes.{AreConsecutive}
 use Rattle.row_lists.proofs.Numbers.{place_of}
 use Rattle.existence_law.specs.Refutations.{RefutationsExist}
@@ -77,10 +77,6 @@ dec_lit a b = elim (equal_or_not a b) [ inl e ↦ yes e | inr f ↦ no f ]
 dec_has : (path : List Lit) (l : Lit) → Dec (Contains path l)
 dec_has path l = dec_by (λ p. subst (Contains path) (sym p.2) p.1) (λ m. (l, m, refl)) (dec_some (λ m. l ≡ m) (dec_lit l) path)
 
-twice : (path : List Lit) → map opposite (map opposite path) ≡ path
-twice [] = refl
-twice (l ∷ path) = let e = opposite-opposite l in let es = twice path in cc
-
 -- the opposites of literals are all denied by them
 denied : (path : List Lit) → AllDenied path (map opposite path)
 denied path m h = let p = Contains-from_map opposite path m h in subst (Contains path) (sym (opposite-opposite p.0) ∙ ap opposite p.2) p.1
@@ -135,7 +131,7 @@ module _ (cs : List (List Lit)) (n : ℕ) (small : (c : List Lit) → Contains c
   leaf path live top h each =
       let f = falsified path each in
       let p = h f.0 f.1 in
-      one_step live top (map opposite path) (pos p.0 ∷ []) (inr (subst (λ held. HintsPass live held (pos p.0 ∷ [])) (sym (twice path)) (f.0, p.2, inl f.2)))
+      one_step live top (map opposite path) (pos p.0 ∷ []) (inr (subst (λ held. HintsPass live held (pos p.0 ∷ [])) (sym (opposites-twice path)) (f.0, p.2, inl f.2)))
 
   -- the two clauses with one variable more give the one without it
   resolved : (path : List Lit) (k : ℕ) (live : Live) (i j : ℕ) → IsAbove (suc k) path → live i ≡ Some (map opposite (positive k ∷ path)) → live j ≡ Some (map opposite (negative k ∷ path)) →
@@ -157,7 +153,7 @@ module _ (cs : List (List Lit)) (n : ℕ) (small : (c : List Lit) → Contains c
   joined path k live top above d e = in_turn live top (map opposite (positive k ∷ path)) (map opposite path) d
       (in_turn d.after d.last (map opposite (negative k ∷ path)) (map opposite path) e
       (one_step e.after e.last (map opposite path) (pos d.id ∷ pos e.id ∷ [])
-      (inr (subst (λ held. HintsPass e.after held (pos d.id ∷ pos e.id ∷ [])) (sym (twice path)) (resolved path k e.after d.id e.id above (e.stays d.id d.known ∙ d.there) e.there)))))
+      (inr (subst (λ held. HintsPass e.after held (pos d.id ∷ pos e.id ∷ [])) (sym (opposites-twice path)) (resolved path k e.after d.id e.id above (e.stays d.id d.known ∙ d.there) e.there)))))
 
   lower : (path : List Lit) (k : ℕ) (l : Lit) → IsAbove (suc k) path → l.var ≡ k → IsAbove k (l ∷ path)
   lower path k l above e m h = elim (mem-cases m l path h) [

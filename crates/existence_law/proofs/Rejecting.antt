@@ -70,50 +70,51 @@ rows-at_places before (x ∷ xs) (y ∷ ys) (inr s) =
 
 -- ---- the names of what a repair keeps
 
-module _ (db : List Table) (q : Query) (kept : List (List (List Value))) (repair : IsRepair db kept) where
-  abbrev places_if : (t : ℕ) → Dec (t < length (stored db)) → List ℕ
+module _ (db : List Table) (kept : List (List (List Value))) (repair : IsRepair db kept) where
+  abbrev pub places_if : (t : ℕ) → Dec (t < length (stored db)) → List ℕ
   places_if t (yes l) = places_from 0 (get_or kept t []) (get_or (stored db) t []) (repair.each t l).stored
   places_if t (no f) = []
 
-  abbrev places : ℕ → List ℕ
+  abbrev pub places : ℕ → List ℕ
   places t = places_if t (dec_lt t (length (stored db)))
 
-  rise : (t : ℕ) (d : Dec (t < length (stored db))) → IsStrictlySortedBy nat_cmp (places_if t d)
+  pub rise : (t : ℕ) (d : Dec (t < length (stored db))) → IsStrictlySortedBy nat_cmp (places_if t d)
   rise t (yes l) = places-rise 0 (get_or kept t []) (get_or (stored db) t []) (repair.each t l).stored
   rise t (no f) = sorted-nil nat_cmp
 
-  within : (t : ℕ) (d : Dec (t < length (stored db))) (p : ℕ) → Contains (places_if t d) p → (t < length (stored db)) × (p < length (get_or (stored db) t []))
+  pub within : (t : ℕ) (d : Dec (t < length (stored db))) (p : ℕ) → Contains (places_if t d) p → (t < length (stored db)) × (p < length (get_or (stored db) t []))
   within t (yes l) p m = let b = (place-within 0 (get_or kept t []) (get_or (stored db) t []) (repair.each t l).stored p m).1 in (l, omega (arith, b))
   within t (no f) p m = absurd (mem-nil p m)
 
-  rows : (t : ℕ) (d : Dec (t < length (stored db))) → t < length (stored db) → get_or kept t [] ≡ rows_in (get_or (stored db) t []) (places_if t d)
+  pub rows : (t : ℕ) (d : Dec (t < length (stored db))) → t < length (stored db) → get_or kept t [] ≡ rows_in (get_or (stored db) t []) (places_if t d)
   rows t (yes l) h = rows-at_places [] (get_or kept t []) (get_or (stored db) t []) (repair.each t l).stored
   rows t (no f) h = absurd (f h)
 
-  size : length (stored db) ≡ length db
+  pub size : length (stored db) ≡ length db
   size = length-map db (λ (table : Table). table.rows)
 
-  abbrev names : List RowId
-  names = flat_map (λ atom. names_in atom.table (places atom.table)) q.atoms
+  module _ (q : Query) where
+    abbrev names : List RowId
+    names = flat_map (λ atom. names_in atom.table (places atom.table)) q.atoms
 
-  are_kept : FitsDatabase q db → AreKept q db names kept
-  are_kept fits = record {
-    places = places;
-    are = refl;
-    rises = λ F l. rise (atom_at q F).table (dec_lt (atom_at q F).table (length (stored db)));
-    there = λ F l p m. (within (atom_at q F).table (dec_lt (atom_at q F).table (length (stored db))) p m).1;
-    rows = λ F l. rows (atom_at q F).table (dec_lt (atom_at q F).table (length (stored db))) (let s = size in let there = fits.there F l in omega (arith, s, there));
-  }
+    are_kept : FitsDatabase q db → AreKept q db names kept
+    are_kept fits = record {
+      places = places;
+      are = refl;
+      rises = λ F l. rise (atom_at q F).table (dec_lt (atom_at q F).table (length (stored db)));
+      there = λ F l p m. (within (atom_at q F).table (dec_lt (atom_at q F).table (length (stored db))) p m).1;
+      rows = λ F l. rows (atom_at q F).table (dec_lt (atom_at q F).table (length (stored db))) (let s = size in let there = fits.there F l in omega (arith, s, there));
+    }
 
-  are_stored : AreStored db names
-  are_stored name m =
-      let a = Contains-from_flat_map (λ atom. names_in atom.table (places atom.table)) q.atoms name m in
-      let p = Contains-from_map (λ p. record { table = a.0.table; place = p }) (places a.0.table) name a.2 in
-      let w = within a.0.table (dec_lt a.0.table (length (stored db))) p.0 p.1 in
-      subst (λ (x : RowId). (x.table < length db) × (x.place < length (get_or (stored db) x.table []))) p.2 (subst (λ n. a.0.table < n) size w.0, w.1)
+    are_stored : AreStored db names
+    are_stored name m =
+        let a = Contains-from_flat_map (λ atom. names_in atom.table (places atom.table)) q.atoms name m in
+        let p = Contains-from_map (λ p. record { table = a.0.table; place = p }) (places a.0.table) name a.2 in
+        let w = within a.0.table (dec_lt a.0.table (length (stored db))) p.0 p.1 in
+        subst (λ (x : RowId). (x.table < length db) × (x.place < length (get_or (stored db) x.table []))) p.2 (subst (λ n. a.0.table < n) size w.0, w.1)
 
 pub kept_rows_have_names : KeptRowsHaveNames
-kept_rows_have_names db q kept fits repair = (names db q kept repair, (are_kept db q kept repair fits, are_stored db q kept repair))
+kept_rows_have_names db q kept fits repair = (names db kept repair q, (are_kept db kept repair q fits, are_stored db kept repair q))
 
 pub rejections_exist : RejectionsExist
 rejections_exist db q row fits uncertain = elim (certain_or_rejected db q row) [

@@ -6,7 +6,7 @@ mod BlockEnds
 mod Mended
 mod Looking
 mod Settling
-mod Naming
+pub mod Naming
 mod Answering
 mod Beside
 mod Marking

@@ -1,14 +1,12 @@
 -- What a statement puts into a state can stand there.
-use mir.Syntax.{w64}
-use Rattle.std.proofs.Common.{◌≡◌, ◌^◌, ℤ, pos, negsuc, Bool, true, false, List, [], ◌∷◌, ◌++◌, codes, FitsSigned, subst, arith}
+use Rattle.std.proofs.Common.{Bool, false, List, [], ◌∷◌, ◌++◌, codes, subst, arith}
 use Rattle.std.specs.List.{AllByRecursion}
-use Rattle.std.proofs.lemmas.Bool.Decides.{Decides-ltb}
 use Rattle.std.proofs.lemmas.Int.{ints}
 use Rattle.std.proofs.lemmas.List.Elements.{All-from_recursion}
-use Rattle.cqa_value.specs.Literals.{is_in_range}
 use Rattle.cqa_value.specs.Valid.{IsValidText, IsValidValue, IsValidRow}
 use Rattle.cqa_value.specs.declared.value.Value.{Value}
 use Rattle.cqa_value.specs.declared.value.Value.TheVariants as values
+use Rattle.cqa_value.proofs.Integers.{fits_from}
 use Rattle.script_lex.specs.declared.kinds.Symbol.TheVariants as s
 use Rattle.script_lex.specs.declared.kinds.TokenKind.TheVariants as kinds
 use Rattle.spj_syntax.specs.declared.tree.RawCond.{RawCond}
@@ -47,12 +45,8 @@ module _ {A : Type 0} (P : Lexeme → Type 0) (Q : A → Type 0) (l : Lexeme) (f
   each_between [] h = tt
   each_between (x ∷ xs) h = (item x (each_left P (f x) (each_after l f xs) h), each_later xs (each_right P (f x) (each_after l f xs) h))
 
-signed : (z : ℤ) → is_in_range z ≡ true → FitsSigned w64 z
-signed (pos n) e = record { sfits = (Decides-ltb n (2 ^ 63)).0 e }
-signed (negsuc n) e = record { sfits = (Decides-ltb n (2 ^ 63)).0 e }
-
 valid_value : (v : Value) → AllByRecursion (IsValued false) (literal_tokens v) → IsValidValue v
-valid_value (values.Int z) h = signed z h.0
+valid_value (values.Int z) h = fits_from z h.0
 valid_value (values.Text t) h = h.0
 
 valid_row : (row : List Value) → AllByRecursion (IsValued false) (row_tokens row) → IsValidRow row
