@@ -22,6 +22,10 @@ use Rattle.union_ask.specs.Apart.{AreApartAmong, AreApartFor}
 use Rattle.union_ask.specs.Knowing.{AreKnownIn, IsVerdictOf}
 use Rattle.union_ask.proofs.Apart.{candidates_decide}
 
+-- it is told of each part whether the row is a candidate of it
+pub given-long : (db : List Table) (parts : List Query) (row : List Value) (given : List Bool) → TellCandidates db parts row given → length given ≡ length parts
+given-long db parts row given told = sym (zip-length (λ p (gives : Bool). IsTrue gives ↔ IsCandidate db p row) parts given told)
+
 module _ (db : List Table) (parts : List Query) (known : List (Option (List (List Value)))) (are : AreKnownIn db parts known) where
   -- the known rows of a part
   part_of : (rows : List (List Value)) → Contains known (Some rows) → (q : Query) × Contains parts q × IsKnown db q (Some rows)
@@ -37,11 +41,8 @@ module _ (db : List Table) (parts : List Query) (known : List (Option (List (Lis
         (p.0, p.1, (p.2.0.exactly row).0 m kept hr)
 
     module _ (told : TellCandidates db parts row given) where
-      pub given-long : length given ≡ length parts
-      given-long = sym (zip-length (λ p (gives : Bool). IsTrue gives ↔ IsCandidate db p row) parts given told)
-
       pub known-long : length given ≡ length known
-      known-long = given-long ∙ zip-length (IsKnown db) parts known are
+      known-long = given-long db parts row given told ∙ zip-length (IsKnown db) parts known are
 
       given-at : (i : ℕ) (q : Query) → i < length parts → get_or parts i q ≡ q → IsCandidate db q row → get_or given i false ≡ true
       given-at i q l e c = (zip-at (λ p (gives : Bool). IsTrue gives ↔ IsCandidate db p row) parts given i q false told l).1 (subst (λ p. IsCandidate db p row) (sym e) c)
@@ -88,3 +89,8 @@ pub verdict-known : (db : List Table) (tables : List ℕ) (parts : List Query) (
     IsVerdictOver db tables parts row budget v
 verdict-known db tables parts row budget true v e is few = subst (IsVerdictOver db tables parts row budget) (sym e) (is.0 refl, few)
 verdict-known db tables parts row budget false v e is few = subst (IsVerdictOver db tables parts row budget) (sym e) (λ c. clash false (is.1 c) refl, few)
+
+-- whether a row is certain, by what its verdict says
+pub certain-said : (db : List Table) (tables : List ℕ) (parts : List Query) (row : List Value) (budget : ℕ) (certain : Bool) (v : Verdict) → IsVerdictOf certain v → IsVerdictOver db tables parts row budget v → IsTrue certain ↔ IsCertainIn db parts row
+certain-said db tables parts row budget true v e h = (λ t. (subst (IsVerdictOver db tables parts row budget) e h).0, λ k. refl)
+certain-said db tables parts row budget false v e h = (λ t. absurd (clash false t refl), λ k. absurd ((subst (IsVerdictOver db tables parts row budget) e h).0 k))

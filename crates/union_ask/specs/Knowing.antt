@@ -1,9 +1,10 @@
 -- What is known of the parts of a union alone, and by what its candidates are decided.
-use Rattle.std.specs.Prelude.{◌≡◌, Bool, true, false, IfSome, Option, List}
+use Rattle.std.specs.Prelude.{◌≡◌, ◌↔◌, Bool, true, false, IsTrue, IfSome, Option, List}
 use Rattle.std.specs.List.{AllZip}
 use Rattle.cqa_value.specs.declared.value.Value.{Value}
 use Rattle.cqa_model.specs.declared.query.Query.{Query}
 use Rattle.cqa_model.specs.Database.{Table}
+use Rattle.cqa_model.specs.Unions.{IsCertainIn}
 use Rattle.known_rows.specs.Known.{IsKnown}
 use Rattle.part_search.specs.declared.judging.Verdict.{Verdict}
 use Rattle.part_search.specs.declared.judging.Verdict.TheVariants.{Certain, Rejected}
@@ -13,6 +14,10 @@ use Rattle.union_ask.specs.declared.judging.UnionSearch.{UnionSearch}
 -- the certain rows of each part alone that needs no search
 abbrev pub AreKnownIn : List Table → List Query → List (Option (List (List Value))) → Type 0
 AreKnownIn db parts known = AllZip (IsKnown db) parts known
+
+-- whether the row is certain for the union, or nothing where that isn't told
+abbrev pub SaysCertain : List Table → List Query → List Value → Option Bool → Type 0
+SaysCertain db parts row told = IfSome told (λ is_certain. IsTrue is_certain ↔ IsCertainIn db parts row)
 
 -- each part over the database, and what is known of it, if that was asked for
 pub record IsSearchOf (db : List Table) (parts : List Query) (s : UnionSearch) : Type 0 where

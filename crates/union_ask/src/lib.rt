@@ -1,6 +1,6 @@
 //! Unions of queries: a row is certain for one if every repair holds a witness of it for some part, not the same one in each. The
 //! candidates of the parts, the formula of a row over the union's tables, the repair of a model of it, the certain rows, and why
-//! one row is certain or isn't. A row is decided by what is known of the parts alone, where that tells it, and else by its formula.
+//! one row is certain or isn't. A row is decided by what is known of the parts alone, or by its formula.
 #![tactic(auto)]
 
 mod candidates;

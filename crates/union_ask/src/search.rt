@@ -1,4 +1,4 @@
-//! The certain rows of a union: each candidate is decided by what is known of the parts alone, or else by its formula, ascending. The
+//! The certain rows of a union: each candidate is decided by what is known of the parts alone, or by its formula, ascending. The
 //! first one that can't be decided ends the search.
 
 ghost use Rattle.std.specs.Prelude.{◌≡◌, [], IfOk, IfSome, IsNone};
@@ -134,10 +134,9 @@ fn certain_by(
     found
 }
 
-/// The rows that are certain for a union, ascending: each candidate is decided by the certain rows of the parts alone that need no
-/// search, where these tell it and the budget isn't 0, or else by its formula, by searches of at most `budget` conflicts each; or
-/// where the search stopped: at the first candidate with too many witnesses, or at one before it for which the budget doesn't
-/// suffice.
+/// The rows that are certain for a union, ascending: each candidate is decided by its formula, by searches of at most `budget`
+/// conflicts each, or, where the budget isn't 0, by the certain rows of the parts alone that need no search; or where the search
+/// stopped: at the first candidate with too many witnesses, or at one before it that neither tells.
 ///
 /// # Errors
 ///

@@ -5,9 +5,9 @@ use Rattle.union_ask.proofs.candidates.put_candidates.Goals as goal
 
 pub returns : goal.returns
 returns c =
-    IfOk-weaker c.put_all.result _ _
+    IfOk-weaker c.put_rows.result _ _
     (λ done h row. (
-      λ m. elim ((h row).0 m) [ inl o ↦ inl o | inr k ↦ inr ((c.in_ok-candidates.ensures.candidates row).0 (subst (λ (rows : List (List Value)). Contains rows row) c.into_vec-rows.ensures k)) ],
-      λ s. (h row).1 (elim s [ inl o ↦ inl o | inr k ↦ inr (subst (λ (rows : List (List Value)). Contains rows row) (sym c.into_vec-rows.ensures) ((c.in_ok-candidates.ensures.candidates row).1 k)) ]),
+      λ m. elim ((h row).0 m) [ inl o ↦ inl o | inr k ↦ inr ((c.in_ok-candidates.ensures.candidates row).0 (subst (λ (rows : List (List Value)). Contains rows row) c.into_vec-more.ensures k)) ],
+      λ s. (h row).1 (elim s [ inl o ↦ inl o | inr k ↦ inr (subst (λ (rows : List (List Value)). Contains rows row) (sym c.into_vec-more.ensures) ((c.in_ok-candidates.ensures.candidates row).1 k)) ]),
     ))
-    c.put_all.ensures
+    c.put_rows.ensures

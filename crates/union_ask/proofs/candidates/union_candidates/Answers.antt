@@ -2,17 +2,20 @@ use Rattle.union_ask.specs.Candidates.{AreCandidatesIn}
 use Rattle.union_ask.proofs.Searching.{possible-of}
 use Rattle.union_ask.proofs.candidates.union_candidates.Goals as goal
 
-pub returns-in-Ok-clause-candidates : goal.returns-in-Ok-clause-candidates
-returns-in-Ok-clause-candidates c = record {
-  ascending = c.listed.ensures.ascending;
-  exactly = λ row. (λ m. (c.in-Ok.ensures row).0 ((c.listed.ensures.same row).0 m), λ k. (c.listed.ensures.same row).1 ((c.in-Ok.ensures row).1 k));
-}
+pub returns-in_ok-list-in-Ok-clause-candidates : goal.returns-in_ok-list-in-Ok-clause-candidates
+returns-in_ok-list-in-Ok-clause-candidates c =
+    let list = c.in_ok-list-in-Ok.ensures in
+    record {
+      ascending = list.ascending;
+      exactly = λ row. (λ m. (c.in-Ok.ensures row).0 ((list.same row).0 m), λ k. (list.same row).1 ((c.in-Ok.ensures row).1 k));
+    }
 
-pub returns-in-Ok-clause-possible : goal.returns-in-Ok-clause-possible
-returns-in-Ok-clause-possible c =
+pub returns-in_ok-list-in-Ok-clause-possible : goal.returns-in_ok-list-in-Ok-clause-possible
+returns-in_ok-list-in-Ok-clause-possible c =
     let parts = c.args.parts.now in
-    let are : AreCandidatesIn parts.db.now parts.queries.now c.listed.result = record {
-      ascending = c.listed.ensures.ascending;
-      exactly = λ row. (λ m. (c.in-Ok.ensures row).0 ((c.listed.ensures.same row).0 m), λ k. (c.listed.ensures.same row).1 ((c.in-Ok.ensures row).1 k));
+    let list = c.in_ok-list-in-Ok.ensures in
+    let are : AreCandidatesIn parts.db.now parts.queries.now c.in_ok-list-in-Ok.list = record {
+      ascending = list.ascending;
+      exactly = λ row. (λ m. (c.in-Ok.ensures row).0 ((list.same row).0 m), λ k. (list.same row).1 ((c.in-Ok.ensures row).1 k));
     } in
-    possible-of parts.db.now parts.queries.now parts.parts.fits c.listed.result are
+    possible-of parts.db.now parts.queries.now parts.parts.fits c.in_ok-list-in-Ok.list are

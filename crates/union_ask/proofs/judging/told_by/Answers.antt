@@ -24,7 +24,7 @@ are_known-requires c =
 pub are_apart-is_apart-requires : goal.are_apart-is_apart-requires
 are_apart-is_apart-requires c =
     let parts = c.args.parts.now in
-    given-long parts.db.now parts.queries.now c.args.known.now c.requires.known c.args.row.now c.args.given.now c.requires.given
+    given-long parts.db.now parts.queries.now c.args.row.now c.args.given.now c.requires.given
 
 pub returns-then-is_apart : goal.returns-then-is_apart
 returns-then-is_apart c =
