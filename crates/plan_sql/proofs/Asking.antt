@@ -1,22 +1,25 @@
 -- The step that asks for keys of an atom has the key of each row that suits, where the atom that names them has a row that does.
-use Rattle.std.proofs.Common.{◌≡◌, ℕ, ◌<◌, inl, Bool, true, false, List, [], ◌∷◌, ◌++◌, length, map, refl, sym, subst, arith, cond, Contains, Option, Some, None, append-nil}
+use Rattle.std.proofs.Common.{◌≡◌, ℕ, ◌<◌, inl, Bool, true, false, ◌&&◌, List, [], ◌∷◌, ◌++◌, length, map, refl, sym, subst, arith, cond, Contains, Option, Some, None, append-nil}
 use Rattle.std.proofs.lemmas.List.{length_push}
 use Rattle.cqa_value.specs.declared.value.Value.{Value}
 use Rattle.cqa_model.specs.declared.query.Query.{Query}
+use Rattle.cqa_model.specs.Database.{nothing}
 use Rattle.cqa_model.specs.Query.{atom_key}
 use Rattle.cqa_model.proofs.Classic.{mem-head, mem-tail, mem-nil}
 use Rattle.sql_text.specs.declared.syntax.Body.TheVariants.{Distinct}
 use Rattle.sql_text.specs.declared.syntax.Step.{Step}
 use Rattle.sql_text.specs.declared.syntax.StepKind.TheVariants.{Asked}
 use Rattle.sql_text.specs.declared.syntax.Within.{Within}
-use Rattle.sql_text.specs.Meaning.{AreWithin}
+use Rattle.sql_text.specs.Meaning.{AreWithin, Selects}
 use Rattle.plan_sql.specs.declared.part.Bound.{Bound}
-use Rattle.plan_sql.specs.Variables.{meets, within, variables_of, key_variables}
-use Rattle.plan_sql.specs.Statement.{cell, rows_of_atom, step, bound_for, keys_in, asked_variables, asked_steps, only_of}
+use Rattle.plan_sql.specs.Variables.{meets, covers, within, variables_of, key_variables}
+use Rattle.plan_sql.specs.Statement.{cell, rows_of_atom, step, guard_for, bound_for, keys_in, asked_variables, asked_steps, only_of}
 use Rattle.plan_sql.proofs.Membership.{within-from, ascending-from}
 use Rattle.plan_sql.proofs.Rel.{Rel, new-into, Stays, stays-self, stays-push}
 use Rattle.plan_sql.proofs.Suiting.{Suits}
-use Rattle.plan_sql.proofs.Level.{ready-none, plain-into}
+use Rattle.plan_sql.proofs.Joining.{covers-from}
+use Rattle.plan_sql.proofs.Holding.{Keeps}
+use Rattle.plan_sql.proofs.Level.{suits-moved, ready-none, plain-from, plain-into}
 use Rattle.plan_sql.proofs.Looking.{keys-at, keys-own, keys-pass}
 
 module _ (q : Query) (T : ℕ → List (List Value)) where
@@ -34,13 +37,46 @@ module _ (q : Query) (T : ℕ → List (List Value)) where
   pub within-stays : (ss ts : List Step) → Stays T ss ts → (w : List (List Value)) (only : List Within) → ((o : Within) → Contains only o → o.step < length ss) → AreWithin (Rel T ss) w only → AreWithin (Rel T ts) w only
   within-stays ss ts s w only there h o m = let g = h o m in (g.0, s.into o.step (there o m) g.0 g.1, g.2)
 
+  -- with later steps
+  pub bound-stays : (known : List ℕ) (ss ts : List Step) (b : Bound) → Stays T ss ts → IsBound known ss b → IsBound known ts b
+  bound-stays known ss ts b s h = record { atom = h.atom; within = h.within; of_key = h.of_key; there = λ o m. let l : o.step < length ss = h.there o m in omega (arith, l, s.longer) }
+
+  pub passed-stays : (known : List ℕ) (ss ts : List Step) (b : Bound) (e : ℕ → Value) → Stays T ss ts → IsBound known ss b → IsPassed ss e b → IsPassed ts e b
+  passed-stays known ss ts b e s h (y, my, sy, w) = (y, my, sy, within-stays ss ts s (y ∷ []) b.only h.there w)
+
+  pub passed-keeps : (known : List ℕ) (steps : List Step) (b : Bound) (e d : ℕ → Value) → IsBound known steps b → Keeps known e d → IsPassed steps e b → IsPassed steps d b
+  passed-keeps known steps b e d h k (y, my, s, w) = (y, my, suits-moved q b.atom e d y (λ v m. k v (h.within v m)) s, w)
+
+  -- the values of some of its variables
+  module _ (known : List ℕ) (steps : List Step) (b : Bound) (h : IsBound known steps b) (columns : List ℕ) (of : (v : ℕ) → Contains columns v → Contains (variables_of q b.atom) v) where
+    pub bound-into : (e : ℕ → Value) → IsPassed steps e b → Selects T (Rel T steps) (rows_of_atom q b.atom b.only [] columns) (map e columns)
+    bound-into e (y, my, s, w) = plain-into q b.atom h.atom T (Rel T steps) known [] (ready-none q b.atom h.atom T (Rel T steps) known) b.only (λ o m. let k = h.of_key o m in (k.0, k.2)) columns
+        (λ v n. inl (of v n)) y e my s (λ z n. absurd (mem-nil z n)) w
+
+    pub bound-from : (row : List Value) → Selects T (Rel T steps) (rows_of_atom q b.atom b.only [] columns) row → (c : ℕ → Value) × (row ≡ map c columns)
+    bound-from row r =
+        let f = plain-from q b.atom h.atom T (Rel T steps) known [] (ready-none q b.atom h.atom T (Rel T steps) known) b.only (λ o m. let k = h.of_key o m in (k.0, k.2)) columns (λ v n. inl (of v n)) row r (λ v. nothing) in
+        (f.2.0, f.2.3)
+
   pub bound_for-in : (bounds : List Bound) (F : ℕ) (b : Bound) → bound_for q bounds F ≡ Some b → Contains bounds b
   bound_for-in [] F b e = absurd (cc e)
-  bound_for-in (c ∷ bounds) F b e = go (meets (variables_of q c.atom) (key_variables q F)) e (bound_for-in bounds F b)
+  bound_for-in (c ∷ bounds) F b e = go (c.few && meets (variables_of q c.atom) (key_variables q F)) e (bound_for-in bounds F b)
     where
       go : (t : Bool) → cond t (Some c) (bound_for q bounds F) ≡ Some b → (bound_for q bounds F ≡ Some b → Contains bounds b) → Contains (c ∷ bounds) b
       go true e next = let same : c ≡ b = cc e in subst (λ z. Contains (c ∷ bounds) z) same (mem-head c bounds)
       go false e next = mem-tail b c bounds (next e)
+
+  -- an atom that guards has all of the variables
+  pub guard_for-in : (bounds : List Bound) (vs : List ℕ) (b : Bound) → guard_for q bounds vs ≡ Some b → Contains bounds b × ((v : ℕ) → Contains vs v → Contains (variables_of q b.atom) v)
+  guard_for-in [] vs b e = absurd (cc e)
+  guard_for-in (c ∷ bounds) vs b e = go (covers (variables_of q c.atom) vs) refl e (guard_for-in bounds vs b)
+    where
+      go : (t : Bool) → covers (variables_of q c.atom) vs ≡ t → cond t (Some c) (guard_for q bounds vs) ≡ Some b →
+          (guard_for q bounds vs ≡ Some b → Contains bounds b × ((v : ℕ) → Contains vs v → Contains (variables_of q b.atom) v)) → Contains (c ∷ bounds) b × ((v : ℕ) → Contains vs v → Contains (variables_of q b.atom) v)
+      go true h e next =
+          let same : c ≡ b = cc e in
+          (subst (λ z. Contains (c ∷ bounds) z) same (mem-head c bounds), λ v m. subst (λ (z : Bound). Contains (variables_of q z.atom) v) same (covers-from (variables_of q c.atom) vs h v m))
+      go false h e next = let r = next e in (mem-tail b c bounds r.0, r.1)
 
   -- what asks for keys of F
   pub record IsAsked (bounds : List Bound) (before start : List Step) (F : ℕ) (only : List Within) : Type 0 where
@@ -70,11 +106,8 @@ module _ (q : Query) (T : ℕ → List (List Value)) where
 
         passes : (e : ℕ → Value) → ((c : Bound) → Contains bounds c → IsPassed before e c) → (y : List Value) → Suits q e F y → AreWithin (Rel T (before ++ s ∷ [])) (y ∷ []) (keys_in q F (length before) columns)
         passes e pass y sy =
-            let p = pass b mb in
             keys-pass q F lF (length before) columns (λ v m. (from v m).0) (Rel T (before ++ s ∷ [])) e y sy
-            (new-into T before s (length before) (map e columns) refl
-            (plain-into q b.atom (bound b mb).atom T (Rel T before) known [] (ready-none q b.atom (bound b mb).atom T (Rel T before) known) b.only (λ o m. let k = (bound b mb).of_key o m in (k.0, k.2)) columns
-            (λ v n. inl (from v n).1) p.0 e p.1 p.2 (λ z n. absurd (mem-nil z n)) p.3))
+            (new-into T before s (length before) (map e columns) refl (bound-into known before b (bound b mb) columns (λ v n. (from v n).1) e (pass b mb)))
 
     pub asked : IsAsked bounds before (before ++ asked_steps q number F (bound_for q bounds F)) F (only_of q F (length before) (bound_for q bounds F))
     asked = go (bound_for q bounds F) refl

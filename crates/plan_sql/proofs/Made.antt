@@ -1,6 +1,6 @@
 -- The steps of a plan have the contexts for which the plan holds, by induction on the plan.
-use Rattle.std.proofs.Common.{◌≡◌, ℕ, ◌<◌, ◌-◌, Bool, true, false, List, [], ◌∷◌, ◌++◌, length, map, refl, ap, sym, ◌∙◌, subst, arith, cond, Contains, inl, inr}
-use Rattle.std.proofs.lemmas.Bool.{false≢true}
+use Rattle.std.proofs.Common.{◌≡◌, ℕ, ◌<◌, ◌-◌, Bool, true, false, not, ◌&&◌, List, [], ◌∷◌, ◌++◌, length, map, refl, ap, sym, ◌∙◌, subst, arith, cond, Contains, Option, Some, None, inl, inr}
+use Rattle.std.proofs.lemmas.Bool.{false≢true, and_parts}
 use Rattle.std.proofs.lemmas.List.{append_assoc, length-map, length_push}
 use Rattle.std.proofs.lemmas.List.Elements.{Contains-append_cases}
 use Rattle.cqa_value.specs.declared.value.Value.{Value}
@@ -15,14 +15,16 @@ use Rattle.sql_text.specs.declared.syntax.Within.{Within}
 use Rattle.sql_text.specs.declared.syntax.Select.{Select}
 use Rattle.sql_text.specs.declared.syntax.Group.{Group}
 use Rattle.sql_text.specs.Meaning.{cell_value, Groups, Selects, AreWithin}
+use Rattle.plan_sql.specs.declared.part.Bound.{Bound}
 use Rattle.plan_sql.specs.declared.part.Part.{Part}
 use Rattle.plan_sql.specs.Variables.{variables_of, key_variables, ascending}
-use Rattle.plan_sql.specs.Statement.{cell, cell_of, held, rows_of_atom, block_group, context_group, are_single, context_of, block_of, step, level_steps, keys_in, rare_only, has_few, few_step}
+use Rattle.plan_sql.specs.Statement.{cell, cell_of, held, rows_of_atom, block_group, context_group, are_single, context_of, block_of, step, guard_for, is_guarded, guarded, level_steps, keys_in, rare_only, has_few, few_step}
 use Rattle.plan_sql.proofs.Rel.{Rel, new-into, new-from, Stays, stays-self, stays-push}
 use Rattle.plan_sql.proofs.Suiting.{Suits}
 use Rattle.plan_sql.proofs.Joining.{Hold, IsSingle, led-ends}
 use Rattle.plan_sql.proofs.Holding.{Keeps}
 use Rattle.plan_sql.proofs.Level.{AreReady, ready-none, IsHeld, Passes, plain-from, plain-into, strict-from, strict-into, block-from, block-into, block-single, context-group-from, context-group-into}
+use Rattle.plan_sql.proofs.Asking.{IsBound, IsPassed, passed-keeps, bound-into, bound-from, guard_for-in}
 use Rattle.plan_sql.proofs.Looking.{keys-own, keys-pass, rare-own, rare-pass}
 use Rattle.plan_sql.proofs.Atoms.{keys-within}
 use Rattle.plan_sql.proofs.Membership.{ascending-from}
@@ -74,7 +76,8 @@ module _ (T : ℕ → List (List Value)) where
 
 -- the steps of an atom
 module _ (q : Query) (T : ℕ → List (List Value)) (F : ℕ) (lF : F < length q.atoms) (strict : IsStrict q F → AreConsistent (atom_key q F) (T F)) (number : ℕ) (known : List ℕ) (parts : List Part) (before : List Step)
-    (only : List Within) (each : (p : Part) → Contains parts p → IsPart T (known ++ variables_of q F) before p) (of_key : (o : Within) → Contains only o → (k : ℕ) × Contains (atom_key q F) k × (o.cell ≡ cell 0 k)) where
+    (only : List Within) (each : (p : Part) → Contains parts p → IsPart T (known ++ variables_of q F) before p) (of_key : (o : Within) → Contains only o → (k : ℕ) × Contains (atom_key q F) k × (o.cell ≡ cell 0 k))
+    (bounds : List Bound) (bound : (b : Bound) → Contains bounds b → IsBound q T known before b) where
   abbrev pub context : List ℕ
   context = context_of q known F parts
 
@@ -84,13 +87,17 @@ module _ (q : Query) (T : ℕ → List (List Value)) (F : ℕ) (lF : F < length 
   abbrev Held : (ℕ → Value) → Type 0
   Held e = IsHeld q F lF T (Rel T before) known parts e
 
+  -- the atoms before have rows that suit
+  abbrev ArePassed : (ℕ → Value) → Type 0
+  ArePassed e = (b : Bound) → Contains bounds b → IsPassed q T before e b
+
   -- what the last of these steps has
   pub record IsLevel (steps : List Step) (single : Bool) : Type 0 where
     pub stays : Stays T before steps
     pub some : length before < length steps
     pub wide : (h : List Value) → Rel T steps (length steps - 1) h → length h ≡ length context
     pub from : (e : ℕ → Value) → Rel T steps (length steps - 1) (map e context) → Held e
-    pub into : (e : ℕ → Value) → Passes q F lF T (Rel T before) known parts ready only of_key e → Held e → Rel T steps (length steps - 1) (map e context)
+    pub into : (e : ℕ → Value) → ArePassed e → Passes q F lF T (Rel T before) known parts ready only of_key e → Held e → Rel T steps (length steps - 1) (map e context)
     pub one : single ≡ true → (d e : ℕ → Value) → ((v : ℕ) → Contains (key_variables q F) v → Contains context v) → ((v : ℕ) → Contains (key_variables q F) v → d v ≡ e v) →
         Rel T steps (length steps - 1) (map d context) → Rel T steps (length steps - 1) (map e context) → map d context ≡ map e context
 
@@ -101,7 +108,7 @@ module _ (q : Query) (T : ℕ → List (List Value)) (F : ℕ) (lF : F < length 
     some = omega (arith, length_push before s);
     wide = λ h r. groups-long T (Rel T before) (block_group q F only parts context) h (new-from T before s (length (before ++ s ∷ []) - 1) h last r) ∙ length-map context (λ v. cell_of (end q F lF known parts [] 1) v);
     from = λ e r. block-from q F lF T (Rel T before) known parts ready only of_key e (new-from T before s (length (before ++ s ∷ []) - 1) (map e context) last r);
-    into = λ e pass h. new-into T before s (length (before ++ s ∷ []) - 1) (map e context) last (block-into q F lF T (Rel T before) known parts ready only of_key t e pass h);
+    into = λ e passed pass h. new-into T before s (length (before ++ s ∷ []) - 1) (map e context) last (block-into q F lF T (Rel T before) known parts ready only of_key t e pass h);
     one = λ u d e inside same a b. block-single q F lF T (Rel T before) known parts ready only of_key d e inside same
         (new-from T before s (length (before ++ s ∷ []) - 1) (map d context) last a) (new-from T before s (length (before ++ s ∷ []) - 1) (map e context) last b);
   }
@@ -119,7 +126,7 @@ module _ (q : Query) (T : ℕ → List (List Value)) (F : ℕ) (lF : F < length 
     some = omega (arith, length_push before s);
     wide = λ h r. selects-long T (Rel T before) (rows_of_atom q F only parts context) h (new-from T before s (length (before ++ s ∷ []) - 1) h last r) ∙ length-map context (λ v. cell_of (end q F lF known parts [] 1) v);
     from = λ e r. strict-from q F lF T (Rel T before) known parts ready only of_key (strict t) e (new-from T before s (length (before ++ s ∷ []) - 1) (map e context) last r);
-    into = λ e pass h. new-into T before s (length (before ++ s ∷ []) - 1) (map e context) last (strict-into q F lF T (Rel T before) known parts ready only of_key e pass h);
+    into = λ e passed pass h. new-into T before s (length (before ++ s ∷ []) - 1) (map e context) last (strict-into q F lF T (Rel T before) known parts ready only of_key e pass h);
     one = λ u. absurd (false≢true u);
   }
     where
@@ -185,7 +192,7 @@ module _ (q : Query) (T : ℕ → List (List Value)) (F : ℕ) (lF : F < length 
     some = omega (arith, length_push sifted each_few, length_push before few);
     wide = λ h r. groups-long T (Rel T sifted) (block_group q F of_few parts context) h (new-from T sifted each_few (length (sifted ++ each_few ∷ []) - 1) h last r) ∙ length-map context (λ v. cell_of (end q F lF known parts [] 1) v);
     from = λ e r. held-back sifted sifted-stays e (block-from q F lF T (Rel T sifted) known parts now of_few few-own e (new-from T sifted each_few (length (sifted ++ each_few ∷ []) - 1) (map e context) last r));
-    into = λ e pass h. new-into T sifted each_few (length (sifted ++ each_few ∷ []) - 1) (map e context) last
+    into = λ e passed pass h. new-into T sifted each_few (length (sifted ++ each_few ∷ []) - 1) (map e context) last
         (block-into q F lF T (Rel T sifted) known parts now of_few few-own t e (few-found e pass) (held-on sifted sifted-stays e h));
     one = λ u d e inside same a b. block-single q F lF T (Rel T sifted) known parts now of_few few-own d e inside same
         (new-from T sifted each_few (length (sifted ++ each_few ∷ []) - 1) (map d context) last a) (new-from T sifted each_few (length (sifted ++ each_few ∷ []) - 1) (map e context) last b);
@@ -202,7 +209,7 @@ module _ (q : Query) (T : ℕ → List (List Value)) (F : ℕ) (lF : F < length 
   block = block_of q F context
 
   abbrev blocks : Step
-  blocks = step Blocks number block (Distinct (rows_of_atom q F only parts block))
+  blocks = step Blocks number block (Distinct (guarded q F only parts block (guard_for q bounds block)))
 
   abbrev opened : List Step
   opened = before ++ blocks ∷ []
@@ -217,9 +224,23 @@ module _ (q : Query) (T : ℕ → List (List Value)) (F : ℕ) (lF : F < length 
   opened-ready = ready-on opened opened-stays
 
   opened-shaped : (s : List Value) → Rel T opened (length before) s → (c : ℕ → Value) × (s ≡ map c block)
-  opened-shaped s r =
-      let b = plain-from q F lF T (Rel T before) known parts ready only own block (block-of q F lF known parts) s (new-from T before blocks (length before) s refl r) (λ v. nothing) in
-      (b.2.0, b.2.3)
+  opened-shaped s r = go (guard_for q bounds block) refl (new-from T before blocks (length before) s refl r)
+    where
+      go : (found : Option Bound) → guard_for q bounds block ≡ found → Selects T (Rel T before) (guarded q F only parts block found) s → (c : ℕ → Value) × (s ≡ map c block)
+      go None e h = let b = plain-from q F lF T (Rel T before) known parts ready only own block (block-of q F lF known parts) s h (λ v. nothing) in (b.2.0, b.2.3)
+      go (Some g) e h = let r = guard_for-in q T bounds block g e in bound-from q T known before g (bound g r.0) block r.1 s h
+
+  -- each context of a row that suits is there
+  opened-into : (e : ℕ → Value) → ArePassed e → Passes q F lF T (Rel T before) known parts ready only of_key e →
+      (y : List Value) (d : ℕ → Value) → Contains (T F) y → Keeps known e d → Suits q d F y → Hold T (Rel T opened) parts d → Rel T opened (length before) (map d block)
+  opened-into e passed pass y d my k s hold = new-into T before blocks (length before) (map d block) refl (go (guard_for q bounds block) refl)
+    where
+      below : Hold T (Rel T before) parts d
+      below = hold-back T (known ++ variables_of q F) before opened parts opened-stays each d hold
+
+      go : (found : Option Bound) → guard_for q bounds block ≡ found → Selects T (Rel T before) (guarded q F only parts block found) (map d block)
+      go None f = plain-into q F lF T (Rel T before) known parts ready only own block (block-of q F lF known parts) y d my s below (pass y d my k s below)
+      go (Some g) f = let r = guard_for-in q T bounds block g f in bound-into q T known before g (bound g r.0) block r.1 d (passed-keeps q T known before g e d (bound g r.0) k (passed g r.0))
 
   contexts-level : IsLevel (opened ++ holds ∷ []) false
   contexts-level = record {
@@ -227,26 +248,20 @@ module _ (q : Query) (T : ℕ → List (List Value)) (F : ℕ) (lF : F < length 
     some = omega (arith, length_push opened holds, length_push before blocks);
     wide = λ h r. groups-long T (Rel T opened) (context_group q F (length before) block parts context) h (new-from T opened holds (length (opened ++ holds ∷ []) - 1) h last r) ∙ length-map context (λ v. cell_of (end q F lF known parts (held 1 0 block) 2) v);
     from = λ e r. held-back opened opened-stays e (context-group-from q F lF T (Rel T opened) known parts opened-ready (length before) opened-shaped e (new-from T opened holds (length (opened ++ holds ∷ []) - 1) (map e context) last r));
-    into = λ e pass h. new-into T opened holds (length (opened ++ holds ∷ []) - 1) (map e context) last
-        (context-group-into q F lF T (Rel T opened) known parts opened-ready (length before) opened-shaped e (λ y d my k sy hold. there e pass y d my k sy hold) (held-on opened opened-stays e h));
+    into = λ e passed pass h. new-into T opened holds (length (opened ++ holds ∷ []) - 1) (map e context) last
+        (context-group-into q F lF T (Rel T opened) known parts opened-ready (length before) opened-shaped e (opened-into e passed pass) (held-on opened opened-stays e h));
     one = λ u. absurd (false≢true u);
   }
     where
       last : length (opened ++ holds ∷ []) - 1 ≡ length opened
       last = omega (arith, length_push opened holds)
 
-      there : (e : ℕ → Value) → Passes q F lF T (Rel T before) known parts ready only of_key e → (y : List Value) (d : ℕ → Value) → Contains (T F) y → Keeps known e d → Suits q d F y → Hold T (Rel T opened) parts d → Rel T opened (length before) (map d block)
-      there e pass y d my k s hold =
-          let below : Hold T (Rel T before) parts d = hold-back T (known ++ variables_of q F) before opened parts opened-stays each d hold in
-          new-into T before blocks (length before) (map d block) refl
-          (plain-into q F lF T (Rel T before) known parts ready only own block (block-of q F lF known parts) y d my s below (pass y d my k s below))
-
-  pub level : IsLevel (before ++ level_steps q number F context only parts (length before)) (are_single (variables_of q F) parts)
-  level = go (are_single (variables_of q F) parts) (has_few q F parts) (atom_at q F).strict refl refl
+  pub level : IsLevel (before ++ level_steps q number F context only bounds parts (length before)) (are_single (variables_of q F) parts)
+  level = go (are_single (variables_of q F) parts) (has_few q F parts) ((atom_at q F).strict && not (is_guarded q bounds block)) refl refl
     where
-      go : (a f b : Bool) → are_single (variables_of q F) parts ≡ a → (atom_at q F).strict ≡ b →
+      go : (a f b : Bool) → are_single (variables_of q F) parts ≡ a → ((atom_at q F).strict && not (is_guarded q bounds block)) ≡ b →
           IsLevel (before ++ cond a (cond f (few ∷ each_few ∷ []) (step Holds number context (Grouped (block_group q F only parts context)) ∷ [])) (cond b (step Holds number context (Distinct (rows_of_atom q F only parts context)) ∷ []) (blocks ∷ holds ∷ []))) a
       go true true b t u = subst (λ z. IsLevel z true) (append_assoc before (few ∷ []) (each_few ∷ [])) (few-level t)
       go true false b t u = single-level t
-      go false f true t u = strict-level u
+      go false f true t u = strict-level (and_parts (atom_at q F).strict (not (is_guarded q bounds block)) u).0
       go false f false t u = subst (λ z. IsLevel z false) (append_assoc before (blocks ∷ []) (holds ∷ [])) contexts-level

@@ -1,5 +1,5 @@
 -- The names of the query of a plan say what its places mean, by induction on the plan.
-use Rattle.std.proofs.Common.{◌≡◌, ℕ, suc, ◌<◌, ◌≤◌, ◌-◌, ◌⊎◌, ◌||◌, inl, inr, Bool, true, false, not, List, [], ◌∷◌, ◌++◌, length, map, refl, ap, sym, ◌∙◌, subst, arith, cond, Contains, Option, Some, None, append-nil}
+use Rattle.std.proofs.Common.{◌≡◌, ℕ, suc, ◌<◌, ◌≤◌, ◌-◌, ◌⊎◌, ◌||◌, inl, inr, Bool, true, not, List, [], ◌∷◌, ◌++◌, length, map, refl, ap, sym, ◌∙◌, subst, arith, Contains, Option, Some, None, append-nil}
 use Rattle.std.specs.List.{filter, list_any, slice_index}
 use Rattle.std.proofs.lemmas.Bool.{false≢true, or_cases}
 use Rattle.std.proofs.lemmas.List.{append_assoc, length-map}
@@ -22,7 +22,7 @@ use Rattle.sql_text.specs.Named.{AreDifferent, width, ShowsOne, IsThere, AreChil
 use Rattle.plan_sql.specs.declared.part.Bound.{Bound}
 use Rattle.plan_sql.specs.declared.part.Part.{Part}
 use Rattle.plan_sql.specs.Variables.{has, meets, without, within, variables_of, key_variables, answer_variables}
-use Rattle.plan_sql.specs.Statement.{cell_of, fitted, part_source, children_of, known_of, rows_of_atom, hangs, context_of, are_single, step, level_steps, is_bound, bound_for, asked_variables, asked_steps, only_of, Made, with_level, made_of, is_value_test}
+use Rattle.plan_sql.specs.Statement.{cell_of, fitted, part_source, children_of, known_of, rows_of_atom, hangs, context_of, are_single, step, level_steps, bound_of, bound_for, asked_variables, asked_steps, only_of, Made, with_level, made_of, is_value_test}
 use Rattle.plan_sql.specs.Laws.{SqlIsNamed}
 use Rattle.plan_sql.proofs.Membership.{within-from, ascending-from, has-from, without-from}
 use Rattle.plan_sql.proofs.Atoms.{key-width}
@@ -30,7 +30,7 @@ use Rattle.plan_sql.proofs.Asking.{bound_for-in}
 use Rattle.plan_sql.proofs.Exact.{answers-known}
 use Rattle.plan_sql.proofs.Looking.{keys-at, keys-own}
 use Rattle.plan_sql.proofs.Scopes.{AreIn, cells-in, AreAt, children-of, on-of, sources-of}
-use Rattle.plan_sql.proofs.Naming.{ascending-apart, filter-apart, held-apart, named-push, width-new, AreOnly, only-more, at-more, rows-named, IsLevelNamed, level-named}
+use Rattle.plan_sql.proofs.Naming.{ascending-apart, filter-apart, held-apart, named-push, width-new, AreOnly, only-more, at-more, IsBoundNamed, rows-named, IsLevelNamed, level-named}
 
 -- lists with something in common
 meets-from : (us vs : List ℕ) → meets us vs ≡ true → (u : ℕ) × Contains us u × Contains vs u
@@ -41,11 +41,7 @@ meets-from (u ∷ us) vs h = elim (or_cases (has vs u) (meets us vs) h) [
 ]
 
 module _ (q : Query) where
-  -- an atom before, with what it looks up
-  abbrev IsBoundNamed : List Step → Bound → Type 0
-  IsBoundNamed ss b = (b.atom < length q.atoms) × AreOnly q ss b.atom b.only
-
-  bound-more : (ss ts : List Step) (b : Bound) → IsBoundNamed ss b → IsBoundNamed (ss ++ ts) b
+  bound-more : (ss ts : List Step) (b : Bound) → IsBoundNamed q ss b → IsBoundNamed q (ss ++ ts) b
   bound-more ss ts b h = (h.0, only-more q ss ts b.atom b.only h.1)
 
   -- the step that asks for keys of F
@@ -55,11 +51,11 @@ module _ (q : Query) where
     levels : (t : Step) → Contains start t → Contains before t ⊎ ((t.level ≡ number) × (t.kind ≡ Asked))
     looked : AreOnly q start F only
 
-  asked-named : (F : ℕ) (lF : F < length q.atoms) (number : ℕ) (bounds : List Bound) (before : List Step) → ((b : Bound) → Contains bounds b → IsBoundNamed before b) → AreNamedSteps q [] before →
+  asked-named : (F : ℕ) (lF : F < length q.atoms) (number : ℕ) (bounds : List Bound) (before : List Step) → ((b : Bound) → Contains bounds b → IsBoundNamed q before b) → AreNamedSteps q [] before →
       ((t : Step) → Contains before t → t.level < number) → IsAskedNamed before (before ++ asked_steps q number F (bound_for q bounds F)) number F (only_of q F (length before) (bound_for q bounds F))
   asked-named F lF number bounds before bound named early = go (bound_for q bounds F) refl
     where
-      by : (b : Bound) → IsBoundNamed before b → IsAskedNamed before (before ++ asked_steps q number F (Some b)) number F (only_of q F (length before) (Some b))
+      by : (b : Bound) → IsBoundNamed q before b → IsAskedNamed before (before ++ asked_steps q number F (Some b)) number F (only_of q F (length before) (Some b))
       by b hb = record {
         named = named-push q [] before s named (record {
           fresh = λ t m h. let l : t.level < number = early t m in let e : t.level ≡ number = h.1 in omega arith;
@@ -110,7 +106,7 @@ module _ (q : Query) where
     pub late : (p : Part) → Contains made.parts p → number ≤ p.number
     pub apart : AreDifferent (map (λ (p : Part). p.number) made.parts)
 
-  module _ (F : ℕ) (lF : F < length q.atoms) (number : ℕ) (known : List ℕ) (bounds : List Bound) (before : List Step) (bound : (b : Bound) → Contains bounds b → IsBoundNamed before b)
+  module _ (F : ℕ) (lF : F < length q.atoms) (number : ℕ) (known : List ℕ) (bounds : List Bound) (before : List Step) (bound : (b : Bound) → Contains bounds b → IsBoundNamed q before b)
       (first : AreNamedSteps q [] before) (early : (t : Step) → Contains before t → t.level < number) where
     abbrev start : List Step
     start = before ++ asked_steps q number F (bound_for q bounds F)
@@ -119,20 +115,16 @@ module _ (q : Query) where
     only = only_of q F (length before) (bound_for q bounds F)
 
     abbrev next : List Bound
-    next = cond (is_bound q F only) (record { atom = F; only = only } ∷ bounds) bounds
+    next = bound_of q F only ∷ bounds
 
     ask : IsAskedNamed before start number F only
     ask = asked-named F lF number bounds before bound first early
 
-    pub next-bound : (b : Bound) → Contains next b → IsBoundNamed start b
-    next-bound b m = go (is_bound q F only) m
-      where
-        old : Contains bounds b → IsBoundNamed start b
-        old n = subst (λ z. IsBoundNamed z b) (sym ask.grows.1) (bound-more before ask.grows.0 b (bound b n))
-
-        go : (t : Bool) → Contains (cond t (record { atom = F; only = only } ∷ bounds) bounds) b → IsBoundNamed start b
-        go false n = old n
-        go true n = elim (mem-cases b (record { atom = F; only = only }) bounds n) [ inl e ↦ subst (λ z. IsBoundNamed start z) e (lF, ask.looked) | inr k ↦ old k ]
+    pub next-bound : (b : Bound) → Contains next b → IsBoundNamed q start b
+    next-bound b m = elim (mem-cases b (bound_of q F only) bounds m) [
+      | inl e ↦ subst (λ z. IsBoundNamed q start z) e (lF, ask.looked)
+      | inr n ↦ subst (λ z. IsBoundNamed q z b) (sym ask.grows.1) (bound-more before ask.grows.0 b (bound b n))
+    ]
 
     pub next-early : (t : Step) → Contains start t → t.level < suc number
     next-early t m = elim (ask.levels t m) [ inl n ↦ (let l : t.level < number = early t n in omega arith) | inr n ↦ (let e : t.level ≡ number = n.0 in omega arith) ]
@@ -148,7 +140,7 @@ module _ (q : Query) where
       context = context_of q known F kids
 
       abbrev steps : List Step
-      steps = later.steps ++ level_steps q number F context only kids (length later.steps)
+      steps = later.steps ++ level_steps q number F context only bounds kids (length later.steps)
 
       at-of : (test : Part → Bool) → AreAt q later.steps (filter test later.parts)
       at-of test p m = done.at p ((Contains-filter test later.parts p).0 m).0
@@ -167,8 +159,11 @@ module _ (q : Query) where
           let r = meets-from p.columns (without (variables_of q F) known) ((Contains-filter (λ (z : Part). hangs q known F z) later.parts p).0 m).1 in
           (r.0, r.1, (without-from (variables_of q F) known r.0 r.2).0)
 
-      lv : IsLevelNamed q later.steps F lF known kids (at-of (λ p. hangs q known F p)) (filter-apart (λ p. hangs q known F p) (λ (p : Part). p.number) later.parts done.apart) only looked number done.named fresh linked steps
-      lv = level-named q later.steps F lF known kids (at-of (λ p. hangs q known F p)) (filter-apart (λ p. hangs q known F p) (λ (p : Part). p.number) later.parts done.apart) only looked number done.named fresh linked
+      still : (b : Bound) → Contains bounds b → IsBoundNamed q later.steps b
+      still b m = subst (λ z. IsBoundNamed q z b) (sym (done.grows.1 ∙ ap (λ z. z ++ done.grows.0) ask.grows.1)) (bound-more (before ++ ask.grows.0) done.grows.0 b (bound-more before ask.grows.0 b (bound b m)))
+
+      lv : IsLevelNamed q later.steps F lF known kids (at-of (λ p. hangs q known F p)) (filter-apart (λ p. hangs q known F p) (λ (p : Part). p.number) later.parts done.apart) only looked number done.named fresh linked bounds still steps
+      lv = level-named q later.steps F lF known kids (at-of (λ p. hangs q known F p)) (filter-apart (λ p. hangs q known F p) (λ (p : Part). p.number) later.parts done.apart) only looked number done.named fresh linked bounds still
 
       abbrev part : Part
       part = record { number = number; step = length steps - 1; columns = context; keys = key_variables q F; single = are_single (variables_of q F) kids; rare = list_any (λ k. is_value_test F k) q.conds || list_any (λ (p : Part). p.rare) kids }
@@ -176,7 +171,7 @@ module _ (q : Query) where
       other-late : (p : Part) → Contains others p → suc number ≤ p.number
       other-late p m = done.late p ((Contains-filter (λ (z : Part). not (hangs q known F z)) later.parts p).0 m).0
 
-      pub made-level : IsMadeNamed number before (with_level q number known only F later)
+      pub made-level : IsMadeNamed number before (with_level q number known bounds only F later)
       made-level = record {
         named = lv.named;
         grows = (
@@ -205,7 +200,7 @@ module _ (q : Query) where
         );
       }
 
-  pub made-named : (plan : List ℕ) → ((G : ℕ) → Contains plan G → G < length q.atoms) → (number : ℕ) (known : List ℕ) (bounds : List Bound) (before : List Step) → ((b : Bound) → Contains bounds b → IsBoundNamed before b) →
+  pub made-named : (plan : List ℕ) → ((G : ℕ) → Contains plan G → G < length q.atoms) → (number : ℕ) (known : List ℕ) (bounds : List Bound) (before : List Step) → ((b : Bound) → Contains bounds b → IsBoundNamed q before b) →
       AreNamedSteps q [] before → ((t : Step) → Contains before t → t.level < number) → IsMadeNamed number before (made_of q number known bounds before plan)
   made-named [] there number known bounds before bound first early = record {
     named = first;

@@ -1,5 +1,5 @@
 -- The names of the query of a plan say what its places mean.
-use Rattle.std.proofs.Common.{◌≡◌, ◌≢◌, ℕ, zero, suc, ◌<◌, ◌≤◌, ◌-◌, ◌+◌, ◌⊎◌, inl, inr, Bool, true, false, not, List, [], ◌∷◌, ◌++◌, length, map, get_or, refl, ap, sym, ◌∙◌, subst, arith, cond, Contains, append-nil}
+use Rattle.std.proofs.Common.{◌≡◌, ◌≢◌, ℕ, zero, suc, ◌<◌, ◌≤◌, ◌-◌, ◌+◌, ◌⊎◌, inl, inr, Bool, true, false, not, ◌&&◌, List, [], ◌∷◌, ◌++◌, length, map, get_or, refl, ap, sym, ◌∙◌, subst, arith, cond, Contains, Option, Some, None, append-nil}
 use Rattle.std.specs.List.{filter, flat_map, range_with_len}
 use Rattle.std.proofs.lemmas.List.{append_assoc, map-append, length-map, length-append, length_push, get_or_append_left, get_or_push}
 use Rattle.std.proofs.lemmas.List.Elements.{Contains-append_cases, Contains-get_or}
@@ -19,15 +19,17 @@ use Rattle.sql_text.specs.declared.syntax.Step.{Step}
 use Rattle.sql_text.specs.declared.syntax.StepKind.TheVariants.{Asked, Blocks, Holds}
 use Rattle.sql_text.specs.Named.{AreDifferent, width, ShowsOne, IsThere, IsCellOf, AreCellsOf, AreCmpsOf, AreWithinOf, AreChildrenOf, AreSources, IsNamedSelect, IsNamedGroup, IsNamedStep, AreNamedSteps}
 use Rattle.plan_sql.specs.declared.fitting.Known.{Known}
+use Rattle.plan_sql.specs.declared.part.Bound.{Bound}
 use Rattle.plan_sql.specs.declared.part.Part.{Part}
 use Rattle.plan_sql.specs.Variables.{has, within, without, all_below, ascending, variables_of, key_variables}
-use Rattle.plan_sql.specs.Statement.{cell, cell_of, held, member, cells_at, keyed, fitted, part_source, children_of, known_of, on_of, rows_of_atom, group_of, block_group, context_group, are_single, context_of, block_of, step, level_steps, keys_in, rare_only, has_few, few_step}
+use Rattle.plan_sql.specs.Statement.{cell, cell_of, held, member, cells_at, keyed, fitted, part_source, children_of, known_of, on_of, rows_of_atom, group_of, block_group, context_group, are_single, context_of, block_of, step, guard_for, is_guarded, guarded, level_steps, keys_in, rare_only, has_few, few_step}
 use Rattle.plan_sql.proofs.Membership.{ascending-from, without-from, columns-from, columns-into}
 use Rattle.plan_sql.proofs.Seeing.{held-at}
 use Rattle.plan_sql.proofs.Atoms.{key-width, keys-within, keys-into}
 use Rattle.plan_sql.proofs.Rows.{row-known}
 use Rattle.plan_sql.proofs.Suiting.{variable}
 use Rattle.plan_sql.proofs.Contexts.{IsOf, context-from, end-known, block-of, block-key}
+use Rattle.plan_sql.proofs.Asking.{guard_for-in}
 use Rattle.plan_sql.proofs.Looking.{keys-at, keys-own, rare-at, rare-own}
 use Rattle.plan_sql.proofs.Scopes.{cmp-more, AreIn, both-of, keyed-seen, fitted-seen, cells-in, AreAt, children-of, on-of, sources-of, children-joined}
 
@@ -132,6 +134,10 @@ module _ (q : Query) where
 
   pub only-more : (ss ts : List Step) (F : ℕ) (only : List Within) → AreOnly ss F only → AreOnly (ss ++ ts) F only
   only-more ss ts F only h o m = let r = h o m in (r.0, subst (λ z. o.column < z) (sym (width-more ss ts o.step (there-of ss o.step o.column r.1))) r.1)
+
+  -- an atom before, with what it looks up
+  abbrev pub IsBoundNamed : List Step → Bound → Type 0
+  IsBoundNamed ss b = (b.atom < length q.atoms) × AreOnly ss b.atom b.only
 
   -- the steps of an atom
   module _ (before : List Step) (F : ℕ) (lF : F < length q.atoms) (known : List ℕ) (parts : List Part) (at : AreAt q before parts) (numbers : AreDifferent (map (λ (p : Part). p.number) parts)) (only : List Within) (looked : AreOnly before F only) where
@@ -262,7 +268,7 @@ module _ (q : Query) where
   -- the steps, where no step has the atom's number but the one that asks for its keys
   module _ (before : List Step) (F : ℕ) (lF : F < length q.atoms) (known : List ℕ) (parts : List Part) (at : AreAt q before parts) (numbers : AreDifferent (map (λ (p : Part). p.number) parts)) (only : List Within) (looked : AreOnly before F only) where
     module _ (number : ℕ) (first : AreNamedSteps q [] before) (fresh : (t : Step) → Contains before t → t.level ≡ number → t.kind ≡ Asked)
-        (linked : AreLinked before F lF known parts at numbers only looked) where
+        (linked : AreLinked before F lF known parts at numbers only looked) (bounds : List Bound) (bound : (b : Bound) → Contains bounds b → IsBoundNamed before b) where
       abbrev context : List ℕ
       context = context_of q known F parts
 
@@ -306,14 +312,14 @@ module _ (q : Query) where
       blocks-fresh : (t : Step) → Contains before t → (t.kind ≡ Blocks) × (t.level ≡ number) → ⊥
       blocks-fresh t m h = let e : Asked ≡ Blocks = sym (fresh t m h.1) ∙ h.0 in cc e
 
-      pub level-named : IsLevelNamed (before ++ level_steps q number F context only parts (length before))
-      level-named = go (are_single (variables_of q F) parts) (has_few q F parts) (atom_at q F).strict
+      pub level-named : IsLevelNamed (before ++ level_steps q number F context only bounds parts (length before))
+      level-named = go (are_single (variables_of q F) parts) (has_few q F parts) ((atom_at q F).strict && not (is_guarded q bounds (block_of q F context)))
         where
           block : List ℕ
           block = block_of q F context
 
           blocks : Step
-          blocks = step Blocks number block (Distinct (rows_of_atom q F only parts block))
+          blocks = step Blocks number block (Distinct (guarded q F only parts block (guard_for q bounds block)))
 
           holds : Step
           holds = step Holds number context (Grouped (context_group q F (length before) block parts context))
@@ -380,12 +386,17 @@ module _ (q : Query) where
           )
 
           blocks-step : IsNamedStep q before blocks
-          blocks-step = record {
-            fresh = blocks-fresh;
-            body = rows-named before F lF known parts at numbers only looked block (block-of q F lF known parts);
-            long = length-map block (λ v. cell_of (known_of 1 parts (fitted q F []).known) v);
-            apart = block-apart q F context context-apart;
-          }
+          blocks-step = record { fresh = blocks-fresh; body = body (guard_for q bounds block) refl; long = long (guard_for q bounds block); apart = block-apart q F context context-apart }
+            where
+              body : (found : Option Bound) → guard_for q bounds block ≡ found → IsNamedSelect q before (guarded q F only parts block found)
+              body None e = rows-named before F lF known parts at numbers only looked block (block-of q F lF known parts)
+              body (Some g) e =
+                  let r = guard_for-in q (λ G. []) bounds block g e in
+                  rows-named before g.atom (bound g r.0).0 known [] (λ p m. absurd (mem-nil p m)) tt g.only (bound g r.0).1 block (λ v m. inl (r.1 v m))
+
+              long : (found : Option Bound) → length (guarded q F only parts block found).cells ≡ length block
+              long None = length-map block (λ v. cell_of (known_of 1 parts (fitted q F []).known) v)
+              long (Some g) = length-map block (λ v. cell_of (known_of 1 [] (fitted q g.atom []).known) v)
 
           go : (a f b : Bool) → IsLevelNamed (before ++ cond a (cond f (few ∷ each_few ∷ []) (step Holds number context (Grouped (block_group q F only parts context)) ∷ [])) (cond b (step Holds number context (Distinct (rows_of_atom q F only parts context)) ∷ []) (blocks ∷ holds ∷ [])))
           go true true b = two-levels few each_few few-each refl refl refl refl refl

@@ -1,5 +1,5 @@
 -- The steps of a plan have the contexts for which the plan holds, by induction on the plan.
-use Rattle.std.proofs.Common.{◌≡◌, ℕ, suc, ◌<◌, ◌-◌, ◌⊎◌, inl, inr, Bool, true, false, not, ◌||◌, List, [], ◌∷◌, ◌++◌, length, map, refl, ap, sym, ◌∙◌, subst, arith, cond, Contains}
+use Rattle.std.proofs.Common.{◌≡◌, ℕ, suc, ◌<◌, ◌-◌, ◌⊎◌, inl, inr, Bool, true, false, not, ◌||◌, List, [], ◌∷◌, ◌++◌, length, map, refl, ap, sym, ◌∙◌, subst, arith, Contains}
 use Rattle.std.specs.List.{filter, list_any}
 use Rattle.std.proofs.lemmas.Bool.{false≢true}
 use Rattle.std.proofs.lemmas.List.Elements.{Contains-append_left, Contains-append_right, Contains-append_cases}
@@ -16,16 +16,15 @@ use Rattle.sql_text.specs.Meaning.{AreWithin}
 use Rattle.plan_sql.specs.declared.part.Bound.{Bound}
 use Rattle.plan_sql.specs.declared.part.Part.{Part}
 use Rattle.plan_sql.specs.Variables.{has, meets, without, variables_of, key_variables}
-use Rattle.plan_sql.specs.Statement.{are_single, hangs, context_of, level_steps, is_bound, bound_for, asked_steps, only_of, Made, with_level, made_of, is_value_test}
+use Rattle.plan_sql.specs.Statement.{are_single, hangs, context_of, level_steps, bound_of, bound_for, asked_steps, only_of, Made, with_level, made_of, is_value_test}
 use Rattle.plan_sql.proofs.Membership.{dec_has, has-into, without-into}
 use Rattle.plan_sql.proofs.Rel.{Rel, Stays, stays-self, stays-trans}
 use Rattle.plan_sql.proofs.Suiting.{Suits}
 use Rattle.plan_sql.proofs.Atoms.{keys-within}
 use Rattle.plan_sql.proofs.Joining.{Hold}
 use Rattle.plan_sql.proofs.Holding.{Keeps, Holding}
-use Rattle.plan_sql.proofs.Level.{suits-moved}
 use Rattle.plan_sql.proofs.Contexts.{IsOf, context-from, context-into, of-small}
-use Rattle.plan_sql.proofs.Asking.{IsBound, IsPassed, IsAsked, within-stays, asked}
+use Rattle.plan_sql.proofs.Asking.{IsBound, IsPassed, IsAsked, within-stays, bound-stays, passed-stays, passed-keeps, asked}
 use Rattle.plan_sql.proofs.Made.{IsPart, part-stays, IsLevel, level}
 
 meets-into : (us vs : List ℕ) (u : ℕ) → Contains us u → Contains vs u → meets us vs ≡ true
@@ -48,9 +47,6 @@ module _ (q : Query) (T : ℕ → List (List Value)) (strict : (F : ℕ) → F <
     pub from : (e : ℕ → Value) → Hold T (Rel T made.steps) made.parts e → Holding q T known e plan
     pub into : (e : ℕ → Value) → ((b : Bound) → Contains bounds b → IsPassed q T before e b) → Holding q T known e plan → Hold T (Rel T made.steps) made.parts e
 
-  passed-keeps : (known : List ℕ) (steps : List Step) (b : Bound) (e d : ℕ → Value) → IsBound q T known steps b → Keeps known e d → IsPassed q T steps e b → IsPassed q T steps d b
-  passed-keeps known steps b e d h k (y, my, s, w) = (y, my, suits-moved q b.atom e d y (λ v m. k v (h.within v m)) s, w)
-
   module _ (F : ℕ) (lF : F < length q.atoms) (plan : List ℕ) (number : ℕ) (known : List ℕ) (bounds : List Bound) (before : List Step) (bound : (b : Bound) → Contains bounds b → IsBound q T known before b) where
     abbrev start : List Step
     start = before ++ asked_steps q number F (bound_for q bounds F)
@@ -59,10 +55,10 @@ module _ (q : Query) (T : ℕ → List (List Value)) (strict : (F : ℕ) → F <
     only = only_of q F (length before) (bound_for q bounds F)
 
     abbrev new : Bound
-    new = record { atom = F; only = only }
+    new = bound_of q F only
 
     abbrev next : List Bound
-    next = cond (is_bound q F only) (new ∷ bounds) bounds
+    next = new ∷ bounds
 
     abbrev wider : List ℕ
     wider = known ++ variables_of q F
@@ -72,39 +68,22 @@ module _ (q : Query) (T : ℕ → List (List Value)) (strict : (F : ℕ) → F <
 
     -- the atoms before, and F
     next-bound : (b : Bound) → Contains next b → IsBound q T wider start b
-    next-bound b m = go (is_bound q F only) m
-      where
-        old : Contains bounds b → IsBound q T wider start b
-        old n = let h = bound b n in record {
-          atom = h.atom;
-          within = λ v k. Contains-append_left known (variables_of q F) v (h.within v k);
-          of_key = h.of_key;
-          there = λ o k. let l : o.step < length before = h.there o k in omega (arith, l, ask.stays.longer);
-        }
-
-        go : (t : Bool) → Contains (cond t (new ∷ bounds) bounds) b → IsBound q T wider start b
-        go false n = old n
-        go true n = elim (mem-cases b new bounds n) [
-          | inl e ↦ subst (λ z. IsBound q T wider start z) e (record { atom = lF; within = λ v k. Contains-append_right known (variables_of q F) v k; of_key = ask.of_key; there = ask.there })
-          | inr k ↦ old k
-        ]
+    next-bound b m = elim (mem-cases b new bounds m) [
+      | inl e ↦ subst (λ z. IsBound q T wider start z) e (record { atom = lF; within = λ v k. Contains-append_right known (variables_of q F) v k; of_key = ask.of_key; there = ask.there })
+      | inr n ↦
+          let h = bound-stays q T known before start b ask.stays (bound b n) in
+          record { atom = h.atom; within = λ v k. Contains-append_left known (variables_of q F) v (h.within v k); of_key = h.of_key; there = h.there }
+    ]
 
     -- they have rows that suit
     next-passed : (e d : ℕ → Value) → ((b : Bound) → Contains bounds b → IsPassed q T before e b) → Keeps known e d → (y : List Value) → Contains (T F) y → Suits q d F y → (b : Bound) → Contains next b → IsPassed q T start d b
-    next-passed e d pass k y my s b m = go (is_bound q F only) m
+    next-passed e d pass k y my s b m = elim (mem-cases b new bounds m) [
+      | inl f ↦ subst (λ z. IsPassed q T start d z) f (y, my, s, ask.passes d kept y s)
+      | inr n ↦ passed-stays q T known before start b d ask.stays (bound b n) (kept b n)
+    ]
       where
         kept : (c : Bound) → Contains bounds c → IsPassed q T before d c
-        kept c n = passed-keeps known before c e d (bound c n) k (pass c n)
-
-        old : (c : Bound) → Contains bounds c → IsPassed q T start d c
-        old c n = let p = kept c n in (p.0, p.1, p.2, within-stays q T before start ask.stays (p.0 ∷ []) c.only (bound c n).there p.3)
-
-        go : (t : Bool) → Contains (cond t (new ∷ bounds) bounds) b → IsPassed q T start d b
-        go false n = old b n
-        go true n = elim (mem-cases b new bounds n) [
-          | inl f ↦ subst (λ z. IsPassed q T start d z) f (y, my, s, ask.passes d kept y s)
-          | inr o ↦ old b o
-        ]
+        kept c n = passed-keeps q T known before c e d (bound c n) k (pass c n)
 
     -- with the steps of F behind those of the later atoms
     module _ (later : Made) (done : IsMade wider next start plan later) where
@@ -118,7 +97,7 @@ module _ (q : Query) (T : ℕ → List (List Value)) (strict : (F : ℕ) → F <
       others = filter (λ p. not (hangs q known F p)) later.parts
 
       abbrev steps : List Step
-      steps = later.steps ++ level_steps q number F (context_of q known F kids) only kids (length later.steps)
+      steps = later.steps ++ level_steps q number F (context_of q known F kids) only bounds kids (length later.steps)
 
       abbrev first : Part
       first = record { number = number; step = length steps - 1; columns = context_of q known F kids; keys = key_variables q F; single = are_single (variables_of q F) kids; rare = list_any (λ k. is_value_test F k) q.conds || list_any (λ (p : Part). p.rare) kids }
@@ -150,8 +129,14 @@ module _ (q : Query) (T : ℕ → List (List Value)) (strict : (F : ℕ) → F <
       kid : (p : Part) → Contains kids p → IsPart T wider later.steps p
       kid p m = done.each p (kid-in p m)
 
-      lv : IsLevel q T F lF (strict F lF) number known kids later.steps only kid ask.of_key steps (are_single (variables_of q F) kids)
-      lv = level q T F lF (strict F lF) number known kids later.steps only kid ask.of_key
+      far : Stays T before later.steps
+      far = stays-trans T before start later.steps ask.stays done.stays
+
+      still : (b : Bound) → Contains bounds b → IsBound q T known later.steps b
+      still b m = bound-stays q T known before later.steps b far (bound b m)
+
+      lv : IsLevel q T F lF (strict F lF) number known kids later.steps only kid ask.of_key bounds still steps (are_single (variables_of q F) kids)
+      lv = level q T F lF (strict F lF) number known kids later.steps only kid ask.of_key bounds still
 
       same : (p : Part) → Contains others p → (e d : ℕ → Value) → Keeps known e d → map d p.columns ≡ map e p.columns
       same p m e d k = map_alike d e p.columns (λ v n. k v (other-known p m v n))
@@ -182,7 +167,7 @@ module _ (q : Query) (T : ℕ → List (List Value)) (strict : (F : ℕ) → F <
 
       into : (e : ℕ → Value) → ((b : Bound) → Contains bounds b → IsPassed q T before e b) → Holding q T known e (F ∷ plan) → Hold T (Rel T steps) (first ∷ others) e
       into e pass (x, mx, f) p m = elim (mem-cases p first others m) [
-        | inl g ↦ subst (λ (z : Part). Rel T steps z.step (map e z.columns)) g (lv.into e passes (x, mx, λ y my s. let d = f y my s in (d.0, d.1, d.2, λ o n. rest y my d.0 d.1 d.2 d.3 o (kid-in o n))))
+        | inl g ↦ subst (λ (z : Part). Rel T steps z.step (map e z.columns)) g (lv.into e (λ b n. passed-stays q T known before later.steps b e far (bound b n) (pass b n)) passes (x, mx, λ y my s. let d = f y my s in (d.0, d.1, d.2, λ o n. rest y my d.0 d.1 d.2 d.3 o (kid-in o n))))
         | inr n ↦
             let d = f x mx (shares-self (atom_key q F) x) in
             subst (Rel T steps p.step) (same p n e d.0 d.1) (lv.stays.into p.step (done.each p (other-in p n)).there (map d.0 p.columns) (rest x mx d.0 d.1 d.2 d.3 p (other-in p n)))
@@ -192,7 +177,7 @@ module _ (q : Query) (T : ℕ → List (List Value)) (strict : (F : ℕ) → F <
           rest y my d k s h = done.into d (next-passed e d pass k y my s) h
 
           passes : (y : List Value) (d : ℕ → Value) → Contains (T F) y → Keeps known e d → Suits q d F y → Hold T (Rel T later.steps) kids d → AreWithin (Rel T later.steps) (y ∷ []) only
-          passes y d my k s hold = within-stays q T start later.steps done.stays (y ∷ []) only ask.there (ask.passes d (λ b n. passed-keeps known before b e d (bound b n) k (pass b n)) y s)
+          passes y d my k s hold = within-stays q T start later.steps done.stays (y ∷ []) only ask.there (ask.passes d (λ b n. passed-keeps q T known before b e d (bound b n) k (pass b n)) y s)
 
       has-first : (v : ℕ) → Contains known v → IsOf q F lF known kids v → (p : Part) × Contains (first ∷ others) p × Contains p.columns v
       has-first v m o = (first, mem-head first others, context-into q F lF known kids (λ p m. (kid p m).small) v m o)
@@ -206,7 +191,7 @@ module _ (q : Query) (T : ℕ → List (List Value)) (strict : (F : ℕ) → F <
           more : (p : Part) × Contains later.parts p × Contains p.columns v → (p : Part) × Contains (first ∷ others) p × Contains p.columns v
           more (p, l, c) = elim (either p l) [ inl a ↦ has-first v m (inr (p, a, c)) | inr b ↦ (p, mem-tail p first others b, c) ]
 
-      whole : IsMade known bounds before (F ∷ plan) (with_level q number known only F later)
+      whole : IsMade known bounds before (F ∷ plan) (with_level q number known bounds only F later)
       whole = record {
         stays = stays-trans T before start steps ask.stays (stays-trans T start later.steps steps done.stays lv.stays);
         each = λ p m. elim (mem-cases p first others m) [ inl e ↦ subst (λ z. IsPart T known steps z) e first-part | inr n ↦ other-part p n ];

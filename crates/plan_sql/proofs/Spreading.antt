@@ -1,5 +1,5 @@
 -- The steps of a plan over the shards of a table.
-use Rattle.std.proofs.Common.{◌≡◌, ℕ, zero, suc, ◌<◌, ◌+◌, ◌⊎◌, inl, inr, Bool, true, false, List, [], ◌∷◌, ◌++◌, length, map, get_or, refl, ap, sym, ◌∙◌, subst, arith, eqb, cond, Contains, Option, Some, None}
+use Rattle.std.proofs.Common.{◌≡◌, ℕ, zero, suc, ◌<◌, ◌+◌, ◌⊎◌, inl, inr, Bool, true, false, not, ◌&&◌, List, [], ◌∷◌, ◌++◌, length, map, get_or, refl, ap, sym, ◌∙◌, subst, arith, eqb, cond, Contains, Option, Some, None}
 use Rattle.std.specs.List.{filter, flat_map}
 use Rattle.std.specs.Option.{unwrap_or}
 use Rattle.std.proofs.lemmas.Bool.Decides.{nat_tests}
@@ -28,7 +28,7 @@ use Rattle.plan_sql.specs.declared.fitting.Known.{Known}
 use Rattle.plan_sql.specs.declared.part.Bound.{Bound}
 use Rattle.plan_sql.specs.declared.part.Part.{Part}
 use Rattle.plan_sql.specs.Variables.{all_below, ascending, within, variables_of, key_variables, answer_variables}
-use Rattle.plan_sql.specs.Statement.{cell, held, find, cell_of, member, cells_at, keyed, fitted, see_part, children_of, rows_of_atom, group_of, block_group, context_group, are_single, hangs, context_of, block_of, has_few, few_step, keys_in, level_steps, is_bound, bound_for, asked_variables, rare_only, step, asked_steps, only_of, Made, made_of}
+use Rattle.plan_sql.specs.Statement.{cell, held, find, cell_of, member, cells_at, keyed, fitted, see_part, children_of, rows_of_atom, group_of, block_group, context_group, are_single, hangs, context_of, block_of, has_few, few_step, keys_in, guard_for, is_guarded, guarded, level_steps, bound_of, bound_for, asked_variables, rare_only, step, asked_steps, only_of, Made, made_of}
 use Rattle.plan_sql.specs.Laws.{only_rows, IsSpread, SqlIsSpread}
 use Rattle.plan_sql.proofs.Membership.{columns-into}
 use Rattle.plan_sql.proofs.Rel.{Rel}
@@ -38,7 +38,7 @@ use Rattle.plan_sql.proofs.Atoms.{keys-into}
 use Rattle.plan_sql.proofs.Rows.{key-values}
 use Rattle.plan_sql.proofs.Contexts.{block-key}
 use Rattle.plan_sql.proofs.Level.{cells-agree}
-use Rattle.plan_sql.proofs.Asking.{bound_for-in}
+use Rattle.plan_sql.proofs.Asking.{bound_for-in, guard_for-in}
 use Rattle.plan_sql.proofs.Naming.{ascending-apart, block-apart}
 
 -- each variable of a list is found at its own place
@@ -225,21 +225,30 @@ module _ (q : Query) where
     | inr n ↦ elim (mem-cases t b (s ∷ []) n) [ inl e ↦ inr (subst IsStepSpread e hb) | inr o ↦ elim (mem-cases t s [] o) [ inl e ↦ inr (subst IsStepSpread e hs) | inr z ↦ absurd (mem-nil t z) ] ]
   ]
 
-  level-spread : (F : ℕ) (lF : F < length q.atoms) (number : ℕ) (known : List ℕ) (only : List Within) (parts : List Part) (before : List Step) →
-      AreSpread before (before ++ level_steps q number F (context_of q known F parts) only parts (length before))
-  level-spread F lF number known only parts before = go (are_single (variables_of q F) parts) (has_few q F parts) (atom_at q F).strict
+  level-spread : (F : ℕ) (lF : F < length q.atoms) (number : ℕ) (known : List ℕ) (only : List Within) (bounds : List Bound) → ((b : Bound) → Contains bounds b → b.atom < length q.atoms) → (parts : List Part) (before : List Step) →
+      AreSpread before (before ++ level_steps q number F (context_of q known F parts) only bounds parts (length before))
+  level-spread F lF number known only bounds bound parts before = go (are_single (variables_of q F) parts) (has_few q F parts) ((atom_at q F).strict && not (is_guarded q bounds (block_of q F (context_of q known F parts))))
     where
       context : List ℕ
       context = context_of q known F parts
 
+      block : List ℕ
+      block = block_of q F context
+
+      blocks : Step
+      blocks = step Blocks number block (Distinct (guarded q F only parts block (guard_for q bounds block)))
+
+      blocks-spread : (found : Option Bound) → guard_for q bounds block ≡ found → IsStepSpread (step Blocks number block (Distinct (guarded q F only parts block found)))
+      blocks-spread None e = (F, lF, rows-spread q F lF parts only block)
+      blocks-spread (Some g) e = let lg = bound g (guard_for-in q (λ G. []) bounds block g e).0 in (g.atom, lg, rows-spread q g.atom lg [] g.only block)
+
       go : (a f b : Bool) → AreSpread before (before ++ cond a (cond f (few_step q number F only parts ∷ step Holds number context (Grouped (block_group q F (keys_in q F (length before) (ascending (key_variables q F))) parts context)) ∷ []) (step Holds number context (Grouped (block_group q F only parts context)) ∷ []))
-          (cond b (step Holds number context (Distinct (rows_of_atom q F only parts context)) ∷ []) (step Blocks number (block_of q F context) (Distinct (rows_of_atom q F only parts (block_of q F context))) ∷ step Holds number context (Grouped (context_group q F (length before) (block_of q F context) parts context)) ∷ [])))
+          (cond b (step Holds number context (Distinct (rows_of_atom q F only parts context)) ∷ []) (blocks ∷ step Holds number context (Grouped (context_group q F (length before) block parts context)) ∷ [])))
       go true true b = two-more before (few_step q number F only parts) (step Holds number context (Grouped (block_group q F (keys_in q F (length before) (ascending (key_variables q F))) parts context)))
           (F, lF, rows-spread q F lF [] (only ++ rare_only q F parts) (ascending (key_variables q F))) (F, lF, block-spread q F lF parts (keys_in q F (length before) (ascending (key_variables q F))) context)
       go true false b = one-more before (step Holds number context (Grouped (block_group q F only parts context))) (F, lF, block-spread q F lF parts only context)
       go false f true = one-more before (step Holds number context (Distinct (rows_of_atom q F only parts context))) (F, lF, rows-spread q F lF parts only context)
-      go false f false = two-more before (step Blocks number (block_of q F context) (Distinct (rows_of_atom q F only parts (block_of q F context)))) (step Holds number context (Grouped (context_group q F (length before) (block_of q F context) parts context)))
-          (F, lF, rows-spread q F lF parts only (block_of q F context)) (F, lF, context-spread q F lF parts known (length before))
+      go false f false = two-more before blocks (step Holds number context (Grouped (context_group q F (length before) block parts context))) (blocks-spread (guard_for q bounds block) refl) (F, lF, context-spread q F lF parts known (length before))
 
   asked-spread : (F number : ℕ) (bounds : List Bound) → ((b : Bound) → Contains bounds b → b.atom < length q.atoms) → (before : List Step) → AreSpread before (before ++ asked_steps q number F (bound_for q bounds F))
   asked-spread F number bounds there before = go (bound_for q bounds F) refl
@@ -256,19 +265,18 @@ module _ (q : Query) where
       let lF : F < length q.atoms = there F (mem-head F plan) in
       let start : List Step = before ++ asked_steps q number F (bound_for q bounds F) in
       let only : List Within = only_of q F (length before) (bound_for q bounds F) in
-      let next : List Bound = cond (is_bound q F only) (record { atom = F; only = only } ∷ bounds) bounds in
+      let next : List Bound = bound_of q F only ∷ bounds in
       let later : Made = made_of q (suc number) (known ++ variables_of q F) next start plan in
-      elim (level-spread F lF number known only (filter (λ p. hangs q known F p) later.parts) later.steps t m) [
+      elim (level-spread F lF number known only bounds bound (filter (λ p. hangs q known F p) later.parts) later.steps t m) [
         | inr s ↦ inr s
-        | inl n ↦ elim (made-spread plan (λ G k. there G (mem-tail G F plan k)) (suc number) (known ++ variables_of q F) next (more (is_bound q F only) lF only) start t n) [
+        | inl n ↦ elim (made-spread plan (λ G k. there G (mem-tail G F plan k)) (suc number) (known ++ variables_of q F) next (more lF only) start t n) [
           | inr s ↦ inr s
           | inl k ↦ asked-spread F number bounds bound before t k
         ]
       ]
     where
-      more : (b : Bool) → F < length q.atoms → (only : List Within) → (c : Bound) → Contains (cond b (record { atom = F; only = only } ∷ bounds) bounds) c → c.atom < length q.atoms
-      more true lF only c k = elim (mem-cases c (record { atom = F; only = only }) bounds k) [ inl e ↦ subst (λ (z : Bound). z.atom < length q.atoms) e lF | inr n ↦ bound c n ]
-      more false lF only c k = bound c k
+      more : F < length q.atoms → (only : List Within) → (c : Bound) → Contains (bound_of q F only ∷ bounds) c → c.atom < length q.atoms
+      more lF only c k = elim (mem-cases c (bound_of q F only) bounds k) [ inl e ↦ subst (λ (z : Bound). z.atom < length q.atoms) e lF | inr n ↦ bound c n ]
 
 pub sql_is_spread : SqlIsSpread
 sql_is_spread q plan is_plan s m = elim (made-spread q plan (plan-atoms q plan (plan-eliminates q (whole q) plan is_plan)) 1 (answer_variables q) [] (λ b n. absurd (mem-nil b n)) [] s m) [

@@ -1,5 +1,5 @@
 -- Steps of the code.
-use Rattle.std.proofs.Common.{◌≡◌, ℕ, zero, suc, ◌<◌, ◌+◌, ◌-◌, Bool, true, false, cond, Some, drop, List, [], ◌∷◌, ◌++◌, length, refl, ap, sym, ◌∙◌, subst, map, get_or, arith, Contains}
+use Rattle.std.proofs.Common.{◌≡◌, ℕ, zero, suc, ◌<◌, ◌+◌, ◌-◌, ◌&&◌, Bool, true, false, cond, Some, drop, List, [], ◌∷◌, ◌++◌, length, refl, ap, sym, ◌∙◌, subst, map, get_or, arith, Contains}
 use Rattle.std.specs.List.{All, filter, range_with_len, slice_index}
 use Rattle.std.proofs.lemmas.List.{append_assoc, map-id, map-append, get_or_default}
 use Rattle.std.proofs.lemmas.List.Elements.{Contains-get_or, filter-append}
@@ -18,12 +18,13 @@ use Rattle.cqa_model.specs.Plan.{IsPlanOf}
 use Rattle.cqa_model.proofs.Elimination.{plan-eliminates}
 use Rattle.fo_rewrite.proofs.Distinct.{plan-atoms}
 use Rattle.plan_sql.specs.Shapes.{AreAtoms}
-use Rattle.plan_sql.specs.Variables.{all_below, has, key_variables, meets, variables_of}
+use Rattle.plan_sql.specs.Variables.{all_below, covers, has, key_variables, meets, variables_of}
 use Rattle.plan_sql.specs.declared.fitting.Fitting.{Fitting}
 use Rattle.plan_sql.specs.declared.fitting.Known.{Known}
+use Rattle.sql_text.specs.declared.syntax.Step.{Step}
 use Rattle.plan_sql.specs.declared.part.Bound.{Bound}
 use Rattle.plan_sql.specs.declared.part.Part.{Part}
-use Rattle.plan_sql.specs.Statement.{bound_for, cell, cell_of, cells_at, columns_of, is_bound, others_of, see, see_all}
+use Rattle.plan_sql.specs.Statement.{Made, asked_steps, bound_for, bound_of, cell, cell_of, cells_at, columns_of, guard_for, made_behind, made_later, made_of, only_of, others_of, see, see_all, with_level}
 use Rattle.sql_text.specs.declared.syntax.Within.{Within}
 use Rattle.plan_sql.proofs.Membership.{columns-from, without-from}
 
@@ -102,18 +103,11 @@ see-next vs place column n before now l e =
     ap (λ z. see_all vs place (range_with_len (column + 1) (n - (column + 1))) z) e
     ∙ sym (ap (λ z. see_all vs place (range_with_len column z) before) left)
 
--- one more atom with few rows
+-- one more atom before
 pub bounds-more : (q : Query) (F : ℕ) (only : List Within) (bounds : List Bound) → F < length q.atoms → All (λ (b : Bound). b.atom < length q.atoms) bounds →
-    All (λ (b : Bound). b.atom < length q.atoms) (cond (is_bound q F only) (record { atom = F; only = only } ∷ bounds) bounds)
-bounds-more q F only bounds l all = by_bound (is_bound q F only)
-  where
-    behind : All (λ (b : Bound). b.atom < length q.atoms) (record { atom = F; only = only } ∷ bounds)
-    behind zero d n = l
-    behind (suc k) d n = all k d (omega (arith, n))
-
-    by_bound : (b : Bool) → All (λ (b : Bound). b.atom < length q.atoms) (cond b (record { atom = F; only = only } ∷ bounds) bounds)
-    by_bound true = behind
-    by_bound false = all
+    All (λ (b : Bound). b.atom < length q.atoms) (bound_of q F only ∷ bounds)
+bounds-more q F only bounds l all zero d n = l
+bounds-more q F only bounds l all (suc k) d n = all k d (omega (arith, n))
 
 pub range-more : (n : ℕ) → range_with_len 0 (n + 1) ≡ range_with_len 0 n ++ n ∷ []
 range-more n = rw (← map-id (range_with_len 0 (n + 1)), ← map-id (range_with_len 0 n)) (map-range_with_len_more (λ z. z) 0 n n (omega arith))
@@ -152,8 +146,52 @@ cells-more place n = ap (λ z. cells_at place z) (below-more n) ∙ map-append (
 
 -- the first atom with few rows that has a variable of a key
 pub bound-found : (q : Query) (F i : ℕ) (bounds : List Bound) (bound d : Bound) → i < length bounds → bound ≡ get_or bounds i d →
-    meets (variables_of q bound.atom) (key_variables q F) ≡ true → bound_for q (drop i bounds) F ≡ Some bound
+    (bound.few && meets (variables_of q bound.atom) (key_variables q F)) ≡ true → bound_for q (drop i bounds) F ≡ Some bound
 bound-found q F i [] bound d l e m = absurd (omega (arith, l))
 bound-found q F zero (b ∷ bounds) bound d l e m =
-    ap (λ z. cond z (Some b) (bound_for q bounds F)) (subst (λ (z : Bound). meets (variables_of q z.atom) (key_variables q F) ≡ true) e m) ∙ ap Some (sym e)
+    ap (λ z. cond z (Some b) (bound_for q bounds F)) (subst (λ (z : Bound). (z.few && meets (variables_of q z.atom) (key_variables q F)) ≡ true) e m) ∙ ap Some (sym e)
 bound-found q F (suc i) (b ∷ bounds) bound d l e m = bound-found q F i bounds bound d (omega (arith, l)) e m
+
+-- the first atom that has these variables
+pub guard-found : (q : Query) (vs : List ℕ) (i : ℕ) (bounds : List Bound) (bound d : Bound) → i < length bounds → bound ≡ get_or bounds i d →
+    covers (variables_of q bound.atom) vs ≡ true → guard_for q (drop i bounds) vs ≡ Some bound
+guard-found q vs i [] bound d l e m = absurd (omega (arith, l))
+guard-found q vs zero (b ∷ bounds) bound d l e m =
+    ap (λ z. cond z (Some b) (guard_for q bounds vs)) (subst (λ (z : Bound). covers (variables_of q z.atom) vs ≡ true) e m) ∙ ap Some (sym e)
+guard-found q vs (suc i) (b ∷ bounds) bound d l e m = guard-found q vs i bounds bound d (omega (arith, l)) e m
+
+-- one that has not all of them
+guard-after : (q : Query) (vs : List ℕ) (i : ℕ) (bounds : List Bound) (bound d : Bound) → i < length bounds → bound ≡ get_or bounds i d →
+    covers (variables_of q bound.atom) vs ≡ false → guard_for q (drop (suc i) bounds) vs ≡ guard_for q (drop i bounds) vs
+guard-after q vs i [] bound d l e m = absurd (omega (arith, l))
+guard-after q vs zero (b ∷ bounds) bound d l e m =
+    sym (ap (λ z. cond z (Some b) (guard_for q bounds vs)) (subst (λ (z : Bound). covers (variables_of q z.atom) vs ≡ false) e m))
+guard-after q vs (suc i) (b ∷ bounds) bound d l e m = guard-after q vs i bounds bound d (omega (arith, l)) e m
+
+pub guard-next : (q : Query) (vs : List ℕ) (i : ℕ) (bounds : List Bound) (bound d : Bound) → i < length bounds → bound ≡ get_or bounds i d →
+    covers (variables_of q bound.atom) vs ≡ false → guard_for q (drop (i + 1) bounds) vs ≡ guard_for q (drop i bounds) vs
+guard-next q vs i bounds bound d l e m =
+    let more : i + 1 ≡ suc i = omega arith in
+    ap (λ n. guard_for q (drop n bounds) vs) more ∙ guard-after q vs i bounds bound d l e m
+
+-- steps and parts are what was made
+abbrev pub made-with : List Step → List Part → Made
+made-with steps parts = record { steps = steps; parts = parts }
+
+made-same : (m : Made) (steps : List Step) (parts : List Part) → steps ≡ m.steps → parts ≡ m.parts → made-with steps parts ≡ m
+made-same m steps parts e f = ap (λ z. made-with z parts) e ∙ ap (λ z. made-with m.steps z) f
+
+-- the steps of an atom behind those of the later ones
+pub made-behind : (q : Query) (number : ℕ) (known : List ℕ) (bounds : List Bound) (only : List Within) (F : ℕ) (before : List Step) (plan : List ℕ) (steps : List Step) (parts : List Part) →
+    steps ≡ (made_later q number known bounds only F before plan).steps → parts ≡ (made_later q number known bounds only F before plan).parts →
+    with_level q number known bounds only F (made-with steps parts) ≡ made_behind q number known bounds only F before plan
+made-behind q number known bounds only F before plan steps parts e f =
+    ap (λ m. with_level q number known bounds only F m) (made-same (made_later q number known bounds only F before plan) steps parts e f)
+
+-- and behind those that ask for its keys
+pub made-first : (q : Query) (number : ℕ) (known : List ℕ) (bounds : List Bound) (plan : List ℕ) (F : ℕ) (later : List ℕ) (before : List Step) (only : List Within) (steps : List Step) → plan ≡ F ∷ later →
+    only ≡ only_of q F (length before) (bound_for q bounds F) → steps ≡ before ++ asked_steps q number F (bound_for q bounds F) →
+    made_behind q number known bounds only F steps later ≡ made_of q number known bounds before plan
+made-first q number known bounds plan F later before only steps e f g =
+    ap (λ o. made_behind q number known bounds o F steps later) f ∙ ap (λ s. made_behind q number known bounds (only_of q F (length before) (bound_for q bounds F)) F s later) g
+    ∙ ap (made_of q number known bounds before) (sym e)

@@ -1,7 +1,8 @@
 -- The SQL query of a plan. From the last atom to the first, each atom is the first of a part: those of the later parts that
 -- have a variable of it which isn't known before it hang on it, and it has the step of the contexts in which the part holds.
 -- A context is a list of values of the variables that are known before the atom and occur in the part. Where an atom before
--- has few rows, an atom first asks for the keys that they name.
+-- has few rows, an atom first asks for the keys that they name. Where contexts have to be looked for first, they are those of
+-- the rows of an atom before, if one has all of their variables.
 use Rattle.std.specs.Prelude.{ℕ, suc, ◌-◌, ◌==◌, ◌&&◌, ◌||◌, not, Bool, true, false, if◌then◌else◌, List, [], ◌∷◌, ◌++◌, length, map, slice_index, Option, Some, None, flat_map}
 use Rattle.std.specs.List.{range_with_len, filter, list_any}
 use Rattle.std.specs.Option.{unwrap_or}
@@ -226,18 +227,32 @@ few_step q number F only parts =
     let columns = ascending (key_variables q F) in
     step Blocks number columns (Distinct (rows_of_atom q F (only ++ rare_only q F parts) [] columns))
 
--- the steps of F, where these parts hang on it: the contexts in which the part holds. Where few blocks can hold, their keys
--- are looked for first. Where one of the parts can have two contexts for a row of F, and F has blocks of several rows,
--- contexts are looked for first
-abbrev pub level_steps : Query → ℕ → ℕ → List ℕ → List Within → List Part → ℕ → List Step
-level_steps q number F context only parts place =
+-- the atom that guards these variables: the first one before that has each of them
+abbrev pub guard_for : Query → List Bound → List ℕ → Option Bound
+guard_for q [] vs = None
+guard_for q (bound ∷ bounds) vs = if covers (variables_of q bound.atom) vs then Some bound else guard_for q bounds vs
+
+-- an atom before has each of these variables
+abbrev pub is_guarded : Query → List Bound → List ℕ → Bool
+is_guarded q bounds vs = list_any (λ (b : Bound). covers (variables_of q b.atom) vs) bounds
+
+-- the values of these variables, in the rows of the atom that guards them, and in those of F with these parts if there is none
+abbrev pub guarded : Query → ℕ → List Within → List Part → List ℕ → Option Bound → Select
+guarded q F only parts columns None = rows_of_atom q F only parts columns
+guarded q F only parts columns (Some guard) = rows_of_atom q guard.atom guard.only [] columns
+
+-- the steps of F, where these parts hang on it and these atoms are before it: the contexts in which the part holds. Where few
+-- blocks can hold, their keys are looked for first. Where one of the parts can have two contexts for a row of F, contexts are
+-- looked for first, unless F has no blocks of several rows and no atom before has their variables
+abbrev pub level_steps : Query → ℕ → ℕ → List ℕ → List Within → List Bound → List Part → ℕ → List Step
+level_steps q number F context only bounds parts place =
     if are_single (variables_of q F) parts then (
     if has_few q F parts then few_step q number F only parts ∷ step Holds number context (Grouped (block_group q F (keys_in q F place (ascending (key_variables q F))) parts context)) ∷ []
     else step Holds number context (Grouped (block_group q F only parts context)) ∷ []
     )
-    else if (atom_at q F).strict then step Holds number context (Distinct (rows_of_atom q F only parts context)) ∷ []
+    else if (atom_at q F).strict && not (is_guarded q bounds (block_of q F context)) then step Holds number context (Distinct (rows_of_atom q F only parts context)) ∷ []
     else (
-    step Blocks number (block_of q F context) (Distinct (rows_of_atom q F only parts (block_of q F context)))
+    step Blocks number (block_of q F context) (Distinct (guarded q F only parts (block_of q F context) (guard_for q bounds (block_of q F context))))
     ∷ step Holds number context (Grouped (context_group q F place (block_of q F context) parts context)) ∷ []
     )
 
@@ -245,10 +260,14 @@ level_steps q number F context only parts place =
 abbrev pub is_bound : Query → ℕ → List Within → Bool
 is_bound q F only = not (length only == 0) || list_any (λ k. is_value_test F k) q.conds
 
--- the first of these atoms that has a variable of F's key
+-- F, as an atom before others
+abbrev pub bound_of : Query → ℕ → List Within → Bound
+bound_of q F only = record { atom = F; only = only; few = is_bound q F only }
+
+-- the first of these atoms with few rows that has a variable of F's key
 abbrev pub bound_for : Query → List Bound → ℕ → Option Bound
 bound_for q [] F = None
-bound_for q (bound ∷ bounds) F = if meets (variables_of q bound.atom) (key_variables q F) then Some bound else bound_for q bounds F
+bound_for q (bound ∷ bounds) F = if bound.few && meets (variables_of q bound.atom) (key_variables q F) then Some bound else bound_for q bounds F
 
 -- the variables of F's key that are asked for by another atom
 abbrev pub asked_variables : Query → ℕ → ℕ → List ℕ
@@ -271,35 +290,33 @@ pub record Made : Type 0 where
   pub parts : List Part
 
 -- with the steps of F: the parts that hang on it, and it, become one part
-abbrev pub with_level : Query → ℕ → List ℕ → List Within → ℕ → Made → Made
-with_level q number known only F later =
+abbrev pub with_level : Query → ℕ → List ℕ → List Bound → List Within → ℕ → Made → Made
+with_level q number known bounds only F later =
     let parts = filter (λ p. hangs q known F p) later.parts in
     let context = context_of q known F parts in
-    let steps = later.steps ++ level_steps q number F context only parts (length later.steps) in
+    let steps = later.steps ++ level_steps q number F context only bounds parts (length later.steps) in
     record {
       steps = steps;
       parts = record { number = number; step = length steps - 1; columns = context; keys = key_variables q F; single = are_single (variables_of q F) parts; rare = list_any (λ k. is_value_test F k) q.conds || list_any (λ (p : Part). p.rare) parts }
           ∷ filter (λ p. not (hangs q known F p)) later.parts;
     }
 
--- the steps of the atoms of a plan behind those before, where these variables are known before them, and these atoms before
--- them have few rows
+-- the steps of the atoms of a plan behind those before, where these variables are known before them, and these atoms are
 abbrev pub made_of : Query → ℕ → List ℕ → List Bound → List Step → List ℕ → Made
 made_of q number known bounds before [] = record { steps = before; parts = [] }
 made_of q number known bounds before (F ∷ plan) =
     let bound = bound_for q bounds F in
     let only = only_of q F (length before) bound in
-    let next = if is_bound q F only then record { atom = F; only = only } ∷ bounds else bounds in
-    with_level q number known only F (made_of q (suc number) (known ++ variables_of q F) next (before ++ asked_steps q number F bound) plan)
+    with_level q number known bounds only F (made_of q (suc number) (known ++ variables_of q F) (bound_of q F only ∷ bounds) (before ++ asked_steps q number F bound) plan)
 
--- those of the atoms after F, which is one of few rows if it is bound
+-- those of the atoms after F
 abbrev pub made_later : Query → ℕ → List ℕ → List Bound → List Within → ℕ → List Step → List ℕ → Made
 made_later q number known bounds only F before plan =
-    made_of q (suc number) (known ++ variables_of q F) (if is_bound q F only then record { atom = F; only = only } ∷ bounds else bounds) before plan
+    made_of q (suc number) (known ++ variables_of q F) (bound_of q F only ∷ bounds) before plan
 
 -- and then those of F
 abbrev pub made_behind : Query → ℕ → List ℕ → List Bound → List Within → ℕ → List Step → List ℕ → Made
-made_behind q number known bounds only F before plan = with_level q number known only F (made_later q number known bounds only F before plan)
+made_behind q number known bounds only F before plan = with_level q number known bounds only F (made_later q number known bounds only F before plan)
 
 -- the answer columns, for a context of each part
 abbrev pub last_select : Query → List Part → Select

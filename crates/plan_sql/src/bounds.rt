@@ -1,11 +1,11 @@
-//! The keys of an atom that an atom before it with few rows asks for.
+//! The atoms before an atom, and the keys that those with few rows ask for.
 
-ghost use Rattle.std.specs.Prelude.{◌≡◌, ◌++◌, ◌∷◌, ◌<◌, ◌||◌, ◌==◌, [], IfOk, OnOk, All, Some, if◌then◌else◌, length, map, not, slice_index};
+ghost use Rattle.std.specs.Prelude.{◌≡◌, ◌++◌, ◌∷◌, ◌<◌, ◌&&◌, ◌||◌, ◌==◌, [], IfOk, OnOk, All, Some, length, map, not, slice_index};
 ghost use Rattle.std.specs.List.{list_any, range_with_len};
 ghost use Rattle.cqa_model.specs.declared.query.Cond.{Cond as CondValue};
 ghost use Rattle.plan_sql.specs.declared.part.Bound.{Bound as BoundValue};
-ghost use Rattle.plan_sql.specs.Variables.{key_variables};
-ghost use Rattle.plan_sql.specs.Statement.{asked_steps, asked_variables, bound_for, cell_of, is_bound, is_value_test, keys_in, only_of, rows_of_atom};
+ghost use Rattle.plan_sql.specs.Variables.{key_variables, meets, variables_of};
+ghost use Rattle.plan_sql.specs.Statement.{asked_steps, asked_variables, bound_for, bound_of, cell_of, is_bound, is_value_test, keys_in, only_of, rows_of_atom};
 
 use crate::fitting::{Known, cell_of};
 use crate::levels::push_step;
@@ -59,6 +59,7 @@ impl Bound {
         Ok(Bound {
             atom: self.atom,
             only,
+            few: self.few,
         })
     }
 }
@@ -73,7 +74,7 @@ fn append_bounds(alloc: Global, bounds: &[Bound], list: &mut Items<Bound>) -> Re
     Ok(())
 }
 
-/// Appends an atom, if it has few rows, and then those before it.
+/// Appends an atom, and then those before it.
 fn append_next(
     alloc: Global,
     shape: &Shape<'_>,
@@ -82,16 +83,15 @@ fn append_next(
     only: &[Within],
     list: &mut Items<Bound>,
 ) -> Result<(), NoMemory>
-    ensures { OnOk result (list.new ≡ list.old ++ (if is_bound shape.now.query.now atom only.now then record { atom = atom; only = only.now } ∷ bounds.now else bounds.now)) }
+    ensures { OnOk result (list.new ≡ list.old ++ bound_of shape.now.query.now atom only.now ∷ bounds.now) }
 {
-    if is_bound(shape, atom, only) {
-        let only = Items::from_slice(alloc, only)?;
-        list.push(Bound { atom, only })?;
-    }
+    let few = is_bound(shape, atom, only);
+    let only = Items::from_slice(alloc, only)?;
+    list.push(Bound { atom, only, few })?;
     append_bounds(alloc, bounds, list)
 }
 
-/// The atoms with few rows, behind an atom.
+/// The atoms before those behind an atom.
 pub(crate) fn next_bounds(
     alloc: Global,
     shape: &Shape<'_>,
@@ -99,7 +99,7 @@ pub(crate) fn next_bounds(
     atom: u32,
     only: &[Within],
 ) -> Result<Items<Bound>, NoMemory>
-    ensures { IfOk result (λ list. list ≡ (if is_bound shape.now.query.now atom only.now then record { atom = atom; only = only.now } ∷ bounds.now else bounds.now)) }
+    ensures { IfOk result (λ list. list ≡ bound_of shape.now.query.now atom only.now ∷ bounds.now) }
 {
     let mut list = Items::new(alloc);
     match append_next(alloc, shape, bounds, atom, only, &mut list) {
@@ -188,6 +188,14 @@ fn push_asked_by(
     Ok(only)
 }
 
+/// Whether an atom before has few rows, and one of these variables.
+fn asks(shape: &Shape<'_>, bound: &Bound, keys: &[u32]) -> bool
+    requires { bound.now.atom < length shape.now.query.now.atoms }
+    ensures { result ≡ (bound.now.few && meets (variables_of shape.now.query.now bound.now.atom) keys.now) }
+{
+    bound.few && meets(shape.of(bound.atom), keys)
+}
+
 /// Appends the step that asks for keys of an atom, if there is one; says which columns have its values.
 pub(crate) fn push_asked(
     alloc: Global,
@@ -204,7 +212,7 @@ pub(crate) fn push_asked(
 {
     let keys = shape.key_variables(alloc, atom)?;
     for bound in bounds {
-        if meets(shape.of(bound.atom), keys.as_slice()) {
+        if asks(shape, bound, keys.as_slice()) {
             return push_asked_by(alloc, shape, number, atom, bound, steps);
         }
     }

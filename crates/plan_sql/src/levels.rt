@@ -1,32 +1,35 @@
 //! The steps of an atom, where parts hang on it.
 
-ghost use Rattle.std.specs.Prelude.{◌≡◌, ◌++◌, ◌∷◌, ◌<◌, ◌-◌, ◌||◌, [], IfOk, OnOk, flat_map, length};
+ghost use Rattle.std.specs.Prelude.{◌≡◌, ◌++◌, ◌∷◌, ◌<◌, ◌-◌, ◌||◌, [], IfOk, OnOk, All, false, flat_map, length};
 ghost use Rattle.std.specs.List.{list_any};
 ghost use Rattle.cqa_model.specs.declared.query.Cond.{Cond as CondValue};
 ghost use Rattle.sql_text.specs.declared.syntax.Body.TheVariants.{Distinct as DistinctBody, Grouped as GroupedBody};
 ghost use Rattle.sql_text.specs.declared.syntax.StepKind.TheVariants.{Blocks as BlocksKind, Holds as HoldsKind};
+ghost use Rattle.plan_sql.specs.declared.part.Bound.{Bound as BoundValue};
 ghost use Rattle.plan_sql.specs.declared.part.Part.{Part as PartValue};
 ghost use Rattle.plan_sql.specs.Variables.{ascending, key_variables, variables_of};
-ghost use Rattle.plan_sql.specs.Statement.{are_single, block_group, block_of, context_group, context_of, few_step, hangs, is_value_test, keys_in, level_steps, rows_of_atom, step, with_level};
+ghost use Rattle.plan_sql.specs.Statement.{are_single, block_group, block_of, context_group, context_of, few_step, guard_for, guarded, hangs, is_guarded, is_value_test, keys_in, level_steps, rows_of_atom, step, with_level};
 
 use crate::bounds::keys_in;
 use crate::children::{append_beside, are_single, hanging};
 use crate::few::{few_only, has_few, is_rare};
 use crate::groups::{block_group, context_group};
-use crate::lists::{ascending, joined, within, without};
-use crate::part::Part;
+use crate::lists::{ascending, covers, joined, within, without};
+use crate::part::{Bound, Part};
 use crate::selects::rows_of_atom;
 use crate::shape::Shape;
 use cqa_value::{Items, NoMemory};
-use sql_text::{Body, Step, StepKind, Within};
+use sql_text::{Body, Select, Step, StepKind, Within};
 use std::alloc::Global;
 
-/// An atom at hand: its number in the plan, its place in the query, and the columns whose values are in steps.
+/// An atom at hand: its number in the plan, its place in the query, the columns whose values are in steps, and the atoms
+/// before it.
 #[derive(Clone, Copy)]
 pub(crate) struct Level<'o> {
     pub number: usize,
     pub atom: u32,
     pub only: &'o [Within],
+    pub bounds: &'o [Bound],
 }
 
 /// Appends a step.
@@ -135,7 +138,13 @@ fn push_few_groups(
     let number = level.number;
     let atom = level.atom;
     let only = only.as_slice();
-    let level = Level { number, atom, only };
+    let bounds = level.bounds;
+    let level = Level {
+        number,
+        atom,
+        only,
+        bounds,
+    };
     push_groups(alloc, shape, &level, context, parts, steps)
 }
 
@@ -159,22 +168,49 @@ fn push_few(
     push_step(alloc, StepKind::Blocks, level.number, keys, body, steps)
 }
 
-/// Appends a step of a kind: the atom's rows that fit, joined with the parts.
+/// Appends the step of the contexts in which the part holds, by the atom's rows that fit, joined with the parts.
 fn push_rows(
     alloc: Global,
     shape: &Shape<'_>,
     level: &Level<'_>,
-    kind: StepKind,
-    columns: &[u32],
+    context: &[u32],
     parts: &[Part],
     steps: &mut Items<Step>,
 ) -> Result<(), NoMemory>
     requires { level.now.atom < length shape.now.query.now.atoms }
-    ensures { OnOk result (steps.new ≡ steps.old ++ step kind level.now.number columns.now (DistinctBody (rows_of_atom shape.now.query.now level.now.atom level.now.only.now parts.now columns.now)) ∷ []) }
+    ensures { OnOk result (steps.new ≡ steps.old ++ step HoldsKind level.now.number context.now (DistinctBody (rows_of_atom shape.now.query.now level.now.atom level.now.only.now parts.now context.now)) ∷ []) }
 {
-    let select = rows_of_atom(alloc, shape, level.atom, level.only, parts, columns)?;
+    let select = rows_of_atom(alloc, shape, level.atom, level.only, parts, context)?;
     let body = Body::Distinct(select);
-    push_step(alloc, kind, level.number, columns, body, steps)
+    push_step(alloc, StepKind::Holds, level.number, context, body, steps)
+}
+
+/// The values of these variables in the rows of an atom before that has all of them, or else in those of the atom at hand,
+/// joined with the parts.
+fn guarded(
+    alloc: Global,
+    shape: &Shape<'_>,
+    level: &Level<'_>,
+    columns: &[u32],
+    parts: &[Part],
+) -> Result<Select, NoMemory>
+    requires atom { level.now.atom < length shape.now.query.now.atoms }
+    requires bounds { All (λ (b : BoundValue). b.atom < length shape.now.query.now.atoms) level.now.bounds.now }
+    ensures { IfOk result (λ select. select ≡ guarded shape.now.query.now level.now.atom level.now.only.now parts.now columns.now (guard_for shape.now.query.now level.now.bounds.now columns.now)) }
+{
+    for bound in level.bounds {
+        if covers(shape.of(bound.atom), columns) {
+            return rows_of_atom(
+                alloc,
+                shape,
+                bound.atom,
+                bound.only.as_slice(),
+                &[],
+                columns,
+            );
+        }
+    }
+    rows_of_atom(alloc, shape, level.atom, level.only, parts, columns)
 }
 
 /// Appends the step of the contexts in which the part holds, by the blocks for each context that the step at a place has.
@@ -196,8 +232,44 @@ fn push_context_groups(
     push_step(alloc, StepKind::Holds, level.number, context, body, steps)
 }
 
-/// Appends the steps of the contexts of an atom with blocks of several rows, where a part can have two contexts for a row.
+/// Whether an atom before has each of these variables.
+fn is_guarded(shape: &Shape<'_>, bounds: &[Bound], vs: &[u32]) -> bool
+    requires { All (λ (b : BoundValue). b.atom < length shape.now.query.now.atoms) bounds.now }
+    ensures { result ≡ is_guarded shape.now.query.now bounds.now vs.now }
+{
+    for bound in bounds {
+        if covers(shape.of(bound.atom), vs) {
+            return true;
+        }
+    }
+    false
+}
+
+/// Appends the steps of the contexts with an atom's key, of these variables, that are looked for, and of those that hold.
 fn push_blocks(
+    alloc: Global,
+    shape: &Shape<'_>,
+    level: &Level<'_>,
+    block: &[u32],
+    context: &[u32],
+    parts: &[Part],
+    steps: &mut Items<Step>,
+) -> Result<(), NoMemory>
+    requires atom { level.now.atom < length shape.now.query.now.atoms }
+    requires bounds { All (λ (b : BoundValue). b.atom < length shape.now.query.now.atoms) level.now.bounds.now }
+    ensures { OnOk result (steps.new ≡ (steps.old
+        ++ step BlocksKind level.now.number block.now (DistinctBody (guarded shape.now.query.now level.now.atom level.now.only.now parts.now block.now (guard_for shape.now.query.now level.now.bounds.now block.now))) ∷ [])
+        ++ step HoldsKind level.now.number context.now (GroupedBody (context_group shape.now.query.now level.now.atom (length steps.old) block.now parts.now context.now)) ∷ []) }
+{
+    let place = steps.len();
+    let select = guarded(alloc, shape, level, block, parts)?;
+    let body = Body::Distinct(select);
+    push_step(alloc, StepKind::Blocks, level.number, block, body, steps)?;
+    push_context_groups(alloc, shape, level, place, block, context, parts, steps)
+}
+
+/// Appends the steps of an atom where a part can have two contexts for a row.
+fn push_contexts(
     alloc: Global,
     shape: &Shape<'_>,
     level: &Level<'_>,
@@ -205,16 +277,17 @@ fn push_blocks(
     parts: &[Part],
     steps: &mut Items<Step>,
 ) -> Result<(), NoMemory>
-    requires { level.now.atom < length shape.now.query.now.atoms }
-    ensures { OnOk result (steps.new ≡ (steps.old
-        ++ step BlocksKind level.now.number (block_of shape.now.query.now level.now.atom context.now) (DistinctBody (rows_of_atom shape.now.query.now level.now.atom level.now.only.now parts.now (block_of shape.now.query.now level.now.atom context.now))) ∷ [])
-        ++ step HoldsKind level.now.number context.now (GroupedBody (context_group shape.now.query.now level.now.atom (length steps.old) (block_of shape.now.query.now level.now.atom context.now) parts.now context.now)) ∷ []) }
+    requires atom { level.now.atom < length shape.now.query.now.atoms }
+    requires bounds { All (λ (b : BoundValue). b.atom < length shape.now.query.now.atoms) level.now.bounds.now }
+    requires several { are_single (variables_of shape.now.query.now level.now.atom) parts.now ≡ false }
+    ensures { OnOk result (steps.new ≡ steps.old ++ level_steps shape.now.query.now level.now.number level.now.atom context.now level.now.only.now level.now.bounds.now parts.now (length steps.old)) }
 {
-    let place = steps.len();
     let block = block_of(alloc, shape, level.atom, context)?;
-    let columns = block.as_slice();
-    push_rows(alloc, shape, level, StepKind::Blocks, columns, parts, steps)?;
-    push_context_groups(alloc, shape, level, place, columns, context, parts, steps)
+    let block = block.as_slice();
+    if shape.is_strict(level.atom) && !is_guarded(shape, level.bounds, block) {
+        return push_rows(alloc, shape, level, context, parts, steps);
+    }
+    push_blocks(alloc, shape, level, block, context, parts, steps)
 }
 
 /// Appends the steps of an atom, where these parts hang on it.
@@ -228,17 +301,16 @@ fn push_level(
     steps: &mut Items<Step>,
 ) -> Result<(), NoMemory>
     requires atom { level.now.atom < length shape.now.query.now.atoms }
+    requires bounds { All (λ (b : BoundValue). b.atom < length shape.now.query.now.atoms) level.now.bounds.now }
     requires single { single ≡ are_single (variables_of shape.now.query.now level.now.atom) parts.now }
-    ensures { OnOk result (steps.new ≡ steps.old ++ level_steps shape.now.query.now level.now.number level.now.atom context.now level.now.only.now parts.now (length steps.old)) }
+    ensures { OnOk result (steps.new ≡ steps.old ++ level_steps shape.now.query.now level.now.number level.now.atom context.now level.now.only.now level.now.bounds.now parts.now (length steps.old)) }
 {
-    if single && has_few(shape, level.atom, parts) {
+    if !single {
+        push_contexts(alloc, shape, level, context, parts, steps)
+    } else if has_few(shape, level.atom, parts) {
         push_few_groups(alloc, shape, level, context, parts, steps)
-    } else if single {
-        push_groups(alloc, shape, level, context, parts, steps)
-    } else if shape.is_strict(level.atom) {
-        push_rows(alloc, shape, level, StepKind::Holds, context, parts, steps)
     } else {
-        push_blocks(alloc, shape, level, context, parts, steps)
+        push_groups(alloc, shape, level, context, parts, steps)
     }
 }
 
@@ -252,7 +324,8 @@ fn push_part(
     steps: &mut Items<Step>,
 ) -> Result<Part, NoMemory>
     requires atom { level.now.atom < length shape.now.query.now.atoms }
-    ensures steps { OnOk result (steps.new ≡ steps.old ++ level_steps shape.now.query.now level.now.number level.now.atom (context_of shape.now.query.now known.now level.now.atom parts.now) level.now.only.now parts.now (length steps.old)) }
+    requires bounds { All (λ (b : BoundValue). b.atom < length shape.now.query.now.atoms) level.now.bounds.now }
+    ensures steps { OnOk result (steps.new ≡ steps.old ++ level_steps shape.now.query.now level.now.number level.now.atom (context_of shape.now.query.now known.now level.now.atom parts.now) level.now.only.now level.now.bounds.now parts.now (length steps.old)) }
     ensures part { IfOk result (λ part. part ≡ record {
       number = level.now.number;
       step = length steps.new - 1;
@@ -295,8 +368,9 @@ fn append_around(
     list: &mut Items<Part>,
 ) -> Result<(), NoMemory>
     requires atom { level.now.atom < length shape.now.query.now.atoms }
-    ensures steps { OnOk result (steps.new ≡ (with_level shape.now.query.now level.now.number known.now level.now.only.now level.now.atom (record { steps = steps.old; parts = later.now })).steps) }
-    ensures parts { OnOk result (list.new ≡ list.old ++ (with_level shape.now.query.now level.now.number known.now level.now.only.now level.now.atom (record { steps = steps.old; parts = later.now })).parts) }
+    requires bounds { All (λ (b : BoundValue). b.atom < length shape.now.query.now.atoms) level.now.bounds.now }
+    ensures steps { OnOk result (steps.new ≡ (with_level shape.now.query.now level.now.number known.now level.now.bounds.now level.now.only.now level.now.atom (record { steps = steps.old; parts = later.now })).steps) }
+    ensures parts { OnOk result (list.new ≡ list.old ++ (with_level shape.now.query.now level.now.number known.now level.now.bounds.now level.now.only.now level.now.atom (record { steps = steps.old; parts = later.now })).parts) }
 {
     let parts = hanging(alloc, shape, known, level.atom, later)?;
     let part = push_part(alloc, shape, level, known, parts.as_slice(), steps);
@@ -315,8 +389,9 @@ pub(crate) fn with_level(
     steps: &mut Items<Step>,
 ) -> Result<Items<Part>, NoMemory>
     requires atom { level.now.atom < length shape.now.query.now.atoms }
-    ensures steps { OnOk result (steps.new ≡ (with_level shape.now.query.now level.now.number known.now level.now.only.now level.now.atom (record { steps = steps.old; parts = later.now })).steps) }
-    ensures parts { IfOk result (λ parts. parts ≡ (with_level shape.now.query.now level.now.number known.now level.now.only.now level.now.atom (record { steps = steps.old; parts = later.now })).parts) }
+    requires bounds { All (λ (b : BoundValue). b.atom < length shape.now.query.now.atoms) level.now.bounds.now }
+    ensures steps { OnOk result (steps.new ≡ (with_level shape.now.query.now level.now.number known.now level.now.bounds.now level.now.only.now level.now.atom (record { steps = steps.old; parts = later.now })).steps) }
+    ensures parts { IfOk result (λ parts. parts ≡ (with_level shape.now.query.now level.now.number known.now level.now.bounds.now level.now.only.now level.now.atom (record { steps = steps.old; parts = later.now })).parts) }
 {
     let mut list = Items::new(alloc);
     match append_around(alloc, shape, level, known, later, steps, &mut list) {

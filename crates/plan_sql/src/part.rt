@@ -16,10 +16,11 @@ pub(crate) struct Part {
     pub rare: bool,
 }
 
-/// An atom whose rows are few: one that has a test for one value, or one of whose key few values are asked for, and the steps
-/// that ask.
+/// An atom before others: the columns whose values are in steps, and whether its rows are few: it has a test for one value, or
+/// there are such columns.
 #[derive(Drop)]
 pub(crate) struct Bound {
     pub atom: u32,
     pub only: Items<Within>,
+    pub few: bool,
 }

@@ -125,8 +125,8 @@ fn last_select(alloc: Global, answer: &[u32], parts: &[Part]) -> Result<Select, 
     select
 }
 
-/// Appends the steps of the atoms of a plan, where these variables are known before them, and these atoms before them have
-/// few rows; has their parts.
+/// Appends the steps of the atoms of a plan, where these variables are known before them, and these atoms are before them; has
+/// their parts.
 #[cycle(steps)]
 fn push_made(
     alloc: Global,
@@ -149,8 +149,13 @@ fn push_made(
     let only = push_asked(alloc, shape, number, *atom, bounds, steps)?;
     let only = only.as_slice();
     let atom = *atom;
-    let level = Level { number, atom, only };
-    push_from(alloc, shape, &level, known, bounds, plan, later, steps)
+    let level = Level {
+        number,
+        atom,
+        only,
+        bounds,
+    };
+    push_from(alloc, shape, &level, known, plan, later, steps)
 }
 
 /// Appends the steps of an atom, behind those that ask for its keys, and of the atoms after it; has their parts.
@@ -160,19 +165,18 @@ fn push_from(
     shape: &Shape<'_>,
     level: &Level<'_>,
     known: &[u32],
-    bounds: &[Bound],
     plan: &[u32],
     later: &[u32],
     steps: &mut Items<Step>,
 ) -> Result<Items<Part>, NoMemory>
     requires plan { AreAtoms shape.now.query.now plan.now }
     requires first { plan.now ≡ level.now.atom ∷ later.now }
-    requires bounds { All (λ (b : BoundValue). b.atom < length shape.now.query.now.atoms) bounds.now }
+    requires bounds { All (λ (b : BoundValue). b.atom < length shape.now.query.now.atoms) level.now.bounds.now }
     requires number { level.now.number + length plan.now ≤ 2 ^ 63 }
-    ensures steps { OnOk result (steps.new ≡ (made_behind shape.now.query.now level.now.number known.now bounds.now level.now.only.now level.now.atom steps.old later.now).steps) }
-    ensures parts { IfOk result (λ parts. parts ≡ (made_behind shape.now.query.now level.now.number known.now bounds.now level.now.only.now level.now.atom steps.old later.now).parts) }
+    ensures steps { OnOk result (steps.new ≡ (made_behind shape.now.query.now level.now.number known.now level.now.bounds.now level.now.only.now level.now.atom steps.old later.now).steps) }
+    ensures parts { IfOk result (λ parts. parts ≡ (made_behind shape.now.query.now level.now.number known.now level.now.bounds.now level.now.only.now level.now.atom steps.old later.now).parts) }
 {
-    let parts = push_later(alloc, shape, level, known, bounds, later, steps)?;
+    let parts = push_later(alloc, shape, level, known, later, steps)?;
     let around = with_level(alloc, shape, level, known, parts.as_slice(), steps);
     drop(parts);
     around
@@ -185,18 +189,17 @@ fn push_later(
     shape: &Shape<'_>,
     level: &Level<'_>,
     known: &[u32],
-    bounds: &[Bound],
     later: &[u32],
     steps: &mut Items<Step>,
 ) -> Result<Items<Part>, NoMemory>
     requires atom { level.now.atom < length shape.now.query.now.atoms }
     requires later { AreAtoms shape.now.query.now later.now }
-    requires bounds { All (λ (b : BoundValue). b.atom < length shape.now.query.now.atoms) bounds.now }
+    requires bounds { All (λ (b : BoundValue). b.atom < length shape.now.query.now.atoms) level.now.bounds.now }
     requires number { level.now.number + 1 + length later.now ≤ 2 ^ 63 }
-    ensures steps { OnOk result (steps.new ≡ (made_later shape.now.query.now level.now.number known.now bounds.now level.now.only.now level.now.atom steps.old later.now).steps) }
-    ensures parts { IfOk result (λ parts. parts ≡ (made_later shape.now.query.now level.now.number known.now bounds.now level.now.only.now level.now.atom steps.old later.now).parts) }
+    ensures steps { OnOk result (steps.new ≡ (made_later shape.now.query.now level.now.number known.now level.now.bounds.now level.now.only.now level.now.atom steps.old later.now).steps) }
+    ensures parts { IfOk result (λ parts. parts ≡ (made_later shape.now.query.now level.now.number known.now level.now.bounds.now level.now.only.now level.now.atom steps.old later.now).parts) }
 {
-    let next = next_bounds(alloc, shape, bounds, level.atom, level.only)?;
+    let next = next_bounds(alloc, shape, level.bounds, level.atom, level.only)?;
     let known = match joined(alloc, known, shape.of(level.atom)) {
         Ok(known) => known,
         Err(refused) => {
