@@ -1,23 +1,30 @@
 #!/usr/bin/env python3
-"""Random queries, answered by the program and, by the SQL that `sql` prints for them, on SQLite, and compared row by row.
+"""Random queries, answered by the program and, by the SQL that `sql` prints for them, on other engines, and compared row by row.
 
-    differential/sql.py [PROGRAM] [--seed S] [--count N] [--psql COMMAND]
+    differential/sql.py [PROGRAM] [--seed S] [--count N] [--psql COMMAND] [--mariadb]
 
 Each script has some tables, whose rows stand once or twice on the other engine, and queries and unions of queries: the rows of
 the printed SQL have to be those of `ask`, `sql` has to print `no plan` where `plan` does, and the same without any row in the
-tables. A union has SQL exactly where all of its parts have plans and no table that isn't strict stands in two. With
+tables. SQLite has to be there. A union has SQL exactly where all of its parts have plans and no table that isn't strict stands in two. With
 `--psql 'psql -d DATABASE'`, or another command that reads as psql does, PostgreSQL answers them too; nothing is left there.
-At the end stands how often each kind of query came. A difference prints the script and ends with status 1. Python 3.9
-and its library alone are needed.
+With `--mariadb` a MariaDB server answers them as well, which the script starts in a temporary folder, over a socket alone,
+and ends; where MariaDB isn't installed, it says so and compares nothing. At the end stands how often each kind of query
+came. A difference prints the script and ends with status 1. Python 3.9 and its library alone are needed.
 """
 
 import argparse
 import collections
 import os
 import random
+import re
 import shlex
+import shutil
+import signal
 import subprocess
 import sys
+import tempfile
+import time
+from itertools import compress
 
 try:
     import sqlite3
@@ -102,11 +109,26 @@ class Maker:
                 joins.append((left, pick.choice((keys if pick.random() < 0.6 else before) or before or same)))
         return joins
 
+    def far_joins(self, tables):
+        """Equalities of the key columns of each table with columns of earlier ones, the first mostly of the one before: what
+        a table asks for then often stands in several tables above it."""
+        pick, joins = self.random, []
+        for atom, table in enumerate(tables):
+            for number, place in enumerate(table.key):
+                same = [(left, at) for left in range(atom) for at, column in enumerate(tables[left].columns) if column[1] == table.columns[place][1]]
+                near = [column for column in same if column[0] == atom - 1]
+                if same and pick.random() < 0.9:
+                    joins.append(((atom, place), pick.choice((near if number == 0 else same) or same)))
+        return joins
+
     def query(self, tables, most_atoms):
         pick = self.random
         tables = pick.sample(tables, min(most_atoms, max(pick.randint(1, len(tables)), pick.randint(1, len(tables)))))
         columns = [(atom, place) for atom, table in enumerate(tables) for place in range(len(table.columns))]
-        joins = self.joins(tables, columns, max(0, len(tables) - 1 + pick.choice([-1, 0, 0, 0, 0, 1])))
+        if pick.random() < 0.3:
+            joins = self.far_joins(tables)
+        else:
+            joins = self.joins(tables, columns, max(0, len(tables) - 1 + pick.choice([-1, 0, 0, 0, 0, 1])))
         tests = []
         for _ in range(pick.choice([0, 0, 1, 1, 2, 3])):
             atom, place = pick.choice(columns)
@@ -172,7 +194,10 @@ def kinds(query, printed, rows, features):
     counted(features, "no certain row", not rows)
     steps = printed.split(' AS (\n')[1:]
     counted(features, "keys that an atom with few rows asks for", '"asked ' in printed)
-    counted(features, "contexts that are looked for first", '"blocks ' in printed)
+    blocks, holds = (dict(re.findall(r'"%s (\d+)" AS \(\n  SELECT .*? FROM ("[^"]*" AS y(?: CROSS JOIN)?)' % kind, printed)) for kind in ("blocks", "holds"))
+    counted(features, "keys of few blocks", any(blocks[number] == holds[number] for number in blocks))
+    counted(features, "contexts of a table before", any(blocks[number].split('" AS y')[0] != holds[number].split('" AS y')[0] for number in blocks))
+    counted(features, "contexts of a table's own rows", any(table.endswith(" CROSS JOIN") and table == holds[number] for number, table in blocks.items()))
     counted(features, "several parts at the top", " CROSS JOIN " in steps[-1].rpartition("\nSELECT ")[2])
     counted(features, "a step with several parts", any(step.count(" LEFT JOIN ") > 1 for step in steps))
     counted(features, "a strict table without a group", any(' CROSS JOIN "holds ' in step and " GROUP BY " not in step for step in steps[:-1]))
@@ -196,7 +221,16 @@ def twice(rows, pick):
     return rows
 
 
-class Sqlite:
+class Engine:
+    def takes(self, query):
+        """Whether the engine can be asked this."""
+        return True
+
+    def stop(self):
+        """Ends what was started for it."""
+
+
+class Sqlite(Engine):
     def __init__(self):
         self.name = "SQLite " + sqlite3.sqlite_version
 
@@ -211,7 +245,7 @@ class Sqlite:
         return found
 
 
-class Postgres:
+class Postgres(Engine):
     """PostgreSQL by its shell. All is undone at the end."""
     END = "-- the end of an answer"
 
@@ -247,6 +281,85 @@ class Postgres:
     def plain(field):
         parts = field.split("\\\\")
         return "\\".join(part.replace("\\n", "\n").replace("\\t", "\t") for part in parts)
+
+
+class Mariadb(Engine):
+    """A server of MariaDB over a socket in a temporary folder. It can't give a union whose part has two columns of one name."""
+    END = "-- the end of an answer"
+    TOOLS = ["mariadb", "mariadbd", "mariadb-install-db"]
+    SET = ("set names utf8mb4; set sql_mode = 'ANSI_QUOTES,NO_BACKSLASH_ESCAPES,STRICT_ALL_TABLES'; "
+           "set optimizer_switch = 'split_materialized=off'; set optimizer_search_depth = 0;")
+
+    @classmethod
+    def is_there(cls):
+        return all(map(cls.tool, cls.TOOLS))
+
+    @staticmethod
+    def tool(name):
+        return shutil.which(name) or shutil.which(name, path="/usr/sbin:/sbin")
+
+    def __init__(self):
+        self.server, self.folder = None, tempfile.mkdtemp(prefix="cqa-")
+        try:
+            self.start()
+            self.name = "MariaDB " + self.run("select version();").split("-")[0]
+        except BaseException:
+            self.stop()
+            raise
+
+    def start(self):
+        data, user = os.path.join(self.folder, "data"), ["--user=mysql"] if os.geteuid() == 0 else []
+        if user:
+            shutil.chown(self.folder, "mysql")
+        made = subprocess.run([self.tool("mariadb-install-db"), "--no-defaults", "--datadir=" + data, "--auth-root-authentication-method=normal",
+                               "--skip-test-db"] + user, stdout=subprocess.PIPE, stderr=subprocess.STDOUT, check=False)
+        if made.returncode:
+            raise Differs(made.stdout.decode())
+        self.server = subprocess.Popen([self.tool("mariadbd"), "--no-defaults", "--datadir=" + data, "--socket=" + self.path("socket"), "--skip-networking",
+                                        "--pid-file=" + self.path("pid"), "--innodb-flush-log-at-trx-commit=0"] + user,
+                                       stdout=subprocess.DEVNULL, stderr=subprocess.DEVNULL)
+        end = time.monotonic() + 60
+        while not os.path.exists(self.path("socket")):
+            if self.server.poll() is not None or time.monotonic() > end:
+                raise Differs("MariaDB couldn't be started")
+            time.sleep(0.1)
+
+    def path(self, name):
+        return os.path.join(self.folder, name)
+
+    def stop(self):
+        if self.server:
+            self.server.terminate()
+            self.server.wait()
+        shutil.rmtree(self.folder, ignore_errors=True)
+
+    def run(self, script):
+        ran = subprocess.run([self.tool("mariadb"), "--no-defaults", "--socket=" + self.path("socket"), "--user=root", "--batch", "--skip-column-names",
+                              "--default-character-set=utf8mb4"], input=(self.SET + "\n" + script).encode(), stdout=subprocess.PIPE, stderr=subprocess.PIPE, check=False)
+        if ran.returncode:
+            raise Differs(ran.stderr.decode())
+        return ran.stdout.decode()
+
+    def takes(self, query):
+        return not isinstance(query, Union) or all(len(names) == len(set(names)) for names in map(answer_names, query.parts))
+
+    def answers(self, tables, printed, answer_kinds, pick):
+        script = ["drop database if exists cqa; create database cqa character set utf8mb4 collate utf8mb4_nopad_bin; use cqa;"]
+        for table in tables:
+            script.append("create table %s (%s);" % (identifier(table.name), ", ".join(
+                "%s %s not null" % (identifier(name), "bigint" if kind == "int" else "text") for name, kind in table.columns)))
+            if table.rows:
+                script.append("insert into %s values %s;" % (identifier(table.name), ", ".join(map(row_text, twice(table.rows, pick)))))
+        for text in printed:
+            script += [text.rstrip(), "select '%s';" % self.END]
+        answers = self.run("\n".join(script) + "\n").split(self.END + "\n")
+        return [[tuple(int(field) if kind == "int" else Postgres.plain(field) for field, kind in zip(line.split("\t"), kinds))
+                 for line in answer.split("\n")[:-1]] for answer, kinds in zip(answers, answer_kinds)]
+
+
+def answer_names(query):
+    """The names of the columns of an answer, in small letters."""
+    return [query.tables[atom].columns[place][0].lower() for atom, place in query.answer]
 
 
 # The comparison.
@@ -320,8 +433,9 @@ def compare(program, engines, script, pick, features):
     answered = replies(program, script.creates() + script.inserts(), [query for query, _ in planned], ["sql", "ask"])
     answer_kinds = [[kind_of(first_of(query), column) for column in first_of(query).answer] or ["int"] for query, _ in planned]
     for engine in engines:
-        found = engine.answers(script.tables, [printed for _, printed in planned], answer_kinds, pick)
-        for (query, printed), (again, asked), rows in zip(planned, answered, found):
+        taken = [engine.takes(query) for query, _ in planned]
+        found = engine.answers(script.tables, list(compress([printed for _, printed in planned], taken)), list(compress(answer_kinds, taken)), pick)
+        for (query, printed), (again, asked), rows in zip(compress(planned, taken), compress(answered, taken), found):
             if again != printed:
                 raise Differs("%s\n-- without rows:\n%s-- with rows:\n%s" % (query.text(), printed, again))
             if reply_of(query, rows) != asked:
@@ -366,11 +480,31 @@ def main():
     parser.add_argument("--seed", type=int, default=1)
     parser.add_argument("--count", type=int, default=200)
     parser.add_argument("--psql")
+    parser.add_argument("--mariadb", action="store_true")
     asked = parser.parse_args()
     if sqlite3 is None:
         print("this Python has no sqlite3: nothing was compared")
         return 0
+    if asked.mariadb and not Mariadb.is_there():
+        print("MariaDB isn't installed: nothing was compared", file=sys.stderr)
+        return 0
+    for number in (signal.SIGTERM, signal.SIGHUP):
+        signal.signal(number, ended)
     engines = [Sqlite()] + ([Postgres(asked.psql)] if asked.psql else [])
+    try:
+        engines += [Mariadb()] if asked.mariadb else []
+        return compare_all(asked, engines)
+    finally:
+        for engine in engines:
+            engine.stop()
+
+
+def ended(number, frame):
+    raise SystemExit(128 + number)
+
+
+def compare_all(asked, engines):
+    """Compares all scripts; the status."""
     features, answered = collections.Counter(), 0
     for seed, pick, script, chosen in scripts(asked.seed, asked.count, engines):
         try:
