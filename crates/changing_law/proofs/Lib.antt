@@ -1,0 +1,4 @@
+pub mod States
+pub mod Tables
+pub mod Merged
+pub mod Whole

@@ -1,0 +1,4 @@
+pub mod Members
+pub mod Columns
+pub mod Queries
+pub mod Joined

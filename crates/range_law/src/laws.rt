@@ -1,0 +1,20 @@
+//! What ranges exist: by groups, and of aggregates over the witnesses of a query; over the definitions alone. Each law is what its
+//! function ensures, so the build proves it.
+
+ghost use Rattle.range_law.specs.Groups.{GroupsExist};
+ghost use Rattle.range_law.specs.Joins.{JoinGroupsExist, JoinRangesExist};
+
+/// An aggregate of a table has a range for each group of rows.
+pub fn groups_exist()
+    ensures { GroupsExist }
+{}
+
+/// An aggregate over the witnesses of a query has a range.
+pub fn join_ranges_exist()
+    ensures { JoinRangesExist }
+{}
+
+/// An aggregate over the witnesses of a query has a range for each group of them.
+pub fn join_groups_exist()
+    ensures { JoinGroupsExist }
+{}

@@ -1,0 +1,4 @@
+//! The laws that each question has a reply. No code.
+#![tactic(auto)]
+
+pub mod laws;
