@@ -26,9 +26,12 @@ pub fn key_compare(key: &[u32], a: &Row, b: &Row) -> Ordering
     Ordering::Equal
 }
 
-/// Compares two rows by block order: by their key values, and then by the whole rows.
+/// Compares two rows by block order: by their key values, and only where these are the same by the whole rows.
 pub fn block_compare(key: &[u32], a: &Row, b: &Row) -> Ordering
     ensures { result ≡ block_cmp key.now a.now b.now }
 {
-    key_compare(key, a, b).then(a.cmp(b))
+    match key_compare(key, a, b) {
+        Ordering::Equal => a.cmp(b),
+        other => other,
+    }
 }

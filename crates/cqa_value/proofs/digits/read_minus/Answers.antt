@@ -1,4 +1,4 @@
-use Rattle.std.proofs.Common.{◌∙◌, ◌-◌}
+use Rattle.std.proofs.Common.{◌∙◌}
 use Rattle.std.proofs.lemmas.List.{take_rest}
 use Rattle.cqa_value.proofs.Integers.{minus_none, minus_found}
 use Rattle.cqa_value.proofs.digits.read_minus.Goals as goal

@@ -13,8 +13,8 @@ returns-in-Err-clause-not_utf8 c =
 pub returns-then-text-gt-LONGEST_TEXT_VALUE-clause-not_utf8 : goal.returns-then-text-gt-LONGEST_TEXT_VALUE-clause-not_utf8
 returns-then-text-gt-LONGEST_TEXT_VALUE-clause-not_utf8 c = λ at. (λ e. (cc), λ v. absurd (no_fault c.args.bytes.now at (search rules) v))
 
-pub returns-in_err-text-clause-not_utf8 : goal.returns-in_err-text-clause-not_utf8
-returns-in_err-text-clause-not_utf8 c = λ at. (λ e. absurd (other_fault c.from_residual.result at c.from_residual.ensures.1 e), λ v. absurd (no_fault c.args.bytes.now at (search rules) v))
+pub returns-in_err-of-clause-not_utf8 : goal.returns-in_err-of-clause-not_utf8
+returns-in_err-of-clause-not_utf8 c = λ at. (λ e. absurd (other_fault c.from_residual.result at c.from_residual.ensures.1 e), λ v. absurd (no_fault c.args.bytes.now at (search rules) v))
 
 pub returns-clause-not_utf8 : goal.returns-clause-not_utf8
 returns-clause-not_utf8 c = λ at. (λ e. (cc), λ v. absurd (no_fault c.args.bytes.now at (search rules) v))
