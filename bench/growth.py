@@ -156,6 +156,40 @@ def one_chain(n):
     return made[0] + ["possible exists %s;" % where], made[1] + ["select exists (select 1 %s);" % where]
 
 
+MULTIPLIER = 0x9e37_79b9_7f4a_7c15
+
+
+def folded(state, word):
+    """The state of std's `FoldHasher` after a word of eight bytes."""
+    product = (state ^ word) * (MULTIPLIER ^ 16)
+    return product % 2 ** 64 ^ product >> 64
+
+
+def number_of(value):
+    """The number by which an index finds an integer: of its kind, and then of the integer itself."""
+    return folded(folded(0x243f_6a88_85a3_08d3, 0), value)
+
+
+def picked_values(n):
+    """Two integers that an index of n rows, with two slots a row and one more, finds in one slot."""
+    seen = {}
+    for value in range(2 * n + 2):
+        slot = number_of(value) % (2 * n + 1)
+        if slot in seen:
+            return seen[slot], value
+        seen[slot] = value
+
+
+def joined_by_picked_values(n):
+    """A table of n rows that all have one value but for one row, joined to n rows that all have the value of this one. Both values
+    are picked by someone who knows the hash: they lie in one slot of an index of either table."""
+    many, one = picked_values(n)
+    made = join(tables(["a", "b"], ["k", "x"], "k", joined=True), inserts("a", [(k, one) for k in range(n)]),
+                inserts("b", [(k, one if k == n // 2 else many) for k in range(n)]))
+    where = "from a, b where a.x = b.x"
+    return made[0] + ["possible select a.k %s;" % where], made[1] + ["select distinct a.k %s;" % where]
+
+
 def load(rows):
     return join(tables(["r"], ["a", "b"][:len(rows[0])], "a"), inserts("r", rows))
 
@@ -290,6 +324,14 @@ def shuffled_weak_cycle(n):
     return weak_cycle(n, [(left[i], right[j % n]) for i in range(n) for j in (i, i + 1)])
 
 
+def picked_weak_pairs(n):
+    """n rows in each of two such tables, of values that an adversary picks: what the program multiplies two small integers by
+    puts all of them into one bucket."""
+    inverse = pow(MULTIPLIER, -1, 1 << 64)
+    codes = [divmod(k * inverse % (1 << 64) - 1, 1 << 32) for k in range(1, n + 1)]
+    return weak_cycle(n, [(x - (1 << 31), y - (1 << 31)) for x, y in codes])
+
+
 def wide_weak_blocks(n):
     """One block of n rows in each of two tables that attack each other weakly: all fit, so the row is certain."""
     ours = ["create table r (x int, y int, w int, primary key (x));", "create table s (y int, x int, w int, primary key (y));"]
@@ -412,6 +454,7 @@ LOADS = [
     ("a chain of three, that begins with a product", chain_by_a_product, 20000),
     ("all pairs, 77 answers", all_pairs, 3000),
     ("an exists over one chain of equal values", one_chain, 25000),
+    ("two tables joined off their keys, by values picked against the index", joined_by_picked_values, 25000),
     ("a load of one column, ascending", ascending_load, 250000),
     ("a load of one column, random", random_load, 250000),
     ("a load of two columns, random", random_load_of_two, 250000),
@@ -429,6 +472,7 @@ LOADS = [
     ("certain rows of the same cycle and of a chain by a plan, as a union", united_apart, 20000),
     ("a weak cycle of two tables, without a search", weak_cycle, 25000),
     ("a weak cycle of two tables, shuffled", shuffled_weak_cycle, 25000),
+    ("weak pairs of values that are picked to share a bucket", picked_weak_pairs, 25000),
     ("a weak pair of two wide blocks", wide_weak_blocks, 25000),
     ("a strong cycle through one wide block, by formulas", through_a_wide_block, 8000),
     ("weak pairs through one wide block", pairs_through_a_wide_block, 8000),

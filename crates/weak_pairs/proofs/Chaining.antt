@@ -1,15 +1,13 @@
 -- The rows of a bucket, chained backwards: one row more, and how far a chain was gone back.
-use Rattle.std.proofs.Common.{◌≡◌, ◌≢◌, ℕ, ◌+◌, ◌<◌, ◌≤◌, inl, inr, List, [], ◌∷◌, ◌++◌, length, replicate, refl, sym, ◌∙◌, ap, subst, arith, set, get_or}
+use Rattle.std.proofs.Common.{◌≡◌, ◌≢◌, ℕ, ◌+◌, ◌<◌, ◌≤◌, inl, inr, Option, List, [], ◌∷◌, ◌++◌, length, replicate, refl, sym, ◌∙◌, ap, subst, arith, set, get_or}
 use native.Mathlib.Decide.{ℕ_discrete, dec_lt}
 use Rattle.std.proofs.lemmas.List.{length-set, length_push, get_or-replicate, get_or_append_left, get_or_push}
 use Rattle.cqa_value.proofs.Words.{each_put}
-use Rattle.weak_pairs.specs.declared.lists.Lists.{Lists}
-use Rattle.weak_pairs.specs.Digests.{bucket_count, bucket_at, lists_in}
-use Rattle.weak_pairs.proofs.Coding.{one-bucket, in-some}
-use Rattle.weak_pairs.specs.EdgeNumbers.{HaveOne, AreChained, AreLast, IsLinked}
+use Rattle.cqa_value.specs.declared.value.Value.{Value}
+use Rattle.weak_pairs.specs.EdgeNumbers.{HaveOne, AreChained, AreChainedByLists, AreLast, IsLinked}
 
 -- what is true of each place of a list, once a number more is behind it of which it is true
-each_pushed : (P : ℕ → ℕ → Type 0) (xs : List ℕ) (k x i : ℕ) → length xs ≡ k → i < k + 1 → P k x → (i < k → P i (get_or xs i 0)) → P i (get_or (xs ++ x ∷ []) i 0)
+pub each_pushed : (P : ℕ → ℕ → Type 0) (xs : List ℕ) (k x i : ℕ) → length xs ≡ k → i < k + 1 → P k x → (i < k → P i (get_or xs i 0)) → P i (get_or (xs ++ x ∷ []) i 0)
 each_pushed P xs k x i size l this others = go (ℕ_discrete i k)
   where
     go : Dec (i ≡ k) → P i (get_or (xs ++ x ∷ []) i 0)
@@ -87,43 +85,44 @@ none-last g buckets last is size = record {
     zero-at : (b : ℕ) → b < length last → get_or last b 0 ≡ 0
     zero-at b l = ap (λ z. get_or z b 0) is ∙ get_or-replicate buckets b 0 0 (subst (λ n. b < n) size l)
 
--- rows are chained alike where their buckets are the same
-pub chained-as : (f g : ℕ → ℕ) (k : ℕ) (before : List ℕ) → ((i : ℕ) → i < k → f i ≡ g i) → AreChained f k k before → AreChained g k k before
-chained-as f g k before same c = record {
-  size = c.size;
-  low = c.low;
-  same = λ i p l e. let m = c.low i l in sym (same p (omega (arith, m, e, l))) ∙ c.same i p l e ∙ same i l;
-  free = λ i q l in' from to e. c.free i q l (subst (λ z. z < k) (sym (same i l)) in') from to (same q (omega (arith, to, l)) ∙ e ∙ sym (same i l));
-}
-
 -- a chain was gone back so far: no row from here on up to the place has its list, and the row just before is in its bucket
-pub record AreBehind (lists : Lists) (at left : ℕ) : Type 0 where
+pub record AreBehind (lists : List (Option (List Value))) (buckets : List ℕ) (at left : ℕ) : Type 0 where
   pub within : left ≤ at
-  pub none : (q : ℕ) → left ≤ q → q < at → HaveOne (lists_in lists) q at → ⊥
-  pub same : (p : ℕ) → left ≡ p + 1 → bucket_at lists p ≡ bucket_at lists at
+  pub none : (q : ℕ) → left ≤ q → q < at → HaveOne lists q at → ⊥
+  pub same : (p : ℕ) → left ≡ p + 1 → get_or buckets p 0 ≡ get_or buckets at 0
 
-module _ (lists : Lists) (before : List ℕ) (c : AreChained (bucket_at lists) (bucket_count (length (lists_in lists))) (length (lists_in lists)) before) where
-  pub behind-first : (at : ℕ) → at < length (lists_in lists) → AreBehind lists at (get_or before at 0)
-  behind-first at l = record {
-    within = c.low at l;
-    none = λ q from to h. c.free at q l (in-some lists q at h) from to (one-bucket lists q at h);
-    same = λ p e. c.same at p l e;
+module _ (lists : List (Option (List Value))) (before : List ℕ) (c : AreChainedByLists lists before) (at : ℕ) (l : at < length lists) where
+  abbrev g : ℕ → ℕ
+  g i = get_or c.0 i 0
+
+  there : (p : ℕ) → p ≤ at → p < length c.0
+  there p m = let s = c.1.size in omega (arith, m, l, s)
+
+  -- the bucket of a row that has one list with this one
+  its : (q : ℕ) → HaveOne lists q at → g at < length c.0
+  its q h = subst (λ n. g at < n) (sym c.1.size) (c.1.some at (h.0, h.2, h.2))
+
+  pub behind-first : AreBehind lists c.0 at (get_or before at 0)
+  behind-first = record {
+    within = c.2.low at (there at (omega arith));
+    none = λ q from to h. c.2.free at q (there at (omega arith)) (its q h) from to (c.1.one q at h);
+    same = λ p e. c.2.same at p (there at (omega arith)) e;
   }
 
-  pub behind-more : (at left : ℕ) → at < length (lists_in lists) → AreBehind lists at left → (p : ℕ) → left ≡ p + 1 → (HaveOne (lists_in lists) p at → ⊥) → AreBehind lists at (get_or before p 0)
-  behind-more at left l h p e differ = record {
-    within = let m = c.low p lp in let w = h.within in omega (arith, m, w, e);
+  pub behind-more : (left : ℕ) → AreBehind lists c.0 at left → (p : ℕ) → left ≡ p + 1 → (HaveOne lists p at → ⊥) → AreBehind lists c.0 at (get_or before p 0)
+  behind-more left h p e differ = record {
+    within = let m = c.2.low p lp in let w = h.within in omega (arith, m, w, e);
     none = λ q from to have. go q from to have (ℕ_discrete q p);
-    same = λ s d. c.same p s lp d ∙ h.same p e;
+    same = λ s d. c.2.same p s lp d ∙ h.same p e;
   }
     where
-      lp : p < length (lists_in lists)
-      lp = let w = h.within in omega (arith, w, e, l)
+      lp : p < length c.0
+      lp = let w = h.within in there p (omega (arith, w, e))
 
-      go : (q : ℕ) → get_or before p 0 ≤ q → q < at → HaveOne (lists_in lists) q at → Dec (q ≡ p) → ⊥
-      go q from to have (yes d) = differ (subst (λ z. HaveOne (lists_in lists) z at) d have)
+      go : (q : ℕ) → get_or before p 0 ≤ q → q < at → HaveOne lists q at → Dec (q ≡ p) → ⊥
+      go q from to have (yes d) = differ (subst (λ z. HaveOne lists z at) d have)
       go q from to have (no n) = pick (dec_lt q p)
         where
           pick : Dec (q < p) → ⊥
-          pick (yes low) = c.free p q lp (subst (λ z. z < bucket_count (length (lists_in lists))) (sym (h.same p e)) (in-some lists q at have)) from low (one-bucket lists q at have ∙ sym (h.same p e))
+          pick (yes low) = c.2.free p q lp (subst (λ z. z < length c.0) (sym (h.same p e)) (its q have)) from low (c.1.one q at have ∙ sym (h.same p e))
           pick (no high) = h.none q (omega (arith, e, n, high)) to have

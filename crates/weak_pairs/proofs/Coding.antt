@@ -10,8 +10,9 @@ use Rattle.weak_pairs.specs.declared.packed.TheConstants.{HALF, MULTIPLIER, SHIF
 use Rattle.weak_pairs.specs.declared.lists.Lists.{Lists}
 use Rattle.weak_pairs.specs.declared.lists.Lists.TheVariants.{Packed, Borrowed}
 use Rattle.weak_pairs.specs.Packing.{integer_of, list_of, bucket_of_code}
-use Rattle.weak_pairs.specs.Digests.{digest, bucket_of_list, bucket_count, bucket_at, lists_in}
-use Rattle.weak_pairs.specs.EdgeNumbers.{HaveOne}
+use Rattle.value_numbers.specs.Digests.{digest}
+use Rattle.weak_pairs.specs.Digests.{bucket_of, bucket_of_list, lists_in}
+use Rattle.weak_pairs.specs.EdgeNumbers.{AreBuckets, HaveOne}
 
 same-integer : (m n : ℕ) → integer_of m ≡ integer_of n → m ≡ n
 same-integer m n e = let same : pos m ≡ pos n = sym (-ℤ-+ℤ_cancel (pos m) HALF) ∙ ap (λ z. z +ℤ HALF) e ∙ -ℤ-+ℤ_cancel (pos n) HALF in cc same
@@ -50,21 +51,32 @@ some-bucket buckets zero l n = absurd (n refl)
 some-bucket buckets (suc c) l n = scaled (suc c * MULTIPLIER % 2 ^ 64 / SHIFT) buckets (upper (suc c * MULTIPLIER)) l
 
 -- how many rows there are, at least
-long : {A : Type 0} (xs : List (Option A)) (i : ℕ) (x : A) → get_or xs i None ≡ Some x → i < length xs
+pub long : {A : Type 0} (xs : List (Option A)) (i : ℕ) (x : A) → get_or xs i None ≡ Some x → i < length xs
 long xs i x e = elim (cases_lt i (length xs)) [ inl l ↦ l | inr g ↦ absurd (cc (sym e ∙ get_or_past xs i None g)) ]
 
+-- rows with one list have one code
+pub same-code : (codes : List ℕ) (i j : ℕ) → HaveOne (map list_of codes) i j → get_or codes i 0 ≡ get_or codes j 0
+same-code codes i j (x, xi, xj) = one-code (get_or codes i 0) (get_or codes j 0) x (sym (code-at codes i) ∙ xi) (sym (code-at codes j) ∙ xj)
+
 -- rows with one list are in one bucket
-pub one-bucket : (lists : Lists) (i j : ℕ) → HaveOne (lists_in lists) i j → bucket_at lists i ≡ bucket_at lists j
-one-bucket (Packed codes) i j (x, xi, xj) =
-    ap (bucket_of_code (bucket_count (length (map list_of codes.items))))
-    (one-code (get_or codes.items i 0) (get_or codes.items j 0) x (sym (code-at codes.items i) ∙ xi) (sym (code-at codes.items j) ∙ xj))
-one-bucket (Borrowed lists) i j (x, xi, xj) = ap (bucket_of_list (bucket_count (length lists.items))) (xi ∙ sym xj)
+one-bucket : (buckets : ℕ) (lists : Lists) (i j : ℕ) → HaveOne (lists_in lists) i j → bucket_of buckets lists i ≡ bucket_of buckets lists j
+one-bucket buckets (Packed codes) i j h = ap (bucket_of_code buckets) (same-code codes.items i j h)
+one-bucket buckets (Borrowed lists) i j (x, xi, xj) = ap (bucket_of_list buckets) (xi ∙ sym xj)
 
 -- a row with a list is in some bucket
-pub in-some : (lists : Lists) (i j : ℕ) → HaveOne (lists_in lists) i j → bucket_at lists j < bucket_count (length (lists_in lists))
-in-some (Packed codes) i j (x, xi, xj) =
-    some-bucket (bucket_count (length (map list_of codes.items))) (get_or codes.items j 0) (omega (arith, long (map list_of codes.items) i x xi)) (some-code (get_or codes.items j 0) x (sym (code-at codes.items j) ∙ xj))
-in-some (Borrowed lists) i j (x, xi, xj) = subst (λ z. bucket_of_list (bucket_count (length lists.items)) z < bucket_count (length lists.items)) (sym xj) (mod-lt (digest x) (omega (arith, long lists.items i x xi)))
+in-some : (lists : Lists) (i : ℕ) → HaveOne (lists_in lists) i i → bucket_of (length (lists_in lists)) lists i < length (lists_in lists)
+in-some (Packed codes) i (x, xi, _) =
+    some-bucket (length (map list_of codes.items)) (get_or codes.items i 0) (omega (arith, long (map list_of codes.items) i x xi)) (some-code (get_or codes.items i 0) x (sym (code-at codes.items i) ∙ xi))
+in-some (Borrowed lists) i (x, xi, _) = subst (λ z. bucket_of_list (length lists.items) z < length lists.items) (sym xi) (mod-lt (digest x) (omega (arith, long lists.items i x xi)))
+
+module _ (lists : Lists) (buckets : List ℕ) (size : length buckets ≡ length (lists_in lists))
+    (are : (i : ℕ) → i < length (lists_in lists) → get_or buckets i 0 ≡ bucket_of (length (lists_in lists)) lists i) where
+  pub by-hash : AreBuckets (lists_in lists) buckets
+  by-hash = record {
+    size = size;
+    one = λ i j h. are i (long (lists_in lists) i h.0 h.1) ∙ one-bucket (length (lists_in lists)) lists i j h ∙ sym (are j (long (lists_in lists) j h.0 h.2));
+    some = λ i h. subst (λ z. z < length (lists_in lists)) (sym (are i (long (lists_in lists) i h.0 h.1))) (in-some lists i h);
+  }
 
 -- a row with a code has one list with another exactly where that has this code too
 pub one-list : (codes : List ℕ) (i j : ℕ) → get_or codes i 0 ≢ 0 → IsTrue (nat_eq (get_or codes i 0) (get_or codes j 0)) ↔ HaveOne (map list_of codes) i j
@@ -77,4 +89,4 @@ one-list codes i j some = (into, back)
         (x.0, code-at codes i ∙ x.1, code-at codes j ∙ ap list_of (sym same) ∙ x.1)
 
     back : HaveOne (map list_of codes) i j → IsTrue (nat_eq (get_or codes i 0) (get_or codes j 0))
-    back (x, xi, xj) = eq-eqb (get_or codes i 0) (get_or codes j 0) (one-code (get_or codes i 0) (get_or codes j 0) x (sym (code-at codes i) ∙ xi) (sym (code-at codes j) ∙ xj))
+    back h = eq-eqb (get_or codes i 0) (get_or codes j 0) (same-code codes i j h)

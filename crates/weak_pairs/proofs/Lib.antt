@@ -7,6 +7,7 @@ pub mod Edges
 pub mod Picking
 pub mod Coding
 pub mod Chaining
+pub mod Ranking
 pub mod RowKeys
 pub mod Laying
 pub mod Results

@@ -6,5 +6,6 @@ pub mod Outcomes
 pub mod Packing
 pub mod Digests
 pub mod EdgeNumbers
+pub mod Ranks
 pub mod Layout
 pub mod Starts

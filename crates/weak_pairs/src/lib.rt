@@ -13,6 +13,7 @@ mod outcome;
 mod packed;
 mod peel;
 mod picked;
+mod ranks;
 mod walk;
 
 pub use chains::edge_numbers;
