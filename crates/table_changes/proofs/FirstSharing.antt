@@ -11,7 +11,8 @@ use Rattle.table_blocks.specs.Keys.{same_key}
 use Rattle.table_blocks.proofs.Sharing.{same_decides, same_self, same_trans}
 use Rattle.table_changes.specs.Taken.{first_sharing, first_other}
 
-first_of_filter : {A : Type 0} (xs : List A) → slice_get xs 0 ≡ None → (x : A) → Contains xs x → ⊥
+-- a list that has nothing at its first place is empty
+pub first_of_filter : {A : Type 0} (xs : List A) → slice_get xs 0 ≡ None → (x : A) → Contains xs x → ⊥
 first_of_filter [] e x m = mem-nil x m
 first_of_filter {A} (y ∷ xs) e x m = clash e
   where

@@ -1,6 +1,7 @@
 -- The test of being among rows, and how many rows are new.
-use Rattle.std.proofs.Common.{◌≡◌, inl, inr, Bool, true, false, not, ◌||◌, List, [], ◌∷◌, Contains, refl, sym, ◌∙◌, subst, true≢false}
+use Rattle.std.proofs.Common.{◌≡◌, inl, inr, Bool, true, false, not, ◌||◌, List, [], ◌∷◌, Contains, refl, sym, ap, ◌∙◌, subst, true≢false}
 use Rattle.std.specs.Bool.{Decides}
+use Rattle.std.specs.List.{filter}
 use Rattle.cqa_value.specs.declared.value.Value.{Value}
 use Rattle.cqa_value.specs.Values.{row_eq, row_decides}
 use Rattle.cqa_value.proofs.Words.{mem-tail, mem-cases, mem-head, mem-nil}
@@ -27,3 +28,8 @@ not_among rows row = go (is_among rows row) refl
     go : (b : Bool) → is_among rows row ≡ b → Decides (not b) (Contains rows row → ⊥)
     go true e = (λ t. absurd (true≢false (sym t)), λ h. absurd (h ((among rows row).0 e)))
     go false e = (λ t h. true≢false (sym ((among rows row).1 h) ∙ e), λ h. refl)
+
+-- where no row is stored, all are new
+pub all_new : (rows : List (List Value)) → rows ≡ filter (λ row. not (is_among [] row)) rows
+all_new [] = refl
+all_new (row ∷ rows) = ap (λ more. row ∷ more) (all_new rows)

@@ -1,5 +1,5 @@
 -- The places of sorted rows among others: one row more, and rows behind some that are below.
-use Rattle.std.proofs.Common.{◌≡◌, ◌≤◌, ◌<◌, ◌+◌, ◌-◌, ℕ, Bool, true, false, cond, List, [], ◌∷◌, ◌++◌, length, take, drop, get_or, set, sym, ap, ◌∙◌, subst, arith}
+use Rattle.std.proofs.Common.{◌≡◌, ◌≤◌, ◌<◌, ◌+◌, ◌-◌, ℕ, Bool, true, false, cond, List, [], ◌∷◌, ◌++◌, length, take, drop, replicate, get_or, set, sym, ap, ◌∙◌, subst, arith}
 use Rattle.std.specs.List.{filter, AllByRecursion}
 use Rattle.std.specs.List.Sorted.{IsStrictlySortedBy, IsPartitionedBy, IsPartitionPoint}
 use Rattle.std.specs.Cmp.{IsTotalOrder}
@@ -8,6 +8,8 @@ use Rattle.std.specs.declared.cmp.Ordering.{Ordering}
 use Rattle.std.specs.declared.cmp.Ordering.TheVariants.{Less, Equal}
 use Rattle.std.proofs.lemmas.List.Elements.{filter-append}
 use Rattle.std.proofs.lemmas.List.{get_or-take, length-take-le, length-drop, take_all, get_or_default, take_more, append-nil, take_more_set}
+use Rattle.std.proofs.lemmas.Option.{slice_get_within}
+use Rattle.std.proofs.Math.Seq.{take-nil}
 use Rattle.table_blocks.specs.Tables.{IsPlace, ArePlaces}
 use Rattle.table_blocks.proofs.Halving.{part_point}
 use Rattle.table_blocks.proofs.Sorting.{each_at, earlier_below, parted, place_from_point}
@@ -18,6 +20,16 @@ module _ {A : Type 0} (cmp : A → A → Ordering) (stored : List A) where
   places-push [] (p ∷ places) row place h is = absurd h
   places-push (x ∷ rows) [] row place h is = absurd h
   places-push (x ∷ rows) (p ∷ places) row place h is = (h.0, places-push rows places row place h.1 is)
+
+-- a list without items that is filled up
+pub filled : {A : Type 0} (n : ℕ) (x : A) → take n [] ++ replicate (n - 0) x ≡ replicate n x
+filled n x = let all : n ≡ n - 0 = omega arith in subst (λ m. take n [] ++ replicate m x ≡ replicate n x) all (ap (λ front. front ++ replicate n x) (take-nil n))
+
+-- where no row is stored, each one's place is the first
+pub first_places : {A : Type 0} (cmp : A → A → Ordering) (rows : List A) → ArePlaces cmp [] rows (replicate (length rows) 0)
+first_places cmp [] = tt
+first_places cmp (row ∷ rows) =
+    (record { within = omega arith; below = tt; stops = λ other found less. (let there = slice_get_within [] 0 other found in absurd (omega (arith, there))) }, first_places cmp rows)
 
 -- one row more is tried, and has its place where it passes
 module _ {A : Type 0} (cmp : A → A → Ordering) (stored : List A) (p : A → Bool) (xs : List A) (at : ℕ) (d : A) (inside : at < length xs) where
