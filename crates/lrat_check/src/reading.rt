@@ -42,7 +42,7 @@ fn hint_of(number: Signed) -> i64
     }
 }
 
-/// What a step's literals and hints are gathered in before they are copied to where they stay.
+/// What a step's literals and hints are gathered in. A step that is read takes it along, and may give it back for the next.
 #[derive(Drop)]
 pub struct Gathered {
     lits: Vec<Lit>,
@@ -55,6 +55,14 @@ impl Gathered {
         Gathered {
             lits: Vec::new(alloc),
             hints: Vec::new(alloc),
+        }
+    }
+
+    /// Takes the room of a step that is done with back for the next.
+    pub fn take_back(&mut self, step: Step) {
+        if let Step::Add { clause, hints, .. } = step {
+            self.lits = clause.lits.into_vec();
+            self.hints = hints.into_vec();
         }
     }
 }
@@ -188,12 +196,14 @@ fn read_addition<'a>(
     let Some(rest) = read_hints(&mut gathered.hints, rest)? else {
         return Ok(None);
     };
-    let lits = Items::from_slice(alloc, gathered.lits.as_slice())?;
-    let hints = Items::from_slice(alloc, gathered.hints.as_slice())?;
+    let lits = std::mem::replace(&mut gathered.lits, Vec::new(alloc));
+    let hints = std::mem::replace(&mut gathered.hints, Vec::new(alloc));
     let step = Step::Add {
         id,
-        clause: Clause { lits },
-        hints,
+        clause: Clause {
+            lits: Items::from_vec(lits),
+        },
+        hints: Items::from_vec(hints),
     };
     Ok(Some((step, rest)))
 }

@@ -43,7 +43,7 @@ fn take_line<'a>(
         None => Ok(Some(rest)),
         Some(step) => {
             let taken = checker.take(&step);
-            drop(step);
+            gathered.take_back(step);
             taken?;
             Ok(Some(rest))
         }
