@@ -98,6 +98,8 @@ def shapes(n):
     yield ".. of the middle", of_chains, "select k1, v3 %s and v2 = 3" % chain(3)
     yield ".. of the last", of_chains, "select k1 %s and v3 = 3" % chain(3)
     yield "rare range in the first", of_chains, "select k1, v3 %s and f1 < 5" % chain(3)
+    yield "range that most rows of the first meet", of_chains, "select k1, v3 %s and v1 > 2" % chain(3)
+    yield ".. exists", of_chains, "exists %s and v1 > 2" % chain(3)
     yield "star 3", of_stars, "select id %s and va > 0 and vb > 0" % arms("ab")
     yield "star 6", of_stars, "select id %s and va > 0 and ve > 0" % arms("abcde")
     yield "star 6, three columns", of_stars, "select id, va, vc, ve " + arms("abcde")
@@ -123,6 +125,10 @@ def shapes(n):
     of_blocks.add("b", "x y k", "x", sorted({(x, pick.randrange(50), pick.randrange(10)) for x in range(n // 4)} | {(0, y, 5) for y in range(n // 2)}))
     yield "large blocks in two tables", of_blocks, "select id from a, b where a.x = b.x and k > 0"
     yield ".. last column answered", of_blocks, "select id, k from a, b where a.x = b.x"
+    of_farther = Tables().add("e", "id m y", "id", keyed(n, pick, lambda pick: (pick.randrange(n // 2), pick.randrange(100))))
+    of_farther.add("f", "m x", "m", keyed(n // 2, pick, lambda pick: (pick.randrange(n // 4),)))
+    of_farther.add("g", "x u", "x", of_far.tables["g"][3]).add("h", "u y w", "u y", of_far.tables["h"][3])
+    yield "context from no one table above", of_farther, "select id from e, f, g, h where e.m = f.m and f.x = g.x and g.u = h.u and e.y = h.y and w > 0"
 
 
 def plain(query):

@@ -11,13 +11,14 @@ use Rattle.sql_text.specs.declared.syntax.Step.{Step}
 use Rattle.sql_text.specs.declared.syntax.StepKind.TheVariants.{Asked}
 use Rattle.sql_text.specs.declared.syntax.Within.{Within}
 use Rattle.sql_text.specs.Meaning.{AreWithin, Selects}
-use Rattle.plan_sql.specs.declared.part.Bound.{Bound}
-use Rattle.plan_sql.specs.Variables.{meets, covers, within, variables_of, key_variables}
-use Rattle.plan_sql.specs.Statement.{cell, rows_of_atom, step, guard_for, bound_for, keys_in, asked_variables, asked_steps, only_of}
-use Rattle.plan_sql.proofs.Membership.{within-from, ascending-from}
+use Rattle.plan_sql.specs.declared.bounds.Bound.{Bound}
+use Rattle.sql_steps.specs.Variables.{meets, covers, within, variables_of, key_variables}
+use Rattle.sql_steps.specs.Steps.{cell, rows_of_atom}
+use Rattle.plan_sql.specs.Statement.{step, guard_for, bound_for, keys_in, asked_variables, asked_steps, only_of}
+use Rattle.sql_steps.proofs.Membership.{within-from, ascending-from}
 use Rattle.plan_sql.proofs.Rel.{Rel, new-into, Stays, stays-self, stays-push}
-use Rattle.plan_sql.proofs.Suiting.{Suits}
-use Rattle.plan_sql.proofs.Joining.{covers-from}
+use Rattle.sql_steps.proofs.Suiting.{Suits}
+use Rattle.sql_steps.proofs.Joining.{covers-from}
 use Rattle.plan_sql.proofs.Holding.{Keeps}
 use Rattle.plan_sql.proofs.Level.{suits-moved, ready-none, plain-from, plain-into}
 use Rattle.plan_sql.proofs.Looking.{keys-at, keys-own, keys-pass}

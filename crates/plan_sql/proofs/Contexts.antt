@@ -4,15 +4,16 @@ use Rattle.std.specs.List.{flat_map}
 use Rattle.std.proofs.lemmas.List.Elements.{Contains-append_left, Contains-append_right, Contains-append_cases}
 use Rattle.cqa_value.proofs.Words.{Contains-flat_map, Contains-from_flat_map}
 use Rattle.cqa_model.specs.declared.query.Query.{Query}
-use Rattle.plan_sql.specs.declared.fitting.Known.{Known}
-use Rattle.plan_sql.specs.declared.part.Part.{Part}
-use Rattle.plan_sql.specs.Variables.{without, within, ascending, variables_of, key_variables}
-use Rattle.plan_sql.specs.Statement.{fitted, known_of, context_of, block_of}
-use Rattle.plan_sql.proofs.Membership.{dec_has, without-into, without-from, within-into, within-from, ascending-into, ascending-from}
-use Rattle.plan_sql.proofs.Seeing.{IsKnown}
-use Rattle.plan_sql.proofs.Atoms.{variables-small, keys-within}
-use Rattle.plan_sql.proofs.Rows.{row-known}
-use Rattle.plan_sql.proofs.Joining.{known-all, known-new}
+use Rattle.sql_steps.specs.declared.fitting.Known.{Known}
+use Rattle.sql_steps.specs.declared.part.Part.{Part}
+use Rattle.sql_steps.specs.Variables.{without, within, ascending, variables_of, key_variables}
+use Rattle.sql_steps.specs.Steps.{fitted, known_of}
+use Rattle.plan_sql.specs.Statement.{context_of, block_of}
+use Rattle.sql_steps.proofs.Membership.{dec_has, without-into, without-from, within-into, within-from, ascending-into, ascending-from}
+use Rattle.sql_steps.proofs.Seeing.{IsKnown}
+use Rattle.sql_steps.proofs.Atoms.{variables-small, keys-within}
+use Rattle.sql_steps.proofs.Rows.{row-known}
+use Rattle.sql_steps.proofs.Joining.{known-all, known-new}
 
 module _ (q : Query) (F : ℕ) (lF : F < length q.atoms) (known : List ℕ) (parts : List Part) where
   abbrev context : List ℕ

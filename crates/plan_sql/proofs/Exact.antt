@@ -21,16 +21,17 @@ use Rattle.cqa_model.proofs.Fitting.{FitsTables, fits_tables}
 use Rattle.fo_rewrite.proofs.Distinct.{plan-all, plan-atoms}
 use Rattle.sql_text.specs.declared.syntax.Child.{Child}
 use Rattle.sql_text.specs.Meaning.{IsChoice, cell_value, MeetsAll, IsRowOfEach, Means}
-use Rattle.plan_sql.specs.declared.part.Part.{Part}
-use Rattle.plan_sql.specs.Variables.{variables_of, answer_variables}
-use Rattle.plan_sql.specs.Statement.{last_select, cell_of, cells_of, children_of, on_of, known_of, Made, made_of, sql_of}
+use Rattle.sql_steps.specs.declared.part.Part.{Part}
+use Rattle.sql_steps.specs.Variables.{variables_of, answer_variables}
+use Rattle.sql_steps.specs.Steps.{cell_of, cells_of, children_of, on_of, known_of}
+use Rattle.plan_sql.specs.Statement.{last_select, Made, made_of, sql_of}
 use Rattle.plan_sql.specs.Laws.{SqlIsExact, SqlIsWide, SqlShowsOnce}
 use Rattle.plan_sql.proofs.Rel.{Rel}
-use Rattle.plan_sql.proofs.Seeing.{IsKnown, IsRight, cells-right}
-use Rattle.plan_sql.proofs.Suiting.{variable, variable-at}
+use Rattle.sql_steps.proofs.Seeing.{IsKnown, IsRight, cells-right}
+use Rattle.sql_steps.proofs.Suiting.{variable, variable-at}
 use Rattle.plan_sql.proofs.Witnessing.{Agrees, IsFixed, Witnessed, witness}
-use Rattle.plan_sql.proofs.Atoms.{variables-into}
-use Rattle.plan_sql.proofs.Joining.{known-new, Hold, Joins, rows-from, rows-into}
+use Rattle.sql_steps.proofs.Atoms.{variables-into}
+use Rattle.sql_steps.proofs.Joining.{known-new, Hold, Joins, rows-from, rows-into}
 use Rattle.plan_sql.proofs.Holding.{holding-into, holding-from}
 use Rattle.plan_sql.proofs.Plan.{IsMade, made-right}
 

@@ -10,9 +10,9 @@ use Rattle.cqa_model.specs.Plan.{Placed, Fits, PlanHolds, IsPlan}
 use Rattle.cqa_model.proofs.Classic.{mem-head, mem-tail, mem-cases}
 use Rattle.cqa_model.proofs.Fitting.{FitsTables}
 use Rattle.cqa_model.proofs.Reification.{placed}
-use Rattle.plan_sql.specs.Variables.{variables_of}
-use Rattle.plan_sql.proofs.Suiting.{variable, Suits}
-use Rattle.plan_sql.proofs.Atoms.{variables-from, variables-into}
+use Rattle.sql_steps.specs.Variables.{variables_of}
+use Rattle.sql_steps.proofs.Suiting.{variable, Suits}
+use Rattle.sql_steps.proofs.Atoms.{variables-from, variables-into}
 use Rattle.plan_sql.proofs.Witnessing.{Agrees, IsFixed, agrees-more, agrees-kept, agrees-less, agrees-suits, fixed-same, fits-from, Witnessed, witness}
 
 -- an assignment keeps the values of these variables

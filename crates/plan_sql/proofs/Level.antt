@@ -17,16 +17,17 @@ use Rattle.sql_text.specs.declared.syntax.Child.{Child}
 use Rattle.sql_text.specs.declared.syntax.Listed.{Listed}
 use Rattle.sql_text.specs.declared.syntax.Within.{Within}
 use Rattle.sql_text.specs.Meaning.{IsRowOfEach, cell_value, MeetsAll, AreWithin, IsChoice, Selects, Ends, AreLed, Shows, Groups}
-use Rattle.plan_sql.specs.declared.fitting.Known.{Known}
-use Rattle.plan_sql.specs.declared.part.Part.{Part}
-use Rattle.plan_sql.specs.Variables.{covers, all_below, variables_of, key_variables}
-use Rattle.plan_sql.specs.Statement.{cell, held, member, cells_at, keyed, fitted, others_of, children_of, on_of, rows_of_atom, group_of, block_group, context_group, are_single, context_of, block_of}
-use Rattle.plan_sql.proofs.Membership.{dec_has, columns-into}
-use Rattle.plan_sql.proofs.Seeing.{IsKnown, IsRight, held-at, held-known, held-right, cells-right, meets-left, meets-right, meets-both}
-use Rattle.plan_sql.proofs.Suiting.{variable, Suits}
-use Rattle.plan_sql.proofs.Atoms.{variables-into, key-width, keys-from, keys-into, keys-within}
-use Rattle.plan_sql.proofs.Rows.{start-known, row-known, row-into, row-from, Follows, keyed-same, key-values}
-use Rattle.plan_sql.proofs.Joining.{covers-into, IsBelow, below-seen, AreWide, AreOver, Hold, IsSingle, Joins, ends-from, rows-from, rows-into, led-ends, led-into}
+use Rattle.sql_steps.specs.declared.fitting.Known.{Known}
+use Rattle.sql_steps.specs.declared.part.Part.{Part}
+use Rattle.sql_steps.specs.Variables.{covers, all_below, variables_of, key_variables}
+use Rattle.sql_steps.specs.Steps.{cell, held, member, cells_at, keyed, fitted, others_of, children_of, on_of, rows_of_atom, group_of, block_group, context_group, are_single}
+use Rattle.plan_sql.specs.Statement.{context_of, block_of}
+use Rattle.sql_steps.proofs.Membership.{dec_has, columns-into}
+use Rattle.sql_steps.proofs.Seeing.{IsKnown, IsRight, held-at, held-known, held-right, cells-right, meets-left, meets-right, meets-both}
+use Rattle.sql_steps.proofs.Suiting.{variable, Suits}
+use Rattle.sql_steps.proofs.Atoms.{variables-into, key-width, keys-from, keys-into, keys-within}
+use Rattle.sql_steps.proofs.Rows.{start-known, row-known, row-into, row-from, Follows, keyed-same, key-values}
+use Rattle.sql_steps.proofs.Joining.{covers-into, IsBelow, below-seen, AreWide, AreOver, Hold, IsSingle, Joins, ends-from, rows-from, rows-into, led-ends, led-into}
 use Rattle.plan_sql.proofs.Contexts.{IsOf, context-from, context-into, end, end-known, block-cases, block-key, block-context}
 use Rattle.plan_sql.proofs.Holding.{Keeps}
 

@@ -1,13 +1,7 @@
-pub mod Membership
 pub mod Steps
 pub mod Rel
-pub mod Seeing
-pub mod Suiting
-pub mod Atoms
 pub mod Witnessing
 pub mod Holding
-pub mod Rows
-pub mod Joining
 pub mod Contexts
 pub mod Level
 pub mod Looking
@@ -15,7 +9,6 @@ pub mod Asking
 pub mod Made
 pub mod Plan
 pub mod Exact
-pub mod Scopes
 pub mod Naming
 pub mod Named
 pub mod Spreading

@@ -11,15 +11,16 @@ use Rattle.cqa_model.specs.Query.{atom_at, atom_key}
 use Rattle.cqa_model.proofs.Classic.{mem-nil}
 use Rattle.sql_text.specs.declared.syntax.Within.{Within}
 use Rattle.sql_text.specs.Meaning.{cell_value, AreWithin}
-use Rattle.plan_sql.specs.declared.part.Part.{Part}
-use Rattle.plan_sql.specs.Variables.{has, variables_of, key_variables}
-use Rattle.plan_sql.specs.Statement.{cell, cell_of, columns_of, others_of, keyed, fitted, keys_in, part_only, rare_only}
-use Rattle.plan_sql.proofs.Membership.{has-from, without-from, columns-from}
-use Rattle.plan_sql.proofs.Seeing.{IsKnown, cell_of-right, cell-seen, cell-seen-on}
-use Rattle.plan_sql.proofs.Suiting.{variable-at, Suits}
-use Rattle.plan_sql.proofs.Atoms.{key-width, keys-from}
-use Rattle.plan_sql.proofs.Rows.{key-known, key-into, row-known, row-into}
-use Rattle.plan_sql.proofs.Joining.{Hold}
+use Rattle.sql_steps.specs.declared.part.Part.{Part}
+use Rattle.sql_steps.specs.Variables.{has, variables_of, key_variables}
+use Rattle.sql_steps.specs.Steps.{cell, cell_of, columns_of, others_of, keyed, fitted}
+use Rattle.plan_sql.specs.Statement.{keys_in, part_only, rare_only}
+use Rattle.sql_steps.proofs.Membership.{has-from, without-from, columns-from}
+use Rattle.sql_steps.proofs.Seeing.{IsKnown, cell_of-right, cell-seen, cell-seen-on}
+use Rattle.sql_steps.proofs.Suiting.{variable-at, Suits}
+use Rattle.sql_steps.proofs.Atoms.{key-width, keys-from}
+use Rattle.sql_steps.proofs.Rows.{key-known, key-into, row-known, row-into}
+use Rattle.sql_steps.proofs.Joining.{Hold}
 
 module _ (q : Query) (F : ℕ) (lF : F < length q.atoms) where
   known-key : (v : ℕ) → Contains (key_variables q F) v → IsKnown (keyed q F []).known v

@@ -15,19 +15,20 @@ use Rattle.sql_text.specs.declared.syntax.Within.{Within}
 use Rattle.sql_text.specs.declared.syntax.Select.{Select}
 use Rattle.sql_text.specs.declared.syntax.Group.{Group}
 use Rattle.sql_text.specs.Meaning.{cell_value, Groups, Selects, AreWithin}
-use Rattle.plan_sql.specs.declared.part.Bound.{Bound}
-use Rattle.plan_sql.specs.declared.part.Part.{Part}
-use Rattle.plan_sql.specs.Variables.{variables_of, key_variables, ascending}
-use Rattle.plan_sql.specs.Statement.{cell, cell_of, held, rows_of_atom, block_group, context_group, are_single, context_of, block_of, step, guard_for, is_guarded, guarded, level_steps, keys_in, rare_only, has_few, few_step}
+use Rattle.plan_sql.specs.declared.bounds.Bound.{Bound}
+use Rattle.sql_steps.specs.declared.part.Part.{Part}
+use Rattle.sql_steps.specs.Variables.{variables_of, key_variables, ascending}
+use Rattle.sql_steps.specs.Steps.{cell, cell_of, held, rows_of_atom, block_group, context_group, are_single}
+use Rattle.plan_sql.specs.Statement.{context_of, block_of, step, guard_for, is_guarded, guarded, level_steps, keys_in, rare_only, has_few, few_step}
 use Rattle.plan_sql.proofs.Rel.{Rel, new-into, new-from, Stays, stays-self, stays-push}
-use Rattle.plan_sql.proofs.Suiting.{Suits}
-use Rattle.plan_sql.proofs.Joining.{Hold, IsSingle, led-ends}
+use Rattle.sql_steps.proofs.Suiting.{Suits}
+use Rattle.sql_steps.proofs.Joining.{Hold, IsSingle, led-ends}
 use Rattle.plan_sql.proofs.Holding.{Keeps}
 use Rattle.plan_sql.proofs.Level.{AreReady, ready-none, IsHeld, Passes, plain-from, plain-into, strict-from, strict-into, block-from, block-into, block-single, context-group-from, context-group-into}
 use Rattle.plan_sql.proofs.Asking.{IsBound, IsPassed, passed-keeps, bound-into, bound-from, guard_for-in}
 use Rattle.plan_sql.proofs.Looking.{keys-own, keys-pass, rare-own, rare-pass}
-use Rattle.plan_sql.proofs.Atoms.{keys-within}
-use Rattle.plan_sql.proofs.Membership.{ascending-from}
+use Rattle.sql_steps.proofs.Atoms.{keys-within}
+use Rattle.sql_steps.proofs.Membership.{ascending-from}
 use Rattle.plan_sql.proofs.Contexts.{end, block-of}
 
 -- rows of steps are as long as their cells
@@ -257,7 +258,7 @@ module _ (q : Query) (T : ℕ → List (List Value)) (F : ℕ) (lF : F < length 
       last = omega (arith, length_push opened holds)
 
   pub level : IsLevel (before ++ level_steps q number F context only bounds parts (length before)) (are_single (variables_of q F) parts)
-  level = go (are_single (variables_of q F) parts) (has_few q F parts) ((atom_at q F).strict && not (is_guarded q bounds block)) refl refl
+  level = go (are_single (variables_of q F) parts) (has_few q bounds F parts) ((atom_at q F).strict && not (is_guarded q bounds block)) refl refl
     where
       go : (a f b : Bool) → are_single (variables_of q F) parts ≡ a → ((atom_at q F).strict && not (is_guarded q bounds block)) ≡ b →
           IsLevel (before ++ cond a (cond f (few ∷ each_few ∷ []) (step Holds number context (Grouped (block_group q F only parts context)) ∷ [])) (cond b (step Holds number context (Distinct (rows_of_atom q F only parts context)) ∷ []) (blocks ∷ holds ∷ []))) a

@@ -19,17 +19,18 @@ use Rattle.sql_text.specs.declared.syntax.Within.{Within}
 use Rattle.sql_text.specs.declared.syntax.Child.{Child}
 use Rattle.sql_text.specs.declared.syntax.Listed.{Listed}
 use Rattle.sql_text.specs.Named.{AreDifferent, width, ShowsOne, IsThere, AreChildrenOf, AreSources, AreNamedSteps}
-use Rattle.plan_sql.specs.declared.part.Bound.{Bound}
-use Rattle.plan_sql.specs.declared.part.Part.{Part}
-use Rattle.plan_sql.specs.Variables.{has, meets, without, within, variables_of, key_variables, answer_variables}
-use Rattle.plan_sql.specs.Statement.{cell_of, fitted, part_source, children_of, known_of, rows_of_atom, hangs, context_of, are_single, step, level_steps, bound_of, bound_for, asked_variables, asked_steps, only_of, Made, with_level, made_of, is_value_test}
+use Rattle.plan_sql.specs.declared.bounds.Bound.{Bound}
+use Rattle.sql_steps.specs.declared.part.Part.{Part}
+use Rattle.sql_steps.specs.Variables.{has, meets, without, within, variables_of, key_variables, answer_variables}
+use Rattle.sql_steps.specs.Steps.{cell_of, fitted, part_source, children_of, known_of, rows_of_atom, hangs, are_single}
+use Rattle.plan_sql.specs.Statement.{context_of, step, level_steps, bound_of, bound_for, asked_variables, asked_steps, only_of, Made, with_level, made_of, is_value_test}
 use Rattle.plan_sql.specs.Laws.{SqlIsNamed}
-use Rattle.plan_sql.proofs.Membership.{within-from, ascending-from, has-from, without-from}
-use Rattle.plan_sql.proofs.Atoms.{key-width}
+use Rattle.sql_steps.proofs.Membership.{within-from, ascending-from, has-from, without-from}
+use Rattle.sql_steps.proofs.Atoms.{key-width}
 use Rattle.plan_sql.proofs.Asking.{bound_for-in}
 use Rattle.plan_sql.proofs.Exact.{answers-known}
 use Rattle.plan_sql.proofs.Looking.{keys-at, keys-own}
-use Rattle.plan_sql.proofs.Scopes.{AreIn, cells-in, AreAt, children-of, on-of, sources-of}
+use Rattle.sql_steps.proofs.Scopes.{AreIn, cells-in, AreAt, children-of, on-of, sources-of}
 use Rattle.plan_sql.proofs.Naming.{ascending-apart, filter-apart, held-apart, named-push, width-new, AreOnly, only-more, at-more, IsBoundNamed, rows-named, IsLevelNamed, level-named}
 
 -- lists with something in common
@@ -115,13 +116,13 @@ module _ (q : Query) where
     only = only_of q F (length before) (bound_for q bounds F)
 
     abbrev next : List Bound
-    next = bound_of q F only ∷ bounds
+    next = bound_of q bounds F only ∷ bounds
 
     ask : IsAskedNamed before start number F only
     ask = asked-named F lF number bounds before bound first early
 
     pub next-bound : (b : Bound) → Contains next b → IsBoundNamed q start b
-    next-bound b m = elim (mem-cases b (bound_of q F only) bounds m) [
+    next-bound b m = elim (mem-cases b (bound_of q bounds F only) bounds m) [
       | inl e ↦ subst (λ z. IsBoundNamed q start z) e (lF, ask.looked)
       | inr n ↦ subst (λ z. IsBoundNamed q z b) (sym ask.grows.1) (bound-more before ask.grows.0 b (bound b n))
     ]

@@ -18,20 +18,21 @@ use Rattle.sql_text.specs.declared.syntax.Body.TheVariants.{Distinct, Grouped}
 use Rattle.sql_text.specs.declared.syntax.Step.{Step}
 use Rattle.sql_text.specs.declared.syntax.StepKind.TheVariants.{Asked, Blocks, Holds}
 use Rattle.sql_text.specs.Named.{AreDifferent, width, ShowsOne, IsThere, IsCellOf, AreCellsOf, AreCmpsOf, AreWithinOf, AreChildrenOf, AreSources, IsNamedSelect, IsNamedGroup, IsNamedStep, AreNamedSteps}
-use Rattle.plan_sql.specs.declared.fitting.Known.{Known}
-use Rattle.plan_sql.specs.declared.part.Bound.{Bound}
-use Rattle.plan_sql.specs.declared.part.Part.{Part}
-use Rattle.plan_sql.specs.Variables.{has, within, without, all_below, ascending, variables_of, key_variables}
-use Rattle.plan_sql.specs.Statement.{cell, cell_of, held, member, cells_at, keyed, fitted, part_source, children_of, known_of, on_of, rows_of_atom, group_of, block_group, context_group, are_single, context_of, block_of, step, guard_for, is_guarded, guarded, level_steps, keys_in, rare_only, has_few, few_step}
-use Rattle.plan_sql.proofs.Membership.{ascending-from, without-from, columns-from, columns-into}
-use Rattle.plan_sql.proofs.Seeing.{held-at}
-use Rattle.plan_sql.proofs.Atoms.{key-width, keys-within, keys-into}
-use Rattle.plan_sql.proofs.Rows.{row-known}
-use Rattle.plan_sql.proofs.Suiting.{variable}
+use Rattle.sql_steps.specs.declared.fitting.Known.{Known}
+use Rattle.plan_sql.specs.declared.bounds.Bound.{Bound}
+use Rattle.sql_steps.specs.declared.part.Part.{Part}
+use Rattle.sql_steps.specs.Variables.{has, within, without, all_below, ascending, variables_of, key_variables}
+use Rattle.sql_steps.specs.Steps.{cell, cell_of, held, member, cells_at, keyed, fitted, part_source, children_of, known_of, on_of, rows_of_atom, group_of, block_group, context_group, are_single}
+use Rattle.plan_sql.specs.Statement.{context_of, block_of, step, guard_for, is_guarded, guarded, level_steps, keys_in, rare_only, has_few, few_step}
+use Rattle.sql_steps.proofs.Membership.{ascending-from, without-from, columns-from, columns-into}
+use Rattle.sql_steps.proofs.Seeing.{held-at}
+use Rattle.sql_steps.proofs.Atoms.{key-width, keys-within, keys-into}
+use Rattle.sql_steps.proofs.Rows.{row-known}
+use Rattle.sql_steps.proofs.Suiting.{variable}
 use Rattle.plan_sql.proofs.Contexts.{IsOf, context-from, end-known, block-of, block-key}
 use Rattle.plan_sql.proofs.Asking.{guard_for-in}
 use Rattle.plan_sql.proofs.Looking.{keys-at, keys-own, rare-at, rare-own}
-use Rattle.plan_sql.proofs.Scopes.{cmp-more, AreIn, both-of, keyed-seen, fitted-seen, cells-in, AreAt, children-of, on-of, sources-of, children-joined}
+use Rattle.sql_steps.proofs.Scopes.{cmp-more, AreIn, both-of, keyed-seen, fitted-seen, cells-in, AreAt, children-of, on-of, sources-of, children-joined}
 
 -- lists in which nothing stands twice
 pub filter-apart : {A : Type 0} (test : A → Bool) (f : A → ℕ) (xs : List A) → AreDifferent (map f xs) → AreDifferent (map f (filter test xs))
@@ -313,7 +314,7 @@ module _ (q : Query) where
       blocks-fresh t m h = let e : Asked ≡ Blocks = sym (fresh t m h.1) ∙ h.0 in cc e
 
       pub level-named : IsLevelNamed (before ++ level_steps q number F context only bounds parts (length before))
-      level-named = go (are_single (variables_of q F) parts) (has_few q F parts) ((atom_at q F).strict && not (is_guarded q bounds (block_of q F context)))
+      level-named = go (are_single (variables_of q F) parts) (has_few q bounds F parts) ((atom_at q F).strict && not (is_guarded q bounds (block_of q F context)))
         where
           block : List ℕ
           block = block_of q F context

@@ -13,15 +13,16 @@ use Rattle.cqa_model.proofs.Repairs.{shares-self}
 use Rattle.sql_text.specs.declared.syntax.Step.{Step}
 use Rattle.sql_text.specs.declared.syntax.Within.{Within}
 use Rattle.sql_text.specs.Meaning.{AreWithin}
-use Rattle.plan_sql.specs.declared.part.Bound.{Bound}
-use Rattle.plan_sql.specs.declared.part.Part.{Part}
-use Rattle.plan_sql.specs.Variables.{has, meets, without, variables_of, key_variables}
-use Rattle.plan_sql.specs.Statement.{are_single, hangs, context_of, level_steps, bound_of, bound_for, asked_steps, only_of, Made, with_level, made_of, is_value_test}
-use Rattle.plan_sql.proofs.Membership.{dec_has, has-into, without-into}
+use Rattle.plan_sql.specs.declared.bounds.Bound.{Bound}
+use Rattle.sql_steps.specs.declared.part.Part.{Part}
+use Rattle.sql_steps.specs.Variables.{has, meets, without, variables_of, key_variables}
+use Rattle.sql_steps.specs.Steps.{are_single, hangs}
+use Rattle.plan_sql.specs.Statement.{context_of, level_steps, bound_of, bound_for, asked_steps, only_of, Made, with_level, made_of, is_value_test}
+use Rattle.sql_steps.proofs.Membership.{dec_has, has-into, without-into}
 use Rattle.plan_sql.proofs.Rel.{Rel, Stays, stays-self, stays-trans}
-use Rattle.plan_sql.proofs.Suiting.{Suits}
-use Rattle.plan_sql.proofs.Atoms.{keys-within}
-use Rattle.plan_sql.proofs.Joining.{Hold}
+use Rattle.sql_steps.proofs.Suiting.{Suits}
+use Rattle.sql_steps.proofs.Atoms.{keys-within}
+use Rattle.sql_steps.proofs.Joining.{Hold}
 use Rattle.plan_sql.proofs.Holding.{Keeps, Holding}
 use Rattle.plan_sql.proofs.Contexts.{IsOf, context-from, context-into, of-small}
 use Rattle.plan_sql.proofs.Asking.{IsBound, IsPassed, IsAsked, within-stays, bound-stays, passed-stays, passed-keeps, asked}
@@ -55,7 +56,7 @@ module _ (q : Query) (T : ℕ → List (List Value)) (strict : (F : ℕ) → F <
     only = only_of q F (length before) (bound_for q bounds F)
 
     abbrev new : Bound
-    new = bound_of q F only
+    new = bound_of q bounds F only
 
     abbrev next : List Bound
     next = new ∷ bounds

@@ -24,18 +24,19 @@ use Rattle.sql_text.specs.declared.syntax.Group.{Group}
 use Rattle.sql_text.specs.declared.syntax.StepKind.TheVariants.{Asked, Blocks, Holds}
 use Rattle.sql_text.specs.Meaning.{IsRowOfEach, cell_value, MeetsAll, IsChoice, Selects, Ends, AreLed, Shows, Groups}
 use Rattle.sql_text.specs.Named.{AreDifferent}
-use Rattle.plan_sql.specs.declared.fitting.Known.{Known}
-use Rattle.plan_sql.specs.declared.part.Bound.{Bound}
-use Rattle.plan_sql.specs.declared.part.Part.{Part}
-use Rattle.plan_sql.specs.Variables.{all_below, ascending, within, variables_of, key_variables, answer_variables}
-use Rattle.plan_sql.specs.Statement.{cell, held, find, cell_of, member, cells_at, keyed, fitted, see_part, children_of, rows_of_atom, group_of, block_group, context_group, are_single, hangs, context_of, block_of, has_few, few_step, keys_in, guard_for, is_guarded, guarded, level_steps, bound_of, bound_for, asked_variables, rare_only, step, asked_steps, only_of, Made, made_of}
+use Rattle.sql_steps.specs.declared.fitting.Known.{Known}
+use Rattle.plan_sql.specs.declared.bounds.Bound.{Bound}
+use Rattle.sql_steps.specs.declared.part.Part.{Part}
+use Rattle.sql_steps.specs.Variables.{all_below, ascending, within, variables_of, key_variables, answer_variables}
+use Rattle.sql_steps.specs.Steps.{cell, held, find, cell_of, member, cells_at, keyed, fitted, see_part, children_of, rows_of_atom, group_of, block_group, context_group, are_single, hangs}
+use Rattle.plan_sql.specs.Statement.{context_of, block_of, has_few, few_step, keys_in, guard_for, is_guarded, guarded, level_steps, bound_of, bound_for, asked_variables, rare_only, step, asked_steps, only_of, Made, made_of}
 use Rattle.plan_sql.specs.Laws.{only_rows, IsSpread, SqlIsSpread}
-use Rattle.plan_sql.proofs.Membership.{columns-into}
+use Rattle.sql_steps.proofs.Membership.{columns-into}
 use Rattle.plan_sql.proofs.Rel.{Rel}
-use Rattle.plan_sql.proofs.Seeing.{IsRight, find-cases, held-at, held-known}
-use Rattle.plan_sql.proofs.Suiting.{variable}
-use Rattle.plan_sql.proofs.Atoms.{keys-into}
-use Rattle.plan_sql.proofs.Rows.{key-values}
+use Rattle.sql_steps.proofs.Seeing.{IsRight, find-cases, held-at, held-known}
+use Rattle.sql_steps.proofs.Suiting.{variable}
+use Rattle.sql_steps.proofs.Atoms.{keys-into}
+use Rattle.sql_steps.proofs.Rows.{key-values}
 use Rattle.plan_sql.proofs.Contexts.{block-key}
 use Rattle.plan_sql.proofs.Level.{cells-agree}
 use Rattle.plan_sql.proofs.Asking.{bound_for-in, guard_for-in}
@@ -227,7 +228,7 @@ module _ (q : Query) where
 
   level-spread : (F : ℕ) (lF : F < length q.atoms) (number : ℕ) (known : List ℕ) (only : List Within) (bounds : List Bound) → ((b : Bound) → Contains bounds b → b.atom < length q.atoms) → (parts : List Part) (before : List Step) →
       AreSpread before (before ++ level_steps q number F (context_of q known F parts) only bounds parts (length before))
-  level-spread F lF number known only bounds bound parts before = go (are_single (variables_of q F) parts) (has_few q F parts) ((atom_at q F).strict && not (is_guarded q bounds (block_of q F (context_of q known F parts))))
+  level-spread F lF number known only bounds bound parts before = go (are_single (variables_of q F) parts) (has_few q bounds F parts) ((atom_at q F).strict && not (is_guarded q bounds (block_of q F (context_of q known F parts))))
     where
       context : List ℕ
       context = context_of q known F parts
@@ -265,7 +266,7 @@ module _ (q : Query) where
       let lF : F < length q.atoms = there F (mem-head F plan) in
       let start : List Step = before ++ asked_steps q number F (bound_for q bounds F) in
       let only : List Within = only_of q F (length before) (bound_for q bounds F) in
-      let next : List Bound = bound_of q F only ∷ bounds in
+      let next : List Bound = bound_of q bounds F only ∷ bounds in
       let later : Made = made_of q (suc number) (known ++ variables_of q F) next start plan in
       elim (level-spread F lF number known only bounds bound (filter (λ p. hangs q known F p) later.parts) later.steps t m) [
         | inr s ↦ inr s
@@ -275,8 +276,8 @@ module _ (q : Query) where
         ]
       ]
     where
-      more : F < length q.atoms → (only : List Within) → (c : Bound) → Contains (bound_of q F only ∷ bounds) c → c.atom < length q.atoms
-      more lF only c k = elim (mem-cases c (bound_of q F only) bounds k) [ inl e ↦ subst (λ (z : Bound). z.atom < length q.atoms) e lF | inr n ↦ bound c n ]
+      more : F < length q.atoms → (only : List Within) → (c : Bound) → Contains (bound_of q bounds F only ∷ bounds) c → c.atom < length q.atoms
+      more lF only c k = elim (mem-cases c (bound_of q bounds F only) bounds k) [ inl e ↦ subst (λ (z : Bound). z.atom < length q.atoms) e lF | inr n ↦ bound c n ]
 
 pub sql_is_spread : SqlIsSpread
 sql_is_spread q plan is_plan s m = elim (made-spread q plan (plan-atoms q plan (plan-eliminates q (whole q) plan is_plan)) 1 (answer_variables q) [] (λ b n. absurd (mem-nil b n)) [] s m) [

@@ -23,7 +23,7 @@ use Rattle.cqa_model.proofs.Fitting.{FitsTables}
 use Rattle.cqa_model.proofs.Labels.{label-linked}
 use Rattle.cqa_model.proofs.Reification.{kept-stored, placed}
 use Rattle.cqa_model.proofs.Views.{value-linked, view-in_range, taken-in_range}
-use Rattle.plan_sql.proofs.Suiting.{variable, Suits}
+use Rattle.sql_steps.proofs.Suiting.{variable, Suits}
 
 module _ (q : Query) (row : List Value) where
   -- an assignment has the values of the candidate and of the rows taken

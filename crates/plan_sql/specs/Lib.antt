@@ -1,4 +1,2 @@
-pub mod Shapes
-pub mod Variables
 pub mod Statement
 pub mod Laws

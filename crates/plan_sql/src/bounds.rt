@@ -1,53 +1,33 @@
 //! The atoms before an atom, and the keys that those with few rows ask for.
 
-ghost use Rattle.std.specs.Prelude.{◌≡◌, ◌++◌, ◌∷◌, ◌<◌, ◌&&◌, ◌||◌, ◌==◌, [], IfOk, OnOk, All, Some, length, map, not, slice_index};
-ghost use Rattle.std.specs.List.{list_any, range_with_len};
-ghost use Rattle.cqa_model.specs.declared.query.Cond.{Cond as CondValue};
-ghost use Rattle.plan_sql.specs.declared.part.Bound.{Bound as BoundValue};
-ghost use Rattle.plan_sql.specs.Variables.{key_variables, meets, variables_of};
-ghost use Rattle.plan_sql.specs.Statement.{asked_steps, asked_variables, bound_for, bound_of, cell_of, is_bound, is_value_test, keys_in, only_of, rows_of_atom};
+ghost use Rattle.std.specs.Prelude.{◌≡◌, ◌++◌, ◌∷◌, ◌<◌, ◌&&◌, ◌||◌, [], IfOk, OnOk, All, Some, length, map, slice_index};
+ghost use Rattle.std.specs.List.{range_with_len};
+ghost use Rattle.plan_sql.specs.declared.bounds.Bound.{Bound as BoundValue};
+ghost use Rattle.sql_steps.specs.Variables.{key_variables, meets, variables_of};
+ghost use Rattle.sql_steps.specs.Steps.{cell_of, rows_of_atom};
+ghost use Rattle.plan_sql.specs.Statement.{asked_steps, asked_variables, bound_for, bound_of, is_bound, keys_in, only_of};
 
-use crate::fitting::{Known, cell_of};
+use crate::few::has_rare_test;
 use crate::levels::push_step;
-use crate::lists::{ascending, meets, within};
-use crate::part::Bound;
-use crate::selects::{keyed, rows_of_atom};
-use crate::shape::Shape;
-use cqa_model::{Cond, Op};
 use cqa_value::{Items, NoMemory};
+use sql_steps::{Known, Shape, ascending, cell_of, keyed, meets, rows_of_atom, within};
 use sql_text::{Body, Step, StepKind, Within};
 use std::alloc::Global;
 
-/// Whether a condition is a test of an atom for one value.
-pub(crate) fn is_value_test(atom: u32, cond: &Cond) -> bool
-    ensures { result ≡ is_value_test atom cond.now }
-{
-    match cond {
-        Cond::Join { .. } => false,
-        Cond::Test { col, op, .. } => match op {
-            Op::Eq => col.atom == atom,
-            Op::Ne | Op::Lt | Op::Le | Op::Gt | Op::Ge => false,
-        },
-    }
-}
-
-/// Whether one of these conditions is a test of an atom for one value.
-pub(crate) fn has_value_test(atom: u32, conds: &[Cond]) -> bool
-    ensures { result ≡ list_any (λ (k : CondValue). is_value_test atom k) conds.now }
-{
-    for cond in conds {
-        if is_value_test(atom, cond) {
-            return true;
-        }
-    }
-    false
+/// An atom before others: the columns whose values are in steps, and whether its rows are few: few are taken to meet a test of
+/// it, or there are such columns.
+#[derive(Drop)]
+pub(crate) struct Bound {
+    pub atom: u32,
+    pub only: Items<Within>,
+    pub few: bool,
 }
 
 /// Whether an atom has few rows.
-fn is_bound(shape: &Shape<'_>, atom: u32, only: &[Within]) -> bool
-    ensures { result ≡ is_bound shape.now.query.now atom only.now }
+fn is_bound(shape: &Shape<'_>, bounds: &[Bound], atom: u32, only: &[Within]) -> bool
+    ensures { result ≡ is_bound shape.now.query.now bounds.now atom only.now }
 {
-    !only.is_empty() || has_value_test(atom, shape.query.conds.as_slice())
+    !only.is_empty() || has_rare_test(shape, bounds, atom)
 }
 
 impl Bound {
@@ -83,9 +63,9 @@ fn append_next(
     only: &[Within],
     list: &mut Items<Bound>,
 ) -> Result<(), NoMemory>
-    ensures { OnOk result (list.new ≡ list.old ++ bound_of shape.now.query.now atom only.now ∷ bounds.now) }
+    ensures { OnOk result (list.new ≡ list.old ++ bound_of shape.now.query.now bounds.now atom only.now ∷ bounds.now) }
 {
-    let few = is_bound(shape, atom, only);
+    let few = is_bound(shape, bounds, atom, only);
     let only = Items::from_slice(alloc, only)?;
     list.push(Bound { atom, only, few })?;
     append_bounds(alloc, bounds, list)
@@ -99,7 +79,7 @@ pub(crate) fn next_bounds(
     atom: u32,
     only: &[Within],
 ) -> Result<Items<Bound>, NoMemory>
-    ensures { IfOk result (λ list. list ≡ bound_of shape.now.query.now atom only.now ∷ bounds.now) }
+    ensures { IfOk result (λ list. list ≡ bound_of shape.now.query.now bounds.now atom only.now ∷ bounds.now) }
 {
     let mut list = Items::new(alloc);
     match append_next(alloc, shape, bounds, atom, only, &mut list) {

@@ -1,41 +1,129 @@
-//! Few blocks of an atom can hold: where a test is for one value, and where a part holds in few contexts.
+//! Tests that few rows are taken to meet, and atoms few blocks of which can hold: where there is such a test, and where a part
+//! holds in few contexts.
 
 ghost use Rattle.std.specs.Prelude.{◌≡◌, ◌++◌, ◌∷◌, ◌<◌, ◌||◌, [], IfOk, OnOk, if◌then◌else◌, flat_map, length, map, slice_index};
 ghost use Rattle.std.specs.List.{filter, list_any, range_with_len};
 ghost use Rattle.cqa_model.specs.declared.query.Cond.{Cond as CondValue};
-ghost use Rattle.plan_sql.specs.declared.part.Part.{Part as PartValue};
-ghost use Rattle.plan_sql.specs.Variables.{has, variables_of};
-ghost use Rattle.plan_sql.specs.Statement.{cell_of, fitted, has_few, is_other_test, is_value_test, part_only, rare_only};
+ghost use Rattle.sql_steps.specs.declared.part.Part.{Part as PartValue};
+ghost use Rattle.sql_steps.specs.Variables.{has, variables_of};
+ghost use Rattle.sql_steps.specs.Steps.{cell_of, fitted};
+ghost use Rattle.plan_sql.specs.Statement.{has_few, is_few_test, is_rare_test, is_test_elsewhere, is_tested_alone, is_tested_elsewhere, is_value_test, part_only, rare_only};
 
-use crate::bounds::{has_value_test, is_value_test};
-use crate::fitting::{Known, cell_of};
-use crate::lists::has;
-use crate::part::Part;
-use crate::selects::row_fit;
-use crate::shape::Shape;
-use cqa_model::Cond;
+use crate::bounds::Bound;
+use cqa_model::{Cond, Op};
 use cqa_value::{Items, NoMemory};
+use sql_steps::{Known, Part, Shape, cell_of, has, row_fit};
 use sql_text::Within;
 use std::alloc::Global;
 
-/// Whether a condition is a test for one value, of a column of an atom outside its key.
-fn is_other_test(shape: &Shape<'_>, atom: u32, cond: &Cond) -> bool
-    requires { atom < length shape.now.query.now.atoms }
-    ensures { result ≡ is_other_test shape.now.query.now atom cond.now }
+/// Whether a condition is a test of an atom for one value.
+fn is_value_test(atom: u32, cond: &Cond) -> bool
+    ensures { result ≡ is_value_test atom cond.now }
 {
     match cond {
         Cond::Join { .. } => false,
-        Cond::Test { col, .. } => is_value_test(atom, cond) && !has(shape.key(atom), col.col),
+        Cond::Test { col, op, .. } => match op {
+            Op::Eq => col.atom == atom,
+            Op::Ne | Op::Lt | Op::Le | Op::Gt | Op::Ge => false,
+        },
+    }
+}
+
+/// Whether one of these conditions is a test of an atom for one value.
+fn has_value_test(atom: u32, conds: &[Cond]) -> bool
+    ensures { result ≡ list_any (λ (k : CondValue). is_value_test atom k) conds.now }
+{
+    for cond in conds {
+        if is_value_test(atom, cond) {
+            return true;
+        }
+    }
+    false
+}
+
+/// Whether a condition is a test of another atom.
+fn is_test_elsewhere(atom: u32, cond: &Cond) -> bool
+    ensures { result ≡ is_test_elsewhere atom cond.now }
+{
+    match cond {
+        Cond::Join { .. } => false,
+        Cond::Test { col, .. } => col.atom != atom,
+    }
+}
+
+/// Whether another atom has a test.
+fn is_tested_elsewhere(shape: &Shape<'_>, atom: u32) -> bool
+    ensures { result ≡ is_tested_elsewhere shape.now.query.now atom }
+{
+    for cond in shape.query.conds.as_slice() {
+        if is_test_elsewhere(atom, cond) {
+            return true;
+        }
+    }
+    false
+}
+
+/// Whether no other atom has a test, and none is before this one, of which these are.
+fn is_tested_alone(shape: &Shape<'_>, bounds: &[Bound], atom: u32) -> bool
+    ensures { result ≡ is_tested_alone shape.now.query.now bounds.now atom }
+{
+    bounds.is_empty() && !is_tested_elsewhere(shape, atom)
+}
+
+/// Whether a condition is a test of an atom that few rows are taken to meet: one for one value, and a range where it alone has tests.
+fn is_rare_test(shape: &Shape<'_>, bounds: &[Bound], atom: u32, cond: &Cond) -> bool
+    ensures { result ≡ is_rare_test shape.now.query.now bounds.now atom cond.now }
+{
+    match cond {
+        Cond::Join { .. } => false,
+        Cond::Test { col, op, .. } => match op {
+            Op::Eq => col.atom == atom,
+            Op::Ne => false,
+            Op::Lt | Op::Le | Op::Gt | Op::Ge => {
+                col.atom == atom && is_tested_alone(shape, bounds, atom)
+            }
+        },
+    }
+}
+
+/// Whether few rows of an atom are taken to meet some test of it.
+pub(crate) fn has_rare_test(shape: &Shape<'_>, bounds: &[Bound], atom: u32) -> bool
+    ensures { result ≡ list_any (λ (k : CondValue). is_rare_test shape.now.query.now bounds.now atom k) shape.now.query.now.conds }
+{
+    for cond in shape.query.conds.as_slice() {
+        if is_rare_test(shape, bounds, atom, cond) {
+            return true;
+        }
+    }
+    false
+}
+
+/// Whether a condition is a test of a column of an atom outside its key: for one value, or, where parts hang on the atom, one that
+/// few rows are taken to meet.
+fn is_few_test(shape: &Shape<'_>, bounds: &[Bound], atom: u32, parts: &[Part], cond: &Cond) -> bool
+    requires { atom < length shape.now.query.now.atoms }
+    ensures { result ≡ is_few_test shape.now.query.now bounds.now atom parts.now cond.now }
+{
+    match cond {
+        Cond::Join { .. } => false,
+        Cond::Test { col, .. } => {
+            let is_few = if parts.is_empty() {
+                is_value_test(atom, cond)
+            } else {
+                is_rare_test(shape, bounds, atom, cond)
+            };
+            is_few && !has(shape.key(atom), col.col)
+        }
     }
 }
 
 /// Whether there is such a test.
-fn has_other_test(shape: &Shape<'_>, atom: u32) -> bool
+fn has_few_test(shape: &Shape<'_>, bounds: &[Bound], atom: u32, parts: &[Part]) -> bool
     requires { atom < length shape.now.query.now.atoms }
-    ensures { result ≡ list_any (λ (k : CondValue). is_other_test shape.now.query.now atom k) shape.now.query.now.conds }
+    ensures { result ≡ list_any (λ (k : CondValue). is_few_test shape.now.query.now bounds.now atom parts.now k) shape.now.query.now.conds }
 {
     for cond in shape.query.conds.as_slice() {
-        if is_other_test(shape, atom, cond) {
+        if is_few_test(shape, bounds, atom, parts, cond) {
             return true;
         }
     }
@@ -62,11 +150,11 @@ pub(crate) fn is_rare(shape: &Shape<'_>, atom: u32, parts: &[Part]) -> bool
 }
 
 /// Whether few blocks of an atom can hold.
-pub(crate) fn has_few(shape: &Shape<'_>, atom: u32, parts: &[Part]) -> bool
+pub(crate) fn has_few(shape: &Shape<'_>, bounds: &[Bound], atom: u32, parts: &[Part]) -> bool
     requires { atom < length shape.now.query.now.atoms }
-    ensures { result ≡ has_few shape.now.query.now atom parts.now }
+    ensures { result ≡ has_few shape.now.query.now bounds.now atom parts.now }
 {
-    has_other_test(shape, atom) || has_rare(parts)
+    has_few_test(shape, bounds, atom, parts) || has_rare(parts)
 }
 
 /// Appends a column of an atom whose values are in a column of a part's contexts, if they share its variable.

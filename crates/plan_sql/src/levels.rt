@@ -5,20 +5,19 @@ ghost use Rattle.std.specs.List.{list_any};
 ghost use Rattle.cqa_model.specs.declared.query.Cond.{Cond as CondValue};
 ghost use Rattle.sql_text.specs.declared.syntax.Body.TheVariants.{Distinct as DistinctBody, Grouped as GroupedBody};
 ghost use Rattle.sql_text.specs.declared.syntax.StepKind.TheVariants.{Blocks as BlocksKind, Holds as HoldsKind};
-ghost use Rattle.plan_sql.specs.declared.part.Bound.{Bound as BoundValue};
-ghost use Rattle.plan_sql.specs.declared.part.Part.{Part as PartValue};
-ghost use Rattle.plan_sql.specs.Variables.{ascending, key_variables, variables_of};
-ghost use Rattle.plan_sql.specs.Statement.{are_single, block_group, block_of, context_group, context_of, few_step, guard_for, guarded, hangs, is_guarded, is_value_test, keys_in, level_steps, rows_of_atom, step, with_level};
+ghost use Rattle.plan_sql.specs.declared.bounds.Bound.{Bound as BoundValue};
+ghost use Rattle.sql_steps.specs.declared.part.Part.{Part as PartValue};
+ghost use Rattle.sql_steps.specs.Variables.{ascending, key_variables, variables_of};
+ghost use Rattle.sql_steps.specs.Steps.{are_single, block_group, context_group, hangs, rows_of_atom};
+ghost use Rattle.plan_sql.specs.Statement.{block_of, context_of, few_step, guard_for, guarded, is_guarded, is_value_test, keys_in, level_steps, step, with_level};
 
-use crate::bounds::keys_in;
-use crate::children::{append_beside, are_single, hanging};
+use crate::bounds::{Bound, keys_in};
 use crate::few::{few_only, has_few, is_rare};
-use crate::groups::{block_group, context_group};
-use crate::lists::{ascending, covers, joined, within, without};
-use crate::part::{Bound, Part};
-use crate::selects::rows_of_atom;
-use crate::shape::Shape;
 use cqa_value::{Items, NoMemory};
+use sql_steps::{
+    Part, Shape, append_beside, are_single, ascending, block_group, context_group, covers, hanging,
+    joined, rows_of_atom, within, without,
+};
 use sql_text::{Body, Select, Step, StepKind, Within};
 use std::alloc::Global;
 
@@ -307,7 +306,7 @@ fn push_level(
 {
     if !single {
         push_contexts(alloc, shape, level, context, parts, steps)
-    } else if has_few(shape, level.atom, parts) {
+    } else if has_few(shape, level.bounds, level.atom, parts) {
         push_few_groups(alloc, shape, level, context, parts, steps)
     } else {
         push_groups(alloc, shape, level, context, parts, steps)

@@ -3,23 +3,21 @@
 ghost use Rattle.std.specs.Prelude.{◌≡◌, ◌++◌, ◌+◌, ◌^◌, ◌∷◌, ◌<◌, ◌≤◌, [], IfOk, OnOk, All, length, map};
 ghost use Rattle.cqa_model.specs.Plan.{IsPlanOf};
 ghost use Rattle.sql_text.specs.declared.syntax.Child.{Child as ChildValue};
-ghost use Rattle.plan_sql.specs.declared.part.Bound.{Bound as BoundValue};
+ghost use Rattle.plan_sql.specs.declared.bounds.Bound.{Bound as BoundValue};
 ghost use Rattle.sql_text.specs.Named.{IsNamed};
 ghost use Rattle.plan_sql.specs.Laws.{IsExactSql, ShowsOnce};
-ghost use Rattle.plan_sql.specs.Shapes.{AreAtoms};
-ghost use Rattle.plan_sql.specs.Variables.{answer_variables, variables_of};
-ghost use Rattle.plan_sql.specs.Statement.{cells_of, children_of, known_of, last_select, made_behind, made_later, made_of, on_of, sql_of};
+ghost use Rattle.sql_steps.specs.Shapes.{AreAtoms};
+ghost use Rattle.sql_steps.specs.Variables.{answer_variables, variables_of};
+ghost use Rattle.sql_steps.specs.Steps.{cells_of, children_of, known_of, on_of};
+ghost use Rattle.plan_sql.specs.Statement.{last_select, made_behind, made_later, made_of, sql_of};
 
-use crate::bounds::{next_bounds, push_asked};
-use crate::children::{Joined, joined_parts};
-use crate::fitting::cells_of;
+use crate::bounds::{Bound, next_bounds, push_asked};
 use crate::levels::{Level, with_level};
-use crate::lists::joined;
-use crate::part::{Bound, Part};
-use crate::selects::{append_listed, append_on};
-use crate::shape::{Shape, shape_of};
 use cqa_model::{Plan, Query};
 use cqa_value::{Items, NoMemory};
+use sql_steps::{
+    Joined, Part, Shape, append_listed, append_on, cells_of, joined, joined_parts, shape_of,
+};
 use sql_text::{Cmp, Select, Sql, Step};
 use std::alloc::Global;
 

@@ -3,7 +3,7 @@ use Rattle.std.proofs.lemmas.Grind.{common_steps}
 use Rattle.std.proofs.lemmas.List.FromFn.{map-range_with_len_more}
 use Rattle.std.specs.List.{slice_index}
 use Rattle.sql_text.specs.declared.syntax.Within.{Within}
-use Rattle.plan_sql.specs.Statement.{cell_of}
+use Rattle.sql_steps.specs.Steps.{cell_of}
 use Rattle.plan_sql.proofs.bounds.only_in.Goals as goal
 
 pub loop-column-preserved : goal.loop-column-preserved

@@ -1,6 +1,6 @@
 use Rattle.std.proofs.Common.{◌≡◌, map}
 use Rattle.std.specs.List.{range_with_len, slice_index}
-use Rattle.plan_sql.specs.Statement.{cell_of}
+use Rattle.sql_steps.specs.Steps.{cell_of}
 use Rattle.plan_sql.proofs.bounds.only_in.Given as goal
 
 -- those so far

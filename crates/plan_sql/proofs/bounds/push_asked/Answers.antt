@@ -1,6 +1,6 @@
 use Rattle.std.proofs.Common.{◌≡◌, ◌∙◌, ◌++◌, ◌&&◌, Some, ap, sym}
 use Rattle.std.proofs.lemmas.Result.{on_ok_weaker}
-use Rattle.plan_sql.specs.Variables.{key_variables, meets, variables_of}
+use Rattle.sql_steps.specs.Variables.{key_variables, meets, variables_of}
 use Rattle.plan_sql.specs.Statement.{asked_steps, bound_for}
 use Rattle.plan_sql.proofs.Steps.{bound-found}
 use Rattle.plan_sql.proofs.bounds.push_asked.Goals as goal

@@ -1,6 +1,6 @@
 use Rattle.std.proofs.Common.{◌≡◌, false, take}
 use Rattle.std.specs.List.{list_any}
-use Rattle.plan_sql.specs.declared.part.Part.{Part}
+use Rattle.sql_steps.specs.declared.part.Part.{Part}
 use Rattle.plan_sql.proofs.few.has_rare.Given as goal
 
 -- those so far

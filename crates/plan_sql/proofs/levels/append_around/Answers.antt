@@ -3,9 +3,10 @@ use Rattle.std.specs.List.{filter, list_any}
 use Rattle.std.proofs.lemmas.List.{append_assoc}
 use Rattle.std.proofs.lemmas.Result.{on_ok_weaker}
 use Rattle.sql_text.specs.declared.syntax.Step.{Step}
-use Rattle.plan_sql.specs.declared.part.Part.{Part}
-use Rattle.plan_sql.specs.Variables.{key_variables, variables_of}
-use Rattle.plan_sql.specs.Statement.{are_single, context_of, hangs, is_value_test, level_steps}
+use Rattle.sql_steps.specs.declared.part.Part.{Part}
+use Rattle.sql_steps.specs.Variables.{key_variables, variables_of}
+use Rattle.sql_steps.specs.Steps.{are_single, hangs}
+use Rattle.plan_sql.specs.Statement.{context_of, is_value_test, level_steps}
 use Rattle.plan_sql.proofs.levels.append_around.Goals as goal
 
 pub returns-clause-steps : goal.returns-clause-steps

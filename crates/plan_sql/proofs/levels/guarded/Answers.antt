@@ -1,7 +1,8 @@
 use Rattle.std.proofs.Common.{◌≡◌, ◌∙◌, [], Some, ap, sym}
 use Rattle.std.proofs.lemmas.Result.{IfOk-weaker}
-use Rattle.plan_sql.specs.Variables.{covers, variables_of}
-use Rattle.plan_sql.specs.Statement.{guard_for, guarded, rows_of_atom}
+use Rattle.sql_steps.specs.Variables.{covers, variables_of}
+use Rattle.sql_steps.specs.Steps.{rows_of_atom}
+use Rattle.plan_sql.specs.Statement.{guard_for, guarded}
 use Rattle.plan_sql.proofs.Steps.{guard-found, guard-next}
 use Rattle.plan_sql.proofs.levels.guarded.Goals as goal
 

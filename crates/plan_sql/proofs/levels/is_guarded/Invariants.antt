@@ -1,7 +1,7 @@
 use Rattle.std.proofs.Common.{◌≡◌, false, take}
 use Rattle.std.specs.List.{list_any}
-use Rattle.plan_sql.specs.declared.part.Bound.{Bound}
-use Rattle.plan_sql.specs.Variables.{covers, variables_of}
+use Rattle.plan_sql.specs.declared.bounds.Bound.{Bound}
+use Rattle.sql_steps.specs.Variables.{covers, variables_of}
 use Rattle.plan_sql.proofs.levels.is_guarded.Given as goal
 
 -- those so far

@@ -1,6 +1,6 @@
 use Rattle.std.proofs.Common.{◌≡◌, ◌++◌, take}
 use Rattle.std.specs.List.{flat_map}
-use Rattle.plan_sql.specs.declared.part.Part.{Part}
+use Rattle.sql_steps.specs.declared.part.Part.{Part}
 use Rattle.plan_sql.proofs.levels.part_variables.Given as goal
 
 -- those so far

@@ -1,5 +1,0 @@
-use Rattle.plan_sql.proofs.Steps.{columns-within}
-use Rattle.plan_sql.proofs.fitting.Fitting.fit_on.Goals as goal
-
-pub see_all-requires : goal.see_all-requires
-see_all-requires c = columns-within c.args.shape.now.query.now c.args.atom c.of.result.now c.args.columns.now c.of.ensures c.requires.columns

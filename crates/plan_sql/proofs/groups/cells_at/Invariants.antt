@@ -1,7 +1,0 @@
-use Rattle.std.proofs.Common.{◌≡◌, take}
-use Rattle.plan_sql.specs.Statement.{cells_at}
-use Rattle.plan_sql.proofs.groups.cells_at.Given as goal
-
--- those so far
-abbrev pub invariant-loop-column : goal.invariant-loop-column
-invariant-loop-column l = l.cells ≡ cells_at l.place (take l.column-index l.columns)

@@ -1,7 +1,0 @@
-use Rattle.std.proofs.Common.{◌≡◌, true, take}
-use Rattle.plan_sql.specs.Variables.{covers}
-use Rattle.plan_sql.proofs.lists.covers.Given as goal
-
--- those so far
-abbrev pub invariant-loop-u : goal.invariant-loop-u
-invariant-loop-u l = covers l.vs (take l.u-index l.us) ≡ true

@@ -1,7 +1,0 @@
-use Rattle.std.proofs.Common.{◌≡◌, false, take}
-use Rattle.plan_sql.specs.Variables.{has}
-use Rattle.plan_sql.proofs.lists.has.Given as goal
-
--- not among those so far
-abbrev pub invariant-loop-u : goal.invariant-loop-u
-invariant-loop-u l = has (take l.u-index l.vs) l.v ≡ false

@@ -1,7 +1,0 @@
-use Rattle.std.proofs.Common.{◌≡◌, false, take}
-use Rattle.plan_sql.specs.Variables.{meets}
-use Rattle.plan_sql.proofs.lists.meets.Given as goal
-
--- none of those so far
-abbrev pub invariant-loop-u : goal.invariant-loop-u
-invariant-loop-u l = meets (take l.u-index l.us) l.vs ≡ false

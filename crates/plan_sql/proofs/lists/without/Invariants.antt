@@ -1,7 +1,0 @@
-use Rattle.std.proofs.Common.{◌≡◌, take}
-use Rattle.plan_sql.specs.Variables.{without}
-use Rattle.plan_sql.proofs.lists.without.Given as goal
-
--- those so far
-abbrev pub invariant-loop-u : goal.invariant-loop-u
-invariant-loop-u l = l.list ≡ without (take l.u-index l.us) l.vs

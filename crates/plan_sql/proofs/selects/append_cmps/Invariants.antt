@@ -1,6 +1,0 @@
-use Rattle.std.proofs.Common.{◌≡◌, ◌++◌, take}
-use Rattle.plan_sql.proofs.selects.append_cmps.Given as goal
-
--- those so far
-abbrev pub invariant-loop-cmp : goal.invariant-loop-cmp
-invariant-loop-cmp l = l.all ≡ l.fn.all ++ take l.cmp-index l.cmps

@@ -1,0 +1,3 @@
+pub mod Shapes
+pub mod Variables
+pub mod Steps
