@@ -1,29 +1,24 @@
 -- The rows that a repair without a witness had to choose hit each witness, and few of them do.
 use Rattle.std.proofs.Common.{◌≡◌, ◌<◌, ℕ, List, [], length, get_or, Option, Some, None, sym, subst}
-use native.Mathlib.Decide.{ℕ_discrete}
-use Rattle.cqa_value.proofs.Words.{dec_both, dec_one_below, member_place}
+use Rattle.cqa_value.proofs.Words.{dec_one_below, member_place}
 use Rattle.cqa_model.specs.declared.query.Query.{Query}
 use Rattle.cqa_model.specs.declared.query.RowId.{RowId}
-use Rattle.cqa_model.specs.Database.{Table, keys_of}
+use Rattle.cqa_model.specs.Database.{Table}
 use Rattle.cqa_model.proofs.Classic.{choose}
-use Rattle.cqa_model.proofs.Repairs.{dec_shares}
-use Rattle.cqa_model.proofs.Values.{dec_not}
 use Rattle.existence_law.proofs.Rejecting.{rejections_exist}
 use Rattle.join_access.specs.Listing.{AreAllNames, no_name}
 use Rattle.join_witness.proofs.Listing.{all_names}
 use Rattle.row_witnesses.specs.Columns.{place_at}
-use Rattle.rows_against.specs.Against.{row_named, IsAgainst}
+use Rattle.rows_against.specs.Against.{IsAgainst}
 use Rattle.rows_against.specs.Chosen.{AreChosenAgainst}
 use Rattle.rows_against.specs.Hits.{IsRival, IsHitBy}
 use Rattle.rows_against.specs.Numbers.{row_name, AreHitsAt, AreHits}
 use Rattle.rows_against.specs.Parts.{kept_name_at}
 use Rattle.rows_against.proofs.Ending.{hits_from, each_hit, against}
 use Rattle.rows_against.proofs.Rejecting.{rejecting_chosen}
+use Rattle.rows_against.proofs.Hitting.{dec_rival}
 use Rattle.against_law.specs.Laws.{RowsAgainstExist}
 use Rattle.against_law.proofs.Choosing.{fewest}
-
-dec_rival : (db : List Table) (a b : RowId) → Dec (IsRival db a b)
-dec_rival db a b = dec_both (dec_both (ℕ_discrete a.table b.table) (dec_shares (get_or (keys_of db) a.table []) (row_named db a) (row_named db b))) (dec_not (ℕ_discrete a.place b.place))
 
 -- the number of the one that hits a row, if one does
 hit_by : (db : List Table) (names : List RowId) (own : RowId) → (found : Option ℕ) × IsHitBy db names own found

@@ -142,7 +142,7 @@ outcome (suc budget) n cs live top are range unsat =
     go us under (inl conflict) next = inl (at_once n cs live top are range unsat (suc budget) us under conflict)
     go us under (inr closed) next = let b = a_clause n cs live top are range unsat us under closed in goes_on n cs live top are range unsat b budget (next b)
 
-all_live : (cs : List (List Lit)) (top : ℕ) → length cs ≡ top → AreLive (numbered cs) top cs
+pub all_live : (cs : List (List Lit)) (top : ℕ) → length cs ≡ top → AreLive (numbered cs) top cs
 all_live cs top e c m = let p = member_place cs c c m in let l = p.1 in (suc p.0, omega (arith, l, e), slice_get_read cs (length cs) p.0 c refl p.1 (sym p.2))
 
 pub budgets_decide : BudgetsDecide

@@ -28,14 +28,11 @@ use Rattle.table_blocks.proofs.Sharing.{same_decides, consistent_within}
 use Rattle.table_changes.specs.Changes.{is_among, count_new, limit_fault, strict_key_fault, insert_fault, Inserts}
 use Rattle.table_changes.specs.Taken.{first_other, taken_by, taken_fault}
 use Rattle.table_changes.proofs.Counting.{counted}
+use Rattle.table_changes.proofs.FirstSharing.{first_of_filter}
 use Rattle.table_changes.proofs.Membership.{among, not_among}
 use Rattle.std.proofs.lemmas.List.{append-nil}
 
 -- ---- rows of which none shares its key with another one
-
-no_first : {A : Type 0} (xs : List A) → slice_get xs 0 ≡ None → (x : A) → Contains xs x → ⊥
-no_first [] e x m = mem-nil x m
-no_first (y ∷ xs) e x m = none-some y (sym e)
 
 module _ (key : List ℕ) where
   abbrev rival : List Value → List Value → Bool
@@ -51,7 +48,7 @@ module _ (key : List ℕ) where
     where
       go : (b : Bool) → row_eq row x ≡ b → row ≡ x
       go true e = (row_decides row x).0 e
-      go false e = absurd (no_first (filter (rival row) before) none x ((Contains-filter (rival row) before x).1 (m, and_from (same_key key row x) (not (row_eq row x)) ((same_decides key row x).1 shares) (not_from_false (row_eq row x) e))))
+      go false e = absurd (first_of_filter (filter (rival row) before) none x ((Contains-filter (rival row) before x).1 (m, and_from (same_key key row x) (not (row_eq row x)) ((same_decides key row x).1 shares) (not_from_false (row_eq row x) e))))
 
   one_more : (before : List (List Value)) (row : List Value) → AreConsistent key before → first_other key before row ≡ None → AreConsistent key (before ++ row ∷ [])
   one_more before row consistent none x y mx my shares = go (Contains-append_cases before (row ∷ []) x mx) (Contains-append_cases before (row ∷ []) y my)

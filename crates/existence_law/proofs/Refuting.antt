@@ -15,7 +15,8 @@ use Rattle.cnf_form.specs.Literals.{literals, positive, negative, negated, oppos
 use Rattle.cnf_form.specs.Logs.{Live, numbered, with_clause, AdditionPasses, HintsPass, StepsPass, added}
 use Rattle.cnf_form.proofs.Lits.{opposite-opposite, opposites-twice, equal_or_not}
 use Rattle.cdcl.specs.Outcomes.{AreConsecutive}
-use Rattle.row_lists.proofs.Numbers.{place_of}
+use Rattle.budget_law.proofs.Deciding.{AreLive}
+use Rattle.budget_law.proofs.Spending.{all_live}
 use Rattle.existence_law.specs.Refutations.{RefutationsExist}
 
 -- ---- steps that add a clause
@@ -80,10 +81,6 @@ dec_has path l = dec_by (λ p. subst (Contains path) (sym p.2) p.1) (λ m. (l, m
 -- the opposites of literals are all denied by them
 denied : (path : List Lit) → AllDenied path (map opposite path)
 denied path m h = let p = Contains-from_map opposite path m h in subst (Contains path) (sym (opposite-opposite p.0) ∙ ap opposite p.2) p.1
-
--- every clause of a list is live, under an id up to a number
-abbrev AreLive : Live → ℕ → List (List Lit) → Type 0
-AreLive live top cs = (c : List Lit) → Contains cs c → (id : ℕ) × (id ≤ top) × (live id ≡ Some c)
 
 live_after : (live : Live) (top : ℕ) (cs : List (List Lit)) (b : List Lit) (d : Derives live top b) → AreLive live top cs → AreLive d.after d.last cs
 live_after live top cs b d h c m = let p = h c m in (p.0, (let l = p.1 in let g = d.grows in omega (arith, l, g)), d.stays p.0 p.1 ∙ p.2)
@@ -187,9 +184,6 @@ above_all f [] = (0, λ x m. absurd (mem-nil x m))
 above_all f (y ∷ xs) =
     let r = above_all f xs in
     (suc (f y + r.0), λ x m. elim (mem-cases x y xs m) [ inl e ↦ (let s = ap f e in omega (arith, s)) | inr h ↦ (let l = r.1 x h in omega (arith, l)) ])
-
-all_live : (cs : List (List Lit)) (top : ℕ) → length cs ≡ top → AreLive (numbered cs) top cs
-all_live cs top e c m = let p = place_of cs c m in (suc p.0, (let l = p.1 in omega (arith, l, e)), p.2)
 
 pub refutations_exist : RefutationsExist
 refutations_exist cnf unsat =

@@ -20,7 +20,7 @@ pub record WitnessesAreListed : Type 0 where
   pub names : (db : List Table) (q : Query) (row : List Value) → (all : List (List RowId)) × AreAllNames q db row all
   pub count : (db : List Table) (q : Query) (row : List Value) → HasTooMany q db row ⊎ (HasTooMany q db row → ⊥)
 
--- A row has a formula, with numbered clauses.
+-- A row has a formula, and clauses over numbers that are those of this formula.
 pub record FormulasExist : Type 0 where
   pub formula : (db : List Table) (q : Query) (row : List Value) → (f : Formula) × IsFormula q db row f
   pub encoded : (db : List Table) (q : Query) (row : List Value) → (e : Encoded) × IsEncoded q db row e

@@ -26,7 +26,7 @@ use Rattle.rows_against.specs.Hits.{IsRival, Hits, AreHit}
 use Rattle.rows_against.specs.Laws.{AgainstIsUncertain, RowsExcludeByHits}
 use Rattle.rows_against.proofs.Own.{IsOwn, own_of, own_at, named, row_read, row_there, kept_together}
 
-dec_rival : (db : List Table) (a b : RowId) → Dec (IsRival db a b)
+pub dec_rival : (db : List Table) (a b : RowId) → Dec (IsRival db a b)
 dec_rival db a b = dec_both (dec_both (ℕ_discrete a.table b.table) (dec_shares (get_or (keys_of db) a.table []) (row_named db a) (row_named db b))) (dec_not (ℕ_discrete a.place b.place))
 
 dec_hits : (db : List Table) (name : RowId) (ids : List RowId) → Dec (Hits db name ids)

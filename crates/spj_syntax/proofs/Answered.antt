@@ -20,7 +20,8 @@ use Rattle.spj_syntax.specs.Texts.{IsFormOf}
 use Rattle.spj_syntax.specs.Written.{IsWrittenAs}
 use Rattle.spj_syntax.proofs.Trees.{statement_same}
 
-fault_not : (p : Shape) (ls rest : List Lexeme) → FirstFault p ls rest → Generates p ls → ⊥
+-- lexemes that a shape generates have no first fault
+pub fault_not : (p : Shape) (ls rest : List Lexeme) → FirstFault p ls rest → Generates p ls → ⊥
 fault_not p ls [] f g = f.stuck (subst (λ z. Generates p z) (f.split ∙ append-nil f.front) g)
 fault_not p ls (t ∷ rest) f g = f.stuck (rest, subst (λ z. Generates p z) (f.split ∙ sym (append_assoc f.front (t ∷ []) rest)) g)
 

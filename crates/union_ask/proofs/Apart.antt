@@ -25,8 +25,8 @@ use Rattle.part_search.specs.Parts.{AllFit}
 use Rattle.union_ask.specs.Apart.{AreApartFor, IsCandidateAt}
 use Rattle.union_ask.specs.Laws.{ApartDecide, CandidatesDecide}
 
-dec_loose : (q : Query) (t : ℕ) → Dec (HasLoose q t)
-dec_loose q t = dec_by (λ h. (h.0, (h.1, h.2.0, h.2.1))) (λ h. (h.0, h.1.0, (h.1.1, h.1.2)))
+pub dec_has_loose : (q : Query) (t : ℕ) → Dec (HasLoose q t)
+dec_has_loose q t = dec_by (λ h. (h.0, (h.1, h.2.0, h.2.1))) (λ h. (h.0, h.1.0, (h.1.1, h.1.2)))
     (dec_one_below (λ F. ((atom_at q F).table ≡ t) × ((atom_at q F).strict ≡ false)) (λ F. dec_both (ℕ_discrete (atom_at q F).table t) (Bool-discrete (atom_at q F).strict false)) (length q.atoms))
 
 -- what follows for an atom whose table isn't strict, or its table is strict
@@ -76,7 +76,7 @@ module _ (db : List Table) (d : Query) (parts : List Query) (row : List Value) (
     IsLoose t i = IsCandidate db (part_at i) row × HasLoose (part_at i) t
 
     dec_given : (t : ℕ) → Dec ((i : ℕ) × (i < length parts) × IsLoose t i)
-    dec_given t = dec_one_below (IsLoose t) (λ i. dec_both (dec_witness (part_at i) (stored db) row) (dec_loose (part_at i) t)) (length parts)
+    dec_given t = dec_one_below (IsLoose t) (λ i. dec_both (dec_witness (part_at i) (stored db) row) (dec_has_loose (part_at i) t)) (length parts)
 
     -- a repair of a table that each part with it has of which the row is a candidate, unless it is strict
     abbrev IsGood : ℕ → List (List Value) → Type 0

@@ -1,4 +1,4 @@
-mod Apart
+pub mod Apart
 mod Unions
 mod Framing
 mod Rejecting

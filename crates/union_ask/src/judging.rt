@@ -1,5 +1,5 @@
-//! What is found out of one candidate of a union: by what is known of its parts alone, or else by its formula. What is known of the
-//! parts is found out for all candidates at once, the first time that it may spare a search.
+//! What is found out of one candidate of a union: by what is known of its parts alone, by a short search, or by its whole formula.
+//! What is known of the parts is found out for all candidates at once, the first time that it may spare a search.
 
 ghost use Rattle.std.specs.Prelude.{◌≡◌, ◌≤◌, IfOk, IfSome, length};
 ghost use Rattle.join_access.specs.Listing.{names_of};
@@ -120,7 +120,7 @@ fn told(
     }
 }
 
-/// Are the known rows of the parts asked for before the formula of the candidate that was looked up last is made? They are where
+/// Whether the known rows of the parts are asked for before the formula of the candidate that was looked up last is made: where
 /// they are there already, where the parts that give it are apart, so that they may tell of it either way, where its formula is large,
 /// and where a short search would be the whole one.
 fn are_asked_first(parts: &BoundParts<'_>, search: &UnionSearch<'_>, witnesses: usize) -> bool

@@ -5,7 +5,7 @@ use Rattle.std.proofs.Math.Bool.{Bool-discrete}
 use Rattle.std.proofs.lemmas.Bool.{cases_order}
 use Rattle.std.proofs.lemmas.List.{get_or_default}
 use native.Mathlib.Decide.{ℕ_discrete, dec_lt}
-use Rattle.cqa_value.proofs.Words.{cases_le, dec_both, dec_one_below, is_yes, yes_of, of_yes, Contains-map, Contains-flat_map, Contains-range, Contains-filter}
+use Rattle.cqa_value.proofs.Words.{cases_le, dec_both, is_yes, yes_of, of_yes, Contains-map, Contains-flat_map, Contains-range, Contains-filter}
 use Rattle.cqa_model.specs.declared.query.Query.{Query}
 use Rattle.cqa_model.specs.Query.{atom_at}
 use Rattle.cqa_model.proofs.Classic.{find_in}
@@ -13,6 +13,7 @@ use Rattle.cqa_model.proofs.Values.{dec_by, dec_not}
 use Rattle.existence_law.proofs.Extremes.{first_among}
 use Rattle.parts_apart.specs.declared.shared.Shared.{Shared}
 use Rattle.parts_apart.specs.Apart.{IsPartAt, IsLooseAt, HasLoose, IsShared, AreApart, IsFirstShared}
+use Rattle.union_ask.proofs.Apart.{dec_has_loose}
 use Rattle.union_law.specs.Parts.{PartsAreDecided}
 
 -- by the first part, by the place of the table in it, and by the second part
@@ -42,9 +43,6 @@ before_trans s t u (inr (e, inr (d, l))) (inr (f, inr (g, k))) = inr (e ∙ f, i
 
 dec_loose : (q : Query) (F t : ℕ) → Dec (IsLooseAt q F t)
 dec_loose q F t = dec_by (λ p. (p.0, p.1.0, p.1.1)) (λ p. (p.0, (p.1, p.2))) (dec_both (dec_lt F (length q.atoms)) (dec_both (ℕ_discrete (atom_at q F).table t) (Bool-discrete (atom_at q F).strict false)))
-
-dec_has_loose : (q : Query) (t : ℕ) → Dec (HasLoose q t)
-dec_has_loose q t = dec_by (λ p. (p.0, p.2)) (λ p. (p.0, p.1.0, p.1)) (dec_one_below (λ F. IsLooseAt q F t) (λ F. dec_loose q F t) (length q.atoms))
 
 -- a query stands for a part that isn't there
 module _ (d : Query) (parts : List Query) where
