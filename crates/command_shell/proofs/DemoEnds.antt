@@ -14,7 +14,8 @@ use Rattle.cqa_model.specs.Database.{row_total}
 use Rattle.case_maker.specs.Scripts.{script_bytes}
 use Rattle.command_shell.specs.declared.tally.Tally.{Tally}
 use Rattle.cqa_session.specs.Runs.{has_refusal}
-use Rattle.command_shell.specs.Demo.{line_text, AnswersAll, StopsIn}
+use Rattle.going_on_law.specs.Runs.{GoesOnFrom}
+use Rattle.command_shell.specs.Demo.{line_text, AnswersAll, BreaksOffIn, StopsIn}
 use Rattle.command_shell.specs.Parts.{ending_of, WriteRow}
 use Rattle.command_shell.proofs.Tallied.{some_refused, at_its_end}
 use Rattle.command_shell.specs.Tallying.{LineRow}
@@ -65,9 +66,15 @@ module _ (size : ℕ) (old new : State) (left held_old held_new : Option (List �
   pub with_refusal : LineRow (Ok true) (Rose writes_old writes_new) held_old held_new size old new → Ends WithRefusal
   with_refusal row = record { came = []; written = row.0; took = Consumes-nil left; put = row.1; row = ((refl, refl), row.2) }
 
-  by_stop : (stop : Stop) → LineRow (Err stop) (Rose writes_old writes_new) held_old held_new size old new → Ends (ending_of stop)
-  by_stop stops.WriteFault row = record { came = []; written = row.1.0; took = Consumes-nil left; put = row.1.1; row = ((refl, refl), row.0, row.1.2) }
-  by_stop stops.OutOfMemory row = record { came = []; written = []; took = Consumes-nil left; put = kept row.0; row = ((refl, refl), refl, row.1) }
+  -- in a state from which the machine goes on, the first statements begin a run over the script
+  breaks_off : GoesOnFrom new → StopsIn old (script_bytes size) new → BreaksOffIn old (script_bytes size) new
+  breaks_off goes stops_in =
+      let on = goes old (script_bytes size) true stops_in.statements stops_in.rest stops_in.replies stops_in.begins stops_in.run in
+      record { stops = stops_in; all = on.0; whole = on.1 }
 
-  pub stopped : (ending : Ending) (stop : Stop) → ending ≡ ending_of stop → LineRow (Err stop) (Rose writes_old writes_new) held_old held_new size old new → Ends ending
-  stopped ending stop is row = subst Ends (sym is) (by_stop stop row)
+  by_stop : GoesOnFrom new → (stop : Stop) → LineRow (Err stop) (Rose writes_old writes_new) held_old held_new size old new → Ends (ending_of stop)
+  by_stop goes stops.WriteFault row = record { came = []; written = row.1.0; took = Consumes-nil left; put = row.1.1; row = ((refl, refl), row.0, row.1.2) }
+  by_stop goes stops.OutOfMemory row = record { came = []; written = []; took = Consumes-nil left; put = kept row.0; row = ((refl, refl), refl, breaks_off goes row.1) }
+
+  pub stopped : (ending : Ending) (stop : Stop) → ending ≡ ending_of stop → LineRow (Err stop) (Rose writes_old writes_new) held_old held_new size old new → GoesOnFrom new → Ends ending
+  stopped ending stop is row goes = subst Ends (sym is) (by_stop goes stop row)

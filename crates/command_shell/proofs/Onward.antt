@@ -7,14 +7,9 @@ use Rattle.reply_text.specs.declared.reply.Reply.{Reply}
 use Rattle.reply_text.specs.Texts.{is_refusal}
 use Rattle.cqa_session.specs.State.{State}
 use Rattle.cqa_session.specs.Runs.{Run, Answers, CutShort, ReachesLast, text_of, has_refusal}
+use Rattle.going_on_law.proofs.Written.{run_join}
 use Rattle.command_shell.specs.Taking.{TakesReplies, TakesLast, TakesRun, HandsAnswers}
 use Rattle.command_shell.proofs.Progress.{text_of-append, after_whole}
-
-Run-trans : (old : State) (s : List Statement) (a : List Reply) (mid : State) (t : List Statement) (b : List Reply) (new : State) → Run old s a mid → Run mid t b new → Run old (s ++ t) (a ++ b) new
-Run-trans old [] [] mid t b new h k = subst (λ state. Run state t b new) h k
-Run-trans old [] (r ∷ a) mid t b new h k = absurd h
-Run-trans old (x ∷ s) [] mid t b new h k = absurd h
-Run-trans old (x ∷ s) (r ∷ a) mid t b new h k = (h.0, h.1, Run-trans h.0 s a mid t b new h.2 k)
 
 Takes-trans : {T : Type 0} (took : T → List ℕ → Reply → T → Type 0) (old : T) (s : List Statement) (a : List Reply) (mid : T) (t : List Statement) (b : List Reply) (new : T) → TakesReplies took old s a mid → TakesReplies took mid t b new → TakesReplies took old (s ++ t) (a ++ b) new
 Takes-trans took old [] [] mid t b new h k = subst (λ taker. TakesReplies took taker t b new) h k
@@ -65,7 +60,7 @@ module _ {T : Type 0} {took : T → List ℕ → Reply → T → Type 0} {t_old 
           begins = Begins-trans ended (bytes ++ piece) o.statements (held ++ piece) a.run.statements a.run.rest (Begins-append ended bytes piece o.statements held o.begins) a.run.cut.begins;
           over = a.run.cut.over;
         };
-        run = Run-trans old o.statements o.replies mid a.run.statements a.run.answered new o.run a.run.run;
+        run = run_join old mid new o.statements a.run.statements o.replies a.run.answered o.run a.run.run;
         closes = a.run.closes;
         all = ap (λ l. o.replies ++ l) a.run.all ∙ sym (append_assoc o.replies a.run.answered a.run.last);
       };
@@ -87,7 +82,7 @@ module _ {T : Type 0} {took : T → List ℕ → Reply → T → Type 0} {t_old 
     last = c.last;
     more = c.more;
     begins = Begins-trans c.ended (bytes ++ piece) o.statements (held ++ piece) c.statements c.rest (Begins-append c.ended bytes piece o.statements held o.begins) c.begins;
-    run = Run-trans old o.statements o.replies mid c.statements c.replies new o.run c.run;
+    run = run_join old mid new o.statements c.statements o.replies c.replies o.run c.run;
     tail = c.tail;
     written_is = ap (λ l. l ++ text_of c.last) (text_of-append o.replies c.replies) ∙ append_assoc (text_of o.replies) (text_of c.replies) (text_of c.last)
         ∙ ap (λ l. text_of o.replies ++ l) c.written_is ∙ ap (λ l. l ++ (more ++ c.more)) (sym o.written_is) ∙ sym (append_assoc written more c.more);

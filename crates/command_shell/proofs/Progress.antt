@@ -17,7 +17,8 @@ use Rattle.command_shell.specs.declared.ending.Stop.{Stop}
 use Rattle.command_shell.specs.declared.ending.Stop.TheVariants as stops
 use Rattle.cqa_session.specs.State.{State}
 use Rattle.cqa_session.specs.Machine.{Step}
-use Rattle.cqa_session.specs.Runs.{Run, Closes, CutShort, ReachesLast, text_of, has_refusal}
+use Rattle.cqa_session.specs.Runs.{Run, RunsOver, Closes, CutShort, ReachesLast, text_of, has_refusal}
+use Rattle.going_on_law.specs.Runs.{BeginsRun}
 use Rattle.command_shell.specs.Parts.{AnswerRow, ReplyRow, CloseRow, ProgressRow}
 use Rattle.command_shell.specs.Taking.{TakesReplies, HandsAnswers}
 
@@ -310,6 +311,13 @@ nothing_answered t state ended = (
 
 pub nothing_written : (old : State) (bytes : List ℕ) (at_end : Type 0) → CutShort old bytes at_end old []
 nothing_written old bytes at_end = record { ended = false; is_end = λ e. absurd (cc e); statements = []; rest = bytes; replies = []; last = []; more = []; begins = refl; run = refl; tail = inl refl; written_is = refl; late = all_written [] }
+
+-- of no bytes this is a whole run
+pub nothing_begun : (state : State) (at_end : Type 0) (ended : Bool) → BeginsRun (nothing_written state [] at_end) ended
+unfolding nothing_written
+nothing_begun state at_end ended =
+    let whole : RunsOver state [] ended [] state = record { statements = []; rest = []; answered = []; last = []; cut = Cuts-end ended [] [] refl; run = refl; closes = closes_blank ended [] empty_space; all = refl } in
+    record { all = []; runs_on = record { new = state; whole = whole; later = []; more = []; statements_are = refl; replies_are = refl; run = refl }; left = []; begins = refl }
 
 -- a piece found no memory
 pub unfed : {T : Type 0} (took : T → List ℕ → Reply → T → Type 0) (t : T) (result : Result Bool Stop) → IsErrAnd result (λ stop. stop ≡ stops.OutOfMemory) → (rose : Type 0) (held : Option (List ℕ)) (old : State) (bytes : List ℕ) (ended : Bool) (rest : List ℕ)

@@ -1,66 +1,41 @@
 -- The rows of the statuses.
-use Rattle.std.proofs.Common.{◌≡◌, ◌≢◌, inl, inr, ◌≤◌, ◌+◌, ℕ, Bool, true, false, List, [], ◌++◌, length, take, drop, Option, None, Some, refl, subst, arith}
-use Rattle.std.proofs.lemmas.List.{take-append-drop, length-append}
+use Rattle.std.proofs.Common.{◌≡◌, ◌≢◌, inl, inr, ◌≤◌, ◌+◌, ℕ, true, List, [], ◌++◌, length, Option, None, Some, refl, subst, arith}
+use Rattle.std.proofs.lemmas.List.{length-append}
 use Rattle.std.specs.Io.KnownBytes.{Consumes}
 use Rattle.std.proofs.KnownBytes.{Appends-nil, Consumes-nil}
-use Rattle.std.proofs.lemmas.Bool.{false≢true}
 use Rattle.cqa_io.specs.Causes.{Rose}
-use Rattle.script_lex.specs.Scripts.{Statement, Begins}
-use Rattle.script_lex.proofs.Statements.{Begins-append}
 use Rattle.command_shell.specs.declared.ending.Command.{Command}
 use Rattle.command_shell.specs.declared.ending.Command.TheVariants.{Run, Check, Demo}
 use Rattle.command_shell.specs.declared.ending.Ending.{Ending}
 use Rattle.command_shell.specs.declared.ending.Ending.TheVariants.{Answered, WithRefusal, BadWords, ReadFault, WriteFault, OutOfMemory, TooLong}
 use Rattle.cqa_session.specs.State.{State}
 use Rattle.cqa_session.specs.Runs.{CutShort}
-use Rattle.command_shell.specs.Top.{Call, Ended, Outside, RunRow, CheckRow, DemoRow, CountsReadFault, CountsWriteFault, code_of, limit, IsWithinLimit, IsCompleted}
-
-begins_open : (ended : Bool) → (ended ≡ true → false ≡ true) → (bytes : List ℕ) (s : List Statement) (rest : List ℕ) → Begins ended bytes s rest → Begins false bytes s rest
-begins_open true h bytes s rest b = absurd (false≢true (h refl))
-begins_open false h bytes s rest b = b
-
--- what begins the replies to a front begins those to all
-pub of_front : {old : State} {new : State} {written : List ℕ} (bytes : List ℕ) (n : ℕ) (at_end : Type 0) → CutShort old (take n bytes) (false ≡ true) new written → CutShort old bytes at_end new written
-of_front bytes n at_end s = record {
-  ended = false;
-  is_end = λ e. absurd (false≢true e);
-  statements = s.statements;
-  rest = s.rest ++ drop n bytes;
-  replies = s.replies;
-  last = s.last;
-  more = s.more;
-  begins = subst (λ l. Begins false l s.statements (s.rest ++ drop n bytes)) (take-append-drop n bytes)
-      (Begins-append false (take n bytes) (drop n bytes) s.statements s.rest (begins_open s.ended s.is_end (take n bytes) s.statements s.rest s.begins));
-  run = s.run;
-  tail = elim s.tail [ inl e ↦ inl e | inr h ↦ absurd (false≢true (s.is_end h.0)) ];
-  written_is = s.written_is;
-  late = s.late;
-}
+use Rattle.going_on_law.specs.Runs.{GoesOnFrom}
+use Rattle.going_on_law.proofs.Written.{begins_run}
+use Rattle.command_shell.specs.Top.{Call, Ended, Outside, RunRow, CheckRow, DemoRow, BreaksOff, CountsReadFault, CountsWriteFault, IsAllRead, code_of, limit, within_limit, IsWithinLimit, IsCompleted}
 
 -- ---- how a run ends
 
-exactly : (n : ℕ) → n ≡ limit + 1 → n ≤ limit + 1
-exactly n h = omega (arith, h)
-
-at_most : (n : ℕ) → n ≤ limit → n ≤ limit + 1
-at_most n h = omega (arith, h)
-
--- what is answered of bytes that have ended
-pub at_its_end : {old : State} {bytes : List ℕ} {at_end : Type 0} {new : State} {written : List ℕ} → at_end → CutShort old bytes (true ≡ true) new written → CutShort old bytes at_end new written
-at_its_end end s = record {
-  ended = s.ended;
-  is_end = λ e. end;
-  statements = s.statements;
-  rest = s.rest;
-  replies = s.replies;
-  last = s.last;
-  more = s.more;
-  begins = s.begins;
-  run = s.run;
-  tail = s.tail;
-  written_is = s.written_is;
-  late = s.late;
+-- answers are cut short whatever tells that the bytes have ended
+pub ends_so : {old : State} {bytes : List ℕ} {P Q : Type 0} {new : State} {written : List ℕ} → (P → Q) → CutShort old bytes P new written → CutShort old bytes Q new written
+ends_so tells cut = record {
+  ended = cut.ended;
+  is_end = λ e. tells (cut.is_end e);
+  statements = cut.statements;
+  rest = cut.rest;
+  replies = cut.replies;
+  last = cut.last;
+  more = cut.more;
+  begins = cut.begins;
+  run = cut.run;
+  tail = cut.tail;
+  written_is = cut.written_is;
+  late = cut.late;
 }
+
+-- in a state from which the machine goes on, what was written begins a run
+pub breaks_off : {call : Call} → GoesOnFrom call.new → CutShort call.old (within_limit call) (IsAllRead call) call.new call.written → BreaksOff call
+breaks_off goes cut = record { cut = cut; whole = begins_run cut cut.ended (λ e. e) goes; ended = begins_run cut true (λ e. refl) goes }
 
 -- words that aren't accepted
 pub refused_words : (outside : Outside) (state : State) → Ended None BadWords outside outside state state

@@ -1,7 +1,7 @@
 -- The numbers of a run's replies, where a tally took them.
-use Rattle.std.proofs.Common.{◌≡◌, ◌⊎◌, inl, inr, ℕ, ◌+◌, ◌≤◌, Bool, true, false, ◌||◌, nat_lt, List, [], ◌∷◌, ◌++◌, length, None, Some, codes, if◌then◌else◌, refl, sym, ap, ◌∙◌, subst, append-nil, arith}
+use Rattle.std.proofs.Common.{◌≡◌, ◌⊎◌, inl, inr, ℕ, ◌+◌, ◌≤◌, Bool, true, false, ◌||◌, nat_lt, List, [], ◌∷◌, ◌++◌, length, take, None, Some, codes, if◌then◌else◌, refl, sym, ap, ◌∙◌, subst, append-nil, arith}
 use Rattle.std.proofs.lemmas.Bool.Decides.{Decides-ltb}
-use Rattle.std.proofs.lemmas.List.{length-append}
+use Rattle.std.proofs.lemmas.List.{length-append, take_all}
 use Rattle.script_lex.specs.Scripts.{Statement, Begins}
 use Rattle.script_lex.proofs.Statements.{Begins-append}
 use Rattle.reply_text.specs.declared.reply.Reply.{Reply}
@@ -14,7 +14,7 @@ use Rattle.cqa_session.specs.Runs.{Run, RunsOver, Answers, has_refusal}
 use Rattle.command_shell.specs.Demo.{rows_to, refusals, AnswersAll, StopsIn}
 use Rattle.command_shell.specs.Tallying.{AddsReply}
 use Rattle.command_shell.specs.Taking.{TakesReplies, TakesLast, TakesRun, HandsOn}
-use Rattle.command_shell.specs.Top.{told}
+use Rattle.command_shell.specs.Top.{limit, told}
 
 -- a tally has grown by the numbers of these replies
 record Grown (before : Tally) (statements : List Statement) (answered replies : List Reply) (now : Tally) : Type 0 where
@@ -130,8 +130,10 @@ stops before tally source left old new few endings.BadWords h = absurd h.call.ro
 stops before tally source left old new few endings.ReadFault h = let rose = h.call.row.0 in absurd (omega (arith, rose))
 stops before tally source left old new few endings.WriteFault h = let rose = h.call.row.0 in absurd (omega (arith, rose))
 stops before tally source left old new few endings.OutOfMemory h =
-    let c = h.call.row.1 in
-    first c.ended source h.call.came left old new h.call.took c.is_end c.statements c.rest c.replies c.begins c.run
+    let c = h.call.row.1.cut in
+    let all = ap length h.call.took ∙ length-append h.call.came left in
+    let within = take_all limit h.call.came (omega (arith, all, few)) in
+    first c.ended source (take limit h.call.came) left old new (h.call.took ∙ ap (λ l. l ++ left) (sym within)) (λ e. (c.is_end e).0) c.statements c.rest c.replies c.begins c.run
 stops before tally source left old new few endings.TooLong h =
     let long = h.call.row.0 in
     let all = ap length h.call.took ∙ length-append h.call.came left in

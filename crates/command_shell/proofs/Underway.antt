@@ -1,6 +1,6 @@
 -- A run while its input comes.
-use Rattle.std.proofs.Common.{◌≡◌, inl, inr, ◌-◌, ◌+◌, ◌<◌, ◌≤◌, ℕ, min, Bool, true, false, ◌||◌, if◌then◌else◌, List, [], ◌++◌, length, take, Option, Result, Ok, Err, refl, sym, ap, ◌∙◌, subst, arith, append-nil}
-use Rattle.std.proofs.lemmas.Bool.{cases_lt}
+use Rattle.std.proofs.Common.{◌≡◌, inl, inr, ◌-◌, ◌+◌, ◌≤◌, ℕ, min, Bool, true, false, ◌||◌, if◌then◌else◌, List, [], ◌++◌, length, take, Option, Result, Ok, Err, refl, sym, ap, ◌∙◌, subst, arith, append-nil}
+use Rattle.std.proofs.lemmas.Bool.{cases_lt, false≢true}
 use Rattle.std.proofs.lemmas.List.{length-append, length-take, take_all, take-take}
 use Rattle.std.proofs.Math.Seq.{take-append-add}
 use Rattle.std.specs.Io.KnownBytes.{Consumes, Appends, Keeps, IsAtEnd}
@@ -13,10 +13,11 @@ use Rattle.cqa_session.specs.State.{State}
 use Rattle.cqa_session.specs.Runs.{Answers, CutShort}
 use Rattle.reply_text.specs.declared.reply.Reply.{Reply}
 use Rattle.command_shell.specs.Taking.{HandsAnswers, HandsOn}
-use Rattle.command_shell.specs.Top.{Outside, limit, told}
+use Rattle.going_on_law.specs.Runs.{GoesOnFrom}
+use Rattle.command_shell.specs.Top.{Call, Outside, BreaksOff, limit, told}
 use Rattle.command_shell.specs.Parts.{ProgressRow, ending_of, ending_with}
-use Rattle.command_shell.proofs.Progress.{nothing_answered, nothing_written}
-use Rattle.command_shell.proofs.Statuses.{at_its_end, of_front}
+use Rattle.command_shell.proofs.Progress.{nothing_answered, nothing_written, nothing_begun}
+use Rattle.command_shell.proofs.Statuses.{breaks_off, ends_so}
 use Rattle.command_shell.proofs.Onward.{Open, opened, goes_on, stops}
 
 -- So many bytes have come, and what is complete of those within the limit was answered; the rest of them is held.
@@ -94,8 +95,8 @@ module _ {T : Type 0} {took : T → List ℕ → Reply → T → Type 0} {t_old 
 
   -- the answers stopped in a piece
   pub stopped : (stop : Stop) (count : ℕ) (piece slice : List ℕ) (after : Outside) (t_new : T) (new : State) (left : List ℕ) → count ≤ length piece → count ≤ (limit + 1) - came → Consumes now.left after.left (take count piece) → slice ≡ take (min count (limit - came)) piece
-      → ProgressRow took t_now t_new (Err stop) (Rose now.writes after.writes) now.held after.held state (held ++ slice) false new left → HandsOn took t_old t_new (ending_of stop) before after old new
-  stopped stop count piece slice after t_new new left size room came kept row = by_stop stop row
+      → ProgressRow took t_now t_new (Err stop) (Rose now.writes after.writes) now.held after.held state (held ++ slice) false new left → GoesOnFrom new → HandsOn took t_old t_new (ending_of stop) before after old new
+  stopped stop count piece slice after t_new new left size room came kept row goes = by_stop stop row
     where
       came_all : Consumes before.left after.left (u.bytes ++ take count piece)
       came_all = Consumes-trans before.left now.left after.left u.bytes (take count piece) u.consumed came
@@ -103,9 +104,12 @@ module _ {T : Type 0} {took : T → List ℕ → Reply → T → Type 0} {t_old 
       short : length (u.bytes ++ take count piece) ≤ limit + 1
       short = omega (arith, u.count, length-append u.bytes (take count piece), length-take count piece, size, room, few)
 
-      cut : (written : List ℕ) → CutShort state (held ++ slice) (false ≡ true) new written → CutShort old (u.bytes ++ take count piece) (IsAtEnd after.left) new (u.written ++ written)
-      cut written c =
-          of_front (u.bytes ++ take count piece) limit (IsAtEnd after.left) (subst (λ l. CutShort old l (false ≡ true) new (u.written ++ written)) (sym (front_on count piece slice kept)) (stops so_far slice (false ≡ true) new written c))
+      call : List ℕ → Call
+      call written = record { before = before; after = after; came = u.bytes ++ take count piece; written = u.written ++ written; old = old; new = new }
+
+      off : (written : List ℕ) → CutShort state (held ++ slice) (false ≡ true) new written → BreaksOff (call written)
+      off written c =
+          breaks_off goes (ends_so (λ e. absurd (false≢true e)) (subst (λ l. CutShort old l (false ≡ true) new (u.written ++ written)) (sym (front_on count piece slice kept)) (stops so_far slice (false ≡ true) new written c)))
 
       by_stop : (stop : Stop) → ProgressRow took t_now t_new (Err stop) (Rose now.writes after.writes) now.held after.held state (held ++ slice) false new left → HandsOn took t_old t_new (ending_of stop) before after old new
       by_stop reasons.WriteFault row = record {
@@ -114,7 +118,7 @@ module _ {T : Type 0} {took : T → List ℕ → Reply → T → Type 0} {t_old 
           written = u.written ++ row.1.0;
           took = came_all;
           put = Appends-trans before.held now.held after.held u.written row.1.0 u.put row.1.1;
-          row = (omega (arith, row.0, u.writes), short, cut row.1.0 row.1.2);
+          row = (omega (arith, row.0, u.writes), short, off row.1.0 row.1.2);
         };
         taken = tt;
       }
@@ -124,21 +128,28 @@ module _ {T : Type 0} {took : T → List ℕ → Reply → T → Type 0} {t_old 
           written = u.written ++ row.0;
           took = came_all;
           put = Appends-trans before.held now.held after.held u.written row.0 u.put row.1;
-          row = (short, cut row.0 row.2);
+          row = (short, off row.0 row.2);
         };
         taken = tt;
       }
 
   -- the input has ended
   pub ended : (result : Result Bool Stop) (nothing : List ℕ) (after : Outside) (t_new : T) (new : State) (left : List ℕ) → nothing ≡ [] → Consumes now.left after.left nothing → IsAtEnd after.left
-      → ProgressRow took t_now t_new result (Rose now.writes after.writes) now.held after.held state held true new left → HandsOn took t_old t_new (ending_with result refused) before after old new
-  ended result nothing after t_new new left none came end row = by_result result (subst (λ l. ProgressRow took t_now t_new result (Rose now.writes after.writes) now.held after.held state l true new left) (sym (append-nil held)) row)
+      → ProgressRow took t_now t_new result (Rose now.writes after.writes) now.held after.held state held true new left → GoesOnFrom new → HandsOn took t_old t_new (ending_with result refused) before after old new
+  ended result nothing after t_new new left none came end row goes = by_result result (subst (λ l. ProgressRow took t_now t_new result (Rose now.writes after.writes) now.held after.held state l true new left) (sym (append-nil held)) row)
     where
       came_all : Consumes before.left after.left (u.bytes ++ [])
       came_all = Consumes-trans before.left now.left after.left u.bytes [] u.consumed (subst (Consumes now.left after.left) none came)
 
       size : length (u.bytes ++ []) ≤ limit
       size = omega (arith, u.count, ap length (append-nil u.bytes), few)
+
+      call : List ℕ → Call
+      call written = record { before = before; after = after; came = u.bytes ++ []; written = u.written ++ written; old = old; new = new }
+
+      off : (written : List ℕ) → CutShort state (held ++ []) (true ≡ true) new written → BreaksOff (call written)
+      off written c =
+          breaks_off goes (ends_so (λ e. (end, size)) (subst (λ l. CutShort old l (true ≡ true) new (u.written ++ written)) (sym (take_all limit (u.bytes ++ []) size)) (stops so_far [] (true ≡ true) new written c)))
 
       by_refusal : (written : List ℕ) (some : Bool) (rest : List ℕ) → Appends before.held after.held written → HandsAnswers took t_old t_new old (u.bytes ++ []) true new written some rest → HandsOn took t_old t_new (if some then endings.WithRefusal else endings.Answered) before after old new
       by_refusal written true rest put h = record { call = record { came = u.bytes ++ []; written = written; took = came_all; put = put; row = (end, size, h.0) }; taken = h.2 }
@@ -153,7 +164,7 @@ module _ {T : Type 0} {took : T → List ℕ → Reply → T → Type 0} {t_old 
           written = u.written ++ row.1.0;
           took = came_all;
           put = Appends-trans before.held now.held after.held u.written row.1.0 u.put row.1.1;
-          row = (omega (arith, row.0, u.writes), omega (arith, size), at_its_end end (stops so_far [] (true ≡ true) new row.1.0 row.1.2));
+          row = (omega (arith, row.0, u.writes), omega (arith, size), off row.1.0 row.1.2);
         };
         taken = tt;
       }
@@ -163,15 +174,14 @@ module _ {T : Type 0} {took : T → List ℕ → Reply → T → Type 0} {t_old 
           written = u.written ++ row.0;
           took = came_all;
           put = Appends-trans before.held now.held after.held u.written row.0 u.put row.1;
-          row = (omega (arith, size), at_its_end end (stops so_far [] (true ≡ true) new row.0 row.2));
+          row = (omega (arith, size), off row.0 row.2);
         };
         taken = tt;
       }
 
--- one byte past the limit came
-pub too_long : {T : Type 0} {took : T → List ℕ → Reply → T → Type 0} {t_old t_now : T} {before now : Outside} {old state : State} {came : ℕ} {held : List ℕ} {refused : Bool} → Underway took t_old t_now before now old state came held refused → limit < came → came ≤ limit + 1 → HandsOn took t_old t_now endings.TooLong before now old state
-too_long {refused = refused} u past room = record { call = record { came = u.bytes; written = u.written; took = u.consumed; put = u.put; row = (omega (arith, u.count, past, room), (refused, u.answers.0)) }; taken = tt }
-
 -- no memory for a buffer
 pub unread : {T : Type 0} {took : T → List ℕ → Reply → T → Type 0} (t : T) (outside : Outside) (state : State) → HandsOn took t t endings.OutOfMemory outside outside state state
-unread t outside state = record { call = record { came = []; written = []; took = Consumes-nil outside.left; put = Appends-nil outside.held; row = (omega arith, nothing_written state [] (IsAtEnd outside.left)) }; taken = tt }
+unread t outside state =
+    let at_end : Type 0 = IsAtEnd outside.left × (0 ≤ limit) in
+    let cut = nothing_written state [] at_end in
+    record { call = record { came = []; written = []; took = Consumes-nil outside.left; put = Appends-nil outside.held; row = (omega arith, record { cut = cut; whole = nothing_begun state at_end cut.ended; ended = nothing_begun state at_end true }) }; taken = tt }

@@ -13,6 +13,7 @@ use Rattle.reply_text.specs.Texts.{is_refusal}
 use Rattle.command_shell.specs.declared.tally.Tally.{Tally}
 use Rattle.cqa_session.specs.State.{State}
 use Rattle.cqa_session.specs.Runs.{Run, RunsOver, has_refusal}
+use Rattle.going_on_law.specs.Runs.{RunsOn}
 
 -- a size is written by at most six digits, and is from one to the greatest size of a script
 pub record IsSize (digits : List ℕ) (size : ℕ) : Type 0 where
@@ -85,3 +86,9 @@ pub record StopsIn (old : State) (input : List ℕ) (new : State) : Type 0 where
   pub replies : List Reply
   pub begins : Begins true input statements rest
   pub run : Run old statements replies new
+
+-- The state is that after the first statements of an input that has ended, and a run over all of the input begins with these.
+pub record BreaksOffIn (old : State) (input : List ℕ) (new : State) : Type 0 where
+  pub stops : StopsIn old input new
+  pub all : List Reply
+  pub whole : RunsOn old input true stops.statements stops.replies new all

@@ -12,7 +12,8 @@ use Rattle.cqa_session.specs.State.{State}
 use Rattle.cqa_model.specs.declared.limits.TheConstants.{LONGEST_INPUT}
 use Rattle.case_maker.specs.Scripts.{script_bytes}
 use Rattle.cqa_session.specs.Runs.{Answers, CutShort}
-use Rattle.command_shell.specs.Demo.{IsSize, IsDemo, BeginsDemo, StopsIn}
+use Rattle.going_on_law.specs.Runs.{BeginsRun}
+use Rattle.command_shell.specs.Demo.{IsSize, IsDemo, BeginsDemo, BreaksOffIn}
 
 -- the most bytes of input that a call answers
 abbrev pub limit : ℕ
@@ -74,15 +75,30 @@ CountsReadFault call = Rose call.before.reads call.after.reads
 abbrev pub CountsWriteFault : Call → Type 0
 CountsWriteFault call = Rose call.before.writes call.after.writes
 
+-- the bytes that came within the limit; one past it is looked at by nobody
+abbrev pub within_limit : Call → List ℕ
+within_limit call = take limit call.came
+
+-- the source has nothing left, and no byte past the limit came
+abbrev pub IsAllRead : Call → Type 0
+IsAllRead call = IsReadToEnd call × (length call.came ≤ limit)
+
+-- The answers to the bytes within the limit were cut short, and what was written begins the text of a run over all of these bytes: of one over them as
+-- they were cut, and of one over them as an input that has ended.
+pub record BreaksOff (call : Call) : Type 0 where
+  pub cut : CutShort call.old (within_limit call) (IsAllRead call) call.new call.written
+  pub whole : BeginsRun cut cut.ended
+  pub ended : BeginsRun cut true
+
 -- The row of each ending of `run`.
 abbrev pub RunRow : Ending → Call → Type 0
 RunRow Answered call = IsReadToEnd call × (length call.came ≤ limit) × Answers call.old call.came true call.new call.written false
 RunRow WithRefusal call = IsReadToEnd call × (length call.came ≤ limit) × Answers call.old call.came true call.new call.written true
 RunRow BadWords call = ⊥
 RunRow ReadFault call = CountsReadFault call × (length call.came ≤ limit) × ((refused : Bool) × Answers call.old call.came false call.new call.written refused)
-RunRow WriteFault call = CountsWriteFault call × (length call.came ≤ limit + 1) × CutShort call.old call.came (IsReadToEnd call) call.new call.written
-RunRow OutOfMemory call = (length call.came ≤ limit + 1) × CutShort call.old call.came (IsReadToEnd call) call.new call.written
-RunRow TooLong call = (length call.came ≡ limit + 1) × ((refused : Bool) × Answers call.old (take limit call.came) false call.new call.written refused)
+RunRow WriteFault call = CountsWriteFault call × (length call.came ≤ limit + 1) × BreaksOff call
+RunRow OutOfMemory call = (length call.came ≤ limit + 1) × BreaksOff call
+RunRow TooLong call = (length call.came ≡ limit + 1) × ((refused : Bool) × Answers call.old (within_limit call) false call.new call.written refused)
 
 -- The row of each ending of `check`.
 abbrev pub CheckRow : Ending → Call → Type 0
@@ -105,7 +121,7 @@ DemoRow size WithRefusal call = IsUnread call × IsDemo size call.old call.writt
 DemoRow size BadWords call = ⊥
 DemoRow size ReadFault call = ⊥
 DemoRow size WriteFault call = IsUnread call × CountsWriteFault call × BeginsDemo size call.old call.written call.new
-DemoRow size OutOfMemory call = IsUnread call × (call.written ≡ []) × StopsIn call.old (script_bytes size) call.new
+DemoRow size OutOfMemory call = IsUnread call × (call.written ≡ []) × BreaksOffIn call.old (script_bytes size) call.new
 DemoRow size TooLong call = ⊥
 
 -- Words that aren't accepted: nothing is read or written, and no fault is counted.

@@ -11,6 +11,7 @@ ghost use Rattle.command_shell.specs.Tallying.{InputRow, LineRow};
 ghost use Rattle.cqa_model.specs.declared.limits.TheConstants.{LONGEST_INPUT};
 
 use crate::ending::{Ending, Stop};
+use crate::going_on::goes_on;
 use crate::pieces::run;
 use crate::tally::Tally;
 use case_maker::{GREATEST_SIZE, script_of};
@@ -149,6 +150,9 @@ pub fn demo<K: Sink>(alloc: Global, session: &mut Session, sink: &mut K, size: u
     match run_script(alloc, session, sink, size) {
         Ok(false) => Ending::Answered,
         Ok(true) => Ending::WithRefusal,
-        Err(stop) => Ending::from(stop),
+        Err(stop) => {
+            goes_on(session);
+            Ending::from(stop)
+        }
     }
 }

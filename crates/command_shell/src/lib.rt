@@ -4,6 +4,7 @@
 mod answers;
 mod demo;
 mod ending;
+mod going_on;
 mod input;
 mod pieces;
 mod taker;

@@ -1,12 +1,14 @@
 //! The loop of `run` and `demo`: each statement is answered as soon as its bytes have come.
 
 ghost use Rattle.std.specs.Prelude.{◌≡◌, ◌≤◌, ◌<◌, [], length};
+ghost use Rattle.going_on_law.specs.Runs.{GoesOnFrom};
 ghost use Rattle.command_shell.specs.Top.{told};
 ghost use Rattle.command_shell.specs.Taking.{HandsOn};
 ghost use Rattle.command_shell.specs.Parts.{ending_with};
 
 use crate::answers::{answer_held, answer_piece};
 use crate::ending::{Ending, Stop};
+use crate::going_on::goes_on;
 use crate::input::{PIECE, read_piece, zeros};
 use crate::taker::Taker;
 use cqa_io::{Failed, Source};
@@ -31,7 +33,8 @@ fn ending_with(last: Result<bool, Stop>, refused: bool) -> Ending
     }
 }
 
-/// Answers the input piece by piece. What isn't answered yet is held.
+/// Answers the input piece by piece. What isn't answered yet is held. Where the machine goes on from the state at the end, answers
+/// that were cut short begin a run over all bytes.
 fn answer_pieces<S: Source, T: Taker>(
     alloc: Global,
     session: &mut Session,
@@ -42,7 +45,7 @@ fn answer_pieces<S: Source, T: Taker>(
 ) -> Ending
     requires empty { held.old ≡ [] }
     requires piece { 0 < length piece.old }
-    ensures row { HandsOn T.took taker.old taker.new result (told (S.left source.old) (T.written taker.old) (S.faults source.old) (T.faults taker.old)) (told (S.left source.new) (T.written taker.new) (S.faults source.new) (T.faults taker.new)) session.old session.new }
+    ensures row { GoesOnFrom session.new → HandsOn T.took taker.old taker.new result (told (S.left source.old) (T.written taker.old) (S.faults source.old) (T.faults taker.old)) (told (S.left source.new) (T.written taker.new) (S.faults source.new) (T.faults taker.new)) session.old session.new }
     ensures reads { S.faults source.old ≤ S.faults source.new }
     ensures writes { T.faults taker.old ≤ T.faults taker.new }
 {
@@ -90,5 +93,6 @@ pub fn run<S: Source, T: Taker>(
     );
     drop(held);
     drop(piece);
+    goes_on(session);
     ending
 }

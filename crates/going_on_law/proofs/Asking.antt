@@ -20,11 +20,11 @@ use Rattle.cqa_session.specs.Statements.Prove.{MayProve}
 use Rattle.changing_law.specs.Laws.{GoesOnTo}
 use Rattle.naming_law.proofs.Queries.{queries_are_resolved}
 use Rattle.existence_law.proofs.Answering.{answers_exist}
-use Rattle.telling_law.proofs.Classing.{classes_are_told}
-use Rattle.telling_law.proofs.Planning.{plans_are_told, sql_is_told, proofs_are_told}
-use Rattle.replies_law.proofs.Siding.{sides_are_told}
-use Rattle.replies_law.proofs.Explaining.{reasons_are_told}
-use Rattle.replies_law.proofs.Opposing.{against_is_told}
+use Rattle.going_on_law.proofs.Classing.{classes_are_told}
+use Rattle.going_on_law.proofs.Planning.{plans_are_told, sql_is_told, proofs_are_told}
+use Rattle.going_on_law.proofs.Siding.{sides_are_told}
+use Rattle.going_on_law.proofs.Explaining.{reasons_are_told}
+use Rattle.going_on_law.proofs.Opposing.{against_is_told}
 
 -- a check that fails is replied to by its refusal, and else there is a reply by what may be done
 pub replied : (fault : Option Refusal) (old : State) (May : Reply → State → Type 0) → IsState old → (fault ≡ None → GoesOnTo May) → GoesOnTo (Replies fault old May)

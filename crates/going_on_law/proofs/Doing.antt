@@ -1,9 +1,12 @@
 -- Each statement goes on, and so does each text.
 use Rattle.std.proofs.Common.{◌≡◌, ℕ, List, Option, None, Result, Ok, Err, refl}
+use Rattle.cqa_value.specs.declared.value.Value.{Value}
+use Rattle.cqa_model.specs.declared.query.Query.{Query}
 use Rattle.refusals.specs.declared.refusal.Refusal.{Refusal}
 use Rattle.refusals.specs.Refusal.{first_of}
 use Rattle.refusals.proofs.Faults.{both_none}
 use Rattle.spj_syntax.specs.declared.tree.RawGoal.{RawGoal}
+use Rattle.spj_syntax.specs.declared.tree.RawRange.{RawRange}
 use Rattle.spj_syntax.specs.declared.tree.RawTest.{RawTest}
 use Rattle.spj_syntax.specs.declared.tree.Selects.{Selects}
 use Rattle.spj_syntax.specs.declared.tree.Statement.{Statement}
@@ -13,6 +16,7 @@ use Rattle.saying_law.proofs.Storing.{statements_are_storable}
 use Rattle.csv_rows.specs.Dumps.{dump_text}
 use Rattle.query_resolve.specs.Names.{columns_at}
 use Rattle.query_resolve.specs.Checks.{goal_fault, tests_fault, group_fault, range_join_fault, union_fault, union_row_fault}
+use Rattle.query_resolve.specs.Resolved.{AreQueriesOf}
 use Rattle.reply_text.specs.declared.reply.Reply.TheVariants.{Rows, Conflicts, Tables, Contested, Dumped, Refused}
 use Rattle.cqa_session.specs.State.{State, IsState}
 use Rattle.cqa_session.specs.Saying.{Says}
@@ -32,17 +36,16 @@ use Rattle.changing_law.proofs.Whole.{creates_go_on, alters_go_on, inserts_go_on
 use Rattle.naming_law.proofs.Members.{goals_are_resolved, tests_are_resolved, groups_are_resolved}
 use Rattle.naming_law.proofs.Queries.{unions_are_resolved}
 use Rattle.naming_law.proofs.Joined.{ranges_are_resolved}
-use Rattle.telling_law.proofs.Lines.{tables_are_shown, conflicts_are_shown}
-use Rattle.replies_law.specs.Unions.{UnionsAreTold, UnionReasonsAreTold, UnionClassesAreTold, UnionSqlIsTold}
-use Rattle.replies_law.proofs.Ranging.{ranges_are_told, join_ranges_are_told}
+use Rattle.union_ask.specs.Laws.{CandidatesDecide}
 use Rattle.union_law.specs.Answers.{UnionAnswersExist}
+use Rattle.union_law.specs.Reasons.{UnionReasonsExist}
 use Rattle.going_on_law.specs.Laws.{StepsGoOn}
-use Rattle.going_on_law.proofs.Asking.{replied, asking_goes_on}
 use Rattle.going_on_law.proofs.Keyed.{IsKeyed, keyed}
-use Rattle.spj_syntax.specs.declared.tree.RawRange.{RawRange}
-use Rattle.cqa_model.specs.declared.query.Query.{Query}
-use Rattle.query_resolve.specs.Resolved.{AreQueriesOf}
-use Rattle.cqa_value.specs.declared.value.Value.{Value}
+use Rattle.going_on_law.proofs.Lines.{tables_are_shown, conflicts_are_shown}
+use Rattle.going_on_law.proofs.Ranging.{ranges_are_told, join_ranges_are_told}
+use Rattle.going_on_law.proofs.Uniting.{unions_are_told, union_reasons_are_told, union_classes_are_told}
+use Rattle.going_on_law.proofs.UnionPlanning.{union_sql_is_told}
+use Rattle.going_on_law.proofs.Asking.{replied, asking_goes_on}
 
 -- ---- ranges
 
@@ -71,7 +74,7 @@ range_join_goes_on old raw is e =
     let g = join_ranges_are_told old raw range.0 is range.1 in
     (g.0, g.1, (record { range = range.0; resolved = range.1; told = g.2.0 }, g.2.1))
 
-module _ (answers : UnionAnswersExist) (rows : UnionsAreTold) (reasons : UnionReasonsAreTold) (classes : UnionClassesAreTold) (sql : UnionSqlIsTold) (old : State) (is : IsState old) where
+module _ (answers : UnionAnswersExist) (reasons : UnionReasonsExist) (decide : CandidatesDecide) (old : State) (is : IsState old) where
   -- ---- unions
 
   module _ (selects : Selects) (e : union_fault old.tables selects.parts ≡ None) where
@@ -79,7 +82,7 @@ module _ (answers : UnionAnswersExist) (rows : UnionsAreTold) (reasons : UnionRe
     parts = unions_are_resolved old.tables selects.parts is.database selects.two e
 
     asked : GoesOnTo (AnswersUnion old selects.parts)
-    asked = let g = rows old parts.0 is parts.1.parts in (g.0, g.1, (record { parts = parts.0; resolved = parts.1; told = g.2.0 }, g.2.1))
+    asked = let g = unions_are_told answers old parts.0 is parts.1.parts in (g.0, g.1, (record { parts = parts.0; resolved = parts.1; told = g.2.0 }, g.2.1))
 
     possible : GoesOnTo (AnswersPossibleUnion old selects.parts)
     possible =
@@ -87,14 +90,14 @@ module _ (answers : UnionAnswersExist) (rows : UnionsAreTold) (reasons : UnionRe
         (Rows found.0, old, (record { parts = parts.0; resolved = parts.1; rows = found.0; possible = found.1; replies = refl; keeps = refl }, is))
 
     classified : GoesOnTo (ClassifiesUnion old selects.parts)
-    classified = let told = classes old.tables selects.parts parts.0 parts.1 in (told.0, old, (record { parts = parts.0; resolved = parts.1; told = told.1; keeps = refl }, is))
+    classified = let told = union_classes_are_told old.tables selects.parts parts.0 parts.1 in (told.0, old, (record { parts = parts.0; resolved = parts.1; told = told.1; keeps = refl }, is))
 
     written : GoesOnTo (WritesUnionSql old selects.parts)
-    written = let told = sql old.tables selects.parts parts.0 parts.1 in (told.0, old, (record { parts = parts.0; resolved = parts.1; told = told.1; keeps = refl }, is))
+    written = let told = union_sql_is_told decide old.tables selects.parts parts.0 parts.1 in (told.0, old, (record { parts = parts.0; resolved = parts.1; told = told.1; keeps = refl }, is))
 
     explained : (row : List Value) → GoesOnTo (ExplainsUnion old row selects.parts)
     explained row =
-        let g = replied (union_row_fault old.tables parts.0 row) old (MayTellUnion old parts.0 row) is (λ n. reasons old parts.0 row is parts.1.parts) in
+        let g = replied (union_row_fault old.tables parts.0 row) old (MayTellUnion old parts.0 row) is (λ n. union_reasons_are_told reasons old parts.0 row is parts.1.parts) in
         (g.0, g.1, (record { parts = parts.0; resolved = parts.1; replied = g.2.0 }, g.2.1))
 
   -- ---- a statement of which no check fails
@@ -135,5 +138,5 @@ module _ (answers : UnionAnswersExist) (rows : UnionsAreTold) (reasons : UnionRe
       let g = does text block said.0 said.1 in
       (g.0, g.1, (record { said = said.0; says = said.1; does = g.2.0 }, g.2.1))
 
-pub steps_go_on : UnionAnswersExist → UnionsAreTold → UnionReasonsAreTold → UnionClassesAreTold → UnionSqlIsTold → StepsGoOn
-steps_go_on answers rows reasons classes sql old text block is = step answers rows reasons classes sql old is text block
+pub steps_go_on : UnionAnswersExist → UnionReasonsExist → CandidatesDecide → StepsGoOn
+steps_go_on answers reasons decide old text block is = step answers reasons decide old is text block

@@ -1,7 +1,6 @@
 -- A key that is set by a statement has a column: without one its tokens are no statement.
-use Rattle.std.proofs.Common.{◌≡◌, ℕ, Bool, true, false, not, nat_eq, List, [], ◌∷◌, codes, refl, sym, ap, ◌∙◌, subst, arith, append_assoc}
+use Rattle.std.proofs.Common.{◌≡◌, ℕ, Bool, true, false, not, nat_eq, List, [], ◌∷◌, codes, refl, ap, ◌∙◌, subst, arith}
 use Rattle.std.specs.Cmp.Lexicographic.{pointwise}
-use Rattle.std.proofs.lemmas.List.{append-nil}
 use Rattle.script_lex.specs.declared.kinds.Symbol.TheVariants as s
 use Rattle.spj_syntax.specs.declared.tree.Change.{Change}
 use Rattle.spj_syntax.specs.declared.tree.Change.TheVariants.{SetStrict, DropStrict, SetKey}
@@ -10,7 +9,7 @@ use Rattle.spj_syntax.specs.declared.tree.Statement.TheVariants as statements
 use Rattle.spj_syntax.specs.Factored as factored
 use Rattle.spj_syntax.specs.Grammar as grammar
 use Rattle.spj_syntax.specs.Lexemes.{Lexeme, Word, Mark}
-use Rattle.spj_syntax.specs.Shapes.{Shape, word, name, one, ◌⨾◌, ◌∣◌, primary, Generates, FirstFault}
+use Rattle.spj_syntax.specs.Shapes.{word, name, one, ◌⨾◌, ◌∣◌, primary, Generates}
 use Rattle.spj_syntax.specs.Texts.{HasStatement}
 use Rattle.spj_syntax.specs.Walk.{Stopped, read, walk}
 use Rattle.spj_syntax.specs.Written.{HasKey}
@@ -18,6 +17,7 @@ use Rattle.spj_syntax.proofs.Exact.{stopped}
 use Rattle.spj_syntax.proofs.Factoring.{same_fault}
 use Rattle.spj_syntax.proofs.Table.{statement_decided}
 use Rattle.spj_syntax.proofs.Walking.{one_past, one_stopped, both_stopped, first_stopped, left_read, right_read}
+use Rattle.spj_syntax.proofs.Answered.{fault_not}
 
 -- the key of a statement that sets one has a column
 abbrev pub IsKeyed : Statement → Type 0
@@ -58,15 +58,10 @@ keyless_stopped n =
           (both_stopped (one (word (codes "table"))) (grammar.a_name ⨾ factored.change) behind (Word n ∷ rest_tokens) named.0 (one_past (word (codes "table")) (Word (codes "table")) (Word n ∷ rest_tokens) refl) named.1),
     )
 
--- tokens that a shape generates have no first fault
-no_fault : (p : Shape) (ls rest : List Lexeme) → FirstFault p ls rest → Generates p ls → ⊥
-no_fault p ls [] f g = f.stuck (subst (Generates p) (f.split ∙ append-nil f.front) g)
-no_fault p ls (t ∷ rest) f g = f.stuck (rest, subst (Generates p) (f.split ∙ sym (append_assoc f.front (t ∷ []) rest)) g)
-
 keyless_not : (n : List ℕ) → Generates grammar.statement (keyless n) → ⊥
 keyless_not n g =
     let stop = keyless_stopped n in
-    no_fault grammar.statement (keyless n) stop.0 (same_fault (keyless n) stop.0 (stopped factored.statement (keyless n) stop.0 statement_decided stop.1)) g
+    fault_not grammar.statement (keyless n) stop.0 (same_fault (keyless n) stop.0 (stopped factored.statement (keyless n) stop.0 statement_decided stop.1)) g
 
 pub keyed : (text : List ℕ) (statement : Statement) → HasStatement text statement → IsKeyed statement
 keyed text (statements.Alter table change) says = go change says

@@ -1,4 +1,13 @@
 pub mod Keyed
+pub mod Lines
+pub mod Classing
+pub mod Planning
+pub mod Siding
+pub mod Explaining
+pub mod Opposing
+pub mod Ranging
+pub mod Uniting
+pub mod UnionPlanning
 pub mod Asking
 pub mod Doing
 pub mod Running

@@ -1,13 +1,16 @@
--- Statements one after another have a run, and so has an input that is cut.
-use Rattle.std.proofs.Common.{◌≡◌, ◌⊎◌, inl, inr, ℕ, Bool, true, false, List, [], ◌∷◌, ◌++◌, refl, sym, ◌∙◌, true≢false}
-use Rattle.script_lex.specs.declared.modes.Mode.{Mode}
-use Rattle.script_lex.specs.declared.modes.Mode.TheVariants.{Outside, Dash, Text, Comment}
-use Rattle.script_lex.specs.Scripts.{Leads, is_gap_byte, after, IsSpace}
+-- Statements one after another have a run, and so has each input.
+use Rattle.std.proofs.Common.{ℕ, Bool, true, false, List, [], ◌∷◌, ◌++◌, drop, refl}
+use Rattle.script_lex.specs.declared.cutting.Cut.{Cut}
+use Rattle.script_lex.specs.declared.cutting.Cut.TheVariants as cuts
+use Rattle.script_lex.specs.Scripts.{IsSpace, IsCut, statement_at}
+use Rattle.script_lex.proofs.Statements.{space_over, first_statement}
 use Rattle.refusals.specs.declared.refusal.Refusal.TheVariants.{Unfinished}
 use Rattle.reply_text.specs.declared.reply.Reply.{Reply}
 use Rattle.reply_text.specs.declared.reply.Reply.TheVariants.{Refused}
+use Rattle.cutting_law.specs.Laws.{InputsAreCut}
+use Rattle.cutting_law.proofs.Firsts.{first_cut}
 use Rattle.cqa_session.specs.Runs.{Closes}
-use Rattle.going_on_law.specs.Laws.{StepsGoOn, RunsGoOn, CutsAreRun}
+use Rattle.going_on_law.specs.Laws.{StepsGoOn, RunsGoOn, InputsAreRun}
 
 pub runs_go_on : StepsGoOn → RunsGoOn
 runs_go_on steps old [] is = ([], old, (refl, is))
@@ -16,40 +19,22 @@ runs_go_on steps old (statement ∷ statements) is =
     let more = runs_go_on steps one.1 statements one.2.1 in
     (one.0 ∷ more.0, more.1, ((one.1, one.2.0, more.2.0), more.2.1))
 
--- ---- whether bytes are blank
-
--- from a mode they lead through blanks and comments to an end that is no dash
-abbrev LeadsThrough : Mode → List ℕ → Type 0
-LeadsThrough from bytes = (ends : Mode) × Leads is_gap_byte from bytes ends × (ends ≡ Dash → ⊥)
-
-through : (from : Mode) (bytes : List ℕ) → LeadsThrough from bytes ⊎ (LeadsThrough from bytes → ⊥)
-through Outside [] = inl (Outside, refl, λ e. cc e)
-through Dash [] = inr (λ h. h.2 (sym h.1))
-through Text [] = inl (Text, refl, λ e. cc e)
-through Comment [] = inl (Comment, refl, λ e. cc e)
-through from (b ∷ bytes) = go (is_gap_byte from b) refl (through (after from b) bytes)
-  where
-    go : (passes : Bool) → is_gap_byte from b ≡ passes → LeadsThrough (after from b) bytes ⊎ (LeadsThrough (after from b) bytes → ⊥) → LeadsThrough from (b ∷ bytes) ⊎ (LeadsThrough from (b ∷ bytes) → ⊥)
-    go true q (inl h) = inl (h.0, (q, h.1), h.2)
-    go true q (inr f) = inr (λ h. f (h.0, h.1.1, h.2))
-    go false q rest = inr (λ h. true≢false (sym h.1.0 ∙ q))
-
-space_or_not : (bytes : List ℕ) → IsSpace bytes ⊎ (IsSpace bytes → ⊥)
-space_or_not bytes = elim (through Outside bytes) [
-  | inl h ↦ inl (record { ends = h.0; leads = h.1; whole = h.2 })
-  | inr f ↦ inr (λ space. f (space.ends, space.leads, space.whole))
-]
-
 -- what the end of the input adds
 pub closing : (ended : Bool) (rest : List ℕ) → (last : List Reply) × Closes ended rest last
 closing false rest = ([], refl)
-closing true rest = elim (space_or_not rest) [
-  | inl space ↦ ([], space)
-  | inr other ↦ (Refused Unfinished ∷ [], (other, refl, refl))
-]
+closing true rest = let first = first_cut true rest in go first.0 first.1
+  where
+    refused : (IsSpace rest → ⊥) → (last : List Reply) × Closes true rest last
+    refused other = (Refused Unfinished ∷ [], (other, refl, refl))
 
-pub cuts_are_run : RunsGoOn → CutsAreRun
-cuts_are_run runs old input ended statements rest is cut =
-    let run = runs old statements is in
-    let last = closing ended rest in
-    (run.0 ++ last.0, run.1, (record { statements = statements; rest = rest; answered = run.0; last = last.0; cut = cut; run = run.2.0; closes = last.1; all = refl }, run.2.1))
+    go : (cut : Cut) → IsCut true rest cut → (last : List Reply) × Closes true rest last
+    go (cuts.Statement text block at) h = refused (λ space. space_over true rest space (statement_at rest text block) (drop at rest) (first_statement true rest text block at h))
+    go cuts.Blank h = ([], h)
+    go cuts.Part h = refused h.0
+
+pub inputs_are_run : RunsGoOn → InputsAreCut → InputsAreRun
+inputs_are_run runs cuts old input ended is =
+    let found = cuts ended input in
+    let run = runs old found.0 is in
+    let last = closing ended found.1 in
+    (run.0 ++ last.0, run.1, (record { statements = found.0; rest = found.1; answered = run.0; last = last.0; cut = found.2; run = run.2.0; closes = last.1; all = refl }, run.2.1))

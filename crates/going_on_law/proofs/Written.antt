@@ -1,81 +1,108 @@
--- What was written begins the text of a run over all bytes that came.
-use Rattle.std.proofs.Common.{◌≡◌, inl, inr, ℕ, Bool, true, List, [], ◌∷◌, ◌++◌, refl, sym, ap, ◌∙◌, subst, append_assoc}
-use Rattle.std.proofs.lemmas.List.{append-nil}
+-- Where some statements of an input were answered, the machine goes on to its end; and what was written begins the text of that run.
+use Rattle.std.proofs.Common.{◌≡◌, inl, inr, ℕ, Bool, true, false, List, [], ◌∷◌, ◌++◌, refl, sym, ap, ◌∙◌, subst, append_assoc, append-nil}
 use Rattle.std.proofs.lemmas.List.Concat.{flat_map-append}
-use Rattle.script_lex.specs.Scripts.{Statement, Begins, Cuts, HasNoStatement}
-use Rattle.script_lex.proofs.Statements.{begins_first}
+use Rattle.script_lex.specs.Scripts.{Statement, Begins, HasNoStatement}
+use Rattle.script_lex.proofs.Statements.{Begins-append, begins_first}
 use Rattle.reply_text.specs.declared.reply.Reply.{Reply}
 use Rattle.reply_text.specs.Texts.{reply_text}
-use Rattle.cqa_session.specs.State.{State, IsState}
-use Rattle.cqa_session.specs.Runs.{Run, RunsOver, Closes, text_of}
-use Rattle.going_on_law.specs.Laws.{RunsGoOn, WrittenBeginsRuns}
+use Rattle.cqa_session.specs.State.{State}
+use Rattle.cqa_session.specs.Runs.{Run, Closes, CutShort, text_of}
+use Rattle.cutting_law.specs.Laws.{InputsAreCut}
+use Rattle.going_on_law.specs.Laws.{RunsGoOn, StatesGoOn}
+use Rattle.going_on_law.specs.Runs.{GoesOnFrom, BeginsRun}
 use Rattle.going_on_law.proofs.Running.{closing}
 
 -- a run goes on with another one from its end
-run_join : (old mid new : State) (s t : List Statement) (xs ys : List Reply) → Run old s xs mid → Run mid t ys new → Run old (s ++ t) (xs ++ ys) new
+pub run_join : (old mid new : State) (s t : List Statement) (xs ys : List Reply) → Run old s xs mid → Run mid t ys new → Run old (s ++ t) (xs ++ ys) new
 run_join old mid new [] t [] ys first then = subst (λ z. Run z t ys new) first then
 run_join old mid new [] t (x ∷ xs) ys first then = absurd first
 run_join old mid new (a ∷ s) t [] ys first then = absurd first
 run_join old mid new (a ∷ s) t (x ∷ xs) ys first then = (first.0, first.1, run_join first.0 mid new s t xs ys first.2 then)
 
--- a run over all bytes whose text begins with what was written
-abbrev IsRunOn : State → List ℕ → Bool → List ℕ → Type 0
-IsRunOn old bytes ended written = (all : List Reply) × (end : State) × (left : List ℕ) × (RunsOver old bytes ended all end × (text_of all ≡ written ++ left))
-
-module _ (old new : State) (bytes written more : List ℕ) (ended : Bool) (statements : List Statement) (rest : List ℕ) (replies last : List Reply) (begins : Begins ended bytes statements rest)
-    (run : Run old statements replies new) (whole : text_of replies ++ text_of last ≡ written ++ more) where
-  -- the statements were all, and the end was told
-  ended_run : ended ≡ true → HasNoStatement true rest → Closes true rest last → IsRunOn old bytes ended written
-  ended_run e over closes = (
-    replies ++ last,
-    new,
-    more,
-    (
+pub states_go_on : RunsGoOn → InputsAreCut → StatesGoOn
+states_go_on runs cuts mid is old input ended statements rest replies begins run =
+    let found = cuts ended input in
+    let cut = found.2 in
+    let later = begins_first ended input statements found.0 rest found.1 begins cut.begins cut.over in
+    let on = runs mid later.0 is in
+    let last = closing ended found.1 in
+    let answered = replies ++ on.0 in (
+      answered ++ last.0,
       record {
-        statements = statements;
-        rest = rest;
-        answered = replies;
-        last = last;
-        cut = record { begins = begins; over = subst (λ b. HasNoStatement b rest) (sym e) over };
-        run = run;
-        closes = subst (λ b. Closes b rest last) (sym e) closes;
-        all = refl;
+        new = on.1;
+        whole = record {
+          statements = found.0;
+          rest = found.1;
+          answered = answered;
+          last = last.0;
+          cut = cut;
+          run = subst (λ l. Run old l answered on.1) (sym later.1) (run_join old mid on.1 statements later.0 replies on.0 run on.2.0);
+          closes = last.1;
+          all = refl;
+        };
+        later = later.0;
+        more = on.0;
+        statements_are = later.1;
+        replies_are = refl;
+        run = on.2.0;
       },
-      flat_map-append reply_text replies last ∙ whole,
-    ),
-  )
+    )
 
-  -- the machine goes on with those that are left
-  later_run : RunsGoOn → IsState new → last ≡ [] → (t : List Statement) (q : List ℕ) → Cuts ended bytes t q → IsRunOn old bytes ended written
-  later_run runs is none t q cut =
-      let later = begins_first ended bytes statements t rest q begins cut.begins cut.over in
-      let on = runs new later.0 is in
-      let end = closing ended q in
-      let answered = replies ++ on.0 in
-      let said : text_of replies ≡ written ++ more = sym (append-nil (text_of replies)) ∙ ap (λ l. text_of replies ++ text_of l) (sym none) ∙ whole in (
-        answered ++ end.0,
-        on.1,
-        more ++ (text_of on.0 ++ text_of end.0),
-        (
-          record {
-            statements = t;
-            rest = q;
-            answered = answered;
-            last = end.0;
-            cut = cut;
-            run = subst (λ l. Run old l answered on.1) (sym later.1) (run_join old new on.1 statements later.0 replies on.0 run on.2.0);
-            closes = end.1;
-            all = refl;
-          },
-          flat_map-append reply_text answered end.0
-              ∙ ap (λ l. l ++ text_of end.0) (flat_map-append reply_text replies on.0 ∙ ap (λ l. l ++ text_of on.0) said)
-              ∙ append_assoc (written ++ more) (text_of on.0) (text_of end.0)
-              ∙ append_assoc written more (text_of on.0 ++ text_of end.0),
-        ),
-      )
+-- what begins bytes that haven't ended begins them as an input that has
+begins_as : (from to : Bool) → (from ≡ true → to ≡ true) → (input : List ℕ) (s : List Statement) (rest : List ℕ) → Begins from input s rest → Begins to input s rest
+begins_as true to so input s rest begins = subst (λ b. Begins b input s rest) (sym (so refl)) begins
+begins_as false to so input s rest begins = subst (λ l. Begins to l s rest) (append-nil input) (subst (Begins to (input ++ []) s) (append-nil rest) (Begins-append to input [] s rest begins))
 
-pub written_begins_runs : RunsGoOn → WrittenBeginsRuns
-written_begins_runs runs old new bytes written more ended statements t rest q replies last is begins run tail whole cut = elim tail [
-  | inl none ↦ later_run old new bytes written more ended statements rest replies last begins run whole runs is none t q cut
-  | inr end ↦ ended_run old new bytes written more ended statements rest replies last begins run whole end.0 end.1 end.2
-]
+module _ {old : State} {bytes : List ℕ} {at_end : Type 0} {new : State} {written : List ℕ} (cut : CutShort old bytes at_end new written) (ended : Bool) (so : cut.ended ≡ true → ended ≡ true) where
+  begins : Begins ended bytes cut.statements cut.rest
+  begins = begins_as cut.ended ended so bytes cut.statements cut.rest cut.begins
+
+  -- the statements were all, and the end was told
+  ended_run : ended ≡ true → HasNoStatement true cut.rest → Closes true cut.rest cut.last → BeginsRun cut ended
+  ended_run e over closes = record {
+    all = cut.replies ++ cut.last;
+    runs_on = record {
+      new = new;
+      whole = record {
+        statements = cut.statements;
+        rest = cut.rest;
+        answered = cut.replies;
+        last = cut.last;
+        cut = record { begins = begins; over = subst (λ b. HasNoStatement b cut.rest) (sym e) over };
+        run = cut.run;
+        closes = subst (λ b. Closes b cut.rest cut.last) (sym e) closes;
+        all = refl;
+      };
+      later = [];
+      more = [];
+      statements_are = sym (append-nil cut.statements);
+      replies_are = sym (append-nil cut.replies);
+      run = refl;
+    };
+    left = cut.more;
+    begins = flat_map-append reply_text cut.replies cut.last ∙ cut.written_is;
+  }
+
+  -- the machine goes on with the statements that are left
+  later_run : GoesOnFrom new → cut.last ≡ [] → BeginsRun cut ended
+  later_run goes none =
+      let on = goes old bytes ended cut.statements cut.rest cut.replies begins cut.run in
+      let r = on.1 in
+      let whole = r.whole in
+      let said : text_of cut.replies ≡ written ++ cut.more = sym (append-nil (text_of cut.replies)) ∙ ap (λ l. text_of cut.replies ++ text_of l) (sym none) ∙ cut.written_is in
+      record {
+        all = on.0;
+        runs_on = r;
+        left = cut.more ++ (text_of r.more ++ text_of whole.last);
+        begins =
+            ap text_of whole.all ∙ flat_map-append reply_text whole.answered whole.last
+            ∙ ap (λ l. l ++ text_of whole.last) (ap text_of r.replies_are ∙ flat_map-append reply_text cut.replies r.more ∙ ap (λ l. l ++ text_of r.more) said)
+            ∙ append_assoc (written ++ cut.more) (text_of r.more) (text_of whole.last)
+            ∙ append_assoc written cut.more (text_of r.more ++ text_of whole.last);
+      }
+
+  pub begins_run : GoesOnFrom new → BeginsRun cut ended
+  begins_run goes = elim cut.tail [
+    | inl none ↦ later_run goes none
+    | inr end ↦ ended_run (so end.0) end.1 end.2
+  ]

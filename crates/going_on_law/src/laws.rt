@@ -1,21 +1,18 @@
 //! That the machine always goes on, over its definitions alone. Each law is what its function ensures, so the build proves it.
 
-ghost use Rattle.going_on_law.specs.Laws.{StepsGoOn, RunsGoOn, CutsAreRun, WrittenBeginsRuns};
+ghost use Rattle.going_on_law.specs.Laws.{StepsGoOn, RunsGoOn, InputsAreRun, StatesGoOn, WrittenBeginsRuns};
 
-use replies_law::laws::{
-    union_classes_are_told, union_reasons_are_told, union_sql_is_told, unions_are_told,
-};
-use union_law::laws::union_answers_exist;
+use cutting_law::laws::inputs_are_cut;
+use union_ask::candidates_decide;
+use union_law::laws::{union_answers_exist, union_reasons_exist};
 
 /// From each valid state, each text with each block has a step to a valid state.
 pub fn steps_go_on()
     ensures { StepsGoOn }
 {
-    unions_are_told();
-    union_reasons_are_told();
-    union_classes_are_told();
-    union_sql_is_told();
     union_answers_exist();
+    union_reasons_exist();
+    candidates_decide();
 }
 
 /// From each valid state, some statements have a run to a valid state.
@@ -25,16 +22,25 @@ pub fn runs_go_on()
     steps_go_on();
 }
 
-/// From each valid state, an input that is cut has a run over it.
-pub fn cuts_are_run()
-    ensures { CutsAreRun }
+/// From each valid state, each input has a run over it to a valid state.
+pub fn inputs_are_run()
+    ensures { InputsAreRun }
 {
     runs_go_on();
+    inputs_are_cut();
 }
 
-/// What was written where an answer was cut short begins the text of a run over all bytes that came.
+/// From each valid state, the machine goes on to the end of the input of which some statements have led to it.
+pub fn states_go_on()
+    ensures { StatesGoOn }
+{
+    runs_go_on();
+    inputs_are_cut();
+}
+
+/// What was written where answers were cut short begins the text of a run over all bytes that came.
 pub fn written_begins_runs()
     ensures { WrittenBeginsRuns }
 {
-    runs_go_on();
+    states_go_on();
 }

@@ -19,17 +19,17 @@ pub loop-came-init : goal.loop-came-init
 loop-came-init g c = record { within = omega arith; few = none_held c.args.held.now c.requires.empty; piece = c.requires.piece; underway = begins c.args.taker.now _ c.args.session.now c.args.held.now c.requires.empty }
 
 pub returns-in-Err-clause-row : goal.returns-in-Err-clause-row
-returns-in-Err-clause-row g c = read_failed c.loop-came.invariant.underway (search arith) _ _ c.in-Err.ensures.came c.in-Err.ensures.cause.failed
+returns-in-Err-clause-row g c = λ goes. read_failed c.loop-came.invariant.underway (search arith) _ _ c.in-Err.ensures.came c.in-Err.ensures.cause.failed
 
 pub returns-in-Ok-eq0-clause-row : goal.returns-in-Ok-eq0-clause-row
-returns-in-Ok-eq0-clause-row g c =
+returns-in-Ok-eq0-clause-row g c = λ goes.
     let came = c.in-Ok-eq0.ensures.came in
     let some = as_long c.loop-came.piece c.read_piece.new.piece c.in-Ok-eq0.ensures.size c.loop-came.invariant.piece in
-    rw c.ending_with.ensures (ended c.loop-came.invariant.underway (search arith) c.answer_held.result (take c.in-Ok-eq0.field-0 c.read_piece.new.piece) _ _ _ _ (none_read c.read_piece.new.piece c.in-Ok-eq0.field-0 c.in-Ok-eq0.field-0-test) came.0 (came.1 c.in-Ok-eq0.field-0-test some) c.answer_held.ensures.row)
+    rw c.ending_with.ensures (ended c.loop-came.invariant.underway (search arith) c.answer_held.result (take c.in-Ok-eq0.field-0 c.read_piece.new.piece) _ _ _ _ (none_read c.read_piece.new.piece c.in-Ok-eq0.field-0 c.in-Ok-eq0.field-0-test) came.0 (came.1 c.in-Ok-eq0.field-0-test some) c.answer_held.ensures.row goes)
 
 pub returns-in-Err-answer_piece-clause-row : goal.returns-in-Err-answer_piece-clause-row
-returns-in-Err-answer_piece-clause-row g c =
-    rw (c.from.ensures) (stopped c.loop-came.invariant.underway (search arith) c.in-Err-answer_piece.stop c.in-Ok.count c.read_piece.new.piece _ _ _ _ _ c.in-Ok.ensures.within.1 c.in-Ok.ensures.within.0 c.in-Ok.ensures.came.0 (search arith) c.in-Err-answer_piece.ensures.row)
+returns-in-Err-answer_piece-clause-row g c = λ goes.
+    rw (c.from.ensures) (stopped c.loop-came.invariant.underway (search arith) c.in-Err-answer_piece.stop c.in-Ok.count c.read_piece.new.piece _ _ _ _ _ c.in-Ok.ensures.within.1 c.in-Ok.ensures.within.0 c.in-Ok.ensures.came.0 (search arith) c.in-Err-answer_piece.ensures.row goes)
 
 pub loop-came-preserved : goal.loop-came-preserved
 loop-came-preserved g c = record {

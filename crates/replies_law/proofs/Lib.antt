@@ -1,6 +1,0 @@
-pub mod Siding
-pub mod Explaining
-pub mod Opposing
-pub mod Uniting
-pub mod Planning
-pub mod Ranging

@@ -1,3 +1,0 @@
-pub mod Queries
-pub mod Unions
-pub mod Ranges
