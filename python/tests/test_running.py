@@ -203,7 +203,7 @@ class Runs(ProgramCase):
                 self.assertEqual(self.command("run", os.path.join(TOP, "examples", name + ".cqa")), (0, file.read(), ""))
 
     def test_every_stored_script_gets_the_same_replies(self) -> None:
-        stricter = {"copies"}  # `run FILE` refuses a block with something behind a closing quote
+        stricter = {"copies", "copies_of_one_column"}  # `run FILE` refuses a block with something behind a closing quote
         folder = os.path.join(TOP, "crates", "script_tests", "data")
         for name in sorted(name[:-4] for name in os.listdir(folder) if name.endswith(".cqa")):
             with self.subTest(name), open(os.path.join(folder, name + ".out"), "rb") as file:

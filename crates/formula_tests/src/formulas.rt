@@ -1,9 +1,9 @@
-//! Formulas as texts, read, decided, written and checked.
+//! Formulas as texts, read and decided, logs that are read and written again, and the order and the starts of a search.
 
 ghost use Rattle.std.specs.Prelude.{◌<◌};
 
 use cdcl::{Outcome, solve};
-use cnf_form::{Cnf, Lit, formula_text, read_formula};
+use cnf_form::{Cnf, Lit, read_formula};
 use lrat_check::{check, log_text, read_log};
 use merged_search::is_accepted;
 use search_trail::order::Order;
@@ -96,68 +96,6 @@ fn a_long_chain_is_propagated(rt: HostRuntime) -> Result<(), Fail> {
     let said = answer_to(rt.alloc(), text.as_slice(), 0);
     drop(text);
     assert_eq!(rt; said?, ("sat", 400_000));
-    Ok(())
-}
-
-/// The text of the refutation that a solver finds.
-fn refutation(alloc: Global, cnf: &Cnf) -> Result<Vec<u8>, Fail> {
-    if !is_accepted(cnf) {
-        return Ok(Vec::new(alloc));
-    }
-    let outcome = solve(alloc, cnf, 10)?;
-    let text = match &outcome {
-        Outcome::Unsat(log) => log_text(alloc, log),
-        _ => Ok(Vec::new(alloc)),
-    };
-    drop(outcome);
-    Ok(text?)
-}
-
-fn refutation_of(alloc: Global, text: &[u8]) -> Result<Vec<u8>, Fail> {
-    let (cnf, _) = read_formula(alloc, text)?;
-    let written = refutation(alloc, &cnf);
-    drop(cnf);
-    written
-}
-
-#[test]
-fn a_refutation_is_written(rt: HostRuntime) -> Result<(), Fail> {
-    let written = refutation_of(rt.alloc(), UNITS)?;
-    assert_eq!(rt; written.as_slice(), b"3 0 1 2 0\n".as_slice());
-    Ok(())
-}
-
-/// The text of a copy of the formula that a text has.
-fn formula_again(alloc: Global, text: &[u8]) -> Result<(usize, Vec<u8>), Fail> {
-    let (cnf, at) = read_formula(alloc, text)?;
-    let copied = cnf.copy(alloc);
-    drop(cnf);
-    let cnf = copied?;
-    let written = formula_text(alloc, &cnf);
-    drop(cnf);
-    Ok((at, written?))
-}
-
-#[test]
-fn formulas_are_written(rt: HostRuntime) -> Result<(), Fail> {
-    let cases: [(&[u8], usize, &[u8]); 4] = [
-        (
-            b"c two units\np cnf 1 2\n1 0 -1\n0\nlrat\n3 0 1 2 0\n",
-            36,
-            b"p cnf 1 2\n1 0\n-1 0\n",
-        ),
-        (b"p cnf 0 0\r\nlrat\r\nc", 17, b"p cnf 0 0\n"),
-        (b"p\tcnf 0001 -0\nlrat", 18, b"p cnf 1 0\n"),
-        (
-            b"p cnf 10000000 3\n0 -10000000\nc 7\n\t0009 00\n5 -6 -0\r\nlrat",
-            55,
-            b"p cnf 10000000 3\n0\n-10000000 9 0\n5 -6 0\n",
-        ),
-    ];
-    for (text, place, want) in cases {
-        let (at, written) = formula_again(rt.alloc(), text)?;
-        assert_eq!(rt; (at, written.as_slice()), (place, want));
-    }
     Ok(())
 }
 

@@ -2,7 +2,6 @@
 
 ghost use Rattle.std.specs.Prelude.{◌<◌};
 
-use crate::making::pair;
 use cdcl::Outcome;
 use cnf_form::{Clause, Cnf, Lit, read_formula};
 use cqa_value::{Items, NoMemory};
@@ -72,6 +71,20 @@ fn small_formulas_are_guessed(rt: HostRuntime) -> Result<(), Fail> {
     Ok(())
 }
 
+/// The clause by which two rows exclude each other.
+fn pair(alloc: Global, one: u32, other: u32) -> Result<Clause, NoMemory> {
+    let mut lits = Items::new(alloc);
+    lits.push(Lit {
+        var: one,
+        positive: false,
+    })?;
+    lits.push(Lit {
+        var: other,
+        positive: false,
+    })?;
+    Ok(Clause { lits })
+}
+
 /// The next of a sequence of numbers that look drawn.
 fn next(draw: &mut u64) -> u64 {
     *draw = draw
@@ -117,7 +130,7 @@ impl Making {
                 let (one, side, value) = self.values.get(one).copied().unwrap_or((0, 0, 0));
                 let (other, far, same) = self.values.get(other).copied().unwrap_or((0, 0, 0));
                 if side == 0 && far == 1 && value == same {
-                    self.clauses.push(pair(alloc, one, other, false)?)?;
+                    self.clauses.push(pair(alloc, one, other)?)?;
                 }
             }
         }

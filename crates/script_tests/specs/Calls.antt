@@ -1,5 +1,5 @@
 -- What a call of the program over devices in memory does.
-use Rattle.std.specs.Prelude.{◌≡◌, ℕ, List, [], ◌∷◌, Option, Some, map, string_bytes, String}
+use Rattle.std.specs.Prelude.{◌≡◌, ℕ, List, [], Option, Some, map, string_bytes, String}
 use Rattle.std.specs.declared.alloc.Global.{Global}
 use Rattle.cqa_io.specs.Memory.{SourceView, SinkView, faults_of}
 use Rattle.cqa_session.specs.State.{State, opening}

@@ -1,5 +1,5 @@
-//! Inputs that reach the limits, made here: the longest input of a call and the longest statement, each with a byte more, and the
-//! most rows of a table.
+//! Inputs that reach the limits, made here: the longest input of a call and the longest statement, each with a byte more, the
+//! most rows of a table, and long statements that come byte by byte.
 
 use crate::comparing::ends_as_wanted;
 use crate::devices::{ANSWERED, VERIFIED, told};
@@ -16,6 +16,55 @@ const LONGER_STATEMENT: usize = 1_048_577;
 
 /// The most rows of a table.
 const MOST_ROWS: u32 = 1_000_000;
+
+/// How often a byte stands in a long statement.
+const REPEATED: usize = 1_000_000;
+
+/// A long statement.
+struct Long {
+    /// Its first bytes.
+    first: &'static [u8],
+    /// The byte that is repeated behind them.
+    byte: u8,
+    /// Its last bytes.
+    last: &'static [u8],
+    /// The status that the call ends with.
+    status: u8,
+    /// The reply.
+    output: &'static [u8],
+}
+
+/// A text, a comment, the line of a `copy`, and the lines of its block.
+const LONG: [Long; 4] = [
+    Long {
+        first: b"a '",
+        byte: b'b',
+        last: b"';\n",
+        status: 1,
+        output: b"error 2 Syntax at 0\n",
+    },
+    Long {
+        first: b"-- ",
+        byte: b'b',
+        last: b"\nshow tables;\n",
+        status: 0,
+        output: b"0 tables\n",
+    },
+    Long {
+        first: b"copy;",
+        byte: b' ',
+        last: b"\n\\.\n",
+        status: 1,
+        output: b"error 2 Syntax at 4\n",
+    },
+    Long {
+        first: b"copy;\n",
+        byte: b'\n',
+        last: b"\\.\n",
+        status: 1,
+        output: b"error 2 Syntax at 4\n",
+    },
+];
 
 /// A source that gives so many spaces, and holds none of them.
 #[derive(Drop)]
@@ -97,9 +146,45 @@ fn fills_a_table(rt: &HostRuntime) -> io::Result<bool> {
     ends_as_wanted(rt, "a full table", &case)
 }
 
+/// The bytes of a long statement.
+fn long_text(alloc: Global, long: &Long) -> Result<Vec<u8>, AllocError> {
+    let repeated = vec![in alloc; long.byte; REPEATED]?;
+    let mut text = Vec::from_slice(alloc, long.first)?;
+    text.extend_from_slice(repeated.as_slice())?;
+    text.extend_from_slice(long.last)?;
+    Ok(text)
+}
+
+/// Whether a text that comes byte by byte is answered so.
+fn is_answered<'a>(
+    rt: &HostRuntime,
+    text: &'a [u8],
+    output: &'a [u8],
+    status: u8,
+) -> io::Result<bool> {
+    let case = Case {
+        input: text,
+        piece: 1,
+        status,
+        output,
+        ..ANSWERED
+    };
+    ends_as_wanted(rt, "a long statement", &case)
+}
+
+/// Whether a long statement is answered that comes byte by byte. One that is looked at from its beginning again for each byte
+/// would take hours.
+fn answers_byte_by_byte(rt: &HostRuntime, long: &Long) -> io::Result<bool> {
+    let text = long_text(rt.alloc(), long)?;
+    is_answered(rt, text.as_slice(), long.output, long.status)
+}
+
 /// Whether all limits are kept. A line says which isn't.
 pub fn all_pass(rt: &HostRuntime) -> io::Result<bool> {
     let ends = ends_on_a_longer_input(rt.alloc())?;
-    let ends = told(rt, ends, "a longer input ends otherwise")?;
-    Ok(refuses_a_longer_statement(rt)? && fills_a_table(rt)? && ends)
+    let mut pass = told(rt, ends, "a longer input ends otherwise")?;
+    for long in &LONG {
+        pass &= answers_byte_by_byte(rt, long)?;
+    }
+    Ok(refuses_a_longer_statement(rt)? && fills_a_table(rt)? && pass)
 }

@@ -1,0 +1,23 @@
+//! Tests of calls that no script reaches, and of what no reply shows: a writer that is flushed, blocks of CSV, cursors over rows
+//! and blocks, look-ups in many rows, whether a row holds by a plan, the order in which atoms are taken, and the places of a
+//! witness's rows. Each call succeeds with ample memory, and with the answer that was worked out by hand.
+#![tactic(auto)]
+
+#[cfg(test)]
+mod csv_blocks;
+#[cfg(test)]
+mod cursors;
+#[cfg(test)]
+mod devices;
+#[cfg(test)]
+mod holding;
+#[cfg(test)]
+mod making;
+#[cfg(test)]
+mod many;
+#[cfg(test)]
+mod orders;
+#[cfg(test)]
+mod tables;
+#[cfg(test)]
+mod witnesses;

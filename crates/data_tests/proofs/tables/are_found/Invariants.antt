@@ -1,4 +1,0 @@
-use Rattle.data_tests.proofs.tables.are_found.Given as goal
-
-abbrev pub ghosts-is_found : goal.ghosts-is_found
-ghosts-is_found a = record { name = a.blank.name; parts = a.blank.parts }
