@@ -42,14 +42,25 @@ impl Op {
 }
 
 /// A condition: two columns have one value, or a column's value compares with a literal.
-#[derive(Drop)]
 pub enum Cond {
     Join { left: ColRef, right: ColRef },
     Test { col: ColRef, op: Op, value: Value },
 }
 
+impl Drop for Cond {
+    fn drop(self) {
+        match self {
+            Cond::Join { left: _, right: _ } => {}
+            Cond::Test {
+                col: _,
+                op: _,
+                value: _,
+            } => {}
+        }
+    }
+}
+
 /// A table of a query: its place in the database, its number of columns, the places of its key, and whether it is strict.
-#[derive(Drop)]
 pub struct Atom {
     pub table: u32,
     pub width: u32,
@@ -57,16 +68,36 @@ pub struct Atom {
     pub strict: bool,
 }
 
+impl Drop for Atom {
+    fn drop(self) {
+        let Atom {
+            table: _,
+            width: _,
+            key: _,
+            strict: _,
+        } = self;
+    }
+}
+
 /// A select-project-join query without self-joins.
 ///
 /// It has 1 to `MOST_ATOMS` atoms of different tables, each with 1 to `MOST_COLUMNS` columns and a key of different
 /// columns, at most `MOST_ANSWER_COLUMNS` answer columns, and every column that it speaks of is there.
-#[derive(Drop)]
 pub struct Query {
     pub atoms: Items<Atom>,
     pub conds: Items<Cond>,
     pub answer: Items<ColRef>,
     pub ghost kept: { IsQuery atoms conds answer },
+}
+
+impl Drop for Query {
+    fn drop(self) {
+        let Query {
+            atoms: _,
+            conds: _,
+            answer: _,
+        } = self;
+    }
 }
 
 /// An order of a query's atoms, each named by its place in the query and at most once.

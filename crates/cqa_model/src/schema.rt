@@ -7,10 +7,15 @@ use cqa_value::{Items, Kind, Name, NoMemory};
 use std::alloc::Global;
 
 /// A column of a table.
-#[derive(Drop)]
 pub struct Column {
     pub name: Name,
     pub kind: Kind,
+}
+
+impl Drop for Column {
+    fn drop(self) {
+        let Column { name: _, kind: _ } = self;
+    }
 }
 
 impl Column {
@@ -33,13 +38,23 @@ impl Column {
 /// strict, which is to say that it never holds two rows of one key.
 ///
 /// It has 1 to `MOST_COLUMNS` columns of different names, and its key is a list of one or more different columns.
-#[derive(Drop)]
 pub struct Schema {
     pub name: Name,
     pub columns: Items<Column>,
     pub key: Items<u32>,
     pub strict: bool,
     pub ghost kept: { IsSchema columns key },
+}
+
+impl Drop for Schema {
+    fn drop(self) {
+        let Schema {
+            name: _,
+            columns: _,
+            key: _,
+            strict: _,
+        } = self;
+    }
 }
 
 impl Schema {

@@ -13,12 +13,22 @@ use row_lists::numbering::Numbering;
 use std::alloc::Global;
 
 /// Room for one formula after the other.
-#[derive(Drop)]
 pub struct Room {
     pub formula: FlatFormula,
     pub lits: Vec<Lit>,
     pub numbers: Vec<u32>,
     pub values: Vec<Truth>,
+}
+
+impl Drop for Room {
+    fn drop(self) {
+        let Room {
+            formula: _,
+            lits: _,
+            numbers: _,
+            values: _,
+        } = self;
+    }
 }
 
 impl Room {

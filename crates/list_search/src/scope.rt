@@ -8,11 +8,19 @@ use row_lists::Frame;
 
 /// The tables whose rows are numbered, and for each, by its slot, the columns that are spoken of. It is made once for a
 /// statement.
-#[derive(Drop)]
 pub struct Scope {
     pub frame: Frame,
     pub columns: Items<Items<u32>>,
     pub ghost wide: { length columns ≡ length frame.tables },
+}
+
+impl Drop for Scope {
+    fn drop(self) {
+        let Scope {
+            frame: _,
+            columns: _,
+        } = self;
+    }
 }
 
 impl Scope {

@@ -4,7 +4,6 @@ use cqa_value::{Name, Row};
 
 /// Why a statement was refused. Offsets count the bytes of the statement's text from 0; rows, columns, conditions and
 /// records are numbered from 1.
-#[derive(Drop)]
 pub enum Refusal {
     /// The byte at the offset begins no token, it is the quote that begins a text without an end, or it is the first
     /// byte after the longest UTF-8 prefix of a text's bytes that aren't UTF-8.
@@ -54,6 +53,46 @@ pub enum Refusal {
     CertificateLimit,
     /// Of the tables of a `range` over several, this is the second that isn't strict: at most one may be so.
     NotStrict { name: Name },
+}
+
+impl Drop for Refusal {
+    fn drop(self) {
+        match self {
+            Refusal::BadByte { at: _ } => {}
+            Refusal::Syntax { at: _ } => {}
+            Refusal::StatementTooLong { len: _ } => {}
+            Refusal::UnknownTable { name: _ } => {}
+            Refusal::TableExists { name: _ } => {}
+            Refusal::UnknownColumn { table: _, name: _ } => {}
+            Refusal::AmbiguousColumn { name: _ } => {}
+            Refusal::SelfJoin { name: _ } => {}
+            Refusal::TypeMismatch { place: _ } => {}
+            Refusal::WrongArity { row: _ } => {}
+            Refusal::DuplicateColumn { name: _ } => {}
+            Refusal::BadKey { name: _ } => {}
+            Refusal::OutOfRange { at: _ } => {}
+            Refusal::TextTooLong { at: _ } => {}
+            Refusal::Unfinished => {}
+            Refusal::Limit { what: _ } => {}
+            Refusal::WitnessLimit { row: _ } => {}
+            Refusal::Spent {
+                row: _,
+                conflicts: _,
+            } => {}
+            Refusal::BadCsv { number: _ } => {}
+            Refusal::KeyTaken {
+                row: _,
+                kept: _,
+                fresh: _,
+            } => {}
+            Refusal::KeyBroken {
+                first: _,
+                second: _,
+            } => {}
+            Refusal::CertificateLimit => {}
+            Refusal::NotStrict { name: _ } => {}
+        }
+    }
 }
 
 /// Where two kinds differ: at a value of a row, or in a condition.

@@ -9,7 +9,6 @@ use refusals::Refusal;
 use std::alloc::Global;
 
 /// What a statement is answered by.
-#[derive(Drop)]
 pub enum Reply {
     /// The table of the name was made.
     Created(Name),
@@ -92,16 +91,72 @@ pub enum Reply {
     Refused(Refusal),
 }
 
+impl Drop for Reply {
+    fn drop(self) {
+        match self {
+            Reply::Created(_) => {}
+            Reply::Altered(_) => {}
+            Reply::Inserted(_) => {}
+            Reply::Deleted(_) => {}
+            Reply::Copied(_) => {}
+            Reply::Rows(_) => {}
+            Reply::Classified { class: _, lines: _ } => {}
+            Reply::ClassifiedParts {
+                parts: _,
+                shared: _,
+            } => {}
+            Reply::Steps(_) => {}
+            Reply::Sql(_) => {}
+            Reply::SqlParts(_) => {}
+            Reply::Certificate(_) => {}
+            Reply::NoPlan => {}
+            Reply::NoPlanOf(_) => {}
+            Reply::Shares {
+                first: _,
+                second: _,
+                table: _,
+            } => {}
+            Reply::Rejected(_) => {}
+            Reply::Certain => {}
+            Reply::Against(_) => {}
+            Reply::ByBlock { table: _, key: _ } => {}
+            Reply::ByRefutation(_) => {}
+            Reply::Range {
+                least: _,
+                low: _,
+                greatest: _,
+                high: _,
+            } => {}
+            Reply::Groups(_) => {}
+            Reply::Conflicts(_) => {}
+            Reply::Tables(_) => {}
+            Reply::Contested(_) => {}
+            Reply::Dumped(_) => {}
+            Reply::KeptLog(_) => {}
+            Reply::NoLog => {}
+            Reply::Refused(_) => {}
+        }
+    }
+}
+
 /// A table's schema, with its numbers of rows and of blocks.
-#[derive(Drop)]
 pub struct TableLine {
     pub schema: Schema,
     pub rows: u32,
     pub blocks: u32,
 }
 
+impl Drop for TableLine {
+    fn drop(self) {
+        let TableLine {
+            schema: _,
+            rows: _,
+            blocks: _,
+        } = self;
+    }
+}
+
 /// A table's numbers of rows, of blocks, and of blocks of two rows or more.
-#[derive(Drop)]
 pub struct ConflictLine {
     pub name: Name,
     pub rows: u32,
@@ -109,11 +164,27 @@ pub struct ConflictLine {
     pub conflicts: u32,
 }
 
+impl Drop for ConflictLine {
+    fn drop(self) {
+        let ConflictLine {
+            name: _,
+            rows: _,
+            blocks: _,
+            conflicts: _,
+        } = self;
+    }
+}
+
 /// A row of a table that a repair keeps.
-#[derive(Drop)]
 pub struct KeptRow {
     pub table: Name,
     pub row: Row,
+}
+
+impl Drop for KeptRow {
+    fn drop(self) {
+        let KeptRow { table: _, row: _ } = self;
+    }
 }
 
 /// The least and the greatest value that an aggregate over the rows with a value in a column has in a repair.
@@ -125,11 +196,20 @@ pub struct GroupEnds {
 }
 
 /// An attack of one of a query's tables on another.
-#[derive(Drop)]
 pub struct AttackLine {
     pub from: Name,
     pub to: Name,
     pub weak: bool,
+}
+
+impl Drop for AttackLine {
+    fn drop(self) {
+        let AttackLine {
+            from: _,
+            to: _,
+            weak: _,
+        } = self;
+    }
 }
 
 /// The class of a part of a union, and the attacks between its tables.

@@ -15,12 +15,20 @@ use table_blocks::Database;
 
 /// Tables, each once, and for each table of the database its slot: its place among these. A table that isn't among them has
 /// any slot.
-#[derive(Drop)]
 pub struct Frame {
     pub tables: Items<u32>,
     pub slots: Items<u32>,
     pub ghost few: { length tables ≤ MOST_TABLES },
     pub ghost kept: { AreSlots tables slots },
+}
+
+impl Drop for Frame {
+    fn drop(self) {
+        let Frame {
+            tables: _,
+            slots: _,
+        } = self;
+    }
 }
 
 /// The slots of so many tables, where these have slots.

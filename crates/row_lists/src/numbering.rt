@@ -10,11 +10,16 @@ use crate::span::Span;
 use cqa_value::Items;
 
 /// Spans that are apart from each other, and how many rows they have in all. The rows are numbered one after the other from 1.
-#[derive(Drop)]
 pub struct Numbering {
     pub spans: Items<Span>,
     pub vars: u32,
     pub ghost kept: { IsSpanNumbering spans vars } by { Prim.hlevel (AreBasedTo-prop, props) },
+}
+
+impl Drop for Numbering {
+    fn drop(self) {
+        let Numbering { spans: _, vars: _ } = self;
+    }
 }
 
 /// Whether a span begins at the place of a slot, or before it.

@@ -9,7 +9,6 @@ use cqa_value::{Items, Name, Row, Value};
 
 /// A schema as it is written: a name, one column or more, a key of one column or more, each by its name, and whether the
 /// table is strict.
-#[derive(Drop)]
 pub struct RawSchema {
     pub name: Name,
     pub columns: Items<Column>,
@@ -18,6 +17,17 @@ pub struct RawSchema {
     pub ghost some_column: { 1 ≤ length columns },
     pub ghost some_key: { 1 ≤ length key },
     pub ghost named: { AreNames name columns key },
+}
+
+impl Drop for RawSchema {
+    fn drop(self) {
+        let RawSchema {
+            name: _,
+            columns: _,
+            key: _,
+            strict: _,
+        } = self;
+    }
 }
 
 /// What an `alter` changes of a table: whether it is strict, or its key, of one column or more, each by its name.
@@ -29,35 +39,70 @@ pub enum Change {
 }
 
 /// A test of a row of one table: a column of it and a literal, compared.
-#[derive(Drop)]
 pub struct RawTest {
     pub col: Name,
     pub op: Op,
     pub value: Value,
 }
 
+impl Drop for RawTest {
+    fn drop(self) {
+        let RawTest {
+            col: _,
+            op: _,
+            value: _,
+        } = self;
+    }
+}
+
 /// A column as it is written, with its table or without.
-#[derive(Drop)]
 pub struct RawCol {
     pub table: Option<Name>,
     pub name: Name,
 }
 
+impl Drop for RawCol {
+    fn drop(self) {
+        let RawCol { table: _, name: _ } = self;
+    }
+}
+
 /// A condition as it is written: two columns that are equal, or a comparison with a literal.
-#[derive(Drop)]
 pub enum RawCond {
     Join { left: RawCol, right: RawCol },
     Test { col: RawCol, op: Op, value: Value },
 }
 
+impl Drop for RawCond {
+    fn drop(self) {
+        match self {
+            RawCond::Join { left: _, right: _ } => {}
+            RawCond::Test {
+                col: _,
+                op: _,
+                value: _,
+            } => {}
+        }
+    }
+}
+
 /// A query as it is written, of one table or more. An `exists` has no columns.
-#[derive(Drop)]
 pub struct Select {
     pub columns: Items<RawCol>,
     pub tables: Items<Name>,
     pub conds: Items<RawCond>,
     pub ghost some_table: { 1 ≤ length tables },
     pub ghost few: { length conds ≤ most_items },
+}
+
+impl Drop for Select {
+    fn drop(self) {
+        let Select {
+            columns: _,
+            tables: _,
+            conds: _,
+        } = self;
+    }
 }
 
 /// Two queries or more, as they are written: the parts of a union.
@@ -103,7 +148,6 @@ pub enum RawJoinGoal {
 
 /// A `range` over two tables or more, as it is written: what is asked, the tables, the conditions, and the column by whose
 /// values witnesses are grouped.
-#[derive(Drop)]
 pub struct RawRange {
     pub goal: RawJoinGoal,
     pub tables: Items<Name>,
@@ -111,6 +155,17 @@ pub struct RawRange {
     pub group: Option<RawCol>,
     pub ghost some_other: { 2 ≤ length tables },
     pub ghost few: { length conds ≤ most_items },
+}
+
+impl Drop for RawRange {
+    fn drop(self) {
+        let RawRange {
+            goal: _,
+            tables: _,
+            conds: _,
+            group: _,
+        } = self;
+    }
 }
 
 /// A block of a table as it is written: one row or more, by their values.
