@@ -1,10 +1,9 @@
 -- The records of a block of CSV: all of them are rows, or there is a first that isn't.
-use Rattle.std.proofs.Common.{◌≡◌, ◌∙◌, ◌<◌, ◌+◌, ◌⊎◌, ◌&&◌, ◌∷◌, ◌++◌, ℕ, zero, suc, inl, inr, Bool, true, false, true≢false, List, [], length, Option, Some, None, refl, sym, ap, subst, arith, append_assoc, IsUtf8}
-use Rattle.std.specs.Prelude.{if◌then◌else◌, ℤ, FitsSigned}
-use mir.Syntax.{w64}
+use Rattle.std.proofs.Common.{◌≡◌, ◌∙◌, ◌<◌, ◌+◌, ◌⊎◌, ◌∷◌, ◌++◌, ℕ, zero, suc, inl, inr, Bool, true, false, true≢false, List, [], length, Option, Some, None, refl, sym, ap, subst, arith, append_assoc, IsUtf8}
+use Rattle.std.specs.Prelude.{if◌then◌else◌, ℤ}
 use Rattle.std.specs.List.{AllZip}
 use Rattle.std.specs.Str.{is_utf8}
-use Rattle.std.proofs.lemmas.Bool.{cases_Bool, and_parts}
+use Rattle.std.proofs.lemmas.Bool.{cases_Bool}
 use Rattle.std.proofs.lemmas.Option.{none-some, same_Some}
 use Rattle.std.proofs.lemmas.Str.{IsUtf8-from_is_utf8, is_utf8-from_IsUtf8}
 use native.Mathlib.Decide.{dec_lt}
@@ -17,23 +16,16 @@ use Rattle.cqa_value.specs.declared.value.Kind.{Kind}
 use Rattle.cqa_value.specs.declared.value.Kind.TheVariants.{Int as IntKind, Text as TextKind}
 use Rattle.cqa_value.specs.declared.value.Value.{Value}
 use Rattle.cqa_value.specs.declared.value.Value.TheVariants.{Int, Text}
-use Rattle.cqa_value.specs.Literals.{are_digits, without_minus, integer_of, is_in_range, int_of}
-use Rattle.cqa_value.specs.Valid.{IsValidText, IsValidValue, IsValidRow}
-use Rattle.cqa_value.proofs.Integers.{fits_from}
+use Rattle.cqa_value.specs.Literals.{int_of}
+use Rattle.cqa_value.specs.Valid.{IsValidRow, IsValidText}
 use Rattle.cqa_value.proofs.Words.{mem-nil, mem-cases, dec_both}
 use Rattle.cqa_model.proofs.Values.{dec_by}
 use Rattle.csv_rows.specs.Blocks.{IsFieldOf, IsRecordOf}
+use Rattle.csv_rows.proofs.Fitting.{record_valid}
 use Rattle.table_blocks.specs.Tables.{AreValidRows}
 use Rattle.csv_law.specs.Laws.{BlocksAreRead}
 
 -- ---- the value of a field, and the row of a record
-
-valid_int : (text : List ℕ) (n : ℤ) → int_of text ≡ Some n → FitsSigned w64 n
-valid_int text n e = go (are_digits (without_minus text) && is_in_range (integer_of text)) refl e
-  where
-    go : (b : Bool) → (are_digits (without_minus text) && is_in_range (integer_of text)) ≡ b → (if b then Some (integer_of text) else None) ≡ Some n → FitsSigned w64 n
-    go true p q = fits_from n (subst (λ z. is_in_range z ≡ true) (same_Some (integer_of text) n q) (and_parts (are_digits (without_minus text)) (is_in_range (integer_of text)) p).1)
-    go false p q = absurd (none-some n q)
 
 dec_text : (bytes : List ℕ) → Dec (IsValidText bytes)
 dec_text bytes = dec_by (λ h. record { utf8 = h.0; short = (let l = h.1 in omega (arith, l)) }) (λ v. (v.utf8, (let l = v.short in omega (arith, l)))) (dec_both (utf8 (cases_Bool (is_utf8 bytes))) (dec_lt (length bytes) (LONGEST_TEXT_VALUE + 1)))
@@ -62,10 +54,6 @@ dec_field TextKind field = go (dec_text field)
     go (yes v) = yes (Text field, (refl, refl, v))
     go (no f) = no (λ h. none f h.0 h.1)
 
-field_valid : (kind : Kind) (field : List ℕ) (value : Value) → IsFieldOf kind field value → IsValidValue value
-field_valid kind field (Int n) h = valid_int field n h.1
-field_valid kind field (Text bytes) h = subst IsValidText (sym h.1) h.2
-
 dec_record : (kinds : List Kind) (fields : List (List ℕ)) → Dec ((row : List Value) × IsRecordOf kinds fields row)
 dec_record [] [] = yes ([], tt)
 dec_record [] (field ∷ fields) = no (λ h. h.1)
@@ -84,15 +72,6 @@ dec_record (kind ∷ kinds) (field ∷ fields) = go (dec_field kind field) (dec_
     go (yes v) (yes r) = yes (v.0 ∷ r.0, (v.1, r.1))
     go (no f) r = no (λ h. no_head f h.0 h.1)
     go (yes v) (no f) = no (λ h. no_tail f h.0 h.1)
-
-record_valid : (kinds : List Kind) (fields : List (List ℕ)) (row : List Value) → IsRecordOf kinds fields row → IsValidRow row
-record_valid [] [] [] h i d inside = absurd (omega (arith, inside))
-record_valid [] [] (value ∷ values) h i d inside = absurd h
-record_valid [] (field ∷ fields) row h i d inside = absurd h
-record_valid (kind ∷ kinds) [] row h i d inside = absurd h
-record_valid (kind ∷ kinds) (field ∷ fields) [] h i d inside = absurd h
-record_valid (kind ∷ kinds) (field ∷ fields) (value ∷ values) h zero d inside = field_valid kind field value h.0
-record_valid (kind ∷ kinds) (field ∷ fields) (value ∷ values) h (suc i) d inside = record_valid kinds fields values h.1 i d (omega (arith, inside))
 
 -- ---- all records of a text
 

@@ -1,5 +1,5 @@
 -- What rows a block of CSV holds (RFC 4180; Y. Shafranovich, 2005). A text's records are those of the crate `csv`.
-use Rattle.std.specs.Prelude.{◌≡◌, ◌+◌, ℕ, List, [], ◌∷◌, ◌++◌, Some, ⊤, length, map}
+use Rattle.std.specs.Prelude.{◌≡◌, ◌⊎◌, ◌+◌, ℕ, List, [], ◌∷◌, ◌++◌, Some, ⊤, length, map}
 use Rattle.std.specs.List.{AllZip}
 use Rattle.std.specs.Borrow.{Bor}
 use Rattle.csv.specs.Reading.{AreRecords, Reached, Ready, default_config, reader_config, reader_source, reader_state, reader_trim, source_of, strip_bom}
@@ -42,6 +42,10 @@ pub record HoldsRows (kinds : List Kind) (block : List ℕ) (rows : List (List V
   pub records : List (List (List ℕ))
   pub are_all : AreRecords default_config StartRecord (strip_bom block) records
   pub are_rows : AllZip (IsRecordOf kinds) records rows
+
+-- one of two lists of rows has none
+abbrev pub IsOneEmpty : List (List Value) → List (List Value) → Type 0
+IsOneEmpty some others = (some ≡ []) ⊎ (others ≡ [])
 
 -- the first record that is no row, by its number from 1: those before it are rows
 pub record IsFirstBad (kinds : List Kind) (block : List ℕ) (number : ℕ) : Type 0 where

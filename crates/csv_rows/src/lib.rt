@@ -12,6 +12,6 @@ mod writing;
 
 pub use ends::row_has_end;
 pub use laws::a_block_reads_in_one_way;
-pub use reading::read_rows;
+pub use reading::{BlockRows, read_rows};
 pub use table::{append_create, append_table};
 pub use writing::{append_block, write_rows};

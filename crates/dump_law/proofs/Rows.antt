@@ -23,7 +23,7 @@ use Rattle.row_order.proofs.Reordering.{ordered_once}
 use Rattle.table_changes.proofs.FirstSharing.{none_passes}
 use Rattle.table_blocks.proofs.Sharing.{same_decides}
 use Rattle.table_blocks.proofs.Changing.{total_push}
-use Rattle.text_again.proofs.Fitting.{rows_fit}
+use Rattle.csv_rows.proofs.Fitting.{rows_fit}
 
 -- of some rows, those that are there already
 abbrev pub part : List (List Value) → List (List Value) → List (List Value)

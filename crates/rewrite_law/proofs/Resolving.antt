@@ -35,7 +35,7 @@ use Rattle.query_resolve.proofs.Queries.{kinds_stored, Parts, is_query, query_of
 use Rattle.query_resolve.proofs.Scopes.{column_passes, kind_is}
 use Rattle.block_tree.specs.Trees.{SameButPlaces}
 use Rattle.rewrite_text.specs.Texts.{atom_name, column_name_at}
-use Rattle.text_again.proofs.Fitting.{same_self}
+use Rattle.csv_rows.proofs.Fitting.{same_self}
 use Rattle.text_again.proofs.Resolved.{missing, none_fails, passing}
 use Rattle.rewrite_law.proofs.Written.{written_column, written_condition, written_tables, written_select}
 use Rattle.rewrite_law.proofs.Tables.{no_atom, AreTablesOf, own, many_names, nth_name, names_differ, name_found, table_found, own_columns, own_keys, own_marks, own_kinds, own_width, scope_columns, place_found, own_database}

@@ -36,7 +36,7 @@ use Rattle.rewrite_check.proofs.Unique.{checks_once}
 use Rattle.rewrite_text.specs.Texts.{atom_name, certificate_creates, certificate_prove, certificate_order, certificate_block, certificate_head, certificate_statements, statements_bytes}
 use Rattle.rewrite_text.specs.Certificates.{IsTooLong}
 use Rattle.rewrite_text.proofs.Made.{made_passes}
-use Rattle.text_again.proofs.Fitting.{rows_fit}
+use Rattle.csv_rows.proofs.Fitting.{rows_fit}
 use Rattle.text_again.proofs.Resolved.{Differ}
 use Rattle.text_again.proofs.Says.{has_statement, has_form}
 use Rattle.rewrite_law.specs.Printed.{HasValidLiterals, PrintedIsVerified}

@@ -16,10 +16,10 @@ const ZERO: u64 = 1 << 63;
 
 /// Numbers for the two values of a row that come first in block order, and the row's place, from 0.
 #[derive(Clone, Copy)]
-pub struct Told {
-    pub first: u64,
-    pub second: u64,
-    pub place: usize,
+struct Told {
+    first: u64,
+    second: u64,
+    place: u32,
 }
 
 /// The first bytes of a text as a number in base 256; a byte that isn't there counts as 0.
@@ -69,8 +69,8 @@ fn numbers_of(row: &Row, column: u32, next: u32) -> (u64, u64) {
 fn items_of(alloc: Global, rows: &[Row], key: &[u32]) -> Result<Vec<Told>, NoMemory> {
     let (column, next) = first_columns(key);
     let mut items = Vec::with_capacity(alloc, rows.len())?;
-    for place in 0..rows.len() {
-        let (first, second) = numbers_of(&rows[place], column, next);
+    for (row, place) in rows.iter().zip(0..u32::MAX) {
+        let (first, second) = numbers_of(row, column, next);
         items.push(Told {
             first,
             second,
@@ -81,13 +81,13 @@ fn items_of(alloc: Global, rows: &[Row], key: &[u32]) -> Result<Vec<Told>, NoMem
 }
 
 /// Compares the rows at two places by block order; a place without a row counts as another row.
-fn compare_places(rows: &[Row], key: &[u32], none: &Row, a: usize, b: usize) -> Ordering
+fn compare_places(rows: &[Row], key: &[u32], none: &Row, a: u32, b: u32) -> Ordering
     ensures { result ≡ block_cmp key.now (slice_index_or rows.now a none.now) (slice_index_or rows.now b none.now) }
 {
     block_compare(
         key,
-        rows.get(a).unwrap_or(none),
-        rows.get(b).unwrap_or(none),
+        rows.get(a as usize).unwrap_or(none),
+        rows.get(b as usize).unwrap_or(none),
     )
 }
 
@@ -102,14 +102,23 @@ fn compare_told(rows: &[Row], key: &[u32], none: &Row, a: &Told, b: &Told) -> Or
     compare_places(rows, key, none, a.place, b.place)
 }
 
+/// The places that items tell, as a list of few bytes each, since it is read at random.
+fn places_of(alloc: Global, items: &[Told]) -> Result<Vec<u32>, NoMemory> {
+    let mut places = Vec::with_capacity(alloc, items.len())?;
+    for item in items {
+        places.push(item.place)?;
+    }
+    Ok(places)
+}
+
 /// The places of rows, mostly in block order. Nothing is promised of them.
 ///
 /// # Errors
 ///
 /// `NoMemory` where memory is refused.
-pub fn flat_sorted(alloc: Global, rows: &[Row], key: &[u32]) -> Result<Vec<Told>, NoMemory> {
+pub fn flat_sorted(alloc: Global, rows: &[Row], key: &[u32]) -> Result<Vec<u32>, NoMemory> {
     let mut items = items_of(alloc, rows, key)?;
     let none = Row::new(alloc);
     items.sort_unstable_by(|a, b| -> Ordering { compare_told(rows, key, &none, a, b) });
-    Ok(items)
+    places_of(alloc, items.as_slice())
 }

@@ -1,4 +1,4 @@
-//! Rows are sorted by block order: they are arranged by their first values first, and what that leaves is sorted as it stands.
+//! Rows are sorted by block order, or arranged by their first values alone, so that a sort finds them mostly in order.
 ghost use Rattle.std.specs.Prelude.{◌≡◌};
 ghost use Rattle.std.specs.List.Sorted.{IsPermutation, IsSorted};
 ghost use Rattle.cqa_model.specs.Database.{block_cmp};
@@ -24,23 +24,22 @@ fn stand_in_order(rows: &[Row], key: &[u32]) -> bool {
 /// # Errors
 ///
 /// `NoMemory` where memory is refused.
-fn arrange(alloc: Global, rows: &mut [Row], key: &[u32]) -> Result<(), NoMemory>
+pub fn arrange(alloc: Global, rows: &mut [Row], key: &[u32]) -> Result<(), NoMemory>
     ensures { IsPermutation rows.old rows.new }
 {
     if rows.len() <= FEW || stand_in_order(rows, key) {
         return Ok(());
     }
-    let mut items = flat_sorted(alloc, rows, key)?;
-    settle(rows, items.as_mut_slice());
+    let mut places = flat_sorted(alloc, rows, key)?;
+    settle(rows, places.as_mut_slice());
     Ok(())
 }
 
-/// Sorts rows by block order, in one pass where they are arranged; where memory for that is refused, from how they stand.
-pub fn sort_rows(alloc: Global, rows: &mut [Row], key: &[u32])
+/// Sorts rows by block order.
+pub fn sort_rows(rows: &mut [Row], key: &[u32])
     ensures permutation { IsPermutation rows.old rows.new }
     ensures sorted { IsSorted (block_cmp key.now) rows.new }
 {
-    let _arranged = arrange(alloc, rows, key);
     rows.sort_unstable_by(
         |a, b| -> Ordering
             ensures { result ≡ block_cmp key.entry.now a.now b.now }

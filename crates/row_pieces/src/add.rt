@@ -1,6 +1,7 @@
-//! Rows that go behind all those of pieces.
+//! Rows that go behind all those of pieces, many at once or one.
 
-ghost use Rattle.std.specs.Prelude.{◌≡◌, ◌≤◌, ◌++◌, OnOk, OnErr, [], length, reverse, take};
+ghost use Rattle.std.specs.Prelude.{◌≡◌, ◌≤◌, ◌++◌, ◌∷◌, OnOk, OnErr, [], length, reverse, take};
+ghost use Rattle.row_pieces.specs.declared.piece.Piece.{Piece as PieceOfRows};
 ghost use Rattle.row_pieces.specs.Joined.{joined, ArePlaced};
 
 use crate::marked::MarkedRows;
@@ -91,4 +92,41 @@ pub fn add_behind(pieces: &mut Vec<Piece>, rows: &mut Vec<Row>) -> Result<(), No
     let last = &mut pieces[count - 1];
     last.rows.append(rows)?;
     Ok(())
+}
+
+/// Begins a piece with a row behind all those of pieces. The first piece has little room, each further one has all.
+///
+/// # Errors
+///
+/// `NoMemory` where memory is refused; the pieces are as before then.
+fn begin_piece(pieces: &mut Vec<Piece>, start: usize, row: Row) -> Result<(), NoMemory>
+    ensures ok { OnOk result ((piece : PieceOfRows) × (pieces.new.items ≡ pieces.old.items ++ piece ∷ []) × (piece.start ≡ start) × (piece.rows ≡ row ∷ [])) }
+    ensures err { OnErr result (pieces.new.items ≡ pieces.old.items) }
+{
+    let room = if pieces.is_empty() { 1 } else { MOST_IN_PIECE };
+    pieces.reserve(1)?;
+    let mut rows = MarkedRows::with_room(*pieces.allocator(), room)?;
+    rows.push(row)?;
+    pieces.push_reserved(Piece { start, rows });
+    Ok(())
+}
+
+/// Puts a row behind all those of pieces, so many: into the last piece if that has room for it.
+///
+/// # Errors
+///
+/// `NoMemory` where memory is refused; the pieces hold the same rows as before then.
+pub fn push_behind(pieces: &mut Vec<Piece>, count: usize, row: Row) -> Result<(), NoMemory>
+    requires numbered { ArePlaced 0 pieces.old.items }
+    requires count { count ≡ length (joined pieces.old.items) }
+    ensures ok { OnOk result (joined pieces.new.items ≡ joined pieces.old.items ++ row ∷ []) }
+    ensures err { OnErr result (joined pieces.new.items ≡ joined pieces.old.items) }
+    ensures numbered { ArePlaced 0 pieces.new.items }
+{
+    let some = pieces.len();
+    if some == 0 || pieces[some - 1].rows.len() >= MOST_IN_PIECE {
+        return begin_piece(pieces, count, row);
+    }
+    let last = &mut pieces[some - 1];
+    last.rows.push(row)
 }

@@ -1,6 +1,6 @@
 //! Rows that are kept with their marks.
 
-ghost use Rattle.std.specs.Prelude.{◌≡◌, ◌≤◌, ◌<◌, ◌+◌, ◌-◌, ◌++◌, ◌==◌, Bool, List, IfOk, OnOk, OnErr, [], length, map, filter, take, drop, slice_get};
+ghost use Rattle.std.specs.Prelude.{◌≡◌, ◌≤◌, ◌<◌, ◌+◌, ◌-◌, ◌++◌, ◌==◌, ◌∷◌, Bool, List, IfOk, OnOk, OnErr, [], length, map, filter, take, drop, slice_get};
 ghost use Rattle.std.specs.Fn.{ComputesKey};
 ghost use Rattle.std.specs.List.{insert, remove};
 ghost use Rattle.std.specs.Vec.{vec_len, vec_capacity};
@@ -14,18 +14,28 @@ use crate::mark::mark_of_row;
 use cqa_value::{NoMemory, Row};
 use std::alloc::Global;
 use std::marker::Model;
+use std::mem::replace;
 
 /// For how many rows more room is made at least where there is none, so that little is left over.
 const STEP: usize = 32;
 
 /// Rows one after the other, and the mark of each.
-#[derive(Drop)]
 pub struct MarkedRows {
     rows: Vec<Row>,
     marks: Vec<u64>,
 
     /// Mostly the first mark, so that a search reads less. Nothing is promised of it.
     first: u64,
+}
+
+impl Drop for MarkedRows {
+    fn drop(self) {
+        let MarkedRows {
+            rows: _,
+            marks: _,
+            first: _,
+        } = self;
+    }
 }
 
 impl Model for MarkedRows {
@@ -130,6 +140,20 @@ impl MarkedRows {
         }
     }
 
+    /// No rows, with room made for so many.
+    ///
+    /// # Errors
+    ///
+    /// `NoMemory` where memory is refused.
+    pub fn with_room(alloc: Global, count: usize) -> Result<MarkedRows, NoMemory>
+        ensures { IfOk result (λ marked. marked ≡ []) }
+    {
+        let marks = Vec::with_capacity(alloc, count)?;
+        let rows = Vec::with_capacity(alloc, count)?;
+        let first = 0;
+        Ok(MarkedRows { rows, marks, first })
+    }
+
     /// The rows.
     pub fn as_slice(&self) -> &[Row]
         ensures { result.now ≡ self.now }
@@ -198,6 +222,24 @@ impl MarkedRows {
         Ok(())
     }
 
+    /// Puts a row behind the others.
+    ///
+    /// # Errors
+    ///
+    /// `NoMemory` where memory is refused; nothing has changed then.
+    pub fn push(&mut self, row: Row) -> Result<(), NoMemory>
+        ensures ok { OnOk result (self.new ≡ self.old ++ row ∷ []) }
+        ensures err { OnErr result (self.new ≡ self.old) }
+    {
+        make_room(&mut self.rows, 1)?;
+        make_room(&mut self.marks, 1)?;
+        let mark = mark_of_row(&row);
+        self.first = first_with(self.first, self.marks.len(), mark);
+        self.marks.push_reserved(mark);
+        self.rows.push_reserved(row);
+        Ok(())
+    }
+
     /// Takes the row at a place out.
     pub fn remove(&mut self, at: usize)
         requires { at < length self.old }
@@ -223,6 +265,23 @@ impl MarkedRows {
         push_marks(&mut self.marks, rows.as_slice());
         self.first = first_of(self.marks.as_slice());
         drop(self.rows.append(rows));
+        Ok(())
+    }
+
+    /// Moves all rows behind others, and gives back the memory that they took.
+    ///
+    /// # Errors
+    ///
+    /// `NoMemory` where memory is refused.
+    pub fn give(&mut self, others: &mut Vec<Row>) -> Result<(), NoMemory>
+        ensures given { OnOk result (others.new.items ≡ others.old.items ++ self.old) }
+    {
+        let alloc = *self.rows.allocator();
+        let mut rows = replace(&mut self.rows, Vec::new(alloc));
+        drop(replace(&mut self.marks, Vec::new(alloc)));
+        let given = others.append(&mut rows);
+        drop(rows);
+        given?;
         Ok(())
     }
 

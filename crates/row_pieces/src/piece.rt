@@ -1,6 +1,7 @@
 //! Pieces of the rows of a table, and the piece for a place.
 
-ghost use Rattle.std.specs.Prelude.{◌≡◌, ℕ, IsTrue, ◌≤◌, ◌<◌, ◌+◌, ◌-◌, ◌++◌, ◌^◌, Some, length, take, drop, slice_get};
+ghost use Rattle.std.specs.Prelude.{◌≡◌, ℕ, IsTrue, ◌≤◌, ◌<◌, ◌+◌, ◌-◌, ◌++◌, ◌∷◌, ◌^◌, [], List, Some, IfSome, length, take, drop, slice_get};
+ghost use Rattle.cqa_value.specs.declared.value.Value.{Value as Cell};
 ghost use Rattle.row_pieces.specs.Joined.{joined, ArePlaced, IsPieceOf};
 
 use crate::marked::MarkedRows;
@@ -11,10 +12,15 @@ use cqa_value::Row;
 pub const MOST_IN_PIECE: usize = 256;
 
 /// Some rows one after the other, with the place of the first of them.
-#[derive(Drop)]
 pub struct Piece {
     pub start: usize,
     pub rows: MarkedRows,
+}
+
+impl Drop for Piece {
+    fn drop(self) {
+        let Piece { start: _, rows: _ } = self;
+    }
 }
 
 /// Whether a piece begins at a place or before it, and no other piece behind it does.
@@ -62,6 +68,14 @@ pub fn row_of<'a>(pieces: &'a [Piece], place: usize) -> &'a Row
 {
     let piece = &pieces[piece_of(pieces, place)];
     row_in(piece.rows.as_slice(), place - piece.start)
+}
+
+/// The last row of the last piece, if that has one.
+pub fn last_of(pieces: &[Piece]) -> Option<&Row>
+    ensures { IfSome result (λ row. (before : List (List Cell)) × (joined pieces.now ≡ before ++ row.now ∷ [])) }
+{
+    let piece = pieces.last()?;
+    piece.rows.as_slice().last()
 }
 
 /// What stands from a place on in its piece, and the pieces behind that.

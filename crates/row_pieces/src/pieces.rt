@@ -1,14 +1,15 @@
 //! Rows that are held, in the order in which they were put.
 
-ghost use Rattle.std.specs.Prelude.{◌≡◌, ◌+◌, ◌-◌, ◌≤◌, ◌++◌, Bool, List, OnOk, OnErr, [], length, map, filter, take, drop};
+ghost use Rattle.std.specs.Prelude.{◌≡◌, ◌+◌, ◌-◌, ◌≤◌, ◌++◌, ◌∷◌, Bool, List, IfOk, IfSome, OnOk, OnErr, [], length, map, filter, take, drop};
 ghost use Rattle.std.specs.Fn.{ComputesKey};
 ghost use Rattle.cqa_value.specs.declared.value.Value.{Value as Cell};
 ghost use Rattle.row_pieces.specs.Inserted.{with_items, AreRising};
 
-use crate::piece::{Piece, renumber};
+use crate::add::push_behind;
+use crate::piece::{Piece, last_of, renumber};
 use crate::put::put;
 use crate::rows::Rows;
-use crate::take::{exchange_each, retain_each, retain_told_each, settle};
+use crate::take::{exchange_each, give_each, retain_each, retain_told_each, settle};
 use cqa_value::{NoMemory, Row};
 use std::alloc::Global;
 use std::marker::Model;
@@ -17,10 +18,18 @@ use std::marker::Model;
 /// and not all behind it. A piece is begun only where another one is full, or has no room for all rows that go behind it, and
 /// goes when a removal takes the last of its rows; an insert that is refused may leave one without rows. Pieces that removals
 /// leave small aren't joined, so there may be as many as rows.
-#[derive(Drop)]
 pub struct Pieces {
     pieces: Vec<Piece>,
     count: usize,
+}
+
+impl Drop for Pieces {
+    fn drop(self) {
+        let Pieces {
+            pieces: _,
+            count: _,
+        } = self;
+    }
 }
 
 impl Model for Pieces {
@@ -56,6 +65,49 @@ impl Pieces {
     /// The allocator that it takes memory from.
     pub fn allocator(&self) -> Global {
         *self.pieces.allocator()
+    }
+
+    /// Puts a row behind the others.
+    ///
+    /// # Errors
+    ///
+    /// `NoMemory` where memory is refused; nothing has changed then.
+    pub fn push(&mut self, row: Row) -> Result<(), NoMemory>
+        ensures ok { OnOk result (self.new ≡ self.old ++ row ∷ []) }
+        ensures err { OnErr result (self.new ≡ self.old) }
+    {
+        let Some(count) = self.count.checked_add(1) else {
+            return Err(NoMemory);
+        };
+        push_behind(&mut self.pieces, self.count, row)?;
+        self.count = count;
+        Ok(())
+    }
+
+    /// The last row. Where the last piece has none, it may be that none is given though there are rows.
+    pub fn last(&self) -> Option<&Row>
+        ensures { IfSome result (λ row. (before : List (List Cell)) × (self.now ≡ before ++ row.now ∷ [])) }
+    {
+        last_of(self.pieces.as_slice())
+    }
+
+    /// The rows as one list. Each piece's memory is given back once its rows are moved.
+    ///
+    /// # Errors
+    ///
+    /// `NoMemory` where memory is refused.
+    pub fn into_vec(self) -> Result<Vec<Row>, NoMemory>
+        ensures { IfOk result (λ rows. rows.items ≡ self) }
+    {
+        let Pieces { mut pieces, count } = self;
+        let mut rows = Vec::with_capacity(*pieces.allocator(), count)?;
+        let given = give_each(pieces.as_mut_slice(), &mut rows);
+        drop(pieces);
+        if given.is_err() {
+            drop(rows);
+            return Err(NoMemory);
+        }
+        Ok(rows)
     }
 
     /// Puts rows in, each before the one that stands at its place.

@@ -1,6 +1,6 @@
 //! Rows that are taken out of pieces, or exchanged.
 
-ghost use Rattle.std.specs.Prelude.{◌≡◌, ◌≤◌, ◌<◌, ◌+◌, ◌-◌, ◌^◌, ◌++◌, Bool, List, length, map, take, drop};
+ghost use Rattle.std.specs.Prelude.{◌≡◌, ◌≤◌, ◌<◌, ◌+◌, ◌-◌, ◌^◌, ◌++◌, Bool, List, OnOk, length, map, take, drop};
 ghost use Rattle.std.specs.Fn.{ComputesKey};
 ghost use Rattle.cqa_value.specs.declared.value.Value.{Value as Cell};
 ghost use Rattle.row_pieces.specs.Joined.{joined, ArePlaced};
@@ -8,7 +8,22 @@ ghost use Rattle.row_pieces.specs.Retained.{retained};
 
 use crate::marked::MarkedRows;
 use crate::piece::{Piece, piece_of, renumber};
-use cqa_value::Row;
+use cqa_value::{NoMemory, Row};
+
+/// Moves the rows of all pieces behind others, one piece after the other.
+///
+/// # Errors
+///
+/// `NoMemory` where memory is refused.
+pub fn give_each(pieces: &mut [Piece], rows: &mut Vec<Row>) -> Result<(), NoMemory>
+    ensures { OnOk result (rows.new.items ≡ rows.old.items ++ joined pieces.old) }
+{
+    for at in 0..pieces.len() {
+        let piece = &mut pieces[at];
+        piece.rows.give(rows)?;
+    }
+    Ok(())
+}
 
 /// Takes the rows of a stretch away that don't pass a test, as far as it goes over these, and gives the test.
 fn retain_some<P: FnMut(&Row) -> bool>(rows: &mut MarkedRows, from: usize, to: usize, stays: P) -> P

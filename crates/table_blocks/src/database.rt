@@ -19,15 +19,20 @@ use cqa_model::{MOST_ROWS, MOST_TABLES, Schema};
 use cqa_value::{Items, Name, NoMemory, Row};
 use indexmap::IndexMap;
 use row_order::Probe;
-use row_pieces::Rows;
+use row_pieces::{Pieces, Rows};
 use std::alloc::Global;
 use std::marker::Model;
 use std::sync::ledger::Ledger;
 
 /// Tables in the order of their creation, under different names. Their values are valid.
-#[derive(Drop)]
 pub struct Database {
     tables: IndexMap<Name, Table>,
+}
+
+impl Drop for Database {
+    fn drop(self) {
+        let Database { tables: _ } = self;
+    }
 }
 
 impl Model for Database {
@@ -228,6 +233,24 @@ impl Database {
                 found.add(fresh)?;
                 Ok(())
             }
+            None => unreachable!(),
+        }
+    }
+
+    /// Gives a table without rows its rows, in block order and in the pieces in which it holds them. The table isn't strict.
+    pub fn fill(&mut self, table: u32, rows: Pieces)
+        requires there { table < length self.old }
+        requires empty { rows_at self.old table ≡ [] }
+        requires lax { mark_at self.old table ≡ false }
+        requires ascending { IsStrictlySortedBy (block_cmp (key_at self.old table)) rows }
+        requires fits { (row : List Value) → Contains rows row → map kind_of row ≡ kinds_at self.old table }
+        requires valid { AreValidRows rows }
+        requires room { row_total self.old + length rows ≤ MOST_ROWS }
+        ensures filled { self.new ≡ with_rows self.old table rows }
+        ensures stored { AreValidTables self.new }
+    {
+        match self.tables.get_index_mut(table as usize) {
+            Some(found) => found.fill(rows),
             None => unreachable!(),
         }
     }

@@ -16,12 +16,18 @@ use cqa_value::{Items, NoMemory};
 use row_pieces::{Pieces, Rows};
 use std::alloc::Global;
 use std::marker::Model;
+use std::mem::replace;
 
 /// A table: its rows are of its schema, stand in block order, and hold valid values.
-#[derive(Drop)]
 pub struct Table {
     schema: Schema,
     rows: Pieces,
+}
+
+impl Drop for Table {
+    fn drop(self) {
+        let Table { schema: _, rows: _ } = self;
+    }
 }
 
 impl Model for Table {
@@ -99,6 +105,18 @@ impl Table {
         let Fresh { rows, places } = fresh;
         self.rows.insert(rows, places.as_slice())?;
         Ok(())
+    }
+
+    /// Takes all its rows, in block order and in the pieces in which they are held then. It isn't strict.
+    pub fn fill(&mut self, rows: Pieces)
+        requires ascending { IsStrictlySortedBy (block_cmp self.old.schema.key) rows }
+        requires fits { (row : List Value) → Contains rows row → IsRowOf self.old.schema row }
+        requires valid { AreValidRows rows }
+        requires lax { self.old.schema.strict ≡ false }
+        ensures table { IsTable self.new }
+        ensures is { self.new ≡ record self.old { rows = rows } }
+    {
+        drop(replace(&mut self.rows, rows));
     }
 
     /// Makes the table strict, unless two rows share its key: then this gives the first two rows of the first block of more than

@@ -13,7 +13,8 @@ use Rattle.refusals.specs.declared.refusal.LimitKind.TheVariants.{Rows}
 use Rattle.refusals.specs.Refusal.{first_of, IsRefusedAs}
 use Rattle.refusals.specs.Kinds.{rows_fault}
 use Rattle.cqa_model.specs.Database.{Table, row_total}
-use Rattle.table_blocks.specs.Tables.{IsMerged, rows_at, kinds_at}
+use Rattle.table_blocks.specs.Tables.{IsMerged, rows_at, key_at, kinds_at, mark_at}
+use Rattle.table_changes.specs.Taken.{taken_fault}
 use Rattle.table_changes.specs.Changes.{is_among, count_new, strict_key_fault, limit_fault, insert_fault}
 use Rattle.table_changes.proofs.Membership.{among}
 
@@ -38,6 +39,10 @@ room n h = ap (λ b. if b then None else Some (Limit Rows)) fits
   where
     fits : nat_le n 1_000_000 ≡ true
     fits = search (rules, h)
+
+-- a table that isn't strict takes rows of any keys
+pub lax_fault : (db : List Table) (table : ℕ) (rows : List (List Value)) → mark_at db table ≡ false → strict_key_fault db table rows ≡ None
+lax_fault db table rows lax = (λ i. if lax i then taken_fault (key_at db table) (rows_at db table) 1 rows else None)
 
 pub valid_insert : (db : List Table) (table : ℕ) (rows : List (List Value)) → rows_fault (kinds_at db table) 1 rows ≡ None → strict_key_fault db table rows ≡ None → row_total db + count_new (rows_at db table) rows ≤ 1_000_000 → insert_fault db table rows ≡ None
 valid_insert db table rows fits apart few = (λ i. first_of (fits i) (first_of (apart i) (limit_fault db table rows))) ∙ room (row_total db + count_new (rows_at db table) rows) few

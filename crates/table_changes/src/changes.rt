@@ -1,6 +1,7 @@
 //! The changes, each behind its checks.
-ghost use Rattle.std.specs.Prelude.{◌≡◌, ◌<◌, ◌^◌, ◌++◌, None, IsTrue, true, OnOk, OnErr, IfOk, IfErr, length};
-ghost use Rattle.cqa_model.specs.Database.{AreConsistent};
+ghost use Rattle.std.specs.Prelude.{◌≡◌, ◌<◌, ◌^◌, ◌⊎◌, ◌++◌, [], None, IsTrue, true, false, OnOk, OnErr, IfOk, IfErr, length};
+ghost use Rattle.std.specs.List.Sorted.{IsStrictlySortedBy};
+ghost use Rattle.cqa_model.specs.Database.{AreConsistent, block_cmp};
 ghost use Rattle.cqa_value.specs.declared.memory.Fail.TheVariants.{Refused};
 ghost use Rattle.refusals.specs.declared.refusal.Refusal.TheVariants.{KeyBroken as Broken};
 ghost use Rattle.refusals.specs.Refusal.{first_of, IsRefusedAs, Checked};
@@ -15,6 +16,7 @@ use crate::taken::check_taken;
 use cqa_model::MOST_ROWS;
 use cqa_value::{Fail, Items, Row};
 use refusals::{LimitKind, Refusal};
+use row_pieces::Pieces;
 use std::alloc::Global;
 use table_blocks::{Clash, Database};
 
@@ -79,6 +81,68 @@ pub fn insert(db: &mut Database, table: u32, rows: Items<Row>) -> Result<u32, Fa
     }
     db.add(table, fresh)?;
     Ok(count as u32)
+}
+
+/// Gives a table without rows its rows, where there is room for them, and gives their number.
+fn fill(db: &mut Database, table: u32, rows: Pieces) -> Result<u32, Fail<Refusal>>
+    requires there { table < length db.old }
+    requires empty { rows_at db.old table ≡ [] }
+    requires lax { mark_at db.old table ≡ false }
+    requires ascending { IsStrictlySortedBy (block_cmp (key_at db.old table)) rows }
+    requires fits { rows_fault (kinds_at db.old table) 1 rows ≡ None }
+    requires values { AreValidRows rows }
+    ensures inserted { IfOk result (λ count. Inserts db.old table rows db.new count) }
+    ensures valid { OnOk result (insert_fault db.old table rows ≡ None) }
+    ensures refused { IfErr result (λ e. IsRefusedAs e (insert_fault db.old table rows)) }
+    ensures err { OnErr result (db.new ≡ db.old) }
+    ensures stored { AreValidTables db.new }
+{
+    let _tables = db.count();
+    let count = rows.rows().len();
+    if count > MOST_ROWS - db.row_total() as usize {
+        drop(rows);
+        let what = LimitKind::Rows;
+        return Err(Fail::Refused(Refusal::Limit { what }));
+    }
+    db.fill(table, rows);
+    Ok(count as u32)
+}
+
+/// Puts rows that aren't there yet into a table, and gives their number: what `insert` does with the sorted rows and the rest
+/// behind them, of which either has none. Where the table has no rows and isn't strict, it takes the pieces of sorted rows.
+///
+/// # Errors
+///
+/// `NoMemory`, `KeyTaken` or `Limit`, as `insert` has them; nothing has changed then.
+pub fn load(
+    db: &mut Database,
+    table: u32,
+    sorted: Pieces,
+    rest: Vec<Row>,
+) -> Result<u32, Fail<Refusal>>
+    requires there { table < length db.old }
+    requires few { length (sorted ++ rest.items) < 2 ^ 32 }
+    requires fits { rows_fault (kinds_at db.old table) 1 (sorted ++ rest.items) ≡ None }
+    requires values { AreValidRows (sorted ++ rest.items) }
+    requires ascending { IsStrictlySortedBy (block_cmp (key_at db.old table)) sorted }
+    requires either { (sorted ≡ []) ⊎ (rest.items ≡ []) }
+    ensures inserted { IfOk result (λ count. Inserts db.old table (sorted ++ rest.items) db.new count) }
+    ensures valid { OnOk result (insert_fault db.old table (sorted ++ rest.items) ≡ None) }
+    ensures refused { IfErr result (λ e. IsRefusedAs e (insert_fault db.old table (sorted ++ rest.items))) }
+    ensures err { OnErr result (db.new ≡ db.old) }
+    ensures stored { AreValidTables db.new }
+{
+    let _tables = db.count();
+    if !rest.is_empty() {
+        drop(sorted);
+        return insert(db, table, Items::from_vec(rest));
+    }
+    drop(rest);
+    if db.rows(table).is_empty() && !db.is_strict(table) {
+        return fill(db, table, sorted);
+    }
+    let rows = sorted.into_vec()?;
+    insert(db, table, Items::from_vec(rows))
 }
 
 /// The refusal of two rows that share a key of which there should be one.

@@ -1,13 +1,12 @@
 //! Which of some rows are new to a table, and where each of them goes.
 //! Nothing is compared that its place or its key tells.
-ghost use Rattle.std.specs.Prelude.{◌≡◌, ◌≤◌, ◌↔◌, filter, not, IfOk, IsTrue, List, Contains, length, take};
+ghost use Rattle.std.specs.Prelude.{◌≡◌, ◌≤◌, ◌↔◌, filter, not, IfOk, List, Contains, length, take};
 ghost use Rattle.std.specs.List.{AllByRecursion};
 ghost use Rattle.std.specs.List.Sorted.{IsStrictlySortedBy};
 ghost use Rattle.std.specs.Ordering.{is_lt};
 ghost use Rattle.std.specs.declared.cmp.Ordering.TheVariants.{Less};
 ghost use Rattle.cqa_value.specs.declared.value.Value.{Value as Cell};
 ghost use Rattle.cqa_model.specs.Database.{block_cmp};
-ghost use Rattle.row_order.specs.Ordered.{block_order};
 ghost use Rattle.table_blocks.specs.Tables.{IsPlace, ArePlaces, AreMergeable};
 ghost use Rattle.table_changes.specs.Changes.{is_among, count_new};
 
@@ -65,26 +64,6 @@ fn fresh_first(rows: &mut [Row], places: &mut [usize], stored: &Rows<'_>, key: &
     fresh
 }
 
-/// Says yes only where each row comes before the next one in block order.
-fn ascend(rows: &[Row], key: &[u32]) -> bool
-    ensures { IsTrue result → IsStrictlySortedBy (block_cmp key.now) rows.now }
-{
-    rows.is_sorted_by(
-        |a, b| -> bool
-            ensures { result ≡ is_lt (block_cmp key.entry.now a.now b.now) }
-        { block_compare(key, a, b).is_lt() },
-    )
-}
-
-/// Puts rows in block order, each once. Where they stand so already, each is looked at once, and none is moved.
-fn order_rows(rows: &mut Vec<Row>, key: &[u32])
-    ensures { rows.new.items ≡ block_order key.now rows.old.items }
-{
-    if !ascend(rows.as_slice(), key) {
-        put_in_order(rows, key);
-    }
-}
-
 /// Those of sorted rows that aren't stored. Where nothing is stored, these are all, and no place is looked for.
 fn without(mut rows: Vec<Row>, stored: &Rows<'_>, key: &[u32]) -> Result<Fresh, NoMemory>
     requires stored { IsStrictlySortedBy (block_cmp key.now) stored.now }
@@ -114,6 +93,6 @@ pub fn fresh_rows(mut rows: Vec<Row>, stored: &Rows<'_>, key: &[u32]) -> Result<
     ensures count { IfOk result (λ fresh. length fresh.rows.items ≡ count_new stored.now rows.items) }
     ensures mergeable { IfOk result (λ fresh. AreMergeable key.now stored.now fresh.rows.items fresh.places.items) }
 {
-    order_rows(&mut rows, key);
+    put_in_order(&mut rows, key);
     without(rows, stored, key)
 }

@@ -8,5 +8,4 @@ pub mod Statements
 pub mod Says
 pub mod Cut
 pub mod Texts
-pub mod Fitting
 pub mod Resolved

@@ -12,6 +12,7 @@ use csv_rows::read_rows;
 use refusals::Refusal;
 use reply_text::Reply;
 use std::alloc::Global;
+use table_changes::load;
 
 /// The bytes of a block; none where there is no block.
 fn bytes_of(block: Option<&[u8]>) -> &[u8]
@@ -37,7 +38,7 @@ pub fn copy(
     ensures { IsReplyOutcome result session.old (Replies (copy_into_fault session.old.tables name.now) session.old (CopiesInto session.old name.now (option_copied block.entry))) session.new }
 {
     let table = table_place(alloc, &session.database, name)?;
-    let rows = read_rows(alloc, session.database.schema(table), bytes_of(block))?;
-    let count = table_changes::insert(&mut session.database, table, rows)?;
+    let read = read_rows(alloc, session.database.schema(table), bytes_of(block))?;
+    let count = load(&mut session.database, table, read.sorted, read.rest)?;
     Ok(Reply::Copied(count))
 }

@@ -1,4 +1,5 @@
-use Rattle.std.proofs.Common.{◌++◌, ◌∷◌, ◌∙◌, [], Some, sym, refl, arith}
+use Rattle.std.proofs.Common.{◌++◌, ◌∷◌, ◌∙◌, [], inl, Some, sym, refl, arith}
+use Rattle.std.specs.List.Sorted.{IsStrictlySortedBy}
 use Rattle.std.proofs.lemmas.List.{length-append}
 use Rattle.cqa_value.proofs.Words.{all_zip_push}
 use Rattle.csv.specs.Reading.{Reached, default_config, reader_source, reader_state, strip_bom}
@@ -9,10 +10,10 @@ use Rattle.csv_rows.specs.Blocks.{IsRecordOf, kinds}
 use Rattle.csv_rows.proofs.reading.read_into.Goals as goal
 
 pub loop-number-init : goal.loop-number-init
-unfolding Reached
+unfolding Reached IsStrictlySortedBy
 loop-number-init c =
     let start = c.requires.start in
-    (start.0, start.1, start.2, [], strip_bom (reader_source c.args.reader.now).now, start.4, (sym start.3, refl), rw c.requires.empty tt, refl, rw c.requires.empty refl)
+    (start.0, start.1, start.2, [], strip_bom (reader_source c.args.reader.now).now, start.4, (sym start.3, refl), rw (c.requires.empty.0, c.requires.empty.1) tt, refl, rw (c.requires.empty.0, c.requires.empty.1) refl, rw c.requires.empty.0 tt, inl c.requires.empty.0)
 
 pub returns-then-not-branch-clause-rows : goal.returns-then-not-branch-clause-rows
 returns-then-not-branch-clause-rows c =
@@ -37,7 +38,7 @@ returns-in-None-clause-refused c =
       refl,
       record {
         before = inv.3;
-        rows = c.loop-number.rows;
+        rows = c.loop-number.block.sorted ++ c.loop-number.block.rest.items;
         bad = fields;
         state = reader_state c.next_record.new.reader;
         rest = more.0;
@@ -56,7 +57,7 @@ loop-number-preserved c =
     let row = c.in-Some.row in
     let more = rows-more (λ s. Some s.now) c.loop-number.reader c.next_record.new.reader fields default_config StartRecord (strip_bom (reader_source c.args.reader.now).now) inv.4 inv.3 inv.2 inv.5 inv.6 read in
     let is = rw c.in-Some.is at c.in_ok-row.ensures in
-    let pushed = c.in_ok-push-in-Some.ensures.ok in (
+    let pushed = c.in_ok-push-in-Some.ensures.rows in (
       read.3 ∙ inv.0,
       c.in_ok-next_record.ensures.ready,
       read.2 ∙ inv.2,
@@ -64,7 +65,9 @@ loop-number-preserved c =
       more.0,
       more.1,
       more.2,
-      rw pushed (all_zip_push (IsRecordOf (kinds c.args.columns.now)) inv.3 c.loop-number.rows fields row inv.7 is),
+      rw pushed (all_zip_push (IsRecordOf (kinds c.args.columns.now)) inv.3 (c.loop-number.block.sorted ++ c.loop-number.block.rest.items) fields row inv.7 is),
       omega (arith, inv.8, length-append inv.3 (fields ∷ [])),
-      rw pushed (omega (arith, inv.9, length-append c.loop-number.rows (row ∷ []))),
+      rw pushed (omega (arith, inv.9, length-append (c.loop-number.block.sorted ++ c.loop-number.block.rest.items) (row ∷ []))),
+      c.in_ok-push-in-Some.ensures.ascending,
+      c.in_ok-push-in-Some.ensures.either,
     )

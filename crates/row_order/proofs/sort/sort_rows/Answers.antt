@@ -1,12 +1,9 @@
 use Rattle.std.proofs.Common.{rules, ap}
 use Rattle.std.specs.Ordering.{is_lt}
 use Rattle.std.proofs.lemmas.Fn.{always_returns_same}
-use Rattle.std.proofs.lemmas.List.Sorted.{IsPermutation-trans, ranks_by}
+use Rattle.std.proofs.lemmas.List.Sorted.{ranks_by}
 use Rattle.cqa_model.proofs.BlockOrder.{block_total}
 use Rattle.row_order.proofs.sort.sort_rows.Goals as goal
-
-pub returns-clause-permutation : goal.returns-clause-permutation
-returns-clause-permutation c = IsPermutation-trans _ _ _ c.arrange-arranged.ensures c.sort_unstable_by.ensures.permutation
 
 pub returns-clause-sorted : goal.returns-clause-sorted
 returns-clause-sorted c =

@@ -37,13 +37,13 @@ module _ (key : List ℕ) (stored rows sorted : List (List Value)) (is : sorted 
       )
 
 pub without-requires-clause-given : goal.without-requires-clause-given
-without-requires-clause-given c = subst (IsStrictlySortedBy (block_cmp c.args.key.now)) (sym c.order_rows.ensures) (order_sorted c.args.key.now c.args.rows.items)
+without-requires-clause-given c = subst (IsStrictlySortedBy (block_cmp c.args.key.now)) (sym c.put_in_order.ensures) (order_sorted c.args.key.now c.args.rows.items)
 
 pub returns-clause-new : goal.returns-clause-new
 unfolding kept
 returns-clause-new c =
-    IfOk-weaker c.without.result (λ fresh. fresh.rows.items ≡ filter (λ row. not (is_among c.args.stored.now row)) c.order_rows.new.rows.items) _
-    (λ fresh e row. subst (λ rows. Contains rows row ↔ (Contains c.args.rows.items row × (Contains c.args.stored.now row → ⊥))) (sym e) (joined c.args.key.now c.args.stored.now c.args.rows.items c.order_rows.new.rows.items c.order_rows.ensures row))
+    IfOk-weaker c.without.result (λ fresh. fresh.rows.items ≡ filter (λ row. not (is_among c.args.stored.now row)) c.put_in_order.new.rows.items) _
+    (λ fresh e row. subst (λ rows. Contains rows row ↔ (Contains c.args.rows.items row × (Contains c.args.stored.now row → ⊥))) (sym e) (joined c.args.key.now c.args.stored.now c.args.rows.items c.put_in_order.new.rows.items c.put_in_order.ensures row))
     c.without.ensures.fresh
 
 pub returns-clause-count : goal.returns-clause-count
@@ -51,10 +51,10 @@ unfolding kept
 returns-clause-count c =
     let key = c.args.key.now in
     let stored = c.args.stored.now in
-    let sorted = c.order_rows.new.rows.items in
+    let sorted = c.put_in_order.new.rows.items in
     IfOk-weaker c.without.result (λ fresh. fresh.rows.items ≡ filter (λ row. not (is_among stored row)) sorted) _
-    (λ fresh e. counted key stored c.args.rows.items fresh.rows.items (subst (IsStrictlySortedBy (block_cmp key)) (sym e) (in_order key stored c.args.rows.items sorted c.order_rows.ensures))
-    (λ row. subst (λ rows. Contains rows row ↔ (Contains c.args.rows.items row × (Contains stored row → ⊥))) (sym e) (joined key stored c.args.rows.items sorted c.order_rows.ensures row)))
+    (λ fresh e. counted key stored c.args.rows.items fresh.rows.items (subst (IsStrictlySortedBy (block_cmp key)) (sym e) (in_order key stored c.args.rows.items sorted c.put_in_order.ensures))
+    (λ row. subst (λ rows. Contains rows row ↔ (Contains c.args.rows.items row × (Contains stored row → ⊥))) (sym e) (joined key stored c.args.rows.items sorted c.put_in_order.ensures row)))
     c.without.ensures.fresh
 
 pub returns-clause-mergeable : goal.returns-clause-mergeable
@@ -62,12 +62,12 @@ unfolding kept
 returns-clause-mergeable c =
     let key = c.args.key.now in
     let stored = c.args.stored.now in
-    let sorted = c.order_rows.new.rows.items in
+    let sorted = c.put_in_order.new.rows.items in
     if_both c.without.result (λ fresh. fresh.rows.items ≡ filter (λ row. not (is_among stored row)) sorted) _ _
     (λ fresh e placed. record {
       ascending = c.requires;
-      rising = subst (IsStrictlySortedBy (block_cmp key)) (sym e) (in_order key stored c.args.rows.items sorted c.order_rows.ensures);
-      apart = λ row m h. ((joined key stored c.args.rows.items sorted c.order_rows.ensures row).0 (subst (λ rows. Contains rows row) e h)).1 m;
+      rising = subst (IsStrictlySortedBy (block_cmp key)) (sym e) (in_order key stored c.args.rows.items sorted c.put_in_order.ensures);
+      apart = λ row m h. ((joined key stored c.args.rows.items sorted c.put_in_order.ensures row).0 (subst (λ rows. Contains rows row) e h)).1 m;
       placed = placed;
     })
     c.without.ensures.fresh c.without.ensures.placed

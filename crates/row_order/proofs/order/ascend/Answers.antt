@@ -6,7 +6,7 @@ use Rattle.std.proofs.lemmas.Fn.{always_returns_same}
 use Rattle.std.proofs.lemmas.Map.Keys.{sorted_from_all_adjacent}
 use Rattle.cqa_model.specs.Database.{block_cmp}
 use Rattle.row_order.proofs.BlockOrder.{block_total}
-use Rattle.table_changes.proofs.fresh.ascend.Goals as goal
+use Rattle.row_order.proofs.order.ascend.Goals as goal
 
 is_less : (o : Ordering) → true ≡ is_lt o → o ≡ Less
 is_less Less e = refl
