@@ -17,7 +17,7 @@ use Rattle.cqa_session.specs.Replying.{Replies}
 use Rattle.cqa_session.specs.Statements.Explain.{MayTell}
 use Rattle.cqa_session.specs.Statements.Against.{TellsAgainst}
 use Rattle.cqa_session.specs.Statements.Prove.{MayProve}
-use Rattle.changing_law.specs.Laws.{GoesOnTo}
+use Rattle.going_on_law.specs.Changing.{GoesOnTo}
 use Rattle.naming_law.proofs.Queries.{queries_are_resolved}
 use Rattle.existence_law.proofs.Answering.{answers_exist}
 use Rattle.going_on_law.proofs.Classing.{classes_are_told}

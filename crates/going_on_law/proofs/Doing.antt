@@ -30,9 +30,9 @@ use Rattle.cqa_session.specs.Statements.ClassifyUnion.{ClassifiesUnion}
 use Rattle.cqa_session.specs.Statements.SqlUnion.{WritesUnionSql}
 use Rattle.cqa_session.specs.Statements.ShowLog.{kept_reply}
 use Rattle.cqa_session.proofs.Sayings.{says_something}
-use Rattle.changing_law.specs.Laws.{GoesOnTo}
-use Rattle.changing_law.proofs.States.{found_on}
-use Rattle.changing_law.proofs.Whole.{creates_go_on, alters_go_on, inserts_go_on, deletes_go_on, prefers_go_on, copies_go_on}
+use Rattle.going_on_law.specs.Changing.{GoesOnTo}
+use Rattle.going_on_law.proofs.States.{found_on}
+use Rattle.going_on_law.proofs.Whole.{creates_go_on, alters_go_on, inserts_go_on, deletes_go_on, prefers_go_on, copies_go_on}
 use Rattle.naming_law.proofs.Members.{goals_are_resolved, tests_are_resolved, groups_are_resolved}
 use Rattle.naming_law.proofs.Queries.{unions_are_resolved}
 use Rattle.naming_law.proofs.Joined.{ranges_are_resolved}

@@ -27,7 +27,7 @@ use Rattle.weak_pairs.specs.Pairs.{IsPair}
 use Rattle.cqa_session.specs.State.{State, IsState}
 use Rattle.cqa_session.specs.Statements.Explain.{MayTell}
 use Rattle.cqa_session.specs.Statements.Kept.{kept_line}
-use Rattle.changing_law.specs.Laws.{GoesOnTo}
+use Rattle.going_on_law.specs.Changing.{GoesOnTo}
 
 -- a proof that is kept leaves a state as it was
 pub kept_proof : (old : State) (proof : Proof) → IsState old → IsState (record old { last_log = Some proof })

@@ -1,3 +1,7 @@
+pub mod States
+pub mod Tables
+pub mod Merged
+pub mod Whole
 pub mod Keyed
 pub mod Lines
 pub mod Classing

@@ -13,7 +13,7 @@ use Rattle.reply_text.specs.declared.reply.Reply.TheVariants.{Certain, Against, 
 use Rattle.cqa_session.specs.State.{State, IsState}
 use Rattle.cqa_session.specs.Statements.Against.{TellsAgainst}
 use Rattle.cqa_session.specs.Statements.Kept.{kept_line}
-use Rattle.changing_law.specs.Laws.{GoesOnTo}
+use Rattle.going_on_law.specs.Changing.{GoesOnTo}
 
 module _ (old : State) (q : Query) (row : List Value) (is : IsState old) (fits : FitsDatabase q old.tables) where
   by_few : (HasTooMany q old.tables row → ⊥) → GoesOnTo (TellsAgainst old q row)

@@ -20,7 +20,7 @@ use Rattle.table_blocks.specs.declared.test.ColumnTest.{ColumnTest}
 use Rattle.cqa_session.specs.State.{State, IsState}
 use Rattle.cqa_session.specs.Statements.Range.{chosen_lines, group_line, TellsOf}
 use Rattle.cqa_session.specs.Statements.RangeOfJoin.{TellsJoin, TellsJoinBy, sought_of}
-use Rattle.changing_law.specs.Laws.{GoesOnTo}
+use Rattle.going_on_law.specs.Changing.{GoesOnTo}
 
 pub ranges_are_told : (db : List Table) (table : ℕ) (goal : Goal) (tests : List ColumnTest) (col : Option ℕ) → (reply : Reply) × TellsOf db table goal tests col reply
 ranges_are_told db table goal tests None =

@@ -19,7 +19,7 @@ use Rattle.row_sides.specs.declared.side.Side.TheVariants.{Certain, Disputed}
 use Rattle.row_sides.specs.Sides.{IsAnswerOf, IsDisputedAnswer}
 use Rattle.cqa_session.specs.State.{State, IsState}
 use Rattle.cqa_session.specs.Statements.Sides.{TellsSide, IsWithinWitnesses}
-use Rattle.changing_law.specs.Laws.{GoesOnTo}
+use Rattle.going_on_law.specs.Changing.{GoesOnTo}
 
 -- the disputed rows are the possible ones that aren't certain
 disputed_answer : (db : List Table) (q : Query) → FitsDatabase q db → (rows : List (List Value)) × IsDisputedAnswer db q rows

@@ -28,7 +28,7 @@ use Rattle.cqa_session.specs.Statements.AskUnion.{TellsUnion}
 use Rattle.cqa_session.specs.Statements.ExplainUnion.{MayTellUnion}
 use Rattle.cqa_session.specs.Statements.Kept.{kept_line}
 use Rattle.cqa_session.proofs.Spending.{spends_in}
-use Rattle.changing_law.specs.Laws.{GoesOnTo}
+use Rattle.going_on_law.specs.Changing.{GoesOnTo}
 use Rattle.going_on_law.proofs.Classing.{classes_are_told}
 use Rattle.going_on_law.proofs.Explaining.{kept_proof}
 

@@ -5,7 +5,7 @@ use Rattle.reply_text.specs.declared.reply.Reply.{Reply}
 use Rattle.cqa_session.specs.State.{State, IsState}
 use Rattle.cqa_session.specs.Machine.{Step}
 use Rattle.cqa_session.specs.Runs.{Run, RunsOver, CutShort}
-use Rattle.changing_law.specs.Laws.{GoesOnTo}
+use Rattle.going_on_law.specs.Changing.{GoesOnTo}
 use Rattle.going_on_law.specs.Runs.{GoesOnFrom, BeginsRun}
 
 -- The law: from each valid state, for each text and each block, there are a reply and a valid state such that the machine may give this reply

@@ -12,7 +12,7 @@ use Rattle.cqa_model.specs.Unions.{IsCertainIn}
 use Rattle.cqa_model.proofs.Databases.{possible_is_candidate}
 use Rattle.join_access.proofs.Naming.{zip-length}
 use Rattle.table_blocks.specs.declared.bound.Bound.{Bound}
-use Rattle.known_rows.specs.Known.{AreAscending, AreKnownAmong, IsAmong, IsKnown, IsKnownFor}
+use Rattle.union_ask.specs.Known.{AreAscending, AreKnownAmong, IsAmong, IsKnown, IsKnownFor}
 use Rattle.part_search.specs.declared.judging.Verdict.{Verdict}
 use Rattle.part_search.specs.Judging.{IsVerdictOver}
 use Rattle.part_search.specs.Parts.{AllFit, HasTooManyIn}

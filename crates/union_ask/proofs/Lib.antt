@@ -1,3 +1,5 @@
+mod BinarySearch
+mod Looking
 pub mod Apart
 mod Unions
 mod Framing

@@ -5,7 +5,7 @@ use Rattle.cqa_value.specs.declared.value.Value.{Value}
 use Rattle.cqa_model.specs.declared.query.Query.{Query}
 use Rattle.cqa_model.specs.Database.{Table}
 use Rattle.cqa_model.specs.Unions.{IsCertainIn}
-use Rattle.known_rows.specs.Known.{IsKnown}
+use Rattle.union_ask.specs.Known.{IsKnown}
 use Rattle.part_search.specs.declared.judging.Verdict.{Verdict}
 use Rattle.part_search.specs.declared.judging.Verdict.TheVariants.{Certain, Rejected}
 use Rattle.part_search.specs.Lookups.{AreBoundsOf}

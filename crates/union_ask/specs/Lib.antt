@@ -1,3 +1,4 @@
+pub mod Known
 pub mod Candidates
 pub mod Encodings
 pub mod Repairs

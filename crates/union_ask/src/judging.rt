@@ -9,10 +9,10 @@ ghost use Rattle.part_search.specs.Lookups.{AreBoundsOf, AreLookupsOf, HasLength
 ghost use Rattle.part_search.specs.Parts.{AreNamesIn};
 ghost use Rattle.union_ask.specs.Knowing.{AreKnownIn, IsSearchOf, IsVerdictOf, SaysCertain};
 
+use crate::known::{KnownRows, known_rows};
 use crate::sharing::are_apart;
 use cqa_value::{Fail, NoMemory, Row};
 use join_witness::{Lookup, TooMany, Witness};
-use known_rows::{KnownRows, known_rows};
 use list_search::{Room, Scope};
 use part_search::{BoundParts, Verdict, gather, judge_lists};
 use std::alloc::Global;

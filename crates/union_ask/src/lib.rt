@@ -1,13 +1,16 @@
 //! Unions of queries: a row is certain for one if every repair holds a witness of it for some part, not the same one in each. The
 //! candidates of the parts, the formula of a row over the union's tables, the repair of a model of it, the certain rows, and why
-//! one row is certain or isn't. A row is decided by what is known of the parts alone, or by its formula.
+//! one row is certain or isn't. A row is decided by what is known of the parts alone, by a plan or over pairs of rows, or by its
+//! formula. Which method serves a query is chosen here for all statements that answer rows.
 #![tactic(auto)]
 
 mod candidates;
 mod encoding;
 mod frame;
 mod judging;
+mod known;
 mod laws;
+mod method;
 mod reason;
 mod repair;
 mod search;
@@ -19,6 +22,7 @@ pub use laws::{
     alone_decides, apart_decide, candidates_decide, possible_is_candidate_in, union_model_rejects,
     unions_decide,
 };
+pub use method::strategy_over;
 pub use reason::decide_union;
 pub use repair::{UnionKept, union_repair};
 pub use search::certain_of_union;

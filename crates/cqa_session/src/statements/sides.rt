@@ -17,7 +17,6 @@ use cqa_model::{Plan, Query};
 use cqa_value::{Fail, Items, NoMemory, Row};
 use fo_plan::certain_by_plan;
 use join_witness::candidates;
-use known_rows::strategy_over;
 use pair_formula::{PairQuery, rows_by_pairs};
 use part_search::Searched;
 use query_resolve::resolve;
@@ -29,6 +28,7 @@ use search_answers::rows_by_search;
 use spj_syntax::Select;
 use std::alloc::Global;
 use table_blocks::Bound;
+use union_ask::strategy_over;
 
 /// The possible rows of a query without the certain ones, which these are.
 fn disputed_beside(

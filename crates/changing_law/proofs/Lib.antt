@@ -1,4 +1,0 @@
-pub mod States
-pub mod Tables
-pub mod Merged
-pub mod Whole

@@ -1,8 +1,0 @@
-use Rattle.std.proofs.Common.{◌≡◌, ℕ, ◌<◌, None, Some, List, get_or}
-use Rattle.cqa_value.specs.declared.value.Value.{Value}
-use Rattle.known_rows.specs.Known.{IsGivenAt}
-use Rattle.known_rows.proofs.known.KnownRows.are_known.Given as goal
-
--- those of the queries so far
-abbrev pub invariant-loop-at : goal.invariant-loop-at
-invariant-loop-at l = (i : ℕ) → i < l.at → IsGivenAt l.self l.given i → (rows : List (List Value)) × (get_or l.self i None ≡ Some rows)
