@@ -1,5 +1,5 @@
 -- The steps of a plan have the contexts for which the plan holds, by induction on the plan.
-use Rattle.std.proofs.Common.{◌≡◌, ℕ, ◌<◌, ◌-◌, Bool, true, false, not, ◌&&◌, List, [], ◌∷◌, ◌++◌, length, map, refl, ap, sym, ◌∙◌, subst, arith, cond, Contains, Option, Some, None, inl, inr}
+use Rattle.std.proofs.Common.{◌≡◌, ℕ, ◌<◌, ◌-◌, Bool, true, false, not, ◌||◌, List, [], ◌∷◌, ◌++◌, length, map, refl, ap, sym, ◌∙◌, subst, arith, cond, Contains, Option, Some, None, inl, inr}
 use Rattle.std.proofs.lemmas.Bool.{false≢true, and_parts}
 use Rattle.std.proofs.lemmas.List.{append_assoc, length-map, length_push}
 use Rattle.std.proofs.lemmas.List.Elements.{Contains-append_cases}
@@ -19,7 +19,7 @@ use Rattle.plan_sql.specs.declared.bounds.Bound.{Bound}
 use Rattle.sql_steps.specs.declared.part.Part.{Part}
 use Rattle.sql_steps.specs.Variables.{variables_of, key_variables, ascending}
 use Rattle.sql_steps.specs.Steps.{cell, cell_of, held, rows_of_atom, block_group, context_group, are_single}
-use Rattle.plan_sql.specs.Statement.{context_of, block_of, step, guard_for, is_guarded, guarded, level_steps, keys_in, rare_only, has_few, few_step}
+use Rattle.plan_sql.specs.Statement.{context_of, block_of, step, guard_for, is_guarded, is_joined, guarded, level_steps, keys_in, rare_only, has_few, few_step}
 use Rattle.plan_sql.proofs.Rel.{Rel, new-into, new-from, Stays, stays-self, stays-push}
 use Rattle.sql_steps.proofs.Suiting.{Suits}
 use Rattle.sql_steps.proofs.Joining.{Hold, IsSingle, led-ends}
@@ -120,15 +120,22 @@ module _ (q : Query) (T : ℕ → List (List Value)) (F : ℕ) (lF : F < length 
       last : length (before ++ s ∷ []) - 1 ≡ length before
       last = omega (arith, length_push before s)
 
+  -- where each part has one context at most, so has a row of an atom without two rows of one key
+  held-single : are_single (variables_of q F) parts ≡ true → (d e : ℕ → Value) → ((v : ℕ) → Contains (key_variables q F) v → Contains context v) → ((v : ℕ) → Contains (key_variables q F) v → d v ≡ e v) → Held d → Held e → map d context ≡ map e context
+  held-single t d e inside same h k = block-single q F lF T (Rel T before) known parts ready [] (λ o m. absurd (mem-nil o m)) d e inside same (grouped d h) (grouped e k)
+    where
+      grouped : (c : ℕ → Value) → Held c → Groups T (Rel T before) (block_group q F [] parts context) (map c context)
+      grouped c g = block-into q F lF T (Rel T before) known parts ready [] (λ o m. absurd (mem-nil o m)) t c (λ y b my n s hold o m. absurd (mem-nil o m)) g
+
   -- the rows of an atom without two rows of one key
-  strict-level : (atom_at q F).strict ≡ true → IsLevel (before ++ step Holds number context (Distinct (rows_of_atom q F only parts context)) ∷ []) false
+  strict-level : (atom_at q F).strict ≡ true → IsLevel (before ++ step Holds number context (Distinct (rows_of_atom q F only parts context)) ∷ []) (are_single (variables_of q F) parts)
   strict-level t = record {
     stays = stays-push T before before s (stays-self T before);
     some = omega (arith, length_push before s);
     wide = λ h r. selects-long T (Rel T before) (rows_of_atom q F only parts context) h (new-from T before s (length (before ++ s ∷ []) - 1) h last r) ∙ length-map context (λ v. cell_of (end q F lF known parts [] 1) v);
-    from = λ e r. strict-from q F lF T (Rel T before) known parts ready only of_key (strict t) e (new-from T before s (length (before ++ s ∷ []) - 1) (map e context) last r);
+    from = read;
     into = λ e passed pass h. new-into T before s (length (before ++ s ∷ []) - 1) (map e context) last (strict-into q F lF T (Rel T before) known parts ready only of_key e pass h);
-    one = λ u. absurd (false≢true u);
+    one = λ u d e inside same a b. held-single u d e inside same (read d a) (read e b);
   }
     where
       s : Step
@@ -136,6 +143,9 @@ module _ (q : Query) (T : ℕ → List (List Value)) (F : ℕ) (lF : F < length 
 
       last : length (before ++ s ∷ []) - 1 ≡ length before
       last = omega (arith, length_push before s)
+
+      read : (e : ℕ → Value) → Rel T (before ++ s ∷ []) (length (before ++ s ∷ []) - 1) (map e context) → Held e
+      read e r = strict-from q F lF T (Rel T before) known parts ready only of_key (strict t) e (new-from T before s (length (before ++ s ∷ []) - 1) (map e context) last r)
 
   own : (o : Within) → Contains only o → (k : ℕ) × (o.cell ≡ cell 0 k)
   own o m = let k = of_key o m in (k.0, k.2)
@@ -258,11 +268,14 @@ module _ (q : Query) (T : ℕ → List (List Value)) (F : ℕ) (lF : F < length 
       last = omega (arith, length_push opened holds)
 
   pub level : IsLevel (before ++ level_steps q number F context only bounds parts (length before)) (are_single (variables_of q F) parts)
-  level = go (are_single (variables_of q F) parts) (has_few q bounds F parts) ((atom_at q F).strict && not (is_guarded q bounds block)) refl refl
+  level = go (is_joined q F context bounds parts) (are_single (variables_of q F) parts) (has_few q bounds F parts) refl refl
     where
-      go : (a f b : Bool) → are_single (variables_of q F) parts ≡ a → ((atom_at q F).strict && not (is_guarded q bounds block)) ≡ b →
-          IsLevel (before ++ cond a (cond f (few ∷ each_few ∷ []) (step Holds number context (Grouped (block_group q F only parts context)) ∷ [])) (cond b (step Holds number context (Distinct (rows_of_atom q F only parts context)) ∷ []) (blocks ∷ holds ∷ []))) a
-      go true true b t u = subst (λ z. IsLevel z true) (append_assoc before (few ∷ []) (each_few ∷ [])) (few-level t)
-      go true false b t u = single-level t
-      go false f true t u = strict-level (and_parts (atom_at q F).strict (not (is_guarded q bounds block)) u).0
-      go false f false t u = subst (λ z. IsLevel z false) (append_assoc before (blocks ∷ []) (holds ∷ [])) contexts-level
+      joined : Step
+      joined = step Holds number context (Distinct (rows_of_atom q F only parts context))
+
+      go : (b a f : Bool) → is_joined q F context bounds parts ≡ b → are_single (variables_of q F) parts ≡ a →
+          IsLevel (before ++ cond b (joined ∷ []) (cond a (cond f (few ∷ each_few ∷ []) (step Holds number context (Grouped (block_group q F only parts context)) ∷ [])) (blocks ∷ holds ∷ []))) a
+      go true a f u t = subst (λ z. IsLevel (before ++ joined ∷ []) z) t (strict-level (and_parts (atom_at q F).strict (are_single (variables_of q F) parts || not (is_guarded q bounds block)) u).0)
+      go false true true u t = subst (λ z. IsLevel z true) (append_assoc before (few ∷ []) (each_few ∷ [])) (few-level t)
+      go false true false u t = single-level t
+      go false false f u t = subst (λ z. IsLevel z false) (append_assoc before (blocks ∷ []) (holds ∷ [])) contexts-level

@@ -1,5 +1,5 @@
 -- The names of the query of a plan say what its places mean.
-use Rattle.std.proofs.Common.{◌≡◌, ◌≢◌, ℕ, zero, suc, ◌<◌, ◌≤◌, ◌-◌, ◌+◌, ◌⊎◌, inl, inr, Bool, true, false, not, ◌&&◌, List, [], ◌∷◌, ◌++◌, length, map, get_or, refl, ap, sym, ◌∙◌, subst, arith, cond, Contains, Option, Some, None, append-nil}
+use Rattle.std.proofs.Common.{◌≡◌, ◌≢◌, ℕ, zero, suc, ◌<◌, ◌≤◌, ◌-◌, ◌+◌, ◌⊎◌, inl, inr, Bool, true, false, not, List, [], ◌∷◌, ◌++◌, length, map, get_or, refl, ap, sym, ◌∙◌, subst, arith, cond, Contains, Option, Some, None, append-nil}
 use Rattle.std.specs.List.{filter, flat_map, range_with_len}
 use Rattle.std.proofs.lemmas.List.{append_assoc, map-append, length-map, length-append, length_push, get_or_append_left, get_or_push}
 use Rattle.std.proofs.lemmas.List.Elements.{Contains-append_cases, Contains-get_or}
@@ -23,7 +23,7 @@ use Rattle.plan_sql.specs.declared.bounds.Bound.{Bound}
 use Rattle.sql_steps.specs.declared.part.Part.{Part}
 use Rattle.sql_steps.specs.Variables.{has, within, without, all_below, ascending, variables_of, key_variables}
 use Rattle.sql_steps.specs.Steps.{cell, cell_of, held, member, cells_at, keyed, fitted, part_source, children_of, known_of, on_of, rows_of_atom, group_of, block_group, context_group, are_single}
-use Rattle.plan_sql.specs.Statement.{context_of, block_of, step, guard_for, is_guarded, guarded, level_steps, keys_in, rare_only, has_few, few_step}
+use Rattle.plan_sql.specs.Statement.{context_of, block_of, step, guard_for, is_joined, guarded, level_steps, keys_in, rare_only, has_few, few_step}
 use Rattle.sql_steps.proofs.Membership.{ascending-from, without-from, columns-from, columns-into}
 use Rattle.sql_steps.proofs.Seeing.{held-at}
 use Rattle.sql_steps.proofs.Atoms.{key-width, keys-within, keys-into}
@@ -314,7 +314,7 @@ module _ (q : Query) where
       blocks-fresh t m h = let e : Asked ≡ Blocks = sym (fresh t m h.1) ∙ h.0 in cc e
 
       pub level-named : IsLevelNamed (before ++ level_steps q number F context only bounds parts (length before))
-      level-named = go (are_single (variables_of q F) parts) (has_few q bounds F parts) ((atom_at q F).strict && not (is_guarded q bounds (block_of q F context)))
+      level-named = go (is_joined q F context bounds parts) (are_single (variables_of q F) parts) (has_few q bounds F parts)
         where
           block : List ℕ
           block = block_of q F context
@@ -399,9 +399,10 @@ module _ (q : Query) where
               long None = length-map block (λ v. cell_of (known_of 1 parts (fitted q F []).known) v)
               long (Some g) = length-map block (λ v. cell_of (known_of 1 [] (fitted q g.atom []).known) v)
 
-          go : (a f b : Bool) → IsLevelNamed (before ++ cond a (cond f (few ∷ each_few ∷ []) (step Holds number context (Grouped (block_group q F only parts context)) ∷ [])) (cond b (step Holds number context (Distinct (rows_of_atom q F only parts context)) ∷ []) (blocks ∷ holds ∷ [])))
-          go true true b = two-levels few each_few few-each refl refl refl refl refl
-          go true false b = one-level (step Holds number context (Grouped (block_group q F only parts context))) (record { fresh = holds-fresh; body = block-named before F lF known parts at numbers only looked linked; long = length-map context (λ v. cell_of (known_of 1 parts (fitted q F []).known) v); apart = context-apart }) refl refl refl
-          go false f true = one-level (step Holds number context (Distinct (rows_of_atom q F only parts context)))
+          go : (b a f : Bool) →
+              IsLevelNamed (before ++ cond b (step Holds number context (Distinct (rows_of_atom q F only parts context)) ∷ []) (cond a (cond f (few ∷ each_few ∷ []) (step Holds number context (Grouped (block_group q F only parts context)) ∷ [])) (blocks ∷ holds ∷ [])))
+          go true a f = one-level (step Holds number context (Distinct (rows_of_atom q F only parts context)))
               (record { fresh = holds-fresh; body = rows-named before F lF known parts at numbers only looked context (λ v m. (context-from q F lF known parts v m).1); long = length-map context (λ v. cell_of (known_of 1 parts (fitted q F []).known) v); apart = context-apart }) refl refl refl
-          go false f false = two-levels blocks holds (blocks-step, holds-step) refl refl refl refl refl
+          go false true true = two-levels few each_few few-each refl refl refl refl refl
+          go false true false = one-level (step Holds number context (Grouped (block_group q F only parts context))) (record { fresh = holds-fresh; body = block-named before F lF known parts at numbers only looked linked; long = length-map context (λ v. cell_of (known_of 1 parts (fitted q F []).known) v); apart = context-apart }) refl refl refl
+          go false false f = two-levels blocks holds (blocks-step, holds-step) refl refl refl refl refl

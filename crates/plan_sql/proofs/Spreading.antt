@@ -1,5 +1,5 @@
 -- The steps of a plan over the shards of a table.
-use Rattle.std.proofs.Common.{◌≡◌, ℕ, zero, suc, ◌<◌, ◌+◌, ◌⊎◌, inl, inr, Bool, true, false, not, ◌&&◌, List, [], ◌∷◌, ◌++◌, length, map, get_or, refl, ap, sym, ◌∙◌, subst, arith, eqb, cond, Contains, Option, Some, None}
+use Rattle.std.proofs.Common.{◌≡◌, ℕ, zero, suc, ◌<◌, ◌+◌, ◌⊎◌, inl, inr, Bool, true, false, List, [], ◌∷◌, ◌++◌, length, map, get_or, refl, ap, sym, ◌∙◌, subst, arith, eqb, cond, Contains, Option, Some, None}
 use Rattle.std.specs.List.{filter, flat_map}
 use Rattle.std.specs.Option.{unwrap_or}
 use Rattle.std.proofs.lemmas.Bool.Decides.{nat_tests}
@@ -7,7 +7,7 @@ use Rattle.std.proofs.lemmas.List.Elements.{Contains-get_or, Contains-append_cas
 use Rattle.cqa_value.specs.declared.value.Value.{Value}
 use Rattle.cqa_model.specs.declared.query.Query.{Query}
 use Rattle.cqa_model.specs.Repairs.{SharesKey}
-use Rattle.cqa_model.specs.Query.{atom_at, atom_key}
+use Rattle.cqa_model.specs.Query.{atom_key}
 use Rattle.cqa_model.specs.Variables.{whole}
 use Rattle.cqa_model.proofs.Classic.{mem-head, mem-tail, mem-nil, mem-cases}
 use Rattle.cqa_model.proofs.Elimination.{plan-eliminates}
@@ -29,7 +29,7 @@ use Rattle.plan_sql.specs.declared.bounds.Bound.{Bound}
 use Rattle.sql_steps.specs.declared.part.Part.{Part}
 use Rattle.sql_steps.specs.Variables.{all_below, ascending, within, variables_of, key_variables, answer_variables}
 use Rattle.sql_steps.specs.Steps.{cell, held, find, cell_of, member, cells_at, keyed, fitted, see_part, children_of, rows_of_atom, group_of, block_group, context_group, are_single, hangs}
-use Rattle.plan_sql.specs.Statement.{context_of, block_of, has_few, few_step, keys_in, guard_for, is_guarded, guarded, level_steps, bound_of, bound_for, asked_variables, rare_only, step, asked_steps, only_of, Made, made_of}
+use Rattle.plan_sql.specs.Statement.{context_of, block_of, has_few, few_step, keys_in, guard_for, is_joined, guarded, level_steps, bound_of, bound_for, asked_variables, rare_only, step, asked_steps, only_of, Made, made_of}
 use Rattle.plan_sql.specs.Laws.{only_rows, IsSpread, SqlIsSpread}
 use Rattle.sql_steps.proofs.Membership.{columns-into}
 use Rattle.plan_sql.proofs.Rel.{Rel}
@@ -228,7 +228,7 @@ module _ (q : Query) where
 
   level-spread : (F : ℕ) (lF : F < length q.atoms) (number : ℕ) (known : List ℕ) (only : List Within) (bounds : List Bound) → ((b : Bound) → Contains bounds b → b.atom < length q.atoms) → (parts : List Part) (before : List Step) →
       AreSpread before (before ++ level_steps q number F (context_of q known F parts) only bounds parts (length before))
-  level-spread F lF number known only bounds bound parts before = go (are_single (variables_of q F) parts) (has_few q bounds F parts) ((atom_at q F).strict && not (is_guarded q bounds (block_of q F (context_of q known F parts))))
+  level-spread F lF number known only bounds bound parts before = go (is_joined q F context bounds parts) (are_single (variables_of q F) parts) (has_few q bounds F parts)
     where
       context : List ℕ
       context = context_of q known F parts
@@ -243,13 +243,22 @@ module _ (q : Query) where
       blocks-spread None e = (F, lF, rows-spread q F lF parts only block)
       blocks-spread (Some g) e = let lg = bound g (guard_for-in q (λ G. []) bounds block g e).0 in (g.atom, lg, rows-spread q g.atom lg [] g.only block)
 
-      go : (a f b : Bool) → AreSpread before (before ++ cond a (cond f (few_step q number F only parts ∷ step Holds number context (Grouped (block_group q F (keys_in q F (length before) (ascending (key_variables q F))) parts context)) ∷ []) (step Holds number context (Grouped (block_group q F only parts context)) ∷ []))
-          (cond b (step Holds number context (Distinct (rows_of_atom q F only parts context)) ∷ []) (blocks ∷ step Holds number context (Grouped (context_group q F (length before) block parts context)) ∷ [])))
-      go true true b = two-more before (few_step q number F only parts) (step Holds number context (Grouped (block_group q F (keys_in q F (length before) (ascending (key_variables q F))) parts context)))
-          (F, lF, rows-spread q F lF [] (only ++ rare_only q F parts) (ascending (key_variables q F))) (F, lF, block-spread q F lF parts (keys_in q F (length before) (ascending (key_variables q F))) context)
-      go true false b = one-more before (step Holds number context (Grouped (block_group q F only parts context))) (F, lF, block-spread q F lF parts only context)
-      go false f true = one-more before (step Holds number context (Distinct (rows_of_atom q F only parts context))) (F, lF, rows-spread q F lF parts only context)
-      go false f false = two-more before blocks (step Holds number context (Grouped (context_group q F (length before) block parts context))) (blocks-spread (guard_for q bounds block) refl) (F, lF, context-spread q F lF parts known (length before))
+      keys : List ℕ
+      keys = ascending (key_variables q F)
+
+      joined : Step
+      joined = step Holds number context (Distinct (rows_of_atom q F only parts context))
+
+      grouped : List Within → Step
+      grouped o = step Holds number context (Grouped (block_group q F o parts context))
+
+      go : (b a f : Bool) → AreSpread before (before ++ cond b (joined ∷ []) (cond a (cond f (few_step q number F only parts ∷ grouped (keys_in q F (length before) keys) ∷ []) (grouped only ∷ []))
+          (blocks ∷ step Holds number context (Grouped (context_group q F (length before) block parts context)) ∷ [])))
+      go true a f = one-more before joined (F, lF, rows-spread q F lF parts only context)
+      go false true true = two-more before (few_step q number F only parts) (grouped (keys_in q F (length before) keys))
+          (F, lF, rows-spread q F lF [] (only ++ rare_only q F parts) keys) (F, lF, block-spread q F lF parts (keys_in q F (length before) keys) context)
+      go false true false = one-more before (grouped only) (F, lF, block-spread q F lF parts only context)
+      go false false f = two-more before blocks (step Holds number context (Grouped (context_group q F (length before) block parts context))) (blocks-spread (guard_for q bounds block) refl) (F, lF, context-spread q F lF parts known (length before))
 
   asked-spread : (F number : ℕ) (bounds : List Bound) → ((b : Bound) → Contains bounds b → b.atom < length q.atoms) → (before : List Step) → AreSpread before (before ++ asked_steps q number F (bound_for q bounds F))
   asked-spread F number bounds there before = go (bound_for q bounds F) refl

@@ -115,16 +115,21 @@ abbrev pub guarded : Query → ℕ → List Within → List Part → List ℕ �
 guarded q F only parts columns None = rows_of_atom q F only parts columns
 guarded q F only parts columns (Some guard) = rows_of_atom q guard.atom guard.only [] columns
 
--- the steps of F, where these parts hang on it and these atoms are before it: the contexts in which the part holds. Where few
--- blocks can hold, their keys are looked for first. Where one of the parts can have two contexts for a row of F, contexts are
--- looked for first, unless F has no blocks of several rows and no atom before has their variables
+-- F has no blocks of several rows, and each of the parts has one context at most for a row of F, or no atom before has the
+-- variables of F's blocks
+abbrev pub is_joined : Query → ℕ → List ℕ → List Bound → List Part → Bool
+is_joined q F context bounds parts = (atom_at q F).strict && (are_single (variables_of q F) parts || not (is_guarded q bounds (block_of q F context)))
+
+-- the steps of F, where these parts hang on it and these atoms are before it: the contexts in which the part holds. They are
+-- those of F's rows alone where those have no blocks of several rows. Where few blocks can hold, their keys are looked for
+-- first. Where one of the parts can have two contexts for a row of F, contexts are looked for first
 abbrev pub level_steps : Query → ℕ → ℕ → List ℕ → List Within → List Bound → List Part → ℕ → List Step
 level_steps q number F context only bounds parts place =
-    if are_single (variables_of q F) parts then (
+    if is_joined q F context bounds parts then step Holds number context (Distinct (rows_of_atom q F only parts context)) ∷ []
+    else if are_single (variables_of q F) parts then (
     if has_few q bounds F parts then few_step q number F only parts ∷ step Holds number context (Grouped (block_group q F (keys_in q F place (ascending (key_variables q F))) parts context)) ∷ []
     else step Holds number context (Grouped (block_group q F only parts context)) ∷ []
     )
-    else if (atom_at q F).strict && not (is_guarded q bounds (block_of q F context)) then step Holds number context (Distinct (rows_of_atom q F only parts context)) ∷ []
     else (
     step Blocks number (block_of q F context) (Distinct (guarded q F only parts (block_of q F context) (guard_for q bounds (block_of q F context))))
     ∷ step Holds number context (Grouped (context_group q F place (block_of q F context) parts context)) ∷ []

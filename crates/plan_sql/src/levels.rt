@@ -306,6 +306,8 @@ fn push_level(
 {
     if !single {
         push_contexts(alloc, shape, level, context, parts, steps)
+    } else if shape.is_strict(level.atom) {
+        push_rows(alloc, shape, level, context, parts, steps)
     } else if has_few(shape, level.bounds, level.atom, parts) {
         push_few_groups(alloc, shape, level, context, parts, steps)
     } else {
