@@ -67,7 +67,7 @@ fn comes_behind(rows: &Pieces, key: &[u32], row: &Row) -> bool
 {
     match rows.last() {
         Some(last) => block_compare(key, last, row).is_lt(),
-        None => rows.rows().is_empty(),
+        None => true,
     }
 }
 

@@ -19,6 +19,14 @@ take_past xs ys n m e = ap (λ k. take k (xs ++ ys)) e ∙ take-append-add xs ys
 pub drop_past : {A : Type 0} (xs ys : List A) (n m : ℕ) → m ≡ length xs + n → drop m (xs ++ ys) ≡ drop n ys
 drop_past xs ys n m e = ap (λ k. drop k (xs ++ ys)) e ∙ drop-append-add xs ys n
 
+-- the last element, and those before it
+pub split_last : {A : Type 0} (xs : List A) (x : A) → slice_get xs (length xs - 1) ≡ Some x → xs ≡ take (length xs - 1) xs ++ x ∷ []
+split_last xs x e =
+    let there = slice_get_within xs (length xs - 1) x e in
+    sym (take_all (length xs - 1 + 1) xs (omega (arith, there)))
+    ∙ take_more xs (length xs - 1) x there
+    ∙ ap (λ y. take (length xs - 1) xs ++ y ∷ []) (get_or_from_slice_get xs (length xs - 1) x x e)
+
 -- ---- the rows of pieces
 
 pub joined-append : (xs ys : List Piece) → joined (xs ++ ys) ≡ joined xs ++ joined ys

@@ -1,6 +1,6 @@
 //! Rows that are held, in the order in which they were put.
 
-ghost use Rattle.std.specs.Prelude.{◌≡◌, ◌+◌, ◌-◌, ◌≤◌, ◌++◌, ◌∷◌, Bool, List, IfOk, IfSome, OnOk, OnErr, [], length, map, filter, take, drop};
+ghost use Rattle.std.specs.Prelude.{◌≡◌, ◌+◌, ◌-◌, ◌≤◌, ◌++◌, ◌∷◌, Bool, List, IfOk, IfNone, IfSome, OnOk, OnErr, [], length, map, filter, take, drop};
 ghost use Rattle.std.specs.Fn.{ComputesKey};
 ghost use Rattle.cqa_value.specs.declared.value.Value.{Value as Cell};
 ghost use Rattle.row_pieces.specs.Inserted.{with_items, AreRising};
@@ -84,11 +84,16 @@ impl Pieces {
         Ok(())
     }
 
-    /// The last row. Where the last piece has none, it may be that none is given though there are rows.
+    /// The last row.
     pub fn last(&self) -> Option<&Row>
-        ensures { IfSome result (λ row. (before : List (List Cell)) × (self.now ≡ before ++ row.now ∷ [])) }
+        ensures some { IfSome result (λ row. (before : List (List Cell)) × (self.now ≡ before ++ row.now ∷ [])) }
+        ensures none { IfNone result (self.now ≡ []) }
     {
-        last_of(self.pieces.as_slice())
+        match last_of(self.pieces.as_slice()) {
+            Some(row) => Some(row),
+            None if self.count == 0 => None,
+            None => Some(self.rows().get(self.count - 1)),
+        }
     }
 
     /// The rows as one list. Each piece's memory is given back once its rows are moved.

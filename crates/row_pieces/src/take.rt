@@ -1,6 +1,6 @@
 //! Rows that are taken out of pieces, or exchanged.
 
-ghost use Rattle.std.specs.Prelude.{◌≡◌, ◌≤◌, ◌<◌, ◌+◌, ◌-◌, ◌^◌, ◌++◌, Bool, List, OnOk, length, map, take, drop};
+ghost use Rattle.std.specs.Prelude.{◌≡◌, ◌≤◌, ◌<◌, ◌-◌, ◌^◌, ◌++◌, Bool, List, OnOk, length, map, take, drop};
 ghost use Rattle.std.specs.Fn.{ComputesKey};
 ghost use Rattle.cqa_value.specs.declared.value.Value.{Value as Cell};
 ghost use Rattle.row_pieces.specs.Joined.{joined, ArePlaced};

@@ -9,12 +9,8 @@ use Rattle.std.specs.declared.cmp.Ordering.TheVariants.{Less, Equal, Greater}
 use Rattle.std.proofs.lemmas.List.Elements.{All-from_get_or, recursion_from_All}
 use Rattle.std.proofs.lemmas.List.{get_or-take, length-take-le}
 use Rattle.std.proofs.lemmas.Option.{slice_get_within, get_or_from_slice_get, slice_get-get_or}
+use Rattle.row_order.proofs.BlockOrder.{is_less}
 use Rattle.table_blocks.specs.Tables.{IsPlace}
-
-less_is : (o : Ordering) → is_lt o ≡ true → o ≡ Less
-less_is Less e = refl
-less_is Equal e = (cc)
-less_is Greater e = (cc)
 
 not_less : (o : Ordering) → is_lt o ≡ false → o ≡ Less → ⊥
 not_less Less e h = (cc)
@@ -45,7 +41,7 @@ module _ {A : Type 0} (cmp : A → A → Ordering) (total : IsTotalOrder cmp) (e
   parted xs k s i j d a b l = go (nat_lt i j) refl
     where
       go : (t : Bool) → nat_lt i j ≡ t → is_lt (cmp (get_or xs i d) k) ≡ true
-      go true e = ap is_lt (total.trans (get_or xs i d) (get_or xs j d) k (earlier_below xs s i j d (search (rules, e)) b) (less_is _ l))
+      go true e = ap is_lt (total.trans (get_or xs i d) (get_or xs j d) k (earlier_below xs s i j d (search (rules, e)) b) (is_less _ l))
       go false e = let same : j ≡ i = (let x : j ≤ i = search (rules, e) in omega (arith, x, a)) in subst (λ n. is_lt (cmp (get_or xs n d) k) ≡ true) same l
 
   -- where the test of being below parts the list, there the place is
@@ -55,7 +51,7 @@ module _ {A : Type 0} (cmp : A → A → Ordering) (total : IsTotalOrder cmp) (e
     below = recursion_from_All (λ y. cmp y k ≡ Less) (take at xs)
         (All-from_get_or (λ y. cmp y k ≡ Less) (take at xs) k
         (λ i b. let short = length-take-le at xs within in
-        rw (get_or-take at xs i k (omega (arith, b, short))) (less_is (cmp (get_or xs i k) k) (point.0 i k (omega arith) (omega (arith, b, short))))));
+        rw (get_or-take at xs i k (omega (arith, b, short))) (is_less (cmp (get_or xs i k) k) (point.0 i k (omega arith) (omega (arith, b, short))))));
     stops = λ other found. let inside = slice_get_within xs at other found in
         not_less (cmp other k) (subst (λ y. is_lt (cmp y k) ≡ false) (get_or_from_slice_get xs at other k found) (point.1 at k (omega arith) inside));
   }

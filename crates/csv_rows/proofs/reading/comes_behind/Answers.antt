@@ -1,19 +1,13 @@
-use Rattle.std.proofs.Common.{◌≡◌, ◌++◌, ◌∷◌, ℕ, List, [], Contains, inl, inr, true, refl, sym, subst, ◌∙◌, rules}
-use Rattle.std.specs.Ordering.{is_lt}
+use Rattle.std.proofs.Common.{◌≡◌, ◌++◌, ◌∷◌, ℕ, List, [], Contains, inl, inr, sym, subst, rules}
 use Rattle.std.specs.List.Sorted.{IsStrictlySortedBy}
 use Rattle.std.specs.declared.cmp.Ordering.{Ordering}
-use Rattle.std.specs.declared.cmp.Ordering.TheVariants.{Less, Equal, Greater}
+use Rattle.std.specs.declared.cmp.Ordering.TheVariants.{Less}
 use Rattle.std.proofs.lemmas.List.Elements.{Contains-append_cases, Contains-append_right}
 use Rattle.cqa_value.specs.declared.value.Value.{Value}
 use Rattle.cqa_value.proofs.Words.{mem-cases, mem-head, mem-nil, member_by_recursion, sorted_cons}
 use Rattle.cqa_model.specs.Database.{block_cmp}
-use Rattle.row_order.proofs.BlockOrder.{block_total}
+use Rattle.row_order.proofs.BlockOrder.{block_total, is_less}
 use Rattle.csv_rows.proofs.reading.comes_behind.Goals as goal
-
-is_less : (o : Ordering) → is_lt o ≡ true → o ≡ Less
-is_less Less e = refl
-is_less Equal e = (cc)
-is_less Greater e = (cc)
 
 one : (cmp : List Value → List Value → Ordering) (row : List Value) → IsStrictlySortedBy cmp (row ∷ [])
 unfolding IsStrictlySortedBy
@@ -48,11 +42,11 @@ behind key (first ∷ before) last row less s =
 
 pub returns-in-Some : goal.returns-in-Some
 returns-in-Some c yes_it_is s =
-    let last = c.in-Some.ensures in
+    let last = c.in-Some.ensures.some in
     let less = is_less (block_cmp c.args.key.now c.in-Some.last.now c.args.row.now) (search rules) in
     subst (λ rows. IsStrictlySortedBy (block_cmp c.args.key.now) (rows ++ c.args.row.now ∷ [])) (sym last.1)
     (behind c.args.key.now last.0 c.in-Some.last.now c.args.row.now less (subst (IsStrictlySortedBy (block_cmp c.args.key.now)) last.1 s))
 
 pub returns-in-None : goal.returns-in-None
-returns-in-None c none s =
-    subst (λ rows. IsStrictlySortedBy (block_cmp c.args.key.now) (rows ++ c.args.row.now ∷ [])) (sym (sym c.rows.ensures ∙ c.is_empty.ensures.0 none)) (one (block_cmp c.args.key.now) c.args.row.now)
+returns-in-None c yes_it_is s =
+    subst (λ rows. IsStrictlySortedBy (block_cmp c.args.key.now) (rows ++ c.args.row.now ∷ [])) (sym c.in-None.ensures.none) (one (block_cmp c.args.key.now) c.args.row.now)

@@ -1,21 +1,13 @@
-use Rattle.std.proofs.Common.{◌≡◌, ◌+◌, ◌-◌, ◌<◌, ◌++◌, ◌∷◌, [], List, Option, Some, None, length, take, slice_get, sym, ap, ◌∙◌, arith}
+use Rattle.std.proofs.Common.{◌≡◌, ◌-◌, ◌++◌, ◌∷◌, [], List, Option, Some, None, length, take, slice_get, sym, ap, ◌∙◌}
 use Rattle.std.specs.Prelude.{IfSome}
 use Rattle.std.specs.Borrow.{Bor}
 use Rattle.std.specs.Option.{option_copied}
-use Rattle.std.proofs.lemmas.List.{append-nil, append_assoc, take_all, take_more}
-use Rattle.std.proofs.lemmas.Option.{get_or_from_slice_get, slice_get_within}
+use Rattle.std.proofs.lemmas.List.{append-nil, append_assoc}
 use Rattle.cqa_value.specs.declared.value.Value.{Value as Cell}
 use Rattle.row_pieces.specs.declared.piece.Piece.{Piece}
 use Rattle.row_pieces.specs.Joined.{joined}
-use Rattle.row_pieces.proofs.Joining.{joined-append}
+use Rattle.row_pieces.proofs.Joining.{joined-append, split_last}
 use Rattle.row_pieces.proofs.piece.last_of.Goals as goal
-
-split_last : {X : Type 0} (xs : List X) (x : X) → slice_get xs (length xs - 1) ≡ Some x → xs ≡ take (length xs - 1) xs ++ x ∷ []
-split_last xs x e =
-    let there = slice_get_within xs (length xs - 1) x e in
-    sym (take_all (length xs - 1 + 1) xs (omega (arith, there)))
-    ∙ take_more xs (length xs - 1) x there
-    ∙ ap (λ y. take (length xs - 1) xs ++ y ∷ []) (get_or_from_slice_get xs (length xs - 1) x x e)
 
 -- the last row of the last piece
 found : (o : Option (Bor (List Cell))) (ps : List Piece) (piece : Piece) → slice_get ps (length ps - 1) ≡ Some piece → option_copied o ≡ slice_get piece.rows (length piece.rows - 1)
