@@ -128,7 +128,7 @@ def shapes(n):
     of_farther = Tables().add("e", "id m y", "id", keyed(n, pick, lambda pick: (pick.randrange(n // 2), pick.randrange(100))))
     of_farther.add("f", "m x", "m", keyed(n // 2, pick, lambda pick: (pick.randrange(n // 4),)))
     of_farther.add("g", "x u", "x", of_far.tables["g"][3]).add("h", "u y w", "u y", of_far.tables["h"][3])
-    yield "context from no one table above", of_farther, "select id from e, f, g, h where e.m = f.m and f.x = g.x and g.u = h.u and e.y = h.y and w > 0"
+    yield "context from two tables together", of_farther, "select id from e, f, g, h where e.m = f.m and f.x = g.x and g.u = h.u and e.y = h.y and w > 0"
 
 
 def plain(query):

@@ -195,9 +195,11 @@ def kinds(query, printed, rows, features):
     steps = printed.split(' AS (\n')[1:]
     counted(features, "keys that an atom with few rows asks for", '"asked ' in printed)
     blocks, holds = (dict(re.findall(r'"%s (\d+)" AS \(\n  SELECT .*? FROM ("[^"]*" AS y(?: CROSS JOIN)?)' % kind, printed)) for kind in ("blocks", "holds"))
-    counted(features, "keys of few blocks", any(blocks[number] == holds[number] for number in blocks))
+    counted(features, "keys of few blocks", any(blocks[number].split('" AS y')[0] == holds[number].split('" AS y')[0] for number in blocks))
+    counted(features, "rows of few blocks that groups share", re.search(r'COUNT\(\*\) AS n FROM [^\n]* IN \(SELECT s\.v\d+ FROM "blocks ', printed))
     counted(features, "contexts of a table before", any(blocks[number].split('" AS y')[0] != holds[number].split('" AS y')[0] for number in blocks))
-    counted(features, "contexts of a table's own rows", any(table.endswith(" CROSS JOIN") and table == holds[number] for number, table in blocks.items()))
+    counted(features, "contexts of two tables before", '"rows ' in printed)
+    counted(features, "rows that groups share", "COUNT(*)" in printed)
     counted(features, "several parts at the top", " CROSS JOIN " in steps[-1].rpartition("\nSELECT ")[2])
     counted(features, "a step with several parts", any(step.count(" LEFT JOIN ") > 1 for step in steps))
     counted(features, "a strict table without a group", any(' CROSS JOIN "holds ' in step and " GROUP BY " not in step for step in steps[:-1]))

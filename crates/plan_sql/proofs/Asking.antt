@@ -1,11 +1,11 @@
 -- The step that asks for keys of an atom has the key of each row that suits, where the atom that names them has a row that does.
-use Rattle.std.proofs.Common.{◌≡◌, ℕ, ◌<◌, inl, Bool, true, false, ◌&&◌, List, [], ◌∷◌, ◌++◌, length, map, refl, sym, subst, arith, cond, Contains, Option, Some, None, append-nil}
+use Rattle.std.proofs.Common.{◌≡◌, ℕ, ◌<◌, inl, ◌&&◌, List, [], ◌∷◌, ◌++◌, length, map, refl, sym, subst, arith, Contains, Option, Some, None, append-nil}
 use Rattle.std.proofs.lemmas.List.{length_push}
 use Rattle.cqa_value.specs.declared.value.Value.{Value}
 use Rattle.cqa_model.specs.declared.query.Query.{Query}
 use Rattle.cqa_model.specs.Database.{nothing}
 use Rattle.cqa_model.specs.Query.{atom_key}
-use Rattle.cqa_model.proofs.Classic.{mem-head, mem-tail, mem-nil}
+use Rattle.cqa_model.proofs.Classic.{mem-nil}
 use Rattle.sql_text.specs.declared.syntax.Body.TheVariants.{Distinct}
 use Rattle.sql_text.specs.declared.syntax.Step.{Step}
 use Rattle.sql_text.specs.declared.syntax.StepKind.TheVariants.{Asked}
@@ -16,6 +16,7 @@ use Rattle.sql_steps.specs.Variables.{meets, covers, within, variables_of, key_v
 use Rattle.sql_steps.specs.Steps.{cell, rows_of_atom}
 use Rattle.plan_sql.specs.Statement.{step, guard_for, bound_for, keys_in, asked_variables, asked_steps, only_of}
 use Rattle.sql_steps.proofs.Membership.{within-from, ascending-from}
+use Rattle.plan_sql.proofs.Steps.{first-in}
 use Rattle.plan_sql.proofs.Rel.{Rel, new-into, Stays, stays-self, stays-push}
 use Rattle.sql_steps.proofs.Suiting.{Suits}
 use Rattle.sql_steps.proofs.Joining.{covers-from}
@@ -60,24 +61,11 @@ module _ (q : Query) (T : ℕ → List (List Value)) where
         (f.2.0, f.2.3)
 
   pub bound_for-in : (bounds : List Bound) (F : ℕ) (b : Bound) → bound_for q bounds F ≡ Some b → Contains bounds b
-  bound_for-in [] F b e = absurd (cc e)
-  bound_for-in (c ∷ bounds) F b e = go (c.few && meets (variables_of q c.atom) (key_variables q F)) e (bound_for-in bounds F b)
-    where
-      go : (t : Bool) → cond t (Some c) (bound_for q bounds F) ≡ Some b → (bound_for q bounds F ≡ Some b → Contains bounds b) → Contains (c ∷ bounds) b
-      go true e next = let same : c ≡ b = cc e in subst (λ z. Contains (c ∷ bounds) z) same (mem-head c bounds)
-      go false e next = mem-tail b c bounds (next e)
+  bound_for-in bounds F b e = (first-in (λ (c : Bound). c.few && meets (variables_of q c.atom) (key_variables q F)) bounds b e).0
 
   -- an atom that guards has all of the variables
   pub guard_for-in : (bounds : List Bound) (vs : List ℕ) (b : Bound) → guard_for q bounds vs ≡ Some b → Contains bounds b × ((v : ℕ) → Contains vs v → Contains (variables_of q b.atom) v)
-  guard_for-in [] vs b e = absurd (cc e)
-  guard_for-in (c ∷ bounds) vs b e = go (covers (variables_of q c.atom) vs) refl e (guard_for-in bounds vs b)
-    where
-      go : (t : Bool) → covers (variables_of q c.atom) vs ≡ t → cond t (Some c) (guard_for q bounds vs) ≡ Some b →
-          (guard_for q bounds vs ≡ Some b → Contains bounds b × ((v : ℕ) → Contains vs v → Contains (variables_of q b.atom) v)) → Contains (c ∷ bounds) b × ((v : ℕ) → Contains vs v → Contains (variables_of q b.atom) v)
-      go true h e next =
-          let same : c ≡ b = cc e in
-          (subst (λ z. Contains (c ∷ bounds) z) same (mem-head c bounds), λ v m. subst (λ (z : Bound). Contains (variables_of q z.atom) v) same (covers-from (variables_of q c.atom) vs h v m))
-      go false h e next = let r = next e in (mem-tail b c bounds r.0, r.1)
+  guard_for-in bounds vs b e = let r = first-in (λ (c : Bound). covers (variables_of q c.atom) vs) bounds b e in (r.0, covers-from (variables_of q b.atom) vs r.1)
 
   -- what asks for keys of F
   pub record IsAsked (bounds : List Bound) (before start : List Step) (F : ℕ) (only : List Within) : Type 0 where

@@ -16,7 +16,7 @@ use Rattle.sql_text.specs.declared.syntax.Cell.{Cell}
 use Rattle.sql_text.specs.declared.syntax.Child.{Child}
 use Rattle.sql_text.specs.declared.syntax.Listed.{Listed}
 use Rattle.sql_text.specs.declared.syntax.Within.{Within}
-use Rattle.sql_text.specs.Meaning.{IsRowOfEach, cell_value, MeetsAll, AreWithin, IsChoice, Selects, Ends, AreLed, Shows, Groups}
+use Rattle.sql_text.specs.Meaning.{IsRowOfEach, cell_value, MeetsAll, AreWithin, IsChoice, Selects, Ends, AreLed, Shows, Groups, ShowsToo, Shares}
 use Rattle.sql_steps.specs.declared.fitting.Known.{Known}
 use Rattle.sql_steps.specs.declared.part.Part.{Part}
 use Rattle.sql_steps.specs.Variables.{covers, all_below, variables_of, key_variables}
@@ -27,7 +27,7 @@ use Rattle.sql_steps.proofs.Seeing.{IsKnown, IsRight, held-at, held-known, held-
 use Rattle.sql_steps.proofs.Suiting.{variable, Suits}
 use Rattle.sql_steps.proofs.Atoms.{variables-into, key-width, keys-from, keys-into, keys-within}
 use Rattle.sql_steps.proofs.Rows.{start-known, row-known, row-into, row-from, Follows, keyed-same, key-values}
-use Rattle.sql_steps.proofs.Joining.{covers-into, IsBelow, below-seen, AreWide, AreOver, Hold, IsSingle, Joins, ends-from, rows-from, rows-into, led-ends, led-into}
+use Rattle.sql_steps.proofs.Joining.{covers-into, IsBelow, below-seen, AreWide, AreOver, Hold, IsSingle, Joins, ends-from, rows-from, rows-into, ends-into, led-ends, led-into}
 use Rattle.plan_sql.proofs.Contexts.{IsOf, context-from, context-into, end, end-known, block-cases, block-key, block-context}
 use Rattle.plan_sql.proofs.Holding.{Keeps}
 
@@ -105,25 +105,29 @@ module _ (q : Query) (F : ℕ) (lF : F < length q.atoms) (T : ℕ → List (List
 
     -- a choice of a group, whose first row is one of F, where what is known of the others is right
     module _ (start : List Known) (sources : List Listed) (ws : List (List Value)) (only : List Within) (by : List Cell) where
-      shown-from : (w : List (List Value)) (e e0 : ℕ → Value) (y : List Value) → IsBelow (length sources) start → w ≡ y ∷ ws → length sources ≡ length (y ∷ ws) → IsRight w e0 start → MeetsAll w (keyed q F start).all →
-          ((v : ℕ) → Contains known v → (Contains context v → ⊥) → e0 v ≡ e v) → Shows T R (group_of q F sources start only by parts context) (map e context) w → (d : ℕ → Value) × Keeps known e d × Suits q d F y × Hold T R parts d
-      shown-from w e e0 y b ew l r mk base sh = from (row-from q F lF start w e0 r mk sh.meets)
+      ended-from : (w : List (List Value)) (e e0 : ℕ → Value) (y : List Value) → IsBelow (length sources) start → w ≡ y ∷ ws → length sources ≡ length (y ∷ ws) → IsRight w e0 start → MeetsAll w (keyed q F start).all →
+          ((v : ℕ) → Contains known v → (Contains context v → ⊥) → e0 v ≡ e v) → ShowsToo T R (group_of q F sources start only by parts context) (map e context) w → (d : ℕ → Value) × Keeps known e d × Suits q d F y × Hold T R parts d
+      ended-from w e e0 y b ew l r mk base sh = from (row-from q F lF start w e0 r mk sh.meets)
         where
-          u : (u : List (List Value)) × Ends T R (children_of (length sources) parts (fitted q F start).known) w u
-          u = led-ends T R (children_of (length sources) parts (fitted q F start).known) w sh.led
-
           from : (d : ℕ → Value) × Follows q F lF start w e0 d → (d : ℕ → Value) × Keeps known e d × Suits q d F y × Hold T R parts d
-          from (c, f) = take (ends-from T R parts (length sources) (fitted q F start).known w u.0 c (ap length ew ∙ sym l) (fitted-below start (length sources) (omega (arith, l)) b) ready.wide f.right u.1)
+          from (c, f) = take (ends-from T R parts (length sources) (fitted q F start).known w sh.end c (ap length ew ∙ sym l) (fitted-below start (length sources) (omega (arith, l)) b) ready.wide f.right sh.ends)
             where
-              take : (d : ℕ → Value) × Joins T R parts u.0 (fitted q F start).known (end q F lF known parts start (length sources)) c d → (d : ℕ → Value) × Keeps known e d × Suits q d F y × Hold T R parts d
+              take : (d : ℕ → Value) × Joins T R parts sh.end (fitted q F start).known (end q F lF known parts start (length sources)) c d → (d : ℕ → Value) × Keeps known e d × Suits q d F y × Hold T R parts d
               take (d, j) = (
                 d,
                 keeps e e0 d
-                    (sym (cells-right u.0 d (end q F lF known parts start (length sources)) context j.right (λ v m. end-known q F lF known parts start (length sources) v (context-from q F lF known parts v m).1)) ∙ sh.alike u.0 u.1)
+                    (sym (cells-right sh.end d (end q F lF known parts start (length sources)) context j.right (λ v m. end-known q F lF known parts start (length sources) v (context-from q F lF known parts v m).1)) ∙ sh.row_is)
                     (λ v n. j.far v (λ p m k. n (inr (p, m, k))) ∙ f.far v (λ m. n (inl m))) base,
                 suits-moved q F c d y (λ v m. j.kept v (row-known q F lF start v m)) (subst (λ z. Suits q c F (get_or z 0 [])) ew f.suits),
                 j.hold,
               )
+
+      shown-from : (w : List (List Value)) (e e0 : ℕ → Value) (y : List Value) → IsBelow (length sources) start → w ≡ y ∷ ws → length sources ≡ length (y ∷ ws) → IsRight w e0 start → MeetsAll w (keyed q F start).all →
+          ((v : ℕ) → Contains known v → (Contains context v → ⊥) → e0 v ≡ e v) → Shows T R (group_of q F sources start only by parts context) (map e context) w → (d : ℕ → Value) × Keeps known e d × Suits q d F y × Hold T R parts d
+      shown-from w e e0 y b ew l r mk base sh = ended-from w e e0 y b ew l r mk base (record { meets = sh.meets; end = u.0; ends = u.1; row_is = sh.alike u.0 u.1 })
+        where
+          u : (u : List (List Value)) × Ends T R (children_of (length sources) parts (fitted q F start).known) w u
+          u = led-ends T R (children_of (length sources) parts (fitted q F start).known) w sh.led
 
       shown-into : (w : List (List Value)) (d : ℕ → Value) (vs : List ℕ) → ((v : ℕ) → Contains vs v → Contains (known ++ variables_of q F) v) → length w ≡ length sources → IsBelow (length sources) start → IsRight w d start → Suits q d F (get_or w 0 []) → Hold T R parts d →
           are_single vs parts ≡ true → ((v : ℕ) → Contains vs v → IsKnown (fitted q F start).known v) → 0 < length sources → Shows T R (group_of q F sources start only by parts context) (map d context) w
@@ -219,45 +223,83 @@ module _ (q : Query) (F : ℕ) (lF : F < length q.atoms) (T : ℕ → List (List
           let d = each x mx (shares-self (atom_key q F) x) in
           subst (Selects T R (rows_of_atom q F only parts context)) (context-same e d.0 d.1) (plain-into only own context (λ v m. (context-from q F lF known parts v m).1) x d.0 mx d.2 d.3 (pass x d.0 mx d.1 d.2 d.3))
 
-      -- the blocks of F
-      pub block-from : (e : ℕ → Value) → Groups T R (block_group q F only parts context) (map e context) → IsHeld e
-      block-from e g = go g.choice g.chosen g.each
-        where
-          go : (w : List (List Value)) → IsChoice T R (member F ∷ []) (keyed q F []).all only w →
-              ((u : List (List Value)) → IsChoice T R (member F ∷ []) (keyed q F []).all only u →
-              map (cell_value u) (cells_at 0 (atom_key q F)) ≡ map (cell_value w) (cells_at 0 (atom_key q F)) → Shows T R (block_group q F only parts context) (map e context) u) → IsHeld e
-          go [] c each = absurd c.rows
-          go (x ∷ y ∷ w) c each = absurd c.rows.1
-          go (x ∷ []) c each = (
-            x,
-            c.rows.0,
-            λ y my s.
-                let chosen : IsChoice T R (member F ∷ []) (keyed q F []).all only (y ∷ []) = record {
-                  rows = (my, tt);
-                  meets = keyed-same q F lF [] (x ∷ []) (y ∷ []) e (λ k m. absurd (mem-nil k m)) (λ k m. absurd (mem-nil k m)) s c.meets;
-                  within = within-same x y [] [] s c.within;
-                } in
-                shown-from [] (member F ∷ []) [] only (cells_at 0 (atom_key q F)) (y ∷ []) e e y (λ k m. absurd (mem-nil k m)) refl refl (λ k m. absurd (mem-nil k m)) chosen.meets (λ v m f. refl)
-                (each (y ∷ []) chosen (cells-same (y ∷ []) (x ∷ []) 0 (atom_key q F) (λ i m. sym (s i m)))),
-          )
+      abbrev Member : List (List Value) → Type 0
+      Member w = IsChoice T R (member F ∷ []) (keyed q F []).all only w
 
-      pub block-into : are_single (variables_of q F) parts ≡ true → (e : ℕ → Value) → Passes e → IsHeld e → Groups T R (block_group q F only parts context) (map e context)
-      block-into t e pass (x, mx, each) = record { choice = x ∷ []; chosen = chosen; each = λ w c same. go w c same }
+      abbrev Alike : List (List Value) → List (List Value) → Type 0
+      Alike u w = map (cell_value u) (cells_at 0 (atom_key q F)) ≡ map (cell_value w) (cells_at 0 (atom_key q F))
+
+      -- a block of F, of each row of which something is known
+      held-from : (e : ℕ → Value) (Each : List (List Value) → Type 0) → ((y : List Value) → MeetsAll (y ∷ []) (keyed q F []).all → Each (y ∷ []) → (d : ℕ → Value) × Keeps known e d × Suits q d F y × Hold T R parts d) →
+          (w : List (List Value)) → Member w → ((u : List (List Value)) → Member u → Alike u w → Each u) → IsHeld e
+      held-from e Each suits [] c each = absurd c.rows
+      held-from e Each suits (x ∷ y ∷ w) c each = absurd c.rows.1
+      held-from e Each suits (x ∷ []) c each = (
+        x,
+        c.rows.0,
+        λ y my s.
+            let chosen : Member (y ∷ []) = record {
+              rows = (my, tt);
+              meets = keyed-same q F lF [] (x ∷ []) (y ∷ []) e (λ k m. absurd (mem-nil k m)) (λ k m. absurd (mem-nil k m)) s c.meets;
+              within = within-same x y [] [] s c.within;
+            } in
+            suits y chosen.meets (each (y ∷ []) chosen (cells-same (y ∷ []) (x ∷ []) 0 (atom_key q F) (λ i m. sym (s i m)))),
+      )
+
+      -- and each of whose rows has what each row that suits has
+      held-into : (e : ℕ → Value) → Passes e → (Each : List (List Value) → Type 0) → ((y : List Value) → (d : ℕ → Value) → Keeps known e d → Suits q d F y → Hold T R parts d → Each (y ∷ [])) → IsHeld e →
+          (w : List (List Value)) × Member w × ((u : List (List Value)) → Member u → Alike u w → Each u)
+      held-into e pass Each shows (x, mx, each) = (x ∷ [], chosen, go)
         where
           d : (d : ℕ → Value) × Keeps known e d × Suits q d F x × Hold T R parts d
           d = each x mx (shares-self (atom_key q F) x)
 
-          chosen : IsChoice T R (member F ∷ []) (keyed q F []).all only (x ∷ [])
+          chosen : Member (x ∷ [])
           chosen = record { rows = (mx, tt); meets = (row-into q F lF [] (x ∷ []) d.0 (λ k m. absurd (mem-nil k m)) d.2).1; within = pass x d.0 mx d.1 d.2 d.3 }
 
-          go : (w : List (List Value)) → IsChoice T R (member F ∷ []) (keyed q F []).all only w →
-              map (cell_value w) (cells_at 0 (atom_key q F)) ≡ map (cell_value (x ∷ [])) (cells_at 0 (atom_key q F)) → Shows T R (block_group q F only parts context) (map e context) w
+          go : (u : List (List Value)) → Member u → Alike u (x ∷ []) → Each u
           go [] c same = absurd c.rows
           go (y ∷ z ∷ w) c same = absurd c.rows.1
-          go (y ∷ []) c same =
-              let k = each y c.rows.0 (λ p m. sym (cells-agree (y ∷ []) (x ∷ []) 0 (atom_key q F) same p m)) in
-              subst (λ z. Shows T R (block_group q F only parts context) z (y ∷ [])) (context-same e k.0 k.1)
-              (shown-into [] (member F ∷ []) [] only (cells_at 0 (atom_key q F)) (y ∷ []) k.0 (variables_of q F) (λ v m. Contains-append_right known (variables_of q F) v m) refl (λ z m. absurd (mem-nil z m)) (λ z m. absurd (mem-nil z m)) k.2 k.3 t (λ v m. row-known q F lF [] v m) (omega arith))
+          go (y ∷ []) c same = let k = each y c.rows.0 (λ p m. sym (cells-agree (y ∷ []) (x ∷ []) 0 (atom_key q F) same p m)) in shows y k.0 k.1 k.2 k.3
+
+      -- the blocks of F
+      pub block-from : (e : ℕ → Value) → Groups T R (block_group q F only parts context) (map e context) → IsHeld e
+      block-from e g = held-from e (Shows T R (block_group q F only parts context) (map e context))
+          (λ y mk sh. shown-from [] (member F ∷ []) [] only (cells_at 0 (atom_key q F)) (y ∷ []) e e y (λ k m. absurd (mem-nil k m)) refl refl (λ k m. absurd (mem-nil k m)) mk (λ v m f. refl) sh) g.choice g.chosen g.each
+
+      -- and what their rows share
+      pub shared-from : (e : ℕ → Value) → Shares T R (block_group q F only parts context) (map e context) → IsHeld e
+      shared-from e g = held-from e (ShowsToo T R (block_group q F only parts context) (map e context))
+          (λ y mk sh. ended-from [] (member F ∷ []) [] only (cells_at 0 (atom_key q F)) (y ∷ []) e e y (λ k m. absurd (mem-nil k m)) refl refl (λ k m. absurd (mem-nil k m)) mk (λ v m f. refl) sh) g.choice g.chosen g.each
+
+      pub shared-into : (e : ℕ → Value) → Passes e → IsHeld e → Shares T R (block_group q F only parts context) (map e context)
+      shared-into e pass h = record { choice = all.0; chosen = all.1; each = all.2 }
+        where
+          shows : (y : List Value) (d : ℕ → Value) → Keeps known e d → Suits q d F y → Hold T R parts d → ShowsToo T R (block_group q F only parts context) (map e context) (y ∷ [])
+          shows y d k s hold = record {
+            meets = a.2;
+            end = u.0;
+            ends = u.1;
+            row_is = cells-right u.0 d (end q F lF known parts [] 1) context u.2 (λ v m. end-known q F lF known parts [] 1 v (context-from q F lF known parts v m).1) ∙ context-same e d k;
+          }
+            where
+              a : IsRight (y ∷ []) d (fitted q F []).known × MeetsAll (y ∷ []) (keyed q F []).all × MeetsAll (y ∷ []) (fitted q F []).all
+              a = row-into q F lF [] (y ∷ []) d (λ j m. absurd (mem-nil j m)) s
+
+              u : (u : List (List Value)) × Ends T R (children_of 1 parts (fitted q F []).known) (y ∷ []) u × IsRight u d (end q F lF known parts [] 1)
+              u = ends-into T R parts 1 (fitted q F []).known (y ∷ []) d refl (fitted-below [] 1 (omega arith) (λ j m. absurd (mem-nil j m))) a.0 hold
+
+          all : (w : List (List Value)) × Member w × ((u : List (List Value)) → Member u → Alike u w → ShowsToo T R (block_group q F only parts context) (map e context) u)
+          all = held-into e pass (ShowsToo T R (block_group q F only parts context) (map e context)) shows h
+
+      pub block-into : are_single (variables_of q F) parts ≡ true → (e : ℕ → Value) → Passes e → IsHeld e → Groups T R (block_group q F only parts context) (map e context)
+      block-into t e pass h = record { choice = all.0; chosen = all.1; each = all.2 }
+        where
+          all : (w : List (List Value)) × Member w × ((u : List (List Value)) → Member u → Alike u w → Shows T R (block_group q F only parts context) (map e context) u)
+          all = held-into e pass (Shows T R (block_group q F only parts context) (map e context))
+              (λ y d k s hold. subst (λ z. Shows T R (block_group q F only parts context) z (y ∷ [])) (context-same e d k)
+              (shown-into [] (member F ∷ []) [] only (cells_at 0 (atom_key q F)) (y ∷ []) d (variables_of q F) (λ v m. Contains-append_right known (variables_of q F) v m) refl (λ z m. absurd (mem-nil z m)) (λ z m. absurd (mem-nil z m)) s hold t (λ v m. row-known q F lF [] v m) (omega arith)))
+              h
 
       -- two contexts with the same key are of one block
       pub block-single : (d e : ℕ → Value) → ((v : ℕ) → Contains (key_variables q F) v → Contains context v) → ((v : ℕ) → Contains (key_variables q F) v → d v ≡ e v) →

@@ -6,9 +6,11 @@ pub mod Contexts
 pub mod Level
 pub mod Looking
 pub mod Asking
+pub mod Pairs
 pub mod Made
 pub mod Plan
 pub mod Exact
 pub mod Naming
 pub mod Named
 pub mod Spreading
+pub mod Counting

@@ -245,4 +245,4 @@ sql_is_named q (F ∷ plan) is_plan = record {
     children = children_of 0 made.parts []
 
     c : AreChildrenOf q made.steps [] children × AreIn q made.steps (map (λ (z : Child). z.listed) children) (known_of 0 made.parts [])
-    c = children-of q made.steps made.parts [] 0 [] refl h.at (λ k m. absurd (mem-nil k m))
+    c = children-of q made.steps made.parts [] 0 [] refl (λ p m. let r = h.at p m in (r.0, r.1)) (λ k m. absurd (mem-nil k m))

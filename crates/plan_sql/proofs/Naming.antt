@@ -14,25 +14,28 @@ use Rattle.sql_text.specs.declared.syntax.Listed.{Listed}
 use Rattle.sql_text.specs.declared.syntax.Cell.{Cell}
 use Rattle.sql_text.specs.declared.syntax.Child.{Child}
 use Rattle.sql_text.specs.declared.syntax.Within.{Within}
+use Rattle.sql_text.specs.declared.syntax.Select.{Select}
 use Rattle.sql_text.specs.declared.syntax.Body.TheVariants.{Distinct, Grouped}
 use Rattle.sql_text.specs.declared.syntax.Step.{Step}
-use Rattle.sql_text.specs.declared.syntax.StepKind.TheVariants.{Asked, Blocks, Holds}
-use Rattle.sql_text.specs.Named.{AreDifferent, width, ShowsOne, IsThere, IsCellOf, AreCellsOf, AreCmpsOf, AreWithinOf, AreChildrenOf, AreSources, IsNamedSelect, IsNamedGroup, IsNamedStep, AreNamedSteps}
+use Rattle.sql_text.specs.declared.syntax.StepKind.TheVariants.{Asked, Rows, Blocks, Holds}
+use Rattle.sql_text.specs.Named.{AreDifferent, width, ShowsOne, IsThere, IsCellOf, AreCellsOf, AreCmpsOf, AreWithinOf, AreChildrenOf, AreSources, AreCountable, IsNamedSelect, IsNamedGroup, IsNamedBody, shown, IsNamedStep, AreNamedSteps}
 use Rattle.sql_steps.specs.declared.fitting.Known.{Known}
 use Rattle.plan_sql.specs.declared.bounds.Bound.{Bound}
 use Rattle.sql_steps.specs.declared.part.Part.{Part}
-use Rattle.sql_steps.specs.Variables.{has, within, without, all_below, ascending, variables_of, key_variables}
+use Rattle.sql_steps.specs.Variables.{has, covers, within, without, all_below, ascending, variables_of, key_variables}
 use Rattle.sql_steps.specs.Steps.{cell, cell_of, held, member, cells_at, keyed, fitted, part_source, children_of, known_of, on_of, rows_of_atom, group_of, block_group, context_group, are_single}
-use Rattle.plan_sql.specs.Statement.{context_of, block_of, step, guard_for, is_joined, guarded, level_steps, keys_in, rare_only, has_few, few_step}
+use Rattle.plan_sql.specs.Statement.{context_of, block_of, step, guard_for, is_joined, first_of, completes, far_columns, rows_part, two_steps, far_steps, near_steps, looked_steps, context_steps, by_block, block_steps, behind_steps, level_steps, keys_in, rare_only, has_few, few_step}
 use Rattle.sql_steps.proofs.Membership.{ascending-from, without-from, columns-from, columns-into}
 use Rattle.sql_steps.proofs.Seeing.{held-at}
 use Rattle.sql_steps.proofs.Atoms.{key-width, keys-within, keys-into}
 use Rattle.sql_steps.proofs.Rows.{row-known}
 use Rattle.sql_steps.proofs.Suiting.{variable}
-use Rattle.plan_sql.proofs.Contexts.{IsOf, context-from, end-known, block-of, block-key}
+use Rattle.plan_sql.proofs.Contexts.{IsOf, context-from, end-known, block-key}
 use Rattle.plan_sql.proofs.Asking.{guard_for-in}
+use Rattle.plan_sql.proofs.Steps.{first-in}
+use Rattle.plan_sql.proofs.Pairs.{columns-of, of-part, of-two}
 use Rattle.plan_sql.proofs.Looking.{keys-at, keys-own, rare-at, rare-own}
-use Rattle.sql_steps.proofs.Scopes.{cmp-more, AreIn, both-of, keyed-seen, fitted-seen, cells-in, AreAt, children-of, on-of, sources-of, children-joined}
+use Rattle.sql_steps.proofs.Scopes.{cmp-more, AreIn, both-of, keyed-seen, fitted-seen, cells-in, AreThere, AreAt, children-of, on-of, sources-of, children-joined}
 
 -- lists in which nothing stands twice
 pub filter-apart : {A : Type 0} (test : A → Bool) (f : A → ℕ) (xs : List A) → AreDifferent (map f xs) → AreDifferent (map f (filter test xs))
@@ -141,7 +144,11 @@ module _ (q : Query) where
   IsBoundNamed ss b = (b.atom < length q.atoms) × AreOnly ss b.atom b.only
 
   -- the steps of an atom
-  module _ (before : List Step) (F : ℕ) (lF : F < length q.atoms) (known : List ℕ) (parts : List Part) (at : AreAt q before parts) (numbers : AreDifferent (map (λ (p : Part). p.number) parts)) (only : List Within) (looked : AreOnly before F only) where
+  module _ (before : List Step) (F : ℕ) (lF : F < length q.atoms) (known : List ℕ) (parts : List Part) (at : AreThere q before parts) (numbers : AreDifferent (map (λ (p : Part). p.number) parts)) (only : List Within) (looked : AreOnly before F only) where
+    -- each part is of what holds
+    abbrev pub AreOnes : Type 0
+    AreOnes = (p : Part) → Contains parts p → ShowsOne before (Earlier p.step)
+
     -- each part has a variable of F
     abbrev pub AreLinked : Type 0
     AreLinked = (p : Part) → Contains parts p → (v : ℕ) × Contains p.columns v × Contains (variables_of q F) v
@@ -191,10 +198,10 @@ module _ (q : Query) where
         c = children-of q before parts (member F ∷ []) 1 (fitted q F []).known refl at b.0
 
     -- a group whose first source is F's table
-    group-named : AreLinked → (ws : List Listed) (start : List Known) (by : List Cell) (o : List Within) → 0 < length by → AreIn q before (member F ∷ ws) start → AreCellsOf q before (member F ∷ ws) by → AreWithinOf q before (member F ∷ ws) o →
+    group-named : AreLinked → AreOnes → (ws : List Listed) (start : List Known) (by : List Cell) (o : List Within) → 0 < length by → AreIn q before (member F ∷ ws) start → AreCellsOf q before (member F ∷ ws) by → AreWithinOf q before (member F ∷ ws) o →
         AreSources q before ((member F ∷ ws) ++ map (λ (c : Child). c.listed) (children_of (length (member F ∷ ws)) parts (fitted q F start).known)) →
         IsNamedGroup q before (group_of q F (member F ∷ ws) start o by parts (context_of q known F parts))
-    group-named linked ws start by o some h hby ho hs = record {
+    group-named linked ones ws start by o some h hby ho hs = record {
       sources = hs;
       cells = cells-in q before ((member F ∷ ws) ++ map (λ (z : Child). z.listed) (children_of (length (member F ∷ ws)) parts (fitted q F start).known)) (known_of (length (member F ∷ ws)) parts (fitted q F start).known) (context_of q known F parts) c.1
           (λ v m. end-known q F lF known parts start (length (member F ∷ ws)) v (context-from q F lF known parts v m).1);
@@ -204,7 +211,7 @@ module _ (q : Query) where
       grouped = some;
       fit = b.1;
       children = c.0;
-      joined = children-joined q before parts (length (member F ∷ ws)) (fitted q F start).known at (λ p m. let l = linked p m in (l.0, l.1, row-known q F lF start l.0 l.2));
+      joined = children-joined q before parts (length (member F ∷ ws)) (fitted q F start).known (λ p m. let r = at p m in (r.0, r.1, ones p m)) (λ p m. let l = linked p m in (l.0, l.1, row-known q F lF start l.0 l.2));
     }
       where
         b : AreIn q before (member F ∷ ws) (fitted q F start).known × AreCmpsOf q before (member F ∷ ws) (fitted q F start).all
@@ -220,8 +227,19 @@ module _ (q : Query) where
     some-cells : (place : ℕ) (is : List ℕ) → 1 ≤ length is → 0 < length (cells_at place is)
     some-cells place is l = omega (arith, l, length-map is (λ i. cell place i))
 
-    pub block-named : AreLinked → IsNamedGroup q before (block_group q F only parts (context_of q known F parts))
-    block-named linked = group-named linked [] [] (cells_at 0 (atom_key q F)) only (some-cells 0 (atom_key q F) (q.kept.each F lF).some_key) (λ k m. absurd (mem-nil k m)) (cells-of [] 0 (atom_key q F) (λ i m. own [] i (key-width q F lF i m))) (within-of []) (sources-named 1 (fitted q F []).known)
+    pub block-named : AreLinked → AreOnes → IsNamedGroup q before (block_group q F only parts (context_of q known F parts))
+    block-named linked ones = group-named linked ones [] [] (cells_at 0 (atom_key q F)) only (some-cells 0 (atom_key q F) (q.kept.each F lF).some_key) (λ k m. absurd (mem-nil k m)) (cells-of [] 0 (atom_key q F) (λ i m. own [] i (key-width q F lF i m))) (within-of []) (sources-named 1 (fitted q F []).known)
+
+    -- so are the contexts of blocks: no source has the alias of their sizes
+    pub by-block-named : AreLinked → AreOnes → (a : Bool) → IsNamedBody q before (by_block a (block_group q F only parts (context_of q known F parts)))
+    by-block-named linked ones true = block-named linked ones
+    by-block-named linked ones false = (
+      block-named linked ones,
+      subst (λ z. AreCountable (member F ∷ z)) (sym (sources-of q before parts 1 (fitted q F []).known)) (λ l m. elim (mem-cases l (member F) (map (λ (p : Part). part_source p) parts) m) [
+        | inl e ↦ (λ f. let g : Member ≡ Context = ap (λ (z : Listed). z.alias) e ∙ f in absurd (cc g))
+        | inr n ↦ (λ f. let r = Contains-from_map (λ (p : Part). part_source p) parts l n in let g : Held r.0.number ≡ Context = ap (λ (z : Listed). z.alias) r.2 ∙ f in absurd (cc g))
+      ]),
+    )
 
     -- the key has some variable, so a block has
     some-block : 1 ≤ length (all_below (length (block_of q F (context_of q known F parts))))
@@ -236,10 +254,10 @@ module _ (q : Query) where
                 some : Contains (all_below (length (block_of q F (context_of q known F parts)))) j → 1 ≤ length (all_below (length (block_of q F (context_of q known F parts))))
                 some (i, k, f) = omega (arith, k)
 
-    pub context-named : AreLinked → (place : ℕ) → place < length before → width q before (Earlier place) ≡ length (block_of q F (context_of q known F parts)) →
+    pub context-named : AreLinked → AreOnes → (place : ℕ) → place < length before → width q before (Earlier place) ≡ length (block_of q F (context_of q known F parts)) →
         IsNamedGroup q before (context_group q F place (block_of q F (context_of q known F parts)) parts (context_of q known F parts))
-    context-named linked place l w =
-        group-named linked (s ∷ []) (held 1 0 block) (cells_at 1 (all_below (length block))) [] (some-cells 1 (all_below (length block)) some-block)
+    context-named linked ones place l w =
+        group-named linked ones (s ∷ []) (held 1 0 block) (cells_at 1 (all_below (length block))) [] (some-cells 1 (all_below (length block)) some-block)
         (λ k m. let r = held-at 1 0 block k m in subst (λ z. IsCellOf q before (member F ∷ s ∷ []) z) (sym r.2) (seen (0 + r.0) (let j : r.0 < length block = r.1 in omega arith)))
         (cells-of (s ∷ []) 1 (all_below (length block)) (λ i m. seen i (columns-from (length block) i m))) (λ o m. absurd (mem-nil o m))
         (subst (λ z. AreSources q before (member F ∷ s ∷ z)) (sym (sources-of q before parts 2 (fitted q F (held 1 0 block)).known)) (record {
@@ -266,10 +284,16 @@ module _ (q : Query) where
   pub at-more : (ss ts : List Step) (parts : List Part) → AreAt q ss parts → AreAt q (ss ++ ts) parts
   at-more ss ts parts h p m = let r = h p m in (omega (arith, r.0, length-append ss ts), width-more ss ts p.step r.0 ∙ r.1, kind-more ss ts p.step r.0 r.2)
 
+  pub there-at : (ss : List Step) (parts : List Part) → AreAt q ss parts → AreThere q ss parts
+  there-at ss parts h p m = let r = h p m in (r.0, r.1)
+
+  ones-at : (ss : List Step) (parts : List Part) → AreAt q ss parts → (p : Part) → Contains parts p → ShowsOne ss (Earlier p.step)
+  ones-at ss parts h p m = (h p m).2
+
   -- the steps, where no step has the atom's number but the one that asks for its keys
   module _ (before : List Step) (F : ℕ) (lF : F < length q.atoms) (known : List ℕ) (parts : List Part) (at : AreAt q before parts) (numbers : AreDifferent (map (λ (p : Part). p.number) parts)) (only : List Within) (looked : AreOnly before F only) where
     module _ (number : ℕ) (first : AreNamedSteps q [] before) (fresh : (t : Step) → Contains before t → t.level ≡ number → t.kind ≡ Asked)
-        (linked : AreLinked before F lF known parts at numbers only looked) (bounds : List Bound) (bound : (b : Bound) → Contains bounds b → IsBoundNamed before b) where
+        (linked : AreLinked before F lF known parts (there-at before parts at) numbers only looked) (bounds : List Bound) (bound : (b : Bound) → Contains bounds b → IsBoundNamed before b) where
       abbrev context : List ℕ
       context = context_of q known F parts
 
@@ -313,34 +337,157 @@ module _ (q : Query) where
       blocks-fresh : (t : Step) → Contains before t → (t.kind ≡ Blocks) × (t.level ≡ number) → ⊥
       blocks-fresh t m h = let e : Asked ≡ Blocks = sym (fresh t m h.1) ∙ h.0 in cc e
 
-      pub level-named : IsLevelNamed (before ++ level_steps q number F context only bounds parts (length before))
-      level-named = go (is_joined q F context bounds parts) (are_single (variables_of q F) parts) (has_few q bounds F parts)
+      abbrev block : List ℕ
+      block = block_of q F context
+
+      -- the last of these steps has a block's variables, and none of them is of what holds
+      record IsLookedNamed (steps : List Step) : Type 0 where
+        named : AreNamedSteps q [] steps
+        grows : (ts : List Step) × (steps ≡ before ++ ts)
+        levels : (t : Step) → Contains steps t → Contains before t ⊎ ((t.level ≡ number) × (t.kind ≢ Holds))
+        some : length before < length steps
+        shows : width q steps (Earlier (length steps - 1)) ≡ length block
+
+      -- the steps before, and at most the one of the values of a row further up
+      record IsWidenedNamed (steps : List Step) : Type 0 where
+        named : AreNamedSteps q [] steps
+        grows : (ts : List Step) × (steps ≡ before ++ ts)
+        longer : length before ≤ length steps
+        levels : (t : Step) → Contains steps t → Contains before t ⊎ ((t.level ≡ number) × (t.kind ≡ Rows))
+
+      rows-fresh : (t : Step) → Contains before t → (t.kind ≡ Rows) × (t.level ≡ number) → ⊥
+      rows-fresh t m h = let e : Asked ≡ Rows = sym (fresh t m h.1) ∙ h.0 in cc e
+
+      before-named : IsWidenedNamed before
+      before-named = record { named = first; grows = ([], sym (append-nil before)); longer = omega arith; levels = λ t m. inl m }
+
+      looked-named : (ss : List Step) → IsWidenedNamed ss → (select : Select) → IsNamedSelect q ss select → length select.cells ≡ length block → IsLookedNamed (ss ++ step Blocks number block (Distinct select) ∷ [])
+      looked-named ss h select n long = record {
+        named = named-push [] ss b h.named (record { fresh = fresh-blocks; body = n; long = long; apart = block-apart q F context context-apart });
+        grows = (h.grows.0 ++ b ∷ [], ap (λ z. z ++ b ∷ []) h.grows.1 ∙ append_assoc before h.grows.0 (b ∷ []));
+        levels = λ t m. elim (Contains-append_cases ss (b ∷ []) t m) [
+          | inl o ↦ elim (h.levels t o) [ inl k ↦ inl k | inr k ↦ inr (k.0, λ e. let f : Rows ≡ Holds = sym k.1 ∙ e in cc f) ]
+          | inr o ↦ elim (mem-cases t b [] o) [ inl e ↦ inr (ap (λ (z : Step). z.level) (sym e), λ f. let g : Blocks ≡ Holds = ap (λ (z : Step). z.kind) e ∙ f in cc g) | inr z ↦ absurd (mem-nil t z) ]
+        ];
+        some = omega (arith, length_push ss b, h.longer);
+        shows = width-new ss b (length (ss ++ b ∷ []) - 1) (omega (arith, length_push ss b));
+      }
         where
-          block : List ℕ
-          block = block_of q F context
+          b : Step
+          b = step Blocks number block (Distinct select)
 
-          blocks : Step
-          blocks = step Blocks number block (Distinct (guarded q F only parts block (guard_for q bounds block)))
+          fresh-blocks : (t : Step) → Contains ss t → (t.kind ≡ Blocks) × (t.level ≡ number) → ⊥
+          fresh-blocks t m e = elim (h.levels t m) [ inl o ↦ blocks-fresh t o e | inr o ↦ (let f : Rows ≡ Blocks = sym o.1 ∙ e.0 in cc f) ]
 
-          holds : Step
-          holds = step Holds number context (Grouped (context_group q F (length before) block parts context))
+      -- the rows of an atom before
+      alone-named : (b : Bound) → Contains bounds b → (vs : List ℕ) → ((v : ℕ) → Contains vs v → Contains (variables_of q b.atom) v) → IsNamedSelect q before (rows_of_atom q b.atom b.only [] vs)
+      alone-named b m vs of = rows-named before b.atom (bound b m).0 known [] (λ p n. absurd (mem-nil p n)) tt b.only (bound b m).1 vs (λ v n. inl (of v n))
 
-          opened : List Step
-          opened = before ++ blocks ∷ []
+      module _ (near far : Bound) (mn : Contains bounds near) (mf : Contains bounds far) (t : completes q near block far ≡ true) where
+        abbrev two_columns : List ℕ
+        two_columns = far_columns q near far block
 
+        abbrev two_part : Part
+        two_part = rows_part number (length before) two_columns
+
+        abbrev rows : Step
+        rows = step Rows number two_columns (Distinct (rows_of_atom q far.atom far.only [] two_columns))
+
+        rows-step : IsNamedStep q before rows
+        rows-step = record {
+          fresh = rows-fresh;
+          body = alone-named far mf two_columns (columns-of q near far (bound near mn).0 (bound far mf).0 block number (length before));
+          long = length-map two_columns (λ v. cell_of (known_of 1 [] (fitted q far.atom []).known) v);
+          apart = ascending-apart (within (variables_of q far.atom) (block ++ variables_of q near.atom));
+        }
+
+        widened-named : IsWidenedNamed (before ++ rows ∷ [])
+        widened-named = record {
+          named = named-push [] before rows first rows-step;
+          grows = (rows ∷ [], refl);
+          longer = omega (arith, length_push before rows);
+          levels = λ s m. elim (Contains-append_cases before (rows ∷ []) s m) [
+            | inl o ↦ inl o
+            | inr o ↦ elim (mem-cases s rows [] o) [ inl e ↦ inr (ap (λ (z : Step). z.level) (sym e), ap (λ (z : Step). z.kind) (sym e)) | inr z ↦ absurd (mem-nil s z) ]
+          ];
+        }
+
+        part-there : AreThere q (before ++ rows ∷ []) (two_part ∷ [])
+        part-there = of-part q near far (bound near mn).0 (bound far mf).0 block number (length before)
+            (λ p. (p.step < length (before ++ rows ∷ [])) × (width q (before ++ rows ∷ []) (Earlier p.step) ≡ length p.columns))
+            ((let l : length before < length (before ++ rows ∷ []) = omega (arith, length_push before rows) in l), width-new before rows (length before) refl)
+
+        near-select : IsNamedSelect q (before ++ rows ∷ []) (rows_of_atom q near.atom near.only (two_part ∷ []) block)
+        near-select = rows-named (before ++ rows ∷ []) near.atom (bound near mn).0 known (two_part ∷ []) part-there ((λ y m. absurd (mem-nil y m)), tt) near.only (only-more before (rows ∷ []) near.atom near.only (bound near mn).1) block
+            (of-two q near far (bound near mn).0 (bound far mf).0 block number (length before) known t)
+
+        two-named : IsLookedNamed (before ++ two_steps q number near far block (length before))
+        two-named = subst IsLookedNamed (append_assoc before (rows ∷ []) (step Blocks number block (Distinct (rows_of_atom q near.atom near.only (two_part ∷ []) block)) ∷ []))
+            (looked-named (before ++ rows ∷ []) widened-named (rows_of_atom q near.atom near.only (two_part ∷ []) block) near-select (length-map block (λ v. cell_of (known_of 1 (two_part ∷ []) (fitted q near.atom []).known) v)))
+
+      -- so for steps that may be there
+      abbrev AreLookedNamed : Option (List Step) → Type 0
+      AreLookedNamed None = Unit {0}
+      AreLookedNamed (Some steps) = IsLookedNamed (before ++ steps)
+
+      all-looked-named : AreLookedNamed (looked_steps q number F bounds block (length before) (guard_for q bounds block))
+      all-looked-named = go (guard_for q bounds block) refl
+        where
+          by-near : (near : Bound) → Contains bounds near → (found : Option Bound) → first_of (λ b. completes q near block b) bounds ≡ found → AreLookedNamed (far_steps q number block (length before) near found)
+          by-near near m None e = tt
+          by-near near m (Some far) e = let r = first-in (λ b. completes q near block b) bounds far e in two-named near far m r.0 r.1
+
+          by-key : (found : Option Bound) → guard_for q bounds (key_variables q F) ≡ found → AreLookedNamed (near_steps q number bounds block (length before) found)
+          by-key None e = tt
+          by-key (Some near) e = by-near near (first-in (λ b. covers (variables_of q b.atom) (key_variables q F)) bounds near e).0 (first_of (λ b. completes q near block b) bounds) refl
+
+          go : (found : Option Bound) → guard_for q bounds block ≡ found → AreLookedNamed (looked_steps q number F bounds block (length before) found)
+          go None e = by-key (guard_for q bounds (key_variables q F)) refl
+          go (Some g) e =
+              let r = guard_for-in q (λ G. []) bounds block g e in
+              looked-named before before-named (rows_of_atom q g.atom g.only [] block) (alone-named g r.0 block r.1) (length-map block (λ v. cell_of (known_of 1 [] (fitted q g.atom []).known) v))
+
+      abbrev holds : ℕ → Step
+      holds place = step Holds number context (Grouped (context_group q F place block parts context))
+
+      contexts-named : (opened : List Step) → IsLookedNamed opened → IsLevelNamed (opened ++ holds (length opened - 1) ∷ [])
+      contexts-named opened h = record {
+        named = named-push [] opened (holds place) h.named (record {
+          fresh = λ t m e. elim (h.levels t m) [ inl o ↦ holds-fresh t o e | inr o ↦ o.1 e.0 ];
+          body = context-named opened F lF known parts (there-at opened parts now) numbers only (subst (λ z. AreOnly z F only) (sym h.grows.1) (only-more before h.grows.0 F only looked)) linked (ones-at opened parts now) place (let l : length opened - 1 < length opened = omega (arith, h.some) in l) h.shows;
+          long = length-map context (λ v. cell_of (known_of 2 parts (fitted q F (held 1 0 block)).known) v);
+          apart = context-apart;
+        });
+        grows = (h.grows.0 ++ holds place ∷ [], ap (λ z. z ++ holds place ∷ []) h.grows.1 ∙ append_assoc before h.grows.0 (holds place ∷ []));
+        levels = λ t m. elim (Contains-append_cases opened (holds place ∷ []) t m) [
+          | inl o ↦ elim (h.levels t o) [ inl k ↦ inl k | inr k ↦ inr k.0 ]
+          | inr o ↦ elim (mem-cases t (holds place) [] o) [ inl f ↦ inr (ap (λ (z : Step). z.level) (sym f)) | inr z ↦ absurd (mem-nil t z) ]
+        ];
+        some = omega (arith, length_push opened (holds place), h.some);
+        shows = width-new opened (holds place) (length (opened ++ holds place ∷ []) - 1) (omega (arith, length_push opened (holds place)));
+        one = kind-new opened (holds place) (length (opened ++ holds place ∷ []) - 1) (omega (arith, length_push opened (holds place))) refl;
+      }
+        where
+          place : ℕ
+          place = length opened - 1
+
+          now : AreAt q opened parts
+          now = subst (λ z. AreAt q z parts) (sym h.grows.1) (at-more before h.grows.0 parts at)
+
+      contexts-behind : (steps : List Step) → IsLookedNamed (before ++ steps) → IsLevelNamed (before ++ context_steps q number F context parts (length before) steps)
+      contexts-behind steps h = subst IsLevelNamed
+          (ap (λ n. (before ++ steps) ++ holds n ∷ []) (let l : length (before ++ steps) - 1 ≡ length before + length steps - 1 = omega (arith, length-append before steps) in l)
+          ∙ append_assoc before steps (holds (length before + length steps - 1) ∷ []))
+          (contexts-named (before ++ steps) h)
+
+      blocks-named : (a : Bool) → IsLevelNamed (before ++ block_steps q number F context only bounds parts (length before) a)
+      blocks-named a = go (has_few q bounds F parts)
+        where
           later-fresh : (b t : Step) → b.kind ≡ Blocks → Contains (before ++ b ∷ []) t → (t.kind ≡ Holds) × (t.level ≡ number) → ⊥
           later-fresh b t k m h = elim (Contains-append_cases before (b ∷ []) t m) [
             | inl n ↦ holds-fresh t n h
             | inr n ↦ elim (mem-cases t b [] n) [ inl e ↦ (let g : Blocks ≡ Holds = sym k ∙ ap (λ (z : Step). z.kind) e ∙ h.0 in absurd (cc g)) | inr z ↦ absurd (mem-nil t z) ]
           ]
-
-          holds-step : IsNamedStep q opened holds
-          holds-step = record {
-            fresh = λ t m h. later-fresh blocks t refl m h;
-            body = context-named opened F lF known parts (at-more before (blocks ∷ []) parts at) numbers only (only-more before (blocks ∷ []) F only looked) linked (length before) (omega (arith, length_push before blocks)) (width-new before blocks (length before) refl);
-            long = length-map context (λ v. cell_of (known_of 2 parts (fitted q F (held 1 0 block)).known) v);
-            apart = context-apart;
-          }
 
           few : Step
           few = few_step q number F only parts
@@ -365,7 +512,7 @@ module _ (q : Query) where
           }
 
           each_few : Step
-          each_few = step Holds number context (Grouped (block_group q F (keys_in q F (length before) keys) parts context))
+          each_few = step Holds number context (by_block a (block_group q F (keys_in q F (length before) keys) parts context))
 
           each-looked : AreOnly (before ++ few ∷ []) F (keys_in q F (length before) keys)
           each-looked o m =
@@ -375,34 +522,39 @@ module _ (q : Query) where
                 subst (λ (z : Within). z.column < width q (before ++ few ∷ []) (Earlier z.step)) r.2 (subst (λ z. r.0 < z) (sym (width-new before few (length before) refl)) r.1),
               )
 
+          long : (b : Bool) (o : List Within) → shown (by_block b (block_group q F o parts context)) ≡ length context
+          long true o = length-map context (λ v. cell_of (known_of 1 parts (fitted q F []).known) v)
+          long false o = length-map context (λ v. cell_of (known_of 1 parts (fitted q F []).known) v)
+
           few-each : IsNamedStep q before few × IsNamedStep q (before ++ few ∷ []) each_few
           few-each = (
             few-step,
             record {
               fresh = λ t m h. later-fresh few t refl m h;
-              body = block-named (before ++ few ∷ []) F lF known parts (at-more before (few ∷ []) parts at) numbers (keys_in q F (length before) keys) each-looked linked;
-              long = length-map context (λ v. cell_of (known_of 1 parts (fitted q F []).known) v);
+              body = by-block-named (before ++ few ∷ []) F lF known parts (there-at (before ++ few ∷ []) parts (at-more before (few ∷ []) parts at)) numbers (keys_in q F (length before) keys) each-looked linked (ones-at (before ++ few ∷ []) parts (at-more before (few ∷ []) parts at)) a;
+              long = long a (keys_in q F (length before) keys);
               apart = context-apart;
             },
           )
 
-          blocks-step : IsNamedStep q before blocks
-          blocks-step = record { fresh = blocks-fresh; body = body (guard_for q bounds block) refl; long = long (guard_for q bounds block); apart = block-apart q F context context-apart }
-            where
-              body : (found : Option Bound) → guard_for q bounds block ≡ found → IsNamedSelect q before (guarded q F only parts block found)
-              body None e = rows-named before F lF known parts at numbers only looked block (block-of q F lF known parts)
-              body (Some g) e =
-                  let r = guard_for-in q (λ G. []) bounds block g e in
-                  rows-named before g.atom (bound g r.0).0 known [] (λ p m. absurd (mem-nil p m)) tt g.only (bound g r.0).1 block (λ v m. inl (r.1 v m))
+          go : (f : Bool) → IsLevelNamed (before ++ cond f (few ∷ each_few ∷ []) (step Holds number context (by_block a (block_group q F only parts context)) ∷ []))
+          go true = two-levels few each_few few-each refl refl refl refl refl
+          go false = one-level (step Holds number context (by_block a (block_group q F only parts context)))
+              (record { fresh = holds-fresh; body = by-block-named before F lF known parts (there-at before parts at) numbers only looked linked (ones-at before parts at) a; long = long a only; apart = context-apart }) refl refl refl
 
-              long : (found : Option Bound) → length (guarded q F only parts block found).cells ≡ length block
-              long None = length-map block (λ v. cell_of (known_of 1 parts (fitted q F []).known) v)
-              long (Some g) = length-map block (λ v. cell_of (known_of 1 [] (fitted q g.atom []).known) v)
+      behind-named : (found : Option (List Step)) → AreLookedNamed found → IsLevelNamed (before ++ behind_steps q number F context only bounds parts (length before) found)
+      behind-named None h = blocks-named false
+      behind-named (Some steps) h = contexts-behind steps h
 
-          go : (b a f : Bool) →
-              IsLevelNamed (before ++ cond b (step Holds number context (Distinct (rows_of_atom q F only parts context)) ∷ []) (cond a (cond f (few ∷ each_few ∷ []) (step Holds number context (Grouped (block_group q F only parts context)) ∷ [])) (blocks ∷ holds ∷ [])))
-          go true a f = one-level (step Holds number context (Distinct (rows_of_atom q F only parts context)))
-              (record { fresh = holds-fresh; body = rows-named before F lF known parts at numbers only looked context (λ v m. (context-from q F lF known parts v m).1); long = length-map context (λ v. cell_of (known_of 1 parts (fitted q F []).known) v); apart = context-apart }) refl refl refl
-          go false true true = two-levels few each_few few-each refl refl refl refl refl
-          go false true false = one-level (step Holds number context (Grouped (block_group q F only parts context))) (record { fresh = holds-fresh; body = block-named before F lF known parts at numbers only looked linked; long = length-map context (λ v. cell_of (known_of 1 parts (fitted q F []).known) v); apart = context-apart }) refl refl refl
-          go false false f = two-levels blocks holds (blocks-step, holds-step) refl refl refl refl refl
+      pub level-named : IsLevelNamed (before ++ level_steps q number F context only bounds parts (length before))
+      level-named = go (is_joined q F context bounds parts) (are_single (variables_of q F) parts)
+        where
+          steps : Option (List Step)
+          steps = looked_steps q number F bounds block (length before) (guard_for q bounds block)
+
+          go : (b a : Bool) →
+              IsLevelNamed (before ++ cond b (step Holds number context (Distinct (rows_of_atom q F only parts context)) ∷ []) (cond a (block_steps q number F context only bounds parts (length before) true) (behind_steps q number F context only bounds parts (length before) steps)))
+          go true a = one-level (step Holds number context (Distinct (rows_of_atom q F only parts context)))
+              (record { fresh = holds-fresh; body = rows-named before F lF known parts (there-at before parts at) numbers only looked context (λ v m. (context-from q F lF known parts v m).1); long = length-map context (λ v. cell_of (known_of 1 parts (fitted q F []).known) v); apart = context-apart }) refl refl refl
+          go false true = blocks-named true
+          go false false = behind-named steps all-looked-named

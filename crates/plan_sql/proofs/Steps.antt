@@ -1,21 +1,25 @@
 -- Steps of the code.
-use Rattle.std.proofs.Common.{◌≡◌, ℕ, zero, suc, ◌<◌, ◌+◌, ◌&&◌, Bool, true, false, cond, Some, drop, List, [], ◌∷◌, ◌++◌, length, refl, ap, sym, ◌∙◌, subst, map, get_or, arith, Contains}
+use Rattle.std.proofs.Common.{◌≡◌, ℕ, zero, suc, ◌<◌, ◌+◌, ◌-◌, Bool, true, false, cond, Option, Some, None, is_some, drop, List, [], ◌∷◌, ◌++◌, length, refl, ap, sym, ◌∙◌, subst, map, get_or, arith, Contains}
+use Rattle.std.specs.Option.{unwrap_or}
 use Rattle.std.specs.List.{All, filter, range_with_len, slice_index}
-use Rattle.std.proofs.lemmas.List.{append_assoc, map-append}
+use Rattle.std.proofs.lemmas.List.{append-nil, append_assoc, length-append, map-append}
 use Rattle.std.proofs.lemmas.List.Elements.{Contains-get_or, filter-append}
 use Rattle.cqa_model.specs.declared.query.Query.{Query}
+use Rattle.cqa_model.proofs.Classic.{mem-head, mem-tail}
 use Rattle.cqa_model.specs.Variables.{whole}
 use Rattle.cqa_model.specs.Plan.{IsPlanOf}
 use Rattle.cqa_model.proofs.Elimination.{plan-eliminates}
 use Rattle.fo_rewrite.proofs.Distinct.{plan-atoms}
 use Rattle.sql_steps.specs.Shapes.{AreAtoms}
-use Rattle.sql_steps.specs.Variables.{covers, has, key_variables, meets, variables_of}
+use Rattle.sql_steps.specs.Variables.{has}
 use Rattle.sql_steps.specs.declared.fitting.Known.{Known}
+use Rattle.sql_text.specs.declared.syntax.Body.TheVariants.{Grouped}
 use Rattle.sql_text.specs.declared.syntax.Step.{Step}
+use Rattle.sql_text.specs.declared.syntax.StepKind.TheVariants.{Holds}
 use Rattle.plan_sql.specs.declared.bounds.Bound.{Bound}
 use Rattle.sql_steps.specs.declared.part.Part.{Part}
-use Rattle.sql_steps.specs.Steps.{cell_of}
-use Rattle.plan_sql.specs.Statement.{Made, asked_steps, bound_for, bound_of, guard_for, made_behind, made_later, made_of, only_of, with_level}
+use Rattle.sql_steps.specs.Steps.{cell_of, context_group}
+use Rattle.plan_sql.specs.Statement.{Made, asked_steps, block_of, bound_for, bound_of, context_steps, behind_steps, block_steps, first_of, made_behind, made_later, made_of, only_of, step, with_level}
 use Rattle.sql_text.specs.declared.syntax.Within.{Within}
 use Rattle.sql_steps.proofs.Steps.{range-more}
 
@@ -64,35 +68,54 @@ part-pushed vs known part n old before now b e =
         ap (λ z. map shown (filter test z)) (range-more n) ∙ ap (map shown) (filter-append test (range_with_len 0 n) (n ∷ []))
         ∙ map-append shown (filter test (range_with_len 0 n)) (filter test (n ∷ [])) ∙ ap (λ z. part_so_far vs known part n ++ z) (one (test n))
 
--- the first atom with few rows that has a variable of a key
-pub bound-found : (q : Query) (F i : ℕ) (bounds : List Bound) (bound d : Bound) → i < length bounds → bound ≡ get_or bounds i d →
-    (bound.few && meets (variables_of q bound.atom) (key_variables q F)) ≡ true → bound_for q (drop i bounds) F ≡ Some bound
-bound-found q F i [] bound d l e m = absurd (omega (arith, l))
-bound-found q F zero (b ∷ bounds) bound d l e m =
-    ap (λ z. cond z (Some b) (bound_for q bounds F)) (subst (λ (z : Bound). (z.few && meets (variables_of q z.atom) (key_variables q F)) ≡ true) e m) ∙ ap Some (sym e)
-bound-found q F (suc i) (b ∷ bounds) bound d l e m = bound-found q F i bounds bound d (omega (arith, l)) e m
+-- the first atom that passes a test is one of them, and passes it
+pub first-in : (test : Bound → Bool) (bounds : List Bound) (b : Bound) → first_of test bounds ≡ Some b → Contains bounds b × (test b ≡ true)
+first-in test [] b e = absurd (cc e)
+first-in test (c ∷ bounds) b e = go (test c) refl e (first-in test bounds b)
+  where
+    go : (t : Bool) → test c ≡ t → cond t (Some c) (first_of test bounds) ≡ Some b → (first_of test bounds ≡ Some b → Contains bounds b × (test b ≡ true)) → Contains (c ∷ bounds) b × (test b ≡ true)
+    go true h e next = let same : c ≡ b = cc e in (subst (λ z. Contains (c ∷ bounds) z) same (mem-head c bounds), subst (λ z. test z ≡ true) same h)
+    go false h e next = let r = next e in (mem-tail b c bounds r.0, r.1)
 
--- the first atom that has these variables
-pub guard-found : (q : Query) (vs : List ℕ) (i : ℕ) (bounds : List Bound) (bound d : Bound) → i < length bounds → bound ≡ get_or bounds i d →
-    covers (variables_of q bound.atom) vs ≡ true → guard_for q (drop i bounds) vs ≡ Some bound
-guard-found q vs i [] bound d l e m = absurd (omega (arith, l))
-guard-found q vs zero (b ∷ bounds) bound d l e m =
-    ap (λ z. cond z (Some b) (guard_for q bounds vs)) (subst (λ (z : Bound). covers (variables_of q z.atom) vs ≡ true) e m) ∙ ap Some (sym e)
-guard-found q vs (suc i) (b ∷ bounds) bound d l e m = guard-found q vs i bounds bound d (omega (arith, l)) e m
+-- it is found where it stands
+pub first-found : (test : Bound → Bool) (i : ℕ) (bounds : List Bound) (bound d : Bound) → i < length bounds → bound ≡ get_or bounds i d → test bound ≡ true → first_of test (drop i bounds) ≡ Some bound
+first-found test i [] bound d l e t = absurd (omega (arith, l))
+first-found test zero (b ∷ bounds) bound d l e t = ap (λ z. cond z (Some b) (first_of test bounds)) (subst (λ z. test z ≡ true) e t) ∙ ap Some (sym e)
+first-found test (suc i) (b ∷ bounds) bound d l e t = first-found test i bounds bound d (omega (arith, l)) e t
 
--- one that has not all of them
-guard-after : (q : Query) (vs : List ℕ) (i : ℕ) (bounds : List Bound) (bound d : Bound) → i < length bounds → bound ≡ get_or bounds i d →
-    covers (variables_of q bound.atom) vs ≡ false → guard_for q (drop (suc i) bounds) vs ≡ guard_for q (drop i bounds) vs
-guard-after q vs i [] bound d l e m = absurd (omega (arith, l))
-guard-after q vs zero (b ∷ bounds) bound d l e m =
-    sym (ap (λ z. cond z (Some b) (guard_for q bounds vs)) (subst (λ (z : Bound). covers (variables_of q z.atom) vs ≡ false) e m))
-guard-after q vs (suc i) (b ∷ bounds) bound d l e m = guard-after q vs i bounds bound d (omega (arith, l)) e m
+-- one that doesn't
+first-after : (test : Bound → Bool) (i : ℕ) (bounds : List Bound) (bound d : Bound) → i < length bounds → bound ≡ get_or bounds i d → test bound ≡ false → first_of test (drop (suc i) bounds) ≡ first_of test (drop i bounds)
+first-after test i [] bound d l e t = absurd (omega (arith, l))
+first-after test zero (b ∷ bounds) bound d l e t = sym (ap (λ z. cond z (Some b) (first_of test bounds)) (subst (λ z. test z ≡ false) e t))
+first-after test (suc i) (b ∷ bounds) bound d l e t = first-after test i bounds bound d (omega (arith, l)) e t
 
-pub guard-next : (q : Query) (vs : List ℕ) (i : ℕ) (bounds : List Bound) (bound d : Bound) → i < length bounds → bound ≡ get_or bounds i d →
-    covers (variables_of q bound.atom) vs ≡ false → guard_for q (drop (i + 1) bounds) vs ≡ guard_for q (drop i bounds) vs
-guard-next q vs i bounds bound d l e m =
+pub first-next : (test : Bound → Bool) (i : ℕ) (bounds : List Bound) (bound d : Bound) → i < length bounds → bound ≡ get_or bounds i d → test bound ≡ false → first_of test (drop (i + 1) bounds) ≡ first_of test (drop i bounds)
+first-next test i bounds bound d l e t =
     let more : i + 1 ≡ suc i = omega arith in
-    ap (λ n. guard_for q (drop n bounds) vs) more ∙ guard-after q vs i bounds bound d l e m
+    ap (λ n. first_of test (drop n bounds)) more ∙ first-after test i bounds bound d l e t
+
+-- the step of the contexts behind those that look for them
+pub contexts-pushed : (q : Query) (number F : ℕ) (context : List ℕ) (parts : List Part) (before looked now : List Step) → now ≡ before ++ looked →
+    now ++ step Holds number context (Grouped (context_group q F (length now - 1) (block_of q F context) parts context)) ∷ [] ≡ before ++ context_steps q number F context parts (length before) looked
+contexts-pushed q number F context parts before looked now e =
+    ap (λ z. z ++ holds (length z - 1) ∷ []) e
+    ∙ ap (λ n. (before ++ looked) ++ holds n ∷ []) (let l : length (before ++ looked) - 1 ≡ length before + length looked - 1 = omega (arith, length-append before looked) in l)
+    ∙ append_assoc before looked (holds (length before + length looked - 1) ∷ [])
+  where
+    holds : ℕ → Step
+    holds place = step Holds number context (Grouped (context_group q F place (block_of q F context) parts context))
+
+-- where steps were looked for and found
+pub behind-looked : (q : Query) (number F : ℕ) (context : List ℕ) (only : List Within) (bounds : List Bound) (parts : List Part) (before now : List Step) (found : Option (List Step)) → is_some found ≡ true → now ≡ before ++ unwrap_or found [] →
+    now ++ step Holds number context (Grouped (context_group q F (length now - 1) (block_of q F context) parts context)) ∷ [] ≡ before ++ behind_steps q number F context only bounds parts (length before) found
+behind-looked q number F context only bounds parts before now None t e = (cc)
+behind-looked q number F context only bounds parts before now (Some looked) t e = contexts-pushed q number F context parts before looked now e
+
+-- and where none were
+pub behind-blocks : (q : Query) (number F : ℕ) (context : List ℕ) (only : List Within) (bounds : List Bound) (parts : List Part) (before now : List Step) (found : Option (List Step)) → is_some found ≡ false → now ≡ before ++ unwrap_or found [] →
+    now ++ block_steps q number F context only bounds parts (length now) false ≡ before ++ behind_steps q number F context only bounds parts (length before) found
+behind-blocks q number F context only bounds parts before now None t e = ap (λ z. z ++ block_steps q number F context only bounds parts (length z) false) (e ∙ append-nil before)
+behind-blocks q number F context only bounds parts before now (Some looked) t e = (cc)
 
 -- steps and parts are what was made
 abbrev pub made-with : List Step → List Part → Made

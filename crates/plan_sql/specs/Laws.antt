@@ -1,5 +1,6 @@
 -- The laws of the query of a plan.
-use Rattle.std.specs.Prelude.{◌≡◌, ℕ, ◌<◌, ◌==◌, if◌then◌else◌, ◌↔◌, List, [], length, map, Contains}
+use Rattle.std.specs.List.{filter}
+use Rattle.std.specs.Prelude.{◌≡◌, ℕ, ◌<◌, ◌==◌, if◌then◌else◌, ◌↔◌, Bool, true, List, [], length, map, Contains}
 use Rattle.cqa_value.specs.declared.value.Value.{Value}
 use Rattle.cqa_model.specs.declared.query.Query.{Query}
 use Rattle.cqa_model.specs.Database.{Table, stored}
@@ -59,6 +60,11 @@ IsSpread q F body =
     ((shard : List (List Value)) × Contains shards shard × Gives (only_rows F shard) (StepHas tables (λ m x. ⊥) 0 before) body row)
 
 -- Each step of the query of a plan can be run on each machine that has some blocks of one of its tables, over all rows of the
--- steps before it: its rows are those of the machines together.
+-- steps before it: its rows are those of the machines together, each once.
 abbrev pub SqlIsSpread : Type 0
 SqlIsSpread = (q : Query) (plan : List ℕ) → IsPlanOf q plan → (s : Step) → Contains (sql_of q plan).steps s → (F : ℕ) × (F < length q.atoms) × IsSpread q F s.body
+
+-- In a list of a group's choices, in which one may stand several times, as many show a row as there are choices just where each
+-- of them shows it.
+abbrev pub CountIsEach : Type 0
+CountIsEach = (shows : List (List Value) → Bool) (choices : List (List (List Value))) → (length (filter shows choices) ≡ length choices) ↔ ((w : List (List Value)) → Contains choices w → shows w ≡ true)

@@ -1,9 +1,10 @@
 -- The SQL query of a plan. From the last atom to the first, each atom is the first of a part: those of the later parts that
 -- have a variable of it which isn't known before it hang on it, and it has the step of the contexts in which the part holds.
 -- A context is a list of values of the variables that are known before the atom and occur in the part. Where an atom before
--- has few rows, an atom first asks for the keys that they name. Where contexts have to be looked for first, they are those of
--- the rows of an atom before, if one has all of their variables.
-use Rattle.std.specs.Prelude.{ℕ, suc, ◌-◌, ◌==◌, ◌&&◌, ◌||◌, not, Bool, false, if◌then◌else◌, List, [], ◌∷◌, ◌++◌, length, map, slice_index, Option, Some, None, flat_map}
+-- has few rows, an atom first asks for the keys that they name. Where a row can have several contexts, they are looked for
+-- first, in the rows of an atom before, if one has all of their variables, or of two atoms before that are joined; or else
+-- those are taken that all rows of a block share.
+use Rattle.std.specs.Prelude.{ℕ, suc, ◌+◌, ◌-◌, ◌==◌, ◌&&◌, ◌||◌, not, Bool, true, false, if◌then◌else◌, List, [], ◌∷◌, ◌++◌, length, map, slice_index, Option, Some, None, flat_map}
 use Rattle.std.specs.List.{range_with_len, filter, list_any}
 use Rattle.cqa_model.specs.declared.query.Op.TheVariants.{Eq, Ne, Lt, Le, Gt, Ge}
 use Rattle.cqa_model.specs.declared.query.Cond.{Cond}
@@ -13,10 +14,11 @@ use Rattle.cqa_model.specs.Query.{atom_at, atom_key}
 use Rattle.sql_text.specs.declared.syntax.Within.{Within}
 use Rattle.sql_text.specs.declared.syntax.Select.{Select}
 use Rattle.sql_text.specs.declared.syntax.Child.{Child}
+use Rattle.sql_text.specs.declared.syntax.Group.{Group}
 use Rattle.sql_text.specs.declared.syntax.Body.{Body}
-use Rattle.sql_text.specs.declared.syntax.Body.TheVariants.{Distinct, Grouped}
+use Rattle.sql_text.specs.declared.syntax.Body.TheVariants.{Distinct, Grouped, Shared}
 use Rattle.sql_text.specs.declared.syntax.StepKind.{StepKind}
-use Rattle.sql_text.specs.declared.syntax.StepKind.TheVariants.{Asked, Blocks, Holds}
+use Rattle.sql_text.specs.declared.syntax.StepKind.TheVariants.{Asked, Rows, Blocks, Holds}
 use Rattle.sql_text.specs.declared.syntax.Step.{Step}
 use Rattle.sql_text.specs.declared.syntax.Sql.{Sql}
 use Rattle.sql_steps.specs.declared.part.Part.{Part}
@@ -101,19 +103,78 @@ few_step q number F only parts =
     let columns = ascending (key_variables q F) in
     step Blocks number columns (Distinct (rows_of_atom q F (only ++ rare_only q F parts) [] columns))
 
+-- the first of these atoms that passes a test
+abbrev pub first_of : (Bound → Bool) → List Bound → Option Bound
+first_of test [] = None
+first_of test (bound ∷ bounds) = if test bound then Some bound else first_of test bounds
+
 -- the atom that guards these variables: the first one before that has each of them
 abbrev pub guard_for : Query → List Bound → List ℕ → Option Bound
-guard_for q [] vs = None
-guard_for q (bound ∷ bounds) vs = if covers (variables_of q bound.atom) vs then Some bound else guard_for q bounds vs
+guard_for q bounds vs = first_of (λ b. covers (variables_of q b.atom) vs) bounds
 
 -- an atom before has each of these variables
 abbrev pub is_guarded : Query → List Bound → List ℕ → Bool
 is_guarded q bounds vs = list_any (λ (b : Bound). covers (variables_of q b.atom) vs) bounds
 
--- the values of these variables, in the rows of the atom that guards them, and in those of F with these parts if there is none
-abbrev pub guarded : Query → ℕ → List Within → List Part → List ℕ → Option Bound → Select
-guarded q F only parts columns None = rows_of_atom q F only parts columns
-guarded q F only parts columns (Some guard) = rows_of_atom q guard.atom guard.only [] columns
+-- an atom has the key of `near`, so that each of its rows is joined with one block, and these variables together with it
+abbrev pub completes : Query → Bound → List ℕ → Bound → Bool
+completes q near vs far = covers (variables_of q far.atom) (key_variables q near.atom) && covers (variables_of q far.atom ++ variables_of q near.atom) vs
+
+-- the variables of `far` that are asked for or by which its rows are joined with those of `near`
+abbrev pub far_columns : Query → Bound → Bound → List ℕ → List ℕ
+far_columns q near far vs = ascending (within (variables_of q far.atom) (vs ++ variables_of q near.atom))
+
+-- the step at a place, with these columns, as what rows are joined with
+abbrev pub rows_part : ℕ → ℕ → List ℕ → Part
+rows_part number place columns = record { number = number; step = place; columns = columns; keys = []; single = false; rare = false }
+
+-- the values of these variables in the rows of an atom, with these parts
+abbrev pub one_step : Query → ℕ → ℕ → List Within → List Part → List ℕ → List Step
+one_step q number F only parts vs = step Blocks number vs (Distinct (rows_of_atom q F only parts vs)) ∷ []
+
+-- those in the rows of two atoms that are joined, where those of `far` are in a step of their own
+abbrev pub two_steps : Query → ℕ → Bound → Bound → List ℕ → ℕ → List Step
+two_steps q number near far vs place =
+    step Rows number (far_columns q near far vs) (Distinct (rows_of_atom q far.atom far.only [] (far_columns q near far vs)))
+    ∷ one_step q number near.atom near.only (rows_part number place (far_columns q near far vs) ∷ []) vs
+
+-- the values of these variables in the rows of `near` and those of the atom that completes it, if there is one
+abbrev pub far_steps : Query → ℕ → List ℕ → ℕ → Bound → Option Bound → Option (List Step)
+far_steps q number vs place near None = None
+far_steps q number vs place near (Some far) = Some (two_steps q number near far vs place)
+
+-- the steps that look for these variables from such an atom on, if there is one
+abbrev pub near_steps : Query → ℕ → List Bound → List ℕ → ℕ → Option Bound → Option (List Step)
+near_steps q number bounds vs place None = None
+near_steps q number bounds vs place (Some near) = far_steps q number vs place near (first_of (λ b. completes q near vs b) bounds)
+
+-- the steps that look for the values of these variables, in the rows of the atom that guards them, or of one that has F's key
+-- and one that completes it, if there are such
+abbrev pub looked_steps : Query → ℕ → ℕ → List Bound → List ℕ → ℕ → Option Bound → Option (List Step)
+looked_steps q number F bounds vs place None = near_steps q number bounds vs place (guard_for q bounds (key_variables q F))
+looked_steps q number F bounds vs place (Some guard) = Some (one_step q number guard.atom guard.only [] vs)
+
+-- steps that look for contexts, and then the contexts in which the part holds, by F's blocks
+abbrev pub context_steps : Query → ℕ → ℕ → List ℕ → List Part → ℕ → List Step → List Step
+context_steps q number F context parts place looked =
+    looked ++ step Holds number context (Grouped (context_group q F (place + length looked - 1) (block_of q F context) parts context)) ∷ []
+
+-- the contexts of blocks: the one of all rows, where each row has one at most, or else those that all rows share
+abbrev pub by_block : Bool → Group → Body
+by_block true group = Grouped group
+by_block false group = Shared group
+
+-- the contexts in which the part holds, by F's blocks. Where few blocks can hold, their keys are looked for first
+abbrev pub block_steps : Query → ℕ → ℕ → List ℕ → List Within → List Bound → List Part → ℕ → Bool → List Step
+block_steps q number F context only bounds parts place single =
+    if has_few q bounds F parts then few_step q number F only parts ∷ step Holds number context (by_block single (block_group q F (keys_in q F place (ascending (key_variables q F))) parts context)) ∷ []
+    else step Holds number context (by_block single (block_group q F only parts context)) ∷ []
+
+-- the contexts in which the part holds: those that were looked for, or, where no atoms before have them, those that all rows
+-- of a block share
+abbrev pub behind_steps : Query → ℕ → ℕ → List ℕ → List Within → List Bound → List Part → ℕ → Option (List Step) → List Step
+behind_steps q number F context only bounds parts place None = block_steps q number F context only bounds parts place false
+behind_steps q number F context only bounds parts place (Some looked) = context_steps q number F context parts place looked
 
 -- F has no blocks of several rows, and each of the parts has one context at most for a row of F, or no atom before has the
 -- variables of F's blocks
@@ -121,19 +182,13 @@ abbrev pub is_joined : Query → ℕ → List ℕ → List Bound → List Part �
 is_joined q F context bounds parts = (atom_at q F).strict && (are_single (variables_of q F) parts || not (is_guarded q bounds (block_of q F context)))
 
 -- the steps of F, where these parts hang on it and these atoms are before it: the contexts in which the part holds. They are
--- those of F's rows alone where those have no blocks of several rows. Where few blocks can hold, their keys are looked for
--- first. Where one of the parts can have two contexts for a row of F, contexts are looked for first
+-- those of F's rows alone where those have no blocks of several rows. Where one of the parts can have two contexts for a row of
+-- F, contexts are looked for first, if atoms before have them
 abbrev pub level_steps : Query → ℕ → ℕ → List ℕ → List Within → List Bound → List Part → ℕ → List Step
 level_steps q number F context only bounds parts place =
     if is_joined q F context bounds parts then step Holds number context (Distinct (rows_of_atom q F only parts context)) ∷ []
-    else if are_single (variables_of q F) parts then (
-    if has_few q bounds F parts then few_step q number F only parts ∷ step Holds number context (Grouped (block_group q F (keys_in q F place (ascending (key_variables q F))) parts context)) ∷ []
-    else step Holds number context (Grouped (block_group q F only parts context)) ∷ []
-    )
-    else (
-    step Blocks number (block_of q F context) (Distinct (guarded q F only parts (block_of q F context) (guard_for q bounds (block_of q F context))))
-    ∷ step Holds number context (Grouped (context_group q F place (block_of q F context) parts context)) ∷ []
-    )
+    else if are_single (variables_of q F) parts then block_steps q number F context only bounds parts place true
+    else behind_steps q number F context only bounds parts place (looked_steps q number F bounds (block_of q F context) place (guard_for q bounds (block_of q F context)))
 
 -- F has few rows: few are taken to meet some test, or steps ask for its keys
 abbrev pub is_bound : Query → List Bound → ℕ → List Within → Bool
@@ -145,8 +200,7 @@ bound_of q bounds F only = record { atom = F; only = only; few = is_bound q boun
 
 -- the first of these atoms with few rows that has a variable of F's key
 abbrev pub bound_for : Query → List Bound → ℕ → Option Bound
-bound_for q [] F = None
-bound_for q (bound ∷ bounds) F = if bound.few && meets (variables_of q bound.atom) (key_variables q F) then Some bound else bound_for q bounds F
+bound_for q bounds F = first_of (λ b. b.few && meets (variables_of q b.atom) (key_variables q F)) bounds
 
 -- the variables of F's key that are asked for by another atom
 abbrev pub asked_variables : Query → ℕ → ℕ → List ℕ

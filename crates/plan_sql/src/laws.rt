@@ -1,6 +1,6 @@
 //! The laws of the query of a plan, over the definitions alone. Each is what its function ensures.
 
-ghost use Rattle.plan_sql.specs.Laws.{SqlIsExact, SqlIsNamed, SqlIsSpread, SqlIsWide, SqlShowsOnce};
+ghost use Rattle.plan_sql.specs.Laws.{CountIsEach, SqlIsExact, SqlIsNamed, SqlIsSpread, SqlIsWide, SqlShowsOnce};
 
 /// What the query of a plan means is exactly the certain answer, over each database that the query fits, of any size.
 pub fn sql_is_exact()
@@ -26,4 +26,9 @@ pub fn sql_shows_once()
 /// has on the machines together.
 pub fn sql_is_spread()
     ensures { SqlIsSpread }
+{}
+
+/// As many choices of a group show a row as it has just where each of them shows it.
+pub fn count_is_each()
+    ensures { CountIsEach }
 {}

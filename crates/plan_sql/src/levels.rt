@@ -4,21 +4,22 @@ ghost use Rattle.std.specs.Prelude.{◌≡◌, ◌++◌, ◌∷◌, ◌<◌, ◌
 ghost use Rattle.std.specs.List.{list_any};
 ghost use Rattle.cqa_model.specs.declared.query.Cond.{Cond as CondValue};
 ghost use Rattle.sql_text.specs.declared.syntax.Body.TheVariants.{Distinct as DistinctBody, Grouped as GroupedBody};
-ghost use Rattle.sql_text.specs.declared.syntax.StepKind.TheVariants.{Blocks as BlocksKind, Holds as HoldsKind};
+ghost use Rattle.sql_text.specs.declared.syntax.StepKind.TheVariants.{Holds as HoldsKind};
 ghost use Rattle.plan_sql.specs.declared.bounds.Bound.{Bound as BoundValue};
 ghost use Rattle.sql_steps.specs.declared.part.Part.{Part as PartValue};
 ghost use Rattle.sql_steps.specs.Variables.{ascending, key_variables, variables_of};
 ghost use Rattle.sql_steps.specs.Steps.{are_single, block_group, context_group, hangs, rows_of_atom};
-ghost use Rattle.plan_sql.specs.Statement.{block_of, context_of, few_step, guard_for, guarded, is_guarded, is_value_test, keys_in, level_steps, step, with_level};
+ghost use Rattle.plan_sql.specs.Statement.{behind_steps, block_of, block_steps, by_block, context_of, few_step, guard_for, is_guarded, is_value_test, keys_in, level_steps, looked_steps, step, with_level};
 
 use crate::bounds::{Bound, keys_in};
 use crate::few::{few_only, has_few, is_rare};
+use crate::looked::push_looked;
 use cqa_value::{Items, NoMemory};
 use sql_steps::{
     Part, Shape, append_beside, are_single, ascending, block_group, context_group, covers, hanging,
     joined, rows_of_atom, within, without,
 };
-use sql_text::{Body, Select, Step, StepKind, Within};
+use sql_text::{Body, Group, Step, StepKind, Within};
 use std::alloc::Global;
 
 /// An atom at hand: its number in the plan, its place in the query, the columns whose values are in steps, and the atoms
@@ -99,6 +100,17 @@ fn block_of(
     joined(alloc, context, others.as_slice())
 }
 
+/// The contexts of blocks: the one of all rows, where each row has one at most, or else those that all rows share.
+fn by_block(single: bool, group: Group) -> Body
+    ensures { result ≡ by_block single group }
+{
+    if single {
+        Body::Grouped(group)
+    } else {
+        Body::Shared(group)
+    }
+}
+
 /// Appends the step of the contexts in which the part holds, by the atom's blocks.
 fn push_groups(
     alloc: Global,
@@ -106,13 +118,14 @@ fn push_groups(
     level: &Level<'_>,
     context: &[u32],
     parts: &[Part],
+    single: bool,
     steps: &mut Items<Step>,
 ) -> Result<(), NoMemory>
     requires { level.now.atom < length shape.now.query.now.atoms }
-    ensures { OnOk result (steps.new ≡ steps.old ++ step HoldsKind level.now.number context.now (GroupedBody (block_group shape.now.query.now level.now.atom level.now.only.now parts.now context.now)) ∷ []) }
+    ensures { OnOk result (steps.new ≡ steps.old ++ step HoldsKind level.now.number context.now (by_block single (block_group shape.now.query.now level.now.atom level.now.only.now parts.now context.now)) ∷ []) }
 {
     let group = block_group(alloc, shape, level.atom, level.only, parts, context)?;
-    let body = Body::Grouped(group);
+    let body = by_block(single, group);
     push_step(alloc, StepKind::Holds, level.number, context, body, steps)
 }
 
@@ -123,11 +136,12 @@ fn push_few_groups(
     level: &Level<'_>,
     context: &[u32],
     parts: &[Part],
+    single: bool,
     steps: &mut Items<Step>,
 ) -> Result<(), NoMemory>
     requires { level.now.atom < length shape.now.query.now.atoms }
     ensures { OnOk result (steps.new ≡ (steps.old ++ few_step shape.now.query.now level.now.number level.now.atom level.now.only.now parts.now ∷ [])
-        ++ step HoldsKind level.now.number context.now (GroupedBody (block_group shape.now.query.now level.now.atom (keys_in shape.now.query.now level.now.atom (length steps.old) (ascending (key_variables shape.now.query.now level.now.atom))) parts.now context.now)) ∷ []) }
+        ++ step HoldsKind level.now.number context.now (by_block single (block_group shape.now.query.now level.now.atom (keys_in shape.now.query.now level.now.atom (length steps.old) (ascending (key_variables shape.now.query.now level.now.atom))) parts.now context.now)) ∷ []) }
 {
     let place = steps.len();
     let keys = shape.key_variables(alloc, level.atom)?;
@@ -144,7 +158,7 @@ fn push_few_groups(
         only,
         bounds,
     };
-    push_groups(alloc, shape, &level, context, parts, steps)
+    push_groups(alloc, shape, &level, context, parts, single, steps)
 }
 
 /// Appends the step of the keys, of these variables, of the few blocks of an atom that can hold.
@@ -184,48 +198,20 @@ fn push_rows(
     push_step(alloc, StepKind::Holds, level.number, context, body, steps)
 }
 
-/// The values of these variables in the rows of an atom before that has all of them, or else in those of the atom at hand,
-/// joined with the parts.
-fn guarded(
-    alloc: Global,
-    shape: &Shape<'_>,
-    level: &Level<'_>,
-    columns: &[u32],
-    parts: &[Part],
-) -> Result<Select, NoMemory>
-    requires atom { level.now.atom < length shape.now.query.now.atoms }
-    requires bounds { All (λ (b : BoundValue). b.atom < length shape.now.query.now.atoms) level.now.bounds.now }
-    ensures { IfOk result (λ select. select ≡ guarded shape.now.query.now level.now.atom level.now.only.now parts.now columns.now (guard_for shape.now.query.now level.now.bounds.now columns.now)) }
-{
-    for bound in level.bounds {
-        if covers(shape.of(bound.atom), columns) {
-            return rows_of_atom(
-                alloc,
-                shape,
-                bound.atom,
-                bound.only.as_slice(),
-                &[],
-                columns,
-            );
-        }
-    }
-    rows_of_atom(alloc, shape, level.atom, level.only, parts, columns)
-}
-
-/// Appends the step of the contexts in which the part holds, by the blocks for each context that the step at a place has.
+/// Appends the step of the contexts in which the part holds, by the blocks for each context that the last step has.
 fn push_context_groups(
     alloc: Global,
     shape: &Shape<'_>,
     level: &Level<'_>,
-    place: usize,
     block: &[u32],
     context: &[u32],
     parts: &[Part],
     steps: &mut Items<Step>,
 ) -> Result<(), NoMemory>
     requires { level.now.atom < length shape.now.query.now.atoms }
-    ensures { OnOk result (steps.new ≡ steps.old ++ step HoldsKind level.now.number context.now (GroupedBody (context_group shape.now.query.now level.now.atom place block.now parts.now context.now)) ∷ []) }
+    ensures { OnOk result (steps.new ≡ steps.old ++ step HoldsKind level.now.number context.now (GroupedBody (context_group shape.now.query.now level.now.atom (length steps.old - 1) block.now parts.now context.now)) ∷ []) }
 {
+    let place = steps.len().saturating_sub(1);
     let group = context_group(alloc, shape, level.atom, place, block, parts, context)?;
     let body = Body::Grouped(group);
     push_step(alloc, StepKind::Holds, level.number, context, body, steps)
@@ -244,7 +230,29 @@ fn is_guarded(shape: &Shape<'_>, bounds: &[Bound], vs: &[u32]) -> bool
     false
 }
 
-/// Appends the steps of the contexts with an atom's key, of these variables, that are looked for, and of those that hold.
+/// Appends the steps of the contexts in which the part holds, by the atom's blocks. Where few of them can hold, their keys are
+/// looked for first.
+fn push_by_block(
+    alloc: Global,
+    shape: &Shape<'_>,
+    level: &Level<'_>,
+    context: &[u32],
+    parts: &[Part],
+    single: bool,
+    steps: &mut Items<Step>,
+) -> Result<(), NoMemory>
+    requires { level.now.atom < length shape.now.query.now.atoms }
+    ensures { OnOk result (steps.new ≡ steps.old ++ block_steps shape.now.query.now level.now.number level.now.atom context.now level.now.only.now level.now.bounds.now parts.now (length steps.old) single) }
+{
+    if has_few(shape, level.bounds, level.atom, parts) {
+        push_few_groups(alloc, shape, level, context, parts, single, steps)
+    } else {
+        push_groups(alloc, shape, level, context, parts, single, steps)
+    }
+}
+
+/// Appends the steps of the contexts with an atom's key, of these variables, that are looked for, and of those that hold; or of
+/// those that all rows of a block share.
 fn push_blocks(
     alloc: Global,
     shape: &Shape<'_>,
@@ -256,15 +264,15 @@ fn push_blocks(
 ) -> Result<(), NoMemory>
     requires atom { level.now.atom < length shape.now.query.now.atoms }
     requires bounds { All (λ (b : BoundValue). b.atom < length shape.now.query.now.atoms) level.now.bounds.now }
-    ensures { OnOk result (steps.new ≡ (steps.old
-        ++ step BlocksKind level.now.number block.now (DistinctBody (guarded shape.now.query.now level.now.atom level.now.only.now parts.now block.now (guard_for shape.now.query.now level.now.bounds.now block.now))) ∷ [])
-        ++ step HoldsKind level.now.number context.now (GroupedBody (context_group shape.now.query.now level.now.atom (length steps.old) block.now parts.now context.now)) ∷ []) }
+    requires block { block.now ≡ block_of shape.now.query.now level.now.atom context.now }
+    ensures { OnOk result (steps.new ≡ steps.old ++ behind_steps shape.now.query.now level.now.number level.now.atom context.now level.now.only.now level.now.bounds.now parts.now (length steps.old)
+        (looked_steps shape.now.query.now level.now.number level.now.atom level.now.bounds.now block.now (length steps.old) (guard_for shape.now.query.now level.now.bounds.now block.now))) }
 {
-    let place = steps.len();
-    let select = guarded(alloc, shape, level, block, parts)?;
-    let body = Body::Distinct(select);
-    push_step(alloc, StepKind::Blocks, level.number, block, body, steps)?;
-    push_context_groups(alloc, shape, level, place, block, context, parts, steps)
+    if push_looked(alloc, shape, level, block, steps)? {
+        push_context_groups(alloc, shape, level, block, context, parts, steps)
+    } else {
+        push_by_block(alloc, shape, level, context, parts, false, steps)
+    }
 }
 
 /// Appends the steps of an atom where a part can have two contexts for a row.
@@ -308,10 +316,8 @@ fn push_level(
         push_contexts(alloc, shape, level, context, parts, steps)
     } else if shape.is_strict(level.atom) {
         push_rows(alloc, shape, level, context, parts, steps)
-    } else if has_few(shape, level.bounds, level.atom, parts) {
-        push_few_groups(alloc, shape, level, context, parts, steps)
     } else {
-        push_groups(alloc, shape, level, context, parts, steps)
+        push_by_block(alloc, shape, level, context, parts, true, steps)
     }
 }
 

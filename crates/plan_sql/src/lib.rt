@@ -5,6 +5,7 @@ mod bounds;
 mod few;
 pub mod laws;
 mod levels;
+mod looked;
 mod statement;
 
 pub use statement::sql_of;

@@ -205,6 +205,16 @@ module _ (T : ℕ → List (List Value)) (R : ℕ → List Value → Type 0) whe
       let rest = rows-into ps (suc place) (see_part place p known).known u d (λ j. ap (λ n. get_or u n []) (let l : suc place + j ≡ place + suc j = omega arith in l) ∙ at (suc j)) one.0 (λ o m. hold o (mem-tail o p ps m)) in
       ((hold p (mem-head p ps), rest.0), meets-both u (see_part place p known).all (on_of (children_of (suc place) ps (see_part place p known).known)) one.1 rest.1, rest.2)
 
+  -- where parts hold for an assignment, a choice that has its values ends in some rows with its values
+  pub ends-into : (parts : List Part) (place : ℕ) (known : List Known) (w : List (List Value)) (d : ℕ → Value) → length w ≡ place → IsBelow place known → IsRight w d known → Hold parts d →
+      (u : List (List Value)) × Ends T R (children_of place parts known) w u × IsRight u d (known_of place parts known)
+  ends-into [] place known w d l b r hold = (w, refl, r)
+  ends-into (p ∷ ps) place known w d l b r hold =
+      let h : List Value = map d p.columns in
+      let one = part-into place p known (w ++ h ∷ []) d (grown w h d place known l b r) (get_or_push w h [] place l) in
+      let rest = ends-into ps (suc place) (see_part place p known).known (w ++ h ∷ []) d (length_push w h ∙ omega (arith, l)) (part-below place p known b) one.0 (λ o m. hold o (mem-tail o p ps m)) in
+      (rest.0, (h, hold p (mem-head p ps), one.1, rest.1), rest.2)
+
   -- a choice that is led on ends somewhere
   pub led-ends : (children : List Child) (w : List (List Value)) → AreLed T R children w → (u : List (List Value)) × Ends T R children w u
   led-ends [] w h = (w, refl)

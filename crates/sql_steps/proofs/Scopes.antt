@@ -126,7 +126,11 @@ module _ (q : Query) (before : List Step) where
   at-place [] l more i h = h
   at-place (x ∷ scope) l more i h = at-place scope l more i h
 
-  -- parts as sources: their steps are there, with their columns, and are of what holds
+  -- parts as sources: their steps are there, with their columns
+  abbrev pub AreThere : List Part → Type 0
+  AreThere parts = (p : Part) → Contains parts p → (p.step < length before) × (width q before (Earlier p.step) ≡ length p.columns)
+
+  -- and are of what holds
   abbrev pub AreAt : List Part → Type 0
   AreAt parts = (p : Part) → Contains parts p → (p.step < length before) × (width q before (Earlier p.step) ≡ length p.columns) × ShowsOne before (Earlier p.step)
 
@@ -137,7 +141,7 @@ module _ (q : Query) (before : List Step) where
       (λ i m. subst (λ z. IsCellOf q before (scope ++ part_source p ∷ []) (cell z i)) l (at-place scope (part_source p) [] i (subst (λ z. i < z) (sym w) (columns-from (length p.columns) i m))))
       (in-more scope (part_source p ∷ []) known h, λ k m. absurd (mem-nil k m))
 
-  pub children-of : (parts : List Part) (scope : List Listed) (place : ℕ) (known : List Known) → length scope ≡ place → AreAt parts → AreIn scope known →
+  pub children-of : (parts : List Part) (scope : List Listed) (place : ℕ) (known : List Known) → length scope ≡ place → AreThere parts → AreIn scope known →
       AreChildrenOf q before scope (children_of place parts known) × AreIn (scope ++ map (λ (c : Child). c.listed) (children_of place parts known)) (known_of place parts known)
   children-of [] scope place known l at h = (tt, in-more scope [] known h)
   children-of (p ∷ ps) scope place known l at h =

@@ -15,7 +15,7 @@ use Rattle.sql_text.specs.declared.syntax.Body.{Body}
 use Rattle.sql_text.specs.declared.syntax.Within.{Within}
 use Rattle.sql_text.specs.declared.syntax.Child.{Child}
 use Rattle.sql_text.specs.declared.syntax.Group.{Group}
-use Rattle.sql_text.specs.declared.syntax.Body.TheVariants.{Distinct, Grouped}
+use Rattle.sql_text.specs.declared.syntax.Body.TheVariants.{Distinct, Grouped, Shared}
 use Rattle.sql_text.specs.declared.syntax.Step.{Step}
 use Rattle.sql_text.specs.declared.syntax.Sql.{Sql}
 
@@ -87,10 +87,26 @@ pub record Groups (tables : ℕ → List (List Value)) (before : ℕ → List Va
   pub each : (w : List (List Value)) → IsChoice tables before group.sources group.all group.only w →
       map (cell_value w) group.by ≡ map (cell_value choice) group.by → Shows tables before group row w
 
+-- a choice of a group shows a row, and maybe others: it meets the group's comparisons, and ends in that row with some row of
+-- each child
+pub record ShowsToo (tables : ℕ → List (List Value)) (before : ℕ → List Value → Type 0) (group : Group) (row : List Value) (w : List (List Value)) : Type 0 where
+  pub meets : MeetsAll w group.fit
+  pub end : List (List Value)
+  pub ends : Ends tables before group.children w end
+  pub row_is : map (cell_value end) group.cells ≡ row
+
+-- groups share a row: there is a choice, and each choice of its group shows the row (division: Codd, 1972)
+pub record Shares (tables : ℕ → List (List Value)) (before : ℕ → List Value → Type 0) (group : Group) (row : List Value) : Type 0 where
+  pub choice : List (List Value)
+  pub chosen : IsChoice tables before group.sources group.all group.only choice
+  pub each : (w : List (List Value)) → IsChoice tables before group.sources group.all group.only w →
+      map (cell_value w) group.by ≡ map (cell_value choice) group.by → ShowsToo tables before group row w
+
 -- a step has a row
 abbrev pub Gives : (ℕ → List (List Value)) → (ℕ → List Value → Type 0) → Body → List Value → Type 0
 Gives tables before (Distinct select) row = Selects tables before select row
 Gives tables before (Grouped group) row = Groups tables before group row
+Gives tables before (Shared group) row = Shares tables before group row
 
 -- the rows of the steps, one more at a place
 abbrev pub with_step : (ℕ → List Value → Type 0) → ℕ → (List Value → Type 0) → ℕ → List Value → Type 0

@@ -5,6 +5,7 @@ use Rattle.cqa_model.specs.declared.query.Query.{Query}
 use Rattle.cqa_model.specs.Query.{atom_at}
 use Rattle.sql_text.specs.declared.syntax.Source.{Source}
 use Rattle.sql_text.specs.declared.syntax.Source.TheVariants.{Table, Step as Earlier}
+use Rattle.sql_text.specs.declared.syntax.Alias.TheVariants.{Context}
 use Rattle.sql_text.specs.declared.syntax.Listed.{Listed}
 use Rattle.sql_text.specs.declared.syntax.Cell.{Cell}
 use Rattle.sql_text.specs.declared.syntax.Cmp.{Cmp}
@@ -14,7 +15,7 @@ use Rattle.sql_text.specs.declared.syntax.Select.{Select}
 use Rattle.sql_text.specs.declared.syntax.Child.{Child}
 use Rattle.sql_text.specs.declared.syntax.Group.{Group}
 use Rattle.sql_text.specs.declared.syntax.Body.{Body}
-use Rattle.sql_text.specs.declared.syntax.Body.TheVariants.{Distinct, Grouped}
+use Rattle.sql_text.specs.declared.syntax.Body.TheVariants.{Distinct, Grouped, Shared}
 use Rattle.sql_text.specs.declared.syntax.StepKind.TheVariants.{Asked, Holds}
 use Rattle.sql_text.specs.declared.syntax.Step.{Step}
 use Rattle.sql_text.specs.declared.syntax.Sql.{Sql}
@@ -87,14 +88,20 @@ pub record IsNamedGroup (q : Query) (before : List Step) (group : Group) : Type 
   pub children : AreChildrenOf q before group.sources group.children
   pub joined : (c : Child) → Contains group.children c → (0 < length c.on) × ShowsOne before c.listed.source
 
+-- no source has the alias of the sizes that the groups are counted against
+abbrev pub AreCountable : List Listed → Type 0
+AreCountable sources = (l : Listed) → Contains sources l → l.alias ≢ Context
+
 abbrev pub IsNamedBody : Query → List Step → Body → Type 0
 IsNamedBody q before (Distinct select) = IsNamedSelect q before select
 IsNamedBody q before (Grouped group) = IsNamedGroup q before group
+IsNamedBody q before (Shared group) = IsNamedGroup q before group × AreCountable (group.sources ++ map (λ (c : Child). c.listed) group.children)
 
 -- how many columns a step shows
 abbrev pub shown : Body → ℕ
 shown (Distinct select) = length select.cells
 shown (Grouped group) = length group.cells
+shown (Shared group) = length group.cells
 
 -- a step behind those before
 pub record IsNamedStep (q : Query) (before : List Step) (s : Step) : Type 0 where

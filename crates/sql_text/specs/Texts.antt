@@ -23,9 +23,9 @@ use Rattle.sql_text.specs.declared.syntax.Select.{Select}
 use Rattle.sql_text.specs.declared.syntax.Child.{Child}
 use Rattle.sql_text.specs.declared.syntax.Group.{Group}
 use Rattle.sql_text.specs.declared.syntax.Body.{Body}
-use Rattle.sql_text.specs.declared.syntax.Body.TheVariants.{Distinct, Grouped}
+use Rattle.sql_text.specs.declared.syntax.Body.TheVariants.{Distinct, Grouped, Shared}
 use Rattle.sql_text.specs.declared.syntax.StepKind.{StepKind}
-use Rattle.sql_text.specs.declared.syntax.StepKind.TheVariants.{Asked, Blocks, Holds}
+use Rattle.sql_text.specs.declared.syntax.StepKind.TheVariants.{Asked, Rows, Blocks, Holds}
 use Rattle.sql_text.specs.declared.syntax.Step.{Step}
 use Rattle.sql_text.specs.declared.syntax.Sql.{Sql}
 use Rattle.sql_text.specs.declared.names.Names.{Names}
@@ -54,6 +54,7 @@ variable_text v = codes "v" ++ decimal v
 -- the word of a kind of step
 abbrev pub kind_word : StepKind → List ℕ
 kind_word Asked = codes "asked "
+kind_word Rows = codes "rows "
 kind_word Blocks = codes "blocks "
 kind_word Holds = codes "holds "
 
@@ -191,6 +192,7 @@ columns_text names steps sources cells columns = joined (codes ", ") (λ i. out_
 abbrev pub one_text : StepKind → ℕ → List ℕ
 one_text kind zero = codes "1 AS one"
 one_text Asked (suc n) = []
+one_text Rows (suc n) = []
 one_text Blocks (suc n) = []
 one_text Holds (suc n) = codes ", 1 AS one"
 
@@ -308,10 +310,90 @@ group_text names steps kind columns sources g =
     group_word g.by g.cells
     ++ (group_columns_text names steps sources g.by g.cells columns ++ (one_text kind (length g.cells) ++ group_rest_text names steps sources g))
 
+-- a cell that is grouped by, as a column of the sizes of groups
+abbrev pub size_out_text : Names → List Step → List Listed → List Cell → ℕ → List ℕ
+size_out_text names steps sources by i = cell_text names steps sources (cell_at by i) ++ (codes " AS k" ++ decimal i)
+
+-- the columns of the sizes of groups
+unfoldable pub size_columns_text : Names → List Step → List Listed → List Cell → List ℕ
+size_columns_text names steps sources by = joined (codes ", ") (λ i. size_out_text names steps sources by i) (length by)
+
+-- what stands behind the columns of the sizes
+unfoldable pub size_rest_text : Names → List Step → Group → List ℕ
+size_rest_text names steps g =
+    codes " FROM " ++ (sources_text names steps g.sources ++ (where_text names steps g.sources g.all g.only ++ (codes " GROUP BY " ++ by_text names steps g.sources g.by)))
+
+-- the sizes of groups: how many choices each has, duplicates and all
+unfoldable pub sizes_text : Names → List Step → Group → List ℕ
+sizes_text names steps g =
+    codes "(SELECT " ++ (size_columns_text names steps g.sources g.by ++ (codes ", COUNT(*) AS n" ++ (size_rest_text names steps g ++ codes ") AS s")))
+
+-- a choice has the cell's value of the group whose size stands beside it
+abbrev pub of_size_text : Names → List Step → List Listed → List Cell → ℕ → List ℕ
+of_size_text names steps sources by i = codes "s.k" ++ (decimal i ++ (codes " = " ++ cell_text names steps sources (cell_at by i)))
+
+-- so it has in each cell that is grouped by
+unfoldable pub of_sizes_text : Names → List Step → List Listed → List Cell → List ℕ
+of_sizes_text names steps sources by = joined (codes " AND ") (λ i. of_size_text names steps sources by i) (length by)
+
+-- comparisons behind another condition
+abbrev pub more_cmps_text : Names → List Step → List Listed → List Cmp → List ℕ
+more_cmps_text names steps sources cmps = flat_map (λ (k : Cmp). codes " AND " ++ cmp_text names steps sources k) cmps
+
+-- values in steps, behind another condition
+abbrev pub more_onlys_text : Names → List Step → List Listed → List Within → List ℕ
+more_onlys_text names steps sources onlys = flat_map (λ (o : Within). codes " AND " ++ only_text names steps sources o) onlys
+
+-- a child among the sources
+unfoldable pub beside_text : Names → List Step → Child → List ℕ
+beside_text names steps child = codes " CROSS JOIN " ++ listed_text names steps child.listed
+
+-- children among the sources
+abbrev pub besides_text : Names → List Step → List Child → List ℕ
+besides_text names steps children = flat_map (λ (c : Child). beside_text names steps c) children
+
+-- a group's sources, its size, and its children
+unfoldable pub beside_all_text : Names → List Step → Group → List ℕ
+beside_all_text names steps g =
+    sources_text names steps g.sources ++ (codes " CROSS JOIN " ++ (sizes_text names steps g ++ besides_text names steps g.children))
+
+-- the comparisons of children, behind another condition
+abbrev pub all_on_text : Names → List Step → List Listed → List Child → List ℕ
+all_on_text names steps sources children = flat_map (λ (c : Child). more_cmps_text names steps sources c.on) children
+
+-- a choice is of the group, fits, and ends in rows of the children
+unfoldable pub shared_where_text : Names → List Step → List Listed → Group → List ℕ
+shared_where_text names steps sources g =
+    codes " WHERE " ++ (of_sizes_text names steps sources g.by ++ (more_cmps_text names steps sources g.all ++ (more_onlys_text names steps sources g.only
+    ++ (more_cmps_text names steps sources g.fit ++ all_on_text names steps sources g.children))))
+
+-- cells behind others that are grouped by
+abbrev pub more_by_text : Names → List Step → List Listed → List Cell → List ℕ
+more_by_text names steps sources cells = flat_map (λ (c : Cell). codes ", " ++ cell_text names steps sources c) cells
+
+-- a group is kept where as many choices show its row as the block has
+unfoldable pub counted_text : List ℕ
+counted_text = codes " HAVING CASE WHEN " ++ (codes "COUNT(*) = MIN(s.n)" ++ codes " THEN 1 ELSE 0 END <> 0")
+
+-- what stands behind the columns of rows that groups share
+unfoldable pub shared_rest_text : Names → List Step → List Listed → Group → List ℕ
+shared_rest_text names steps sources g =
+    codes " FROM " ++ (beside_all_text names steps g ++ (shared_where_text names steps sources g
+    ++ (codes " GROUP BY " ++ (by_text names steps sources g.by ++ (more_by_text names steps sources (apart_cells g.by g.cells)
+    ++ counted_text)))))
+
+-- the rows that each choice of a group shows: a row is kept where as many choices show it as the group has. No choice shows a
+-- row twice, since a child has each of its rows once, and each of its columns is shown or compared with the choice
+unfoldable pub shared_text : Names → List Step → StepKind → List ℕ → List Listed → Group → List ℕ
+shared_text names steps kind columns sources g =
+    group_word g.by g.cells
+    ++ (columns_text names steps sources g.cells columns ++ (one_text kind (length g.cells) ++ shared_rest_text names steps sources g))
+
 -- what a step has
 abbrev pub body_text : Names → List Step → StepKind → List ℕ → Body → List ℕ
 body_text names steps kind columns (Distinct select) = select_text names steps kind columns select
 body_text names steps kind columns (Grouped g) = group_text names steps kind columns (group_sources g) g
+body_text names steps kind columns (Shared g) = shared_text names steps kind columns (group_sources g) g
 
 -- a step with its name
 unfoldable pub step_text : Names → List Step → Step → List ℕ

@@ -95,7 +95,7 @@ pub(crate) fn append_cell(
 }
 
 /// Appends a comparison.
-fn append_cmp(
+pub(crate) fn append_cmp(
     names: &Names,
     steps: &[Step],
     sources: &[Listed],
@@ -154,7 +154,7 @@ fn append_column_of(
 
 /// Appends that a cell's value is in a column of a step.
 #[tactic(auto, unfolding(crate::specs::Texts::only_text))]
-fn append_only(
+pub(crate) fn append_only(
     names: &Names,
     steps: &[Step],
     sources: &[Listed],

@@ -15,7 +15,7 @@ use cqa_value::{Items, NoMemory};
 use std::alloc::Global;
 
 /// The sources of a group, and then its children.
-fn group_sources(alloc: Global, group: &Group) -> Result<Items<Listed>, NoMemory>
+pub(crate) fn group_sources(alloc: Global, group: &Group) -> Result<Items<Listed>, NoMemory>
     ensures { IfOk result (λ sources. sources ≡ group_sources group.now) }
 {
     let mut sources = Items::from_slice(alloc, group.sources.as_slice())?;
@@ -83,7 +83,7 @@ fn are_by(cells: &[Cell], by: &[Cell]) -> bool
 }
 
 /// The first words of a group.
-fn group_word(by: &[Cell], cells: &[Cell]) -> &'static str
+pub(crate) fn group_word(by: &[Cell], cells: &[Cell]) -> &'static str
     ensures { result.now ≡ group_word by.now cells.now }
 {
     if are_by(cells, by) {
@@ -94,7 +94,11 @@ fn group_word(by: &[Cell], cells: &[Cell]) -> &'static str
 }
 
 /// The cells of a group that aren't grouped by.
-fn apart_cells(alloc: Global, by: &[Cell], cells: &[Cell]) -> Result<Items<Cell>, NoMemory>
+pub(crate) fn apart_cells(
+    alloc: Global,
+    by: &[Cell],
+    cells: &[Cell],
+) -> Result<Items<Cell>, NoMemory>
     ensures { IfOk result (λ list. list ≡ apart_cells by.now cells.now) }
 {
     let mut list = Items::new(alloc);
@@ -343,7 +347,7 @@ fn append_group_conditions(
 }
 
 /// Appends the cells that are grouped by.
-fn append_by(
+pub(crate) fn append_by(
     names: &Names,
     steps: &[Step],
     sources: &[Listed],

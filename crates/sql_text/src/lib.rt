@@ -5,6 +5,7 @@ mod conditions;
 mod groups;
 mod names;
 mod places;
+mod shared;
 mod syntax;
 mod texts;
 mod words;

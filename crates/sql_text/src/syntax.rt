@@ -15,7 +15,7 @@ pub enum Source {
 pub enum Alias {
     /// `y`: the rows of an atom's table.
     Member,
-    /// `s`: contexts.
+    /// `s`: contexts; or in the text alone, where no source has this name, the sizes of groups.
     Context,
     /// `h` and a number: what holds of the part that begins with the atom of this number.
     Held(usize),
@@ -67,8 +67,8 @@ pub struct Child {
     pub on: Items<Cmp>,
 }
 
-/// The choices of a select, grouped by cells and joined with children one after the other. A group has a row where each of
-/// its choices meets the comparisons `fit` and has a row of each child, and all of them show that row in these cells.
+/// The choices of a select, grouped by cells and joined with children one after the other. A choice shows a row in these cells
+/// where it meets the comparisons `fit` and has a row of each child.
 #[derive(Drop)]
 pub struct Group {
     pub cells: Items<Cell>,
@@ -80,11 +80,15 @@ pub struct Group {
     pub children: Items<Child>,
 }
 
-/// What a step has: the rows of a select, or those of groups.
+/// What a step has.
 #[derive(Drop)]
 pub enum Body {
+    /// The rows of a select.
     Distinct(Select),
+    /// The row that each choice of a group shows, where none shows another.
     Grouped(Group),
+    /// The rows that each choice of a group shows, which may show others: a division.
+    Shared(Group),
 }
 
 /// What a step is for.
@@ -92,7 +96,9 @@ pub enum Body {
 pub enum StepKind {
     /// The keys of an atom that rows before it ask for.
     Asked,
-    /// The contexts of a part, with its blocks, in which some row of its first atom fits and the parts below hold.
+    /// The values of rows of an atom before, with which those of another one before are joined to look for contexts.
+    Rows,
+    /// The keys of few blocks that can hold, or contexts of a part, with its blocks, that the rows before it ask for.
     Blocks,
     /// The contexts in which a part holds.
     Holds,

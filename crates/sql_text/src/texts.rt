@@ -6,6 +6,7 @@ ghost use Rattle.sql_text.specs.Texts.{answer_text, answer_columns_text, answers
 use crate::conditions::{append_cell, append_sources, append_where};
 use crate::groups::append_group;
 use crate::places::{answer_at, append_column_name, cell_at, number_at};
+use crate::shared::append_shared;
 use crate::words::{append, append_step_name, append_variable, one_text, separate};
 use crate::{Body, Cell, Listed, Names, Select, Sql, Step, StepKind};
 use cqa_model::Query;
@@ -51,7 +52,7 @@ fn append_out(
 }
 
 /// Appends the columns of a select.
-fn append_columns(
+pub(crate) fn append_columns(
     names: &Names,
     steps: &[Step],
     sources: &[Listed],
@@ -107,6 +108,7 @@ fn append_body(
     match body {
         Body::Distinct(select) => append_select(names, steps, kind, columns, select, out),
         Body::Grouped(group) => append_group(names, steps, kind, columns, group, out),
+        Body::Shared(group) => append_shared(names, steps, kind, columns, group, out),
     }
 }
 

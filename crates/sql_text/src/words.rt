@@ -48,6 +48,7 @@ fn word_of(kind: StepKind) -> &'static str
 {
     match kind {
         StepKind::Asked => "asked ",
+        StepKind::Rows => "rows ",
         StepKind::Blocks => "blocks ",
         StepKind::Holds => "holds ",
     }

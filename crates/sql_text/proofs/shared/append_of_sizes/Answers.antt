@@ -1,0 +1,11 @@
+use Rattle.std.proofs.Common.{refl}
+use Rattle.sql_text.proofs.Steps.{part_more, parts_all}
+use Rattle.sql_text.specs.Texts.{of_sizes_text}
+use Rattle.sql_text.proofs.shared.append_of_sizes.Goals as goal
+
+pub loop-place-preserved : goal.loop-place-preserved
+loop-place-preserved c = part_more c.loop-place.invariant c.in_ok-separate.ensures c.in_ok-append_of_size.ensures refl
+
+pub returns : goal.returns
+unfolding of_sizes_text
+returns c = parts_all c.loop-place.invariant c.loop-place-test.false c.loop-place.auto.place-end refl
