@@ -98,7 +98,7 @@ def indexed_columns(table):
 
 
 def copy(name, lines):
-    return "\n".join(["copy %s from stdin;" % name] + lines + ["\\."])
+    return "\n".join(["copy %s from stdin;" % name, *lines, "\\."])
 
 
 class Cluster:
@@ -166,18 +166,23 @@ class Cluster:
         return self.first.run("set search_path = %s;\ncopy (%s) to stdout;" % (schema, text.rstrip()[:-1]))
 
     def by_steps(self, text):
-        """The lines of an answer, and how many bytes went to each server: each step runs on all of them."""
+        """The lines of an answer, and how many bytes went to each server: each step runs on all of them, and its rows go to all.
+        Where the last query reads the last step alone, it runs where that step's rows are."""
         steps, last = steps_of(text)
         self.each(["set search_path = shard;"] * SERVERS)
-        sent = 0
-        for name, body in steps:
-            rows = sorted(set(line for lines in self.each(["copy (%s) to stdout;" % body] * SERVERS) for line in lines))
+        sent, together = 0, steps[:-1] if [name for name, _ in steps if name in last] == [steps[-1][0]] else steps
+        for name, body in together:
+            rows = self.from_each(body)
             sent += sum(len(row.encode()) + 1 for row in rows)
             make = "create table %s as select * from (%s) q limit 0;\n%s\nanalyze %s;" % (name, body, copy(name, rows), name)
             self.each([make] * SERVERS)
-        found = self.first.run("copy (%s) to stdout;" % last)
-        self.each(["drop table %s;" % ", ".join(name for name, _ in steps)] * SERVERS)
+        found = self.first.run("copy (%s) to stdout;" % last) if together == steps else self.from_each("with %s as (%s) %s" % (*steps[-1], last))
+        self.each(["drop table if exists %s;" % ", ".join(name for name, _ in steps)] * SERVERS)
         return found, sent
+
+    def from_each(self, query):
+        """The lines of a query on all servers together, each once."""
+        return set(line for lines in self.each(["copy (%s) to stdout;" % query] * SERVERS) for line in lines)
 
 
 def steps_of(text):
