@@ -5,11 +5,12 @@
 
 Starts three servers of its own in a temporary folder, over sockets alone, and ends them. The tables of a script are spread
 by their keys. The text runs on one server, over foreign tables (`postgres_fdw`, the first server asks), and step by step:
-each step on each server over its own rows, whose rows together, each once, are then a table on each server. All have to
-give the rows of `ask`. Scripts are those of `differential/sql.py`, and seven queries over tables of about N blocks (none
-where N is 0), for which seconds of one server, of three over foreign tables and by steps are printed, with the rows that
-the first server fetched and the statements that it sent with a `GROUP BY`. Where PostgreSQL or its `postgres_fdw` isn't
-installed, it says so and compares nothing. Python 3.9 and its library alone are needed.
+each step on each server over its own rows, whose rows together, each once, are then a table on each server, and the last
+query where the last step's rows are, if it reads that step alone. All have to give the rows of `ask`. Scripts are those of
+`differential/sql.py`, and seven queries over tables of about N blocks (none where N is 0), for which seconds of one server,
+of three over foreign tables and by steps are printed, with the rows that the first server fetched and the statements that
+it sent with a `GROUP BY`. Where PostgreSQL or its `postgres_fdw` isn't installed, it says so and compares nothing. Python
+3.9 and its library alone are needed.
 """
 
 import argparse
