@@ -1,15 +1,14 @@
--- Block order: it is a total order of rows, and rows of one key stand side by side.
+-- Block order: rows of one key stand side by side.
 use Rattle.std.proofs.Common.{◌≡◌, ℕ, ◌<◌, ◌≤◌, List, [], ◌∷◌, length, get_or, refl, ap, sym, ◌∙◌, subst, arith}
 use native.Mathlib.Decide.{ℕ_discrete}
 use Rattle.std.specs.List.Sorted.{IsStrictlySortedBy}
-use Rattle.std.specs.Cmp.{IsTotalOrder}
-use Rattle.std.specs.Ordering.{ordering_reverse, ordering_then, is_eq}
+use Rattle.std.specs.Ordering.{ordering_reverse, ordering_then}
 use Rattle.std.specs.declared.cmp.Ordering.{Ordering}
 use Rattle.std.specs.declared.cmp.Ordering.TheVariants.{Less, Equal, Greater}
-use Rattle.std.proofs.lemmas.Cmp.{on_total, then_total}
 use Rattle.std.proofs.lemmas.Map.Keys.{Less-from_sorted}
 use Rattle.cqa_value.specs.declared.value.Value.{Value}
-use Rattle.cqa_value.specs.Values.{row_cmp, row_cmp_total, row_ties, row_decides}
+use Rattle.cqa_value.specs.Values.{row_cmp, row_cmp_total}
+pub use Rattle.cqa_value.proofs.RowOrder.{block_total, row_exact}
 use Rattle.cqa_model.specs.Database.{key_of, block_cmp}
 use Rattle.cqa_model.specs.Repairs.{SharesKey}
 use Rattle.cqa_model.proofs.Classic.{mem-head, mem-tail, map_agree}
@@ -25,21 +24,6 @@ key-from_shares (p ∷ key) x y s =
     let e = s p (mem-head p key) in
     let es : key_of key x ≡ key_of key y = key-from_shares key x y (λ r m. s r (mem-tail r p key m)) in
     cc
-
-pub block_total : (key : List ℕ) → IsTotalOrder (block_cmp key)
-block_total key = then_total (on_total (key_of key) row_cmp_total) row_cmp_total
-
-pub row_exact : (x y : List Value) → row_cmp x y ≡ Equal → x ≡ y
-row_exact x y e = (row_decides x y).0 (row_ties x y ∙ ap is_eq e)
-
-then_equal : (o p : Ordering) → ordering_then o p ≡ Equal → p ≡ Equal
-then_equal Less p e = (cc)
-then_equal Equal p e = e
-then_equal Greater p e = (cc)
-
--- only a row itself stands at its place
-pub block_exact : (key : List ℕ) (x y : List Value) → block_cmp key x y ≡ Equal → x ≡ y
-block_exact key x y e = row_exact x y (then_equal (row_cmp (key_of key x) (key_of key y)) (row_cmp x y) e)
 
 -- between two rows of one key stand only rows of this key
 key-between : (key : List ℕ) (x y z : List Value) → block_cmp key x y ≡ Less → block_cmp key y z ≡ Less → SharesKey key x z → SharesKey key x y

@@ -1,18 +1,12 @@
 -- Tables and databases as plain lists of rows.
 use Rattle.std.specs.Prelude.{◌≡◌, IsTrue, Bool, ℕ, ◌<◌, ◌≤◌, ◌+◌, List, [], ◌∷◌, length, map, Contains, slice_index_or}
 use Rattle.std.specs.List.Sorted.{IsStrictlySortedBy}
-use Rattle.std.specs.Ordering.{ordering_then}
-use Rattle.std.specs.declared.cmp.Ordering.{Ordering}
 use Rattle.cqa_value.specs.declared.value.Kind.{Kind}
 use Rattle.cqa_value.specs.declared.value.Value.{Value}
-use Rattle.cqa_value.specs.Values.{kind_of, row_cmp}
-pub use Rattle.cqa_value.specs.Values.{nothing}
+use Rattle.cqa_value.specs.Values.{kind_of}
+pub use Rattle.cqa_value.specs.Values.{nothing, key_of, block_cmp}
 use Rattle.cqa_model.specs.declared.limits.TheConstants.{MOST_TABLES, MOST_ROWS}
 use Rattle.cqa_model.specs.declared.schema.Schema.{Schema}
-
--- the values of a row in its key columns, in the key's order
-abbrev pub key_of : List ℕ → List Value → List Value
-key_of key row = map (λ p. slice_index_or row p nothing) key
 
 -- two rows agree on the key columns: they are of one block
 abbrev pub SharesKey : List ℕ → List Value → List Value → Type 0
@@ -21,10 +15,6 @@ SharesKey key x y = (p : ℕ) → Contains key p → slice_index_or x p nothing 
 -- rows are consistent with a key: no two of them share it (Arenas, Bertossi and Chomicki, PODS 1999)
 abbrev pub AreConsistent : List ℕ → List (List Value) → Type 0
 AreConsistent key rows = (x y : List Value) → Contains rows x → Contains rows y → SharesKey key x y → x ≡ y
-
--- block order: by the key's values, and rows of one key by the whole row
-abbrev pub block_cmp : List ℕ → List Value → List Value → Ordering
-block_cmp key x y = ordering_then (row_cmp (key_of key x) (key_of key y)) (row_cmp x y)
 
 -- a schema and the rows that are stored
 pub record Table : Type 0 where

@@ -1,7 +1,7 @@
 -- Naming the variables of a query by one join after another.
 use Rattle.std.specs.Prelude.{ℕ, ◌/◌, ◌%◌, min, max, List, [], ◌∷◌}
 use native.Mathlib.Decide.{ℕ_discrete}
-use Rattle.cqa_model.specs.declared.limits.TheConstants.{MOST_COLUMNS}
+use Rattle.cqa_value.specs.declared.row.TheConstants.{MOST_COLUMNS}
 use Rattle.cqa_model.specs.declared.query.Cond.{Cond}
 use Rattle.cqa_model.specs.declared.query.Cond.TheVariants.{Join, Test}
 use Rattle.cqa_model.specs.declared.query.ColRef.{ColRef}

@@ -1,6 +1,7 @@
 -- What code that names variables works on: the class of each column, and marks on classes.
 use Rattle.std.specs.Prelude.{◌≡◌, ℕ, ◌<◌, ◌↔◌, true, false, Bool, List, length, slice_index, slice_index_or}
-use Rattle.cqa_model.specs.declared.limits.TheConstants.{MOST_ATOMS, MOST_COLUMNS}
+use Rattle.cqa_value.specs.declared.row.TheConstants.{MOST_COLUMNS}
+use Rattle.cqa_model.specs.declared.limits.TheConstants.{MOST_ATOMS}
 use Rattle.cqa_model.specs.declared.query.Op.TheVariants.{Eq}
 use Rattle.cqa_model.specs.declared.query.Cond.{Cond}
 use Rattle.cqa_model.specs.declared.query.Cond.TheVariants.{Join, Test}

@@ -1,7 +1,8 @@
 -- What the types of schemas, queries and plans keep.
 use Rattle.std.specs.Prelude.{◌≡◌, ℕ, ◌<◌, ◌≤◌, false, List, [], ◌∷◌, length, All, Contains, slice_index_or}
 use Rattle.cqa_value.specs.declared.value.Kind.TheVariants.{Int}
-use Rattle.cqa_model.specs.declared.limits.TheConstants.{MOST_COLUMNS, MOST_ATOMS, MOST_ANSWER_COLUMNS}
+use Rattle.cqa_value.specs.declared.row.TheConstants.{MOST_COLUMNS}
+use Rattle.cqa_model.specs.declared.limits.TheConstants.{MOST_ATOMS, MOST_ANSWER_COLUMNS}
 use Rattle.cqa_model.specs.declared.schema.Column.{Column}
 use Rattle.cqa_model.specs.declared.query.Atom.{Atom}
 use Rattle.cqa_model.specs.declared.query.ColRef.{ColRef}

@@ -2,7 +2,7 @@
 -- Wijsen, ACM TODS 2017). A variable is spoken of by any of its columns.
 use Rattle.std.specs.Prelude.{◌≡◌, ℕ, ◌+◌, ◌*◌, ◌<◌, ◌≤◌, ◌≢◌, ◌⊎◌, List, [], ◌∷◌, length, Contains}
 use Rattle.cqa_value.specs.declared.value.Value.{Value}
-use Rattle.cqa_model.specs.declared.limits.TheConstants.{MOST_COLUMNS}
+use Rattle.cqa_value.specs.declared.row.TheConstants.{MOST_COLUMNS}
 use Rattle.cqa_model.specs.declared.query.Op.TheVariants.{Eq}
 use Rattle.cqa_model.specs.declared.query.Cond.{Cond}
 use Rattle.cqa_model.specs.declared.query.Cond.TheVariants.{Join, Test}

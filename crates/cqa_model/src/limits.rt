@@ -1,13 +1,12 @@
 //! The limits of inputs, schemas, queries and databases. A definition or a clause that needs one cites it by its name.
 
+pub use cqa_value::MOST_COLUMNS;
+
 /// The most bytes of an input, and so of each text in it.
 pub const LONGEST_INPUT: usize = 268_435_456;
 
 /// The most tables of a database.
 pub const MOST_TABLES: u32 = 64;
-
-/// The most columns of a table.
-pub const MOST_COLUMNS: usize = 16;
 
 /// The most rows that all tables of a database have together.
 pub const MOST_ROWS: usize = 1_000_000;

@@ -1,7 +1,8 @@
 //! The variables of a query: classes of columns that joins make one.
 
 ghost use Rattle.std.specs.Prelude.{◌≡◌, ℕ, ◌<◌, ◌↔◌, ◌⊎◌, All, IsTrue, length, slice_index};
-ghost use Rattle.cqa_model.specs.declared.limits.TheConstants.{COLUMN_NUMBERS, MOST_ATOMS, MOST_COLUMNS};
+ghost use Rattle.cqa_value.specs.declared.row.TheConstants.{MOST_COLUMNS};
+ghost use Rattle.cqa_model.specs.declared.limits.TheConstants.{COLUMN_NUMBERS, MOST_ATOMS};
 ghost use Rattle.cqa_model.specs.declared.query.Op.TheVariants.{Eq};
 ghost use Rattle.cqa_model.specs.Variables.{number};
 ghost use Rattle.cqa_model.specs.Labels.{relabel};

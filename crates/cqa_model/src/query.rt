@@ -2,7 +2,7 @@
 
 ghost use Rattle.cqa_model.specs.Shape.{IsQuery, AreDistinct};
 
-use cqa_value::{Items, Value, compare};
+use cqa_value::{Items, NOTHING, Row, Value, compare};
 
 /// A column of an atom: the atom's place in the query, and the column's place in its table.
 #[derive(Clone, Copy, Debug, PartialEq, Eq)]
@@ -23,7 +23,8 @@ pub enum Op {
 }
 
 impl Op {
-    ghost use Rattle.std.specs.Prelude.{◌↔◌, IsTrue};
+    ghost use Rattle.std.specs.Prelude.{◌↔◌, IsTrue, slice_index_or};
+    ghost use Rattle.cqa_value.specs.Values.{nothing};
     ghost use Rattle.cqa_model.specs.Query.{OpHolds};
 
     /// Whether a value stands so to another.
@@ -38,6 +39,13 @@ impl Op {
             Op::Gt => compare(left, right).is_gt(),
             Op::Ge => compare(left, right).is_ge(),
         }
+    }
+
+    /// Whether a row's value in a column stands so to another; a row that is too narrow counts as 0 in the column.
+    pub fn holds_in(self, row: &Row, col: u32, value: &Value) -> bool
+        ensures { IsTrue result ↔ OpHolds self (slice_index_or row.now col nothing) value.now }
+    {
+        self.holds(row.at_or(col, &NOTHING), value)
     }
 }
 

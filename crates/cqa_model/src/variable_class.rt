@@ -17,7 +17,8 @@ pub struct Variables {
 
 impl Variables {
     ghost use Rattle.std.specs.Prelude.{◌≡◌, ◌↔◌, IsTrue};
-    ghost use Rattle.cqa_model.specs.declared.limits.TheConstants.{MOST_ATOMS, MOST_COLUMNS};
+    ghost use Rattle.cqa_value.specs.declared.row.TheConstants.{MOST_COLUMNS};
+    ghost use Rattle.cqa_model.specs.declared.limits.TheConstants.{MOST_ATOMS};
     ghost use Rattle.cqa_model.specs.Naming.{class_at, IsConstantClass};
 
     /// The class of a column's variable.

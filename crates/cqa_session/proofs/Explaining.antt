@@ -7,9 +7,9 @@ use Rattle.cqa_model.specs.declared.query.Query.{Query}
 use Rattle.cqa_model.specs.declared.query.RowId.{RowId}
 use Rattle.refusals.specs.declared.refusal.Refusal.{Refusal}
 use Rattle.cqa_model.specs.Database.{Table}
-use Rattle.query_strategy.specs.declared.reason.Reason.TheVariants as reasons
-use Rattle.query_strategy.specs.declared.reason.Untold.{Untold}
-use Rattle.query_strategy.specs.declared.reason.Untold.TheVariants as stops
+use Rattle.repair_back.specs.declared.reason.Reason.TheVariants as reasons
+use Rattle.repair_back.specs.declared.reason.Untold.{Untold}
+use Rattle.repair_back.specs.declared.reason.Untold.TheVariants as stops
 use Rattle.cqa_session.specs.Reasons.{IsReason, IsUntold}
 use Rattle.query_resolve.specs.Checks.{answer_fault, query_fault}
 use Rattle.query_resolve.specs.Resolved.{IsQueryOf}

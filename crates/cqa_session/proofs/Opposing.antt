@@ -11,10 +11,10 @@ use Rattle.refusals.specs.declared.refusal.Refusal.{Refusal}
 use Rattle.plan_reasons.specs.Reasons.{IsPlanReason}
 use Rattle.query_resolve.specs.Checks.{answer_fault, query_fault}
 use Rattle.query_resolve.specs.Resolved.{IsQueryOf}
-use Rattle.query_strategy.specs.declared.reason.Reason.{Reason}
-use Rattle.query_strategy.specs.declared.reason.Reason.TheVariants as reasons
-use Rattle.query_strategy.specs.declared.reason.Untold.{Untold}
-use Rattle.query_strategy.specs.declared.reason.Untold.TheVariants as untold
+use Rattle.repair_back.specs.declared.reason.Reason.{Reason}
+use Rattle.repair_back.specs.declared.reason.Reason.TheVariants as reasons
+use Rattle.repair_back.specs.declared.reason.Untold.{Untold}
+use Rattle.repair_back.specs.declared.reason.Untold.TheVariants as untold
 use Rattle.query_strategy.specs.Strategies.{HasNoPlan}
 use Rattle.repair_back.specs.Rejected.{AreRejectingRows}
 use Rattle.search_answers.specs.Reasons.{IsSearchReason}

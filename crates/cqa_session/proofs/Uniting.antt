@@ -10,9 +10,9 @@ use Rattle.refusals.specs.declared.refusal.Refusal.{Refusal}
 use Rattle.spj_syntax.specs.declared.tree.Select.{Select}
 use Rattle.query_resolve.specs.Checks.{union_fault, union_row_fault}
 use Rattle.query_resolve.specs.Resolved.{AreQueriesOf}
-use Rattle.query_strategy.specs.declared.reason.Reason.TheVariants as reasons
-use Rattle.query_strategy.specs.declared.reason.Untold.{Untold}
-use Rattle.query_strategy.specs.declared.reason.Untold.TheVariants as untold
+use Rattle.repair_back.specs.declared.reason.Reason.TheVariants as reasons
+use Rattle.repair_back.specs.declared.reason.Untold.{Untold}
+use Rattle.repair_back.specs.declared.reason.Untold.TheVariants as untold
 use Rattle.part_search.specs.declared.searched.Stop.{Stop}
 use Rattle.part_search.specs.declared.searched.Stop.TheVariants as stops
 use Rattle.union_ask.specs.Reasons.{IsReasonIn, IsUntoldIn}

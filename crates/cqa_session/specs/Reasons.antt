@@ -13,10 +13,10 @@ use Rattle.cnf_form.specs.Logs.{Refutes}
 use Rattle.cdcl.specs.declared.outcome.Outcome.TheVariants as outcomes
 use Rattle.join_access.specs.Listing.{HasTooMany}
 use Rattle.plan_reasons.specs.Reasons.{IsByBlock}
-use Rattle.query_strategy.specs.declared.reason.Reason.{Reason}
-use Rattle.query_strategy.specs.declared.reason.Reason.TheVariants.{ByBlock, Rejected, Refuted}
-use Rattle.query_strategy.specs.declared.reason.Untold.{Untold}
-use Rattle.query_strategy.specs.declared.reason.Untold.TheVariants.{Over, Spent}
+use Rattle.repair_back.specs.declared.reason.Reason.{Reason}
+use Rattle.repair_back.specs.declared.reason.Reason.TheVariants.{ByBlock, Rejected, Refuted}
+use Rattle.repair_back.specs.declared.reason.Untold.{Untold}
+use Rattle.repair_back.specs.declared.reason.Untold.TheVariants.{Over, Spent}
 use Rattle.query_strategy.specs.Strategies.{HasNoPlan, NeedsSearch}
 use Rattle.repair_back.specs.Results.{AreStored}
 use Rattle.repair_back.specs.Rejected.{AreRejectingRows}

@@ -1,4 +1,5 @@
 pub mod Integers
 pub mod Prefixes
+pub mod RowOrder
 pub mod Words
 pub mod Written

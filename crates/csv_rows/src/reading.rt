@@ -5,7 +5,7 @@ ghost use Rattle.std.specs.List.Sorted.{IsStrictlySortedBy};
 ghost use Rattle.cqa_value.specs.declared.value.Value.{Value as Cell};
 ghost use Rattle.cqa_value.specs.Values.{kind_of};
 ghost use Rattle.cqa_value.specs.Valid.{IsValidRow};
-ghost use Rattle.cqa_model.specs.declared.limits.TheConstants.{MOST_COLUMNS};
+ghost use Rattle.cqa_value.specs.declared.row.TheConstants.{MOST_COLUMNS};
 ghost use Rattle.cqa_model.specs.Database.{block_cmp, kinds_of};
 ghost use Rattle.csv.specs.Reading.{ReadRecord, Ready, reader_source, reader_trim};
 ghost use Rattle.csv.specs.Records.{fields_of};

@@ -8,10 +8,10 @@ use Rattle.join_access.proofs.Naming.{zip-left}
 use Rattle.query_replies.specs.Classes.{IsClassOf, TellsClasses}
 use Rattle.query_replies.specs.Names.{table_name_at}
 use Rattle.query_resolve.specs.Resolved.{IsQueryOf, AreQueriesOf}
-use Rattle.query_strategy.specs.declared.reason.Reason.{Reason}
-use Rattle.query_strategy.specs.declared.reason.Reason.TheVariants as reasons
-use Rattle.query_strategy.specs.declared.reason.Untold.{Untold}
-use Rattle.query_strategy.specs.declared.reason.Untold.TheVariants as untold
+use Rattle.repair_back.specs.declared.reason.Reason.{Reason}
+use Rattle.repair_back.specs.declared.reason.Reason.TheVariants as reasons
+use Rattle.repair_back.specs.declared.reason.Untold.{Untold}
+use Rattle.repair_back.specs.declared.reason.Untold.TheVariants as untold
 use Rattle.refusals.specs.declared.refusal.Refusal.TheVariants as refusals
 use Rattle.reply_text.specs.declared.reply.Proof.{Proof}
 use Rattle.reply_text.specs.declared.reply.Reply.{Reply}

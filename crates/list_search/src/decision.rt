@@ -18,7 +18,11 @@ pub struct Decided {
 }
 
 /// A formula with what was found out of it.
-fn with_outcome(formula: Encoded, found: Result<Outcome, NoMemory>) -> Result<Decided, NoMemory>
+///
+/// # Errors
+///
+/// `NoMemory` where that was found in place of an outcome.
+pub fn with_outcome(formula: Encoded, found: Result<Outcome, NoMemory>) -> Result<Decided, NoMemory>
     ensures same { IfOk result (λ decided. decided.formula ≡ formula) }
     ensures outcome { IfOk result (λ decided. found ≡ Ok decided.outcome) }
 {
@@ -43,20 +47,5 @@ pub(crate) fn solved(alloc: Global, formula: Encoded, budget: u32) -> Result<Dec
     ensures outcome { IfOk result (λ decided. OutcomeIs formula.cnf budget decided.outcome) }
 {
     let found = cdcl::solve(alloc, &formula.cnf, budget);
-    with_outcome(formula, found)
-}
-
-/// The same for a formula that may be large: rows that exclude the same rows are searched as one.
-///
-/// # Errors
-///
-/// `NoMemory` where memory is refused.
-pub fn solved_by_groups(alloc: Global, formula: Encoded, budget: u32) -> Result<Decided, NoMemory>
-    requires range { AreVarsInRange formula.cnf }
-    requires once { IsOnce formula.cnf }
-    ensures same { IfOk result (λ decided. decided.formula ≡ formula) }
-    ensures outcome { IfOk result (λ decided. OutcomeIs formula.cnf budget decided.outcome) }
-{
-    let found = merged_search::solve(alloc, &formula.cnf, budget);
     with_outcome(formula, found)
 }

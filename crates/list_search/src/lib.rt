@@ -19,7 +19,7 @@ mod scope;
 mod second_look;
 mod singles;
 
-pub use decision::{Decided, solved_by_groups};
+pub use decision::{Decided, with_outcome};
 pub use judging::{Judged, judge};
 pub use room::Room;
 pub use scope::Scope;

@@ -2,7 +2,7 @@
 //! Constants are among them; rows that fit agree on those anyway.
 
 ghost use Rattle.std.specs.Prelude.{◌*◌, ◌≤◌, IfOk, length};
-ghost use Rattle.cqa_model.specs.declared.limits.TheConstants.{MOST_COLUMNS};
+ghost use Rattle.cqa_value.specs.declared.row.TheConstants.{MOST_COLUMNS};
 ghost use Rattle.weak_pairs.specs.Numbering.{AreShared};
 ghost use Rattle.pair_answers.specs.Shared.{pairs_of};
 

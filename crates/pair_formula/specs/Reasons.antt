@@ -5,8 +5,8 @@ use Rattle.cqa_model.specs.declared.query.Query.{Query}
 use Rattle.cqa_model.specs.declared.query.RowId.{RowId}
 use Rattle.cqa_model.specs.Database.{Table}
 use Rattle.join_access.specs.Listing.{HasTooMany}
-use Rattle.query_strategy.specs.declared.reason.Reason.{Reason}
-use Rattle.query_strategy.specs.declared.reason.Reason.TheVariants.{ByBlock, Rejected, Refuted}
+use Rattle.repair_back.specs.declared.reason.Reason.{Reason}
+use Rattle.repair_back.specs.declared.reason.Reason.TheVariants.{ByBlock, Rejected, Refuted}
 use Rattle.repair_back.specs.Results.{AreStored}
 use Rattle.repair_back.specs.Rejected.{AreRejectingRows}
 use Rattle.pair_formula.specs.Proving.{IsRefutedInOrder}

@@ -9,8 +9,7 @@ use crate::proving::{Refuted, refute_row};
 use cqa_value::{Fail, Row};
 use join_access::TooMany;
 use pair_answers::{PairQuery, decide};
-use query_strategy::Reason;
-use repair_back::{Repair, chosen};
+use repair_back::{Reason, Repair, chosen};
 use std::alloc::Global;
 
 /// The formula of a certain row with its refutation.

@@ -1,8 +1,10 @@
 //! The witnesses of rows for the parts of a union over a database, over a frame that numbers the rows of their tables: how they are
-//! looked up, part by part, the formula of a row, and what is found out of one candidate. A single query is a union of one part.
+//! looked up, part by part, the formula of a row, what the solver finds out of one, and what is found out of one candidate. A
+//! single query is a union of one part.
 #![tactic(auto)]
 
 mod bound_parts;
+mod deciding;
 mod encoding;
 mod gathering;
 mod judging;
@@ -13,6 +15,7 @@ mod searched;
 mod spoken;
 
 pub use bound_parts::BoundParts;
+pub use deciding::solved_by_groups;
 pub use encoding::encode_parts;
 pub use gathering::{gather, gathered};
 pub use judging::{Verdict, judge_lists};

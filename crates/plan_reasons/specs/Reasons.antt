@@ -9,8 +9,8 @@ use Rattle.cqa_model.specs.Plan.{IsPlanOf}
 use Rattle.fo_plan.specs.FirstBlock.{IsFirstBlock}
 use Rattle.repair_back.specs.Results.{AreStored}
 use Rattle.repair_back.specs.Rejected.{AreRejectingRows}
-use Rattle.query_strategy.specs.declared.reason.Reason.{Reason}
-use Rattle.query_strategy.specs.declared.reason.Reason.TheVariants.{ByBlock, Rejected, Refuted}
+use Rattle.repair_back.specs.declared.reason.Reason.{Reason}
+use Rattle.repair_back.specs.declared.reason.Reason.TheVariants.{ByBlock, Rejected, Refuted}
 
 -- the first atom of a plan
 abbrev pub first_of_plan : List ℕ → ℕ

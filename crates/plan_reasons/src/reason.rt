@@ -3,7 +3,7 @@
 ghost use Rattle.std.specs.Prelude.{◌≡◌, ◌≤◌, IfOk, IfSome, IsNone, length};
 ghost use Rattle.cqa_model.specs.Database.{key_of};
 ghost use Rattle.cqa_model.specs.Certain.{IsCertain};
-ghost use Rattle.cqa_model.specs.declared.limits.TheConstants.{MOST_COLUMNS};
+ghost use Rattle.cqa_value.specs.declared.row.TheConstants.{MOST_COLUMNS};
 ghost use Rattle.cqa_model.specs.Plan.{IsPlanOf};
 ghost use Rattle.join_access.specs.Spots.{ArePaths};
 ghost use Rattle.plan_rows.specs.Links.{AreWays};
@@ -15,8 +15,7 @@ use cqa_value::{Items, NOTHING, NoMemory, Row};
 use fo_plan::{block_of, paths_of, ways_of};
 use join_access::RowIndex;
 use plan_rows::Link;
-use query_strategy::Reason;
-use repair_back::{chosen, mend};
+use repair_back::{Reason, chosen, mend};
 use std::alloc::Global;
 use table_blocks::Bound;
 

@@ -11,7 +11,8 @@ use Rattle.refusals.specs.declared.refusal.Refusal.{Refusal}
 use Rattle.refusals.specs.declared.refusal.Refusal.TheVariants.{UnknownTable, TableExists, UnknownColumn, AmbiguousColumn, SelfJoin, TypeMismatch, WrongArity, DuplicateColumn, BadKey, Limit, NotStrict}
 use Rattle.refusals.specs.declared.refusal.Place.TheVariants.{Condition, Cell}
 use Rattle.refusals.specs.declared.refusal.LimitKind.TheVariants.{Tables, Columns, Atoms, Answer, Selects}
-use Rattle.cqa_model.specs.declared.limits.TheConstants.{MOST_TABLES, MOST_COLUMNS, MOST_ATOMS, MOST_ANSWER_COLUMNS, MOST_SELECTS}
+use Rattle.cqa_value.specs.declared.row.TheConstants.{MOST_COLUMNS}
+use Rattle.cqa_model.specs.declared.limits.TheConstants.{MOST_TABLES, MOST_ATOMS, MOST_ANSWER_COLUMNS, MOST_SELECTS}
 use Rattle.cqa_model.specs.Database.{Table}
 use Rattle.spj_syntax.specs.declared.tree.RawSchema.{RawSchema}
 use Rattle.spj_syntax.specs.declared.tree.RawTest.{RawTest}

@@ -2,7 +2,7 @@
 
 ghost use Rattle.std.specs.Prelude.{◌<◌, ◌≤◌, ◌^◌, [], length};
 ghost use Rattle.std.specs.List.{AllZip};
-ghost use Rattle.cqa_model.specs.declared.limits.TheConstants.{MOST_COLUMNS};
+ghost use Rattle.cqa_value.specs.declared.row.TheConstants.{MOST_COLUMNS};
 ghost use Rattle.refusals.specs.Refusal.{Checked};
 ghost use Rattle.query_resolve.specs.Checks.{first_fault, fault_by_number, test_fault, tests_fault};
 ghost use Rattle.query_resolve.specs.Resolved.{IsTestOf, AreTestsOf};

@@ -2,7 +2,7 @@
 
 ghost use Rattle.std.specs.Prelude.{◌≡◌, ◌<◌, ◌≤◌, Some, length};
 ghost use Rattle.cqa_value.specs.declared.value.Kind.TheVariants as kinds;
-ghost use Rattle.cqa_model.specs.declared.limits.TheConstants.{MOST_COLUMNS};
+ghost use Rattle.cqa_value.specs.declared.row.TheConstants.{MOST_COLUMNS};
 ghost use Rattle.refusals.specs.Refusal.{Checked, first_of};
 ghost use Rattle.query_resolve.specs.Names.{column_named, columns_at, kind_named};
 ghost use Rattle.query_resolve.specs.Checks.{known_fault, kinds_fault, goal_fault, group_fault};

@@ -1,7 +1,7 @@
 //! Keys by the names of their columns: of a new table, and of one that is there.
 
 ghost use Rattle.std.specs.Prelude.{◌≡◌, ◌<◌, ◌≤◌, Some, IfOk, length};
-ghost use Rattle.cqa_model.specs.declared.limits.TheConstants.{MOST_COLUMNS};
+ghost use Rattle.cqa_value.specs.declared.row.TheConstants.{MOST_COLUMNS};
 ghost use Rattle.refusals.specs.Refusal.{Checked};
 ghost use Rattle.table_blocks.specs.Keys.{IsKey};
 ghost use Rattle.table_blocks.specs.Tables.{kinds_at};

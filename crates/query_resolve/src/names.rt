@@ -1,7 +1,7 @@
 //! Where names stand: in a list, among columns, among tables.
 
 ghost use Rattle.std.specs.Prelude.{◌≡◌, ◌<◌, ◌≤◌, length};
-ghost use Rattle.cqa_model.specs.declared.limits.TheConstants.{MOST_COLUMNS};
+ghost use Rattle.cqa_value.specs.declared.row.TheConstants.{MOST_COLUMNS};
 ghost use Rattle.query_resolve.specs.Names.{name_place, column_named, columns_at};
 
 use cqa_model::Column;

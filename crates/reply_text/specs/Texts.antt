@@ -13,7 +13,8 @@ use Rattle.refusals.specs.declared.refusal.Place.{Place}
 use Rattle.refusals.specs.declared.refusal.Place.TheVariants.{Cell, Condition}
 use Rattle.refusals.specs.declared.refusal.LimitKind.{LimitKind}
 use Rattle.refusals.specs.declared.refusal.LimitKind.TheVariants.{Name as NameLimit, Tables as TablesLimit, Columns as ColumnsLimit, Atoms as AtomsLimit, Answer as AnswerLimit, Rows as RowsLimit, Selects as SelectsLimit}
-use Rattle.cqa_model.specs.declared.limits.TheConstants.{LONGEST_NAME, MOST_TABLES, MOST_COLUMNS, MOST_ATOMS, MOST_ANSWER_COLUMNS, MOST_ROWS, MOST_SELECTS}
+use Rattle.cqa_value.specs.declared.row.TheConstants.{MOST_COLUMNS}
+use Rattle.cqa_model.specs.declared.limits.TheConstants.{LONGEST_NAME, MOST_TABLES, MOST_ATOMS, MOST_ANSWER_COLUMNS, MOST_ROWS, MOST_SELECTS}
 use Rattle.cqa_model.specs.declared.class.Class.{Class}
 use Rattle.cqa_model.specs.declared.class.Class.TheVariants.{FirstOrder, Polynomial, CoNp}
 use Rattle.cqa_model.specs.declared.aggregate.End.{End}

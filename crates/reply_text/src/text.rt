@@ -77,25 +77,7 @@ fn append_short(reply: &Reply, out: &mut Vec<u8>) -> Result<(), NoMemory>
         Reply::Certain => append_words("certain", out),
         Reply::Conflicts(budget) => append_numbered("conflicts ", *budget, out),
         Reply::NoLog => append_words("no log", out),
-        Reply::Rows(_)
-        | Reply::Classified { .. }
-        | Reply::ClassifiedParts { .. }
-        | Reply::Steps(_)
-        | Reply::Sql(_)
-        | Reply::SqlParts(_)
-        | Reply::Certificate(_)
-        | Reply::Shares { .. }
-        | Reply::Rejected(_)
-        | Reply::Against(_)
-        | Reply::ByBlock { .. }
-        | Reply::ByRefutation(_)
-        | Reply::Range { .. }
-        | Reply::Groups(_)
-        | Reply::Tables(_)
-        | Reply::Contested(_)
-        | Reply::Dumped(_)
-        | Reply::KeptLog(_)
-        | Reply::Refused(_) => Ok(()),
+        _ => Ok(()),
     }
 }
 
@@ -134,16 +116,7 @@ fn append_long(alloc: Global, reply: &Reply, out: &mut Vec<u8>) -> Result<(), No
         Reply::Contested(lines) => append_contested(lines.as_slice(), out),
         Reply::KeptLog(proof) => append_proof(alloc, proof, out),
         Reply::Refused(refusal) => append_refusal(refusal, out),
-        Reply::Created(_)
-        | Reply::Altered(_)
-        | Reply::Inserted(_)
-        | Reply::Deleted(_)
-        | Reply::Copied(_)
-        | Reply::NoPlan
-        | Reply::NoPlanOf(_)
-        | Reply::Certain
-        | Reply::Conflicts(_)
-        | Reply::NoLog => Ok(()),
+        _ => Ok(()),
     }
 }
 

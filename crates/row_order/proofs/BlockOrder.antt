@@ -4,10 +4,9 @@ use Rattle.std.specs.Ordering.{ordering_then, is_eq, is_lt, eq_by_cmp}
 use Rattle.std.specs.declared.cmp.Ordering.{Ordering}
 use Rattle.std.specs.declared.cmp.Ordering.TheVariants.{Less, Equal, Greater}
 use Rattle.cqa_value.specs.declared.value.Value.{Value}
-use Rattle.cqa_value.specs.Values.{row_cmp, row_eq, row_ties, row_equiv}
-use Rattle.cqa_model.specs.Database.{key_of, block_cmp}
-use Rattle.cqa_model.proofs.BlockOrder.{row_exact}
-pub use Rattle.cqa_model.proofs.BlockOrder.{block_total, block_exact}
+use Rattle.cqa_value.specs.Values.{row_cmp, row_eq, row_ties, row_equiv, key_of, block_cmp}
+use Rattle.cqa_value.proofs.RowOrder.{row_exact}
+pub use Rattle.cqa_value.proofs.RowOrder.{block_total, block_exact}
 
 pub is_less : (o : Ordering) → is_lt o ≡ true → o ≡ Less
 is_less Less e = refl

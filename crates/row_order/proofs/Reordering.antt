@@ -6,7 +6,7 @@ use Rattle.std.specs.declared.cmp.Ordering.{Ordering}
 use Rattle.std.specs.declared.cmp.Ordering.TheVariants.{Less, Equal, Greater}
 use Rattle.cqa_value.specs.declared.value.Value.{Value}
 use Rattle.cqa_value.proofs.Words.{mem-tail, mem-cases, mem-head, mem-nil, member_by_recursion, sorted_cons}
-use Rattle.cqa_model.specs.Database.{block_cmp}
+use Rattle.cqa_value.specs.Values.{block_cmp}
 use Rattle.row_order.specs.Ordered.{by_ordering, with_row, block_order}
 use Rattle.row_order.proofs.BlockOrder.{block_total, block_exact, block_alike}
 

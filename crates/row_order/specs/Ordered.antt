@@ -3,7 +3,7 @@ use Rattle.std.specs.Prelude.{ℕ, List, [], ◌∷◌}
 use Rattle.std.specs.declared.cmp.Ordering.{Ordering}
 use Rattle.std.specs.declared.cmp.Ordering.TheVariants.{Less, Equal, Greater}
 use Rattle.cqa_value.specs.declared.value.Value.{Value}
-use Rattle.cqa_model.specs.Database.{block_cmp}
+use Rattle.cqa_value.specs.Values.{block_cmp}
 
 -- the one of three that an ordering says
 abbrev pub by_ordering : {A : Type 0} → Ordering → A → A → A → A

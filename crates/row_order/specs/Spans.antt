@@ -3,8 +3,7 @@ use Rattle.std.specs.Prelude.{◌≡◌, ℕ, Bool, true, false, List, ◌++◌,
 use Rattle.std.specs.declared.cmp.Ordering.{Ordering}
 use Rattle.std.specs.declared.cmp.Ordering.TheVariants.{Less, Equal, Greater}
 use Rattle.cqa_value.specs.declared.value.Value.{Value}
-use Rattle.cqa_value.specs.Values.{row_cmp}
-use Rattle.cqa_model.specs.Database.{key_of}
+use Rattle.cqa_value.specs.Values.{row_cmp, key_of}
 
 -- the values of a row in the first key columns, as many as a probe has
 abbrev pub first_key : List ℕ → List Value → List Value → List Value

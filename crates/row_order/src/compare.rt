@@ -1,7 +1,6 @@
 //! Block order: rows by their key values, and rows of one key by all values.
 ghost use Rattle.std.specs.Prelude.{◌≡◌, slice_index_or};
-ghost use Rattle.cqa_value.specs.Values.{nothing, value_cmp, row_cmp};
-ghost use Rattle.cqa_model.specs.Database.{key_of, block_cmp};
+ghost use Rattle.cqa_value.specs.Values.{nothing, value_cmp, row_cmp, key_of, block_cmp};
 
 use cqa_value::{NOTHING, Row, compare};
 use std::cmp::Ordering;

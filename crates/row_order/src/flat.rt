@@ -1,7 +1,7 @@
 //! A sort of small items: each tells a row's first values in block order and its place, so that few rows are read.
 ghost use Rattle.std.specs.Prelude.{◌≡◌, slice_index_or};
 ghost use Rattle.std.specs.Ordering.{ordering_then, nat_cmp};
-ghost use Rattle.cqa_model.specs.Database.{block_cmp};
+ghost use Rattle.cqa_value.specs.Values.{block_cmp};
 
 use crate::compare::block_compare;
 use cqa_value::{NOTHING, NoMemory, Row, Value};

@@ -10,7 +10,7 @@ mod probe;
 mod settle;
 mod sort;
 
-pub use cells::{cell, passes};
+pub use cells::cell;
 pub use compare::{block_compare, key_compare};
 pub use order::put_in_order;
 pub use probe::Probe;

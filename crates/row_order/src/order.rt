@@ -2,7 +2,7 @@
 ghost use Rattle.std.specs.Prelude.{◌≡◌, IsTrue};
 ghost use Rattle.std.specs.List.Sorted.{IsPermutation, IsStrictlySortedBy};
 ghost use Rattle.std.specs.Ordering.{is_lt};
-ghost use Rattle.cqa_model.specs.Database.{block_cmp};
+ghost use Rattle.cqa_value.specs.Values.{block_cmp};
 ghost use Rattle.row_order.specs.Ordered.{block_order};
 
 use crate::compare::block_compare;

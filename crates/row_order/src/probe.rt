@@ -3,8 +3,7 @@
 ghost use Rattle.std.specs.Prelude.{◌≡◌, ◌<◌, ◌≤◌, length, [], ◌∷◌, ◌++◌, slice_get, Some};
 ghost use Rattle.row_order.specs.Lists.{borrowed_values, AllTaken};
 
-use cqa_model::MOST_COLUMNS;
-use cqa_value::Value;
+use cqa_value::{MOST_COLUMNS, Value};
 use smallvec::SmallVec;
 use std::alloc::Global;
 use std::marker::Model;
@@ -18,7 +17,7 @@ pub struct Probe<'a> {
 impl<'a> Model for Probe<'a> {
     ghost use Rattle.std.specs.Prelude.{◌≡◌, ◌≤◌, List, length};
     ghost use Rattle.cqa_value.specs.declared.value.Value.{Value as Cell};
-    ghost use Rattle.cqa_model.specs.declared.limits.TheConstants.{MOST_COLUMNS};
+    ghost use Rattle.cqa_value.specs.declared.row.TheConstants.{MOST_COLUMNS};
     ghost use Rattle.row_order.specs.Lists.{borrowed_values, AllTaken};
 
     ghost Value = { List Cell };

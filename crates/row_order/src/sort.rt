@@ -1,7 +1,7 @@
 //! Rows are sorted by block order, or arranged by their first values alone, so that a sort finds them mostly in order.
 ghost use Rattle.std.specs.Prelude.{◌≡◌};
 ghost use Rattle.std.specs.List.Sorted.{IsPermutation, IsSorted};
-ghost use Rattle.cqa_model.specs.Database.{block_cmp};
+ghost use Rattle.cqa_value.specs.Values.{block_cmp};
 
 use crate::compare::block_compare;
 use crate::flat::flat_sorted;

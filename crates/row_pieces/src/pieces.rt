@@ -84,7 +84,7 @@ impl Pieces {
         Ok(())
     }
 
-    /// The last row.
+    /// The last row. An insert that was refused may have left a last piece without rows; the row is found by its place then.
     pub fn last(&self) -> Option<&Row>
         ensures some { IfSome result (λ row. (before : List (List Cell)) × (self.now ≡ before ++ row.now ∷ [])) }
         ensures none { IfNone result (self.now ≡ []) }

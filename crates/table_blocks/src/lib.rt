@@ -15,7 +15,7 @@ mod test;
 pub use bound::Bound;
 pub use clash::{Clash, shares_key};
 pub use database::Database;
-pub use row_order::{Probe, cell, passes};
+pub use row_order::{Probe, cell};
 pub use rows::{Fresh, place_in};
 pub use search::{first_keyed, leading, parted, second_keyed};
 pub use steps::Steps;

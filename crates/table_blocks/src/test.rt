@@ -9,7 +9,7 @@ ghost use Rattle.table_blocks.specs.Tables.{TestsHold};
 
 use cqa_model::{MOST_COLUMNS, Op};
 use cqa_value::{Row, Value};
-use row_order::{Probe, passes};
+use row_order::Probe;
 use std::alloc::Global;
 
 /// A comparison of a table's column with a value.
@@ -25,7 +25,7 @@ pub fn passes_all(row: &Row, tests: &[ColumnTest]) -> bool
     ensures { IsTrue result ↔ TestsHold tests.now row.now }
 {
     for test in tests {
-        if !passes(row, test.col, test.op, &test.value) {
+        if !test.op.holds_in(row, test.col, &test.value) {
             return false;
         }
     }

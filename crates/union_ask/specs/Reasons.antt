@@ -13,10 +13,10 @@ use Rattle.cdcl.specs.declared.outcome.Outcome.{Outcome}
 use Rattle.cdcl.specs.declared.outcome.Outcome.TheVariants as outcomes
 use Rattle.cdcl.specs.Outcomes.{OutcomeIs}
 use Rattle.list_search.specs.declared.decision.Decided.{Decided}
-use Rattle.query_strategy.specs.declared.reason.Reason.{Reason}
-use Rattle.query_strategy.specs.declared.reason.Reason.TheVariants.{ByBlock, Rejected, Refuted}
-use Rattle.query_strategy.specs.declared.reason.Untold.{Untold}
-use Rattle.query_strategy.specs.declared.reason.Untold.TheVariants.{Over, Spent}
+use Rattle.repair_back.specs.declared.reason.Reason.{Reason}
+use Rattle.repair_back.specs.declared.reason.Reason.TheVariants.{ByBlock, Rejected, Refuted}
+use Rattle.repair_back.specs.declared.reason.Untold.{Untold}
+use Rattle.repair_back.specs.declared.reason.Untold.TheVariants.{Over, Spent}
 use Rattle.repair_back.specs.Results.{AreStored}
 use Rattle.part_search.specs.Parts.{HasTooManyIn}
 use Rattle.union_ask.specs.Encodings.{IsEncodedIn}

@@ -16,10 +16,9 @@ use cdcl::Outcome;
 use cqa_model::RowId;
 use cqa_value::{Fail, Items, NoMemory, Row};
 use join_witness::TooMany;
-use list_search::{Decided, solved_by_groups};
-use part_search::BoundParts;
-use query_strategy::{Reason, Untold};
-use repair_back::{Repair, chosen};
+use list_search::Decided;
+use part_search::{BoundParts, solved_by_groups};
+use repair_back::{Reason, Repair, Untold, chosen};
 use row_lists::Encoded;
 use std::alloc::Global;
 

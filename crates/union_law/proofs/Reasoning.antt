@@ -6,10 +6,10 @@ use Rattle.cqa_model.specs.Database.{Table, IsDatabase}
 use Rattle.cqa_model.specs.Unions.{IsCertainIn}
 use Rattle.budget_law.proofs.Spending.{budgets_decide}
 use Rattle.part_search.specs.Parts.{AllFit, HasTooManyIn}
-use Rattle.query_strategy.specs.declared.reason.Reason.{Reason}
-use Rattle.query_strategy.specs.declared.reason.Reason.TheVariants.{Rejected, Refuted}
-use Rattle.query_strategy.specs.declared.reason.Untold.{Untold}
-use Rattle.query_strategy.specs.declared.reason.Untold.TheVariants.{Over, Spent}
+use Rattle.repair_back.specs.declared.reason.Reason.{Reason}
+use Rattle.repair_back.specs.declared.reason.Reason.TheVariants.{Rejected, Refuted}
+use Rattle.repair_back.specs.declared.reason.Untold.{Untold}
+use Rattle.repair_back.specs.declared.reason.Untold.TheVariants.{Over, Spent}
 use Rattle.union_ask.specs.Laws.{PossibleIsCandidateIn, UnionsDecide}
 use Rattle.union_ask.specs.Reasons.{IsReasonIn, IsUntoldIn}
 use Rattle.union_law.specs.Reasons.{UnionReasonsExist}

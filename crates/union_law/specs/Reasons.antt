@@ -6,8 +6,8 @@ use Rattle.cqa_model.specs.declared.query.RowId.{RowId}
 use Rattle.cqa_model.specs.Database.{Table, IsDatabase}
 use Rattle.cqa_model.specs.Unions.{IsCertainIn}
 use Rattle.part_search.specs.Parts.{AllFit}
-use Rattle.query_strategy.specs.declared.reason.Reason.{Reason}
-use Rattle.query_strategy.specs.declared.reason.Untold.{Untold}
+use Rattle.repair_back.specs.declared.reason.Reason.{Reason}
+use Rattle.repair_back.specs.declared.reason.Untold.{Untold}
 use Rattle.repair_back.specs.Results.{AreStored}
 use Rattle.union_ask.specs.Reasons.{IsReasonIn, IsUntoldIn}
 use Rattle.union_ask.specs.Repairs.{AreRejectingRowsIn}

@@ -3,8 +3,7 @@ use Rattle.std.proofs.Common.{◌≡◌, ℕ, ◌+◌, ◌≤◌, ◌⊎◌, inl
 use Rattle.std.specs.Ordering.{nat_cmp}
 use Rattle.std.specs.Cmp.{nat_cmp_is}
 use Rattle.cqa_value.specs.declared.value.Value.{Value}
-use Rattle.cqa_value.specs.Values.{row_cmp}
-use Rattle.cqa_model.specs.Database.{key_of}
+use Rattle.cqa_value.specs.Values.{row_cmp, key_of}
 
 module _ (a b : List Value) where
   -- xs and ys are what is left of lists of p and q columns behind the first n

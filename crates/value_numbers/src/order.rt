@@ -1,8 +1,7 @@
 //! The order of rows by their values in some columns.
 
 ghost use Rattle.std.specs.Prelude.{◌≡◌};
-ghost use Rattle.cqa_value.specs.Values.{row_cmp};
-ghost use Rattle.cqa_model.specs.Database.{key_of};
+ghost use Rattle.cqa_value.specs.Values.{row_cmp, key_of};
 
 use cqa_value::{NOTHING, Row, compare};
 use std::cmp::Ordering;

@@ -10,10 +10,10 @@ use Rattle.cqa_model.specs.Certain.{IsCertain}
 use Rattle.refusals.specs.declared.refusal.Refusal.{Refusal}
 use Rattle.refusals.specs.declared.refusal.Refusal.TheVariants.{WitnessLimit, Spent}
 use Rattle.join_access.specs.Listing.{HasTooMany}
-use Rattle.query_strategy.specs.declared.reason.Reason.{Reason}
-use Rattle.query_strategy.specs.declared.reason.Reason.TheVariants as reasons
-use Rattle.query_strategy.specs.declared.reason.Untold.{Untold}
-use Rattle.query_strategy.specs.declared.reason.Untold.TheVariants as untold
+use Rattle.repair_back.specs.declared.reason.Reason.{Reason}
+use Rattle.repair_back.specs.declared.reason.Reason.TheVariants as reasons
+use Rattle.repair_back.specs.declared.reason.Untold.{Untold}
+use Rattle.repair_back.specs.declared.reason.Untold.TheVariants as untold
 use Rattle.query_strategy.specs.Strategies.{NeedsSearch}
 use Rattle.repair_back.specs.Results.{AreStored}
 use Rattle.repair_back.specs.Rejected.{AreRejectingRows}

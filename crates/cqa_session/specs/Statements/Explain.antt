@@ -6,7 +6,7 @@ use Rattle.cqa_model.specs.declared.query.Query.{Query}
 use Rattle.refusals.specs.declared.refusal.Refusal.{Refusal}
 use Rattle.refusals.specs.declared.refusal.Refusal.TheVariants.{WitnessLimit, Spent}
 use Rattle.join_access.specs.Listing.{HasTooMany}
-use Rattle.query_strategy.specs.declared.reason.Reason.TheVariants as reasons
+use Rattle.repair_back.specs.declared.reason.Reason.TheVariants as reasons
 use Rattle.query_strategy.specs.Strategies.{NeedsSearch}
 use Rattle.spj_syntax.specs.declared.tree.Select.{Select}
 use Rattle.query_resolve.specs.Checks.{answer_fault}

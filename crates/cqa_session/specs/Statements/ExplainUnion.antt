@@ -5,7 +5,7 @@ use Rattle.cqa_model.specs.declared.query.RowId.{RowId}
 use Rattle.cqa_model.specs.declared.query.Query.{Query}
 use Rattle.refusals.specs.declared.refusal.Refusal.{Refusal}
 use Rattle.refusals.specs.declared.refusal.Refusal.TheVariants.{WitnessLimit, Spent}
-use Rattle.query_strategy.specs.declared.reason.Reason.TheVariants as reasons
+use Rattle.repair_back.specs.declared.reason.Reason.TheVariants as reasons
 use Rattle.spj_syntax.specs.declared.tree.Select.{Select}
 use Rattle.query_resolve.specs.Checks.{union_row_fault}
 use Rattle.query_resolve.specs.Resolved.{AreQueriesOf}

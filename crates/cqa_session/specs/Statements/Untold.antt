@@ -5,8 +5,8 @@ use Rattle.cqa_value.specs.declared.memory.Fail.TheVariants as fails
 use Rattle.cqa_value.specs.declared.value.Value.{Value}
 use Rattle.refusals.specs.declared.refusal.Refusal.{Refusal}
 use Rattle.refusals.specs.declared.refusal.Refusal.TheVariants as refusals
-use Rattle.query_strategy.specs.declared.reason.Untold.{Untold}
-use Rattle.query_strategy.specs.declared.reason.Untold.TheVariants.{Over, Spent}
+use Rattle.repair_back.specs.declared.reason.Untold.{Untold}
+use Rattle.repair_back.specs.declared.reason.Untold.TheVariants.{Over, Spent}
 use Rattle.part_search.specs.declared.searched.Stop.{Stop}
 use Rattle.part_search.specs.declared.searched.Stop.TheVariants as stops
 use Rattle.cqa_session.specs.State.{State}

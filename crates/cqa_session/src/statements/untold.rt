@@ -6,8 +6,8 @@ ghost use Rattle.cqa_session.specs.Statements.Untold.{RefusesRow, RefusesStop};
 use crate::Session;
 use cqa_value::{Fail, NoMemory, Row};
 use part_search::Stop;
-use query_strategy::Untold;
 use refusals::Refusal;
+use repair_back::Untold;
 use reply_text::Proof;
 use std::alloc::Global;
 

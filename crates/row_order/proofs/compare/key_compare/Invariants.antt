@@ -1,6 +1,5 @@
 use Rattle.std.proofs.Common.{◌≡◌, drop}
-use Rattle.cqa_value.specs.Values.{row_cmp}
-use Rattle.cqa_model.specs.Database.{key_of}
+use Rattle.cqa_value.specs.Values.{row_cmp, key_of}
 use Rattle.row_order.proofs.compare.key_compare.Given as goal
 
 -- what is left of the key decides

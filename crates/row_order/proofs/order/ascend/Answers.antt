@@ -2,7 +2,7 @@ use Rattle.std.proofs.Common.{[], rules, sym}
 use Rattle.std.specs.Ordering.{is_lt}
 use Rattle.std.proofs.lemmas.Fn.{always_returns_same}
 use Rattle.std.proofs.lemmas.Map.Keys.{sorted_from_all_adjacent}
-use Rattle.cqa_model.specs.Database.{block_cmp}
+use Rattle.cqa_value.specs.Values.{block_cmp}
 use Rattle.row_order.proofs.BlockOrder.{block_total, is_less}
 use Rattle.row_order.proofs.order.ascend.Goals as goal
 

@@ -7,8 +7,7 @@ use Rattle.std.proofs.lemmas.List.Kept.{IsStrictlySortedBy-dedup, Contains-dedup
 use Rattle.std.proofs.lemmas.List.Filters.{dedup_is}
 use Rattle.std.proofs.lemmas.List.Sorted.{Contains-permutation, IsPermutation-sym, IsPermutation-trans, length_permutation}
 use Rattle.cqa_value.specs.declared.value.Value.{Value}
-use Rattle.cqa_value.specs.Values.{row_eq, row_equiv, row_decides}
-use Rattle.cqa_model.specs.Database.{block_cmp}
+use Rattle.cqa_value.specs.Values.{row_eq, row_equiv, row_decides, block_cmp}
 use Rattle.row_order.proofs.BlockOrder.{block_total, block_ties}
 use Rattle.row_order.proofs.Reordering.{order_is}
 use Rattle.row_order.specs.Ordered.{block_order}

@@ -2,7 +2,7 @@ use Rattle.std.proofs.Common.{rules, ap}
 use Rattle.std.specs.Ordering.{is_lt}
 use Rattle.std.proofs.lemmas.Fn.{always_returns_same}
 use Rattle.std.proofs.lemmas.List.Sorted.{ranks_by}
-use Rattle.cqa_model.proofs.BlockOrder.{block_total}
+use Rattle.cqa_value.proofs.RowOrder.{block_total}
 use Rattle.row_order.proofs.sort.sort_rows.Goals as goal
 
 pub returns-clause-sorted : goal.returns-clause-sorted

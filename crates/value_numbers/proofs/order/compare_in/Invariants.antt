@@ -1,6 +1,5 @@
 use Rattle.std.proofs.Common.{◌≡◌, drop}
-use Rattle.cqa_value.specs.Values.{row_cmp}
-use Rattle.cqa_model.specs.Database.{key_of}
+use Rattle.cqa_value.specs.Values.{row_cmp, key_of}
 use Rattle.value_numbers.proofs.order.compare_in.Given as goal
 
 -- what is left of the columns decides

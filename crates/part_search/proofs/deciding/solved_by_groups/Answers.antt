@@ -1,5 +1,5 @@
 use Rattle.list_search.proofs.Deciding.{kept_is}
-use Rattle.list_search.proofs.decision.solved_by_groups.Goals as goal
+use Rattle.part_search.proofs.deciding.solved_by_groups.Goals as goal
 
 pub returns-clause-outcome : goal.returns-clause-outcome
 returns-clause-outcome c =
