@@ -1,19 +1,32 @@
 -- The variables of a context of the part that an atom begins, and of its blocks.
-use Rattle.std.proofs.Common.{ℕ, ◌<◌, ◌⊎◌, inl, inr, List, ◌++◌, length, Contains}
+use Rattle.std.proofs.Common.{◌≡◌, ℕ, ◌<◌, ◌⊎◌, inl, inr, true, not, List, ◌++◌, length, ap, sym, ◌∙◌, Contains}
 use Rattle.std.specs.List.{flat_map}
+use Rattle.std.proofs.lemmas.Bool.{false≢true}
 use Rattle.std.proofs.lemmas.List.Elements.{Contains-append_left, Contains-append_right, Contains-append_cases}
 use Rattle.cqa_value.proofs.Words.{Contains-flat_map, Contains-from_flat_map}
 use Rattle.cqa_model.specs.declared.query.Query.{Query}
 use Rattle.sql_steps.specs.declared.fitting.Known.{Known}
 use Rattle.sql_steps.specs.declared.part.Part.{Part}
 use Rattle.sql_steps.specs.Variables.{without, within, ascending, variables_of, key_variables}
-use Rattle.sql_steps.specs.Steps.{fitted, known_of}
+use Rattle.sql_steps.specs.Steps.{fitted, known_of, hangs}
 use Rattle.plan_sql.specs.Statement.{context_of, block_of}
-use Rattle.sql_steps.proofs.Membership.{dec_has, without-into, without-from, within-into, within-from, ascending-into, ascending-from}
+use Rattle.sql_steps.proofs.Membership.{dec_has, meets-into, without-into, without-from, within-into, within-from, ascending-into, ascending-from}
 use Rattle.sql_steps.proofs.Seeing.{IsKnown}
 use Rattle.sql_steps.proofs.Atoms.{variables-small, keys-within}
 use Rattle.sql_steps.proofs.Rows.{row-known}
 use Rattle.sql_steps.proofs.Joining.{known-all, known-new}
+
+-- each part's variables are among these, and are numbers of columns
+abbrev pub AreAmong : List ℕ → List Part → Type 0
+AreAmong vs parts = (p : Part) → Contains parts p → (v : ℕ) → Contains p.columns v → Contains vs v × (v < 192)
+
+-- what doesn't hang on F has no variable of it that isn't known before
+pub loose-known : (q : Query) (F : ℕ) (known : List ℕ) (p : Part) → not (hangs q known F p) ≡ true → (v : ℕ) → Contains p.columns v → Contains (known ++ variables_of q F) v → Contains known v
+loose-known q F known p loose v n m = elim (Contains-append_cases known (variables_of q F) v m) [ inl a ↦ a | inr b ↦ go b (dec_has known v) ]
+  where
+    go : Contains (variables_of q F) v → Dec (Contains known v) → Contains known v
+    go b (yes a) = a
+    go b (no f) = absurd (false≢true (ap not (sym (meets-into p.columns (without (variables_of q F) known) v n (without-into (variables_of q F) known v b f))) ∙ loose))
 
 module _ (q : Query) (F : ℕ) (lF : F < length q.atoms) (known : List ℕ) (parts : List Part) where
   abbrev context : List ℕ

@@ -20,14 +20,15 @@ use Rattle.sql_text.specs.Meaning.{IsRowOfEach, cell_value, MeetsAll, AreWithin,
 use Rattle.sql_steps.specs.declared.fitting.Known.{Known}
 use Rattle.sql_steps.specs.declared.part.Part.{Part}
 use Rattle.sql_steps.specs.Variables.{covers, all_below, variables_of, key_variables}
-use Rattle.sql_steps.specs.Steps.{cell, held, member, cells_at, keyed, fitted, others_of, children_of, on_of, rows_of_atom, group_of, block_group, context_group, are_single}
+use Rattle.sql_steps.specs.Steps.{cell, held, member, cells_at, keyed, fitted, children_of, on_of, rows_of_atom, group_of, block_group, context_group, are_single}
 use Rattle.plan_sql.specs.Statement.{context_of, block_of}
 use Rattle.sql_steps.proofs.Membership.{dec_has, columns-into}
 use Rattle.sql_steps.proofs.Seeing.{IsKnown, IsRight, held-at, held-known, held-right, cells-right, meets-left, meets-right, meets-both}
 use Rattle.sql_steps.proofs.Suiting.{variable, Suits}
 use Rattle.sql_steps.proofs.Atoms.{variables-into, key-width, keys-from, keys-into, keys-within}
 use Rattle.sql_steps.proofs.Rows.{start-known, row-known, row-into, row-from, Follows, keyed-same, key-values}
-use Rattle.sql_steps.proofs.Joining.{covers-into, IsBelow, below-seen, AreWide, AreOver, Hold, IsSingle, Joins, ends-from, rows-from, rows-into, ends-into, led-ends, led-into}
+use Rattle.sql_steps.proofs.Telling.{fitted-below}
+use Rattle.sql_steps.proofs.Joining.{covers-into, IsBelow, AreWide, AreOver, Hold, IsSingle, Joins, ends-from, rows-from, rows-into, ends-into, led-ends, led-into}
 use Rattle.plan_sql.proofs.Contexts.{IsOf, context-from, context-into, end, end-known, block-cases, block-key, block-context}
 use Rattle.plan_sql.proofs.Holding.{Keeps}
 
@@ -87,11 +88,6 @@ module _ (q : Query) (F : ℕ) (lF : F < length q.atoms) (T : ℕ → List (List
       ((y : List Value) → Contains (T F) y → SharesKey (atom_key q F) x y → (d : ℕ → Value) × Keeps known e d × Suits q d F y × Hold T R parts d)
 
   module _ (ready : AreReady) where
-    fitted-below : (start : List Known) (n : ℕ) → 0 < n → IsBelow n start → IsBelow n (fitted q F start).known
-    fitted-below start n l b =
-        below-seen n 0 l (variables_of q F) (others_of q F) (record { known = (keyed q F start).known; all = [] })
-        (below-seen n 0 l (variables_of q F) (atom_key q F) (record { known = start; all = [] }) b)
-
     -- an assignment that has a context's values keeps what is known
     keeps : (e e0 d : ℕ → Value) → map d context ≡ map e context → ((v : ℕ) → (IsOf q F lF known parts v → ⊥) → d v ≡ e0 v) → ((v : ℕ) → Contains known v → (Contains context v → ⊥) → e0 v ≡ e v) → Keeps known e d
     keeps e e0 d same far base v m = go (dec_has context v)
@@ -110,7 +106,7 @@ module _ (q : Query) (F : ℕ) (lF : F < length q.atoms) (T : ℕ → List (List
       ended-from w e e0 y b ew l r mk base sh = from (row-from q F lF start w e0 r mk sh.meets)
         where
           from : (d : ℕ → Value) × Follows q F lF start w e0 d → (d : ℕ → Value) × Keeps known e d × Suits q d F y × Hold T R parts d
-          from (c, f) = take (ends-from T R parts (length sources) (fitted q F start).known w sh.end c (ap length ew ∙ sym l) (fitted-below start (length sources) (omega (arith, l)) b) ready.wide f.right sh.ends)
+          from (c, f) = take (ends-from T R parts (length sources) (fitted q F start).known w sh.end c (ap length ew ∙ sym l) (fitted-below q F start (length sources) (omega (arith, l)) b) ready.wide f.right sh.ends)
             where
               take : (d : ℕ → Value) × Joins T R parts sh.end (fitted q F start).known (end q F lF known parts start (length sources)) c d → (d : ℕ → Value) × Keeps known e d × Suits q d F y × Hold T R parts d
               take (d, j) = (
@@ -141,7 +137,7 @@ module _ (q : Query) (F : ℕ) (lF : F < length q.atoms) (T : ℕ → List (List
           a = row-into q F lF start w d r s
 
           n : AreLed T R (children_of (length sources) parts (fitted q F start).known) w × ((u : List (List Value)) → Ends T R (children_of (length sources) parts (fitted q F start).known) w u → IsRight u d (end q F lF known parts start (length sources)))
-          n = led-into T R parts (length sources) (fitted q F start).known w d vs (known ++ variables_of q F) ready.over sub l (fitted-below start (length sources) some b) ready.wide ready.single have t a.0 hold
+          n = led-into T R parts (length sources) (fitted q F start).known w d vs (known ++ variables_of q F) ready.over sub l (fitted-below q F start (length sources) some b) ready.wide ready.single have t a.0 hold
 
     -- only columns of F are looked up
     module _ (only : List Within) (own : (o : Within) → Contains only o → (k : ℕ) × (o.cell ≡ cell 0 k)) where
@@ -287,7 +283,7 @@ module _ (q : Query) (F : ℕ) (lF : F < length q.atoms) (T : ℕ → List (List
               a = row-into q F lF [] (y ∷ []) d (λ j m. absurd (mem-nil j m)) s
 
               u : (u : List (List Value)) × Ends T R (children_of 1 parts (fitted q F []).known) (y ∷ []) u × IsRight u d (end q F lF known parts [] 1)
-              u = ends-into T R parts 1 (fitted q F []).known (y ∷ []) d refl (fitted-below [] 1 (omega arith) (λ j m. absurd (mem-nil j m))) a.0 hold
+              u = ends-into T R parts 1 (fitted q F []).known (y ∷ []) d refl (fitted-below q F [] 1 (omega arith) (λ j m. absurd (mem-nil j m))) a.0 hold
 
           all : (w : List (List Value)) × Member w × ((u : List (List Value)) → Member u → Alike u w → ShowsToo T R (block_group q F only parts context) (map e context) u)
           all = held-into e pass (ShowsToo T R (block_group q F only parts context) (map e context)) shows h

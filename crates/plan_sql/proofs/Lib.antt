@@ -12,5 +12,6 @@ pub mod Plan
 pub mod Exact
 pub mod Naming
 pub mod Named
+pub mod Once
 pub mod Spreading
 pub mod Counting

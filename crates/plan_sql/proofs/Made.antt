@@ -33,16 +33,16 @@ use Rattle.sql_steps.proofs.Membership.{ascending-from}
 use Rattle.plan_sql.proofs.Contexts.{IsOf, end}
 
 -- rows of steps are as long as their cells
-selects-long : (T : ℕ → List (List Value)) (R : ℕ → List Value → Type 0) (select : Select) (row : List Value) → Selects T R select row → length row ≡ length select.cells
+pub selects-long : (T : ℕ → List (List Value)) (R : ℕ → List Value → Type 0) (select : Select) (row : List Value) → Selects T R select row → length row ≡ length select.cells
 selects-long T R select row (w, c, g) = ap length (sym g) ∙ length-map select.cells (cell_value w)
 
-groups-long : (T : ℕ → List (List Value)) (R : ℕ → List Value → Type 0) (group : Group) (row : List Value) → Groups T R group row → length row ≡ length group.cells
+pub groups-long : (T : ℕ → List (List Value)) (R : ℕ → List Value → Type 0) (group : Group) (row : List Value) → Groups T R group row → length row ≡ length group.cells
 groups-long T R group row g =
     let s = g.each g.choice g.chosen refl in
     let u = led-ends T R group.children g.choice s.led in
     ap length (sym (s.alike u.0 u.1)) ∙ length-map group.cells (cell_value u.0)
 
-shares-long : (T : ℕ → List (List Value)) (R : ℕ → List Value → Type 0) (group : Group) (row : List Value) → Shares T R group row → length row ≡ length group.cells
+pub shares-long : (T : ℕ → List (List Value)) (R : ℕ → List Value → Type 0) (group : Group) (row : List Value) → Shares T R group row → length row ≡ length group.cells
 shares-long T R group row g = let s = g.each g.choice g.chosen refl in ap length (sym s.row_is) ∙ length-map group.cells (cell_value s.end)
 
 blocks-long : (T : ℕ → List (List Value)) (R : ℕ → List Value → Type 0) (a : Bool) (group : Group) (row : List Value) → Gives T R (by_block a group) row → length row ≡ length group.cells

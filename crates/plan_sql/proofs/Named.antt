@@ -1,7 +1,6 @@
 -- The names of the query of a plan say what its places mean, by induction on the plan.
 use Rattle.std.proofs.Common.{◌≡◌, ℕ, suc, ◌<◌, ◌≤◌, ◌-◌, ◌⊎◌, ◌||◌, inl, inr, Bool, true, not, List, [], ◌∷◌, ◌++◌, length, map, refl, ap, sym, ◌∙◌, subst, arith, Contains, Option, Some, None, append-nil}
-use Rattle.std.specs.List.{filter, list_any, slice_index}
-use Rattle.std.proofs.lemmas.Bool.{false≢true, or_cases}
+use Rattle.std.specs.List.{filter, flat_map, list_any, slice_index}
 use Rattle.std.proofs.lemmas.List.{append_assoc, length-map}
 use Rattle.std.proofs.lemmas.List.Elements.{Contains-append_cases}
 use Rattle.cqa_value.proofs.Words.{Contains-from_map, Contains-filter}
@@ -21,25 +20,18 @@ use Rattle.sql_text.specs.declared.syntax.Listed.{Listed}
 use Rattle.sql_text.specs.Named.{AreDifferent, width, ShowsOne, IsThere, AreChildrenOf, AreSources, AreNamedSteps}
 use Rattle.plan_sql.specs.declared.bounds.Bound.{Bound}
 use Rattle.sql_steps.specs.declared.part.Part.{Part}
-use Rattle.sql_steps.specs.Variables.{has, meets, without, within, variables_of, key_variables, answer_variables}
+use Rattle.sql_steps.specs.Variables.{without, within, variables_of, key_variables, answer_variables}
 use Rattle.sql_steps.specs.Steps.{cell_of, fitted, part_source, children_of, known_of, rows_of_atom, hangs, are_single}
 use Rattle.plan_sql.specs.Statement.{context_of, step, level_steps, bound_of, bound_for, asked_variables, asked_steps, only_of, Made, with_level, made_of, is_value_test}
 use Rattle.plan_sql.specs.Laws.{SqlIsNamed}
-use Rattle.sql_steps.proofs.Membership.{within-from, ascending-from, has-from, without-from}
+use Rattle.sql_steps.proofs.Membership.{meets-from, within-from, ascending-from, ascending-small, without-from}
 use Rattle.sql_steps.proofs.Atoms.{key-width}
+use Rattle.plan_sql.proofs.Contexts.{AreAmong, loose-known, context-from}
 use Rattle.plan_sql.proofs.Asking.{bound_for-in}
 use Rattle.plan_sql.proofs.Exact.{answers-known}
 use Rattle.plan_sql.proofs.Looking.{keys-at, keys-own}
 use Rattle.sql_steps.proofs.Scopes.{AreIn, cells-in, AreAt, children-of, on-of, sources-of}
 use Rattle.plan_sql.proofs.Naming.{ascending-apart, filter-apart, held-apart, named-push, width-new, AreOnly, only-more, at-more, IsBoundNamed, rows-named, IsLevelNamed, level-named}
-
--- lists with something in common
-meets-from : (us vs : List ℕ) → meets us vs ≡ true → (u : ℕ) × Contains us u × Contains vs u
-meets-from [] vs h = absurd (false≢true h)
-meets-from (u ∷ us) vs h = elim (or_cases (has vs u) (meets us vs) h) [
-  | inl a ↦ (u, mem-head u us, has-from vs u a)
-  | inr b ↦ (let r = meets-from us vs b in (r.0, mem-tail r.0 u us r.1, r.2))
-]
 
 module _ (q : Query) where
   bound-more : (ss ts : List Step) (b : Bound) → IsBoundNamed q ss b → IsBoundNamed q (ss ++ ts) b
@@ -99,13 +91,14 @@ module _ (q : Query) where
       go (Some b) e = by b (bound b (bound_for-in q (λ F. []) bounds F b e))
 
   -- the steps of a plan, and its parts
-  pub record IsMadeNamed (number : ℕ) (before : List Step) (made : Made) : Type 0 where
+  pub record IsMadeNamed (number : ℕ) (known : List ℕ) (before : List Step) (made : Made) : Type 0 where
     pub named : AreNamedSteps q [] made.steps
     pub grows : (ts : List Step) × (made.steps ≡ before ++ ts)
     pub levels : (t : Step) → Contains made.steps t → Contains before t ⊎ (number ≤ t.level)
     pub at : AreAt q made.steps made.parts
     pub late : (p : Part) → Contains made.parts p → number ≤ p.number
     pub apart : AreDifferent (map (λ (p : Part). p.number) made.parts)
+    pub over : AreAmong known made.parts
 
   module _ (F : ℕ) (lF : F < length q.atoms) (number : ℕ) (known : List ℕ) (bounds : List Bound) (before : List Step) (bound : (b : Bound) → Contains bounds b → IsBoundNamed q before b)
       (first : AreNamedSteps q [] before) (early : (t : Step) → Contains before t → t.level < number) where
@@ -130,7 +123,7 @@ module _ (q : Query) where
     pub next-early : (t : Step) → Contains start t → t.level < suc number
     next-early t m = elim (ask.levels t m) [ inl n ↦ (let l : t.level < number = early t n in omega arith) | inr n ↦ (let e : t.level ≡ number = n.0 in omega arith) ]
 
-    module _ (later : Made) (done : IsMadeNamed (suc number) start later) where
+    module _ (later : Made) (done : IsMadeNamed (suc number) (known ++ variables_of q F) start later) where
       abbrev kids : List Part
       kids = filter (λ p. hangs q known F p) later.parts
 
@@ -160,11 +153,14 @@ module _ (q : Query) where
           let r = meets-from p.columns (without (variables_of q F) known) ((Contains-filter (λ (z : Part). hangs q known F z) later.parts p).0 m).1 in
           (r.0, r.1, (without-from (variables_of q F) known r.0 r.2).0)
 
+      among : AreAmong (known ++ variables_of q F) kids
+      among p m = done.over p ((Contains-filter (λ (z : Part). hangs q known F z) later.parts p).0 m).0
+
       still : (b : Bound) → Contains bounds b → IsBoundNamed q later.steps b
       still b m = subst (λ z. IsBoundNamed q z b) (sym (done.grows.1 ∙ ap (λ z. z ++ done.grows.0) ask.grows.1)) (bound-more (before ++ ask.grows.0) done.grows.0 b (bound-more before ask.grows.0 b (bound b m)))
 
-      lv : IsLevelNamed q later.steps F lF known kids (at-of (λ p. hangs q known F p)) (filter-apart (λ p. hangs q known F p) (λ (p : Part). p.number) later.parts done.apart) only looked number done.named fresh linked bounds still steps
-      lv = level-named q later.steps F lF known kids (at-of (λ p. hangs q known F p)) (filter-apart (λ p. hangs q known F p) (λ (p : Part). p.number) later.parts done.apart) only looked number done.named fresh linked bounds still
+      lv : IsLevelNamed q later.steps F lF known kids (at-of (λ p. hangs q known F p)) (filter-apart (λ p. hangs q known F p) (λ (p : Part). p.number) later.parts done.apart) only looked number done.named fresh linked among bounds still steps
+      lv = level-named q later.steps F lF known kids (at-of (λ p. hangs q known F p)) (filter-apart (λ p. hangs q known F p) (λ (p : Part). p.number) later.parts done.apart) only looked number done.named fresh linked among bounds still
 
       abbrev part : Part
       part = record { number = number; step = length steps - 1; columns = context; keys = key_variables q F; single = are_single (variables_of q F) kids; rare = list_any (λ k. is_value_test F k) q.conds || list_any (λ (p : Part). p.rare) kids }
@@ -172,7 +168,7 @@ module _ (q : Query) where
       other-late : (p : Part) → Contains others p → suc number ≤ p.number
       other-late p m = done.late p ((Contains-filter (λ (z : Part). not (hangs q known F z)) later.parts p).0 m).0
 
-      pub made-level : IsMadeNamed number before (with_level q number known bounds only F later)
+      pub made-level : IsMadeNamed number known before (with_level q number known bounds only F later)
       made-level = record {
         named = lv.named;
         grows = (
@@ -199,10 +195,20 @@ module _ (q : Query) where
               omega arith),
           filter-apart (λ p. not (hangs q known F p)) (λ (p : Part). p.number) later.parts done.apart,
         );
+        over = λ p m v n. elim (mem-cases p part others m) [
+          | inl e ↦ own v (subst (λ (z : Part). Contains z.columns v) (sym e) n)
+          | inr o ↦ other p ((Contains-filter (λ (z : Part). not (hangs q known F z)) later.parts p).0 o) v n
+        ];
       }
+        where
+          own : (v : ℕ) → Contains context v → Contains known v × (v < 192)
+          own v n = ((context-from q F lF known kids v n).0, ascending-small (within (variables_of q F ++ flat_map (λ (p : Part). p.columns) kids) known) v n)
+
+          other : (p : Part) → Contains later.parts p × (not (hangs q known F p) ≡ true) → (v : ℕ) → Contains p.columns v → Contains known v × (v < 192)
+          other p r v n = let a = done.over p r.0 v n in (loose-known q F known p r.1 v n a.0, a.1)
 
   pub made-named : (plan : List ℕ) → ((G : ℕ) → Contains plan G → G < length q.atoms) → (number : ℕ) (known : List ℕ) (bounds : List Bound) (before : List Step) → ((b : Bound) → Contains bounds b → IsBoundNamed q before b) →
-      AreNamedSteps q [] before → ((t : Step) → Contains before t → t.level < number) → IsMadeNamed number before (made_of q number known bounds before plan)
+      AreNamedSteps q [] before → ((t : Step) → Contains before t → t.level < number) → IsMadeNamed number known before (made_of q number known bounds before plan)
   made-named [] there number known bounds before bound first early = record {
     named = first;
     grows = ([], sym (append-nil before));
@@ -210,6 +216,7 @@ module _ (q : Query) where
     at = λ p m. absurd (mem-nil p m);
     late = λ p m. absurd (mem-nil p m);
     apart = tt;
+    over = λ p m. absurd (mem-nil p m);
   }
   made-named (F ∷ plan) there number known bounds before bound first early =
       let lF : F < length q.atoms = there F (mem-head F plan) in
@@ -238,7 +245,7 @@ sql_is_named q (F ∷ plan) is_plan = record {
     made : Made
     made = made_of q 1 (answer_variables q) [] [] (F ∷ plan)
 
-    h : IsMadeNamed q 1 [] made
+    h : IsMadeNamed q 1 (answer_variables q) [] made
     h = made-named q (F ∷ plan) (plan-atoms q (F ∷ plan) (plan-eliminates q (whole q) (F ∷ plan) is_plan)) 1 (answer_variables q) [] [] (λ b m. absurd (mem-nil b m)) tt (λ t m. absurd (mem-nil t m))
 
     children : List Child

@@ -23,14 +23,15 @@ use Rattle.sql_steps.specs.declared.fitting.Known.{Known}
 use Rattle.plan_sql.specs.declared.bounds.Bound.{Bound}
 use Rattle.sql_steps.specs.declared.part.Part.{Part}
 use Rattle.sql_steps.specs.Variables.{has, covers, within, without, all_below, ascending, variables_of, key_variables}
-use Rattle.sql_steps.specs.Steps.{cell, cell_of, held, member, cells_at, keyed, fitted, part_source, children_of, known_of, on_of, rows_of_atom, group_of, block_group, context_group, are_single}
+use Rattle.sql_steps.specs.Steps.{cell, cell_of, cells_of, held, member, cells_at, keyed, fitted, part_source, children_of, known_of, on_of, rows_of_atom, group_of, block_group, context_group, are_single}
 use Rattle.plan_sql.specs.Statement.{context_of, block_of, step, guard_for, is_joined, first_of, completes, far_columns, rows_part, two_steps, far_steps, near_steps, looked_steps, context_steps, by_block, block_steps, behind_steps, level_steps, keys_in, rare_only, has_few, few_step}
 use Rattle.sql_steps.proofs.Membership.{ascending-from, without-from, columns-from, columns-into}
-use Rattle.sql_steps.proofs.Seeing.{held-at}
+use Rattle.sql_steps.proofs.Seeing.{IsKnown, held-at}
+use Rattle.sql_steps.proofs.Telling.{fitted-below, told-of}
 use Rattle.sql_steps.proofs.Atoms.{key-width, keys-within, keys-into}
 use Rattle.sql_steps.proofs.Rows.{row-known}
 use Rattle.sql_steps.proofs.Suiting.{variable}
-use Rattle.plan_sql.proofs.Contexts.{IsOf, context-from, end-known, block-key}
+use Rattle.plan_sql.proofs.Contexts.{IsOf, AreAmong, context-from, context-into, end-known, block-key}
 use Rattle.plan_sql.proofs.Asking.{guard_for-in}
 use Rattle.plan_sql.proofs.Steps.{first-in}
 use Rattle.plan_sql.proofs.Pairs.{columns-of, of-part, of-two}
@@ -230,16 +231,24 @@ module _ (q : Query) where
     pub block-named : AreLinked → AreOnes → IsNamedGroup q before (block_group q F only parts (context_of q known F parts))
     block-named linked ones = group-named linked ones [] [] (cells_at 0 (atom_key q F)) only (some-cells 0 (atom_key q F) (q.kept.each F lF).some_key) (λ k m. absurd (mem-nil k m)) (cells-of [] 0 (atom_key q F) (λ i m. own [] i (key-width q F lF i m))) (within-of []) (sources-named 1 (fitted q F []).known)
 
-    -- so are the contexts of blocks: no source has the alias of their sizes
-    pub by-block-named : AreLinked → AreOnes → (a : Bool) → IsNamedBody q before (by_block a (block_group q F only parts (context_of q known F parts)))
-    by-block-named linked ones true = block-named linked ones
-    by-block-named linked ones false = (
+    -- so are the contexts of blocks: no source has the alias of their sizes, and each column of a part is shown or compared
+    pub by-block-named : AreLinked → AreAmong (known ++ variables_of q F) parts → AreOnes → (a : Bool) → IsNamedBody q before (by_block a (block_group q F only parts (context_of q known F parts)))
+    by-block-named linked among ones true = block-named linked ones
+    by-block-named linked among ones false = (
       block-named linked ones,
       subst (λ z. AreCountable (member F ∷ z)) (sym (sources-of q before parts 1 (fitted q F []).known)) (λ l m. elim (mem-cases l (member F) (map (λ (p : Part). part_source p) parts) m) [
         | inl e ↦ (λ f. let g : Member ≡ Context = ap (λ (z : Listed). z.alias) e ∙ f in absurd (cc g))
         | inr n ↦ (λ f. let r = Contains-from_map (λ (p : Part). part_source p) parts l n in let g : Held r.0.number ≡ Context = ap (λ (z : Listed). z.alias) r.2 ∙ f in absurd (cc g))
       ]),
+      told-of q before (cells_of (known_of 1 parts (fitted q F []).known) (context_of q known F parts)) parts 1 (fitted q F []).known (fitted-below q F [] 1 (omega arith) (λ k m. absurd (mem-nil k m))) at shown,
     )
+      where
+        shown : (p : Part) → Contains parts p → (v : ℕ) → Contains p.columns v →
+            IsKnown (fitted q F []).known v ⊎ Contains (cells_of (known_of 1 parts (fitted q F []).known) (context_of q known F parts)) (cell_of (known_of 1 parts (fitted q F []).known) v)
+        shown p m v n = elim (Contains-append_cases known (variables_of q F) v (among p m v n).0) [
+          | inl k ↦ inr (Contains-map (λ u. cell_of (known_of 1 parts (fitted q F []).known) u) (context_of q known F parts) v (context-into q F lF known parts (λ o l u i. (among o l u i).1) v k (inr (p, m, n))))
+          | inr k ↦ inl (row-known q F lF [] v k)
+        ]
 
     -- the key has some variable, so a block has
     some-block : 1 ≤ length (all_below (length (block_of q F (context_of q known F parts))))
@@ -293,7 +302,7 @@ module _ (q : Query) where
   -- the steps, where no step has the atom's number but the one that asks for its keys
   module _ (before : List Step) (F : ℕ) (lF : F < length q.atoms) (known : List ℕ) (parts : List Part) (at : AreAt q before parts) (numbers : AreDifferent (map (λ (p : Part). p.number) parts)) (only : List Within) (looked : AreOnly before F only) where
     module _ (number : ℕ) (first : AreNamedSteps q [] before) (fresh : (t : Step) → Contains before t → t.level ≡ number → t.kind ≡ Asked)
-        (linked : AreLinked before F lF known parts (there-at before parts at) numbers only looked) (bounds : List Bound) (bound : (b : Bound) → Contains bounds b → IsBoundNamed before b) where
+        (linked : AreLinked before F lF known parts (there-at before parts at) numbers only looked) (among : AreAmong (known ++ variables_of q F) parts) (bounds : List Bound) (bound : (b : Bound) → Contains bounds b → IsBoundNamed before b) where
       abbrev context : List ℕ
       context = context_of q known F parts
 
@@ -531,7 +540,7 @@ module _ (q : Query) where
             few-step,
             record {
               fresh = λ t m h. later-fresh few t refl m h;
-              body = by-block-named (before ++ few ∷ []) F lF known parts (there-at (before ++ few ∷ []) parts (at-more before (few ∷ []) parts at)) numbers (keys_in q F (length before) keys) each-looked linked (ones-at (before ++ few ∷ []) parts (at-more before (few ∷ []) parts at)) a;
+              body = by-block-named (before ++ few ∷ []) F lF known parts (there-at (before ++ few ∷ []) parts (at-more before (few ∷ []) parts at)) numbers (keys_in q F (length before) keys) each-looked linked among (ones-at (before ++ few ∷ []) parts (at-more before (few ∷ []) parts at)) a;
               long = long a (keys_in q F (length before) keys);
               apart = context-apart;
             },
@@ -540,7 +549,7 @@ module _ (q : Query) where
           go : (f : Bool) → IsLevelNamed (before ++ cond f (few ∷ each_few ∷ []) (step Holds number context (by_block a (block_group q F only parts context)) ∷ []))
           go true = two-levels few each_few few-each refl refl refl refl refl
           go false = one-level (step Holds number context (by_block a (block_group q F only parts context)))
-              (record { fresh = holds-fresh; body = by-block-named before F lF known parts (there-at before parts at) numbers only looked linked (ones-at before parts at) a; long = long a only; apart = context-apart }) refl refl refl
+              (record { fresh = holds-fresh; body = by-block-named before F lF known parts (there-at before parts at) numbers only looked linked among (ones-at before parts at) a; long = long a only; apart = context-apart }) refl refl refl
 
       behind-named : (found : Option (List Step)) → AreLookedNamed found → IsLevelNamed (before ++ behind_steps q number F context only bounds parts (length before) found)
       behind-named None h = blocks-named false

@@ -1,8 +1,7 @@
 -- The steps of a plan have the contexts for which the plan holds, by induction on the plan.
-use Rattle.std.proofs.Common.{◌≡◌, ℕ, suc, ◌<◌, ◌-◌, ◌⊎◌, inl, inr, Bool, true, false, not, ◌||◌, List, [], ◌∷◌, ◌++◌, length, map, refl, ap, sym, ◌∙◌, subst, arith, Contains}
+use Rattle.std.proofs.Common.{◌≡◌, ℕ, suc, ◌<◌, ◌-◌, ◌⊎◌, inl, inr, Bool, true, false, not, ◌||◌, List, [], ◌∷◌, ◌++◌, length, map, refl, ap, sym, subst, arith, Contains}
 use Rattle.std.specs.List.{filter, list_any}
-use Rattle.std.proofs.lemmas.Bool.{false≢true}
-use Rattle.std.proofs.lemmas.List.Elements.{Contains-append_left, Contains-append_right, Contains-append_cases}
+use Rattle.std.proofs.lemmas.List.Elements.{Contains-append_left, Contains-append_right}
 use Rattle.cqa_value.specs.declared.value.Value.{Value}
 use Rattle.cqa_value.proofs.Words.{Contains-filter, map_alike}
 use Rattle.cqa_model.specs.declared.query.Query.{Query}
@@ -15,29 +14,17 @@ use Rattle.sql_text.specs.declared.syntax.Within.{Within}
 use Rattle.sql_text.specs.Meaning.{AreWithin}
 use Rattle.plan_sql.specs.declared.bounds.Bound.{Bound}
 use Rattle.sql_steps.specs.declared.part.Part.{Part}
-use Rattle.sql_steps.specs.Variables.{has, meets, without, variables_of, key_variables}
+use Rattle.sql_steps.specs.Variables.{variables_of, key_variables}
 use Rattle.sql_steps.specs.Steps.{are_single, hangs}
 use Rattle.plan_sql.specs.Statement.{context_of, level_steps, bound_of, bound_for, asked_steps, only_of, Made, with_level, made_of, is_value_test}
-use Rattle.sql_steps.proofs.Membership.{dec_has, has-into, without-into}
 use Rattle.plan_sql.proofs.Rel.{Rel, Stays, stays-self, stays-trans}
 use Rattle.sql_steps.proofs.Suiting.{Suits}
 use Rattle.sql_steps.proofs.Atoms.{keys-within}
 use Rattle.sql_steps.proofs.Joining.{Hold}
 use Rattle.plan_sql.proofs.Holding.{Keeps, Holding}
-use Rattle.plan_sql.proofs.Contexts.{IsOf, context-from, context-into, of-small}
+use Rattle.plan_sql.proofs.Contexts.{IsOf, loose-known, context-from, context-into, of-small}
 use Rattle.plan_sql.proofs.Asking.{IsBound, IsPassed, IsAsked, within-stays, bound-stays, passed-stays, passed-keeps, asked}
 use Rattle.plan_sql.proofs.Made.{IsPart, part-stays, IsLevel, level}
-
-meets-into : (us vs : List ℕ) (u : ℕ) → Contains us u → Contains vs u → meets us vs ≡ true
-meets-into [] vs u m n = absurd (mem-nil u m)
-meets-into (v ∷ us) vs u m n = elim (mem-cases u v us m) [
-  | inl e ↦ ap (λ z. z || meets us vs) (has-into vs v (subst (λ z. Contains vs z) (sym e) n))
-  | inr k ↦ let r : meets us vs ≡ true = meets-into us vs u k n in go (has vs v) r
-]
-  where
-    go : (b : Bool) → meets us vs ≡ true → (b || meets us vs) ≡ true
-    go true r = refl
-    go false r = r
 
 module _ (q : Query) (T : ℕ → List (List Value)) (strict : (F : ℕ) → F < length q.atoms → IsStrict q F → AreConsistent (atom_key q F) (T F)) where
   -- what the steps of a plan have
@@ -111,14 +98,7 @@ module _ (q : Query) (T : ℕ → List (List Value)) (strict : (F : ℕ) → F <
 
       -- what doesn't hang on F has no variable of it that isn't known before
       other-known : (p : Part) → Contains others p → (v : ℕ) → Contains p.columns v → Contains known v
-      other-known p m v n = elim (Contains-append_cases known (variables_of q F) v ((done.each p (other-in p m)).columns v n)) [ inl a ↦ a | inr b ↦ go b (dec_has known v) ]
-        where
-          loose : not (hang p) ≡ true
-          loose = ((Contains-filter (λ (z : Part). not (hangs q known F z)) later.parts p).0 m).1
-
-          go : Contains (variables_of q F) v → Dec (Contains known v) → Contains known v
-          go b (yes a) = a
-          go b (no f) = absurd (false≢true (ap not (sym (meets-into p.columns (without (variables_of q F) known) v n (without-into (variables_of q F) known v b f))) ∙ loose))
+      other-known p m v n = loose-known q F known p ((Contains-filter (λ (z : Part). not (hangs q known F z)) later.parts p).0 m).1 v n ((done.each p (other-in p m)).columns v n)
 
       either : (p : Part) → Contains later.parts p → Contains kids p ⊎ Contains others p
       either p m = go (hang p) refl

@@ -9,10 +9,12 @@ use Rattle.cqa_model.specs.Query.{atom_key, rows_of, FitsDatabase}
 use Rattle.cqa_model.specs.Certain.{IsCertain}
 use Rattle.cqa_model.specs.Plan.{IsPlanOf}
 use Rattle.sql_text.specs.declared.syntax.Body.{Body}
+use Rattle.sql_text.specs.declared.syntax.Body.TheVariants.{Shared}
+use Rattle.sql_text.specs.declared.syntax.Group.{Group}
 use Rattle.sql_text.specs.declared.syntax.Step.{Step}
 use Rattle.sql_text.specs.declared.syntax.Sql.{Sql}
-use Rattle.sql_text.specs.Meaning.{Means, Gives, cell_value, IsChoice, StepHas}
-use Rattle.sql_text.specs.Named.{IsNamed}
+use Rattle.sql_text.specs.Meaning.{Means, Gives, cell_value, IsChoice, Ends, StepHas}
+use Rattle.sql_text.specs.Named.{AreNamedSteps, IsNamedBody, IsNamed}
 use Rattle.plan_sql.specs.Statement.{sql_of}
 
 -- over each database that the query fits, of any size, what a query in SQL means is exactly the certain answer
@@ -63,6 +65,18 @@ IsSpread q F body =
 -- steps before it: its rows are those of the machines together, each once.
 abbrev pub SqlIsSpread : Type 0
 SqlIsSpread = (q : Query) (plan : List ℕ) → IsPlanOf q plan → (s : Step) → Contains (sql_of q plan).steps s → (F : ℕ) × (F < length q.atoms) × IsSpread q F s.body
+
+-- a choice of a group shows each row once: no two of its ends show one
+abbrev pub EndsOnce : (ℕ → List (List Value)) → (ℕ → List Value → Type 0) → Group → Type 0
+EndsOnce tables before group =
+    (w u v : List (List Value)) → IsChoice tables before group.sources group.all group.only w → Ends tables before group.children w u → Ends tables before group.children w v →
+    map (cell_value u) group.cells ≡ map (cell_value v) group.cells → u ≡ v
+
+-- Where groups share rows, over any tables, a choice shows each row once: the names of the query see to it.
+abbrev pub ChoicesEndOnce : Type 0
+ChoicesEndOnce =
+    (q : Query) (before : List Step) (group : Group) → AreNamedSteps q [] before → IsNamedBody q before (Shared group) → (tables : ℕ → List (List Value)) →
+    EndsOnce tables (StepHas tables (λ m x. ⊥) 0 before) group
 
 -- In a list of a group's choices, in which one may stand several times, as many show a row as there are choices just where each
 -- of them shows it.

@@ -143,7 +143,8 @@ abbrev pub far_steps : Query → ℕ → List ℕ → ℕ → Bound → Option B
 far_steps q number vs place near None = None
 far_steps q number vs place near (Some far) = Some (two_steps q number near far vs place)
 
--- the steps that look for these variables from such an atom on, if there is one
+-- the steps that look for these variables in the rows of an atom that has F's key and of one that completes it,
+-- if there are such
 abbrev pub near_steps : Query → ℕ → List Bound → List ℕ → ℕ → Option Bound → Option (List Step)
 near_steps q number bounds vs place None = None
 near_steps q number bounds vs place (Some near) = far_steps q number vs place near (first_of (λ b. completes q near vs b) bounds)

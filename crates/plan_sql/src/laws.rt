@@ -1,6 +1,6 @@
 //! The laws of the query of a plan, over the definitions alone. Each is what its function ensures.
 
-ghost use Rattle.plan_sql.specs.Laws.{CountIsEach, SqlIsExact, SqlIsNamed, SqlIsSpread, SqlIsWide, SqlShowsOnce};
+ghost use Rattle.plan_sql.specs.Laws.{ChoicesEndOnce, CountIsEach, SqlIsExact, SqlIsNamed, SqlIsSpread, SqlIsWide, SqlShowsOnce};
 
 /// What the query of a plan means is exactly the certain answer, over each database that the query fits, of any size.
 pub fn sql_is_exact()
@@ -26,6 +26,11 @@ pub fn sql_shows_once()
 /// has on the machines together.
 pub fn sql_is_spread()
     ensures { SqlIsSpread }
+{}
+
+/// Where the names of a query say what its places mean, a choice of a group shows a row once: so it can be counted.
+pub fn choices_end_once()
+    ensures { ChoicesEndOnce }
 {}
 
 /// As many choices of a group show a row as it has just where each of them shows it.

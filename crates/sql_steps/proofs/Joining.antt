@@ -65,7 +65,7 @@ module _ (place : ℕ) (part : Part) (known : List Known) where
       subst (λ z. IsKnown (see_part place part known).known z) (get_or_default part.columns j 0 v l ∙ e)
       (see_all-new [] part.columns place (all_below (length part.columns)) start j (columns-into (length part.columns) j l))
 
-  part-below : IsBelow place known → IsBelow (suc place) (see_part place part known).known
+  pub part-below : IsBelow place known → IsBelow (suc place) (see_part place part known).known
   part-below h = below-seen (suc place) place (omega arith) part.columns (all_below (length part.columns)) start (λ k m. let l : k.cell.place < place = h k m in omega arith)
 
   none : (w : List (List Value)) → MeetsAll w []

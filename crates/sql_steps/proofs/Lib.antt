@@ -6,3 +6,4 @@ pub mod Atoms
 pub mod Rows
 pub mod Joining
 pub mod Scopes
+pub mod Telling

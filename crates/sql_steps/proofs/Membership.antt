@@ -1,11 +1,11 @@
 -- Lists of variables: what is in them, and the values of their variables.
-use Rattle.std.proofs.Common.{◌≡◌, ℕ, ◌<◌, ◌+◌, inl, inr, Bool, true, false, not, List, [], ◌∷◌, refl, sym, ◌∙◌, subst, arith, Contains}
+use Rattle.std.proofs.Common.{◌≡◌, ℕ, ◌<◌, ◌+◌, ◌||◌, inl, inr, Bool, true, false, not, List, [], ◌∷◌, refl, ap, sym, ◌∙◌, subst, arith, Contains}
 use native.Mathlib.Decide.{ℕ_discrete}
 use Rattle.std.proofs.lemmas.Bool.Decides.{nat_tests}
-use Rattle.std.proofs.lemmas.Bool.{false≢true}
+use Rattle.std.proofs.lemmas.Bool.{false≢true, or_cases}
 use Rattle.cqa_value.proofs.Words.{Contains-range, in_range, Contains-filter}
 use Rattle.cqa_model.proofs.Classic.{mem-head, mem-tail, mem-nil, mem-cases}
-use Rattle.sql_steps.specs.Variables.{has, within, without, all_below, ascending}
+use Rattle.sql_steps.specs.Variables.{has, meets, within, without, all_below, ascending}
 
 pub has-into : (vs : List ℕ) (v : ℕ) → Contains vs v → has vs v ≡ true
 has-into [] v m = absurd (mem-nil v m)
@@ -49,6 +49,25 @@ without-from us vs v m = let r = (Contains-filter (λ u. not (has vs u)) us v).0
     go true e f = false≢true f
     go false e f = false≢true e
 
+-- lists with something in common
+pub meets-into : (us vs : List ℕ) (u : ℕ) → Contains us u → Contains vs u → meets us vs ≡ true
+meets-into [] vs u m n = absurd (mem-nil u m)
+meets-into (v ∷ us) vs u m n = elim (mem-cases u v us m) [
+  | inl e ↦ ap (λ z. z || meets us vs) (has-into vs v (subst (λ z. Contains vs z) (sym e) n))
+  | inr k ↦ let r : meets us vs ≡ true = meets-into us vs u k n in go (has vs v) r
+]
+  where
+    go : (b : Bool) → meets us vs ≡ true → (b || meets us vs) ≡ true
+    go true r = refl
+    go false r = r
+
+pub meets-from : (us vs : List ℕ) → meets us vs ≡ true → (u : ℕ) × Contains us u × Contains vs u
+meets-from [] vs h = absurd (false≢true h)
+meets-from (u ∷ us) vs h = elim (or_cases (has vs u) (meets us vs) h) [
+  | inl a ↦ (u, mem-head u us, has-from vs u a)
+  | inr b ↦ (let r = meets-from us vs b in (r.0, mem-tail r.0 u us r.1, r.2))
+]
+
 pub columns-into : (n i : ℕ) → i < n → Contains (all_below n) i
 unfolding all_below
 columns-into n i l = Contains-range 0 n i (omega arith) (omega arith)
@@ -62,3 +81,6 @@ ascending-into vs v l m = within-into (all_below 192) vs v (columns-into 192 v l
 
 pub ascending-from : (vs : List ℕ) (v : ℕ) → Contains (ascending vs) v → Contains vs v
 ascending-from vs v m = (within-from (all_below 192) vs v m).1
+
+pub ascending-small : (vs : List ℕ) (v : ℕ) → Contains (ascending vs) v → v < 192
+ascending-small vs v m = columns-from 192 v (within-from (all_below 192) vs v m).0

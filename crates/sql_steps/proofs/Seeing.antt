@@ -29,7 +29,7 @@ update-other env v x u f = let e : eqb u v ≡ false = grind (arith, nat_tests) 
 abbrev pub IsKnown : List Known → ℕ → Type 0
 IsKnown known v = (c : Cell) × (find known v ≡ Some c)
 
-none≢some : (c : Cell) → None ≡ Some c → ⊥
+pub none≢some : (c : Cell) → None ≡ Some c → ⊥
 none≢some c e = cc e
 
 pub find-cases : (k : Known) (ks : List Known) (v : ℕ) → ((k.variable ≡ v) × (find (k ∷ ks) v ≡ Some k.cell)) ⊎ ((k.variable ≡ v → ⊥) × (find (k ∷ ks) v ≡ find ks v))
@@ -39,7 +39,7 @@ find-cases k ks v = go (ℕ_discrete k.variable v)
     go (yes e) = let t : eqb k.variable v ≡ true = grind (arith, nat_tests) in inl (e, ap (λ b. cond b (Some k.cell) (find ks v)) t)
     go (no f) = let t : eqb k.variable v ≡ false = grind (arith, nat_tests) in inr (f, ap (λ b. cond b (Some k.cell) (find ks v)) t)
 
-find-append : (ks : List Known) (k : Known) (v : ℕ) (c : Cell) → find ks v ≡ Some c → find (ks ++ k ∷ []) v ≡ Some c
+pub find-append : (ks : List Known) (k : Known) (v : ℕ) (c : Cell) → find ks v ≡ Some c → find (ks ++ k ∷ []) v ≡ Some c
 find-append [] k v c e = absurd (none≢some c e)
 find-append (l ∷ ks) k v c e = elim (find-cases l ks v) [
   | inl p ↦ elim (find-cases l (ks ++ k ∷ []) v) [ inl o ↦ o.1 ∙ sym p.1 ∙ e | inr o ↦ absurd (o.0 p.0) ]

@@ -1,6 +1,7 @@
 -- The names of a query's text say what its places mean: no two steps have one name, no two sources of a step one alias and
--- no two columns of a step one name, a step reads earlier ones alone, and each cell is a column of a source in its scope.
-use Rattle.std.specs.Prelude.{◌≡◌, ◌≢◌, ℕ, ◌<◌, List, [], ◌∷◌, ◌++◌, length, map, Contains, slice_index_or}
+-- no two columns of a step one name, a step reads earlier ones alone, and each cell is a column of a source in its scope. Where
+-- choices are counted, each column of a step below is shown or has to equal one that stands before it.
+use Rattle.std.specs.Prelude.{◌≡◌, ◌≢◌, ◌⊎◌, ℕ, suc, ◌<◌, List, [], ◌∷◌, ◌++◌, length, map, Contains, slice_index_or}
 use Rattle.cqa_model.specs.declared.query.Query.{Query}
 use Rattle.cqa_model.specs.Query.{atom_at}
 use Rattle.sql_text.specs.declared.syntax.Source.{Source}
@@ -92,10 +93,26 @@ pub record IsNamedGroup (q : Query) (before : List Step) (group : Group) : Type 
 abbrev pub AreCountable : List Listed → Type 0
 AreCountable sources = (l : Listed) → Contains sources l → l.alias ≢ Context
 
+-- a cell stands before another: its source does, or it is an earlier column of the same source
+abbrev pub StandsBefore : Cell → Cell → Type 0
+StandsBefore c d = (c.place < d.place) ⊎ ((c.place ≡ d.place) × (c.column < d.column))
+
+-- a cell is one of these, or has to equal a cell that stands before it
+abbrev pub IsDetermined : List Cell → List Cmp → Cell → Type 0
+IsDetermined cells on c = Contains cells c ⊎ ((d : Cell) × StandsBefore d c × Contains on (Same c d))
+
+-- each column of these children, whose places go on from this one, is one of these cells or has to equal a cell that stands
+-- before it: so a choice of the group shows a row with at most one row of each child
+abbrev pub AreDetermined : Query → List Step → List Cell → ℕ → List Child → Type 0
+AreDetermined q before cells place [] = Unit {0}
+AreDetermined q before cells place (c ∷ cs) =
+    ((i : ℕ) → i < width q before c.listed.source → IsDetermined cells c.on (record { place = place; column = i })) × AreDetermined q before cells (suc place) cs
+
 abbrev pub IsNamedBody : Query → List Step → Body → Type 0
 IsNamedBody q before (Distinct select) = IsNamedSelect q before select
 IsNamedBody q before (Grouped group) = IsNamedGroup q before group
-IsNamedBody q before (Shared group) = IsNamedGroup q before group × AreCountable (group.sources ++ map (λ (c : Child). c.listed) group.children)
+IsNamedBody q before (Shared group) =
+    IsNamedGroup q before group × AreCountable (group.sources ++ map (λ (c : Child). c.listed) group.children) × AreDetermined q before group.cells (length group.sources) group.children
 
 -- how many columns a step shows
 abbrev pub shown : Body → ℕ

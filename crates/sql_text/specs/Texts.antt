@@ -196,13 +196,6 @@ one_text Rows (suc n) = []
 one_text Blocks (suc n) = []
 one_text Holds (suc n) = codes ", 1 AS one"
 
--- a select of a step
-unfoldable pub select_text : Names → List Step → StepKind → List ℕ → Select → List ℕ
-select_text names steps kind columns select =
-    codes "SELECT DISTINCT "
-    ++ (columns_text names steps select.sources select.cells columns
-    ++ (one_text kind (length select.cells) ++ rest_text names steps select))
-
 -- the sources of a group, and then its children
 abbrev pub group_sources : Group → List Listed
 group_sources g = g.sources ++ map (λ (c : Child). c.listed) g.children
@@ -298,6 +291,22 @@ having_text names steps sources g cells = if has_fits g || is_there (length cell
 unfoldable pub by_text : Names → List Step → List Listed → List Cell → List ℕ
 by_text names steps sources by = joined (codes ", ") (λ i. cell_text names steps sources (cell_at by i)) (length by)
 
+-- the first words of a select of a step, which has so many cells
+abbrev pub select_word : ℕ → List ℕ
+select_word n = if is_there n then codes "SELECT " else codes "SELECT DISTINCT "
+
+-- each row of a select once: it is grouped by all of its cells; one without cells has `DISTINCT`
+abbrev pub once_text : Names → List Step → List Listed → List Cell → List ℕ
+once_text names steps sources cells = if is_there (length cells) then codes " GROUP BY " ++ by_text names steps sources cells else []
+
+-- a select of a step
+unfoldable pub select_text : Names → List Step → StepKind → List ℕ → Select → List ℕ
+select_text names steps kind columns select =
+    select_word (length select.cells)
+    ++ (columns_text names steps select.sources select.cells columns
+    ++ (one_text kind (length select.cells)
+    ++ (rest_text names steps select ++ once_text names steps select.sources select.cells)))
+
 -- what stands behind the columns of a group
 unfoldable pub group_rest_text : Names → List Step → List Listed → Group → List ℕ
 group_rest_text names steps sources g =
@@ -383,7 +392,7 @@ shared_rest_text names steps sources g =
     ++ counted_text)))))
 
 -- the rows that each choice of a group shows: a row is kept where as many choices show it as the group has. No choice shows a
--- row twice, since a child has each of its rows once, and each of its columns is shown or compared with the choice
+-- row twice, since a child has each of its rows once, and each of its columns is shown or equals one that stands before it
 unfoldable pub shared_text : Names → List Step → StepKind → List ℕ → List Listed → Group → List ℕ
 shared_text names steps kind columns sources g =
     group_word g.by g.cells

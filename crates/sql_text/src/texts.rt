@@ -1,13 +1,13 @@
 //! Appends the text of a query.
 
 ghost use Rattle.std.specs.Prelude.{◌≡◌, ◌++◌, ◌==◌, ◌<◌, if◌then◌else◌, [], OnOk, OnErr, codes};
-ghost use Rattle.sql_text.specs.Texts.{answer_text, answer_columns_text, answers_text, body_text, cell_at, columns_text, last_text, out_text, rest_text, select_text, sql_bytes, step_text, steps_text, step_at};
+ghost use Rattle.sql_text.specs.Texts.{answer_text, answer_columns_text, answers_text, body_text, cell_at, columns_text, last_text, once_text, out_text, rest_text, select_text, select_word, sql_bytes, step_text, steps_text, step_at};
 
 use crate::conditions::{append_cell, append_sources, append_where};
-use crate::groups::append_group;
+use crate::groups::{append_by, append_group};
 use crate::places::{answer_at, append_column_name, cell_at, number_at};
 use crate::shared::append_shared;
-use crate::words::{append, append_step_name, append_variable, one_text, separate};
+use crate::words::{append, append_step_name, append_variable, is_there, one_text, separate};
 use crate::{Body, Cell, Listed, Names, Select, Sql, Step, StepKind};
 use cqa_model::Query;
 use cqa_value::NoMemory;
@@ -69,6 +69,34 @@ pub(crate) fn append_columns(
     Ok(())
 }
 
+/// The first words of a select of a step, which has so many cells.
+fn select_word(count: usize) -> &'static str
+    ensures { result.now ≡ select_word count }
+{
+    if is_there(count) {
+        "SELECT "
+    } else {
+        "SELECT DISTINCT "
+    }
+}
+
+/// Appends that each row of a select stands once.
+fn append_once(
+    names: &Names,
+    steps: &[Step],
+    sources: &[Listed],
+    cells: &[Cell],
+    out: &mut Vec<u8>,
+) -> Result<(), NoMemory>
+    ensures { OnOk result (out.new.items ≡ out.old.items ++ once_text names.now steps.now sources.now cells.now) }
+{
+    if !is_there(cells.len()) {
+        return Ok(());
+    }
+    append(" GROUP BY ", out)?;
+    append_by(names, steps, sources, cells, out)
+}
+
 /// Appends a select of a step.
 #[tactic(auto, unfolding(crate::specs::Texts::select_text))]
 fn append_select(
@@ -81,17 +109,13 @@ fn append_select(
 ) -> Result<(), NoMemory>
     ensures { OnOk result (out.new.items ≡ out.old.items ++ select_text names.now steps.now kind columns.now select.now) }
 {
-    append("SELECT DISTINCT ", out)?;
-    append_columns(
-        names,
-        steps,
-        select.sources.as_slice(),
-        select.cells.as_slice(),
-        columns,
-        out,
-    )?;
-    append(one_text(kind, select.cells.len()), out)?;
-    append_rest(names, steps, select, out)
+    let sources = select.sources.as_slice();
+    let cells = select.cells.as_slice();
+    append(select_word(cells.len()), out)?;
+    append_columns(names, steps, sources, cells, columns, out)?;
+    append(one_text(kind, cells.len()), out)?;
+    append_rest(names, steps, select, out)?;
+    append_once(names, steps, sources, cells, out)
 }
 
 /// Appends what a step has.
