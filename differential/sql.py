@@ -202,11 +202,11 @@ def kinds(query, printed, rows, features):
     counted(features, "rows that groups share", "COUNT(*)" in printed)
     counted(features, "several parts at the top", " CROSS JOIN " in steps[-1].rpartition("\nSELECT ")[2])
     counted(features, "a step with several parts", any(step.count(" LEFT JOIN ") > 1 for step in steps))
-    counted(features, "a strict table without a group", any(' CROSS JOIN "holds ' in step and " GROUP BY " not in step for step in steps[:-1]))
+    counted(features, "a strict table without a group", any(' CROSS JOIN "holds ' in step and "COUNT(*)" not in step for step in steps[:-1]))
     counted(features, "a column off the key that a group shows", " = MAX(" in printed)
     counted(features, "a step without columns", "SELECT 1 AS one" in printed or "SELECT DISTINCT 1 AS one" in printed)
     counted(features, "groups that could have one row", any(step.startswith("  SELECT DISTINCT") and " GROUP BY " in step for step in steps))
-    counted(features, "a group without conditions", any(" GROUP BY " in step and " HAVING " not in step for step in steps))
+    counted(features, "a step that groups without conditions", any(" GROUP BY " in step and " HAVING " not in step for step in steps))
 
 
 # Engines. Each answers the queries that the program printed, over the same tables.
