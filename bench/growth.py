@@ -206,17 +206,25 @@ def random_load_of_two(n):
     return load([(k, k % 7) for k in shuffled(n)])
 
 
-def persons_and_towns(n):
-    """About 1.25 n persons in n blocks, in 100 towns of 150 rows: those who are certainly in a town of zone 1."""
-    persons = sorted([(i, i % 100) for i in range(1, n + 1)] + [(i, 100) for i in range(1, n + 1, 4)])
-    towns = sorted([(c, 1) for c in range(100)] + [(c, 2) for c in range(0, 100, 2)])
-    person, town = tables(["person"], ["id", "city"], "id"), tables(["town"], ["city", "zone"], "city")
+def persons_and_towns(n, more=0):
+    """About 1.25 n persons in n blocks, in 100 towns of 150 rows: those who are certainly in a town of zone 1. Both tables
+    have so many more columns."""
+    others = tuple(range(more))
+    persons = sorted([(i, i % 100) + others for i in range(1, n + 1)] + [(i, 100) + others for i in range(1, n + 1, 4)])
+    towns = sorted([(c, 1) + others for c in range(100)] + [(c, 2) + others for c in range(0, 100, 2)])
+    person = tables(["person"], ["id", "city"] + ["p%d" % place for place in others], "id")
+    town = tables(["town"], ["city", "zone"] + ["t%d" % place for place in others], "city")
     made = join(person, town, inserts("person", persons), inserts("town", towns))
     rewriting = ("select distinct p.id from person p where not exists (select 1 from person q where q.id = p.id and not exists "
                  "(select 1 from town t where t.city = q.city and not exists "
                  "(select 1 from town u where u.city = t.city and u.zone <> 1)));")
     ask = "ask select id from person, town where person.city = town.city and zone = 1;"
     return made[0] + [ask], made[1] + [rewriting]
+
+
+def wide_persons_and_towns(n):
+    """The same in tables of 16 columns."""
+    return persons_and_towns(n, 14)
 
 
 PERSONS = "from person, town where person.city = town.city and zone = 1"
@@ -459,6 +467,7 @@ LOADS = [
     ("a load of one column, random", random_load, 250000),
     ("a load of two columns, random", random_load_of_two, 250000),
     ("certain rows of a join, by a plan", persons_and_towns, 20000),
+    ("certain rows of a join of tables of 16 columns, by a plan", wide_persons_and_towns, 20000),
     ("certain and possible rows of the same join", persons_asked_twice, 20000),
     ("disputed rows of the same join", persons_disputed, 20000),
     ("what stands against one row of the same join", against_one_person, 20000),
