@@ -1,4 +1,4 @@
--- Searches by halving and by doubling steps, over items that a test parts.
+-- Searches by halving, and within a part, over items that a test parts.
 use Rattle.std.proofs.Common.{◌≡◌, ◌+◌, ◌-◌, ◌/◌, ◌<◌, ◌≤◌, ◌^◌, ℕ, suc, zero, length, List, Bool, true, false, sym, subst, ◌∙◌, arith, slice_index_or, take, drop}
 use Rattle.std.proofs.Math.Nat.{pow-suc}
 use Rattle.std.specs.List.{AllWithin}

@@ -12,7 +12,7 @@ use Rattle.cqa_model.specs.Database.{Table, IsTable, names_of, row_total}
 use Rattle.cqa_model.proofs.Places.{key-at, rows-at}
 use Rattle.cqa_value.specs.declared.value.Value.{Value}
 use Rattle.table_blocks.specs.Tables.{AreValidRows, AreValidTables, key_at, rows_at}
-use Rattle.table_blocks.proofs.Changing.{names_set, stored_set, stored_push, total_set}
+use Rattle.table_blocks.proofs.Changing.{rows_within, names_set, stored_set, stored_push, total_set}
 
 lookup_none : {K X : Type 0} (test : K → Bool) (es : List (K × X)) → list_any test (keys_of es) ≡ false → lookup test es ≡ None
 lookup_none test [] h = refl
@@ -78,6 +78,10 @@ named_more es i t w more named here same table valid count room =
 -- what is said of the table that was found is said of the table at the place
 pub at_place : (P : List ℕ → List (List Value) → Type 0) (db : List Table) (i : ℕ) (t : Table) → slice_get db i ≡ Some t → P t.schema.key t.rows → P (key_at db i) (rows_at db i)
 at_place P db i t here p = subst (λ key. P key (rows_at db i)) (sym (key-at db i t here)) (subst (P t.schema.key) (sym (rows-at db i t here)) p)
+
+-- a table that was found has at most as many rows as all may have
+pub found_few : (db : List Table) (i : ℕ) (t : Table) → slice_get db i ≡ Some t → row_total db ≤ 1_000_000 → length t.rows ≤ 1_000_000
+found_few db i t here all = let within = rows_within db i in subst (λ rows. length rows ≤ 1_000_000) (rows-at db i t here) (omega (arith, within, all))
 
 -- what a change gives where no rows clash, or else, told as something weaker
 pub match_weaker : {A : Type 0} (o : Option A) {P Q : Type 0} {R S : Type 0} → (P → Q) → (R → S) → MatchOption o P (λ _. R) → MatchOption o Q (λ _. S)

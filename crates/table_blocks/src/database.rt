@@ -11,7 +11,7 @@ ghost use Rattle.table_blocks.specs.Tables.{table_named, rows_at, key_at, mark_a
 
 use crate::clash::Clash;
 use crate::rows::{Fresh, find_in};
-use crate::span::{rows_with, span_in};
+use crate::span::span_in;
 use crate::steps::Steps;
 use crate::table::Table;
 use crate::test::ColumnTest;
@@ -182,15 +182,16 @@ impl Database {
         rows
     }
 
-    /// The rows of a table whose first key values are a probe's, and the place of the first of them: one search by
-    /// halving, and doubling steps to the last of them. No comparison is counted.
+    /// The rows of a table whose first key values are a probe's, and the place of the first of them: one search by halving,
+    /// unless they stand shortly behind those of the table's last call, and doubling steps to the last of them. No comparison is
+    /// counted.
     pub fn rows_with(&self, table: u32, probe: &Probe<'_>) -> (u32, Rows<'_>)
         requires there { table < length self.now }
         requires few { length probe.now ≤ length (key_at self.now table) }
         ensures span { IsSpan (key_at self.now table) (rows_at self.now table) probe.now result.0 result.1 }
         ensures within { result.0 + length result.1 ≤ MOST_ROWS }
     {
-        let (start, rows) = rows_with(&self.rows(table), self.key(table), probe);
+        let (start, rows) = self.table(table).rows_with(probe);
         (start as u32, rows)
     }
 

@@ -20,8 +20,12 @@ pub fn leading<P: FnMut(&Row) -> bool>(rows: &Rows<'_>, reach: usize, mut passes
     let reach = reach.min(rows.len());
     let mut passed = 0usize;
     let end = loop {
-        let step = if passed == 0 { 0 } else { reach };
-        let next = passed.saturating_mul(2).saturating_add(step);
+        let step = if passed == 0 {
+            0
+        } else {
+            reach.saturating_add(passed - 1)
+        };
+        let next = passed.saturating_add(step);
         if next >= rows.len() {
             break rows.len();
         }
@@ -30,9 +34,7 @@ pub fn leading<P: FnMut(&Row) -> bool>(rows: &Rows<'_>, reach: usize, mut passes
         }
         passed = next + 1;
     };
-    let (_, rest) = rows.split_at(passed);
-    let (tried, _) = rest.split_at(end - passed);
-    passed + tried.partition_point(passes)
+    rows.halve(passed, end, passes)
 }
 
 /// The first value of a row, if there is one and the key begins with the first column.

@@ -1,5 +1,5 @@
 //! The rows with given first key values, which stand together in block order.
-//! `span_in` counts and bounds its comparisons, `rows_with` is the faster one.
+//! `span_in` counts and bounds its comparisons; `rows_near` and `rows_with` are the faster ones.
 ghost use Rattle.std.specs.Prelude.{◌≡◌, ◌+◌, ◌*◌, ◌<◌, ◌≤◌, ◌^◌, ℕ, length, true, false, IfSome, Some, slice_get};
 ghost use Rattle.std.specs.List.Sorted.{IsStrictlySortedBy, IsPartitionedBy, IsPartitionPoint};
 ghost use Rattle.cqa_model.specs.Database.{block_cmp};
@@ -94,13 +94,17 @@ fn second_probed<'a>(key: &[u32], probe: &Probe<'a>) -> Option<&'a Value>
     }
 }
 
-/// The same rows and the same number, by one search, which marks narrow where they tell, and by doubling steps to their end.
-pub fn rows_with<'a>(rows: &Rows<'a>, key: &[u32], probe: &Probe<'_>) -> (usize, Rows<'a>)
+/// At most so many rows from a finger on are tried, one after another.
+const TRIED: usize = 4;
+
+/// How many rows come before those that are looked for, by one search, which marks narrow where they tell.
+fn start_of(rows: &Rows<'_>, key: &[u32], probe: &Probe<'_>) -> usize
     requires few { length probe.now ≤ length key.now }
-    requires in_order { IsStrictlySortedBy (block_cmp key.now) rows.now }
-    ensures { IsSpan key.now rows.now probe.now result.0 result.1 }
+    requires parted { IsPartitionedBy (λ row. comes_before false (probe_cmp key.now probe.now row)) rows.now }
+    ensures within { result ≤ length rows.now }
+    ensures place { IsPartitionPoint (λ row. comes_before false (probe_cmp key.now probe.now row) ≡ true) (λ row. comes_before false (probe_cmp key.now probe.now row) ≡ false) rows.now result }
 {
-    let start = parted(
+    parted(
         rows,
         first_probed(key, probe),
         second_probed(key, probe),
@@ -108,8 +112,39 @@ pub fn rows_with<'a>(rows: &Rows<'a>, key: &[u32], probe: &Probe<'_>) -> (usize,
             requires { length probe.now ≤ length key.now }
             ensures { result ≡ comes_before false (probe_cmp key.entry.now probe.entry.now row.now) }
         { is_before(false, compare_key(key, probe, row)) },
-    );
-    let (_, rest) = rows.split_at(start);
+    )
+}
+
+/// How many rows come before those that are looked for, where the first of these stands shortly behind a finger and the row at the
+/// finger comes before them. Nothing is promised of a `None`.
+fn start_near(rows: &Rows<'_>, key: &[u32], probe: &Probe<'_>, finger: usize) -> Option<usize>
+    requires few { length probe.now ≤ length key.now }
+    requires parted { IsPartitionedBy (λ row. comes_before false (probe_cmp key.now probe.now row)) rows.now }
+    ensures within { IfSome result (λ start. start ≤ length rows.now) }
+    ensures place { IfSome result (IsPartitionPoint (λ row. comes_before false (probe_cmp key.now probe.now row) ≡ true) (λ row. comes_before false (probe_cmp key.now probe.now row) ≡ false) rows.now) }
+{
+    if finger >= rows.len() {
+        return None;
+    }
+    let near = rows.behind(finger);
+    for at in 0..near.len().min(TRIED) {
+        if !is_before(false, compare_key(key, probe, near.get(at))) {
+            return if at > 0 { Some(finger + at) } else { None };
+        }
+    }
+    None
+}
+
+/// The rows whose first key values are a probe's, and how many rows come before them, where that number is known: by doubling
+/// steps to their end.
+fn span_from<'a>(rows: &Rows<'a>, key: &[u32], probe: &Probe<'_>, start: usize) -> (usize, Rows<'a>)
+    requires few { length probe.now ≤ length key.now }
+    requires in_order { IsStrictlySortedBy (block_cmp key.now) rows.now }
+    requires within { start ≤ length rows.now }
+    requires place { IsPartitionPoint (λ row. comes_before false (probe_cmp key.now probe.now row) ≡ true) (λ row. comes_before false (probe_cmp key.now probe.now row) ≡ false) rows.now start }
+    ensures { IsSpan key.now rows.now probe.now result.0 result.1 }
+{
+    let rest = rows.behind(start);
     let count = leading(
         &rest,
         0,
@@ -118,6 +153,33 @@ pub fn rows_with<'a>(rows: &Rows<'a>, key: &[u32], probe: &Probe<'_>) -> (usize,
             ensures { result ≡ comes_before true (probe_cmp key.entry.now probe.entry.now row.now) }
         { is_before(true, compare_key(key, probe, row)) },
     );
-    let (span, _) = rest.split_at(count);
-    (start, span)
+    (start, rest.first(count))
+}
+
+/// The rows whose first key values are a probe's, and how many rows come before them. Rows near a finger are tried first, since
+/// rows that are asked for one after another often stand near each other (Guibas, McCreight, Plass, Roberts 1977).
+pub fn rows_near<'a>(
+    rows: &Rows<'a>,
+    key: &[u32],
+    probe: &Probe<'_>,
+    finger: usize,
+) -> (usize, Rows<'a>)
+    requires few { length probe.now ≤ length key.now }
+    requires in_order { IsStrictlySortedBy (block_cmp key.now) rows.now }
+    ensures { IsSpan key.now rows.now probe.now result.0 result.1 }
+{
+    let start = match start_near(rows, key, probe, finger) {
+        Some(start) => start,
+        None => start_of(rows, key, probe),
+    };
+    span_from(rows, key, probe, start)
+}
+
+/// The same without a finger.
+pub fn rows_with<'a>(rows: &Rows<'a>, key: &[u32], probe: &Probe<'_>) -> (usize, Rows<'a>)
+    requires few { length probe.now ≤ length key.now }
+    requires in_order { IsStrictlySortedBy (block_cmp key.now) rows.now }
+    ensures { IsSpan key.now rows.now probe.now result.0 result.1 }
+{
+    span_from(rows, key, probe, start_of(rows, key, probe))
 }

@@ -5,16 +5,20 @@ ghost use Rattle.std.specs.List.Sorted.{IsStrictlySortedBy};
 ghost use Rattle.cqa_value.specs.declared.value.Value.{Value};
 ghost use Rattle.cqa_model.specs.Database.{AreConsistent, IsTable, IsRowOf, block_cmp};
 ghost use Rattle.row_order.specs.Ordered.{block_order};
+ghost use Rattle.row_order.specs.Spans.{IsSpan};
 ghost use Rattle.table_blocks.specs.Keys.{IsKey, first_clash};
 ghost use Rattle.table_blocks.specs.Tables.{AreMergeable, AreValidRows, IsMerged, IsSpared, IsRekeyed, IsToldStretch};
 
 use crate::clash::{Clash, clash_of};
 use crate::rows::{Fresh, put_in_order_of, remove, told_places};
+use crate::span::rows_near;
 use crate::test::ColumnTest;
 use cqa_model::Schema;
 use cqa_value::{Items, NoMemory};
+use row_order::Probe;
 use row_pieces::{Pieces, Rows};
 use std::alloc::Global;
+use std::cell::Cell;
 use std::marker::Model;
 use std::mem::replace;
 
@@ -22,11 +26,17 @@ use std::mem::replace;
 pub struct Table {
     schema: Schema,
     rows: Pieces,
+    /// Where the next look-up by key begins: the place before the first row that the last one found. Nothing rests on it.
+    finger: Cell<usize>,
 }
 
 impl Drop for Table {
     fn drop(self) {
-        let Table { schema: _, rows: _ } = self;
+        let Table {
+            schema: _,
+            rows: _,
+            finger: _,
+        } = self;
     }
 }
 
@@ -55,6 +65,7 @@ impl Table {
         Table {
             schema,
             rows: Pieces::new(alloc),
+            finger: Cell::new(0),
         }
     }
 
@@ -87,6 +98,17 @@ impl Table {
         ensures valid { AreValidRows self.now.rows }
     {
         self.rows.rows()
+    }
+
+    /// The rows whose first key values are a probe's, and how many come before them.
+    pub fn rows_with(&self, probe: &Probe<'_>) -> (usize, Rows<'_>)
+        requires { length probe.now ≤ length self.now.schema.key }
+        ensures { IsSpan self.now.schema.key self.now.rows probe.now result.0 result.1 }
+    {
+        let key = key_places(&self.schema);
+        let (start, rows) = rows_near(&self.rows.rows(), key, probe, self.finger.get());
+        self.finger.set(start.saturating_sub(1));
+        (start, rows)
     }
 
     /// Puts in sorted rows that aren't there yet.

@@ -21,6 +21,7 @@ pub struct ColumnTest {
 }
 
 /// Whether a row passes all tests.
+#[inline(always)]
 pub fn passes_all(row: &Row, tests: &[ColumnTest]) -> bool
     ensures { IsTrue result ↔ TestsHold tests.now row.now }
 {

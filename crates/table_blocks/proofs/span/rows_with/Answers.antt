@@ -1,23 +1,6 @@
-use Rattle.std.proofs.Common.{◌≡◌, ◌≤◌, length, sym, ap, subst, ◌∙◌, false, true, drop, take, rules}
-use Rattle.std.specs.List.Sorted.{IsPartitionedBy, IsPartitionPoint}
-use Rattle.std.proofs.lemmas.Fn.{always_returns_same}
-use Rattle.row_order.specs.Spans.{probe_cmp, comes_before, IsSpan}
-use Rattle.table_blocks.proofs.Following.{followed_probe}
-use Rattle.table_blocks.proofs.Spanning.{parted, span-is, sorted-drop}
+use Rattle.std.proofs.Common.{false}
+use Rattle.table_blocks.proofs.Spanning.{parted}
 use Rattle.table_blocks.proofs.span.rows_with.Goals as goal
 
-pub returns : goal.returns
-returns c =
-    let key = c.args.key.now in
-    let rows = c.args.rows.now in
-    let probe = c.args.probe.now in
-    let start = c.parted-start.result in
-    let count = c.leading-count.result in
-    let rest = c.split_at-rest.ensures.rest in
-    let span : c.split_at-span.result.0 ≡ take count (drop start rows) = c.split_at-span.ensures.front ∙ ap (take count) rest in
-    subst (λ rows'. IsSpan key rows probe start rows') (sym span)
-    (span-is key rows probe start count c.parted-start.ensures.within (subst (λ xs. count ≤ length xs) rest c.leading-count.ensures.within)
-    (c.parted-start.ensures.partitioned (λ row. comes_before false (probe_cmp key probe row)) (always_returns_same _ _ _ (λ a r f k. search rules)) (followed_probe c.first_probed.result c.second_probed.result false key probe c.first_probed.ensures c.second_probed.ensures) (parted key rows probe c.requires.in_order false))
-    (subst (λ xs. IsPartitionedBy (λ row. comes_before true (probe_cmp key probe row)) xs → IsPartitionPoint (λ row. comes_before true (probe_cmp key probe row) ≡ true) (λ row. comes_before true (probe_cmp key probe row) ≡ false) xs count) rest
-    (c.leading-count.ensures.partitioned (λ row. comes_before true (probe_cmp key probe row)) (always_returns_same _ _ _ (λ a r f k. search rules)))
-    (parted key (drop start rows) probe (sorted-drop key rows start c.requires.in_order) true)))
+pub start_of-requires-clause-parted : goal.start_of-requires-clause-parted
+start_of-requires-clause-parted c = parted c.args.key.now c.args.rows.now c.args.probe.now c.requires.in_order false
