@@ -14,7 +14,7 @@ use Rattle.cqa_model.specs.Database.{row_total}
 use Rattle.case_maker.specs.Scripts.{script_bytes}
 use Rattle.command_shell.specs.declared.tally.Tally.{Tally}
 use Rattle.cqa_session.specs.Runs.{has_refusal}
-use Rattle.going_on_law.specs.Runs.{GoesOnFrom}
+use Rattle.command_shell.specs.Runs.{GoesOnFrom}
 use Rattle.command_shell.specs.Demo.{line_text, AnswersAll, BreaksOffIn, StopsIn}
 use Rattle.command_shell.specs.Parts.{ending_of, WriteRow}
 use Rattle.command_shell.proofs.Tallied.{some_refused, at_its_end}

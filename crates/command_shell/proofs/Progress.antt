@@ -18,7 +18,7 @@ use Rattle.command_shell.specs.declared.ending.Stop.TheVariants as stops
 use Rattle.cqa_session.specs.State.{State}
 use Rattle.cqa_session.specs.Machine.{Step}
 use Rattle.cqa_session.specs.Runs.{Run, RunsOver, Closes, CutShort, ReachesLast, text_of, has_refusal}
-use Rattle.going_on_law.specs.Runs.{BeginsRun}
+use Rattle.command_shell.specs.Runs.{BeginsRun}
 use Rattle.command_shell.specs.Parts.{AnswerRow, ReplyRow, CloseRow, ProgressRow}
 use Rattle.command_shell.specs.Taking.{TakesReplies, HandsAnswers}
 

@@ -13,7 +13,7 @@ use Rattle.cqa_session.specs.State.{State}
 use Rattle.cqa_session.specs.Runs.{Answers, CutShort}
 use Rattle.reply_text.specs.declared.reply.Reply.{Reply}
 use Rattle.command_shell.specs.Taking.{HandsAnswers, HandsOn}
-use Rattle.going_on_law.specs.Runs.{GoesOnFrom}
+use Rattle.command_shell.specs.Runs.{GoesOnFrom}
 use Rattle.command_shell.specs.Top.{Call, Outside, BreaksOff, limit, told}
 use Rattle.command_shell.specs.Parts.{ProgressRow, ending_of, ending_with}
 use Rattle.command_shell.proofs.Progress.{nothing_answered, nothing_written, nothing_begun}

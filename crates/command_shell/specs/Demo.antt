@@ -13,7 +13,7 @@ use Rattle.reply_text.specs.Texts.{is_refusal}
 use Rattle.command_shell.specs.declared.tally.Tally.{Tally}
 use Rattle.cqa_session.specs.State.{State}
 use Rattle.cqa_session.specs.Runs.{Run, RunsOver, has_refusal}
-use Rattle.going_on_law.specs.Runs.{RunsOn}
+use Rattle.command_shell.specs.Runs.{RunsOn}
 
 -- a size is written by at most six digits, and is from one to the greatest size of a script
 pub record IsSize (digits : List ℕ) (size : ℕ) : Type 0 where

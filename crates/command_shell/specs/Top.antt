@@ -12,7 +12,7 @@ use Rattle.cqa_session.specs.State.{State}
 use Rattle.cqa_model.specs.declared.limits.TheConstants.{LONGEST_INPUT}
 use Rattle.case_maker.specs.Scripts.{script_bytes}
 use Rattle.cqa_session.specs.Runs.{Answers, CutShort}
-use Rattle.going_on_law.specs.Runs.{BeginsRun}
+use Rattle.command_shell.specs.Runs.{BeginsRun}
 use Rattle.command_shell.specs.Demo.{IsSize, IsDemo, BeginsDemo, BreaksOffIn}
 
 -- the most bytes of input that a call answers

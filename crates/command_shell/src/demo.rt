@@ -11,7 +11,7 @@ ghost use Rattle.command_shell.specs.Tallying.{InputRow, LineRow};
 ghost use Rattle.cqa_model.specs.declared.limits.TheConstants.{LONGEST_INPUT};
 
 use crate::ending::{Ending, Stop};
-use crate::going_on::goes_on;
+use crate::laws::goes_on;
 use crate::pieces::run;
 use crate::tally::Tally;
 use case_maker::{GREATEST_SIZE, script_of};

@@ -1,11 +1,13 @@
-//! The program itself: the top call, from words and bytes to a status, over a session of the machine.
+//! The program itself: the top call, from words and bytes to a status, over a session of the machine. Beside it stand the laws that the
+//! machine always goes on, so that what was written where a run was cut short begins the text of a whole one.
 #![tactic(auto)]
 
 mod answers;
+pub mod changing;
 mod demo;
 mod ending;
-mod going_on;
 mod input;
+pub mod laws;
 mod pieces;
 mod taker;
 mod tally;

@@ -1,15 +1,15 @@
 //! The loop of `run` and `demo`: each statement is answered as soon as its bytes have come.
 
 ghost use Rattle.std.specs.Prelude.{◌≡◌, ◌≤◌, ◌<◌, [], length};
-ghost use Rattle.going_on_law.specs.Runs.{GoesOnFrom};
+ghost use Rattle.command_shell.specs.Runs.{GoesOnFrom};
 ghost use Rattle.command_shell.specs.Top.{told};
 ghost use Rattle.command_shell.specs.Taking.{HandsOn};
 ghost use Rattle.command_shell.specs.Parts.{ending_with};
 
 use crate::answers::{answer_held, answer_piece};
 use crate::ending::{Ending, Stop};
-use crate::going_on::goes_on;
 use crate::input::{PIECE, read_piece, zeros};
+use crate::laws::goes_on;
 use crate::taker::Taker;
 use cqa_io::{Failed, Source};
 use cqa_model::LONGEST_INPUT;

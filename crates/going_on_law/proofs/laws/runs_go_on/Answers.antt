@@ -1,5 +1,0 @@
-use Rattle.going_on_law.proofs.Running.{runs_go_on}
-use Rattle.going_on_law.proofs.laws.runs_go_on.Goals as goal
-
-pub returns : goal.returns
-returns c = runs_go_on c.steps_go_on.ensures

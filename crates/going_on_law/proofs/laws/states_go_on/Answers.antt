@@ -1,5 +1,0 @@
-use Rattle.going_on_law.proofs.Written.{states_go_on}
-use Rattle.going_on_law.proofs.laws.states_go_on.Goals as goal
-
-pub returns : goal.returns
-returns c = states_go_on c.runs_go_on.ensures c.inputs_are_cut.ensures
