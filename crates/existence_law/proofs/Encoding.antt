@@ -50,6 +50,28 @@ variable_exact x y e =
     let p : x.place ≡ y.place = from_equal x.place y.place h.1 in
     λ i. record { slot = a i; place = p i }
 
+-- where each variable has one list of numbers, those of some variables are lists in order, each once
+module _ (Is : Variable → List ℕ → Type 0) (one : (x : Variable) (a b : List ℕ) → Is x a → Is x b → a ≡ b) (found : (x : Variable) → (numbers : List ℕ) × Is x numbers) (xs : List Variable) where
+  numbers_of : Variable → List ℕ
+  numbers_of x = (found x).0
+
+  are_numbers : (x : Variable) → Is x (numbers_of x)
+  unfolding numbers_of
+  are_numbers x = (found x).1
+
+  pub all_numbers : (lists : List (List ℕ)) × AreAllLists (λ numbers. (x : Variable) × Contains xs x × Is x numbers) lists
+  all_numbers = (
+    sorted (slice_cmp nat_cmp) nat_list_cmp_total (map numbers_of xs),
+    record {
+      in_order = in_order (slice_cmp nat_cmp) nat_list_cmp_total (map numbers_of xs);
+      exactly = λ numbers.
+          let same = members (slice_cmp nat_cmp) nat_list_cmp_total (map numbers_of xs) (λ a b m n e. numbers_exact a b e) numbers in (
+            λ m. (let p = Contains-from_map numbers_of xs numbers (same.0 m) in (p.0, p.1, subst (Is p.0) p.2 (are_numbers p.0))),
+            λ h. same.1 (subst (Contains (map numbers_of xs)) (one h.0 (numbers_of h.0) numbers (are_numbers h.0) h.2) (Contains-map numbers_of xs h.0 h.1)),
+          );
+    },
+  )
+
 module _ (db : List Table) (q : Query) (row : List Value) where
   -- ---- the variables
 
@@ -85,25 +107,8 @@ module _ (db : List Table) (q : Query) (row : List Value) where
     one_block : (x : Variable) (a b : List ℕ) → IsBlockOfVariable q db xs x a → IsBlockOfVariable q db xs x b → a ≡ b
     one_block x a b h k = one_sorted nat_cmp nat_cmp_total a b h.rises k.rises (λ n m. (k.exactly n).1 ((h.exactly n).0 m)) (λ n m. (h.exactly n).1 ((k.exactly n).0 m))
 
-    numbers_of : Variable → List ℕ
-    numbers_of x = (block_numbers q db xs x).0
-
-    are_numbers : (x : Variable) → IsBlockOfVariable q db xs x (numbers_of x)
-    unfolding numbers_of
-    are_numbers x = (block_numbers q db xs x).1
-
     block_lists : (lists : List (List ℕ)) × AreAllLists (AreBlockNumbers q db xs) lists
-    block_lists = (
-      sorted (slice_cmp nat_cmp) nat_list_cmp_total (map numbers_of xs),
-      record {
-        in_order = in_order (slice_cmp nat_cmp) nat_list_cmp_total (map numbers_of xs);
-        exactly = λ numbers.
-            let same = members (slice_cmp nat_cmp) nat_list_cmp_total (map numbers_of xs) (λ a b m n e. numbers_exact a b e) numbers in (
-              λ m. (let p = Contains-from_map numbers_of xs numbers (same.0 m) in (p.0, p.1, subst (IsBlockOfVariable q db xs p.0) p.2 (are_numbers p.0))),
-              λ h. same.1 (subst (Contains (map numbers_of xs)) (one_block h.0 (numbers_of h.0) numbers (are_numbers h.0) h.2) (Contains-map numbers_of xs h.0 h.1)),
-            );
-      },
-    )
+    block_lists = all_numbers (IsBlockOfVariable q db xs) one_block (block_numbers q db xs) xs
 
     -- ---- the numbers of witnesses
 

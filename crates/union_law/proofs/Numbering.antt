@@ -1,21 +1,19 @@
 -- The formula of lists over tables: its variables, its blocks and the numbers of its lists are lists, since what is in them is decided.
-use Rattle.std.proofs.Common.{◌≡◌, ◌↔◌, ◌<◌, ◌≤◌, ◌+◌, ℕ, List, length, map, flat_map, subst, arith, Contains}
+use Rattle.std.proofs.Common.{◌≡◌, ◌↔◌, ◌<◌, ◌≤◌, ◌+◌, ℕ, List, length, map, flat_map, arith, Contains}
 use Rattle.std.specs.List.{AllZip, range_with_len}
 use Rattle.std.specs.List.Sorted.{IsStrictlySortedBy}
 use Rattle.std.specs.Ordering.{nat_cmp}
-use Rattle.std.specs.Cmp.Lexicographic.{slice_cmp}
-use Rattle.std.proofs.lemmas.Cmp.{nat_cmp_total, nat_list_cmp_total}
+use Rattle.std.proofs.lemmas.Cmp.{nat_cmp_total}
 use native.Mathlib.Decide.{ℕ_discrete, dec_lt}
-use Rattle.cqa_value.proofs.Words.{Contains-map, Contains-from_map, Contains-flat_map, Contains-range, dec_both}
+use Rattle.cqa_value.proofs.Words.{Contains-map, Contains-flat_map, Contains-range, dec_both}
 use Rattle.cqa_model.specs.declared.query.RowId.{RowId}
 use Rattle.cqa_model.specs.Database.{Table}
 use Rattle.cqa_model.proofs.Classic.{dec_some}
 use Rattle.cqa_model.proofs.Repairs.{dec_shares}
 use Rattle.cqa_model.proofs.Values.{dec_by}
-use Rattle.existence_law.proofs.Encoding.{variable_exact}
+use Rattle.existence_law.proofs.Encoding.{variable_exact, all_numbers}
 use Rattle.join_access.proofs.Sorted.{one_sorted}
-use Rattle.join_witness.proofs.Listing.{numbers_exact}
-use Rattle.join_witness.proofs.Sorting.{sorted, in_order, members, decided_list}
+use Rattle.join_witness.proofs.Sorting.{decided_list}
 use Rattle.row_lists.specs.Clauses.{Variable, variable_cmp, HasNumber, AreAllLists, Formula}
 use Rattle.row_lists.specs.Lists.{named, IsStored, IsOfBlock}
 use Rattle.row_lists.specs.Formulas.{table_at, name_in, IsRelevantTo, AreVariables, HasNumberOf, IsBlockOf, IsBlock, AreNumbersOf, IsFormulaOf}
@@ -85,25 +83,8 @@ module _ (db : List Table) (frame : List ℕ) (lists : List (List RowId)) where
         (length xs) (λ n p. number_below xs n p.0 p.1) in
         (n.0, record { rises = n.1.0; exactly = n.1.1 })
 
-    numbers_of : Variable → List ℕ
-    numbers_of x = (block_of x).0
-
-    are_numbers : (x : Variable) → IsBlockOf db frame xs x (numbers_of x)
-    unfolding numbers_of
-    are_numbers x = (block_of x).1
-
     block_lists : (blocks : List (List ℕ)) × AreAllLists (IsBlock db frame xs) blocks
-    block_lists = (
-      sorted (slice_cmp nat_cmp) nat_list_cmp_total (map numbers_of xs),
-      record {
-        in_order = in_order (slice_cmp nat_cmp) nat_list_cmp_total (map numbers_of xs);
-        exactly = λ numbers.
-            let same = members (slice_cmp nat_cmp) nat_list_cmp_total (map numbers_of xs) (λ a b m n e. numbers_exact a b e) numbers in (
-              λ m. (let p = Contains-from_map numbers_of xs numbers (same.0 m) in (p.0, p.1, subst (IsBlockOf db frame xs p.0) p.2 (are_numbers p.0))),
-              λ h. same.1 (subst (Contains (map numbers_of xs)) (one_block h.0 (numbers_of h.0) numbers (are_numbers h.0) h.2) (Contains-map numbers_of xs h.0 h.1)),
-            );
-      },
-    )
+    block_lists = all_numbers (IsBlockOf db frame xs) one_block block_of xs
 
     -- ---- the numbers of the lists
 
