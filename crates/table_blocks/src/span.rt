@@ -67,9 +67,9 @@ pub fn span_in<'a, L: Ledger>(
     ensures cost { (digits : ℕ) → length rows.now < 2 ^ digits → steps.new ≤ steps.old + 2 * digits }
 {
     let start = bound(rows, key, probe, false, steps);
-    let (_, rest) = rows.split_at(start);
-    let (span, _) = rest.split_at(bound(&rest, key, probe, true, steps));
-    (start, span)
+    let rest = rows.behind(start);
+    let count = bound(&rest, key, probe, true, steps);
+    (start, rest.up_to(count))
 }
 
 /// The first value of a probe, if there is one and the key begins with the first column.
@@ -95,7 +95,7 @@ fn second_probed<'a>(key: &[u32], probe: &Probe<'a>) -> Option<&'a Value>
 }
 
 /// At most so many rows from a finger on are tried, one after another.
-const TRIED: usize = 4;
+const TRIED: usize = 8;
 
 /// How many rows come before those that are looked for, by one search, which marks narrow where they tell.
 fn start_of(rows: &Rows<'_>, key: &[u32], probe: &Probe<'_>) -> usize
@@ -153,7 +153,7 @@ fn span_from<'a>(rows: &Rows<'a>, key: &[u32], probe: &Probe<'_>, start: usize) 
             ensures { result ≡ comes_before true (probe_cmp key.entry.now probe.entry.now row.now) }
         { is_before(true, compare_key(key, probe, row)) },
     );
-    (start, rest.first(count))
+    (start, rest.up_to(count))
 }
 
 /// The rows whose first key values are a probe's, and how many rows come before them. Rows near a finger are tried first, since

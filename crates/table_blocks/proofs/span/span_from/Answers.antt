@@ -13,7 +13,7 @@ returns c =
     let start = c.args.start in
     let count = c.leading-count.result in
     let rest = c.behind-rest.ensures in
-    let span : c.first.result ≡ take count (drop start rows) = c.first.ensures ∙ ap (take count) rest in
+    let span : c.up_to.result ≡ take count (drop start rows) = c.up_to.ensures ∙ ap (take count) rest in
     subst (λ rows'. IsSpan key rows probe start rows') (sym span)
     (span-is key rows probe start count c.requires.within (subst (λ xs. count ≤ length xs) rest c.leading-count.ensures.within) c.requires.place
     (subst (λ xs. IsPartitionedBy (λ row. comes_before true (probe_cmp key probe row)) xs → IsPartitionPoint (λ row. comes_before true (probe_cmp key probe row) ≡ true) (λ row. comes_before true (probe_cmp key probe row) ≡ false) xs count) rest

@@ -11,6 +11,7 @@ loop-low-preserved-then-passes g c =
     let inside = c.loop-low-test.true in
     let begun = c.loop-low.invariant.begun in
     let within = c.loop-low.invariant.within in
+    let fits = c.requires.within in
     record {
       begun = omega (arith, begun, inside);
       order = omega (arith, inside);
@@ -19,7 +20,7 @@ loop-low-preserved-then-passes g c =
       halves = λ p k. (let i = c.loop-low.invariant.halves p k in
           let n = answers p i.0 c.passes.ensures in
           let there : HoldsAt (λ y. p y ≡ true) c.args.self.now middle = λ d. subst (λ y. p y ≡ true) (sym (seen_near c.args.self.now c.behind-near.result c.args.from middle c.get.result.now d c.behind-near.ensures (omega (arith, begun)) c.get.ensures)) (sym n.1 ∙ c.if-passes.true) in
-          (n.0, λ s e f. (front_passes p c.args.self.now middle s (omega (arith, inside, within)) there, (i.1 s e f).1)));
+          (n.0, λ s e f. (front_passes p c.args.self.now middle s (omega (arith, inside, within, fits)) there, (i.1 s e f).1)));
     }
 
 pub loop-low-preserved : goal.loop-low-preserved
@@ -28,6 +29,7 @@ loop-low-preserved g c =
     let inside = c.loop-low-test.true in
     let begun = c.loop-low.invariant.begun in
     let within = c.loop-low.invariant.within in
+    let fits = c.requires.within in
     record {
       begun = omega (arith, begun, inside);
       order = omega (arith, inside);
@@ -36,5 +38,5 @@ loop-low-preserved g c =
       halves = λ p k. (let i = c.loop-low.invariant.halves p k in
           let n = answers p i.0 c.passes.ensures in
           let there : HoldsAt (λ y. p y ≡ false) c.args.self.now middle = λ d. subst (λ y. p y ≡ false) (sym (seen_near c.args.self.now c.behind-near.result c.args.from middle c.get.result.now d c.behind-near.ensures (omega (arith, begun)) c.get.ensures)) (sym n.1 ∙ c.if-passes.false) in
-          (n.0, λ s e f. ((i.1 s e f).0, back_fails p c.args.self.now middle s (omega (arith, inside, within)) there)));
+          (n.0, λ s e f. ((i.1 s e f).0, back_fails p c.args.self.now middle s (omega (arith, inside, within, fits)) there)));
     }

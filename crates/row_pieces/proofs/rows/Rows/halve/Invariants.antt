@@ -11,7 +11,7 @@ abbrev pub invariant-loop-low : goal.invariant-loop-low
 invariant-loop-low g l = record {
   begun : l.from ≤ l.low;
   order : l.low ≤ l.high;
-  within : l.high ≤ length l.self;
+  within : l.high ≤ l.to;
   callable : always_mut g.P.FnMut l.passes;
   halves : (p : List Cell → Bool) → ComputesKey g.P.FnMut p l.fn.passes → ComputesKey g.P.FnMut p l.passes × (IsPartitionedBy p l.self → AllWithin (λ row. p row ≡ true) l.self 0 l.from → AllWithin (λ row. p row ≡ false) l.self l.to (length l.self) → AllWithin (λ row. p row ≡ true) l.self 0 l.low × AllWithin (λ row. p row ≡ false) l.self l.high (length l.self));
 }
