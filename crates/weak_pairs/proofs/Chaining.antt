@@ -16,7 +16,7 @@ each_pushed P xs k x i size l this others = go (ℕ_discrete i k)
         subst (P i) (sym (get_or_append_left xs (x ∷ []) 0 i (subst (λ n. i < n) (sym size) low))) (others low)
 
 module _ (g : ℕ → ℕ) (buckets k : ℕ) (before last new : List ℕ) (r : ℕ) (size : length last ≡ buckets) (c : AreChained g buckets k before) (a : AreLast g k last) where
-  chained-in : IsLinked last new (g k) k r → AreChained g buckets (k + 1) (before ++ r ∷ [])
+  chained-in : IsLinked last new (g k) (k + 1) r → AreChained g buckets (k + 1) (before ++ r ∷ [])
   chained-in is = record {
     size = let l = length_push before r in let s = c.size in omega (arith, l, s);
     low = λ i l. each_pushed (λ j x. x ≤ j) before k r i c.size l (low is) (λ m. c.low i m);
@@ -24,19 +24,19 @@ module _ (g : ℕ → ℕ) (buckets k : ℕ) (before last new : List ℕ) (r : �
     free = λ i q l. each_pushed (λ j x. g j < buckets → x ≤ q → q < j → g q ≡ g j → ⊥) before k r i c.size l (free is q) (λ m. c.free i q m);
   }
     where
-      low : IsLinked last new (g k) k r → r ≤ k
+      low : IsLinked last new (g k) (k + 1) r → r ≤ k
       low (inl h) = subst (λ z. z ≤ k) (sym h.1) (a.low (g k) h.0)
       low (inr h) = let z = h.1 in omega (arith, z)
 
-      same : IsLinked last new (g k) k r → (p : ℕ) → r ≡ p + 1 → g p ≡ g k
+      same : IsLinked last new (g k) (k + 1) r → (p : ℕ) → r ≡ p + 1 → g p ≡ g k
       same (inl h) p e = a.same (g k) p h.0 (sym h.1 ∙ e)
       same (inr h) p e = let z = h.1 in absurd (omega (arith, z, e))
 
-      free : IsLinked last new (g k) k r → (q : ℕ) → g k < buckets → r ≤ q → q < k → g q ≡ g k → ⊥
+      free : IsLinked last new (g k) (k + 1) r → (q : ℕ) → g k < buckets → r ≤ q → q < k → g q ≡ g k → ⊥
       free (inl h) q l from to e = a.free (g k) q h.0 (subst (λ z. z ≤ q) h.1 from) to e
       free (inr h) q l from to e = let o = h.0 in absurd (omega (arith, o, l, size))
 
-  last-in : IsLinked last new (g k) k r → AreLast g (k + 1) new
+  last-in : IsLinked last new (g k) (k + 1) r → AreLast g (k + 1) new
   last-in (inl h) = subst (AreLast g (k + 1)) (sym h.2) (record {
     low = λ b l. each_put (λ _ x. x ≤ k + 1) last (g k) (k + 1) b h.0 (omega arith) (λ _. let m = a.low b (inside b l) in omega (arith, m));
     same = λ b p l. each_put (λ c x. x ≡ p + 1 → g p ≡ c) last (g k) (k + 1) b h.0 (λ e. let m : p ≡ k = omega (arith, e) in ap g m) (λ _. a.same b p (inside b l));
@@ -60,11 +60,11 @@ module _ (g : ℕ → ℕ) (buckets k : ℕ) (before last new : List ℕ) (r : �
       go b q l from to e (yes d) = let is : g k ≡ b = sym (ap g d) ∙ e in let o = h.0 in omega (arith, is, o, l)
       go b q l from to e (no n) = a.free b q l from (omega (arith, to, n)) e
 
-  size-in : IsLinked last new (g k) k r → length new ≡ buckets
+  size-in : IsLinked last new (g k) (k + 1) r → length new ≡ buckets
   size-in (inl h) = ap (λ (z : List ℕ). length z) h.2 ∙ length-set last (g k) (k + 1) ∙ size
   size-in (inr h) = ap (λ (z : List ℕ). length z) h.2 ∙ size
 
-  pub linked : IsLinked last new (g k) k r → AreChained g buckets (k + 1) (before ++ r ∷ []) × AreLast g (k + 1) new × (length new ≡ buckets)
+  pub linked : IsLinked last new (g k) (k + 1) r → AreChained g buckets (k + 1) (before ++ r ∷ []) × AreLast g (k + 1) new × (length new ≡ buckets)
   linked is = (chained-in is, last-in is, size-in is)
 
 pub none-chained : (g : ℕ → ℕ) (buckets : ℕ) → AreChained g buckets 0 []

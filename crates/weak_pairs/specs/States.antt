@@ -1,5 +1,5 @@
 -- What holds of a matching and of a peeling of a graph's blocks, and what a step of each changes.
-use Rattle.std.specs.Prelude.{◌≡◌, ◌≢◌, ℕ, ◌<◌, ◌⊎◌, slice_index, slice_set, true, Option, Some, None, MatchOption}
+use Rattle.std.specs.Prelude.{◌≡◌, ◌≢◌, ℕ, ◌<◌, ◌⊎◌, slice_index, Option, None, MatchOption}
 use Rattle.weak_pairs.specs.declared.graph.Graph.{Graph}
 use Rattle.weak_pairs.specs.declared.matching.Matching.{Matching}
 use Rattle.weak_pairs.specs.declared.peel.Peeling.{Peeling}
@@ -8,7 +8,7 @@ use Rattle.weak_pairs.specs.declared.peel.Left.{Left}
 use Rattle.weak_pairs.specs.declared.peel.Left.TheVariants.{Zero, One, Two}
 use Rattle.weak_pairs.specs.declared.peel.Step.{Step}
 use Rattle.weak_pairs.specs.declared.peel.Step.TheVariants.{Stuck, Done, Go}
-use Rattle.weak_pairs.specs.Peeling.{IsBlockNumber, In, IsTaken, IsFreeEdge, row_of, IsServed, open_count, IsMatchingState, HasFreeEdge, HasTwo, IsSettledBlock, AreRowsSeen, IsStuck, ArePeeled}
+use Rattle.weak_pairs.specs.Peeling.{IsBlockNumber, In, IsTaken, IsFreeEdge, row_of, IsServed, open_count, IsMatchingState, HasTwo, IsSettledBlock, HasTakenRow, AreRowsSeen, IsStuck, ArePeeled}
 
 -- blocks of the graph took rows of their own whose edges are taken and differ
 abbrev pub IsMatching : Graph → Matching → Type 0
@@ -33,16 +33,9 @@ IsKept g m keep next result =
     (IsFreeEdge m.taken.items (slice_index g.edge.now keep) × IsFreeEdge m.taken.items (slice_index g.edge.now next) × (slice_index g.edge.now keep ≢ slice_index g.edge.now next))
     (λ row. ((row ≡ keep) × (IsTaken m.taken.items (slice_index g.edge.now next) ⊎ (slice_index g.edge.now next ≡ slice_index g.edge.now keep))) ⊎ ((row ≡ next) × IsTaken m.taken.items (slice_index g.edge.now keep)))
 
--- a block took a row: others keep theirs, and only the other end of its edge may be left with one edge where there were two
-pub record HasTaken (g : Graph) (m n : Matching) (at row : ℕ) (other : Option ℕ) : Type 0 where
-  pub own : n.own.items ≡ slice_set m.own.items at (Some row)
-  pub taken : n.taken.items ≡ slice_set m.taken.items (slice_index g.edge.now row) true
-  pub matching : IsMatching g n
-  pub fewer : open_count n.own.items < open_count m.own.items
-  pub served : (u : ℕ) → (u ≡ at) ⊎ IsServed m.own.items u → IsServed n.own.items u
-  pub block : (w : ℕ) → other ≡ Some w → IsBlockNumber g.start.now w
-  pub settled : (u : ℕ) → other ≢ Some u → (u ≡ at) ⊎ IsSettledIn g m u → IsSettledIn g n u
-  pub ready : (u : ℕ) → (u ≡ at) ⊎ IsSettledIn g m u → IsServed n.own.items u ⊎ HasFreeEdge g.start.now g.edge.now n.taken.items u
+-- the second of two matchings of a graph is the first after a block took a row
+abbrev pub HasTaken : Graph → Matching → Matching → ℕ → ℕ → Option ℕ → Type 0
+HasTaken g m n at row other = HasTakenRow g.start.now g.edge.now g.ends.now m.own.items m.taken.items n.own.items n.taken.items at row other
 
 -- blocks took rows by a walk from a block, which has one now; all blocks are settled
 pub record HasWalked (g : Graph) (m n : Matching) (first : ℕ) : Type 0 where

@@ -1,9 +1,9 @@
 //! The ends of edges.
 //! An edge occurs in at most one block of each table.
 
-ghost use Rattle.std.specs.Prelude.{◌≡◌, ◌+◌, ◌<◌, ℕ, IfOk, None, length};
+ghost use Rattle.std.specs.Prelude.{◌≡◌, ◌+◌, IfOk, None, length, replicate};
 ghost use Rattle.weak_pairs.specs.Layout.{AreRows, IsOneSided, set_end};
-ghost use Rattle.weak_pairs.specs.Peeling.{AreLaidOut, ends_of};
+ghost use Rattle.weak_pairs.specs.Peeling.{AreLaidOut};
 
 use crate::graph::Ends;
 use cqa_value::NoMemory;
@@ -28,17 +28,13 @@ fn with_end(ends: Ends, left: bool, v: u32) -> Ends
 
 /// No edge has an end.
 fn no_ends(alloc: Global, count: u32) -> Result<Vec<Ends>, NoMemory>
-    ensures size { IfOk result (λ ends. length ends.items ≡ count) }
-    ensures none { IfOk result (λ ends. (e : ℕ) → ends_of ends.items e ≡ record { left = None; right = None }) }
+    ensures { IfOk result (λ ends. ends.items ≡ replicate count (record { left = None; right = None })) }
 {
-    let mut ends = Vec::with_capacity(alloc, count as usize)?;
-    for e in 0..count {
-        ends.push(Ends {
-            left: None,
-            right: None,
-        })?;
-    }
-    Ok(ends)
+    let none = Ends {
+        left: None,
+        right: None,
+    };
+    Ok(vec![in alloc; none; count as usize]?)
 }
 
 /// The blocks in which each edge occurs.

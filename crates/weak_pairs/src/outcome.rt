@@ -31,17 +31,6 @@ impl Peeling {
         self.matching.serve(graph);
         Ok(None)
     }
-
-    /// Peels, and tells whether a block is left without an edge.
-    fn ends_blocked(&mut self, graph: &Graph<'_>) -> Result<bool, NoMemory>
-        requires { IsPeeling graph.now self.old }
-        ensures { IfOk result (HasOutcome graph.now.start.now graph.now.edge.now) }
-    {
-        match self.peel(graph)? {
-            Some(_) => Ok(true),
-            None => Ok(false),
-        }
-    }
 }
 
 /// Chooses a row of each block such that no two have one edge, or finds a block for which there is none.
@@ -75,7 +64,10 @@ pub fn is_blocked(alloc: Global, graph: &Graph<'_>) -> Result<bool, NoMemory>
     ensures { IfOk result (HasOutcome graph.now.start.now graph.now.edge.now) }
 {
     let mut peeling = Peeling::new(alloc, graph)?;
-    let blocked = peeling.ends_blocked(graph);
+    let found = peeling.peel(graph);
     drop(peeling);
-    blocked
+    match found? {
+        Some(_) => Ok(true),
+        None => Ok(false),
+    }
 }

@@ -1,9 +1,8 @@
 //! Peeling a graph: a block with one free edge takes its row, and then the block at the edge's other end is looked at.
 
-ghost use Rattle.std.specs.Prelude.{◌≡◌, ◌+◌, IfOk, OnOk, None};
-ghost use Rattle.weak_pairs.specs.Peeling.{AreFirst, AreOpen, IsBlockNumber};
+ghost use Rattle.std.specs.Prelude.{◌≡◌, ◌+◌, IfOk, OnOk, None, replicate};
+ghost use Rattle.weak_pairs.specs.Peeling.{AreFirst, IsBlockNumber};
 ghost use Rattle.weak_pairs.specs.States.{AreSettled, IsLeft, IsUnmatched, IsPeeledTo, IsPeeling, IsSeenTo, IsStep};
-ghost use Rattle.weak_pairs.specs.declared.peel.Left.TheVariants.{One};
 
 use crate::graph::Graph;
 use crate::matching::Matching;
@@ -57,13 +56,9 @@ fn first_watches(alloc: Global, graph: &Graph<'_>) -> Result<Vec<Watch>, NoMemor
 
 /// No block has a row.
 fn no_rows(alloc: Global, blocks: u32) -> Result<Vec<Option<u32>>, NoMemory>
-    ensures { IfOk result (λ own. AreOpen blocks own.items) }
+    ensures { IfOk result (λ own. own.items ≡ replicate blocks None) }
 {
-    let mut own = Vec::with_capacity(alloc, blocks as usize)?;
-    for v in 0..blocks {
-        own.push(None)?;
-    }
-    Ok(own)
+    Ok(vec![in alloc; None; blocks as usize]?)
 }
 
 impl Peeling {
@@ -105,22 +100,6 @@ impl Peeling {
         (Left::One(keep), Watch { keep, next })
     }
 
-    /// Lets a block take the row of the one edge that is left to it.
-    fn give(&mut self, graph: &Graph<'_>, at: u32, row: u32) -> Result<Step, NoMemory>
-        requires peeling { IsPeeling graph.now self.old }
-        requires block { IsBlockNumber graph.now.start.now at }
-        requires isopen { IsUnmatched self.old.matching at }
-        requires left { IsLeft graph.now self.old.matching at (One row) }
-        ensures peeling { OnOk result (IsPeeling graph.now self.new) }
-        ensures step { IfOk result (IsStep graph.now self.old self.new at) }
-    {
-        self.order.push(row)?;
-        match self.matching.take(graph, at, row) {
-            None => Ok(Step::Done),
-            Some(next) => Ok(Step::Go(next)),
-        }
-    }
-
     /// One step of peeling: where one edge is left to an open block, the block takes it.
     fn force(&mut self, graph: &Graph<'_>, at: u32) -> Result<Step, NoMemory>
         requires peeling { IsPeeling graph.now self.old }
@@ -135,8 +114,11 @@ impl Peeling {
             Left::Zero => Ok(Step::Stuck),
             Left::Two => Ok(Step::Done),
             Left::One(row) => {
-                let step = self.give(graph, at, row)?;
-                Ok(step)
+                self.order.push(row)?;
+                match self.matching.take(graph, at, row) {
+                    None => Ok(Step::Done),
+                    Some(next) => Ok(Step::Go(next)),
+                }
             }
         }
     }

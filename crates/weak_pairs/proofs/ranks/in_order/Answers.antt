@@ -1,8 +1,11 @@
-use Rattle.std.proofs.Common.{◌∙◌, ◌<◌, subst, sym}
+use Rattle.std.proofs.Common.{◌≡◌, ◌∙◌, length, arith}
+use Rattle.weak_pairs.specs.Digests.{lists_in}
 use Rattle.weak_pairs.proofs.Ranking.{ordered}
 use Rattle.weak_pairs.proofs.ranks.in_order.Goals as goal
 
 pub returns : goal.returns
 returns c =
-    let e = c.in_ok-order.ensures in
-    ordered c.args.lists.now c.in_ok-order.order.items c.put_in_order.new.places.items (e.size ∙ c.len.ensures) (λ i l. e.each i (subst (λ n. i < n) (sym c.len.ensures) l)) c.put_in_order.ensures.same c.put_in_order.ensures.sorted
+    let lists = c.args.lists.now in
+    let i = c.loop-at.invariant in
+    let end : c.loop-at.at ≡ length (lists_in lists) = (let a = c.loop-at-test.false in let b = c.loop-at.auto.at-end in omega arith) in
+    ordered lists c.loop-at.order.items c.put_in_order.new.places.items (i.size ∙ end) (λ k l. i.each k (omega (arith, end, l))) c.put_in_order.ensures.same c.put_in_order.ensures.sorted

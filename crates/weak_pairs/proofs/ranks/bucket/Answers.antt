@@ -3,7 +3,7 @@ use Rattle.std.specs.Ordering.{is_lt}
 use Rattle.std.proofs.lemmas.List.Sorted.{IsPartitionPoint-from_clause}
 use Rattle.weak_pairs.specs.Ranks.{IsRank, list_cmp}
 use Rattle.weak_pairs.proofs.Ranking.{parted, rank-below}
-use Rattle.weak_pairs.proofs.ranks.rank.Goals as goal
+use Rattle.weak_pairs.proofs.ranks.bucket.Goals as goal
 
 ranked : (c : goal.After-partition_point) → IsRank c.args.lists.now c.args.order.now c.args.at c.partition_point.result
 ranked c =
@@ -12,8 +12,5 @@ ranked c =
     IsPartitionPoint-from_clause (λ i. is_lt (list_cmp lists i at)) c.args.order.now c.partition_point.result c.partition_point.ensures.partitioned (parted lists c.args.order.now c.requires.ordered at)
     (λ a r f k. search rules)
 
-pub returns-clause-is : goal.returns-clause-is
-returns-clause-is c = ranked c
-
-pub returns-clause-below : goal.returns-clause-below
-returns-clause-below c = rank-below c.args.lists.now c.args.order.now c.requires.ordered c.args.at c.partition_point.result c.requires.there (ranked c)
+pub returns : goal.returns
+returns c = λ have. (ranked c, rank-below c.args.lists.now c.args.order.now c.requires.ordered c.args.at c.partition_point.result c.requires.there (ranked c))

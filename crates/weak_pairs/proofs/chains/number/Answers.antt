@@ -1,7 +1,7 @@
-use Rattle.std.proofs.Common.{◌≡◌, ◌+◌, ◌-◌, arith}
+use Rattle.std.proofs.Common.{◌≡◌, ◌+◌, ◌-◌, inr, refl, arith}
 use Rattle.weak_pairs.specs.Digests.{lists_in}
 use Rattle.weak_pairs.proofs.Chaining.{behind-first, behind-more}
-use Rattle.weak_pairs.proofs.chains.same_before.Goals as goal
+use Rattle.weak_pairs.proofs.chains.number.Goals as goal
 
 pub back-init : goal.back-init
 back-init c = (c.requires.chained, behind-first (lists_in c.args.lists.now) c.args.before.now c.requires.chained c.args.at c.requires.there)
@@ -14,4 +14,4 @@ back-preserved c =
     (i.0, behind-more (lists_in c.args.lists.now) c.args.before.now i.0 c.args.at c.requires.there c.back.left i.1 (c.back.left - 1) last (λ have. cc (c.if-have_one.ensures.1 have)))
 
 pub returns : goal.returns
-returns c q l have = let end = c.back-test.false in c.back.invariant.1.none q (omega (arith, end)) l have
+returns c = inr (refl, λ q l have. let end = c.back-test.false in c.back.invariant.1.none q (omega (arith, end)) l have)
