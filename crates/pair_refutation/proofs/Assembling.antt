@@ -73,8 +73,8 @@ module _ (cnf : Cnf) (g : Graph) (r : IsReadTo cnf g) where
       let m = row-var cnf.vars r.blocks pairs r.graph v i (to-first v b) (subst (λ z. In z v i) r.start h) in
       (block-count cnf.vars r.blocks pairs r.graph v (to-first v b), subst (λ z. Contains (block_at r.blocks v) (slice_index z i)) (sym r.var) m)
 
-  pub row-small : (v i : ℕ) → IsBlockNumber start v → In start v i → i < length g.edge.items
-  row-small v i b h = let w = rows-are.within v b in let k : i < slice_index start (v + 1) = h.1 in omega (arith, w, k)
+  pub edge-there : (v i : ℕ) → IsBlockNumber start v → In start v i → i < length g.edge.items
+  edge-there v i b h = let w = rows-are.within v b in let k : i < slice_index start (v + 1) = h.1 in omega (arith, w, k)
 
   pub listed : (x y : ℕ) → AreAdjacent pairs x y → (v i : ℕ) × IsBlockNumber start v × In start v i × (slice_index var i ≡ x)
   listed x y a = let l = r.graph.listed x y a in let h = row-of l.0 x l.1 l.2 in (l.0, h.0, h.1, h.2, h.3)
@@ -165,7 +165,7 @@ module _ (cnf : Cnf) (g : Graph) (r : IsReadTo cnf g) where
           let hi = ch.own_in u i eu in
           let hj = ch.own_in w j ew in
           let a : AreAdjacent pairs (slice_index var i) (slice_index var j) = inl (subst (λ z. Meet pairs z (slice_index var j)) (sym ei) (subst (λ z. Meet pairs x z) (sym ej) m)) in
-          let e = edges-are.same i j (row-small u i hi.0 hi.1) (row-small w j hj.0 hj.1) a in
+          let e = edges-are.same i j (edge-there u i hi.0 hi.1) (edge-there w j hj.0 hj.1) a in
           let same : u ≡ w = ch.apart u w i j eu ew e in
           apart u i j hi.0 hi.1 (subst (λ z. In start z j) (sym same) hj.1) a
 

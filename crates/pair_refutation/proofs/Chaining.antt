@@ -1,12 +1,12 @@
 -- The pairs of each variable, one after the other.
-use Rattle.std.proofs.Common.{◌≡◌, ◌⊎◌, inl, inr, ℕ, ◌+◌, ◌<◌, ◌≤◌, pos, ℤ, List, [], ◌∷◌, ◌++◌, length, set, ap, sym, ◌∙◌, subst, arith, Option, Some, None, Contains, length-append}
+use Rattle.std.proofs.Common.{◌≡◌, ◌⊎◌, inl, inr, ℕ, zero, suc, ◌+◌, ◌<◌, ◌≤◌, pos, ℤ, List, [], ◌∷◌, ◌++◌, length, get_or, replicate, set, refl, ap, sym, ◌∙◌, subst, arith, Option, Some, None, Contains, length-append}
 use native.Mathlib.Decide.{ℕ_discrete}
 use Rattle.std.proofs.lemmas.List.{get_or-set_same, get_or-set_other, get_or_append_left, get_or-append-add, length-set}
-use Rattle.std.proofs.lemmas.List.Elements.{Contains-append_cases, Contains-append_left, Contains-push, Contains-get_or}
+use Rattle.std.proofs.lemmas.Bool.{cases_lt}
+use Rattle.std.proofs.lemmas.List.Elements.{Contains-append_cases, Contains-append_left, Contains-push}
 use Rattle.cqa_model.proofs.Classic.{mem-nil, mem-cases}
 use Rattle.pair_refutation.specs.declared.graph.Pair.{Pair}
-use Rattle.pair_refutation.specs.Graph.{Meet, ArePaired}
-use Rattle.pair_refutation.specs.Edges.{pair_at, no_pair}
+use Rattle.pair_refutation.specs.Edges.{pair_at}
 use Rattle.pair_refutation.specs.Refuting.{IsOf, IsLastOf, option_at, AreChained, ArePairHints}
 
 at-push : (xs : List (Option ℕ)) (o : Option ℕ) (n : ℕ) → length xs ≡ n → option_at (xs ++ o ∷ []) n ≡ o
@@ -27,11 +27,17 @@ last-skip pairs x n (Some k) h out = ((let l = h.0 in omega (arith, l)), h.1, λ
 last-here : (pairs : List Pair) (x n : ℕ) → IsOf (pair_at pairs n) x → IsLastOf pairs x (n + 1) (Some n)
 last-here pairs x n m = (omega arith, m, λ t l g. absurd (omega (arith, l, g)))
 
-pub chained-none : (pairs : List Pair) (last left right : List (Option ℕ)) → ((x : ℕ) → option_at last x ≡ None) → left ≡ [] → right ≡ [] → AreChained pairs 0 last left right
-chained-none pairs last left right none el er = record {
+-- where nothing was put in yet
+pub blank : {A : Type 0} (n i : ℕ) (a : A) → get_or (replicate n a) i a ≡ a
+blank zero i a = refl
+blank (suc n) zero a = refl
+blank (suc n) (suc i) a = blank n i a
+
+pub chained-none : (pairs : List Pair) (n : ℕ) (last left right : List (Option ℕ)) → last ≡ replicate n None → left ≡ [] → right ≡ [] → AreChained pairs 0 last left right
+chained-none pairs n last left right e el er = record {
   lefts = ap (λ (z : List (Option ℕ)). length z) el;
   rights = ap (λ (z : List (Option ℕ)). length z) er;
-  of_last = λ x l. subst (λ o. IsLastOf pairs x 0 o) (sym (none x)) (λ t k. absurd (omega (arith, k)));
+  of_last = λ x l. subst (λ o. IsLastOf pairs x 0 o) (sym (ap (λ z. option_at z x) e ∙ blank n x None)) (λ t k. absurd (omega (arith, k)));
   of_left = λ t l. absurd (omega (arith, l));
   of_right = λ t l. absurd (omega (arith, l));
 }
@@ -110,29 +116,15 @@ hints-more pairs blocks x n k hints w h a = record {
   where
     step : (t : ℕ) → k ≤ t → t < length pairs → IsOf (pair_at pairs t) x → Dec (t ≡ k) → Contains (hints ++ pos (blocks + k + 1) ∷ []) (pos (blocks + t + 1))
     step t l s m (yes e) = subst (λ z. Contains (hints ++ pos (blocks + k + 1) ∷ []) (pos (blocks + z + 1))) (sym e) (Contains-push hints (pos (blocks + k + 1)))
-    step t l s m (no d) = behind (cases t n)
+    step t l s m (no d) = behind (cases_lt t n)
       where
-        cases : (i j : ℕ) → (i < j) ⊎ (j ≤ i)
-        cases i j = grind arith
-
         behind : (t < n) ⊎ (n ≤ t) → Contains (hints ++ pos (blocks + k + 1) ∷ []) (pos (blocks + t + 1))
         behind (inl b) = absurd (h.2 t (omega (arith, l, d)) b m)
         behind (inr b) = Contains-append_left hints (pos (blocks + k + 1) ∷ []) (pos (blocks + t + 1)) (a.all t b s m)
 
 pub hints-all : (pairs : List Pair) (blocks x n : ℕ) (hints : List ℤ) → IsLastOf pairs x n None → ArePairHints pairs blocks x n hints → ArePairHints pairs blocks x 0 hints
-hints-all pairs blocks x n hints h a = record { each = a.each; all = λ t l s m. go t s m (cases t n) }
+hints-all pairs blocks x n hints h a = record { each = a.each; all = λ t l s m. go t s m (cases_lt t n) }
   where
-    cases : (i j : ℕ) → (i < j) ⊎ (j ≤ i)
-    cases i j = grind arith
-
     go : (t : ℕ) → t < length pairs → IsOf (pair_at pairs t) x → (t < n) ⊎ (n ≤ t) → Contains hints (pos (blocks + t + 1))
     go t s m (inl b) = absurd (h t b m)
     go t s m (inr b) = a.all t b s m
-
--- the variables of a pair are the formula's
-pub pair-small : (pairs : List Pair) (vars : ℕ) → ArePaired vars pairs → (k : ℕ) → k < length pairs → ((pair_at pairs k).left < vars + 1) × ((pair_at pairs k).right < vars + 1)
-pair-small pairs vars paired k l =
-    let m : Meet pairs (pair_at pairs k).left (pair_at pairs k).right = Contains-get_or pairs k no_pair l in
-    let s = paired.small (pair_at pairs k).left (pair_at pairs k).right m in
-    let r = paired.rises (pair_at pairs k).left (pair_at pairs k).right m in
-    (omega (arith, s, r), omega (arith, s))

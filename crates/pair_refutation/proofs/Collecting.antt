@@ -1,6 +1,7 @@
 -- The blocks and pairs of clauses, clause after clause.
-use Rattle.std.proofs.Common.{◌≡◌, ℕ, suc, ◌+◌, ◌<◌, true≢false, inl, inr, List, [], ◌∷◌, ◌++◌, length, get_or, map, take, drop, refl, ap, sym, ◌∙◌, subst, arith, cond, Bool, true, false, Contains, length-append}
-use Rattle.std.proofs.lemmas.List.{append-nil, take_more, take-append-drop, map_push, map-append, length-map, get_or-map, get_or_default}
+use Rattle.std.proofs.Common.{◌≡◌, ℕ, suc, ◌+◌, ◌<◌, ◌≤◌, inl, inr, List, [], ◌∷◌, ◌++◌, length, get_or, map, flat_map, take, drop, refl, ap, sym, ◌∙◌, subst, arith, cond, Bool, true, false, Contains, length-append}
+use Rattle.std.proofs.lemmas.Grind.{flat_map-append}
+use Rattle.std.proofs.lemmas.List.{append-nil, take_all, take_more, take-append-drop, map_push, map-append, length-map, get_or_default}
 use Rattle.cnf_form.specs.declared.formula.Lit.{Lit}
 use Rattle.cnf_form.specs.declared.formula.Clause.{Clause}
 use Rattle.cnf_form.specs.Literals.{literals}
@@ -9,23 +10,8 @@ use Rattle.cqa_value.proofs.Words.{Contains-from_map}
 use Rattle.weak_pairs.specs.Starts.{ends_from, starts_from}
 use Rattle.weak_pairs.proofs.Begins.{ends-append, flat-append}
 use Rattle.pair_refutation.specs.declared.graph.Pair.{Pair}
-use Rattle.pair_refutation.specs.Graph.{positive, not_both, graph_clauses, is_positive, blocks_in, pairs_in, pair_of, all_of, block_at}
-
-put-first : {A : Type 0} (b : Bool) (v : A) (l r t : List A) → l ≡ r ++ t → cond b (v ∷ l) l ≡ cond b (v ∷ r) r ++ t
-put-first true v l r t e = ap (λ z. v ∷ z) e
-put-first false v l r t e = e
-
-put-second : {A : Type 0} (b : Bool) (v : A) (l r t : List A) → l ≡ r ++ t → cond b l (v ∷ l) ≡ cond b r (v ∷ r) ++ t
-put-second true v l r t e = e
-put-second false v l r t e = ap (λ z. v ∷ z) e
-
-pub blocks-append : (xs ys : List (List Lit)) → blocks_in (xs ++ ys) ≡ blocks_in xs ++ blocks_in ys
-blocks-append [] ys = refl
-blocks-append (c ∷ cs) ys = put-first (is_positive c) (map (λ (l : Lit). l.var) c) (blocks_in (cs ++ ys)) (blocks_in cs) (blocks_in ys) (blocks-append cs ys)
-
-pub pairs-append : (xs ys : List (List Lit)) → pairs_in (xs ++ ys) ≡ pairs_in xs ++ pairs_in ys
-pairs-append [] ys = refl
-pairs-append (c ∷ cs) ys = put-second (is_positive c) (pair_of c) (pairs_in (cs ++ ys)) (pairs_in cs) (pairs_in ys) (pairs-append cs ys)
+use Rattle.pair_refutation.specs.Graph.{positive, not_both, graph_clauses, is_positive, block_in, blocks_in, pair_in, pairs_in, all_of, block_at}
+use Rattle.pair_refutation.specs.Formulas.{AreGraphClauses}
 
 pub literals-more : (cs : List Clause) (i : ℕ) (clause : Clause) → i < length cs → clause ≡ get_or cs i clause → literals (take (i + 1) cs) ≡ literals (take i cs) ++ clause.lits ∷ []
 literals-more cs i clause l e = ap literals (take_more cs i clause l ∙ ap (λ z. take i cs ++ z ∷ []) (sym e)) ∙ map_push (λ (c : Clause). c.lits) (take i cs) clause
@@ -45,8 +31,11 @@ module _ (cs : List Clause) (i : ℕ) (clause : Clause) (l : i < length cs) (is 
   abbrev vars : List ℕ
   vars = map (λ (x : Lit). x.var) clause.lits
 
-  blocks-next : blocks_in (literals (take (i + 1) cs)) ≡ before ++ cond (is_positive clause.lits) (vars ∷ []) []
-  blocks-next = ap blocks_in (literals-more cs i clause l is) ∙ blocks-append (literals (take i cs)) (clause.lits ∷ [])
+  more : {A : Type 0} (f : List Lit → List A) → flat_map f (literals (take (i + 1) cs)) ≡ flat_map f (literals (take i cs)) ++ f clause.lits
+  more f = ap (flat_map f) (literals-more cs i clause l is) ∙ (flat_map-append f (literals (take i cs)) (clause.lits ∷ []) ∙ ap (λ z. flat_map f (literals (take i cs)) ++ z) (append-nil (f clause.lits)))
+
+  blocks-next : blocks_in (literals (take (i + 1) cs)) ≡ before ++ block_in clause.lits
+  blocks-next = more block_in
 
   pub var-next : (old new : List ℕ) → old ≡ all_of before → new ≡ old ++ cond (is_positive clause.lits) vars [] → new ≡ all_of (blocks_in (literals (take (i + 1) cs)))
   var-next old new e f = f ∙ (ap (λ z. z ++ cond (is_positive clause.lits) vars []) e ∙ (sym (all-one (is_positive clause.lits) before vars) ∙ ap all_of (sym blocks-next)))
@@ -62,7 +51,7 @@ module _ (cs : List Clause) (i : ℕ) (clause : Clause) (l : i < length cs) (is 
   few-next n few var ev pos =
       let cut : literals cs ≡ literals (take (i + 1) cs) ++ literals (drop (i + 1) cs) = ap literals (sym (take-append-drop (i + 1) cs)) ∙ map-append (λ (c : Clause). c.lits) (take (i + 1) cs) (drop (i + 1) cs) in
       let all : all_of (blocks_in (literals cs)) ≡ all_of (blocks_in (literals (take (i + 1) cs))) ++ all_of (blocks_in (literals (drop (i + 1) cs))) =
-      ap (λ z. all_of (blocks_in z)) cut ∙ (ap all_of (blocks-append (literals (take (i + 1) cs)) (literals (drop (i + 1) cs))) ∙ flat-append (blocks_in (literals (take (i + 1) cs))) (blocks_in (literals (drop (i + 1) cs)))) in
+      ap (λ z. all_of (blocks_in z)) cut ∙ (ap all_of (flat_map-append block_in (literals (take (i + 1) cs)) (literals (drop (i + 1) cs))) ∙ flat-append (blocks_in (literals (take (i + 1) cs))) (blocks_in (literals (drop (i + 1) cs)))) in
       let a = ap (λ (z : List ℕ). length z) all ∙ length-append (all_of (blocks_in (literals (take (i + 1) cs)))) (all_of (blocks_in (literals (drop (i + 1) cs)))) in
       let one : all_of (blocks_in (literals (take (i + 1) cs))) ≡ all_of before ++ vars = ap all_of blocks-next ∙ (all-one (is_positive clause.lits) before vars ∙ ap (λ b. all_of before ++ cond b vars []) pos) in
       let b = ap (λ (z : List ℕ). length z) one ∙ length-append (all_of before) vars in
@@ -70,14 +59,8 @@ module _ (cs : List Clause) (i : ℕ) (clause : Clause) (l : i < length cs) (is 
       let d = ap (λ (z : List ℕ). length z) ev in
       omega (arith, few, a, b, c, d)
 
-  pub pairs-next : (old new : List Pair) → old ≡ pairs_in (literals (take i cs)) → new ≡ old ++ cond (is_positive clause.lits) [] (pair_of clause.lits ∷ []) → new ≡ pairs_in (literals (take (i + 1) cs))
-  pairs-next old new e f = f ∙ (ap (λ z. z ++ cond (is_positive clause.lits) [] (pair_of clause.lits ∷ [])) e ∙ (sym (pairs-append (literals (take i cs)) (clause.lits ∷ [])) ∙ ap pairs_in (sym (literals-more cs i clause l is))))
-
-  pub clause-in : Contains (literals cs) clause.lits
-  clause-in = (i, let n = length-map cs (λ (c : Clause). c.lits) in omega (arith, l, n), lits-at)
-    where
-      lits-at : get_or (literals cs) i clause.lits ≡ clause.lits
-      lits-at = get_or-map (λ (c : Clause). c.lits) cs i clause clause.lits l ∙ ap (λ (c : Clause). c.lits) (sym is)
+  pub pairs-next : (old new : List Pair) → old ≡ pairs_in (literals (take i cs)) → new ≡ old ++ pair_in clause.lits → new ≡ pairs_in (literals (take (i + 1) cs))
+  pairs-next old new e f = f ∙ (ap (λ z. z ++ pair_in clause.lits) e ∙ sym (more pair_in))
 
 -- ---- the clauses of a graph
 
@@ -90,10 +73,15 @@ blocks-of-blocks [] some = refl
 blocks-of-blocks ([] ∷ bs) some = let l : 0 < 0 = some 0 (omega arith) in absurd (omega (arith, l))
 blocks-of-blocks ((x ∷ xs) ∷ bs) some = ap (λ z. (x ∷ z) ∷ blocks_in (map (map positive) bs)) (map-var xs) ∙ ap (λ z. (x ∷ xs) ∷ z) (blocks-of-blocks bs (λ v l. some (suc v) (omega (arith, l))))
 
-pairs-of-blocks : (bs : List (List ℕ)) → ((v : ℕ) → v < length bs → 0 < length (block_at bs v)) → pairs_in (map (map positive) bs) ≡ []
-pairs-of-blocks [] some = refl
-pairs-of-blocks ([] ∷ bs) some = let l : 0 < 0 = some 0 (omega arith) in absurd (omega (arith, l))
-pairs-of-blocks ((x ∷ xs) ∷ bs) some = pairs-of-blocks bs (λ v l. some (suc v) (omega (arith, l)))
+pairs-of-blocks : (bs : List (List ℕ)) → pairs_in (map (map positive) bs) ≡ []
+pairs-of-blocks [] = refl
+pairs-of-blocks (b ∷ bs) = ap (λ z. z ++ pairs_in (map (map positive) bs)) (no-pair b) ∙ pairs-of-blocks bs
+  where
+    no-pair : (xs : List ℕ) → pair_in (map positive xs) ≡ []
+    no-pair [] = refl
+    no-pair (x ∷ []) = refl
+    no-pair (x ∷ y ∷ []) = refl
+    no-pair (x ∷ y ∷ z ∷ xs) = refl
 
 blocks-of-pairs : (ps : List Pair) → blocks_in (map not_both ps) ≡ []
 blocks-of-pairs [] = refl
@@ -104,11 +92,11 @@ pairs-of-pairs [] = refl
 pairs-of-pairs (p ∷ ps) = ap (λ z. p ∷ z) (pairs-of-pairs ps)
 
 module _ (bs : List (List ℕ)) (ps : List Pair) (some : (v : ℕ) → v < length bs → 0 < length (block_at bs v)) where
-  pub graph-blocks : blocks_in (graph_clauses bs ps) ≡ bs
-  graph-blocks = blocks-append (map (map positive) bs) (map not_both ps) ∙ (ap (λ z. z ++ blocks_in (map not_both ps)) (blocks-of-blocks bs some) ∙ (ap (λ z. bs ++ z) (blocks-of-pairs ps) ∙ append-nil bs))
+  graph-blocks : blocks_in (graph_clauses bs ps) ≡ bs
+  graph-blocks = flat_map-append block_in (map (map positive) bs) (map not_both ps) ∙ (ap (λ z. z ++ blocks_in (map not_both ps)) (blocks-of-blocks bs some) ∙ (ap (λ z. bs ++ z) (blocks-of-pairs ps) ∙ append-nil bs))
 
-  pub graph-pairs : pairs_in (graph_clauses bs ps) ≡ ps
-  graph-pairs = pairs-append (map (map positive) bs) (map not_both ps) ∙ (ap (λ z. z ++ pairs_in (map not_both ps)) (pairs-of-blocks bs some) ∙ pairs-of-pairs ps)
+  graph-pairs : pairs_in (graph_clauses bs ps) ≡ ps
+  graph-pairs = flat_map-append pair_in (map (map positive) bs) (map not_both ps) ∙ (ap (λ z. z ++ pairs_in (map not_both ps)) (pairs-of-blocks bs) ∙ pairs-of-pairs ps)
 
   pub graph-some : (c : List Lit) → Contains (graph_clauses bs ps) c → 0 < length c
   graph-some c m = elim (Contains-append_cases (map (map positive) bs) (map not_both ps) c m) [
@@ -119,12 +107,16 @@ module _ (bs : List (List ℕ)) (ps : List Pair) (some : (v : ℕ) → v < lengt
     | inr b ↦ let p = Contains-from_map not_both ps c b in subst (λ z. 0 < length z) p.2 (omega arith)
   ]
 
-  pub graph-two : (c : List Lit) → Contains (graph_clauses bs ps) c → is_positive c ≡ false → length c ≡ 2
-  graph-two c m n = elim (Contains-append_cases (map (map positive) bs) (map not_both ps) c m) [
-    | inl b ↦ let p = Contains-from_map (map positive) bs c b in absurd (never p.0 (subst (λ z. 0 < length z) (sym p.2) (graph-some c m)) (ap is_positive p.2 ∙ n))
-    | inr b ↦ let p = Contains-from_map not_both ps c b in sym (ap (λ (z : List Lit). length z) p.2)
-  ]
-    where
-      never : (xs : List ℕ) → 0 < length (map positive xs) → is_positive (map positive xs) ≡ false → ⊥
-      never [] l e = omega (arith, l)
-      never (x ∷ xs) l e = true≢false e
+-- what is read of a graph's clauses is the graph
+module _ (vars : ℕ) (cs : List Clause) (h : AreGraphClauses vars (literals cs)) where
+  all-read : blocks_in (literals cs) ≡ h.blocks
+  all-read = ap blocks_in h.are ∙ graph-blocks h.blocks h.pairs h.graph.some
+
+  pub blocks-read : (i : ℕ) → length cs ≤ i → blocks_in (literals (take i cs)) ≡ h.blocks
+  blocks-read i l = ap (λ z. blocks_in (literals z)) (take_all i cs l) ∙ all-read
+
+  pub vars-few : length (all_of (blocks_in (literals cs))) ≤ vars
+  vars-few = subst (λ z. length (all_of z) ≤ vars) (sym all-read) h.graph.few
+
+  pub pairs-read : pairs_in (literals cs) ≡ h.pairs
+  pairs-read = ap pairs_in h.are ∙ graph-pairs h.blocks h.pairs h.graph.some

@@ -1,22 +1,29 @@
 -- The ends of one more row's edge.
-use Rattle.std.proofs.Common.{◌≡◌, ◌≢◌, ℕ, ◌+◌, ◌<◌, ◌≤◌, ◌⊎◌, inl, inr, List, length, set, ap, sym, ◌∙◌, subst, arith, Some, None, slice_index, length-set}
+use Rattle.std.proofs.Common.{◌≡◌, ◌≢◌, ℕ, ◌+◌, ◌<◌, ◌≤◌, ◌⊎◌, inl, inr, List, length, replicate, set, ap, sym, ◌∙◌, subst, arith, Some, None, slice_index, length-set}
 use native.Mathlib.Decide.{ℕ_discrete}
-use Rattle.std.proofs.lemmas.List.{get_or-set_same, get_or-set_other}
+use Rattle.std.proofs.lemmas.List.{get_or-set_same, get_or-set_other, length-replicate}
 use Rattle.std.proofs.lemmas.Option.{same_Some, none-some}
 use Rattle.weak_pairs.specs.declared.graph.Ends.{Ends}
 use Rattle.weak_pairs.specs.Peeling.{IsBlockNumber, In, ends_of, AreLaidOut}
 use Rattle.weak_pairs.specs.Layout.{AreRows}
-use Rattle.pair_refutation.specs.Edges.{AreNone, AddsEnd, AreEndsSoFar, IsTwoEnded}
+use Rattle.pair_refutation.specs.Edges.{AddsEnd, AreEndsSoFar, IsTwoEnded}
+use Rattle.pair_refutation.proofs.Chaining.{blank}
 
-pub ends-none : (start edge : List ℕ) (ends : List Ends) (count : ℕ) → AreNone count ends → AreEndsSoFar start edge ends count 0 0
+abbrev no-end : Ends
+no-end = record { left = None; right = None }
+
+pub ends-none : (start edge : List ℕ) (ends : List Ends) (count : ℕ) → ends ≡ replicate count no-end → AreEndsSoFar start edge ends count 0 0
 ends-none start edge ends count n = record {
-  size = n.0;
+  size = ap (λ (z : List Ends). length z) n ∙ length-replicate count no-end;
   occurs = λ u j bu hj w. elim w [ inl l ↦ absurd (omega (arith, l)) | inr h ↦ (let l = h.1 in absurd (omega (arith, l))) ];
-  left = λ e u h. absurd (none-some u (sym (ap (λ (z : Ends). z.left) (n.1 e)) ∙ h));
-  right = λ e u h. absurd (none-some u (sym (ap (λ (z : Ends). z.right) (n.1 e)) ∙ h));
-  full = λ e u h k. none-some u (sym (ap (λ (z : Ends). z.right) (n.1 e)) ∙ h);
-  apart = λ e u h k. none-some u (sym (ap (λ (z : Ends). z.left) (n.1 e)) ∙ h);
+  left = λ e u h. absurd (none-some u (sym (ap (λ (z : Ends). z.left) (none e)) ∙ h));
+  right = λ e u h. absurd (none-some u (sym (ap (λ (z : Ends). z.right) (none e)) ∙ h));
+  full = λ e u h k. none-some u (sym (ap (λ (z : Ends). z.right) (none e)) ∙ h);
+  apart = λ e u h k. none-some u (sym (ap (λ (z : Ends). z.left) (none e)) ∙ h);
 }
+  where
+    none : (e : ℕ) → ends_of ends e ≡ no-end
+    none e = ap (λ z. ends_of z e) n ∙ blank count e no-end
 
 module _ (start edge : List ℕ) (count : ℕ) (rows : AreRows start edge count) (two : IsTwoEnded start edge) where
   module _ (ends : List Ends) (v i : ℕ) (so : AreEndsSoFar start edge ends count v i) (bv : IsBlockNumber start v) (hi : In start v i) (added : Ends) (adds : AddsEnd (ends_of ends (slice_index edge i)) v added) where
@@ -30,10 +37,10 @@ module _ (start edge : List ℕ) (count : ℕ) (rows : AreRows start edge count)
     small = let w = rows.within v bv in let h : i < slice_index start (v + 1) = hi.1 in let s = rows.small i (omega (arith, w, h)) in let z = so.size in omega (arith, s, z)
 
     here : ends_of next ei ≡ added
-    here = get_or-set_same ends ei added (record { left = None; right = None }) small
+    here = get_or-set_same ends ei added (no-end) small
 
     there : (e : ℕ) → e ≢ ei → ends_of next e ≡ ends_of ends e
-    there e n = get_or-set_other ends ei e added (record { left = None; right = None }) n
+    there e n = get_or-set_other ends ei e added (no-end) n
 
     -- the block is an end now
     has-v : (added.left ≡ Some v) ⊎ (added.right ≡ Some v)

@@ -1,9 +1,13 @@
 -- Variables that are found to be false, and blocks that get shorter by them.
-use Rattle.std.proofs.Common.{◌≡◌, ◌≢◌, ◌⊎◌, inl, inr, ℕ, ◌+◌, ◌<◌, ◌≤◌, ℤ, pos, negsuc, List, [], ◌∷◌, ◌++◌, length, map, get_or, set, refl, ap, sym, ◌∙◌, subst, arith, Option, Some, None, Result, Ok, Err, OnOk, true≢false, Contains, slice_index, length-append}
+use Rattle.std.proofs.Common.{◌≡◌, ◌≢◌, ◌⊎◌, inl, inr, ℕ, ◌+◌, ◌-◌, ◌<◌, ◌≤◌, ℤ, pos, negsuc, List, [], ◌∷◌, ◌++◌, length, map, flat_map, get_or, take, drop, replicate, set, refl, ap, sym, ◌∙◌, subst, arith, Option, Some, None, Result, Ok, Err, OnOk, true≢false, Contains, slice_index, length-append}
 use native.Mathlib.Decide.{ℕ_discrete}
-use Rattle.std.proofs.lemmas.List.{get_or-set_same, get_or-set_other, get_or_default, get_or_append_left, get_or-append-add, length-set}
-use Rattle.std.proofs.lemmas.List.Elements.{Contains-get_or, Contains-append_cases, Contains-append_left, Contains-push}
-use Rattle.cqa_value.proofs.Words.{Contains-map, Contains-from_map}
+use Rattle.std.specs.List.{slice_range}
+use Rattle.std.proofs.lemmas.Bool.{cases_lt}
+use Rattle.std.proofs.lemmas.Option.{same_Some, none-some}
+use Rattle.std.proofs.lemmas.Grind.{flat_map-append}
+use Rattle.std.proofs.lemmas.List.{append-nil, get_or-set_same, get_or-set_other, get_or_default, get_or_append_left, get_or-append-add, get_or-take, get_or-drop, length-set, length-take, length-drop, length-replicate, take_more}
+use Rattle.std.proofs.lemmas.List.Elements.{Contains-get_or}
+use Rattle.cqa_value.proofs.Words.{Contains-map, Contains-from_map, Contains-flat_map, Contains-from_flat_map}
 use Rattle.cnf_form.specs.declared.formula.Lit.{Lit}
 use Rattle.cnf_form.specs.declared.formula.Cnf.{Cnf}
 use Rattle.cnf_form.specs.declared.log.Step.{Step}
@@ -17,12 +21,12 @@ use Rattle.pair_refutation.specs.declared.graph.Graph.{Graph}
 use Rattle.pair_refutation.specs.Graph.{positive, negative, not_both, graph_clauses, Meet, AreAdjacent, block_at}
 use Rattle.pair_refutation.specs.Edges.{pair_at, no_pair}
 use Rattle.pair_refutation.specs.Formulas.{IsReadTo}
-use Rattle.pair_refutation.specs.Refuting.{IsOf, IsLastOf, option_at, all_clauses, IsIdOf, Keeps, IsSoFar, IsLost, StayLost, AreHintsOf, AreLostHints, AreLeft, IsLeftOf, IsMet, MeetsAlike, AreMarked, AreBlocksOf}
+use Rattle.pair_refutation.specs.Refuting.{IsOf, IsLastOf, option_at, all_clauses, IsIdOf, Keeps, IsSoFar, IsLost, StayLost, AreHintsOf, id_hint, lost_hints, left_literal, left_literals, IsLeftOf, IsMet, MeetsAlike, AreMarked, AreBlocksOf}
 use Rattle.pair_refutation.proofs.Collecting.{graph-some}
-use Rattle.pair_refutation.proofs.Rowing.{row-block}
-use Rattle.pair_refutation.proofs.Chaining.{IsFollowed}
+use Rattle.pair_refutation.proofs.Chaining.{IsFollowed, blank}
+use Rattle.pair_refutation.proofs.Edging.{meet-at}
 use Rattle.pair_refutation.proofs.Logging.{id-more, block-id, pair-id, follow-refutes, step-keeps, step-id, step-so_far}
-use Rattle.pair_refutation.proofs.Assembling.{edges-are, rows-are, count-is, row-of, var-in, row-small, listed, apart}
+use Rattle.pair_refutation.proofs.Assembling.{edges-are, rows-are, count-is, row-of, var-in, edge-there, listed, apart}
 
 -- ---- hints that each say that a variable is false
 
@@ -54,11 +58,8 @@ module _ (live : Live) (held : List Lit) where
       ids : a.id ≡ b.id
       ids = ap of-pos (sym a.is ∙ b.is)
 
-      same-some : (c d : List Lit) → (let o : Option (List Lit) = Some c in o) ≡ Some d → c ≡ d
-      same-some c d e = (cc)
-
       clauses : b.clause ≡ a.clause
-      clauses = same-some b.clause a.clause (sym b.has ∙ (ap live (sym ids) ∙ a.has))
+      clauses = same_Some b.clause a.clause (sym b.has ∙ (ap live (sym ids) ∙ a.has))
 
       go : Dec (y ≡ z) → y ≡ z
       go (yes e) = e
@@ -99,11 +100,59 @@ option-cases : (o : Option ℕ) → (o ≡ None) ⊎ ((k : ℕ) × (o ≡ Some k
 option-cases None = inl refl
 option-cases (Some k) = inr (k, refl)
 
-some-is : (a b : ℕ) → (let o : Option ℕ = Some a in o) ≡ Some b → a ≡ b
-some-is a b e = (cc)
+-- ---- hints and literals of variables
 
-none-some : (k : ℕ) → (let o : Option ℕ = None in o) ≡ Some k → ⊥
-none-some k e = (cc)
+-- one variable more
+pub more-is : {A : Type 0} (f : ℕ → List A) (vars : List ℕ) (i : ℕ) → i < length vars → (old new : List A) → old ≡ flat_map f (take i vars) → new ≡ f (slice_index vars i) → old ++ new ≡ flat_map f (take (i + 1) vars)
+more-is f vars i l old new e d =
+    ap (λ z. z ++ new) e ∙ (ap (λ z. flat_map f (take i vars) ++ z) (d ∙ sym (append-nil (f (slice_index vars i))))
+    ∙ (sym (flat_map-append f (take i vars) (slice_index vars i ∷ [])) ∙ ap (flat_map f) (sym (take_more vars i 0 l))))
+
+pub no-literal : (x : ℕ) (o : Option ℕ) → (o ≡ None → ⊥) → [] ≡ left_literal x o
+no-literal x None n = absurd (n refl)
+no-literal x (Some id) n = refl
+
+module _ (lost : List (Option ℕ)) (vars : List ℕ) where
+  left-each : (m : Lit) → Contains (left_literals lost vars) m → (x : ℕ) × Contains vars x × (option_at lost x ≡ None) × (m ≡ positive x)
+  left-each m k = let p = Contains-from_flat_map (λ x. left_literal x (option_at lost x)) vars m k in let h = of p.0 (option_at lost p.0) p.2 in (p.0, p.1, h.0, h.1)
+    where
+      of : (x : ℕ) (o : Option ℕ) → Contains (left_literal x o) m → (o ≡ None) × (m ≡ positive x)
+      of x None c = elim (mem-cases m (positive x) [] c) [ inl e ↦ (refl, sym e) | inr j ↦ absurd (mem-nil m j) ]
+      of x (Some id) c = absurd (mem-nil m c)
+
+  left-all : (x : ℕ) → Contains vars x → option_at lost x ≡ None → Contains (left_literals lost vars) (positive x)
+  left-all x k e = Contains-flat_map (λ y. left_literal y (option_at lost y)) vars x (positive x) k (subst (λ o. Contains (left_literal x o) (positive x)) (sym e) (mem-head (positive x) []))
+
+  hints-each : (h : ℤ) → Contains (lost_hints lost vars) h → (x id : ℕ) × (option_at lost x ≡ Some id) × (h ≡ pos id)
+  hints-each h k = let p = Contains-from_flat_map (λ x. id_hint (option_at lost x)) vars h k in let id = of (option_at lost p.0) p.2 in (p.0, id.0, id.1, id.2)
+    where
+      of : (o : Option ℕ) → Contains (id_hint o) h → (id : ℕ) × (o ≡ Some id) × (h ≡ pos id)
+      of None c = absurd (mem-nil h c)
+      of (Some id) c = elim (mem-cases h (pos id) [] c) [ inl e ↦ (id, refl, sym e) | inr j ↦ absurd (mem-nil h j) ]
+
+  hints-all : (x id : ℕ) → Contains vars x → option_at lost x ≡ Some id → Contains (lost_hints lost vars) (pos id)
+  hints-all x id k e = Contains-flat_map (λ y. id_hint (option_at lost y)) vars x (pos id) k (subst (λ o. Contains (id_hint o) (pos id)) (sym e) (mem-head (pos id) []))
+
+pub read-at : (xs : List ℕ) (i x : ℕ) → i < length xs → x ≡ get_or xs i x → x ≡ slice_index xs i
+read-at xs i x l e = e ∙ get_or_default xs i x 0 l
+
+-- ---- the variables of a block's rows
+
+of-range : (xs : List ℕ) (first end x : ℕ) → Contains (slice_range xs first end) x → (i : ℕ) × (first ≤ i) × (i < end) × (slice_index xs i ≡ x)
+of-range xs first end x (k, l, e) =
+    let n = length-take (end - first) (drop first xs) in
+    let d = length-drop first xs in
+    let a : k < end - first = omega (arith, l, n) in
+    let at = sym (get_or-drop first xs k x) ∙ (sym (get_or-take (end - first) (drop first xs) k x a) ∙ e) in
+    (first + k, omega arith, omega (arith, a), get_or_default xs (first + k) 0 x (omega (arith, l, n, d)) ∙ at)
+
+in-range : (xs : List ℕ) (first end i : ℕ) → first ≤ i → i < end → i < length xs → Contains (slice_range xs first end) (slice_index xs i)
+in-range xs first end i from to l =
+    let n = length-take (end - first) (drop first xs) in
+    let d = length-drop first xs in
+    let e : first + (i - first) ≡ i = omega (arith, from) in
+    let at : slice_index (slice_range xs first end) (i - first) ≡ slice_index xs i = get_or-take (end - first) (drop first xs) (i - first) 0 (omega (arith, from, to)) ∙ (get_or-drop first xs (i - first) 0 ∙ ap (λ z. slice_index xs z) e) in
+    subst (λ z. Contains (slice_range xs first end) z) at (Contains-get_or (slice_range xs first end) (i - first) 0 (omega (arith, n, d, from, to, l)))
 
 module _ (cnf : Cnf) (g : Graph) (r : IsReadTo cnf g) where
   abbrev pairs : List Pair
@@ -115,19 +164,28 @@ module _ (cnf : Cnf) (g : Graph) (r : IsReadTo cnf g) where
   abbrev var : List ℕ
   var = g.var.items
 
-  -- the variables of rows are those of the formula
-  pub row-var-small : (i : ℕ) → i < length var → slice_index var i ≤ cnf.vars
-  row-var-small i l =
-      let b = block-of i l in
-      let m = var-in cnf g r b.0 i b.1 b.2 in (r.graph.small b.0 (slice_index var i) m.0 m.1).1
-    where
-      block-of : (i : ℕ) → i < length var → (v : ℕ) × IsBlockNumber start v × In start v i
-      block-of i l =
-          let h = row-block cnf.vars r.blocks pairs r.graph i (subst (λ z. i < length z) r.var l) in
-          (h.0, subst (λ z. IsBlockNumber z h.0) (sym r.start) h.1, subst (λ z. In z h.0 i) (sym r.start) h.2)
-
   pub rows-within : (v : ℕ) → IsBlockNumber start v → slice_index start (v + 1) ≤ length var
   rows-within v b = let w = (rows-are cnf g r).within v b in let s = (edges-are cnf g r).size in omega (arith, w, s)
+
+  -- the variables of rows are those of the formula
+  row-var-small : (v i : ℕ) → IsBlockNumber start v → In start v i → slice_index var i ≤ cnf.vars
+  row-var-small v i b h = let m = var-in cnf g r v i b h in (r.graph.small v (slice_index var i) m.0 m.1).1
+
+  abbrev pub vars-of : ℕ → List ℕ
+  vars-of v = slice_range var (slice_index start v) (slice_index start (v + 1))
+
+  row-of-var : (v x : ℕ) → Contains (vars-of v) x → (i : ℕ) × In start v i × (slice_index var i ≡ x)
+  row-of-var v x m = let i = of-range var (slice_index start v) (slice_index start (v + 1)) x m in (i.0, (i.1, i.2), i.3)
+
+  var-of-row : (v i : ℕ) → IsBlockNumber start v → In start v i → Contains (vars-of v) (slice_index var i)
+  var-of-row v i b h = let w = rows-within v b in let l : i < slice_index start (v + 1) = h.1 in in-range var (slice_index start v) (slice_index start (v + 1)) i h.0 h.1 (omega (arith, l, w))
+
+  pub vars-read : (v : ℕ) → IsBlockNumber start v → (all : List ℕ) (first end : ℕ) → all ≡ var → first ≡ get_or start v first → end ≡ get_or start (v + 1) end → slice_range all first end ≡ vars-of v
+  vars-read v b all first end e ef ee =
+      ap (λ z. slice_range z first end) e ∙ (ap (λ z. slice_range var z end) (read-at start v first (omega (arith, b)) ef) ∙ ap (λ z. slice_range var (slice_index start v) z) (read-at start (v + 1) end b ee))
+
+  pub vars-small : (v x : ℕ) → IsBlockNumber start v → Contains (vars-of v) x → x ≤ cnf.vars
+  vars-small v x b m = let i = row-of-var v x m in subst (λ z. z ≤ cnf.vars) i.2 (row-var-small v i.0 b i.1)
 
   pub rows-rise : (v : ℕ) → IsBlockNumber start v → slice_index start v ≤ slice_index start (v + 1)
   rows-rise v b = let l = (rows-are cnf g r).rising v (v + 1) (omega arith) b in omega (arith, l)
@@ -173,40 +231,42 @@ module _ (cnf : Cnf) (g : Graph) (r : IsReadTo cnf g) where
           (i.0, i.2, sym p.2 ∙ ap positive (sym i.3))
 
       -- where none is lost, the block's own clause is short
-      pub own-left : ((i : ℕ) → slice_index start v ≤ i → i < slice_index start (v + 1) → option_at lost (slice_index var i) ≡ None) → IsLeftOf cnf steps g lost v (v + 1)
-      own-left none = (map positive (block_at r.blocks v), own-id, λ m k. let i = row m k in (i.0, i.1, none i.0 i.1.0 i.1.1, i.2))
+      pub own-left : length (lost_hints lost (vars-of v)) ≡ 0 → IsLeftOf cnf steps g lost v (v + 1)
+      own-left e = (map positive (block_at r.blocks v), own-id, λ m k. let i = row m k in (i.0, i.1, none (slice_index var i.0) (var-of-row v i.0 b i.1), i.2))
+        where
+          none : (x : ℕ) → Contains (vars-of v) x → option_at lost x ≡ None
+          none x m = elim (option-cases (option_at lost x)) [ inl n ↦ n | inr s ↦ (let l = (hints-all lost (vars-of v) x s.0 m s.1).1 in absurd (omega (arith, l, e))) ]
 
-      module _ (lits : List Lit) (hs : List ℤ) (left : AreLeft var lost (slice_index start v) (slice_index start (v + 1)) lits) (hints : AreLostHints var lost (slice_index start v) (slice_index start (v + 1)) hs) where
-        abbrev held : List Lit
-        held = map opposite lits
+      abbrev held : List Lit
+      held = map opposite (left_literals lost (vars-of v))
 
-        only-negative : (y : ℕ) → Contains held (positive y) → ⊥
-        only-negative y k =
-            let p = Contains-from_map opposite lits (positive y) k in
-            let i = left.each p.0 p.1 in
-            signs (slice_index var i.0) y (ap opposite (sym i.4) ∙ p.2)
+      only-negative : (y : ℕ) → Contains held (positive y) → ⊥
+      only-negative y k =
+          let p = Contains-from_map opposite (left_literals lost (vars-of v)) (positive y) k in
+          let x = left-each lost (vars-of v) p.0 p.1 in
+          signs x.0 y (ap opposite (sym x.3) ∙ p.2)
 
-        lost-says : (y id : ℕ) → option_at lost y ≡ Some id → Says live held (pos id) y
-        lost-says y id e = record {
-          id = id;
-          clause = negative y ∷ [];
-          is = refl;
-          has = sf.named y id e;
-          inside = mem-head (negative y) [];
-          others = λ m k n. elim (mem-cases m (negative y) [] k) [ inl d ↦ absurd (n (sym d)) | inr j ↦ absurd (mem-nil m j) ];
-          free = only-negative y;
-        }
+      lost-says : (y id : ℕ) → option_at lost y ≡ Some id → Says live held (pos id) y
+      lost-says y id e = record {
+        id = id;
+        clause = negative y ∷ [];
+        is = refl;
+        has = sf.named y id e;
+        inside = mem-head (negative y) [];
+        others = λ m k n. elim (mem-cases m (negative y) [] k) [ inl d ↦ absurd (n (sym d)) | inr j ↦ absurd (mem-nil m j) ];
+        free = only-negative y;
+      }
 
-        pub short-pass : HintsPass live (map opposite lits) (hs ++ pos (v + 1) ∷ [])
-        short-pass = unit-pass live held (v + 1) (map positive (block_at r.blocks v)) own-id hs held (λ l k. k) (λ y k. k)
-            (λ h k. let i = hints.each h k in (slice_index var i.0, subst (λ z. Says live held z (slice_index var i.0)) (sym i.5) (lost-says (slice_index var i.0) i.1 i.4)))
-            (λ m k. said m (row m k))
-          where
-            said : (m : Lit) → (i : ℕ) × In start v i × (m ≡ positive (slice_index var i)) → (y : ℕ) × (m ≡ positive y) × (Contains held (negative y) ⊎ ((h : ℤ) × Contains hs h × Says live held h y))
-            said m (i, hi, e) = elim (option-cases (option_at lost (slice_index var i))) [
-              | inl n ↦ (slice_index var i, e, inl (Contains-map opposite lits (positive (slice_index var i)) (left.all i hi.0 hi.1 n)))
-              | inr s ↦ (slice_index var i, e, inr (pos s.0, hints.all i s.0 hi.0 hi.1 s.1, lost-says (slice_index var i) s.0 s.1))
-            ]
+      pub short-pass : HintsPass live held (lost_hints lost (vars-of v) ++ pos (v + 1) ∷ [])
+      short-pass = unit-pass live held (v + 1) (map positive (block_at r.blocks v)) own-id (lost_hints lost (vars-of v)) held (λ l k. k) (λ y k. k)
+          (λ h k. let x = hints-each lost (vars-of v) h k in (x.0, subst (λ z. Says live held z x.0) (sym x.3) (lost-says x.0 x.1 x.2)))
+          (λ m k. said m (row m k))
+        where
+          said : (m : Lit) → (i : ℕ) × In start v i × (m ≡ positive (slice_index var i)) → (y : ℕ) × (m ≡ positive y) × (Contains held (negative y) ⊎ ((h : ℤ) × Contains (lost_hints lost (vars-of v)) h × Says live held h y))
+          said m (i, hi, e) = let x = slice_index var i in let k = var-of-row v i b hi in elim (option-cases (option_at lost x)) [
+            | inl n ↦ (x, e, inl (Contains-map opposite (left_literals lost (vars-of v)) (positive x) (left-all lost (vars-of v) x k n)))
+            | inr s ↦ (x, e, inr (pos s.0, hints-all lost (vars-of v) x s.0 k s.1, lost-says x s.0 s.1))
+          ]
 
     -- ---- a variable is lost
 
@@ -246,9 +306,6 @@ module _ (cnf : Cnf) (g : Graph) (r : IsReadTo cnf g) where
           differ (inl m) e = let k = r.graph.paired.rises y x m in omega (arith, k, e)
           differ (inr m) e = let k = r.graph.paired.rises x y m in omega (arith, k, e)
 
-      meets-at : (t : ℕ) → t < length pairs → Meet pairs (pair_at pairs t).left (pair_at pairs t).right
-      meets-at t l = Contains-get_or pairs t no_pair l
-
       at-pair : (t y z : ℕ) → t < length pairs → get_or pairs t (record { left = y; right = z }) ≡ record { left = y; right = z } → pair_at pairs t ≡ record { left = y; right = z }
       at-pair t y z l e = get_or_default pairs t no_pair (record { left = y; right = z }) l ∙ e
 
@@ -260,12 +317,12 @@ module _ (cnf : Cnf) (g : Graph) (r : IsReadTo cnf g) where
           each h (t, l, inl e, d) = (
             (pair_at pairs t).right,
             subst (λ z. Says live (positive x ∷ []) z (pair_at pairs t).right) (sym d)
-                (pair-says t l (pair_at pairs t).right (inr (subst (λ z. Meet pairs z (pair_at pairs t).right) e (meets-at t l))) (inl (e, refl))),
+                (pair-says t l (pair_at pairs t).right (inr (subst (λ z. Meet pairs z (pair_at pairs t).right) e (meet-at pairs t l))) (inl (e, refl))),
           )
           each h (t, l, inr e, d) = (
             (pair_at pairs t).left,
             subst (λ z. Says live (positive x ∷ []) z (pair_at pairs t).left) (sym d)
-                (pair-says t l (pair_at pairs t).left (inl (subst (λ z. Meet pairs (pair_at pairs t).left z) e (meets-at t l))) (inr (refl, e))),
+                (pair-says t l (pair_at pairs t).left (inl (subst (λ z. Meet pairs (pair_at pairs t).left z) e (meet-at pairs t l))) (inr (refl, e))),
           )
 
           said : (m : Lit) → (y : ℕ) × AreAdjacent pairs y x × (m ≡ positive y) → (y : ℕ) × (m ≡ positive y) × (Contains (positive x ∷ []) (negative y) ⊎ ((h : ℤ) × Contains hs h × Says live (positive x ∷ []) h y))
@@ -308,7 +365,7 @@ module _ (cnf : Cnf) (g : Graph) (r : IsReadTo cnf g) where
               with-row (w, k, bw, hk, is) =
                   let a2 : AreAdjacent pairs (slice_index var (slice_index order n)) (slice_index var k) = subst (λ z. AreAdjacent pairs (slice_index var (slice_index order n)) z) (sym is) a in
                   let out : v ≢ w = (λ d. apart cnf g r v (slice_index order n) k bv hv (subst (λ z. In start z k) (sym d) hk) a2) in
-                  let ek = (edges-are cnf g r).same (slice_index order n) k (row-small cnf g r v (slice_index order n) bv hv) (row-small cnf g r w k bw hk) a2 in
+                  let ek = (edges-are cnf g r).same (slice_index order n) k (edge-there cnf g r v (slice_index order n) bv hv) (edge-there cnf g r w k bw hk) a2 in
                   subst (λ z. AreAdjacent pairs (slice_index var i) z) is ((edges-are cnf g r).meets v w i k bv bw out hi hk (e ∙ ek))
 
       pub alike : IsForced start g.edge.items order n → (v : ℕ) → IsBlockNumber start v → In start v (slice_index order n) → (id : ℕ) → IsLeftOf cnf steps g lost v id →
@@ -344,7 +401,7 @@ lost-set cnf steps lost x id sf l is = record {
   where
     named : (y k : ℕ) → option_at (set lost x (Some id)) y ≡ Some k → Dec (y ≡ x) → IsIdOf cnf steps k (negative y ∷ [])
     named y k e (yes d) =
-        let ek : id ≡ k = some-is id k (sym (ap (λ z. option_at (set lost x (Some id)) z) d ∙ get_or-set_same lost x (Some id) None l) ∙ e) in
+        let ek : id ≡ k = same_Some id k (sym (ap (λ z. option_at (set lost x (Some id)) z) d ∙ get_or-set_same lost x (Some id) None l) ∙ e) in
         subst (λ z. IsIdOf cnf steps k (negative z ∷ [])) (sym d) (subst (λ z. IsIdOf cnf steps z (negative x ∷ [])) ek is)
     named y k e (no d) = sf.named y k (sym (get_or-set_other lost x y (Some id) None d) ∙ e)
 
@@ -379,9 +436,6 @@ pub record IsLosing (cnf : Cnf) (g : Graph) (x last : ℕ) (first : List (Option
 abbrev pub IsOther : ℕ → Pair → ℕ → Type 0
 IsOther x p y = ((p.left ≡ x) × (y ≡ p.right)) ⊎ ((p.right ≡ x) × (y ≡ p.left))
 
-pub other-at : (pairs : List Pair) (x k y : ℕ) (p : Pair) → k < length pairs → p ≡ get_or pairs k p → IsOther x p y → IsOther x (pair_at pairs k) y
-other-at pairs x k y p l e o = subst (λ z. IsOther x z y) (e ∙ get_or_default pairs k p no_pair l) o
-
 module _ (cnf : Cnf) (g : Graph) (r : IsReadTo cnf g) (x last : ℕ) (first : List (Option ℕ)) where
   abbrev graph-pairs : List Pair
   graph-pairs = g.pairs.items
@@ -402,27 +456,36 @@ module _ (cnf : Cnf) (g : Graph) (r : IsReadTo cnf g) (x last : ℕ) (first : Li
     pub place-of : IsOf (pair_at graph-pairs k) x
     place-of = h.followed.last.1
 
-    meet-here : Meet graph-pairs (pair_at graph-pairs k).left (pair_at graph-pairs k).right
-    meet-here = Contains-get_or graph-pairs k no_pair place-within
+  -- one pair more
+  module _ (n k : ℕ) (at : Option ℕ) (is : at ≡ Some k) (steps : List Step) (lost : List (Option ℕ)) (losing : IsLosing cnf g x last first n at steps lost) (p : Pair) (read : p ≡ get_or graph-pairs k p) (y : ℕ) (beside : IsOther x p y) where
+    h : IsLosing cnf g x last first n (Some k) steps lost
+    h = subst (λ o. IsLosing cnf g x last first n o steps lost) is losing
 
-    other-meets : (y : ℕ) → IsOther x (pair_at graph-pairs k) y → AreAdjacent graph-pairs x y
-    other-meets y (inl e) = inl (subst (λ z. Meet graph-pairs z y) e.0 (subst (λ z. Meet graph-pairs (pair_at graph-pairs k).left z) (sym e.1) meet-here))
-    other-meets y (inr e) = inr (subst (λ z. Meet graph-pairs y z) e.0 (subst (λ z. Meet graph-pairs z (pair_at graph-pairs k).right) (sym e.1) meet-here))
+    within : k < length graph-pairs
+    within = place-within n k steps lost h
 
-    pub other-small : (y : ℕ) → IsOther x (pair_at graph-pairs k) y → y ≤ cnf.vars
-    other-small y (inl e) = let s = r.graph.paired.small (pair_at graph-pairs k).left (pair_at graph-pairs k).right meet-here in let d = e.1 in omega (arith, s, d)
-    other-small y (inr e) =
-        let s = r.graph.paired.small (pair_at graph-pairs k).left (pair_at graph-pairs k).right meet-here in
-        let l = r.graph.paired.rises (pair_at graph-pairs k).left (pair_at graph-pairs k).right meet-here in
-        let d = e.1 in omega (arith, s, l, d)
+    other : IsOther x (pair_at graph-pairs k) y
+    other = subst (λ z. IsOther x z y) (read ∙ get_or_default graph-pairs k p no_pair within) beside
 
-    pub other-met : (y : ℕ) → IsOther x (pair_at graph-pairs k) y → IsMet cnf steps graph-pairs y last
-    other-met y o = (h.alike.0, h.alike.1, λ m c. let a = h.alike.2 m c in (a.0, a.1 y (other-meets y o), a.2))
+    other-meets : AreAdjacent graph-pairs x y
+    other-meets = elim other [
+      | inl e ↦ inl (subst (λ z. Meet graph-pairs z y) e.0 (subst (λ z. Meet graph-pairs (pair_at graph-pairs k).left z) (sym e.1) (meet-at graph-pairs k within)))
+      | inr e ↦ inr (subst (λ z. Meet graph-pairs y z) e.0 (subst (λ z. Meet graph-pairs z (pair_at graph-pairs k).right) (sym e.1) (meet-at graph-pairs k within)))
+    ]
 
-    pub losing-more : (y : ℕ) → IsOther x (pair_at graph-pairs k) y → (steps_new : List Step) (lost_new : List (Option ℕ)) → IsSoFar cnf steps_new lost_new → IsLost lost_new y → StayLost lost lost_new → Keeps cnf steps steps_new →
-        (at : Option ℕ) → IsLastOf graph-pairs x k at → IsLosing cnf g x last first k at steps_new lost_new
-    losing-more y o steps_new lost_new sf here stay keeps at before = record {
-      followed = record { within = (let l = place-within in omega (arith, l)); last = before };
+    pub other-small : y ≤ cnf.vars
+    other-small = elim other-meets [
+      | inl m ↦ r.graph.paired.small x y m
+      | inr m ↦ let s = r.graph.paired.small y x m in let l = r.graph.paired.rises y x m in omega (arith, s, l)
+    ]
+
+    pub other-met : IsMet cnf steps graph-pairs y last
+    other-met = (h.alike.0, h.alike.1, λ m c. let a = h.alike.2 m c in (a.0, a.1 y other-meets, a.2))
+
+    pub losing-more : (steps_new : List Step) (lost_new : List (Option ℕ)) → IsSoFar cnf steps_new lost_new → IsLost lost_new y → StayLost lost lost_new → Keeps cnf steps steps_new → (next : Option ℕ) → IsLastOf graph-pairs x k next →
+        IsLosing cnf g x last first k next steps_new lost_new
+    losing-more steps_new lost_new sf here stay keeps next before = record {
+      followed = record { within = (let l = within in omega (arith, l)); last = before };
       met = λ t b l s m c ne. go t b l s m c ne (ℕ_discrete t k);
       so_far = sf;
       alike = (h.alike.0, keeps last h.alike.0 h.alike.1, h.alike.2);
@@ -430,17 +493,14 @@ module _ (cnf : Cnf) (g : Graph) (r : IsReadTo cnf g) (x last : ℕ) (first : Li
     }
       where
         only : (b : ℕ) → IsOf (pair_at graph-pairs k) b → b ≢ x → b ≡ y
-        only b c ne = elim o [
+        only b c ne = elim other [
           | inl e ↦ elim c [ inl d ↦ absurd (ne (sym d ∙ e.0)) | inr d ↦ sym d ∙ sym e.1 ]
           | inr e ↦ elim c [ inl d ↦ sym d ∙ sym e.1 | inr d ↦ absurd (ne (sym d ∙ e.0)) ]
         ]
 
-        cases : (i j : ℕ) → (i < j) ⊎ (j ≤ i)
-        cases i j = grind arith
-
         go : (t b : ℕ) → k ≤ t → t < length graph-pairs → IsOf (pair_at graph-pairs t) x → IsOf (pair_at graph-pairs t) b → b ≢ x → Dec (t ≡ k) → IsLost lost_new b
         go t b l s m c ne (yes e) = subst (λ z. IsLost lost_new z) (sym (only b (subst (λ z. IsOf (pair_at graph-pairs z) b) e c) ne)) here
-        go t b l s m c ne (no d) = elim (cases t n) [
+        go t b l s m c ne (no d) = elim (cases_lt t n) [
           | inl below ↦ absurd (h.followed.last.2 t (omega (arith, l, d)) below m)
           | inr behind ↦ stay b (h.met t b behind s m c ne)
         ]
@@ -448,11 +508,8 @@ module _ (cnf : Cnf) (g : Graph) (r : IsReadTo cnf g) (x last : ℕ) (first : Li
   pub losing-all : (n : ℕ) (steps : List Step) (lost : List (Option ℕ)) → IsLosing cnf g x last first n None steps lost → (b : ℕ) → AreAdjacent graph-pairs x b → IsLost lost b
   losing-all n steps lost h b a = go a
     where
-      cases : (i j : ℕ) → (i < j) ⊎ (j ≤ i)
-      cases i j = grind arith
-
       at-place : (t : ℕ) → t < length graph-pairs → IsOf (pair_at graph-pairs t) x → IsOf (pair_at graph-pairs t) b → b ≢ x → IsLost lost b
-      at-place t l m c ne = elim (cases t n) [ inl below ↦ absurd (h.followed.last t below m) | inr behind ↦ h.met t b behind l m c ne ]
+      at-place t l m c ne = elim (cases_lt t n) [ inl below ↦ absurd (h.followed.last t below m) | inr behind ↦ h.met t b behind l m c ne ]
 
       go : AreAdjacent graph-pairs x b → IsLost lost b
       go (inl (t, l, e)) =
@@ -468,8 +525,12 @@ module _ (cnf : Cnf) (g : Graph) (r : IsReadTo cnf g) (x last : ℕ) (first : Li
   alone steps lost h b (inr (t, l, e)) = h t l (inr (ap (λ (p : Pair). p.right) (get_or_default graph-pairs t no_pair (record { left = b; right = x }) l ∙ e)))
 
 -- the start
-pub no-steps : (cnf : Cnf) (lost : List (Option ℕ)) → length lost ≡ cnf.vars + 1 → ((x : ℕ) → option_at lost x ≡ None) → IsSoFar cnf [] lost
-no-steps cnf lost size none = record { follow = tt; size = size; named = λ x id e. absurd (none-some id (sym (none x) ∙ e)) }
+pub no-steps : (cnf : Cnf) (lost : List (Option ℕ)) → lost ≡ replicate (cnf.vars + 1) None → IsSoFar cnf [] lost
+no-steps cnf lost is = record {
+  follow = tt;
+  size = ap (λ (z : List (Option ℕ)). length z) is ∙ length-replicate (cnf.vars + 1) None;
+  named = λ x id e. absurd (none-some id (sym (ap (λ z. option_at z x) is ∙ blank (cnf.vars + 1) x None) ∙ e));
+}
 
 -- rows of one block after another
 pub blocks-none : (start : List ℕ) → slice_index start 0 ≡ 0 → (block_of : List ℕ) → block_of ≡ [] → AreBlocksOf start (slice_index start 0) block_of
@@ -490,59 +551,6 @@ blocks-more start v i block_of h b hi = record {
         let at : slice_index (block_of ++ v ∷ []) j ≡ slice_index block_of j = get_or_append_left block_of (v ∷ []) 0 j (let s = h.size in omega (arith, l, d, s)) in
         subst (λ z. IsBlockNumber start z × In start z j) (sym at) (h.each j (omega (arith, l, d)))
 
--- ---- literals and hints of a block's rows, one row more
-
-module _ (var : List ℕ) (lost : List (Option ℕ)) (first i : ℕ) (from : first ≤ i) where
-  either : (j : ℕ) → j < i + 1 → Dec (j ≡ i) → (j < i) ⊎ (j ≡ i)
-  either j l (yes e) = inr e
-  either j l (no d) = inl (omega (arith, l, d))
-
-  pub left-more : (lits : List Lit) → AreLeft var lost first i lits → option_at lost (slice_index var i) ≡ None → AreLeft var lost first (i + 1) (lits ++ positive (slice_index var i) ∷ [])
-  left-more lits h unset = record {
-    each = λ m k. elim (Contains-append_cases lits (positive (slice_index var i) ∷ []) m k) [
-      | inl b ↦ let a = h.each m b in (a.0, a.1, (let l = a.2 in omega (arith, l)), a.3, a.4)
-      | inr b ↦ elim (mem-cases m (positive (slice_index var i)) [] b) [ inl e ↦ (i, from, omega arith, unset, sym e) | inr j ↦ absurd (mem-nil m j) ]
-    ];
-    all = λ j l k n. elim (either j k (ℕ_discrete j i)) [
-      | inl b ↦ Contains-append_left lits (positive (slice_index var i) ∷ []) (positive (slice_index var j)) (h.all j l b n)
-      | inr e ↦ subst (λ z. Contains (lits ++ positive (slice_index var i) ∷ []) (positive (slice_index var z))) (sym e) (Contains-push lits (positive (slice_index var i)))
-    ];
-  }
-
-  pub left-skip : (lits : List Lit) → AreLeft var lost first i lits → (option_at lost (slice_index var i) ≡ None → ⊥) → AreLeft var lost first (i + 1) lits
-  left-skip lits h out = record {
-    each = λ m k. let a = h.each m k in (a.0, a.1, (let l = a.2 in omega (arith, l)), a.3, a.4);
-    all = λ j l k n. elim (either j k (ℕ_discrete j i)) [
-      | inl b ↦ h.all j l b n
-      | inr e ↦ absurd (out (ap (λ z. option_at lost (slice_index var z)) (sym e) ∙ n))
-    ];
-  }
-
-  pub lost-more : (hs : List ℤ) (id : ℕ) → AreLostHints var lost first i hs → option_at lost (slice_index var i) ≡ Some id → AreLostHints var lost first (i + 1) (hs ++ pos id ∷ [])
-  lost-more hs id h is = record {
-    each = λ g k. elim (Contains-append_cases hs (pos id ∷ []) g k) [
-      | inl b ↦ let a = h.each g b in (a.0, a.1, a.2, (let l = a.3 in omega (arith, l)), a.4, a.5)
-      | inr b ↦ elim (mem-cases g (pos id) [] b) [ inl e ↦ (i, id, from, omega arith, is, sym e) | inr j ↦ absurd (mem-nil g j) ]
-    ];
-    all = λ j k l s e. elim (either j s (ℕ_discrete j i)) [
-      | inl b ↦ Contains-append_left hs (pos id ∷ []) (pos k) (h.all j k l b e)
-      | inr d ↦ subst (λ z. Contains (hs ++ pos id ∷ []) (pos z)) (some-is id k (sym is ∙ (ap (λ z. option_at lost (slice_index var z)) (sym d) ∙ e))) (Contains-push hs (pos id))
-    ];
-  }
-
-  pub lost-skip : (hs : List ℤ) → AreLostHints var lost first i hs → option_at lost (slice_index var i) ≡ None → AreLostHints var lost first (i + 1) hs
-  lost-skip hs h unset = record {
-    each = λ g k. let a = h.each g k in (a.0, a.1, a.2, (let l = a.3 in omega (arith, l)), a.4, a.5);
-    all = λ j k l s e. elim (either j s (ℕ_discrete j i)) [
-      | inl b ↦ h.all j k l b e
-      | inr d ↦ absurd (none-some k (sym unset ∙ (ap (λ z. option_at lost (slice_index var z)) (sym d) ∙ e)))
-    ];
-  }
-
--- where there was no row yet
-pub left-none : (var : List ℕ) (lost : List (Option ℕ)) (first : ℕ) → AreLeft var lost first first []
-left-none var lost first = record { each = λ m k. absurd (mem-nil m k); all = λ j l k n. absurd (omega (arith, l, k)) }
-
 -- ---- the steps that are added
 
 module _ (cnf : Cnf) (g : Graph) (r : IsReadTo cnf g) (steps : List Step) (lost : List (Option ℕ)) (sf : IsSoFar cnf steps lost) (id : ℕ) (is : id ≡ length cnf.clauses + length steps + 1) (steps_new : List Step) (lits : List Lit) (hints : List ℤ)
@@ -556,34 +564,47 @@ module _ (cnf : Cnf) (g : Graph) (r : IsReadTo cnf g) (steps : List Step) (lost 
         subst (λ z. Keeps cnf steps z) (sym grown) (step-keeps cnf steps lost sf id (record { lits = lits }) hints is pass),
       )
 
-  pub short-step : (v : ℕ) → IsBlockNumber g.start.items v → AreLeft g.var.items lost (slice_index g.start.items v) (slice_index g.start.items (v + 1)) lits →
-      (hs : List ℤ) → AreLostHints g.var.items lost (slice_index g.start.items v) (slice_index g.start.items (v + 1)) hs → hints ≡ hs ++ pos (v + 1) ∷ [] → IsSoFar cnf steps_new lost × IsLeftOf cnf steps_new g lost v id
-  short-step v b left hs are eh =
-      let pass = subst (λ z. HintsPass (numbered (all_clauses cnf steps)) (map opposite lits) z) (sym eh) (short-pass cnf g r steps lost sf v b lits hs left are) in
+  pub short-step : (v : ℕ) → IsBlockNumber g.start.items v → lits ≡ left_literals lost (vars-of cnf g r v) → hints ≡ lost_hints lost (vars-of cnf g r v) ++ pos (v + 1) ∷ [] → IsSoFar cnf steps_new lost × IsLeftOf cnf steps_new g lost v id
+  short-step v b left are =
+      let pass = subst (λ z. HintsPass (numbered (all_clauses cnf steps)) (map opposite lits) z) (sym are) (subst (λ z. HintsPass (numbered (all_clauses cnf steps)) (map opposite z) (lost_hints lost (vars-of cnf g r v) ++ pos (v + 1) ∷ [])) (sym left) (short-pass cnf g r steps lost sf v b)) in
       let here = step-id cnf steps lost sf id (record { lits = lits }) hints is pass in (
         subst (λ z. IsSoFar cnf z lost) (sym grown) (step-so_far cnf steps lost sf id (record { lits = lits }) hints is pass),
-        (lits, subst (λ z. IsIdOf cnf z id lits) (sym grown) here, λ m k. let i = left.each m k in (i.0, (i.1, i.2), i.3, i.4)),
+        (lits, subst (λ z. IsIdOf cnf z id lits) (sym grown) here, λ m k. let x = left-each lost (vars-of cnf g r v) m (subst (λ z. Contains z m) left k) in let i = row-of-var cnf g r v x.0 x.1 in (i.0, i.1, ap (λ z. option_at lost z) i.2 ∙ x.2, x.3 ∙ ap positive (sym i.2))),
       )
-
--- ---- the same of lists and bounds that are read out of the graph
-
-pub left-as : (var var_is : List ℕ) (lost : List (Option ℕ)) (first first_is end end_is : ℕ) (lits : List Lit) → AreLeft var lost first end lits → var ≡ var_is → first ≡ first_is → end ≡ end_is → AreLeft var_is lost first_is end_is lits
-left-as var var_is lost first first_is end end_is lits h ev ef ee = subst (λ z. AreLeft z lost first_is end_is lits) ev (subst (λ z. AreLeft var lost z end_is lits) ef (subst (λ z. AreLeft var lost first z lits) ee h))
-
-pub lost-as : (var var_is : List ℕ) (lost : List (Option ℕ)) (first first_is end end_is : ℕ) (hs : List ℤ) → AreLostHints var lost first end hs → var ≡ var_is → first ≡ first_is → end ≡ end_is → AreLostHints var_is lost first_is end_is hs
-lost-as var var_is lost first first_is end end_is hs h ev ef ee = subst (λ z. AreLostHints z lost first_is end_is hs) ev (subst (λ z. AreLostHints var lost z end_is hs) ef (subst (λ z. AreLostHints var lost first z hs) ee h))
-
-pub read-at : (xs : List ℕ) (i x : ℕ) → i < length xs → x ≡ get_or xs i x → x ≡ slice_index xs i
-read-at xs i x l e = e ∙ get_or_default xs i x 0 l
 
 pub both-ok : {A E : Type 0} {P Q R : Type 0} (r : Result A E) → (P → Q → R) → OnOk r P → OnOk r Q → OnOk r R
 both-ok (Ok x) f p q = f p q
 both-ok (Err e) f p q = tt
 
--- the rows of blocks are those before the last start
-pub rows-below : (cnf : Cnf) (g : Graph) (r : IsReadTo cnf g) (v : ℕ) → IsBlockNumber g.start.items v → slice_index g.start.items (v + 1) ≤ slice_index g.start.items g.blocks
-rows-below cnf g r v b = go (ℕ_discrete (v + 1) g.blocks)
-  where
-    go : Dec (v + 1 ≡ g.blocks) → slice_index g.start.items (v + 1) ≤ slice_index g.start.items g.blocks
-    go (yes e) = subst (λ z. slice_index g.start.items (v + 1) ≤ slice_index g.start.items z) e (omega arith)
-    go (no d) = let c = r.count in let l = (rows-are cnf g r).rising (v + 1) g.blocks (omega (arith, b, c, d)) (omega (arith, c)) in omega (arith, l)
+-- the row of a forced place, and its block
+module _ (cnf : Cnf) (g : Graph) (r : IsReadTo cnf g) (block_of : List ℕ) (blocks : AreBlocksOf g.start.items (slice_index g.start.items g.blocks) block_of) (order : List ℕ) (q : ℕ) (forced : IsForced g.start.items g.edge.items order q) where
+  abbrev forced-row : ℕ
+  forced-row = slice_index order q
+
+  abbrev forced-block : ℕ
+  forced-block = slice_index block_of forced-row
+
+  before-last : forced-row < slice_index g.start.items g.blocks
+  before-last = go (ℕ_discrete (forced.0 + 1) g.blocks)
+    where
+      h : forced-row < slice_index g.start.items (forced.0 + 1)
+      h = forced.2.1
+
+      go : Dec (forced.0 + 1 ≡ g.blocks) → forced-row < slice_index g.start.items g.blocks
+      go (yes e) = subst (λ z. forced-row < slice_index g.start.items z) e h
+      go (no d) = let c = r.count in let b = forced.1 in let l = (rows-are cnf g r).rising (forced.0 + 1) g.blocks (omega (arith, b, c, d)) (omega (arith, c)) in let k = h in omega (arith, k, l)
+
+  pub block-there : forced-row < length block_of
+  block-there = let s = blocks.size in let l = before-last in omega (arith, s, l)
+
+  pub its-block : IsBlockNumber g.start.items forced-block × In g.start.items forced-block forced-row
+  its-block = blocks.each forced-row before-last
+
+  pub row-there : forced-row < length g.var.items
+  row-there = let w = rows-within cnf g r forced-block its-block.0 in let h : forced-row < slice_index g.start.items (forced-block + 1) = its-block.1.1 in omega (arith, w, h)
+
+  pub its-var : (x : ℕ) → x ≡ get_or g.var.items forced-row x → x ≡ slice_index g.var.items forced-row
+  its-var x e = read-at g.var.items forced-row x row-there e
+
+  pub its-var-small : (x : ℕ) → x ≡ get_or g.var.items forced-row x → x ≤ cnf.vars
+  its-var-small x e = let s = row-var-small cnf g r forced-block forced-row its-block.0 its-block.1 in let d = its-var x e in omega (arith, s, d)

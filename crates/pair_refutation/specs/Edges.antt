@@ -67,9 +67,6 @@ pub record AreEndsSoFar (start edge : List ℕ) (ends : List Ends) (count v i : 
   pub apart : (e u : ℕ) → (ends_of ends e).left ≡ Some u → (ends_of ends e).right ≡ Some u → ⊥
   pub full : (e u : ℕ) → (ends_of ends e).right ≡ Some u → (ends_of ends e).left ≡ None → ⊥
 
-abbrev pub AreNone : ℕ → List Ends → Type 0
-AreNone count ends = (length ends ≡ count) × ((e : ℕ) → ends_of ends e ≡ record { left = None; right = None })
-
 -- the block is an end; it takes a place that is free, or that of the right end
 abbrev pub AddsEnd : Ends → ℕ → Ends → Type 0
 AddsEnd old v new =

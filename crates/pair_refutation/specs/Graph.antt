@@ -17,20 +17,24 @@ abbrev pub is_positive : List Lit → Bool
 is_positive [] = false
 is_positive (l ∷ ls) = l.positive
 
-abbrev pub no_lit : Lit
-no_lit = record { var = 0; positive = false }
+-- the block of a clause, if it is a block's
+abbrev pub block_in : List Lit → List (List ℕ)
+block_in c = cond (is_positive c) (map (λ (l : Lit). l.var) c ∷ []) []
 
--- the blocks among clauses, and the pairs
+-- the blocks among clauses
 abbrev pub blocks_in : List (List Lit) → List (List ℕ)
-blocks_in [] = []
-blocks_in (c ∷ cs) = cond (is_positive c) (map (λ (l : Lit). l.var) c ∷ blocks_in cs) (blocks_in cs)
+blocks_in cs = flat_map block_in cs
 
-abbrev pub pair_of : List Lit → Pair
-pair_of c = record { left = (slice_index_or c 0 no_lit).var; right = (slice_index_or c 1 no_lit).var }
+-- the pair of a clause, if it is a pair's
+abbrev pub pair_in : List Lit → List Pair
+pair_in [] = []
+pair_in (l ∷ []) = []
+pair_in (l ∷ m ∷ []) = cond l.positive [] (record { left = l.var; right = m.var } ∷ [])
+pair_in (l ∷ m ∷ k ∷ ls) = []
 
+-- the pairs among clauses
 abbrev pub pairs_in : List (List Lit) → List Pair
-pairs_in [] = []
-pairs_in (c ∷ cs) = cond (is_positive c) (pairs_in cs) (pair_of c ∷ pairs_in cs)
+pairs_in cs = flat_map pair_in cs
 
 -- the variables of all blocks, one after the other
 abbrev pub all_of : List (List ℕ) → List ℕ

@@ -1,5 +1,5 @@
 -- Refuting the formula of a certain row: the clauses that a log adds, and the variables that it finds to be false.
-use Rattle.std.specs.Prelude.{◌≡◌, ◌⊎◌, ℕ, ◌+◌, ◌<◌, ◌≤◌, ℤ, pos, List, [], ◌∷◌, ◌++◌, length, map, Contains, slice_index, slice_index_or, Option, Some, None, MatchOption}
+use Rattle.std.specs.Prelude.{◌≡◌, ◌⊎◌, ℕ, ◌+◌, ◌<◌, ◌≤◌, ℤ, pos, List, [], ◌∷◌, ◌++◌, length, map, flat_map, Contains, slice_index, slice_index_or, Option, Some, None, MatchOption}
 use Rattle.cnf_form.specs.declared.formula.Lit.{Lit}
 use Rattle.cnf_form.specs.declared.formula.Cnf.{Cnf}
 use Rattle.cnf_form.specs.declared.log.Step.{Step}
@@ -87,15 +87,23 @@ pub record ArePairHints (pairs : List Pair) (blocks x from : ℕ) (hints : List 
 abbrev pub AreHintsOf : Graph → ℕ → ℕ → List ℤ → Type 0
 AreHintsOf g x last hints = (hs : List ℤ) × ArePairHints g.pairs.items g.blocks x 0 hs × (hints ≡ hs ++ pos last ∷ [])
 
--- the hints are the ids of the lost variables of the rows up to one
-pub record AreLostHints (var : List ℕ) (lost : List (Option ℕ)) (first end : ℕ) (hints : List ℤ) : Type 0 where
-  pub each : (h : ℤ) → Contains hints h → (i id : ℕ) × (first ≤ i) × (i < end) × (option_at lost (slice_index var i) ≡ Some id) × (h ≡ pos id)
-  pub all : (i id : ℕ) → first ≤ i → i < end → option_at lost (slice_index var i) ≡ Some id → Contains hints (pos id)
+-- the id by which a variable is lost, if it is
+abbrev pub id_hint : Option ℕ → List ℤ
+id_hint None = []
+id_hint (Some id) = pos id ∷ []
 
--- and these are the literals of the other ones
-pub record AreLeft (var : List ℕ) (lost : List (Option ℕ)) (first end : ℕ) (lits : List Lit) : Type 0 where
-  pub each : (m : Lit) → Contains lits m → (i : ℕ) × (first ≤ i) × (i < end) × (option_at lost (slice_index var i) ≡ None) × (m ≡ positive (slice_index var i))
-  pub all : (i : ℕ) → first ≤ i → i < end → option_at lost (slice_index var i) ≡ None → Contains lits (positive (slice_index var i))
+-- the ids by which some variables are lost
+abbrev pub lost_hints : List (Option ℕ) → List ℕ → List ℤ
+lost_hints lost vars = flat_map (λ x. id_hint (option_at lost x)) vars
+
+-- the literal of a variable, if it isn't lost
+abbrev pub left_literal : ℕ → Option ℕ → List Lit
+left_literal x None = positive x ∷ []
+left_literal x (Some id) = []
+
+-- those of some variables
+abbrev pub left_literals : List (Option ℕ) → List ℕ → List Lit
+left_literals lost vars = flat_map (λ x. left_literal x (option_at lost x)) vars
 
 -- ---- what the steps say
 

@@ -3,7 +3,7 @@
 
 ghost use Rattle.std.specs.Prelude.{◌≡◌, ◌⊎◌, ◌<◌, ◌≤◌, ℕ, IfOk, Contains, length, map, slice_index, slice_set};
 ghost use Rattle.pair_refutation.specs.Graph.{ArePaired};
-ghost use Rattle.pair_refutation.specs.Edges.{AreLeast, AreLeft, AreOfVars, AreOwn, AreVarEdges};
+ghost use Rattle.pair_refutation.specs.Edges.{AreOfVars, AreOwn, AreVarEdges};
 
 use crate::graph::Pair;
 use cqa_value::NoMemory;
@@ -22,54 +22,28 @@ fn own_edges(alloc: Global, vars: u32) -> Result<Vec<u32>, NoMemory>
 }
 
 /// Lowers the edge of a variable.
-fn lower(edge: &mut [u32], at: u32, to: u32)
-    requires { at < length edge.old }
-    ensures { ((to < slice_index edge.old at) × (edge.new ≡ slice_set edge.old at to)) ⊎ ((slice_index edge.old at ≤ to) × (edge.new ≡ edge.old)) }
+fn lower(edge: &mut Vec<u32>, at: u32, to: u32)
+    requires { at < length edge.old.items }
+    ensures { ((to < slice_index edge.old.items at) × (edge.new.items ≡ slice_set edge.old.items at to)) ⊎ ((slice_index edge.old.items at ≤ to) × (edge.new.items ≡ edge.old.items)) }
 {
     if to < edge[at as usize] {
         edge[at as usize] = to;
     }
 }
 
-/// Gives each right variable the least left one that it meets.
-fn least_edges(pairs: &[Pair], vars: u32, edge: &mut [u32])
-    requires paired { ArePaired vars pairs.now }
-    requires own { AreOwn vars edge.old }
-    ensures { AreLeast pairs.now vars (length pairs.now) edge.new }
-{
-    for pair in pairs {
-        lower(edge, pair.right, pair.left);
-    }
-}
-
-/// Gives each left variable the edge of those that it meets.
-fn left_edges(pairs: &[Pair], vars: u32, edge: &mut [u32])
-    requires paired { ArePaired vars pairs.now }
-    requires least { AreLeast pairs.now vars (length pairs.now) edge.old }
-    ensures { AreLeft pairs.now vars (length pairs.now) edge.old edge.new }
-{
-    for pair in pairs {
-        edge[pair.left as usize] = edge[pair.right as usize];
-    }
-}
-
-/// Gives each variable its edge.
-fn set_edges(pairs: &[Pair], vars: u32, edge: &mut [u32])
-    requires paired { ArePaired vars pairs.now }
-    requires own { AreOwn vars edge.old }
-    ensures { AreVarEdges pairs.now vars edge.new }
-{
-    least_edges(pairs, vars, edge);
-    left_edges(pairs, vars, edge);
-}
-
-/// The edge of each variable.
+/// The edge of each variable: right ones get the least left one that they meet, and then left ones the edge of those that they
+/// meet.
 fn var_edges(alloc: Global, pairs: &[Pair], vars: u32) -> Result<Vec<u32>, NoMemory>
-    requires paired { ArePaired vars pairs.now }
+    requires { ArePaired vars pairs.now }
     ensures { IfOk result (λ edge. AreVarEdges pairs.now vars edge.items) }
 {
     let mut edge = own_edges(alloc, vars)?;
-    set_edges(pairs, vars, &mut edge);
+    'least: for pair in pairs {
+        lower(&mut edge, pair.right, pair.left);
+    }
+    'left: for pair in pairs {
+        edge[pair.left as usize] = edge[pair.right as usize];
+    }
     Ok(edge)
 }
 

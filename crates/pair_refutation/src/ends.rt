@@ -1,27 +1,13 @@
 //! The ends of edges: the blocks, two at most, in which an edge occurs.
 
-ghost use Rattle.std.specs.Prelude.{◌≡◌, ◌≢◌, ◌⊎◌, ◌+◌, ◌<◌, ℕ, IfOk, None, Some, length, slice_index};
+ghost use Rattle.std.specs.Prelude.{◌≡◌, ◌+◌, IfOk, length};
 ghost use Rattle.weak_pairs.specs.Layout.{AreRows};
-ghost use Rattle.weak_pairs.specs.Peeling.{AreLaidOut, ends_of};
-ghost use Rattle.pair_refutation.specs.Edges.{AreNone, AddsEnd, IsTwoEnded};
+ghost use Rattle.weak_pairs.specs.Peeling.{AreLaidOut};
+ghost use Rattle.pair_refutation.specs.Edges.{AddsEnd, IsTwoEnded};
 
 use cqa_value::NoMemory;
 use std::alloc::Global;
 use weak_pairs::Ends;
-
-/// No edge has an end.
-fn no_ends(alloc: Global, count: usize) -> Result<Vec<Ends>, NoMemory>
-    ensures { IfOk result (λ ends. AreNone count ends.items) }
-{
-    let mut ends = Vec::new(alloc);
-    for e in 0..count {
-        ends.push(Ends {
-            left: None,
-            right: None,
-        })?;
-    }
-    Ok(ends)
-}
 
 /// The ends with a block for one of them.
 fn with_end(ends: Ends, v: u32) -> Ends
@@ -58,7 +44,11 @@ pub(crate) fn edge_ends(
     requires two { IsTwoEnded start.now edge.now }
     ensures { IfOk result (λ ends. AreLaidOut start.now edge.now ends.items) }
 {
-    let mut ends = no_ends(alloc, count)?;
+    let none = Ends {
+        left: None,
+        right: None,
+    };
+    let mut ends = vec![in alloc; none; count]?;
     for v in 0..blocks {
         for i in start[v as usize]..start[v as usize + 1] {
             let e = edge[i as usize];

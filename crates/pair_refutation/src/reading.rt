@@ -7,7 +7,7 @@ ghost use Rattle.pair_refutation.specs.Formulas.{AreGraphClauses, AreReadTo, IsP
 
 use crate::edges::row_edges;
 use crate::ends::edge_ends;
-use crate::graph::{Graph, read_blocks, read_pairs};
+use crate::graph::{Graph, append_block, read_pairs};
 use cnf_form::{Clause, Cnf};
 use cqa_value::NoMemory;
 use std::alloc::Global;
@@ -22,7 +22,9 @@ fn read_clauses(alloc: Global, clauses: &[Clause], vars: u32) -> Result<Graph, N
     let mut var = Vec::new(alloc);
     let mut start = Vec::new(alloc);
     start.push(0)?;
-    read_blocks(clauses, &mut var, &mut start)?;
+    for clause in clauses {
+        append_block(clause, &mut var, &mut start)?;
+    }
     let blocks = (start.len() - 1) as u32;
     let edge = row_edges(alloc, &pairs, vars, &var)?;
     Ok(Graph {

@@ -1,19 +1,17 @@
 //! Refuting the formula of a certain row: the rows that were forced tell which variables are false, until a block has none left.
 //! A step is added for each variable that is found to be false, and one for each block that had some before it was forced.
 
-ghost use Rattle.std.specs.Prelude.{◌≡◌, ◌+◌, ◌++◌, ◌∷◌, ◌<◌, ◌≤◌, ◌↔◌, ℕ, [], IfOk, IsFalse, IsTrue, None, OnOk, Some, length, pos, slice_index};
+ghost use Rattle.std.specs.Prelude.{◌≡◌, ◌+◌, ◌++◌, ◌∷◌, ◌<◌, ◌≤◌, ◌↔◌, ℕ, [], Contains, IfOk, IsTrue, None, OnOk, Some, length, pos, slice_index};
 ghost use Rattle.cnf_form.specs.declared.log.Step.TheVariants.{Add};
 ghost use Rattle.cnf_form.specs.Logs.{Refutes};
 ghost use Rattle.cdcl.specs.Outcomes.{AreConsecutive};
-ghost use Rattle.weak_pairs.specs.Peeling.{AreBlocked, In, IsBlockNumber, IsForced};
+ghost use Rattle.weak_pairs.specs.Peeling.{AreBlocked, IsBlockNumber, IsForced};
 ghost use Rattle.pair_refutation.specs.Graph.{AreAdjacent};
 ghost use Rattle.pair_refutation.specs.Formulas.{IsPairFormula, IsReadTo, IsUnsatisfiable};
 ghost use Rattle.pair_refutation.specs.Refuting.{
   AreBlocksOf,
   AreChains,
   AreHintsOf,
-  AreLeft,
-  AreLostHints,
   AreMarked,
   IsChainedTo,
   IsLeftOf,
@@ -23,6 +21,8 @@ ghost use Rattle.pair_refutation.specs.Refuting.{
   Keeps,
   MeetsAlike,
   StayLost,
+  left_literals,
+  lost_hints,
   option_at,
 };
 
@@ -88,39 +88,16 @@ fn is_open(lost: &[Option<u64>], x: u32) -> bool
     lost[x as usize].is_none()
 }
 
-/// Whether a variable of some rows is known to be false.
-fn has_lost(var: &[u32], lost: &[Option<u64>], first: u32, end: u32) -> bool
-    requires within { end ≤ length var.now }
-    requires small { (i : ℕ) → i < length var.now → slice_index var.now i < length lost.now }
-    ensures { IsFalse result ↔ ((i : ℕ) → first ≤ i → i < end → option_at lost.now (slice_index var.now i) ≡ None) }
-{
-    for i in first..end {
-        if lost[var[i as usize] as usize].is_some() {
-            return true;
-        }
-    }
-    false
-}
-
-/// The literals of rows whose variables aren't known to be false.
-fn left_of(
-    alloc: Global,
-    var: &[u32],
-    lost: &[Option<u64>],
-    first: u32,
-    end: u32,
-) -> Result<Items<Lit>, NoMemory>
-    requires rising { first ≤ end }
-    requires within { end ≤ length var.now }
-    requires small { (i : ℕ) → i < length var.now → slice_index var.now i < length lost.now }
-    ensures { IfOk result (AreLeft var.now lost.now first end) }
+/// The literals of variables that aren't known to be false.
+fn left_of(alloc: Global, vars: &[u32], lost: &[Option<u64>]) -> Result<Items<Lit>, NoMemory>
+    requires { (x : ℕ) → Contains vars.now x → x < length lost.now }
+    ensures { IfOk result (λ lits. lits ≡ left_literals lost.now vars.now) }
 {
     let mut lits = Items::new(alloc);
-    for i in first..end {
-        let var = var[i as usize];
-        if is_open(lost, var) {
+    for x in vars {
+        if is_open(lost, *x) {
             lits.push(Lit {
-                var,
+                var: *x,
                 positive: true,
             })?;
         }
@@ -128,22 +105,14 @@ fn left_of(
     Ok(lits)
 }
 
-/// The ids by which variables of rows are known to be false.
-fn lost_hints(
-    alloc: Global,
-    var: &[u32],
-    lost: &[Option<u64>],
-    first: u32,
-    end: u32,
-) -> Result<Vec<i64>, NoMemory>
-    requires rising { first ≤ end }
-    requires within { end ≤ length var.now }
-    requires small { (i : ℕ) → i < length var.now → slice_index var.now i < length lost.now }
-    ensures { IfOk result (λ hints. AreLostHints var.now lost.now first end hints.items) }
+/// The ids by which variables are known to be false.
+fn lost_hints(alloc: Global, vars: &[u32], lost: &[Option<u64>]) -> Result<Vec<i64>, NoMemory>
+    requires { (x : ℕ) → Contains vars.now x → x < length lost.now }
+    ensures { IfOk result (λ hints. hints.items ≡ lost_hints lost.now vars.now) }
 {
     let mut hints = Vec::new(alloc);
-    for i in first..end {
-        if let Some(id) = lost[var[i as usize] as usize] {
+    for x in vars {
+        if let Some(id) = lost[*x as usize] {
             push_hint(&mut hints, id)?;
         }
     }
@@ -168,12 +137,13 @@ fn shorten(
     let first = graph.start[v as usize];
     let end = graph.start[v as usize + 1];
     let own = v as u64 + 1;
-    if !has_lost(&graph.var, lost, first, end) {
+    let vars = &graph.var[first as usize..end as usize];
+    let mut hints = lost_hints(alloc, vars, lost)?;
+    if hints.is_empty() {
         return Ok(own);
     }
-    let mut hints = lost_hints(alloc, &graph.var, lost, first, end)?;
     push_hint(&mut hints, own)?;
-    let lits = left_of(alloc, &graph.var, lost, first, end)?;
+    let lits = left_of(alloc, vars, lost)?;
     let id = add(cnf, steps, lits, hints)?;
     Ok(id)
 }
@@ -246,29 +216,27 @@ fn follow(
     cnf: &Cnf,
     graph: &Graph,
     chains: &Chains,
+    block_of: &[u32],
+    order: &[u32],
+    place: usize,
     steps: &mut Vec<Step>,
     lost: &mut [Option<u64>],
-    _order: &[u32],
-    _place: usize,
-    v: u32,
-    row: u32,
 ) -> Result<(), NoMemory>
     requires chained { IsChainedTo cnf.now graph.now chains.now }
+    requires blocks { AreBlocksOf graph.now.start.items (slice_index graph.now.start.items graph.now.blocks) block_of.now }
+    requires place { place < length order.now }
+    requires forced { (q : ℕ) → q < length order.now → IsForced graph.now.start.items graph.now.edge.items order.now q }
     requires so_far { IsSoFar cnf.now steps.old.items lost.old }
-    requires place { _place < length _order.now }
-    requires row_is { row ≡ slice_index _order.now _place }
-    requires block { IsBlockNumber graph.now.start.items v }
-    requires row { In graph.now.start.items v row }
-    requires forced { (q : ℕ) → q ≤ _place → IsForced graph.now.start.items graph.now.edge.items _order.now q }
-    requires marked { AreMarked graph.now _order.now lost.old _place }
+    requires marked { AreMarked graph.now order.now lost.old place }
     ensures so_far { OnOk result (IsSoFar cnf.now steps.new.items lost.new) }
-    ensures marked { OnOk result (AreMarked graph.now _order.now lost.new (_place + 1)) }
+    ensures marked { OnOk result (AreMarked graph.now order.now lost.new (place + 1)) }
 {
+    let row = order[place];
     let x = graph.var[row as usize];
     if !has_pair(chains, x) {
         return Ok(());
     }
-    let last = shorten(alloc, cnf, graph, steps, lost, v)?;
+    let last = shorten(alloc, cnf, graph, steps, lost, block_of[row as usize])?;
     lose_all(alloc, cnf, graph, chains, steps, lost, x, last)
 }
 
@@ -308,24 +276,12 @@ fn follow_all(
     ensures ids { OnOk result (AreConsecutive (length cnf.now.clauses) steps.new.items) }
 {
     for place in 0..order.len() {
-        let row = order[place];
-        let v = block_of[row as usize];
-        follow(alloc, cnf, graph, chains, steps, lost, order, place, v, row)?;
+        follow(
+            alloc, cnf, graph, chains, block_of, order, place, steps, lost,
+        )?;
     }
     shorten(alloc, cnf, graph, steps, lost, root)?;
     Ok(())
-}
-
-/// No variable is known to be false.
-fn none_lost(alloc: Global, count: usize) -> Result<Vec<Option<u64>>, NoMemory>
-    ensures size { IfOk result (λ lost. length lost.items ≡ count) }
-    ensures none { IfOk result (λ lost. (x : ℕ) → option_at lost.items x ≡ None) }
-{
-    let mut lost = Vec::new(alloc);
-    for x in 0..count {
-        lost.push(None)?;
-    }
-    Ok(lost)
 }
 
 /// The log of rows that were forced, and of a block that has none left.
@@ -343,7 +299,7 @@ fn by_order(
 {
     let chains = chain_pairs(alloc, &graph.pairs, cnf.vars)?;
     let block_of = blocks_of(alloc, &graph.start, graph.blocks)?;
-    let mut lost = none_lost(alloc, cnf.vars as usize + 1)?;
+    let mut lost = vec![in alloc; None; cnf.vars as usize + 1]?;
     let mut steps = Vec::new(alloc);
     let added = follow_all(
         alloc, cnf, graph, &chains, &block_of, order, root, &mut steps, &mut lost,

@@ -2,11 +2,8 @@ use Rattle.std.proofs.Common.{◌≡◌, ◌+◌, ◌<◌, None, length, slice_i
 use Rattle.std.proofs.lemmas.List.{get_or_default}
 use Rattle.weak_pairs.specs.Peeling.{ends_of}
 use Rattle.pair_refutation.specs.Edges.{AreEndsSoFar, AddsEnd}
-use Rattle.pair_refutation.proofs.Ending.{ends-none, ends-more, laid-of}
+use Rattle.pair_refutation.proofs.Ending.{ends-more, laid-of}
 use Rattle.pair_refutation.proofs.ends.edge_ends.Goals as goal
-
-pub loop-v-init : goal.loop-v-init
-loop-v-init c = ends-none c.args.start.now c.args.edge.now c.in_ok-ends.ends.items c.args.count c.in_ok-ends.ensures
 
 pub loop-i-preserved : goal.loop-i-preserved
 loop-i-preserved c =

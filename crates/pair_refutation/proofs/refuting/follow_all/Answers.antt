@@ -1,24 +1,7 @@
-use Rattle.std.proofs.Common.{◌<◌, ◌+◌, length, refl, arith, slice_index}
+use Rattle.std.proofs.Common.{length, refl, arith}
 use Rattle.pair_refutation.proofs.Logging.{follow-consecutive}
-use Rattle.pair_refutation.proofs.Losing.{rows-below, end-refutes}
+use Rattle.pair_refutation.proofs.Losing.{end-refutes}
 use Rattle.pair_refutation.proofs.refuting.follow_all.Goals as goal
-
-pub bounds-block_of-row : goal.bounds-block_of-row
-bounds-block_of-row c =
-    let g = c.args.graph.now in
-    let f = c.requires.blocked.forced c.loop-place.place c.loop-place-test.true in
-    let w = rows-below c.args.cnf.now g c.requires.chained.read f.0 f.1 in
-    let h : slice_index c.args.order.now c.loop-place.place < slice_index g.start.items (f.0 + 1) = f.2.1 in
-    let s = c.requires.blocks.size in
-    omega (arith, w, h, s)
-
-pub follow-requires-clause-row : goal.follow-requires-clause-row
-follow-requires-clause-row c =
-    let g = c.args.graph.now in
-    let f = c.requires.blocked.forced c.loop-place.place c.loop-place-test.true in
-    let w = rows-below c.args.cnf.now g c.requires.chained.read f.0 f.1 in
-    let h : slice_index c.args.order.now c.loop-place.place < slice_index g.start.items (f.0 + 1) = f.2.1 in
-    (c.requires.blocks.each (slice_index c.args.order.now c.loop-place.place) (omega (arith, w, h))).1
 
 pub returns-clause-refutes : goal.returns-clause-refutes
 returns-clause-refutes c =

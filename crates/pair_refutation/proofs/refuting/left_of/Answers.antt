@@ -1,21 +1,23 @@
-use Rattle.std.proofs.Common.{◌≡◌, ◌∙◌, ◌+◌, sym, subst, arith, true≢false}
-use Rattle.pair_refutation.specs.Refuting.{AreLeft}
-use Rattle.pair_refutation.proofs.Losing.{left-more, left-skip}
+use Rattle.std.proofs.Common.{[], ◌∷◌, ◌∙◌, sym, ap, true≢false, slice_index}
+use Rattle.std.proofs.lemmas.List.{append-nil}
+use Rattle.std.proofs.lemmas.List.Elements.{Contains-get_or}
+use Rattle.pair_refutation.specs.Graph.{positive}
+use Rattle.pair_refutation.specs.Refuting.{left_literal, option_at}
+use Rattle.pair_refutation.proofs.Losing.{more-is, no-literal}
 use Rattle.pair_refutation.proofs.refuting.left_of.Goals as goal
 use Rattle.pair_refutation.proofs.refuting.left_of.Goals.{then-is_open+in_ok-push, else-is_open}
 
-pub loop-i-preserved : goal.loop-i-preserved
-loop-i-preserved c =
-    let var = c.args.var.now in
-    let lost = c.args.lost.now in
-    let first = c.args.first in
-    let i = c.loop-i.i in
-    elim c.if-is_open.branch [
-      | then-is_open+in_ok-push w ↦ subst (λ z. AreLeft var lost first (i + 1) z) (sym (w.lits-is ∙ w.in_ok-push.ensures.ok)) (left-more var lost first i c.loop-i.auto.i c.loop-i.lits c.loop-i.invariant (c.is_open.ensures.0 w.if-is_open.true))
-      | else-is_open w ↦ subst (λ z. AreLeft var lost first (i + 1) z) (sym w.lits-is) (left-skip var lost first i c.loop-i.auto.i c.loop-i.lits c.loop-i.invariant (λ n. true≢false (sym (c.is_open.ensures.1 n) ∙ w.if-is_open.false)))
-    ]
+pub is_open-requires : goal.is_open-requires
+is_open-requires c = c.requires (slice_index c.args.vars.now c.loop-x.x-index) (Contains-get_or c.args.vars.now c.loop-x.x-index 0 c.loop-x-test.true)
 
-pub returns : goal.returns
-returns c =
-    let e : c.loop-i.i ≡ c.args.end = (let b = c.loop-i.auto.i-end c.requires.rising in omega (arith, b)) in
-    subst (λ z. AreLeft c.args.var.now c.args.lost.now c.args.first z c.loop-i.lits) e c.loop-i.invariant
+pub loop-x-preserved : goal.loop-x-preserved
+loop-x-preserved c =
+    let vars = c.args.vars.now in
+    let lost = c.args.lost.now in
+    let i = c.loop-x.x-index in
+    let x = slice_index vars i in
+    let more = more-is (λ y. left_literal y (option_at lost y)) vars i c.loop-x-test.true c.loop-x.lits in
+    elim c.if-is_open.branch [
+      | then-is_open+in_ok-push w ↦ w.lits-is ∙ (w.in_ok-push.ensures.ok ∙ more (positive x ∷ []) c.loop-x.invariant (ap (left_literal x) (sym (c.is_open.ensures.0 w.if-is_open.true))))
+      | else-is_open w ↦ w.lits-is ∙ (sym (append-nil c.loop-x.lits) ∙ more [] c.loop-x.invariant (no-literal x (option_at lost x) (λ n. true≢false (sym (c.is_open.ensures.1 n) ∙ w.if-is_open.false))))
+    ]

@@ -1,21 +1,21 @@
-use Rattle.std.proofs.Common.{◌≡◌, ◌∙◌, ◌+◌, ap, sym, subst, arith}
-use Rattle.pair_refutation.specs.Refuting.{AreLostHints}
-use Rattle.pair_refutation.proofs.Losing.{lost-more, lost-skip}
+use Rattle.std.proofs.Common.{[], ◌∷◌, ◌∙◌, pos, sym, ap, slice_index}
+use Rattle.std.proofs.lemmas.List.{append-nil}
+use Rattle.std.proofs.lemmas.List.Elements.{Contains-get_or}
+use Rattle.pair_refutation.specs.Refuting.{id_hint, option_at}
+use Rattle.pair_refutation.proofs.Losing.{more-is}
 use Rattle.pair_refutation.proofs.refuting.lost_hints.Goals as goal
 use Rattle.pair_refutation.proofs.refuting.lost_hints.Goals.{in-Some+in_ok-push_hint, in_default}
 
-pub loop-i-preserved : goal.loop-i-preserved
-loop-i-preserved c =
-    let var = c.args.var.now in
-    let lost = c.args.lost.now in
-    let first = c.args.first in
-    let i = c.loop-i.i in
-    elim c.match-lost-var.branch [
-      | in-Some+in_ok-push_hint w ↦ subst (λ z. AreLostHints var lost first (i + 1) z) (sym (ap (λ z. z.items) w.hints-is ∙ w.in_ok-push_hint.ensures)) (lost-more var lost first i c.loop-i.auto.i c.loop-i.hints.items w.in-Some.id c.loop-i.invariant w.in-Some.is)
-      | in_default w ↦ subst (λ z. AreLostHints var lost first (i + 1) z) (sym (ap (λ z. z.items) w.hints-is)) (lost-skip var lost first i c.loop-i.auto.i c.loop-i.hints.items c.loop-i.invariant w.in_default.is)
-    ]
+pub bounds : goal.bounds
+bounds c = c.requires (slice_index c.args.vars.now c.loop-x.x-index) (Contains-get_or c.args.vars.now c.loop-x.x-index 0 c.loop-x-test.true)
 
-pub returns : goal.returns
-returns c =
-    let e : c.loop-i.i ≡ c.args.end = (let b = c.loop-i.auto.i-end c.requires.rising in omega (arith, b)) in
-    subst (λ z. AreLostHints c.args.var.now c.args.lost.now c.args.first z c.loop-i.hints.items) e c.loop-i.invariant
+pub loop-x-preserved : goal.loop-x-preserved
+loop-x-preserved c =
+    let vars = c.args.vars.now in
+    let lost = c.args.lost.now in
+    let i = c.loop-x.x-index in
+    let more = more-is (λ y. id_hint (option_at lost y)) vars i c.loop-x-test.true c.loop-x.hints.items in
+    elim c.match-lost-x.branch [
+      | in-Some+in_ok-push_hint w ↦ ap (λ z. z.items) w.hints-is ∙ (w.in_ok-push_hint.ensures ∙ more (pos w.in-Some.id ∷ []) c.loop-x.invariant (ap id_hint (sym w.in-Some.is)))
+      | in_default w ↦ ap (λ z. z.items) w.hints-is ∙ (sym (append-nil c.loop-x.hints.items) ∙ more [] c.loop-x.invariant (ap id_hint (sym w.in_default.is)))
+    ]

@@ -1,5 +1,6 @@
-use Rattle.pair_refutation.specs.Refuting.{AreLostHints}
+use Rattle.std.proofs.Common.{◌≡◌, take}
+use Rattle.pair_refutation.specs.Refuting.{lost_hints}
 use Rattle.pair_refutation.proofs.refuting.lost_hints.Given as goal
 
-abbrev pub invariant-loop-i : goal.invariant-loop-i
-invariant-loop-i l = AreLostHints l.var l.lost l.first l.i l.hints.items
+abbrev pub invariant-loop-x : goal.invariant-loop-x
+invariant-loop-x l = l.hints.items ≡ lost_hints l.lost (take l.x-index l.vars)
